@@ -1,0 +1,1 @@
+-- no lemma of this crate alone

@@ -1,0 +1,2 @@
+-- the definitions that contracts cite
+pub mod Failures

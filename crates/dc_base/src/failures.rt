@@ -1,0 +1,10 @@
+ghost use Rattle.std.specs.Prelude.{◌≡◌, ◌+◌, ◌-◌, ◌^◌, min};
+ghost use Rattle.dc_base.specs.Failures.{HasRisen};
+
+/// The count after one more failure; at `u64::MAX` it stays.
+pub const fn one_failure_more(failures: u64) -> u64
+    ensures exact { result ≡ min (failures + 1) (2 ^ 64 - 1) }
+    ensures risen { HasRisen failures result }
+{
+    failures.saturating_add(1)
+}
