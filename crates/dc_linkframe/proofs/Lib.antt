@@ -1,0 +1,4 @@
+-- lemmas by topic
+pub mod Checksums
+pub mod Buffers
+pub mod Cutting
