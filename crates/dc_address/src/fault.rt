@@ -1,0 +1,52 @@
+use thiserror::Error;
+
+/// Why a text is no identity: the first of these that stands.
+#[derive(Clone, Copy, Debug, PartialEq, Eq, Error)]
+pub enum IdentityFault {
+    /// Not 18 bytes.
+    #[error("{} {}", self.number(), self.name())]
+    Length,
+    /// One of the first eight bytes isn't a digit.
+    #[error("{} {}", self.number(), self.name())]
+    Digit,
+    /// A manufacturer's letter isn't A to Z.
+    #[error("{} {}", self.number(), self.name())]
+    Letter,
+    /// Version or device type isn't two hexadecimal digits in capitals.
+    #[error("{} {}", self.number(), self.name())]
+    Hex,
+    /// A dot is missing between the parts.
+    #[error("{} {}", self.number(), self.name())]
+    Dot,
+}
+
+impl IdentityFault {
+    ghost use Rattle.std.specs.Prelude.{◌≡◌};
+    ghost use Rattle.dc_address.specs.Text.{number_of, name_of};
+
+    /// The fault's number, from 1 in the order in which they are looked for.
+    pub fn number(&self) -> u8
+        ensures { result ≡ number_of self.now }
+    {
+        match self {
+            IdentityFault::Length => 1,
+            IdentityFault::Digit => 2,
+            IdentityFault::Letter => 3,
+            IdentityFault::Hex => 4,
+            IdentityFault::Dot => 5,
+        }
+    }
+
+    /// The fault's name, as printed.
+    pub fn name(&self) -> &'static str
+        ensures { result.now ≡ name_of self.now }
+    {
+        match self {
+            IdentityFault::Length => "Length",
+            IdentityFault::Digit => "Digit",
+            IdentityFault::Letter => "Letter",
+            IdentityFault::Hex => "Hex",
+            IdentityFault::Dot => "Dot",
+        }
+    }
+}
