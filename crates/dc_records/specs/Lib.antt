@@ -1,0 +1,15 @@
+-- the definitions that contracts cite
+pub mod Stream
+pub mod Pieces
+pub mod Bytes
+pub mod Chain
+pub mod Fault
+pub mod Record
+pub mod Reading
+pub mod Body
+pub mod Stops
+pub mod Seen
+pub mod Header
+pub mod Telegram
+pub mod Records
+pub mod Laws

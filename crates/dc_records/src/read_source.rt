@@ -1,0 +1,68 @@
+//! A reader of std as a source, which tells no bytes.
+
+ghost use Rattle.std.specs.Prelude.{◌≡◌, ◌≤◌, None, length, IfOk, OnOk, OnErr};
+ghost use Rattle.std.specs.Io.KnownBytes.{Keeps, ReadConsumes};
+ghost use Rattle.dc_base.specs.Failures.{HasRisen};
+
+use crate::stream::{IoFault, Source};
+use dc_base::one_failure_more;
+use std::io::{ErrorKind, Read};
+
+/// A reader of std as a source.
+#[derive(Drop)]
+pub struct ReadSource<R: Read + Drop> {
+    /// The reader.
+    pub reader: R,
+    /// How many takes failed.
+    pub failures: u64,
+}
+
+impl<R: Read + Drop> ReadSource<R> {
+    /// The reader as a source that hasn't failed.
+    pub fn new(reader: R) -> Self
+        ensures { result ≡ record { reader = reader; failures = 0 } }
+    {
+        ReadSource {
+            reader,
+            failures: 0,
+        }
+    }
+}
+
+impl<R: Read + Drop> Source for ReadSource<R> {
+    ghost left = { λ _. None };
+
+    ghost take_failures = { λ s. s.failures };
+
+    // The last clause says of the reader what a source doesn't tell.
+    fn take(&mut self, room: &mut [u8]) -> Result<usize, IoFault>
+        ensures count { IfOk result (λ n. n ≤ length room.old) }
+        ensures well { OnOk result (self.new.failures ≡ self.old.failures) }
+        ensures failed { OnErr result (HasRisen self.old.failures self.new.failures) }
+        ensures reader { ReadConsumes (R.remaining self.old.reader) (R.remaining self.new.reader) result room.new }
+    {
+        let taken = read_some(&mut self.reader, room);
+        if taken.is_err() {
+            self.failures = one_failure_more(self.failures);
+        }
+        taken
+    }
+}
+
+// One read, again where a signal broke it off.
+fn read_some<R: Read>(reader: &mut R, room: &mut [u8]) -> Result<usize, IoFault>
+    ensures count { IfOk result (λ n. n ≤ length room.old) }
+    ensures bytes { ReadConsumes (R.remaining reader.old) (R.remaining reader.new) result room.new }
+{
+    for _ in 0..u64::MAX {
+        match reader.read(room) {
+            Ok(count) => return Ok(count),
+            Err(error) => {
+                if error.kind() != ErrorKind::Interrupted {
+                    break;
+                }
+            }
+        }
+    }
+    Err(IoFault)
+}

@@ -1,0 +1,62 @@
+//! A writer of std as a sink, which tells no bytes.
+
+ghost use Rattle.std.specs.Prelude.{◌≡◌, ◌≤◌, None, length, IfOk, OnOk, OnErr};
+ghost use Rattle.std.specs.Io.KnownBytes.{Keeps, Appends};
+ghost use Rattle.dc_base.specs.Failures.{HasRisen};
+
+use crate::stream::{IoFault, Sink};
+use dc_base::one_failure_more;
+use std::io::Write;
+
+/// A writer of std as a sink. A put into a buffered writer isn't out before [`WriteSink::flush`].
+#[derive(Drop)]
+pub struct WriteSink<W: Write + Drop> {
+    /// The writer.
+    pub writer: W,
+    /// How many puts and flushes failed.
+    pub failures: u64,
+}
+
+impl<W: Write + Drop> WriteSink<W> {
+    /// The writer as a sink that hasn't failed.
+    pub fn new(writer: W) -> Self
+        ensures { result ≡ record { writer = writer; failures = 0 } }
+    {
+        WriteSink {
+            writer,
+            failures: 0,
+        }
+    }
+
+    /// Writes out what the writer holds back.
+    pub fn flush(&mut self) -> Result<(), IoFault>
+        ensures bytes { Keeps (W.contents self.old.writer) (W.contents self.new.writer) }
+        ensures ok { OnOk result (self.new.failures ≡ self.old.failures) }
+        ensures err { OnErr result (HasRisen self.old.failures self.new.failures) }
+    {
+        if self.writer.flush().is_err() {
+            self.failures = one_failure_more(self.failures);
+            return Err(IoFault);
+        }
+        Ok(())
+    }
+}
+
+impl<W: Write + Drop> Sink for WriteSink<W> {
+    ghost written = { λ _. None };
+
+    ghost put_failures = { λ s. s.failures };
+
+    // The last clause says of the writer what a sink doesn't tell.
+    fn put(&mut self, bytes: &[u8]) -> Result<(), IoFault>
+        ensures well { OnOk result (self.new.failures ≡ self.old.failures) }
+        ensures failed { OnErr result (HasRisen self.old.failures self.new.failures) }
+        ensures writer { OnOk result (Appends (W.contents self.old.writer) (W.contents self.new.writer) bytes.now) }
+    {
+        if self.writer.write_all(bytes).is_err() {
+            self.failures = one_failure_more(self.failures);
+            return Err(IoFault);
+        }
+        Ok(())
+    }
+}
