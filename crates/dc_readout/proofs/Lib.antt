@@ -1,0 +1,4 @@
+-- lemmas by topic
+pub mod Table
+pub mod History
+pub mod Protocol

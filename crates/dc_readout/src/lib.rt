@@ -1,0 +1,28 @@
+//! The readout of one meter, as a session on its line: what is asked, how an answer is judged, and when the
+//! frame count bit changes (EN 13757-2; selection after EN 13757-3 in its editions of 2004 and 2013, since 2018
+//! EN 13757-7).
+//!
+//! A meter goes on to its next telegram when the bit changes. So a [`Session`] asks for the next telegram only
+//! after the last one was settled, which is the caller's word that it is kept. What is asked next, how an answer
+//! is judged and the bit are functions of the session's past: of the answers that were heard and the telegrams
+//! that were settled, and of nothing else.
+//!
+//! Nothing here takes memory.
+#![tactic(auto)]
+
+mod answers;
+mod heard;
+mod laws;
+mod session;
+mod stage;
+mod why;
+
+pub use heard::Heard;
+pub use laws::{
+    nothing_more_is_asked, requests_are_repeated, the_bit_changes_with_a_settled_telegram,
+};
+pub use session::Session;
+pub use why::Why;
+
+#[cfg(test)]
+mod tests;

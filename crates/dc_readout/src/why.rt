@@ -1,0 +1,63 @@
+ghost use Rattle.std.specs.Prelude.{◌≡◌};
+ghost use Rattle.dc_readout.specs.Why.{number_of, name_of};
+
+use dc_records::BodyFault;
+use thiserror::Error;
+
+/// Why a readout failed. The first that stands, in this order, is answered.
+#[derive(Clone, Copy, Debug, PartialEq, Eq, Error)]
+pub enum Why {
+    /// No byte came, or no readable frame, three times.
+    #[error("{} {}", self.number(), self.name())]
+    NoAnswer,
+    /// The third try was answered by another frame than the one asked for.
+    #[error("{} {}", self.number(), self.name())]
+    WrongFrame,
+    /// The third try was answered from another primary address.
+    #[error("{} {}", self.number(), self.name())]
+    WrongAddress,
+    /// The meter answered an application error.
+    #[error("{} {}", self.number(), self.name())]
+    ApplicationError,
+    /// The telegram's body is refused.
+    #[error("{} {} {fault}", self.number(), self.name(), fault = .0)]
+    Content(BodyFault),
+    /// The telegram is another meter's.
+    #[error("{} {}", self.number(), self.name())]
+    Stranger,
+    /// The 32nd part says that more follow.
+    #[error("{} {}", self.number(), self.name())]
+    TooManyParts,
+}
+
+impl Why {
+    /// The reason's number, from 1.
+    pub fn number(&self) -> u8
+        ensures { result ≡ number_of self.now }
+    {
+        match self {
+            Why::NoAnswer => 1,
+            Why::WrongFrame => 2,
+            Why::WrongAddress => 3,
+            Why::ApplicationError => 4,
+            Why::Content(_) => 5,
+            Why::Stranger => 6,
+            Why::TooManyParts => 7,
+        }
+    }
+
+    /// The reason's name; that of a body's fault is the fault's own.
+    pub fn name(&self) -> &'static str
+        ensures { result.now ≡ name_of self.now }
+    {
+        match self {
+            Why::NoAnswer => "NoAnswer",
+            Why::WrongFrame => "WrongFrame",
+            Why::WrongAddress => "WrongAddress",
+            Why::ApplicationError => "ApplicationError",
+            Why::Content(_) => "Content",
+            Why::Stranger => "Stranger",
+            Why::TooManyParts => "TooManyParts",
+        }
+    }
+}
