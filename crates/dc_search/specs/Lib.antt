@@ -1,0 +1,8 @@
+-- the definitions that contracts cite
+pub mod Answer
+pub mod Branch
+pub mod Bus
+pub mod Fault
+pub mod Prefix
+pub mod State
+pub mod Walk

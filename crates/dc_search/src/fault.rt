@@ -1,0 +1,37 @@
+use thiserror::Error;
+
+/// Why what was heard was not taken; the search is unchanged.
+#[derive(Clone, Copy, Debug, PartialEq, Eq, Error)]
+pub enum SearchFault {
+    /// Nothing was to be heard: the search is done, or its budget is spent.
+    #[error("{} {}", self.number(), self.name())]
+    Idle,
+    /// Memory was refused; the same bytes can be heard again.
+    #[error("{} {}", self.number(), self.name())]
+    NoMemory,
+}
+
+impl SearchFault {
+    ghost use Rattle.std.specs.Prelude.{◌≡◌};
+    ghost use Rattle.dc_search.specs.Fault.{number_of, name_of};
+
+    /// The fault's number.
+    pub fn number(&self) -> u8
+        ensures { result ≡ number_of self.now }
+    {
+        match self {
+            SearchFault::Idle => 1,
+            SearchFault::NoMemory => 2,
+        }
+    }
+
+    /// The fault's name, as printed.
+    pub fn name(&self) -> &'static str
+        ensures { result.now ≡ name_of self.now }
+    {
+        match self {
+            SearchFault::Idle => "Idle",
+            SearchFault::NoMemory => "NoMemory",
+        }
+    }
+}

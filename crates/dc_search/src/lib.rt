@@ -1,0 +1,29 @@
+//! The wildcard search for meters on a wired M-Bus (EN 13757-3, editions of 2004 and 2013, selection
+//! with wildcards; EN 13757-2, frames).
+//!
+//! A search selects all meters first. Where the answers of more than one meter collide, it selects the
+//! ten masks with the next digit of the identification number, deeper ones first. A meter that answers
+//! alone is found; where all eight digits are fixed and answers still collide, the number is shared.
+//!
+//! [`Search`] does no talking: [`Search::next`] says what to do, [`Search::heard`] takes what came, and
+//! both are a rule on the masks due, what was found and the selections made. [`sweep`] runs a search on a
+//! list of meters: within the budget it finds every meter whose number no other has, names every number
+//! that more than one has, both ascending, with at most forty selections a meter and the first.
+//!
+//! Memory grows with the depth of the walk and with what is found, not with the selections.
+#![tactic(auto)]
+
+mod answer;
+mod branch;
+mod bus;
+mod fault;
+mod search;
+mod step;
+
+pub use bus::sweep;
+pub use fault::SearchFault;
+pub use search::Search;
+pub use step::Step;
+
+#[cfg(test)]
+mod tests;
