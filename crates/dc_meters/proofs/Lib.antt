@@ -1,0 +1,11 @@
+pub mod Lines
+pub mod Padding
+pub mod Sizes
+pub mod Identities
+pub mod Readings
+pub mod Keeps
+pub mod Acceptance
+pub mod History
+pub mod Writes
+pub mod Loops
+pub mod PartLists

@@ -1,0 +1,34 @@
+use Rattle.std.proofs.Common.{◌≡◌, ◌+◌, ◌≤◌, List, None, ap, subst, sym, ◌∙◌, arith}
+use Rattle.std.specs.Map.{keys_of}
+use Rattle.std.specs.List.Sorted.{IsStrictlySortedBy}
+use Rattle.dc_address.specs.declared.identity.Identity.{Identity}
+use Rattle.dc_address.specs.Identity.{identity_cmp}
+use Rattle.dc_meters.specs.State.{State, Held, MeterRow, row_of}
+use Rattle.dc_meters.specs.Size.{size_of}
+use Rattle.dc_meters.specs.Apply.{fitted}
+use Rattle.dc_meters.proofs.Sizes.{size_of-fitted}
+use Rattle.dc_meters.proofs.Keeps.{IsKept-fitted}
+use Rattle.dc_meters.proofs.house.House.fit.Goals as goal
+
+-- the new meter's bytes come on top
+pub overflow_add-self : goal.overflow_add-self
+overflow_add-self g c =
+    let h = c.self.inside in
+    let s : State = record { meters = h.meters.entries; readings = h.readings.items; next_serial = h.next_serial; confirmed = h.confirmed; last_number = h.last_number; last_line = h.last_line } in
+    let absent : row_of c.args.meter s ≡ None = ap (λ (x : Held). row_of c.args.meter x.state) c.self.view_is ∙ c.requires.absent in
+    let room = subst (λ (x : Held). size_of (fitted c.args.meter c.args.row x.state) ≤ x.budget) (sym c.self.view_is) c.requires.room in
+    let more = size_of-fitted c.args.meter c.args.row s c.self.invariant.state_is.meters_ascend absent in
+    let fits : h.size + c.size-size.result ≤ h.budget = omega (arith, more, room, c.self.invariant.size_is, c.size-size.ensures.size) in
+    record { fits = omega (arith, fits) }
+
+pub invariant_of-self-2 : goal.invariant_of-self-2
+invariant_of-self-2 g c =
+    let h = c.self.inside in
+    let s : State = record { meters = h.meters.entries; readings = h.readings.items; next_serial = h.next_serial; confirmed = h.confirmed; last_number = h.last_number; last_line = h.last_line } in
+    let absent : row_of c.args.meter s ≡ None = ap (λ (x : Held). row_of c.args.meter x.state) c.self.view_is ∙ c.requires.absent in
+    let room = subst (λ (x : Held). size_of (fitted c.args.meter c.args.row x.state) ≤ x.budget) (sym c.self.view_is) c.requires.room in
+    let more = size_of-fitted c.args.meter c.args.row s c.self.invariant.state_is.meters_ascend absent in
+    let fits : h.size + c.size-size.result ≤ h.budget = omega (arith, more, room, c.self.invariant.size_is, c.size-size.ensures.size) in
+    let entries = c.in_ok-insert.ensures.entries in
+    let sorted = subst (λ (es : List (Identity × MeterRow)). IsStrictlySortedBy identity_cmp (keys_of es)) entries c.insert.ensures.ordered in
+    rw entries (IsKept-fitted c.args.meter c.args.row h.size (h.size + c.size-size.result) h.budget s c.self.invariant absent c.requires.is_meter sorted (omega (arith, c.size-size.ensures.size)) fits)

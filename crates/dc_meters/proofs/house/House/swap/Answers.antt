@@ -1,0 +1,88 @@
+use Rattle.std.proofs.Common.{◌≡◌, List, [], Some, None, ap, subst, sym, ◌∙◌, arith}
+use Rattle.std.specs.Map.{keys_of, lookup, remove_entry}
+use Rattle.std.specs.BTreeMap.{is_at}
+use Rattle.std.specs.List.Sorted.{IsStrictlySortedBy}
+use Rattle.dc_address.specs.declared.identity.Identity.{Identity}
+use Rattle.dc_address.specs.Identity.{identity_cmp}
+use Rattle.dc_meters.specs.State.{State, Held, MeterRow, row_of}
+use Rattle.dc_meters.specs.Apply.{fitted}
+use Rattle.dc_meters.specs.Size.{meter_size}
+use Rattle.dc_meters.specs.Valid.{IsMeter}
+use Rattle.dc_meters.proofs.Identities.{apart_from_rows}
+use Rattle.dc_meters.proofs.Sizes.{meter_size-le}
+use Rattle.dc_meters.proofs.Keeps.{IsKept-swapped}
+use Rattle.dc_meters.proofs.house.House.swap.Goals as goal
+
+pub overflow_sub-self : goal.overflow_sub-self
+overflow_sub-self g c =
+    let h = c.self.inside in
+    let s : State = record { meters = h.meters.entries; readings = h.readings.items; next_serial = h.next_serial; confirmed = h.confirmed; last_number = h.last_number; last_line = h.last_line } in
+    let row : MeterRow = c.in-Some.row.now in
+    let hung : MeterRow = c.new-row.result in
+    let gone : MeterRow = c.unwrap-gone.result in
+    let found : row_of c.args.old s ≡ Some row = sym c.in-Some.ensures.value in
+    let absent : row_of c.args.new s ≡ None = ap (λ (x : Held). row_of c.args.new x.state) c.self.view_is ∙ c.requires.absent in
+    let entries = c.in_ok-insert.ensures.entries in
+    let stays = c.in_ok-insert.ensures.updates.2 c.args.old (apart_from_rows c.args.new c.args.old row s absent found) ∙ found in
+    let after : row_of c.args.old (fitted c.args.new hung s) ≡ Some row = ap (λ (es : List (Identity × MeterRow)). lookup (is_at (identity_cmp c.args.old)) es) (sym entries) ∙ stays in
+    let both_gone : Some gone ≡ Some row = sym c.unwrap-gone.ensures ∙ c.remove.ensures.value ∙ stays in
+    let is_gone : gone ≡ row = cc in
+    let left = c.remove.ensures.entries ∙ ap (λ (es : List (Identity × MeterRow)). remove_entry (is_at (identity_cmp c.args.old)) es) entries in
+    let sorted = subst (λ (es : List (Identity × MeterRow)). IsStrictlySortedBy identity_cmp (keys_of es)) left c.remove.ensures.ordered in
+    let hung_is : IsMeter hung = c.new-row.ensures.is_meter in
+    let flat : hung.flat ≡ row.flat = ap (λ (m : MeterRow). m.flat) c.new-row.ensures.row ∙ c.flat.ensures.flat in
+    let parts : hung.parts ≡ [] = ap (λ (m : MeterRow). m.parts) c.new-row.ensures.row in
+    let both = IsKept-swapped c.args.old c.args.new row hung h.size h.budget s c.self.invariant found absent flat parts hung_is after sorted in
+    let gone_size : c.size.result ≡ meter_size row = c.size.ensures.size ∙ ap (λ (m : MeterRow). meter_size m) is_gone in
+    omega (arith, gone_size, meter_size-le c.args.old row s found, c.self.invariant.size_is)
+
+pub overflow_add-self : goal.overflow_add-self
+overflow_add-self g c =
+    let h = c.self.inside in
+    let s : State = record { meters = h.meters.entries; readings = h.readings.items; next_serial = h.next_serial; confirmed = h.confirmed; last_number = h.last_number; last_line = h.last_line } in
+    let row : MeterRow = c.in-Some.row.now in
+    let hung : MeterRow = c.new-row.result in
+    let gone : MeterRow = c.unwrap-gone.result in
+    let found : row_of c.args.old s ≡ Some row = sym c.in-Some.ensures.value in
+    let absent : row_of c.args.new s ≡ None = ap (λ (x : Held). row_of c.args.new x.state) c.self.view_is ∙ c.requires.absent in
+    let entries = c.in_ok-insert.ensures.entries in
+    let stays = c.in_ok-insert.ensures.updates.2 c.args.old (apart_from_rows c.args.new c.args.old row s absent found) ∙ found in
+    let after : row_of c.args.old (fitted c.args.new hung s) ≡ Some row = ap (λ (es : List (Identity × MeterRow)). lookup (is_at (identity_cmp c.args.old)) es) (sym entries) ∙ stays in
+    let both_gone : Some gone ≡ Some row = sym c.unwrap-gone.ensures ∙ c.remove.ensures.value ∙ stays in
+    let is_gone : gone ≡ row = cc in
+    let left = c.remove.ensures.entries ∙ ap (λ (es : List (Identity × MeterRow)). remove_entry (is_at (identity_cmp c.args.old)) es) entries in
+    let sorted = subst (λ (es : List (Identity × MeterRow)). IsStrictlySortedBy identity_cmp (keys_of es)) left c.remove.ensures.ordered in
+    let hung_is : IsMeter hung = c.new-row.ensures.is_meter in
+    let flat : hung.flat ≡ row.flat = ap (λ (m : MeterRow). m.flat) c.new-row.ensures.row ∙ c.flat.ensures.flat in
+    let parts : hung.parts ≡ [] = ap (λ (m : MeterRow). m.parts) c.new-row.ensures.row in
+    let both = IsKept-swapped c.args.old c.args.new row hung h.size h.budget s c.self.invariant found absent flat parts hung_is after sorted in
+    let gone_size : c.size.result ≡ meter_size row = c.size.ensures.size ∙ ap (λ (m : MeterRow). meter_size m) is_gone in
+    record { fits = omega (arith, both.0, gone_size, c.size-size.ensures.size) }
+
+pub invariant_of-self-2 : goal.invariant_of-self-2
+invariant_of-self-2 g c =
+    let h = c.self.inside in
+    let s : State = record { meters = h.meters.entries; readings = h.readings.items; next_serial = h.next_serial; confirmed = h.confirmed; last_number = h.last_number; last_line = h.last_line } in
+    let row : MeterRow = c.in-Some.row.now in
+    let hung : MeterRow = c.new-row.result in
+    let gone : MeterRow = c.unwrap-gone.result in
+    let found : row_of c.args.old s ≡ Some row = sym c.in-Some.ensures.value in
+    let absent : row_of c.args.new s ≡ None = ap (λ (x : Held). row_of c.args.new x.state) c.self.view_is ∙ c.requires.absent in
+    let entries = c.in_ok-insert.ensures.entries in
+    let stays = c.in_ok-insert.ensures.updates.2 c.args.old (apart_from_rows c.args.new c.args.old row s absent found) ∙ found in
+    let after : row_of c.args.old (fitted c.args.new hung s) ≡ Some row = ap (λ (es : List (Identity × MeterRow)). lookup (is_at (identity_cmp c.args.old)) es) (sym entries) ∙ stays in
+    let both_gone : Some gone ≡ Some row = sym c.unwrap-gone.ensures ∙ c.remove.ensures.value ∙ stays in
+    let is_gone : gone ≡ row = cc in
+    let left = c.remove.ensures.entries ∙ ap (λ (es : List (Identity × MeterRow)). remove_entry (is_at (identity_cmp c.args.old)) es) entries in
+    let sorted = subst (λ (es : List (Identity × MeterRow)). IsStrictlySortedBy identity_cmp (keys_of es)) left c.remove.ensures.ordered in
+    let hung_is : IsMeter hung = c.new-row.ensures.is_meter in
+    let flat : hung.flat ≡ row.flat = ap (λ (m : MeterRow). m.flat) c.new-row.ensures.row ∙ c.flat.ensures.flat in
+    let parts : hung.parts ≡ [] = ap (λ (m : MeterRow). m.parts) c.new-row.ensures.row in
+    let both = IsKept-swapped c.args.old c.args.new row hung h.size h.budget s c.self.invariant found absent flat parts hung_is after sorted in
+    let gone_size : c.size.result ≡ meter_size row = c.size.ensures.size ∙ ap (λ (m : MeterRow). meter_size m) is_gone in
+    rw (left, gone_size, c.size-size.ensures.size) both.1
+
+pub returns-clause-ok : goal.returns-clause-ok
+returns-clause-ok g c =
+    let found = sym c.in-Some.ensures.value in
+    rw (← c.self.view_is, c.remove.ensures.entries, c.in_ok-insert.ensures.entries, c.new-row.ensures.row, c.line.ensures.line, c.flat.ensures.flat, found)

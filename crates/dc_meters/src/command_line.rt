@@ -1,0 +1,105 @@
+ghost use Rattle.std.specs.Prelude.{◌≡◌, ◌+◌, ◌≤◌, ◌<◌, ◌^◌, ◌++◌, ◌∷◌, SomeIff, [], length};
+ghost use Rattle.std.specs.Fmt.{decimal};
+
+use crate::kept::padded;
+use itoa::Buffer;
+use std::marker::Model;
+
+/// A command's line: at most 120 bytes (this product).
+#[derive(Clone, Copy)]
+pub struct CommandLine {
+    bytes: [u8; 120],
+    len: u8,
+}
+
+impl Model for CommandLine {
+    ghost use Rattle.std.specs.Prelude.{ℕ, List, length, take};
+    ghost use Rattle.dc_meters.specs.Flat.{padded, IsKept};
+
+    ghost Value = { List ℕ };
+
+    ghost view = { λ l. take l.len l.bytes };
+
+    ghost invariant = { λ l. IsKept 120 l.bytes l.len };
+
+    ghost inverse = { λ bytes. record { bytes = padded 120 bytes; len = length bytes } };
+
+    ghost inverse_ok = { λ l h i. record { bytes = h.zeros i; len = h.counted i } };
+}
+
+impl CommandLine {
+    /// No bytes.
+    pub fn empty() -> CommandLine
+        ensures { result ≡ [] }
+    {
+        CommandLine {
+            bytes: [0; 120],
+            len: 0,
+        }
+    }
+
+    /// These bytes, if they are at most 120.
+    pub fn new(line: &[u8]) -> Option<CommandLine>
+        ensures { SomeIff result (length line.now ≤ 120) line.now }
+    {
+        if line.len() > 120 {
+            return None;
+        }
+        Some(CommandLine {
+            bytes: padded(line),
+            len: line.len() as u8,
+        })
+    }
+
+    /// The line's bytes.
+    pub fn as_slice(&self) -> &[u8]
+        ensures line { result.now ≡ self.now }
+        ensures fits { length self.now ≤ 120 }
+    {
+        &self.bytes[..usize::from(self.len)]
+    }
+
+    /// The bytes come behind the line.
+    fn push(&mut self, bytes: &[u8])
+        requires { length self.old + length bytes.now ≤ 120 }
+        ensures line { self.new ≡ self.old ++ bytes.now }
+        ensures len { length self.new ≡ length self.old + length bytes.now }
+    {
+        let start = usize::from(self.len);
+        let end = start + bytes.len();
+        self.bytes[start..end].copy_from_slice(bytes);
+        self.len = end as u8;
+    }
+
+    /// A space and a word come behind the line.
+    pub(crate) fn push_word(&mut self, word: &[u8])
+        requires { length self.old + 1 + length word.now ≤ 120 }
+        ensures line { self.new ≡ self.old ++ 32 ∷ word.now }
+        ensures len { length self.new ≡ length self.old + 1 + length word.now }
+    {
+        self.push(b" ");
+        self.push(word);
+    }
+
+    /// A line of one number.
+    pub(crate) fn of_number(number: u64) -> CommandLine
+        requires { number < 10 ^ 18 }
+        ensures line { result ≡ decimal number }
+        ensures len { length result ≤ 18 }
+    {
+        let mut line = CommandLine::empty();
+        line.push(Buffer::new().format(number).as_bytes());
+        line
+    }
+
+    /// A space and a number come behind the line.
+    pub(crate) fn push_number(&mut self, number: u64)
+        requires number { number < 10 ^ 18 }
+        requires room { length self.old ≤ 100 }
+        ensures line { self.new ≡ self.old ++ 32 ∷ decimal number }
+        ensures len { length self.new ≤ length self.old + 19 }
+    {
+        let number = CommandLine::of_number(number);
+        self.push_word(number.as_slice());
+    }
+}

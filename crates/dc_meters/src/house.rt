@@ -1,0 +1,132 @@
+ghost use Rattle.std.specs.Prelude.{◌≡◌, ◌≤◌, option_copied};
+ghost use Rattle.dc_meters.specs.State.{empty_state, row_of};
+ghost use Rattle.dc_meters.specs.Size.{size_of};
+ghost use Rattle.dc_meters.specs.Valid.{IsState};
+
+mod apply;
+mod check;
+mod encode;
+
+use crate::{CommandLine, Meter, Reading};
+use dc_address::Identity;
+use std::alloc::Allocator;
+use std::collections::BTreeMap;
+use std::collections::btree_map::Iter;
+use std::marker::Model;
+
+/// The register of a house's meters, and their readings.
+#[derive(Drop)]
+pub struct House<A: Allocator + Copy> {
+    alloc: A,
+    meters: BTreeMap<Identity, Meter<A>, A>,
+    readings: Vec<Reading<A>, A>,
+    next_serial: u64,
+    confirmed: u64,
+    last_number: u64,
+    last_line: CommandLine,
+    size: u32,
+    budget: u32,
+}
+
+impl<A: Allocator + Copy> Model for House<A> {
+    ghost use Rattle.dc_meters.specs.State.{Held};
+    ghost use Rattle.dc_meters.specs.Valid.{IsKept};
+
+    ghost Value = { Held };
+
+    ghost view = { λ h. record { state = record { meters = h.meters.entries; readings = h.readings.items; next_serial = h.next_serial; confirmed = h.confirmed; last_number = h.last_number; last_line = h.last_line }; budget = h.budget } };
+
+    ghost invariant = { λ h. IsKept h.size h.budget (record { meters = h.meters.entries; readings = h.readings.items; next_serial = h.next_serial; confirmed = h.confirmed; last_number = h.last_number; last_line = h.last_line }) };
+}
+
+impl<A: Allocator + Copy> House<A> {
+    /// A house with no meter and no reading, in whose budget every later state stays.
+    pub fn new(alloc: A, budget: u32) -> House<A>
+        requires { 153 ≤ budget }
+        ensures { result ≡ record { state = empty_state; budget = budget } }
+    {
+        House {
+            alloc,
+            meters: BTreeMap::new(alloc),
+            readings: Vec::new(alloc),
+            next_serial: 1,
+            confirmed: 0,
+            last_number: 0,
+            last_line: CommandLine::empty(),
+            size: 153,
+            budget,
+        }
+    }
+
+    /// The bytes that the state is counted as: 153, 12 and the flat for a meter, 18 and the flat for a reading, 9
+    /// and the body for a part.
+    pub fn size(&self) -> u32
+        ensures size { result ≡ size_of self.now.state }
+        ensures is_state { IsState self.now.budget self.now.state }
+    {
+        self.size
+    }
+
+    /// The bytes within which the state stays.
+    pub fn budget(&self) -> u32
+        ensures budget { result ≡ self.now.budget }
+        ensures is_state { IsState self.now.budget self.now.state }
+    {
+        self.budget
+    }
+
+    /// The number of the last command; 0 before the first.
+    pub fn last_number(&self) -> u64
+        ensures number { result ≡ self.now.state.last_number }
+        ensures is_state { IsState self.now.budget self.now.state }
+    {
+        self.last_number
+    }
+
+    /// The line of the last command; empty before the first.
+    pub fn last_line(&self) -> &[u8]
+        ensures line { result.now ≡ self.now.state.last_line }
+        ensures is_state { IsState self.now.budget self.now.state }
+    {
+        self.last_line.as_slice()
+    }
+
+    /// The serial of the next reading.
+    pub fn next_serial(&self) -> u64
+        ensures serial { result ≡ self.now.state.next_serial }
+        ensures is_state { IsState self.now.budget self.now.state }
+    {
+        self.next_serial
+    }
+
+    /// The serial up to which the office has confirmed the readings; 0 at first.
+    pub fn confirmed(&self) -> u64
+        ensures serial { result ≡ self.now.state.confirmed }
+        ensures is_state { IsState self.now.budget self.now.state }
+    {
+        self.confirmed
+    }
+
+    /// A registered meter.
+    pub fn meter(&self, meter: &Identity) -> Option<&Meter<A>>
+        ensures { option_copied result ≡ row_of meter.now self.now.state }
+    {
+        self.meters.get(meter)
+    }
+
+    /// The registered meters, by identity.
+    pub fn meters(&self) -> Iter<'_, Identity, Meter<A>>
+        ensures meters { result ≡ self.now.state.meters }
+        ensures is_state { IsState self.now.budget self.now.state }
+    {
+        self.meters.iter()
+    }
+
+    /// The readings that aren't confirmed, by serial.
+    pub fn readings(&self) -> &[Reading<A>]
+        ensures readings { result.now ≡ self.now.state.readings }
+        ensures is_state { IsState self.now.budget self.now.state }
+    {
+        &self.readings
+    }
+}

@@ -1,0 +1,239 @@
+//! What a change does to a house.
+
+ghost use Rattle.std.specs.Prelude.{◌≡◌, ◌+◌, ◌-◌, ◌≤◌, ◌<◌, ◌^◌, ◌∷◌, ◌++◌, [], true, false, None, Some, length, OnOk, OnErr, filter, nat_lt, sum_by};
+ghost use Rattle.dc_meters.specs.State.{PartRow, row_of};
+ghost use Rattle.dc_meters.specs.Apply.{applied, told, heard, commanded, moved, taken_out, confirmed_up_to, swapped, fitted, joined};
+ghost use Rattle.dc_meters.specs.Line.{line_of};
+ghost use Rattle.dc_meters.specs.Accepts.{Accepts, continues, CanBeApplied};
+ghost use Rattle.dc_meters.specs.Size.{size_of, meter_size, reading_size, parts_size};
+ghost use Rattle.dc_meters.specs.Flat.{IsFlat};
+ghost use Rattle.dc_meters.specs.Valid.{IsChange, IsCommand, IsNumber, IsTelegram, IsAddress, IsMeter, IsPart, end_of_numbers};
+
+use super::House;
+use crate::{Body, Change, Command, CommandLine, Flat, Meter, Part, Reading};
+use dc_address::{Identity, Primary};
+use dc_base::NoMemory;
+use std::alloc::Allocator;
+
+impl<A: Allocator + Copy> House<A> {
+    /// Does the change. Where memory is refused, the house is as it was.
+    pub fn apply(&mut self, change: &Change<'_>) -> Result<(), NoMemory>
+        requires change { IsChange change.now }
+        requires accepted { Accepts self.old.budget change.now self.old.state }
+        ensures ok { OnOk result (self.new ≡ record self.old { state = applied change.now self.old.state }) }
+        ensures err { OnErr result (self.new ≡ self.old) }
+    {
+        match change {
+            Change::Telegram { part, moment, body } => self.hear(*part, *moment, body),
+            Change::Command { number, command } => self.command(*number, command),
+        }
+    }
+
+    /// A meter more.
+    pub(super) fn fit(&mut self, meter: Identity, row: Meter<A>) -> Result<(), NoMemory>
+        requires absent { row_of meter self.old.state ≡ None }
+        requires room { size_of (fitted meter row self.old.state) ≤ self.old.budget }
+        requires is_meter { IsMeter row }
+        ensures ok { OnOk result (self.new ≡ record self.old { state = fitted meter row self.old.state }) }
+        ensures err { OnErr result (self.new ≡ self.old) }
+    {
+        let size = row.size();
+        self.meters.insert(meter, row)?;
+        self.size += size;
+        Ok(())
+    }
+
+    /// A meter belongs to another flat.
+    pub(super) fn move_to(&mut self, meter: Identity, flat: Flat)
+        requires is_flat { IsFlat flat }
+        requires room { size_of (moved meter flat (row_of meter self.old.state) self.old.state) ≤ self.old.budget }
+        ensures { self.new ≡ record self.old { state = moved meter flat (row_of meter self.old.state) self.old.state } }
+    {
+        if let Some(row) = self.meters.get_mut(&meter) {
+            let before = row.size();
+            row.set_flat(flat);
+            self.size = self.size - before + row.size();
+        }
+    }
+
+    /// A meter less, and its open parts.
+    pub(super) fn take_out(&mut self, meter: Identity)
+        ensures { self.new ≡ record self.old { state = taken_out meter self.old.state } }
+    {
+        if let Some(row) = self.meters.remove(&meter) {
+            self.size -= row.size();
+        }
+    }
+
+    /// A part that more follow: it stays open.
+    #[tactic(auto, using(std::proofs::lemmas::Map::Steps::set_value_same))]
+    fn keep_open(&mut self, meter: Identity, number: u8, part: Part<A>) -> Result<(), NoMemory>
+        requires continues { continues number (row_of meter self.old.state) ≡ true }
+        requires part_is { IsPart part }
+        requires room { size_of (heard meter true number part (row_of meter self.old.state) self.old.state) ≤ self.old.budget }
+        ensures ok { OnOk result (self.new ≡ record self.old { state = heard meter true number part (row_of meter self.old.state) self.old.state }) }
+        ensures err { OnErr result (self.new ≡ self.old) }
+    {
+        let Some(row) = self.meters.get_mut(&meter) else {
+            return Ok(());
+        };
+        let before = row.size();
+        row.join(self.alloc, number, part)?;
+        self.size = self.size - before + row.size();
+        Ok(())
+    }
+
+    /// The part that ends a readout: a reading more, in the flat of today.
+    #[tactic(auto, using(std::proofs::lemmas::Map::Steps::set_value_same))]
+    fn finish(&mut self, meter: Identity, number: u8, part: Part<A>) -> Result<(), NoMemory>
+        requires continues { continues number (row_of meter self.old.state) ≡ true }
+        requires part_is { IsPart part }
+        requires room { size_of (heard meter false number part (row_of meter self.old.state) self.old.state) ≤ self.old.budget }
+        requires serial { self.old.state.next_serial < end_of_numbers }
+        ensures ok { OnOk result (self.new ≡ record self.old { state = heard meter false number part (row_of meter self.old.state) self.old.state }) }
+        ensures err { OnErr result (self.new ≡ self.old) }
+    {
+        self.readings.reserve(1)?;
+        let Some(row) = self.meters.get_mut(&meter) else {
+            return Ok(());
+        };
+        let before = row.size();
+        row.join(self.alloc, number, part)?;
+        let reading = row.close(self.alloc, self.next_serial, meter);
+        self.size = self.size - before + row.size() + reading.size();
+        self.readings.push(reading).unwrap();
+        self.next_serial += 1;
+        Ok(())
+    }
+
+    /// A telegram: its part is kept.
+    fn hear(&mut self, number: u8, moment: u64, body: &Body<'_>) -> Result<(), NoMemory>
+        requires telegram { IsTelegram number moment body.now }
+        requires continues { continues number (row_of body.now.meter self.old.state) ≡ true }
+        requires room { size_of (told number moment body.now self.old.state) ≤ self.old.budget }
+        requires serial { body.now.more ≡ false → self.old.state.next_serial < end_of_numbers }
+        ensures ok { OnOk result (self.new ≡ record self.old { state = told number moment body.now self.old.state }) }
+        ensures err { OnErr result (self.new ≡ self.old) }
+    {
+        let part = Part::new(self.alloc, moment, body.as_slice())?;
+        if body.more_follows() {
+            self.keep_open(body.meter(), number, part)
+        } else {
+            self.finish(body.meter(), number, part)
+        }
+    }
+
+    /// A meter hangs where another did, which goes with its open parts.
+    pub(super) fn swap(
+        &mut self,
+        old: Identity,
+        new: Identity,
+        address: Option<Primary>,
+    ) -> Result<(), NoMemory>
+        requires is_address { IsAddress address }
+        requires absent { row_of new self.old.state ≡ None }
+        ensures ok { OnOk result (self.new ≡ record self.old { state = swapped old new address (row_of old self.old.state) self.old.state }) }
+        ensures err { OnErr result (self.new ≡ self.old) }
+    {
+        let Some(row) = self.meters.get(&old) else {
+            return Ok(());
+        };
+        let row = Meter::new(self.alloc, row.line(), address, row.flat());
+        let size = row.size();
+        self.meters.insert(new, row)?;
+        let gone = self.meters.remove(&old).unwrap();
+        self.size = self.size - gone.size() + size;
+        Ok(())
+    }
+
+    /// What a command orders, without its number and line.
+    fn order(&mut self, command: &Command) -> Result<(), NoMemory>
+        requires is_command { IsCommand command.now }
+        requires unrefused { CanBeApplied self.old.budget command.now self.old.state }
+        ensures ok { OnOk result (self.new ≡ record self.old { state = commanded command.now self.old.state }) }
+        ensures err { OnErr result (self.new ≡ self.old) }
+    {
+        match *command {
+            Command::Fit {
+                meter,
+                line,
+                address,
+                flat,
+            } => {
+                let row = Meter::new(self.alloc, line, address, flat);
+                self.fit(meter, row)
+            }
+            Command::Move { meter, flat } => {
+                self.move_to(meter, flat);
+                Ok(())
+            }
+            Command::Out { meter } => {
+                self.take_out(meter);
+                Ok(())
+            }
+            Command::Confirm { serial } => {
+                self.confirm(serial);
+                Ok(())
+            }
+            Command::Swap { old, new, address } => self.swap(old, new, address),
+        }
+    }
+
+    /// A command, with its number and line.
+    fn command(&mut self, number: u64, command: &Command) -> Result<(), NoMemory>
+        requires is_number { IsNumber number }
+        requires is_command { IsCommand command.now }
+        requires unrefused { CanBeApplied self.old.budget command.now self.old.state }
+        ensures ok { OnOk result (self.new ≡ record self.old { state = record (commanded command.now self.old.state) { last_number = number; last_line = line_of number command.now } }) }
+        ensures err { OnErr result (self.new ≡ self.old) }
+    {
+        let line = command.line(number);
+        self.order(command)?;
+        self.sign(number, line);
+        Ok(())
+    }
+
+    /// The number and the line of the last command.
+    fn sign(&mut self, number: u64, line: CommandLine)
+        requires number { number < end_of_numbers }
+        requires line { length line ≤ 120 }
+        ensures { self.new ≡ record self.old { state = record self.old.state { last_number = number; last_line = line } } }
+    {
+        self.last_number = number;
+        self.last_line = line;
+    }
+
+    /// The readings up to a serial are confirmed, and go.
+    pub(super) fn confirm(&mut self, serial: u64)
+        requires { serial < self.old.state.next_serial }
+        ensures { self.new ≡ record self.old { state = confirmed_up_to serial self.old.state } }
+    {
+        self.confirmed = self.confirmed.max(serial);
+        self.size -= forget(&mut self.readings, serial);
+    }
+}
+
+/// Drops the readings up to a serial, and gives the bytes that they were counted as.
+fn forget<A: Allocator>(readings: &mut Vec<Reading<A>, A>, serial: u64) -> u32
+    requires { sum_by reading_size readings.old.items < 2 ^ 32 }
+    ensures kept { readings.new.items ≡ filter (λ r. nat_lt serial r.serial) readings.old.items }
+    ensures size { result + sum_by reading_size readings.new.items ≡ sum_by reading_size readings.old.items }
+{
+    let gone = size_up_to(readings, serial);
+    readings.retain(|reading| serial < reading.serial());
+    gone
+}
+
+/// The bytes that the readings up to a serial are counted as.
+fn size_up_to<A: Allocator>(readings: &[Reading<A>], serial: u64) -> u32
+    requires { sum_by reading_size readings.now < 2 ^ 32 }
+    ensures { result + sum_by reading_size (filter (λ r. nat_lt serial r.serial) readings.now) ≡ sum_by reading_size readings.now }
+{
+    let mut size = 0;
+    for reading in readings {
+        if reading.serial() <= serial {
+            size += reading.size();
+        }
+    }
+    size
+}

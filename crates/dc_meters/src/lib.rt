@@ -1,0 +1,43 @@
+//! The register of a house's meters and their readings, and what changes it (this product).
+//!
+//! A meter hangs on a bus line, has a primary address or is selected by its identity, and belongs to a flat. Its
+//! telegrams (EN 13757-3) come in parts; the part after which no more follow makes a reading of them, with a serial
+//! and the flat of that day. The office fits, moves, swaps and takes out meters, and confirms the readings it has.
+//!
+//! Proved: a [`House`] is the state of the definitions and changes as they say ([`House::apply`]); a change is
+//! refused with the first fault that stands, and only then ([`House::check`]); where memory is refused nothing has
+//! changed; the size is that of the state and stays within the budget. A command has one line.
+//!
+//! A telegram costs one look-up and one copy of its body, whatever the number of readings held. Whether a primary
+//! address is taken is looked up by going over the meters.
+#![tactic(auto)]
+
+mod body;
+mod change;
+mod command;
+mod command_line;
+mod encoding;
+mod fault;
+mod flat;
+mod house;
+mod kept;
+mod laws;
+mod meter;
+mod part;
+mod reading;
+#[cfg(test)]
+mod tests;
+mod writing;
+
+pub use body::Body;
+pub use change::Change;
+pub use command::Command;
+pub use command_line::CommandLine;
+pub use encoding::encode_change;
+pub use fault::ChangeFault;
+pub use flat::Flat;
+pub use house::House;
+pub use laws::{acceptance_goes_by_parts, after_goes_by_parts};
+pub use meter::Meter;
+pub use part::Part;
+pub use reading::Reading;

@@ -1,0 +1,187 @@
+ghost use Rattle.std.specs.Prelude.{◌≡◌, ◌+◌, ◌≤◌, ◌==◌, if◌then◌else◌, length, [], Some, true, OnOk, OnErr, ◌∷◌, ◌++◌};
+ghost use Rattle.dc_meters.specs.Apply.{joined};
+ghost use Rattle.dc_meters.specs.Accepts.{continues, occupies, same_primary};
+ghost use Rattle.dc_meters.specs.Size.{meter_size, parts_size};
+ghost use Rattle.dc_meters.specs.Flat.{IsFlat};
+ghost use Rattle.dc_meters.specs.Valid.{IsMeter, IsPart, IsReading};
+
+use crate::part::parts_size;
+use crate::{Flat, Part, Reading};
+use dc_address::{Identity, Primary};
+use dc_base::NoMemory;
+use std::alloc::Allocator;
+use std::marker::Model;
+use std::mem::replace;
+
+/// A registered meter.
+#[derive(Drop)]
+pub struct Meter<A: Allocator> {
+    line: u8,
+    address: Option<Primary>,
+    flat: Flat,
+    parts: Vec<Part<A>, A>,
+}
+
+impl<A: Allocator> Model for Meter<A> {
+    ghost use Rattle.dc_meters.specs.State.{MeterRow};
+    ghost use Rattle.dc_meters.specs.Valid.{IsMeter};
+
+    ghost Value = { MeterRow };
+
+    ghost view = { λ m. record { line = m.line; address = m.address; flat = m.flat; parts = m.parts.items } };
+
+    ghost invariant = { λ m. IsMeter (record { line = m.line; address = m.address; flat = m.flat; parts = m.parts.items }) };
+}
+
+impl<A: Allocator> Meter<A> {
+    /// A meter with no open part.
+    pub(crate) fn new(alloc: A, line: u8, address: Option<Primary>, flat: Flat) -> Meter<A>
+        requires { IsMeter (record { line = line; address = address; flat = flat; parts = [] }) }
+        ensures row { result ≡ record { line = line; address = address; flat = flat; parts = [] } }
+        ensures is_meter { IsMeter result }
+    {
+        Meter {
+            line,
+            address,
+            flat,
+            parts: Vec::new(alloc),
+        }
+    }
+
+    /// The bus line on which it hangs, from 1 to 8.
+    pub fn line(&self) -> u8
+        ensures line { result ≡ self.now.line }
+        ensures is_meter { IsMeter self.now }
+    {
+        self.line
+    }
+
+    /// Its primary address; none where it is selected by its identity.
+    pub fn address(&self) -> Option<Primary>
+        ensures address { result ≡ self.now.address }
+        ensures is_meter { IsMeter self.now }
+    {
+        self.address
+    }
+
+    /// The flat to which it belongs.
+    pub fn flat(&self) -> Flat
+        ensures flat { result ≡ self.now.flat }
+        ensures is_meter { IsMeter self.now }
+    {
+        self.flat
+    }
+
+    /// The parts of a readout that isn't finished, in order.
+    pub fn parts(&self) -> &[Part<A>]
+        ensures parts { result.now ≡ self.now.parts }
+        ensures is_meter { IsMeter self.now }
+    {
+        &self.parts
+    }
+
+    pub(crate) fn size(&self) -> u32
+        ensures size { result ≡ meter_size self.now }
+        ensures bound { result ≤ 66600 }
+        ensures is_meter { IsMeter self.now }
+    {
+        12 + u32::from(self.flat.len()) + parts_size(&self.parts)
+    }
+
+    /// The bytes that a part of this number drops: part 1 drops what was open.
+    pub(crate) fn dropped_size(&self, number: u8) -> u32
+        ensures size { result ≡ (if number == 1 then parts_size self.now.parts else 0) }
+        ensures bound { result ≤ 66600 }
+    {
+        if number == 1 {
+            parts_size(&self.parts)
+        } else {
+            0
+        }
+    }
+
+    /// The bytes that a reading adds to its parts, where the readout ends.
+    pub(crate) fn read_size(&self, more_follows: bool) -> u32
+        ensures size { result ≡ (if more_follows then 0 else 18 + length self.now.flat) }
+        ensures bound { result ≤ 30 }
+    {
+        if more_follows {
+            0
+        } else {
+            18 + u32::from(self.flat.len())
+        }
+    }
+
+    /// Whether it has this primary address on this bus line.
+    pub(crate) fn occupies(&self, line: u8, address: Option<Primary>) -> bool
+        ensures { result ≡ occupies line address self.now }
+    {
+        self.line == line && is_same(address, self.address)
+    }
+
+    /// It belongs to another flat from now on.
+    pub(crate) fn set_flat(&mut self, flat: Flat)
+        requires { IsFlat flat }
+        ensures flat { self.new ≡ record self.old { flat = flat } }
+        ensures is_meter { IsMeter self.new }
+    {
+        self.flat = flat;
+    }
+
+    /// Keeps a part; part 1 begins the readout anew.
+    pub(crate) fn join(&mut self, alloc: A, number: u8, part: Part<A>) -> Result<(), NoMemory>
+        requires continues { continues number (Some self.old) ≡ true }
+        requires part_is { IsPart part }
+        ensures ok { OnOk result (self.new ≡ record self.old { parts = joined number part self.old.parts }) }
+        ensures err { OnErr result (self.new ≡ self.old) }
+    {
+        if number == 1 {
+            self.begin(alloc, part)
+        } else {
+            self.push(part)
+        }
+    }
+
+    /// Keeps one part alone.
+    fn begin(&mut self, alloc: A, part: Part<A>) -> Result<(), NoMemory>
+        requires { IsPart part }
+        ensures ok { OnOk result (self.new ≡ record self.old { parts = part ∷ [] }) }
+        ensures err { OnErr result (self.new ≡ self.old) }
+    {
+        let mut parts = Vec::new(alloc);
+        parts.push(part)?;
+        self.parts = parts;
+        Ok(())
+    }
+
+    /// Keeps one part more.
+    fn push(&mut self, part: Part<A>) -> Result<(), NoMemory>
+        requires part_is { IsPart part }
+        requires room { length self.old.parts + 1 ≤ 255 }
+        ensures ok { OnOk result (self.new ≡ record self.old { parts = self.old.parts ++ part ∷ [] }) }
+        ensures err { OnErr result (self.new ≡ self.old) }
+    {
+        self.parts.push(part)?;
+        Ok(())
+    }
+
+    /// Takes the parts for a reading, and keeps none.
+    pub(crate) fn close(&mut self, alloc: A, serial: u64, meter: Identity) -> Reading<A>
+        ensures reading { result ≡ record { serial = serial; meter = meter; flat = self.old.flat; parts = self.old.parts } }
+        ensures after { self.new ≡ record self.old { parts = [] } }
+        ensures is_reading { IsReading result }
+        ensures is_meter { IsMeter self.new }
+    {
+        let parts = replace(&mut self.parts, Vec::new(alloc));
+        Reading::new(serial, meter, self.flat, parts)
+    }
+}
+
+fn is_same(address: Option<Primary>, taken: Option<Primary>) -> bool
+    ensures { result ≡ same_primary address taken }
+{
+    match (address, taken) {
+        (Some(address), Some(taken)) => taken.get() == address.get(),
+        _ => false,
+    }
+}

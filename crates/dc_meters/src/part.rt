@@ -1,0 +1,74 @@
+ghost use Rattle.std.specs.Prelude.{◌≡◌, ◌*◌, ◌≤◌, length, IfOk};
+ghost use Rattle.dc_meters.specs.State.{PartRow};
+ghost use Rattle.dc_meters.specs.Size.{part_size, parts_size};
+ghost use Rattle.dc_meters.specs.Valid.{IsPart};
+
+use dc_base::NoMemory;
+use std::alloc::Allocator;
+use std::marker::Model;
+
+/// A part of a readout: one telegram's body, and when it came.
+#[derive(Drop)]
+pub struct Part<A: Allocator> {
+    moment: u64,
+    body: Vec<u8, A>,
+}
+
+impl<A: Allocator> Model for Part<A> {
+    ghost use Rattle.dc_meters.specs.State.{PartRow};
+    ghost use Rattle.dc_meters.specs.Valid.{IsPart};
+
+    ghost Value = { PartRow };
+
+    ghost view = { λ p. record { moment = p.moment; body = p.body.items } };
+
+    ghost invariant = { λ p. IsPart (record { moment = p.moment; body = p.body.items }) };
+}
+
+impl<A: Allocator> Part<A> {
+    pub(crate) fn new(alloc: A, moment: u64, body: &[u8]) -> Result<Part<A>, NoMemory>
+        requires { IsPart (record { moment = moment; body = body.now }) }
+        ensures { IfOk result (λ part. part ≡ record { moment = moment; body = body.now }) }
+    {
+        Ok(Part {
+            moment,
+            body: Vec::from_slice(alloc, body)?,
+        })
+    }
+
+    /// When it came, in seconds since 1970.
+    pub fn moment(&self) -> u64
+        ensures moment { result ≡ self.now.moment }
+        ensures is_part { IsPart self.now }
+    {
+        self.moment
+    }
+
+    /// The body's bytes.
+    pub fn body(&self) -> &[u8]
+        ensures body { result.now ≡ self.now.body }
+        ensures is_part { IsPart self.now }
+    {
+        &self.body
+    }
+
+    pub(crate) fn size(&self) -> u32
+        ensures size { result ≡ part_size self.now }
+        ensures bound { result ≤ 261 }
+    {
+        9 + self.body.len() as u32
+    }
+}
+
+/// The bytes that parts are counted as.
+pub(crate) fn parts_size<A: Allocator>(parts: &[Part<A>]) -> u32
+    requires { length parts.now ≤ 255 }
+    ensures size { result ≡ parts_size parts.now }
+    ensures bound { result ≤ 261 * length parts.now }
+{
+    let mut size = 0;
+    for part in parts {
+        size += part.size();
+    }
+    size
+}

@@ -1,0 +1,85 @@
+ghost use Rattle.std.specs.Prelude.{◌≡◌, ◌≤◌};
+ghost use Rattle.dc_meters.specs.Size.{reading_size};
+ghost use Rattle.dc_meters.specs.Valid.{IsReading};
+
+use crate::part::parts_size;
+use crate::{Flat, Part};
+use dc_address::Identity;
+use std::alloc::Allocator;
+use std::marker::Model;
+
+/// A finished readout.
+#[derive(Drop)]
+pub struct Reading<A: Allocator> {
+    serial: u64,
+    meter: Identity,
+    flat: Flat,
+    parts: Vec<Part<A>, A>,
+}
+
+impl<A: Allocator> Model for Reading<A> {
+    ghost use Rattle.dc_meters.specs.State.{ReadingRow};
+    ghost use Rattle.dc_meters.specs.Valid.{IsReading};
+
+    ghost Value = { ReadingRow };
+
+    ghost view = { λ r. record { serial = r.serial; meter = r.meter; flat = r.flat; parts = r.parts.items } };
+
+    ghost invariant = { λ r. IsReading (record { serial = r.serial; meter = r.meter; flat = r.flat; parts = r.parts.items }) };
+}
+
+impl<A: Allocator> Reading<A> {
+    pub(crate) fn new(
+        serial: u64,
+        meter: Identity,
+        flat: Flat,
+        parts: Vec<Part<A>, A>,
+    ) -> Reading<A>
+        requires { IsReading (record { serial = serial; meter = meter; flat = flat; parts = parts.items }) }
+        ensures { result ≡ record { serial = serial; meter = meter; flat = flat; parts = parts.items } }
+    {
+        Reading {
+            serial,
+            meter,
+            flat,
+            parts,
+        }
+    }
+
+    /// Its serial, from 1; each is given once.
+    pub fn serial(&self) -> u64
+        ensures serial { result ≡ self.now.serial }
+        ensures is_reading { IsReading self.now }
+    {
+        self.serial
+    }
+
+    /// The meter that was read.
+    pub fn meter(&self) -> Identity
+        ensures { result ≡ self.now.meter }
+    {
+        self.meter
+    }
+
+    /// The flat in which the meter was when the readout ended.
+    pub fn flat(&self) -> Flat
+        ensures { result ≡ self.now.flat }
+    {
+        self.flat
+    }
+
+    /// Its parts, in order.
+    pub fn parts(&self) -> &[Part<A>]
+        ensures parts { result.now ≡ self.now.parts }
+        ensures is_reading { IsReading self.now }
+    {
+        &self.parts
+    }
+
+    pub(crate) fn size(&self) -> u32
+        ensures size { result ≡ reading_size self.now }
+        ensures bound { result ≤ 66600 }
+    {
+        18 + u32::from(self.flat.len()) + parts_size(&self.parts)
+    }
+}
