@@ -1,0 +1,54 @@
+-- The disk rule, of this product: what a disk reads, what a stop may leave, and how calls change both.
+use Rattle.std.specs.Prelude.{◌≡◌, ◌⊎◌, ◌==◌, ◌<◌, ℕ, ◌+◌, ◌≤◌, List, [], ◌∷◌, ◌++◌, if◌then◌else◌, Contains, Result, Ok, Err}
+use Rattle.dc_sectors.specs.declared.sector.Sector.{Sector}
+use Rattle.dc_sectors.specs.declared.sector.Sector.TheVariants.{Bytes, Unreadable}
+use Rattle.dc_sectors.specs.declared.sector.ReadFault.{ReadFault}
+use Rattle.dc_sectors.specs.declared.sector.ReadFault.TheVariants.{Unreadable as CannotRead, Failed}
+
+-- what each sector reads
+abbrev pub Image : Type 0
+Image = ℕ → Sector
+
+-- what each sector may read after a stop
+abbrev pub Choices : Type 0
+Choices = ℕ → List Sector
+
+-- one choice for each sector, independently
+abbrev pub IsImage : Choices → Image → Type 0
+IsImage choices image = (n : ℕ) → Contains (choices n) (image n)
+
+-- the image with these bytes at sector n
+abbrev pub put : Image → ℕ → List ℕ → Image
+put image n bytes = λ m. if m == n then Bytes bytes else image m
+
+-- a write of these bytes to sector n adds them, and Unreadable, to its choices
+abbrev pub added : Choices → ℕ → List ℕ → Choices
+added choices n bytes = λ m. if m == n then choices m ++ Bytes bytes ∷ Unreadable ∷ [] else choices m
+
+-- a sync leaves what is read as the only choice
+abbrev pub settled : Image → Choices
+settled image = λ n. image n ∷ []
+
+-- what a read of a sector may answer, where the sector reads so; a device may always fail
+abbrev pub Answers : Sector → Result (List ℕ) ReadFault → Type 0
+Answers sector (Ok bytes) = sector ≡ Bytes bytes
+Answers sector (Err CannotRead) = sector ≡ Unreadable
+Answers sector (Err Failed) = Unit {0}
+
+-- Time goes on from one moment to another, and the images of the moments between have this property:
+-- a stop since t might have left what it might have left before, or an image that has it.
+pub record Elapses (before now : ℕ) (past since : ℕ → Image → Type 0) (images : Image → Type 0) : Type 0 where
+  pub later : before ≤ now
+  pub nothing_else : (t : ℕ) (image : Image) → t ≤ before → since t image → past t image ⊎ images image
+  pub keeps : (t : ℕ) (image : Image) → t ≤ before → past t image → since t image
+
+-- A stop at any moment from the old state to the new leaves an image that has P, whatever the calls answered.
+pub record LeavesOnly {D : Type 0} (moment : D → ℕ) (images_since : D → ℕ → Image → Type 0) (old new : D) (P : Image → Type 0) : Type 0 where
+  pub later : moment old ≤ moment new
+  pub each : (image : Image) → images_since new (moment old) image → P image
+  -- for a run of calls that began earlier
+  pub before : (t : ℕ) (image : Image) → t ≤ moment old → images_since new t image → images_since old t image ⊎ P image
+
+-- outside the run of count sectors from the first the image is a choice of these
+abbrev pub ChoiceOutside : ℕ → ℕ → Choices → Image → Type 0
+ChoiceOutside first count choices image = (m : ℕ) → (m < first) ⊎ (first + count ≤ m) → Contains (choices m) (image m)

@@ -1,0 +1,104 @@
+-- A disk in memory, as contracts see it: the image that its record began with, the record, and the
+-- failures that a test sets.
+use Rattle.std.specs.Prelude.{◌≡◌, ◌⊎◌, ◌==◌, ◌<◌, ◌+◌, ◌*◌, ◌^◌, ℕ, zero, suc, slice_index_or, List, [], ◌∷◌, true, false, ◌++◌, length, replicate, if◌then◌else◌, None, Result, Ok, Err}
+use Rattle.dc_sectors.specs.declared.sector.Sector.{Sector}
+use Rattle.dc_sectors.specs.declared.sector.Sector.TheVariants.{Bytes, Unreadable}
+use Rattle.dc_sectors.specs.declared.sector.ReadFault.{ReadFault}
+use Rattle.dc_sectors.specs.declared.sector.ReadFault.TheVariants.{Unreadable as CannotRead, Failed as ReadFailed}
+use Rattle.dc_sectors.specs.declared.sector.Failed.{Failed}
+use Rattle.dc_sectors.specs.declared.calls.Calls.{Calls}
+use Rattle.dc_sectors.specs.declared.event.Event.{Event}
+use Rattle.dc_sectors.specs.declared.event.Event.TheVariants.{Write, Sync}
+use Rattle.dc_sectors.specs.declared.pick.Pick.{Pick}
+use Rattle.dc_sectors.specs.declared.pick.Pick.TheVariants.{Old, Written, Unreadable as Lost}
+use Rattle.dc_sectors.specs.Calls.{passes, counted, failed_once_more}
+use Rattle.dc_sectors.specs.Disk.{Image, Choices}
+use Rattle.dc_sectors.specs.Record.{image_of, reads_after, choices_after, writes_after}
+
+pub record Memory : Type 0 where
+  -- what each sector read when the record began: zeros, or what a stop left
+  pub start : List Sector
+  -- each write, also one that a test made fail, and each sync that succeeded
+  pub events : List Event
+  -- the calls so far, and those to come that are to fail
+  pub calls : Calls
+
+-- a new disk, of zeros
+abbrev pub blank : ℕ → Memory
+blank count = record { start = replicate count (Bytes (replicate 512 0)); events = []; calls = record { made = 0; failed = 0; fuse = None; fails_at = None } }
+
+-- what a read of a sector answers, where the call passes
+abbrev pub answer_of : Sector → Result (List ℕ) ReadFault
+answer_of (Bytes bytes) = Ok bytes
+answer_of Unreadable = Err CannotRead
+
+abbrev pub reads_of : Memory → Image
+reads_of disk = reads_after (image_of disk.start) disk.events
+
+abbrev pub choices_of : Memory → Choices
+choices_of disk = choices_after (image_of disk.start) disk.events
+
+-- A call passes, or fails because a test wants it to, or because memory for the record was refused.
+
+abbrev pub after_pass : Memory → Memory
+after_pass disk = record disk { calls = counted disk.calls }
+
+abbrev pub after_failure : Memory → Memory
+after_failure disk = record disk { calls = failed_once_more (counted disk.calls) }
+
+-- a read takes no memory
+abbrev pub IsRead : Memory → ℕ → Result (List ℕ) ReadFault → Memory → Type 0
+IsRead old n result new =
+    (result ≡ (if passes old.calls then answer_of (reads_of old n) else Err ReadFailed)) × (new ≡ (if passes old.calls then after_pass old else after_failure old))
+
+-- a write that a test made fail is recorded, and one whose record was refused isn't
+abbrev pub IsWrite : Memory → ℕ → List ℕ → Result (Unit {0}) Failed → Memory → Type 0
+IsWrite old n bytes (Ok _) new = (passes old.calls ≡ true) × (new ≡ record (after_pass old) { events = old.events ++ Write n bytes true ∷ [] })
+IsWrite old n bytes (Err _) new = ((passes old.calls ≡ false) × (new ≡ record (after_failure old) { events = old.events ++ Write n bytes false ∷ [] })) ⊎ (new ≡ after_failure old)
+
+-- a sync that failed isn't recorded
+abbrev pub IsSync : Memory → Result (Unit {0}) Failed → Memory → Type 0
+IsSync old (Ok _) new = (passes old.calls ≡ true) × (new ≡ record (after_pass old) { events = old.events ++ Sync ∷ [] })
+IsSync old (Err _) new = new ≡ after_failure old
+
+-- the sectors below n that were written since the sync, ascending, each with its number of writes
+abbrev pub pending_below : (ℕ → ℕ) → ℕ → List (ℕ × ℕ)
+pending_below writes zero = []
+pending_below writes (suc n) = pending_below writes n ++ (if writes n == 0 then [] else (n, writes n) ∷ [])
+
+abbrev pub pending_of : Memory → List (ℕ × ℕ)
+pending_of disk = pending_below (writes_after disk.events) (length disk.start)
+
+-- a pick may name a write that there was, counted from 0
+abbrev pub IsPickFor : ℕ × ℕ → Pick → Type 0
+IsPickFor (n, writes) Old = Unit {0}
+IsPickFor (n, writes) (Written k) = k < writes
+IsPickFor (n, writes) Lost = Unit {0}
+
+-- what a pick says of a sector with these choices: what it read at the sync, and then for each write
+-- its bytes and Unreadable
+abbrev pub picked : List Sector → Pick → Sector
+picked choices Old = slice_index_or choices 0 Unreadable
+picked choices (Written k) = slice_index_or choices (2 * k + 1) Unreadable
+picked choices Lost = Unreadable
+
+-- the image that the picks say, one for each pending sector, ascending; the others stay
+abbrev pub picked_from : Image → List Event → List Pick → Image
+picked_from start events picks = λ n.
+    if writes_after events n == 0 then reads_after start events n else picked (choices_after start events n) (slice_index_or picks (length (pending_below (writes_after events) n)) Old)
+
+abbrev pub image_picked : Memory → List Pick → Image
+image_picked disk picks = picked_from (image_of disk.start) disk.events picks
+
+-- how often each sector was written; none past the last
+abbrev pub counts_of : List ℕ → ℕ → ℕ
+counts_of writes = λ n. slice_index_or writes n 0
+
+-- what the fields of a disk in memory are to each other: the sectors as they read now, and how often
+-- each was written since the sync, are what the record says
+pub record IsKept (start reads : List Sector) (writes : List ℕ) (events : List Event) : Type 0 where
+  pub reading : image_of reads ≡ reads_after (image_of start) events
+  pub written : counts_of writes ≡ writes_after events
+  pub reads_length : length reads ≡ length start
+  pub writes_length : length writes ≡ length start
+  pub small : length start < 2 ^ 32

@@ -1,0 +1,81 @@
+ghost use Rattle.std.specs.Prelude.{◌≡◌, ◌≢◌, ◌⊎◌, ◌<◌, ◌≤◌, List, ℕ, OnOk, OnErr, IsErrOf, Contains};
+ghost use Rattle.dc_base.specs.Failures.{HasRisen};
+ghost use Rattle.dc_sectors.specs.declared.sector.Sector.{Sector};
+ghost use Rattle.dc_sectors.specs.declared.sector.ReadFault.TheVariants.{Failed as ReadFailed};
+ghost use Rattle.dc_sectors.specs.Disk.{IsImage, Answers, put, added, settled, Elapses};
+
+use crate::{Failed, ReadFault};
+
+/// A disk of sectors of 512 bytes, numbered from 0.
+///
+/// The count of sectors and the count of failures hold of every disk, and all else of an honest one.
+pub trait Disk {
+    /// The disk keeps to what is said of readings and images.
+    ghost honest: { Type 0 };
+
+    /// How many sectors it has.
+    ghost sectors: { Self → ℕ };
+
+    /// What each sector reads now.
+    ghost reads: { Self → ℕ → Sector };
+
+    /// What each sector may read after a stop at this moment.
+    ghost choices: { Self → ℕ → List Sector };
+
+    /// The moment, as a number that doesn't fall.
+    ghost moment: { Self → ℕ };
+
+    /// The images that a stop at some moment from that one on might have left, within a call or between two.
+    ghost images_since: { Self → ℕ → (ℕ → Sector) → Type 0 };
+
+    /// How often the device has failed. At `u64::MAX` the count stays.
+    ghost failures: { Self → ℕ };
+
+    /// The number of sectors.
+    fn count(&self) -> u32
+        ensures { result ≡ sectors self.now };
+
+    /// Reads a sector. A failure leaves everything as it was, but for the count of failures.
+    fn read(&mut self, n: u32) -> Result<[u8; 512], ReadFault>
+        requires { n < sectors self.old }
+        ensures answer { honest → Answers (reads self.old n) result }
+        ensures reads { honest → reads self.new ≡ reads self.old }
+        ensures choices { honest → choices self.new ≡ choices self.old }
+        ensures time { honest → Elapses (moment self.old) (moment self.new) (images_since self.old) (images_since self.new) (IsImage (choices self.old)) }
+        ensures count { sectors self.new ≡ sectors self.old }
+        ensures failures { failures self.old ≤ failures self.new }
+        ensures failed { IsErrOf result ReadFailed → HasRisen (failures self.old) (failures self.new) };
+
+    /// Writes a sector, which stays one of the sector's choices until a sync. A write that failed may
+    /// have been made, in part too.
+    fn write(&mut self, n: u32, bytes: &[u8; 512]) -> Result<(), Failed>
+        requires { n < sectors self.old }
+        ensures reads { honest → OnOk result (reads self.new ≡ put (reads self.old) n bytes.now) }
+        ensures elsewhere { honest → (m : ℕ) → m ≢ n → reads self.new m ≡ reads self.old m }
+        ensures choices { honest → OnOk result (choices self.new ≡ added (choices self.old) n bytes.now) }
+        ensures choices_err { honest → OnErr result ((choices self.new ≡ added (choices self.old) n bytes.now) ⊎ (choices self.new ≡ choices self.old)) }
+        ensures time { honest → Elapses (moment self.old) (moment self.new) (images_since self.old) (images_since self.new) (IsImage (added (choices self.old) n bytes.now)) }
+        ensures count { sectors self.new ≡ sectors self.old }
+        ensures failures { failures self.old ≤ failures self.new }
+        ensures failed { OnErr result (HasRisen (failures self.old) (failures self.new)) };
+
+    /// Leaves what each sector reads as its only choice. One that failed changes nothing, but for the
+    /// count of failures.
+    fn sync(&mut self) -> Result<(), Failed>
+        ensures reads { honest → reads self.new ≡ reads self.old }
+        ensures choices { honest → OnOk result (choices self.new ≡ settled (reads self.old)) }
+        ensures choices_err { honest → OnErr result (choices self.new ≡ choices self.old) }
+        ensures time { honest → Elapses (moment self.old) (moment self.new) (images_since self.old) (images_since self.new) (IsImage (choices self.old)) }
+        ensures count { sectors self.new ≡ sectors self.old }
+        ensures failures { failures self.old ≤ failures self.new }
+        ensures failed { OnErr result (HasRisen (failures self.old) (failures self.new)) };
+
+    /// What a sector reads is one of its choices.
+    ghost reads_a_choice: { honest → (disk : Self) (n : ℕ) → Contains (choices disk n) (reads disk n) };
+
+    /// The images of this moment are among those since an earlier one.
+    ghost counts_now: { honest → (disk : Self) (t : ℕ) (image : ℕ → Sector) → t ≤ moment disk → IsImage (choices disk) image → images_since disk t image };
+
+    /// Since this moment there is no other image than its own.
+    ghost only_now: { honest → (disk : Self) (image : ℕ → Sector) → images_since disk (moment disk) image → IsImage (choices disk) image };
+}
