@@ -1,0 +1,118 @@
+ghost use Rattle.std.specs.Prelude.{◌≡◌, ◌<◌, ◌≤◌, IfOk, OnErr, IsErrOf};
+ghost use Rattle.dc_base.specs.Failures.{HasRisen};
+ghost use Rattle.dc_sectors.specs.declared.sector.Sector.TheVariants.{Bytes};
+ghost use Rattle.dc_sectors.specs.Disk.{Image, IsImage, Elapses, LeavesOnly};
+ghost use Rattle.dc_roots.specs.Choice.{IsChoice};
+ghost use Rattle.dc_roots.specs.Held.{IsHeld, NamesHalf};
+
+use crate::format::root_of;
+use crate::{Root, RootFault};
+use dc_sectors::{Disk, Failed, ReadFault};
+
+/// What a slot holds.
+#[derive(Clone, Copy)]
+pub(crate) enum Held {
+    /// A valid root of that slot.
+    Valid(Root),
+    /// Something else.
+    Other,
+    /// It is unreadable.
+    Lost,
+}
+
+/// What these bytes are in that slot.
+fn held_by(bytes: &[u8; 512], slot: u32) -> Held
+    ensures held { IsHeld slot (Bytes bytes.now) result }
+    ensures half { NamesHalf result }
+{
+    match root_of(bytes) {
+        None => Held::Other,
+        Some(root) => {
+            if 1 + root.generation % 2 == slot as u64 {
+                Held::Valid(root)
+            } else {
+                Held::Other
+            }
+        }
+    }
+}
+
+/// Reads a slot.
+fn read_slot<D: Disk>(disk: &mut D, slot: u32) -> Result<Held, Failed>
+    requires { slot < D.sectors disk.old }
+    ensures held { D.honest → IfOk result (IsHeld slot (D.reads disk.old slot)) }
+    ensures half { IfOk result NamesHalf }
+    ensures reads { D.honest → D.reads disk.new ≡ D.reads disk.old }
+    ensures choices { D.honest → D.choices disk.new ≡ D.choices disk.old }
+    ensures time { D.honest → Elapses (D.moment disk.old) (D.moment disk.new) (D.images_since disk.old) (D.images_since disk.new) (IsImage (D.choices disk.old)) }
+    ensures count { D.sectors disk.new ≡ D.sectors disk.old }
+    ensures failures { D.failures disk.old ≤ D.failures disk.new }
+    ensures failed { OnErr result (HasRisen (D.failures disk.old) (D.failures disk.new)) }
+{
+    match disk.read(slot) {
+        Ok(bytes) => Ok(held_by(&bytes, slot)),
+        Err(ReadFault::Unreadable) => Ok(Held::Lost),
+        Err(ReadFault::Failed) => Err(Failed),
+    }
+}
+
+/// The choice between what the two slots hold.
+fn newer(first: Held, second: Held) -> Result<Root, RootFault>
+    ensures choice { (image : Image) → IsHeld 1 (image 1) first → IsHeld 2 (image 2) second → IsChoice image result }
+    ensures half { NamesHalf first → NamesHalf second → IfOk result (λ root. root.half ≤ 1) }
+    ensures no_device { IsErrOf result RootFault.Device → ⊥ }
+    ensures not_worn { IsErrOf result RootFault.Worn → ⊥ }
+{
+    match first {
+        Held::Valid(a) => match second {
+            Held::Valid(b) => {
+                if a.generation < b.generation {
+                    Ok(b)
+                } else {
+                    Ok(a)
+                }
+            }
+            Held::Other => Ok(a),
+            Held::Lost => Ok(a),
+        },
+        Held::Other => match second {
+            Held::Valid(b) => Ok(b),
+            Held::Other => Err(RootFault::NoRoot(None)),
+            Held::Lost => Err(RootFault::NoRoot(Some(2))),
+        },
+        Held::Lost => match second {
+            Held::Valid(b) => Ok(b),
+            Held::Other => Err(RootFault::NoRoot(Some(1))),
+            Held::Lost => Err(RootFault::NoRoot(Some(1))),
+        },
+    }
+}
+
+/// Reads both slots and answers the valid root of greater generation.
+///
+/// # Errors
+///
+/// `NoRoot` where neither slot has a valid root, with the first that is unreadable, if one is; `Device`
+/// where a read failed.
+pub fn choose<D: Disk>(disk: &mut D) -> Result<Root, RootFault>
+    requires { 2 < D.sectors disk.old }
+    ensures choice { D.honest → IsChoice (D.reads disk.old) result }
+    ensures half { IfOk result (λ root. root.half ≤ 1) }
+    ensures device { IsErrOf result RootFault.Device → HasRisen (D.failures disk.old) (D.failures disk.new) }
+    ensures not_worn { IsErrOf result RootFault.Worn → ⊥ }
+    ensures reads { D.honest → D.reads disk.new ≡ D.reads disk.old }
+    ensures choices { D.honest → D.choices disk.new ≡ D.choices disk.old }
+    ensures any_moment { D.honest → LeavesOnly D.moment D.images_since disk.old disk.new (IsImage (D.choices disk.old)) }
+    ensures count { D.sectors disk.new ≡ D.sectors disk.old }
+    ensures failures { D.failures disk.old ≤ D.failures disk.new }
+{
+    let first = match read_slot(disk, 1) {
+        Ok(held) => held,
+        Err(Failed) => return Err(RootFault::Device),
+    };
+    let second = match read_slot(disk, 2) {
+        Ok(held) => held,
+        Err(Failed) => return Err(RootFault::Device),
+    };
+    newer(first, second)
+}

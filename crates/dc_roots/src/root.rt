@@ -1,0 +1,16 @@
+/// What a root sector says.
+#[derive(Clone, Copy, Debug, PartialEq, Eq)]
+pub struct Root {
+    /// The version of the image's sectors.
+    pub version: u8,
+    /// The half in use, 0 or 1.
+    pub half: u8,
+    /// One more in each root that is written.
+    pub generation: u64,
+    /// The session that may write groups since this root was synced.
+    pub session: u64,
+    /// The sequence of the half's base group.
+    pub base_sequence: u64,
+    /// The number of sectors of a half.
+    pub half_len: u32,
+}
