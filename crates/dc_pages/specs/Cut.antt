@@ -1,0 +1,74 @@
+-- For the crates above: where a sector doesn't fit, no group is complete.
+use Rattle.std.proofs.Common.{◌≡◌, inl, inr, ⊎_elim, ℕ, ◌<◌, ◌≤◌, ◌+◌, ◌*◌, ◌-◌, List, length, drop, arith, ap, sym, subst, ◌∙◌, ◌≢◌, min}
+use Rattle.std.proofs.lemmas.Bool.{cases_eq, cases_lt}
+use Rattle.std.proofs.lemmas.List.{length-take, length-drop}
+use Rattle.dc_sectors.specs.Disk.{Image}
+use Rattle.dc_pages.specs.Group.{IsPage, IsCommit, IsComplete, commit_kind, piece}
+use Rattle.dc_pages.specs.Reading.{IsCutAt}
+use Rattle.dc_pages.specs.Agree.{page_or_commit, one_content}
+
+pub length_piece : (i : ℕ) (payload : List ℕ) → length (piece i payload) ≡ min 488 (length payload - 488 * i)
+length_piece i payload = length-take 488 (drop (488 * i) payload) ∙ ap (min 488) (length-drop (488 * i) payload)
+
+pub cut_incomplete : (version kind sequence place limit n : ℕ) (image : Image) → kind ≢ commit_kind → IsCutAt version kind sequence place limit n image
+    → IsComplete version kind sequence place limit image → ⊥
+cut_incomplete version kind sequence place limit n image other cut complete =
+    let group = complete.group in
+    let fits = group.fits in
+    let at = cut.at in
+    ⊎_elim
+    (λ (lt : complete.pages < cut.i). page_or_commit _ _ _ _ _ _ _ _ _ _ _ other (cut.begun.page complete.pages lt) group.commit)
+    (λ (le : cut.i ≤ complete.pages). ⊎_elim
+    (λ (e : cut.i ≡ complete.pages). cut.no_commit (omega arith) (some_pages e)
+    (subst (λ (j : ℕ). IsCommit version cut.session sequence cut.i (image j)) (sym at)
+    (subst (λ (j : ℕ). IsCommit version cut.session sequence j (image (place + j))) (sym e)
+    (subst (λ (s : ℕ). IsCommit version s sequence complete.pages (image (place + complete.pages))) (same_session (some_pages e)) group.commit))))
+    (λ (not : cut.i ≡ complete.pages → ⊥). more (strictly le not))
+    (cases_eq cut.i complete.pages))
+    (cases_lt complete.pages cut.i)
+  where
+    some_pages : cut.i ≡ complete.pages → 0 < cut.i
+    some_pages e = let some = complete.group.some in let all = complete.group.all in omega arith
+
+    strictly : cut.i ≤ complete.pages → (cut.i ≡ complete.pages → ⊥) → cut.i < complete.pages
+    strictly le not = ⊎_elim (λ (lt : cut.i < complete.pages). lt) (λ (ge : complete.pages ≤ cut.i). absurd (not (omega arith))) (cases_lt cut.i complete.pages)
+
+    same_session : 0 < cut.i → complete.session ≡ cut.session
+    same_session some =
+        let small = complete.group.some in
+        let all = complete.group.all in
+        (one_content _ _ _ _ _ _ _ _ _ _ _ _ (image (place + 0)) (complete.group.page 0 (omega arith)) (cut.begun.page 0 some)).1
+
+    full : cut.i < complete.pages → length cut.payload ≡ 488 * cut.i
+    full lt = ⊎_elim
+        (λ (none : cut.i ≡ 0). let all = cut.begun.all in omega arith)
+        (λ (any : cut.i ≡ 0 → ⊥). whole lt (above any))
+        (cases_eq cut.i 0)
+      where
+        above : (cut.i ≡ 0 → ⊥) → 0 < cut.i
+        above any = ⊎_elim (λ (lt : 0 < cut.i). lt) (λ (ge : cut.i ≤ 0). absurd (any (omega arith))) (cases_lt 0 cut.i)
+
+        whole : cut.i < complete.pages → 0 < cut.i → length cut.payload ≡ 488 * cut.i
+        whole lt some =
+            let last = cut.i - 1 in
+            let same : piece last complete.payload ≡ piece last cut.payload = (one_content _ _ _ _ _ _ _ _ _ _ _ _ (image (place + last)) (complete.group.page last (omega arith)) (cut.begun.page last (omega arith))).0 in
+            let a = length_piece last complete.payload in
+            let b = length_piece last cut.payload in
+            let long = ap length same in
+            let small = complete.group.some in
+            let all = cut.begun.all in
+            omega arith
+
+    more : cut.i < complete.pages → ⊥
+    more lt =
+        let fits = complete.group.fits in
+        let at = cut.at in
+        let small = complete.group.some in
+        let a = length_piece cut.i complete.payload in
+        cut.no_page (omega arith) (full lt) complete.session (piece cut.i complete.payload)
+        (⊎_elim (λ (none : cut.i ≡ 0). inl none) (λ (any : cut.i ≡ 0 → ⊥). inr (same_session (above any))) (cases_eq cut.i 0))
+        (omega arith) (omega arith)
+        (subst (λ (j : ℕ). IsPage version kind complete.session sequence cut.i (piece cut.i complete.payload) (image j)) (sym at) (complete.group.page cut.i lt))
+      where
+        above : (cut.i ≡ 0 → ⊥) → 0 < cut.i
+        above any = ⊎_elim (λ (lt : 0 < cut.i). lt) (λ (ge : cut.i ≤ 0). absurd (any (omega arith))) (cases_lt 0 cut.i)

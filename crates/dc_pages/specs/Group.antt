@@ -1,0 +1,88 @@
+-- Groups of stamped sectors: this product's image format.
+use Rattle.std.specs.Prelude.{◌≡◌, ◌⊎◌, ◌<◌, ℕ, ◌+◌, ◌-◌, ◌*◌, ◌≤◌, List, [], ◌∷◌, ◌++◌, length, take, drop, replicate, slice_index}
+use Rattle.dc_sectors.specs.declared.sector.Sector.{Sector}
+use Rattle.dc_sectors.specs.declared.sector.Sector.TheVariants.{Bytes}
+use Rattle.dc_sectors.specs.Disk.{Image}
+use Rattle.dc_fields.specs.Fields.{field, number_bytes}
+
+-- the kinds of sectors: a page of a whole state, a page of changes, and the commit sector of either
+abbrev pub base_kind : ℕ
+base_kind = 0x42
+
+abbrev pub change_kind : ℕ
+change_kind = 0x50
+
+abbrev pub commit_kind : ℕ
+commit_kind = 0x43
+
+-- what the head of a page or commit sector says
+pub record IsHead (kind version used index session sequence : ℕ) (bytes : List ℕ) : Type 0 where
+  pub kind_is : slice_index bytes 0 ≡ kind
+  pub version_is : slice_index bytes 1 ≡ version
+  pub used_is : field 2 2 bytes ≡ used
+  pub index_is : field 4 4 bytes ≡ index
+  pub session_is : field 8 8 bytes ≡ session
+  pub sequence_is : field 8 16 bytes ≡ sequence
+
+-- a readable page with this content; what stands behind its used bytes isn't looked at
+pub record IsPage (version kind session sequence index : ℕ) (content : List ℕ) (sector : Sector) : Type 0 where
+  pub bytes : List ℕ
+  pub readable : sector ≡ Bytes bytes
+  pub head : IsHead kind version (length content) index session sequence bytes
+  pub content_is : take (length content) (drop 24 bytes) ≡ content
+
+-- a readable commit sector of a group of so many pages
+pub record IsCommit (version session sequence pages : ℕ) (sector : Sector) : Type 0 where
+  pub bytes : List ℕ
+  pub readable : sector ≡ Bytes bytes
+  pub head : IsHead commit_kind version 0 pages session sequence bytes
+
+-- the i-th piece of 488 bytes; the last may be shorter
+abbrev pub piece : ℕ → List ℕ → List ℕ
+piece i payload = take 488 (drop (488 * i) payload)
+
+-- A complete group: its pages hold the payload piece by piece, and a commit sector follows. The half
+-- ends before sector `limit`.
+pub record IsGroup (version kind session sequence : ℕ) (payload : List ℕ) (pages place limit : ℕ) (image : Image) : Type 0 where
+  pub some : 488 * (pages - 1) < length payload
+  pub all : length payload ≤ 488 * pages
+  pub fits : place + pages < limit
+  pub page : (i : ℕ) → i < pages → IsPage version kind session sequence i (piece i payload) (image (place + i))
+  pub commit : IsCommit version session sequence pages (image (place + pages))
+
+-- a group of that kind and sequence, of some session, is complete there
+pub record IsComplete (version kind sequence place limit : ℕ) (image : Image) : Type 0 where
+  pub session : ℕ
+  pub payload : List ℕ
+  pub pages : ℕ
+  pub group : IsGroup version kind session sequence payload pages place limit image
+
+-- a readable page or commit sector with that stamp, of either version of the format
+pub record Carries (session sequence : ℕ) (sector : Sector) : Type 0 where
+  pub bytes : List ℕ
+  pub readable : sector ≡ Bytes bytes
+  pub kind_is : ((slice_index bytes 0 ≡ base_kind) ⊎ (slice_index bytes 0 ≡ change_kind)) ⊎ (slice_index bytes 0 ≡ commit_kind)
+  pub version_is : (slice_index bytes 1 ≡ 1) ⊎ (slice_index bytes 1 ≡ 2)
+  pub session_is : field 8 8 bytes ≡ session
+  pub sequence_is : field 8 16 bytes ≡ sequence
+
+-- the kinds of pages, and the versions that the format has
+abbrev pub IsPageKind : ℕ → Type 0
+IsPageKind kind = (kind ≡ base_kind) ⊎ (kind ≡ change_kind)
+
+abbrev pub IsKnown : ℕ → Type 0
+IsKnown version = (version ≡ 1) ⊎ (version ≡ 2)
+
+-- the bytes before the payload
+unfoldable pub head_bytes : (kind version used index session sequence : ℕ) → List ℕ
+head_bytes kind version used index session sequence =
+    ((((kind ∷ version ∷ []) ++ number_bytes 2 used) ++ number_bytes 4 index) ++ number_bytes 8 session) ++ number_bytes 8 sequence
+
+-- the sector that is written for a page, with zeros behind its content
+unfoldable pub page_bytes : (version kind session sequence index : ℕ) → List ℕ → List ℕ
+page_bytes version kind session sequence index content =
+    head_bytes kind version (length content) index session sequence ++ (content ++ replicate (488 - length content) 0)
+
+-- the sector that is written for the commit of so many pages: it has no content
+abbrev pub commit_bytes : (version session sequence pages : ℕ) → List ℕ
+commit_bytes version session sequence pages = page_bytes version commit_kind session sequence pages []

@@ -1,0 +1,41 @@
+ghost use Rattle.std.specs.Prelude.{◌≡◌};
+ghost use Rattle.dc_pages.specs.Fault.{number_of, name_of};
+
+use thiserror::Error;
+
+/// Why no group was read.
+#[derive(Clone, Copy, Debug, PartialEq, Eq, Error)]
+#[error("{} {}", self.number(), self.name())]
+pub enum GroupFault {
+    /// No group is complete there. The first sector that doesn't fit; where the half ends first, the
+    /// number after its last one.
+    Incomplete(u32),
+    /// The disk failed, and has counted the failure.
+    Device,
+    /// Memory was refused.
+    NoMemory,
+}
+
+impl GroupFault {
+    /// The fault's number, from 1.
+    pub fn number(&self) -> u8
+        ensures { result ≡ number_of self.now }
+    {
+        match self {
+            GroupFault::Incomplete(_) => 1,
+            GroupFault::Device => 2,
+            GroupFault::NoMemory => 3,
+        }
+    }
+
+    /// The fault's name.
+    pub fn name(&self) -> &'static str
+        ensures { result.now ≡ name_of self.now }
+    {
+        match self {
+            GroupFault::Incomplete(_) => "Incomplete",
+            GroupFault::Device => "Device",
+            GroupFault::NoMemory => "NoMemory",
+        }
+    }
+}

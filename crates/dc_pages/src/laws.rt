@@ -1,0 +1,21 @@
+ghost use Rattle.dc_pages.specs.Laws.{CompleteAsWritten, PartIsIncomplete, CutIsIncomplete, OneGroup};
+
+/// Stamps alone decide that a group is complete only as it was written.
+pub fn complete_as_written()
+    ensures { CompleteAsWritten }
+{}
+
+/// While no commit sector was written, no group is complete.
+pub fn part_is_incomplete()
+    ensures { PartIsIncomplete }
+{}
+
+/// Where a sector doesn't fit, no group is complete.
+pub fn cut_is_incomplete()
+    ensures { CutIsIncomplete }
+{}
+
+/// A place has one group of a kind.
+pub fn one_group_at_a_place()
+    ensures { OneGroup }
+{}

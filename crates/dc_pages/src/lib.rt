@@ -1,0 +1,32 @@
+//! Groups of stamped sectors: what is written together is read together, or not at all.
+//!
+//! This product's own format. A group is pages of 488 bytes of payload and a commit sector behind them,
+//! all stamped with one session and one sequence. Whether a group is complete is decided by the stamps
+//! alone, so that one sync makes the whole group durable.
+//!
+//! [`GroupWriter`] streams a payload into sectors through the buffer of one page. It takes no memory and
+//! doesn't sync. It says of every moment which sectors a stop may leave; and [`complete_as_written`]
+//! says of such an image that the group is complete there only where each of its sectors is as written.
+//! [`GroupSink`] is that writer with its disk, as a sink that an encoder puts its pieces into.
+//!
+//! [`read_group`] answers the payload exactly where a group is complete, and names the first sector that
+//! doesn't fit where none is.
+#![tactic(auto)]
+
+mod fault;
+mod head;
+mod laws;
+mod reader;
+mod stamp;
+mod streaming;
+mod writer;
+
+pub use fault::GroupFault;
+pub use laws::{complete_as_written, cut_is_incomplete, one_group_at_a_place, part_is_incomplete};
+pub use reader::{Group, read_group};
+pub use stamp::Stamp;
+pub use streaming::GroupSink;
+pub use writer::GroupWriter;
+
+#[cfg(test)]
+mod tests;

@@ -1,0 +1,198 @@
+ghost use Rattle.std.specs.Prelude.{◌≡◌, ◌≢◌, ◌⊎◌, ◌<◌, ◌≤◌, ◌↔◌, ◌+◌, ◌-◌, ◌^◌, ◌++◌, if◌then◌else◌, ℕ, IfOk, OnOk, IsErrOf, IsTrue, length, take, drop};
+ghost use Rattle.dc_base.specs.Failures.{HasRisen};
+ghost use Rattle.dc_sectors.specs.Disk.{IsImage, Elapses, LeavesOnly};
+ghost use Rattle.dc_pages.specs.Group.{IsGroup, commit_kind};
+ghost use Rattle.dc_pages.specs.Judging.{Judged, IsStep};
+ghost use Rattle.dc_pages.specs.Reading.{IsBegun, IsCutAt};
+
+use crate::GroupFault;
+use crate::head::{COMMIT, HEAD, Head, PAYLOAD, read_head};
+use dc_base::NoMemory;
+use dc_sectors::{Disk, ReadFault};
+use std::alloc::Allocator;
+
+/// A group that was read.
+#[derive(Drop)]
+pub struct Group<A: Allocator> {
+    /// The used bytes of its pages, in order.
+    pub payload: Vec<u8, A>,
+    /// How many sectors it has, pages and commit sector.
+    pub sectors: u32,
+}
+
+/// Which group is wanted.
+#[derive(Clone, Copy)]
+struct Wanted {
+    kind: u8,
+    version: u8,
+    sequence: u64,
+}
+
+impl Wanted {
+    /// The head is that of a page of the group, at that index.
+    fn is_page(&self, head: &Head, index: u32) -> bool
+        ensures { IsTrue result ↔ ((head.now.kind ≡ self.now.kind) × (head.now.version ≡ self.now.version) × (head.now.stamp.sequence ≡ self.now.sequence) × (head.now.index ≡ index) × (0 < head.now.used) × (head.now.used ≤ 488)) }
+    {
+        head.kind == self.kind
+            && head.version == self.version
+            && head.stamp.sequence == self.sequence
+            && head.index == index
+            && head.used > 0
+            && head.used <= 488
+    }
+
+    /// The head is that of the group's commit sector, behind so many pages of that session.
+    fn is_commit(&self, head: &Head, session: u64, pages: u32) -> bool
+        ensures { IsTrue result ↔ ((head.now.kind ≡ commit_kind) × (head.now.version ≡ self.now.version) × (head.now.stamp.sequence ≡ self.now.sequence) × (head.now.index ≡ pages) × (head.now.stamp.session ≡ session) × (head.now.used ≡ 0)) }
+    {
+        head.kind == COMMIT
+            && head.version == self.version
+            && head.stamp.sequence == self.sequence
+            && head.index == pages
+            && head.stamp.session == session
+            && head.used == 0
+    }
+
+    /// How a sector fits behind so many pages of that session.
+    fn judge(&self, bytes: &[u8; 512], session: u64, pages: u32) -> Fit
+        requires { self.now.kind ≢ commit_kind }
+        ensures { Judged self.now.kind self.now.version self.now.sequence session pages bytes.now result }
+    {
+        let head = read_head(bytes);
+        if self.is_page(&head, pages) {
+            if pages == 0 || head.stamp.session == session {
+                return Fit::Page(head.used, head.stamp.session);
+            }
+            return Fit::Neither;
+        }
+        if pages > 0 && self.is_commit(&head, session, pages) {
+            return Fit::Commit;
+        }
+        Fit::Neither
+    }
+}
+
+/// How a sector fits behind the pages that were read.
+pub(crate) enum Fit {
+    /// As a page with so many used bytes, of that session.
+    Page(u16, u64),
+    /// As the commit sector.
+    Commit,
+    /// Not at all.
+    Neither,
+}
+
+/// The pages that were read.
+#[derive(Drop)]
+struct Reading<A: Allocator> {
+    wanted: Wanted,
+    payload: Vec<u8, A>,
+    session: u64,
+    pages: u32,
+}
+
+impl<A: Allocator> Reading<A> {
+    /// Adds what a page holds.
+    fn take(&mut self, bytes: &[u8; 512], used: u16, session: u64) -> Result<(), NoMemory>
+        requires used { used ≤ 488 }
+        requires more { self.old.pages < 2 ^ 32 - 1 }
+        ensures long { length bytes.now ≡ 512 }
+        ensures wanted { self.new.wanted ≡ self.old.wanted }
+        ensures pages { OnOk result (self.new.pages ≡ self.old.pages + 1) }
+        ensures session { OnOk result (self.new.session ≡ session) }
+        ensures payload { OnOk result (self.new.payload.items ≡ self.old.payload.items ++ take used (drop 24 bytes.now)) }
+    {
+        self.payload
+            .extend_from_slice(&bytes[HEAD..HEAD + used as usize])?;
+        self.session = session;
+        self.pages += 1;
+        Ok(())
+    }
+
+    /// Reads the sector behind the pages, and says whether it completes the group.
+    fn read_next<D: Disk>(&mut self, disk: &mut D, at: u32) -> Result<bool, GroupFault>
+        requires kind { self.old.wanted.kind ≢ commit_kind }
+        requires more { self.old.pages < 2 ^ 32 - 1 }
+        requires within { at < D.sectors disk.old }
+        ensures step { D.honest → (place limit : ℕ) → at ≡ place + self.old.pages → at < limit
+            → IsBegun self.old.wanted.version self.old.wanted.kind self.old.session self.old.wanted.sequence self.old.payload.items self.old.pages place limit (D.reads disk.old)
+            → IsStep self.old.wanted.version self.old.wanted.kind self.old.wanted.sequence place limit (D.reads disk.old) self.new.session self.new.pages self.new.payload.items result }
+        ensures wanted { self.new.wanted ≡ self.old.wanted }
+        ensures pages { IfOk result (λ done. self.new.pages ≡ (if done then self.old.pages else self.old.pages + 1)) }
+        ensures device { IsErrOf result GroupFault.Device → HasRisen (D.failures disk.old) (D.failures disk.new) }
+        ensures reads { D.honest → D.reads disk.new ≡ D.reads disk.old }
+        ensures choices { D.honest → D.choices disk.new ≡ D.choices disk.old }
+        ensures time { D.honest → Elapses (D.moment disk.old) (D.moment disk.new) (D.images_since disk.old) (D.images_since disk.new) (IsImage (D.choices disk.old)) }
+        ensures count { D.sectors disk.new ≡ D.sectors disk.old }
+        ensures failures { D.failures disk.old ≤ D.failures disk.new }
+    {
+        let bytes = match disk.read(at) {
+            Ok(bytes) => bytes,
+            Err(ReadFault::Unreadable) => return Err(GroupFault::Incomplete(at)),
+            Err(ReadFault::Failed) => return Err(GroupFault::Device),
+        };
+        match self.wanted.judge(&bytes, self.session, self.pages) {
+            Fit::Neither => Err(GroupFault::Incomplete(at)),
+            Fit::Commit => Ok(true),
+            Fit::Page(used, session) => {
+                if self.payload.len() != PAYLOAD * self.pages as usize {
+                    return Err(GroupFault::Incomplete(at));
+                }
+                match self.take(&bytes, used, session) {
+                    Ok(()) => Ok(false),
+                    Err(NoMemory) => Err(GroupFault::NoMemory),
+                }
+            }
+        }
+    }
+}
+
+/// Reads the group of that kind, version and sequence at a place of a half that ends before sector
+/// `limit`. Each sector is read once.
+///
+/// # Errors
+///
+/// `Incomplete` where no such group is complete there, with the first sector that doesn't fit; `Device`
+/// where a read failed; `NoMemory`.
+pub fn read_group<A: Allocator, D: Disk>(
+    alloc: A,
+    disk: &mut D,
+    place: u32,
+    limit: u32,
+    kind: u8,
+    version: u8,
+    sequence: u64,
+) -> Result<Group<A>, GroupFault>
+    requires kind { kind ≢ commit_kind }
+    requires place { place ≤ limit }
+    requires limit { limit ≤ D.sectors disk.old }
+    ensures group { D.honest → IfOk result (λ group. (session : ℕ) × (pages : ℕ) × IsGroup version kind session sequence group.payload.items pages place limit (D.reads disk.old) × (group.sectors ≡ pages + 1)) }
+    ensures incomplete { D.honest → (n : ℕ) → IsErrOf result (GroupFault.Incomplete n) → IsCutAt version kind sequence place limit n (D.reads disk.old) }
+    ensures within { IfOk result (λ group. (1 ≤ group.sectors) × (place + group.sectors ≤ limit)) }
+    ensures device { IsErrOf result GroupFault.Device → HasRisen (D.failures disk.old) (D.failures disk.new) }
+    ensures reads { D.honest → D.reads disk.new ≡ D.reads disk.old }
+    ensures choices { D.honest → D.choices disk.new ≡ D.choices disk.old }
+    ensures any_moment { D.honest → LeavesOnly D.moment D.images_since disk.old disk.new (IsImage (D.choices disk.old)) }
+    ensures count { D.sectors disk.new ≡ D.sectors disk.old }
+    ensures failures { D.failures disk.old ≤ D.failures disk.new }
+{
+    let mut reading = Reading {
+        wanted: Wanted {
+            kind,
+            version,
+            sequence,
+        },
+        payload: Vec::new(alloc),
+        session: 0,
+        pages: 0,
+    };
+    for at in place..limit {
+        if reading.read_next(disk, at)? {
+            return Ok(Group {
+                payload: reading.payload,
+                sectors: reading.pages + 1,
+            });
+        }
+    }
+    Err(GroupFault::Incomplete(limit))
+}

@@ -1,0 +1,8 @@
+/// What the sectors of one group share.
+#[derive(Clone, Copy, Debug, PartialEq, Eq)]
+pub struct Stamp {
+    /// The session of the root that was synced before.
+    pub session: u64,
+    /// The group's number: each is used once.
+    pub sequence: u64,
+}

@@ -1,0 +1,56 @@
+ghost use Rattle.std.specs.Prelude.{◌≡◌, ◌≤◌, ◌↔◌, ℕ, None, IsTrue};
+ghost use Rattle.dc_base.specs.Failures.{HasRisen};
+ghost use Rattle.dc_pages.specs.Draft.{HasRoom};
+ghost use Rattle.dc_pages.specs.Streaming.{GoesInto, BreaksOff};
+
+use crate::GroupWriter;
+use dc_base::one_failure_more;
+use dc_records::{IoFault, Sink};
+use dc_sectors::{Disk, Failed};
+
+/// A group writer and its disk, as one writer of bytes: what is put goes into the group. It takes no
+/// memory and doesn't sync.
+///
+/// A put fails where the disk failed, and where the group has no room for all of its bytes.
+pub struct GroupSink<'a, D: Disk> {
+    /// The disk that the group is written to.
+    pub disk: &'a mut D,
+    /// The group so far.
+    pub writer: GroupWriter,
+    /// How many puts failed. At `u64::MAX` it stays.
+    pub failures: u64,
+}
+
+impl<D: Disk> Drop for GroupSink<'_, D> {
+    fn drop(self) {
+        let Self {
+            disk: _,
+            writer: _,
+            failures: _,
+        } = self;
+    }
+}
+
+impl<D: Disk> Sink for GroupSink<'_, D> {
+    ghost written = { λ _. None };
+
+    ghost put_failures = { λ sink. sink.failures };
+
+    ghost puts = { λ old bytes new. GoesInto D.honest D.reads D.choices D.moment D.images_since D.sectors D.failures old.disk.now new.disk.now old.writer new.writer bytes × (new.disk.ghost_name ≡ old.disk.ghost_name) };
+
+    ghost breaks = { λ old bytes new. BreaksOff D.honest D.reads D.choices D.moment D.images_since D.sectors D.failures old.disk.now new.disk.now old.writer bytes × (new.disk.ghost_name ≡ old.disk.ghost_name) };
+
+    fn put(&mut self, bytes: &[u8]) -> Result<(), IoFault> {
+        if !self.writer.has_room(bytes.len()) || self.writer.limit() > self.disk.count() {
+            self.failures = one_failure_more(self.failures);
+            return Err(IoFault);
+        }
+        match self.writer.put(self.disk, bytes) {
+            Ok(()) => Ok(()),
+            Err(Failed) => {
+                self.failures = one_failure_more(self.failures);
+                Err(IoFault)
+            }
+        }
+    }
+}
