@@ -1,0 +1,138 @@
+-- What an image stands for while the whole state goes into the other half as a base group.
+use Rattle.std.proofs.Common.{◌≡◌, ◌⊎◌, inl, inr, ⊎_elim, ℕ, zero, suc, ◌<◌, ◌≤◌, ◌+◌, ◌-◌, List, arith, sym, subst, refl}
+use Rattle.std.proofs.lemmas.Bool.{cases_eq, cases_lt}
+use Rattle.dc_sectors.specs.declared.sector.Sector.TheVariants.{Unreadable}
+use Rattle.dc_sectors.specs.Disk.{Image}
+use Rattle.dc_roots.specs.declared.root.Root.{Root}
+use Rattle.dc_pages.specs.Group.{IsGroup, IsKnown, Carries, base_kind, change_kind}
+use Rattle.dc_pages.specs.Writing.{IsTorn, IsPartOf}
+use Rattle.dc_pages.specs.Agree.{same_complete}
+use Rattle.dc_pages.specs.OneSync.{member, page_carries, one_stamp, lost_carries_none}
+use Rattle.dc_recovery.specs.Half.{half_start, half_end, half_within}
+use Rattle.dc_recovery.specs.Stands.{IsFresh, IsUnused, StandsBy}
+use Rattle.dc_recovery.proofs.Append.{place_within, kept, torn_fresh, any_complete_carries}
+use Rattle.dc_recovery.proofs.Roots.{IsPrepared}
+
+module _ {S : Type 0} (Spells : List ℕ → S → Type 0) (Leads : List ℕ → S → S → Type 0) where
+  abbrev stands_by : ℕ → Root → ℕ → ℕ → S → Image → Type 0
+  stands_by = StandsBy Spells Leads
+
+  -- what happens beyond the half that is read
+  pub other_half : (half_len : ℕ) (root : Root) (m place : ℕ) (state : S) (old image : Image) → stands_by half_len root m place state old
+      → ((k : ℕ) → 1 ≤ k → k ≤ 2 → old k ≡ image k)
+      → ((k : ℕ) → half_start half_len root.half ≤ k → k < half_end half_len root.half → old k ≡ image k)
+      → IsFresh half_len root.session (root.base_sequence + suc m) image → stands_by half_len root m place state image
+  other_half half_len root m place state old image is slots same fresh =
+      let at = place_within Spells Leads half_len root old m place state is.reads.holds in
+      kept Spells Leads half_len root m place state old image is slots
+      (λ k low up. same k low (omega arith))
+      (λ more. is.reads.no_more (record { small = more.small; complete = same_complete root.version change_kind (root.base_sequence + suc m) place (half_end half_len root.half) image old (λ k low up. sym (same k (omega arith) up)) more.complete }))
+      fresh
+
+  -- COMPACT: the base group goes into the other half with the next sequence; each image on the way stands for what it stood for
+  pub base_torn : (half_len : ℕ) (root : Root) (m place : ℕ) (state : S) (version : ℕ) (payload : List ℕ) (pages half : ℕ) (old written image : Image) → stands_by half_len root m place state old
+      → IsKnown version → root.half + half ≡ 1
+      → IsGroup version base_kind root.session (root.base_sequence + suc m) payload pages (half_start half_len half) (half_end half_len half) written
+      → IsTorn (half_start half_len half) (pages + 1) old written image → stands_by half_len root m place state image
+  base_torn half_len root m place state version payload pages half old written image is known other group torn =
+      let fits = group.fits in
+      other_half half_len root m place state old image is
+      (λ k low up. sym (torn.outside k (inl (omega arith))))
+      (λ k low up. sym (torn.outside k (apart k low up)))
+      (torn_fresh Spells Leads half_len root.session (root.base_sequence + suc m) root.session (root.base_sequence + suc m) (half_start half_len half) (pages + 1) old written image
+      is.fresh torn (λ k le lt. member version base_kind root.session (root.base_sequence + suc m) payload pages (half_start half_len half) (half_end half_len half) written (inl refl) known group k le (omega arith)) (omega arith) (omega arith))
+    where
+      apart : (k : ℕ) → half_start half_len root.half ≤ k → k < half_end half_len root.half → (k < half_start half_len half) ⊎ (half_start half_len half + (pages + 1) ≤ k)
+      apart k low up = let fits = group.fits in which (cases_eq half 0)
+        where
+          which : (half ≡ 0) ⊎ (half ≡ 0 → ⊥) → (k < half_start half_len half) ⊎ (half_start half_len half + (pages + 1) ≤ k)
+          which (inl e) =
+              let one : root.half ≡ 1 = omega arith in
+              let fits' : half_start half_len 0 + pages < half_end half_len 0 = subst (λ (h : ℕ). half_start half_len h + pages < half_end half_len h) e group.fits in
+              let low' : half_start half_len 1 ≤ k = subst (λ (h : ℕ). half_start half_len h ≤ k) one low in
+              inr (subst (λ (h : ℕ). half_start half_len h + (pages + 1) ≤ k) (sym e) (omega arith))
+          which (inr not) =
+              let one : half ≡ 1 = grind (arith, not, other) in
+              let zero_is : root.half ≡ 0 = omega arith in
+              let up' : k < half_end half_len 0 = subst (λ (h : ℕ). k < half_end half_len h) zero_is up in
+              inl (subst (λ (h : ℕ). k < half_start half_len h) (sym one) (omega arith))
+
+  -- with all of it written, the next root finds the state there
+  pub base_prepared : (half_len : ℕ) (root next : Root) (m place : ℕ) (state : S) (payload : List ℕ) (pages : ℕ) (old written : Image) → stands_by half_len root m place state old
+      → IsKnown next.version → next.half_len ≡ half_len → next.half ≤ 1 → next.session ≡ root.session → next.base_sequence ≡ root.base_sequence + suc m
+      → IsGroup next.version base_kind root.session (root.base_sequence + suc m) payload pages (half_start half_len next.half) (half_end half_len next.half) written
+      → Spells payload state
+      → ((k : ℕ) → (k < half_start half_len next.half) ⊎ (half_start half_len next.half + (pages + 1) ≤ k) → written k ≡ old k)
+      → IsPrepared Spells Leads half_len next zero (half_start half_len next.half + pages + 1) state written
+  base_prepared half_len root next m place state payload pages old written is known len small session base group spells outside = record {
+    version = known;
+    length_is = len;
+    holds_it = record {
+      session = root.session;
+      payload = payload;
+      pages = pages;
+      spells = spells;
+      end = refl;
+      group = subst (λ (q : ℕ). IsGroup next.version base_kind root.session q payload pages (half_start half_len next.half) (half_end half_len next.half) written) (sym base) group;
+    };
+    no_more = λ more.
+        let first = any_complete_carries next.version change_kind (next.base_sequence + suc zero) (half_start half_len next.half + pages + 1) (half_end half_len next.half) written (inr refl) known more.complete in
+        let top = half_within half_len next.half small in
+        let low = is.fresh (half_start half_len next.half + pages + 1) first.1.0 (next.base_sequence + suc zero) (omega arith) (omega arith)
+        (subst (Carries first.1.0 (next.base_sequence + suc zero)) (outside (half_start half_len next.half + pages + 1) (inr (omega arith))) first.1.1) in
+        omega arith;
+    fresh = λ k s q from to carries.
+        let low = torn_fresh Spells Leads half_len root.session (root.base_sequence + suc m) root.session (root.base_sequence + suc m) (half_start half_len next.half) (pages + 1) old written written
+        is.fresh (record { inside = λ j le lt. inr refl; outside = outside })
+        (λ j le lt. member next.version base_kind root.session (root.base_sequence + suc m) payload pages (half_start half_len next.half) (half_end half_len next.half) written (inl refl) known group j le (omega arith)) (omega arith) (omega arith) k s q from to carries in
+        (omega arith, omega arith);
+  }
+
+  -- and the sequence after that is unused
+  pub base_unused : (half_len session sequence : ℕ) (a b : Image) → IsFresh half_len session sequence a → ((k : ℕ) → 3 ≤ k → a k ≡ b k) → IsUnused half_len session (sequence + 1) b
+  base_unused half_len session sequence a b fresh same k from to is =
+      let low = fresh k session (sequence + 1) from to (subst (Carries session (sequence + 1)) (sym (same k from)) is) in omega arith
+
+  -- with pages alone written it stands for what it stood for
+  pub base_part : (half_len : ℕ) (root : Root) (m place : ℕ) (state : S) (version half : ℕ) (old image : Image) → stands_by half_len root m place state old
+      → IsKnown version → root.half + half ≡ 1
+      → IsPartOf version base_kind root.session (root.base_sequence + suc m) (half_start half_len half) (half_end half_len half) old image → stands_by half_len root m place state image
+  base_part half_len root m place state version half old image is known other part =
+      other_half half_len root m place state old image is
+      (λ k low up. sym (part.outside k (inl (omega arith))))
+      (λ k low up. sym (part.outside k (apart k low up)))
+      fresh
+    where
+      apart : (k : ℕ) → half_start half_len root.half ≤ k → k < half_end half_len root.half → (k < half_start half_len half) ⊎ (half_end half_len half ≤ k)
+      apart k low up = which (cases_eq half 0)
+        where
+          which : (half ≡ 0) ⊎ (half ≡ 0 → ⊥) → (k < half_start half_len half) ⊎ (half_end half_len half ≤ k)
+          which (inl e) =
+              let one : root.half ≡ 1 = omega arith in
+              let low' : half_start half_len 1 ≤ k = subst (λ (h : ℕ). half_start half_len h ≤ k) one low in
+              inr (subst (λ (h : ℕ). half_end half_len h ≤ k) (sym e) (omega arith))
+          which (inr not) =
+              let one : half ≡ 1 = grind (arith, not, other) in
+              let zero_is : root.half ≡ 0 = omega arith in
+              let up' : k < half_end half_len 0 = subst (λ (h : ℕ). k < half_end half_len h) zero_is up in
+              inl (subst (λ (h : ℕ). k < half_start half_len h) (sym one) (omega arith))
+
+      fresh : IsFresh half_len root.session (root.base_sequence + suc m) image
+      fresh k s q from to carries = ⊎_elim
+          (λ (below : k < half_start half_len half). is.fresh k s q from to (subst (Carries s q) (part.outside k (inl below)) carries))
+          (λ (ge : half_start half_len half ≤ k). ⊎_elim
+          (λ (lt : k < half_end half_len half). inside (k - half_start half_len half) (omega arith) lt)
+          (λ (past : half_end half_len half ≤ k). is.fresh k s q from to (subst (Carries s q) (part.outside k (inr past)) carries))
+          (cases_lt k (half_end half_len half)))
+          (cases_lt k (half_start half_len half))
+        where
+          inside : (i : ℕ) → half_start half_len half + i ≡ k → k < half_end half_len half → (s ≤ root.session) × (q ≤ root.base_sequence + suc m)
+          inside i at lt =
+              let here : Carries s q (image (half_start half_len half + i)) = subst (λ (n : ℕ). Carries s q (image n)) (sym at) carries in
+              ⊎_elim
+              (λ either. ⊎_elim
+              (λ (e : image (half_start half_len half + i) ≡ old (half_start half_len half + i)). is.fresh (half_start half_len half + i) s q (omega arith) (omega arith) (subst (Carries s q) e here))
+              (λ (lost : image (half_start half_len half + i) ≡ Unreadable). absurd (lost_carries_none s q (image (half_start half_len half + i)) lost here)) either)
+              (λ page. let same = one_stamp root.session (root.base_sequence + suc m) s q (image (half_start half_len half + i))
+              (page_carries version base_kind root.session (root.base_sequence + suc m) i page.0 _ (inl refl) known page.1) here in (omega arith, omega arith))
+              (part.inside i (omega arith))
