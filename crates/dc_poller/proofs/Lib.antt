@@ -1,0 +1,12 @@
+pub mod Digits
+pub mod Feeds
+pub mod Cuts
+pub mod Inputs
+pub mod Known
+pub mod Pairs
+pub mod Placed
+pub mod Records
+pub mod Solid
+pub mod Spelled
+pub mod Turns
+pub mod Values

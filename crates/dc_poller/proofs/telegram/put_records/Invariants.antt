@@ -1,0 +1,10 @@
+use Rattle.std.proofs.Common.{◌≡◌}
+use Rattle.std.specs.Io.KnownBytes.{append_known}
+use Rattle.dc_poller.specs.Telegram.{record_lines}
+use Rattle.dc_poller.proofs.telegram.put_records.Given as goal
+
+abbrev pub invariant-records : goal.invariant-records
+invariant-records g l = record {
+  text : append_known (append_known (g.W.Sink.written l.writer) l.room) (record_lines l.found-iterator) ≡ append_known (append_known (g.W.Sink.written l.initial.writer) l.initial.room) (record_lines l.fn.records);
+  ok : g.W.Sink.put_failures l.writer ≡ g.W.Sink.put_failures l.initial.writer;
+}

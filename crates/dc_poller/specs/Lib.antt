@@ -1,0 +1,9 @@
+-- the definitions that contracts cite
+pub mod Fault
+pub mod Frames
+pub mod Hex
+pub mod Lines
+pub mod Seen
+pub mod Telegram
+pub mod Text
+pub mod Words

@@ -1,0 +1,16 @@
+-- The lines of an input (this product).
+use Rattle.std.specs.Prelude.{◌≢◌, ℕ, ◌<◌, slice_index, length, ◌==◌, if◌then◌else◌, List, [], ◌∷◌}
+
+-- a byte in front of the first line
+abbrev pub onto_first : ℕ → List (List ℕ) → List (List ℕ)
+onto_first b [] = (b ∷ []) ∷ []
+onto_first b (line ∷ lines) = (b ∷ line) ∷ lines
+
+-- The lines, without what ends them: a line feed, or the end of the input. After a last line feed there is no line.
+unfoldable pub lines_of : List ℕ → List (List ℕ)
+lines_of [] = []
+lines_of (b ∷ rest) = if b == 10 then [] ∷ lines_of rest else onto_first b (lines_of rest)
+
+-- no byte of the line is a line feed
+abbrev pub LacksFeed : List ℕ → Type 0
+LacksFeed line = (k : ℕ) → k < length line → slice_index line k ≢ 10

@@ -1,0 +1,49 @@
+//! What stops an engine of the program.
+
+ghost use Rattle.std.specs.Prelude.{◌≡◌};
+ghost use Rattle.dc_poller.specs.Fault.{number_of, name_of};
+
+use thiserror::Error;
+
+/// Why an engine of the program stopped (this product).
+#[derive(Clone, Copy, Debug, PartialEq, Eq, Error)]
+pub enum ProgramFault {
+    /// A read failed.
+    #[error("the input can't be read")]
+    Read,
+    /// The input has more than 1 MiB.
+    #[error("the input is longer than 1 MiB")]
+    TooLong,
+    /// A write failed.
+    #[error("the output can't be written")]
+    Write,
+    /// Memory was refused.
+    #[error("memory was refused")]
+    NoMemory,
+}
+
+impl ProgramFault {
+    /// 1 to 4.
+    pub fn number(&self) -> u8
+        ensures { result ≡ number_of self.now }
+    {
+        match self {
+            ProgramFault::Read => 1,
+            ProgramFault::TooLong => 2,
+            ProgramFault::Write => 3,
+            ProgramFault::NoMemory => 4,
+        }
+    }
+
+    /// The variant's name.
+    pub fn name(&self) -> &'static str
+        ensures { result.now ≡ name_of self.now }
+    {
+        match self {
+            ProgramFault::Read => "Read",
+            ProgramFault::TooLong => "TooLong",
+            ProgramFault::Write => "Write",
+            ProgramFault::NoMemory => "NoMemory",
+        }
+    }
+}

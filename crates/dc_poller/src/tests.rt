@@ -1,0 +1,418 @@
+use crate::{ProgramFault, decode_lines};
+use dc_base::one_failure_more;
+use dc_records::{Bytes, IoFault, Sink, Source};
+use refusing_alloc::Refusing;
+use std::alloc::{AllocError, Allocator, Global};
+use std::process::Abort;
+use std::test::Fail;
+
+// A water meter's answer, and what it says.
+const ANSWER: &[u8] =
+    b"68 1F 1F 68 08 02 72 78 56 34 12 24 40 01 07 55 00 00 00 03 13 15 31 00 DA 02 3B 13 01 8B 60 04 37 18 02 18 16";
+
+const SAID: &[u8] = b"LONG 08 02 72 28
+METER 12345678.PAD.01.07 85 0
+RECORD 0 0 0 0 13 153100 = 12.565 m3
+RECORD 5 0 0 1 3B 1301 = 0.113 m3/h
+RECORD 0 2 1 0 04 371802 = 218370 Wh
+END
+";
+
+// The text for these lines goes behind what the writer held, and the answer tells whether a fault is in it.
+fn is_told(
+    rt: &(impl Abort + AllocGlobal),
+    lines: &[u8],
+    text: &[u8],
+    faulty: bool,
+) -> Result<(), Fail> {
+    let mut reader = Bytes::from_slice(rt.alloc(), lines)?;
+    let mut writer = Bytes::from_slice(rt.alloc(), b"before ")?;
+    let found = decode_lines(rt.alloc(), &mut reader, &mut writer)?;
+    assert_eq!(rt; found, faulty);
+    let told = writer.as_slice().strip_prefix(b"before ".as_slice());
+    assert_eq!(rt; told, Some(text));
+    Ok(())
+}
+
+// The answer with one of its digits changed.
+fn changed(alloc: Global, at: usize, digit: u8) -> Result<Vec<u8>, AllocError> {
+    let mut line = Vec::from_slice(alloc, ANSWER)?;
+    if at < line.len() {
+        line[at] = digit;
+    }
+    Ok(line)
+}
+
+fn joined(alloc: Global, front: &[u8], back: &[u8]) -> Result<Vec<u8>, AllocError> {
+    let mut both = Vec::from_slice(alloc, front)?;
+    both.extend_from_slice(back)?;
+    Ok(both)
+}
+
+fn spaces(alloc: Global, count: usize) -> Result<Vec<u8>, AllocError> {
+    vec![in alloc; b' '; count]
+}
+
+#[test]
+fn a_telegram_is_told(rt: HostRuntime) -> Result<(), Fail> {
+    is_told(&rt, ANSWER, SAID, false)?;
+    let line = joined(rt.alloc(), b"E5 ", ANSWER)?;
+    let text = joined(rt.alloc(), b"ACK\n", SAID)?;
+    is_told(&rt, line.as_slice(), text.as_slice(), false)
+}
+
+#[test]
+fn numbers_are_exact(rt: HostRuntime) -> Result<(), Fail> {
+    is_told(
+        &rt,
+        b"68 34 34 68 08 01 72 78 56 34 12 24 40 01 07 01 00 00 00 0C 13 45 23 01 F0 0C 13 4A 23 01 00 01 6E 81 01 6E 80 01 07 00 0C 13 00 00 00 F0 07 13 FF FF FF FF FF FF FF 7F 89 16",
+        b"LONG 08 01 72 49
+METER 12345678.PAD.01.07 1 0
+RECORD 0 0 0 0 13 452301F0 = -12.345 m3
+RECORD 0 0 0 0 13 4A230100 = none
+RECORD 0 0 0 0 6E 81 = -127 HCA
+RECORD 0 0 0 0 6E 80 = none
+RECORD 0 0 0 0 07 00 = 0 Wh
+RECORD 0 0 0 0 13 000000F0 = 0.000 m3
+RECORD 0 0 0 0 13 FFFFFFFFFFFFFF7F = 9223372036854775.807 m3
+END
+",
+        false,
+    )
+}
+
+#[test]
+fn dates_are_days_and_minutes(rt: HostRuntime) -> Result<(), Fail> {
+    is_told(
+        &rt,
+        b"68 29 29 68 08 01 72 78 56 34 12 24 40 01 07 01 00 00 00 02 6C 1F 3C 04 6D 3B 17 3F 31 04 6D 3B 37 3F 31 02 6C 1E 32 04 6D BB 17 3F 31 BC 16",
+        b"LONG 08 01 72 38
+METER 12345678.PAD.01.07 1 0
+RECORD 0 0 0 0 6C 1F3C = 2024-12-31
+RECORD 0 0 0 0 6D 3B173F31 = 2025-01-31T23:59
+RECORD 0 0 0 0 6D 3B373F31 = 2025-01-31T23:59
+RECORD 0 0 0 0 6C 1E32 = none
+RECORD 0 0 0 0 6D BB173F31 = none
+END
+",
+        false,
+    )
+}
+
+#[test]
+fn what_no_table_reads_is_other(rt: HostRuntime) -> Result<(), Fail> {
+    is_told(
+        &rt,
+        b"68 1F 1F 68 08 01 72 78 56 34 12 24 40 01 07 01 00 00 00 05 13 00 00 80 3F 2F 01 7C 02 4D 49 05 0D 78 00 A1 16",
+        b"LONG 08 01 72 28
+METER 12345678.PAD.01.07 1 0
+RECORD 0 0 0 0 13 0000803F = other
+RECORD 0 0 0 0 7C024D49 05 = other
+RECORD 0 0 0 0 78 - = other
+END
+",
+        false,
+    )
+}
+
+#[test]
+fn further_codes_are_read(rt: HostRuntime) -> Result<(), Fail> {
+    is_told(
+        &rt,
+        b"68 36 36 68 08 01 72 78 56 34 12 24 40 01 07 01 00 00 00 04 FB 00 39 30 00 00 01 FB 08 05 02 FB 11 07 00 02 FD 17 04 01 01 FD 17 80 0A FD 17 04 01 01 FB 02 05 01 FB 80 00 05 D9 16",
+        b"LONG 08 01 72 51
+METER 12345678.PAD.01.07 1 0
+RECORD 0 0 0 0 FB00 39300000 = 1234.5 MWh
+RECORD 0 0 0 0 FB08 05 = 0.5 GJ
+RECORD 0 0 0 0 FB11 0700 = 7000 m3
+RECORD 0 0 0 0 FD17 0401 = 0104 flags
+RECORD 0 0 0 0 FD17 80 = 80 flags
+RECORD 0 0 0 0 FD17 0401 = other
+RECORD 0 0 0 0 FB02 05 = other
+RECORD 0 0 0 0 FB8000 05 = other
+END
+",
+        false,
+    )
+}
+
+#[test]
+fn ten_difes_make_a_storage_number(rt: HostRuntime) -> Result<(), Fail> {
+    is_told(
+        &rt,
+        b"68 1C 1C 68 08 01 72 78 56 34 12 24 40 01 07 01 00 00 00 C1 8F 8F 8F 8F 8F 8F 8F 8F 8F 0F 13 05 EB 16",
+        b"LONG 08 01 72 25
+METER 12345678.PAD.01.07 1 0
+RECORD 2199023255551 0 0 0 13 05 = 0.005 m3
+END
+",
+        false,
+    )?;
+    is_told(
+        &rt,
+        b"68 1C 1C 68 08 01 72 78 56 34 12 24 40 01 07 01 00 00 00 C1 8F 8F 8F 8F 8F 8F 8F 8F 8F 8F 13 05 6B 16",
+        b"LONG 08 01 72 25\nBODY FAULT 5 TooManyDife\n",
+        true,
+    )
+}
+
+#[test]
+fn data_of_the_manufacturer_is_counted(rt: HostRuntime) -> Result<(), Fail> {
+    is_told(
+        &rt,
+        b"68 16 16 68 08 01 72 78 56 34 12 24 40 01 07 01 00 00 00 0C 13 78 56 34 12 1F 4E 16",
+        b"LONG 08 01 72 19\nMETER 12345678.PAD.01.07 1 0\nRECORD 0 0 0 0 13 78563412 = 12345.678 m3\nMORE 0\n",
+        false,
+    )?;
+    is_told(
+        &rt,
+        b"68 12 12 68 08 01 72 78 56 34 12 24 40 01 07 01 00 00 00 0F 01 02 0E 16",
+        b"LONG 08 01 72 15\nMETER 12345678.PAD.01.07 1 0\nLAST 2\n",
+        false,
+    )
+}
+
+#[test]
+fn lines_are_told_in_order(rt: HostRuntime) -> Result<(), Fail> {
+    is_told(&rt, b"E5 10 40 01 41 16", b"ACK\nSHORT 40 01\n", false)?;
+    is_told(&rt, b"E5 zz", b"HEX FAULT\n", true)?;
+    is_told(&rt, b"680202680802 0a16", b"FRAME FAULT 4 Lengths\n", true)?;
+    is_told(&rt, b"", b"", false)?;
+    is_told(&rt, b"\n   \nE5\n\ne5", b"ACK\nACK\n", false)?;
+    is_told(&rt, b"E5\r\nE\nE5\n", b"HEX FAULT\nHEX FAULT\nACK\n", true)
+}
+
+#[test]
+fn lines_have_a_limit(rt: HostRuntime) -> Result<(), Fail> {
+    let longest = spaces(rt.alloc(), 4094)?;
+    let line = joined(rt.alloc(), b"E5", longest.as_slice())?;
+    is_told(&rt, line.as_slice(), b"ACK\n", false)?;
+    let longer = joined(rt.alloc(), b" ", line.as_slice())?;
+    is_told(&rt, longer.as_slice(), b"HEX FAULT\n", true)
+}
+
+#[test]
+fn frames_at_fault_are_told(rt: HostRuntime) -> Result<(), Fail> {
+    let sum = changed(rt.alloc(), 106, b'9')?;
+    is_told(&rt, sum.as_slice(), b"FRAME FAULT 7 Checksum\n", true)?;
+    let length = changed(rt.alloc(), 7, b'E')?;
+    is_told(&rt, length.as_slice(), b"FRAME FAULT 4 Lengths\n", true)?;
+    let (cut, _) = ANSWER.split_at_checked(107).ok_or("37 bytes")?;
+    is_told(&rt, cut, b"FRAME FAULT 3 Truncated\n", true)?;
+    let line = joined(rt.alloc(), ANSWER, b" 00")?;
+    let text = joined(rt.alloc(), SAID, b"FRAME FAULT 2 Start\n")?;
+    is_told(&rt, line.as_slice(), text.as_slice(), true)?;
+    let stop = changed(rt.alloc(), 109, b'7')?;
+    is_told(&rt, stop.as_slice(), b"FRAME FAULT 6 Stop\n", true)?;
+    is_told(&rt, b"11", b"FRAME FAULT 2 Start\n", true)?;
+    is_told(&rt, b"68 16", b"FRAME FAULT 3 Truncated\n", true)?;
+    is_told(
+        &rt,
+        b"68 02 02 68 08 02 0A 16",
+        b"FRAME FAULT 4 Lengths\n",
+        true,
+    )
+}
+
+#[test]
+fn bodies_at_fault_are_told(rt: HostRuntime) -> Result<(), Fail> {
+    is_told(
+        &rt,
+        b"68 16 16 68 08 01 72 78 56 34 12 24 40 01 07 01 00 00 05 0C 13 78 56 34 12 1F 53 16",
+        b"LONG 08 01 72 19\nBODY FAULT 3 Encrypted\n",
+        true,
+    )?;
+    is_told(
+        &rt,
+        b"68 16 16 68 08 01 72 7A 56 34 12 24 40 01 07 01 00 00 00 0C 13 78 56 34 12 1F 50 16",
+        b"LONG 08 01 72 19\nBODY FAULT 2 BadIdentity\n",
+        true,
+    )?;
+    is_told(
+        &rt,
+        b"68 0E 0E 68 08 01 72 78 56 34 12 24 40 01 07 01 00 00 FC 16 E5",
+        b"LONG 08 01 72 11\nBODY FAULT 1 Short\nACK\n",
+        true,
+    )
+}
+
+// Gives 40 bytes at most with each take, and fails after so many takes.
+#[derive(Drop)]
+struct Failing<'a> {
+    bytes: &'a [u8],
+    takes: u64,
+    failures: u64,
+}
+
+impl<'a> Source for Failing<'a> {
+    ghost use Rattle.std.specs.Prelude.{None};
+
+    ghost left = { λ _. None };
+
+    ghost take_failures = { λ s. s.failures };
+
+    fn take(&mut self, room: &mut [u8]) -> Result<usize, IoFault> {
+        if self.takes == 0 {
+            self.failures = one_failure_more(self.failures);
+            return Err(IoFault);
+        }
+        self.takes -= 1;
+        let count = self.bytes.len().min(room.len()).min(40);
+        let (given, left) = self.bytes.split_at(count);
+        room[..count].copy_from_slice(given);
+        self.bytes = left;
+        Ok(count)
+    }
+}
+
+#[test]
+fn a_failed_read_leaves_the_writer(rt: HostRuntime) -> Result<(), Fail> {
+    let mut fits = 0;
+    for takes in 0..20 {
+        let mut reader = Failing {
+            bytes: ANSWER,
+            takes,
+            failures: 0,
+        };
+        let mut writer = Bytes::new(rt.alloc());
+        match decode_lines(rt.alloc(), &mut reader, &mut writer) {
+            Ok(_) => {
+                fits = takes;
+                assert_eq!(rt; writer.as_slice(), SAID);
+                break;
+            }
+            Err(fault) => {
+                assert_eq!(rt; fault, ProgramFault::Read);
+                assert!(rt; writer.as_slice().is_empty());
+            }
+        }
+    }
+    // 40, 40 and 30 bytes, and then the end
+    assert_eq!(rt; fits, 4);
+    Ok(())
+}
+
+// Counts the bytes that are put, and fails after so many puts.
+#[derive(Drop)]
+struct Full {
+    puts: u64,
+    bytes: usize,
+    failures: u64,
+}
+
+impl Sink for Full {
+    ghost use Rattle.std.specs.Prelude.{None};
+
+    ghost written = { λ _. None };
+
+    ghost put_failures = { λ s. s.failures };
+
+    fn put(&mut self, bytes: &[u8]) -> Result<(), IoFault> {
+        if self.puts == 0 {
+            self.failures = one_failure_more(self.failures);
+            return Err(IoFault);
+        }
+        self.puts -= 1;
+        self.bytes = self.bytes.saturating_add(bytes.len());
+        Ok(())
+    }
+}
+
+// So many times the answer, each on a line.
+fn answers(alloc: Global, count: usize) -> Result<Vec<u8>, AllocError> {
+    let mut lines = Vec::new(alloc);
+    for _ in 0..count {
+        lines.extend_from_slice(ANSWER)?;
+        lines.extend_from_slice(b"\n")?;
+    }
+    Ok(lines)
+}
+
+#[test]
+fn a_failed_write_is_told(rt: HostRuntime) -> Result<(), Fail> {
+    let lines = answers(rt.alloc(), 1000)?;
+    let mut fits = 0;
+    for puts in 0..20 {
+        let mut reader = Bytes::from_slice(rt.alloc(), lines.as_slice())?;
+        let mut writer = Full {
+            puts,
+            bytes: 0,
+            failures: 0,
+        };
+        match decode_lines(rt.alloc(), &mut reader, &mut writer) {
+            Ok(_) => {
+                fits = puts;
+                assert_eq!(rt; writer.bytes, SAID.len() * 1000);
+                break;
+            }
+            Err(fault) => assert_eq!(rt; fault, ProgramFault::Write),
+        }
+    }
+    // pieces of nearly 64 KiB
+    assert_eq!(rt; fits, 3);
+    Ok(())
+}
+
+#[test]
+fn an_input_has_a_limit(rt: HostRuntime) -> Result<(), Fail> {
+    let most = spaces(rt.alloc(), 1_048_576)?;
+    is_told(&rt, most.as_slice(), b"HEX FAULT\n", true)?;
+    let more = joined(rt.alloc(), b" ", most.as_slice())?;
+    let mut reader = Bytes::from_slice(rt.alloc(), more.as_slice())?;
+    let mut writer = Bytes::new(rt.alloc());
+    let refused = decode_lines(rt.alloc(), &mut reader, &mut writer);
+    assert_eq!(rt; refused, Err(ProgramFault::TooLong));
+    assert!(rt; writer.as_slice().is_empty());
+    assert_eq!(rt; ProgramFault::TooLong.number(), 2);
+    assert_eq!(rt; ProgramFault::TooLong.name(), "TooLong");
+    Ok(())
+}
+
+// Decodes with the k-th request for memory refused; the writer isn't asked for any.
+fn refused_at<A: Allocator + Copy>(alloc: A, lines: &[u8]) -> Result<bool, ProgramFault> {
+    let mut reader = Failing {
+        bytes: lines,
+        takes: 20,
+        failures: 0,
+    };
+    let mut writer = Full {
+        puts: 20,
+        bytes: 0,
+        failures: 0,
+    };
+    decode_lines(alloc, &mut reader, &mut writer)
+}
+
+#[test]
+fn each_refused_growth_is_told(rt: HostRuntime) {
+    let heap = Refusing::new(rt.alloc());
+    let mut wanted = 0;
+    for k in 1..20 {
+        heap.refuse(k);
+        let outcome = refused_at(&heap, ANSWER);
+        if heap.is_waiting() {
+            assert_eq!(rt; outcome, Ok(false));
+            wanted = k - 1;
+            break;
+        }
+        assert_eq!(rt; outcome, Err(ProgramFault::NoMemory));
+        assert_eq!(rt; refused_at(&heap, ANSWER), Ok(false));
+    }
+    // room for a line's digits, its bytes, a read and the text, and the input
+    assert_eq!(rt; wanted, 4);
+}
+
+#[test]
+fn lines_and_frames_take_no_memory(rt: HostRuntime) -> Result<(), Fail> {
+    let lines = answers(rt.alloc(), 1000)?;
+    let heap = Refusing::new(rt.alloc());
+    let mut reader = Bytes::from_slice(rt.alloc(), lines.as_slice())?;
+    let mut writer = Full {
+        puts: 20,
+        bytes: 0,
+        failures: 0,
+    };
+    assert_eq!(rt; decode_lines(&heap, &mut reader, &mut writer), Ok(false));
+    assert_eq!(rt; heap.requests(), 4);
+    Ok(())
+}
