@@ -1,6 +1,7 @@
-ghost use Rattle.std.specs.Prelude.{◌≡◌, ◌≤◌, ◌*◌, ◌/◌, ◌-◌, ◌^◌, [], min, IfOk};
+ghost use Rattle.std.specs.Prelude.{◌≡◌, ◌<◌, ◌≤◌, ◌*◌, ◌/◌, ◌-◌, ◌^◌, [], min, true, false, IfOk, OnOk, OnErr, IsErr, IsErrOf};
 ghost use Rattle.dc_base.specs.Failures.{HasRisen};
-ghost use Rattle.dc_sectors.specs.File.{unknown};
+ghost use Rattle.dc_sectors.specs.declared.sector.ReadFault.TheVariants.{Unreadable as CannotRead, Failed as ReadFailed};
+ghost use Rattle.dc_sectors.specs.File.{unknown, failed_once_more};
 
 use crate::{Disk, Failed, ReadFault};
 use dc_base::one_failure_more;
@@ -15,7 +16,7 @@ use std::rt::Files;
 ///
 /// Each call reads or writes one whole sector at its place, and every fault of the file is a failure:
 /// also a read that ends early and a write that can't be finished, so no half sector is taken for a whole
-/// one. A sector of a file is never `Unreadable`.
+/// one. A sector of a file is never `Unreadable`. After a sync that failed every call fails.
 #[derive(Drop)]
 pub struct FileDisk<F: FileExt + OpenFile + Drop> {
     file: F,
@@ -25,17 +26,17 @@ pub struct FileDisk<F: FileExt + OpenFile + Drop> {
 }
 
 impl<F: FileExt + OpenFile + Drop> Model for FileDisk<F> {
-    ghost use Rattle.dc_sectors.specs.File.{FileCounts};
+    ghost use Rattle.dc_sectors.specs.File.{FileState};
 
-    ghost Value = { FileCounts };
+    ghost Value = { FileState };
 
-    ghost view = { λ d. record { sectors = d.count; failures = d.failures } };
+    ghost view = { λ d. record { sectors = d.count; failures = d.failures; lost = d.lost } };
 }
 
 impl<F: FileExt + OpenFile + Drop> FileDisk<F> {
     /// A disk over the file at that path, which has to be there and to be open to reading and writing.
     pub fn open<R: Files<File = F>, P: AsPath>(rt: &R, path: P) -> io::Result<FileDisk<F>>
-        ensures { IfOk result (λ disk. disk.failures ≡ 0) }
+        ensures { IfOk result (λ disk. (disk.failures ≡ 0) × (disk.lost ≡ false)) }
     {
         FileDisk::new(OpenOptions::new().read(true).write(true).open(rt, path)?)
     }
@@ -43,7 +44,7 @@ impl<F: FileExt + OpenFile + Drop> FileDisk<F> {
     /// A disk over an open file, which has a sector for each 512 bytes of the file's length now, and at
     /// most `u32::MAX`. Bytes past the last whole sector are left alone.
     pub fn new(file: F) -> io::Result<FileDisk<F>>
-        ensures { IfOk result (λ disk. disk.failures ≡ 0) }
+        ensures { IfOk result (λ disk. (disk.failures ≡ 0) × (disk.lost ≡ false)) }
     {
         let count = whole_sectors(file.metadata()?.len());
         Ok(FileDisk {
@@ -55,9 +56,8 @@ impl<F: FileExt + OpenFile + Drop> FileDisk<F> {
     }
 
     fn fail(&mut self) -> Failed
-        ensures sectors { self.new.sectors ≡ self.old.sectors }
+        ensures counted { self.new ≡ failed_once_more self.old }
         ensures later { self.old.failures ≤ self.new.failures }
-        ensures risen { HasRisen self.old.failures self.new.failures }
     {
         self.failures = one_failure_more(self.failures);
         Failed
@@ -101,7 +101,16 @@ impl<F: FileExt + OpenFile + Drop> Disk for FileDisk<F> {
         self.count
     }
 
-    fn read(&mut self, n: u32) -> Result<[u8; 512], ReadFault> {
+    fn read(&mut self, n: u32) -> Result<[u8; 512], ReadFault>
+        requires { n < self.old.sectors }
+        ensures ok { OnOk result (self.new ≡ self.old) }
+        ensures err { OnErr result (self.new ≡ failed_once_more self.old) }
+        ensures readable { IsErrOf result CannotRead → ⊥ }
+        ensures lost { self.old.lost ≡ true → IsErr result }
+        ensures count { self.new.sectors ≡ self.old.sectors }
+        ensures failures { self.old.failures ≤ self.new.failures }
+        ensures failed { IsErrOf result ReadFailed → HasRisen self.old.failures self.new.failures }
+    {
         let mut bytes = [0; 512];
         if self.lost || self.file.read_exact_at(&mut bytes, position(n)).is_err() {
             let _ = self.fail();
@@ -110,7 +119,15 @@ impl<F: FileExt + OpenFile + Drop> Disk for FileDisk<F> {
         Ok(bytes)
     }
 
-    fn write(&mut self, n: u32, bytes: &[u8; 512]) -> Result<(), Failed> {
+    fn write(&mut self, n: u32, bytes: &[u8; 512]) -> Result<(), Failed>
+        requires { n < self.old.sectors }
+        ensures ok { OnOk result (self.new ≡ self.old) }
+        ensures err { OnErr result (self.new ≡ failed_once_more self.old) }
+        ensures lost { self.old.lost ≡ true → IsErr result }
+        ensures count { self.new.sectors ≡ self.old.sectors }
+        ensures failures { self.old.failures ≤ self.new.failures }
+        ensures failed { OnErr result (HasRisen self.old.failures self.new.failures) }
+    {
         if self.lost || self.file.write_all_at(bytes, position(n)).is_err() {
             return Err(self.fail());
         }
@@ -120,7 +137,14 @@ impl<F: FileExt + OpenFile + Drop> Disk for FileDisk<F> {
     /// `sync_data` is enough: it makes all durable that a later read of the sectors needs, and leaves out
     /// the file's times alone, as the file keeps its length. After a sync that failed every call fails,
     /// since the system may then have dropped what was written, and say so only once.
-    fn sync(&mut self) -> Result<(), Failed> {
+    fn sync(&mut self) -> Result<(), Failed>
+        ensures ok { OnOk result (self.new ≡ self.old) }
+        ensures err { OnErr result (self.new ≡ record (failed_once_more self.old) { lost = true }) }
+        ensures lost { self.old.lost ≡ true → IsErr result }
+        ensures count { self.new.sectors ≡ self.old.sectors }
+        ensures failures { self.old.failures ≤ self.new.failures }
+        ensures failed { OnErr result (HasRisen self.old.failures self.new.failures) }
+    {
         if self.lost || self.file.sync_data().is_err() {
             self.lost = true;
             return Err(self.fail());

@@ -14,7 +14,8 @@
 //! the rule allows, and the only one from then on.
 //!
 //! [`FileDisk`] is a disk over a file. That it is honest is a premise: what a file keeps no contract can
-//! say. It reads and writes whole sectors, and each fault of its file is a counted failure.
+//! say. It reads and writes whole sectors, each fault of its file is a counted failure, and after a sync
+//! that failed every call fails.
 //!
 //! [`write_durably`] and [`write_both_durably`] show how calls compose: what they leave is stated for
 //! every moment, and proved from the trait alone. The lemmas for that are in `specs/`: `Moments` on runs
