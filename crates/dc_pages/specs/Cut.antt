@@ -1,4 +1,4 @@
--- For the crates above: where a sector doesn't fit, no group is complete.
+-- For the crates above: where a sector doesn't fit, no group is complete, and at a place one sector is the first that doesn't.
 use Rattle.std.proofs.Common.{◌≡◌, inl, inr, ⊎_elim, ℕ, ◌<◌, ◌≤◌, ◌+◌, ◌*◌, ◌-◌, List, length, drop, arith, ap, sym, subst, ◌∙◌, ◌≢◌, min}
 use Rattle.std.proofs.lemmas.Bool.{cases_eq, cases_lt}
 use Rattle.std.proofs.lemmas.List.{length-take, length-drop}
@@ -72,3 +72,52 @@ cut_incomplete version kind sequence place limit n image other cut complete =
       where
         above : (cut.i ≡ 0 → ⊥) → 0 < cut.i
         above any = ⊎_elim (λ (lt : 0 < cut.i). lt) (λ (ge : cut.i ≤ 0). absurd (any (omega arith))) (cases_lt 0 cut.i)
+
+-- where a group is cut off, another that begins at the same place has no page
+not_before : (version kind sequence place limit n n' : ℕ) (image : Image) (a : IsCutAt version kind sequence place limit n image) (b : IsCutAt version kind sequence place limit n' image) → a.i < b.i → ⊥
+not_before version kind sequence place limit n n' image a b lt =
+    let at = a.at in
+    let fits = b.begun.fits in
+    let behind = long in
+    let size = length_piece a.i b.payload in
+    a.no_page (omega arith) full b.session (piece a.i b.payload)
+    (⊎_elim (λ (none : a.i ≡ 0). inl none) (λ (any : a.i ≡ 0 → ⊥). inr (same_session (above any))) (cases_eq a.i 0))
+    (omega arith) (omega arith)
+    (subst (λ (j : ℕ). IsPage version kind b.session sequence a.i (piece a.i b.payload) (image j)) (sym at) (b.begun.page a.i lt))
+  where
+    above : (a.i ≡ 0 → ⊥) → 0 < a.i
+    above any = ⊎_elim (λ (some : 0 < a.i). some) (λ (ge : a.i ≤ 0). absurd (any (omega arith))) (cases_lt 0 a.i)
+
+    long : 488 * a.i < length b.payload
+    long = ⊎_elim (λ (none : b.i ≡ 0). absurd (omega arith)) (λ (some : 488 * (b.i - 1) < length b.payload). omega arith) b.begun.some
+
+    same_session : 0 < a.i → b.session ≡ a.session
+    same_session some = (one_content _ _ _ _ _ _ _ _ _ _ _ _ (image (place + 0)) (b.begun.page 0 (omega arith)) (a.begun.page 0 some)).1
+
+    full : length a.payload ≡ 488 * a.i
+    full = ⊎_elim (λ (none : a.i ≡ 0). let all = a.begun.all in omega arith) (λ (any : a.i ≡ 0 → ⊥). whole (above any)) (cases_eq a.i 0)
+      where
+        whole : 0 < a.i → length a.payload ≡ 488 * a.i
+        whole some =
+            let last = a.i - 1 in
+            let same : piece last b.payload ≡ piece last a.payload = (one_content _ _ _ _ _ _ _ _ _ _ _ _ (image (place + last)) (b.begun.page last (omega arith)) (a.begun.page last (omega arith))).0 in
+            let there = length_piece last b.payload in
+            let here = length_piece last a.payload in
+            let sizes = ap length same in
+            let behind = long in
+            let all = a.begun.all in
+            omega arith
+
+-- at a place one sector is the first that doesn't fit
+pub one_cut : (version kind sequence place limit n n' : ℕ) (image : Image) → kind ≢ commit_kind → IsCutAt version kind sequence place limit n image
+    → IsCutAt version kind sequence place limit n' image → n ≡ n'
+one_cut version kind sequence place limit n n' image other a b =
+    let at = a.at in
+    let at' = b.at in
+    ⊎_elim
+    (λ (lt : a.i < b.i). absurd (not_before version kind sequence place limit n n' image a b lt))
+    (λ (le : b.i ≤ a.i). ⊎_elim
+    (λ (lt : b.i < a.i). absurd (not_before version kind sequence place limit n' n image b a lt))
+    (λ (ge : a.i ≤ b.i). omega arith)
+    (cases_lt b.i a.i))
+    (cases_lt a.i b.i)

@@ -33,6 +33,12 @@ CutIsIncomplete =
     (version kind sequence place limit n : ℕ) (image : Image) → kind ≢ commit_kind → IsCutAt version kind sequence place limit n image
     → IsComplete version kind sequence place limit image → ⊥
 
+-- At a place one sector is the first that doesn't fit (one_cut).
+abbrev pub OneCut : Type 0
+OneCut =
+    (version kind sequence place limit n n' : ℕ) (image : Image) → kind ≢ commit_kind → IsCutAt version kind sequence place limit n image
+    → IsCutAt version kind sequence place limit n' image → n ≡ n'
+
 -- A place has one group of a kind: one payload, one number of pages, one session (one_group).
 abbrev pub OneGroup : Type 0
 OneGroup =

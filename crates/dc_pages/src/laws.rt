@@ -1,4 +1,4 @@
-ghost use Rattle.dc_pages.specs.Laws.{CompleteAsWritten, PartIsIncomplete, CutIsIncomplete, OneGroup};
+ghost use Rattle.dc_pages.specs.Laws.{CompleteAsWritten, PartIsIncomplete, CutIsIncomplete, OneCut, OneGroup};
 
 /// Stamps alone decide that a group is complete only as it was written.
 pub fn complete_as_written()
@@ -13,6 +13,11 @@ pub fn part_is_incomplete()
 /// Where a sector doesn't fit, no group is complete.
 pub fn cut_is_incomplete()
     ensures { CutIsIncomplete }
+{}
+
+/// At a place one sector is the first that doesn't fit.
+pub fn one_cut_at_a_place()
+    ensures { OneCut }
 {}
 
 /// A place has one group of a kind.

@@ -22,7 +22,10 @@ mod streaming;
 mod writer;
 
 pub use fault::GroupFault;
-pub use laws::{complete_as_written, cut_is_incomplete, one_group_at_a_place, part_is_incomplete};
+pub use laws::{
+    complete_as_written, cut_is_incomplete, one_cut_at_a_place, one_group_at_a_place,
+    part_is_incomplete,
+};
 pub use reader::{Group, read_group};
 pub use stamp::Stamp;
 pub use streaming::GroupSink;

@@ -12,6 +12,7 @@ use dc_sectors::{Disk, Failed};
 /// memory and doesn't sync.
 ///
 /// A put fails where the disk failed, and where the group has no room for all of its bytes.
+#[derive(Drop)]
 pub struct GroupSink<'a, D: Disk> {
     /// The disk that the group is written to.
     pub disk: &'a mut D,
@@ -19,16 +20,6 @@ pub struct GroupSink<'a, D: Disk> {
     pub writer: GroupWriter,
     /// How many puts failed. At `u64::MAX` it stays.
     pub failures: u64,
-}
-
-impl<D: Disk> Drop for GroupSink<'_, D> {
-    fn drop(self) {
-        let Self {
-            disk: _,
-            writer: _,
-            failures: _,
-        } = self;
-    }
 }
 
 impl<D: Disk> Sink for GroupSink<'_, D> {
