@@ -1,7 +1,10 @@
 ghost use Rattle.std.specs.Prelude.{◌≡◌, ◌==◌, count_by, length};
 ghost use Rattle.dc_records.specs.Telegram.{parsed};
 
-use crate::{BodyFault, Bytes, End, Header, ReadSource, Record, Sink, Source, Telegram, WriteSink};
+use crate::{
+    BodyFault, Bytes, End, Header, IoFault, ReadSource, Record, Sink, Source, Telegram, WriteSink,
+};
+use refusing_alloc::Refusing;
 use std::fmt::Write;
 use std::test::Fail;
 
@@ -235,5 +238,19 @@ fn std_readers_and_writers_are_ends(rt: HostRuntime) -> Result<(), Fail> {
     sink.put(b"abc")?;
     sink.flush()?;
     assert_eq!(rt; sink.writer.as_slice(), b"abc".as_slice());
+    Ok(())
+}
+
+#[test]
+fn each_growth_of_bytes_is_refused_in_turn(rt: HostRuntime) -> Result<(), Fail> {
+    let heap = Refusing::new(rt.alloc());
+    heap.refuse(1);
+    assert!(rt; Bytes::from_slice(&heap, b"ab").is_err());
+    let mut bytes = Bytes::from_slice(&heap, b"ab")?;
+    heap.refuse(1);
+    assert_eq!(rt; bytes.put(&[7; 100]), Err(IoFault));
+    assert_eq!(rt; bytes.as_slice(), b"ab".as_slice());
+    bytes.put(&[7; 100])?;
+    assert_eq!(rt; bytes.as_slice().len(), 102);
     Ok(())
 }
