@@ -1,3 +1,4 @@
+pub mod Spellings
 pub mod Lines
 pub mod Padding
 pub mod Sizes
@@ -9,3 +10,8 @@ pub mod History
 pub mod Writes
 pub mod Loops
 pub mod PartLists
+pub mod Counts
+pub mod Runs
+pub mod Ascending
+pub mod Lists
+pub mod Decoded

@@ -1,6 +1,6 @@
 -- The serials of readings ascend, also where some go and where one comes.
-use Rattle.std.proofs.Common.{◌≡◌, ℕ, ◌<◌, List, [], ◌∷◌, ◌++◌, map, Bool, true, false, cond, ap}
-use Rattle.std.specs.Prelude.{All, filter}
+use Rattle.std.proofs.Common.{◌≡◌, ℕ, ◌<◌, ◌≤◌, ◌∙◌, refl, nat_lt, arith, List, [], ◌∷◌, ◌++◌, map, Bool, true, false, cond, ap}
+use Rattle.std.specs.Prelude.{All, filter, max}
 use Rattle.std.specs.List.{AllByRecursion}
 use Rattle.std.specs.List.Sorted.{IsStrictlySortedBy}
 use Rattle.std.specs.Ordering.{nat_cmp}
@@ -8,7 +8,9 @@ use Rattle.std.specs.declared.cmp.Ordering.TheVariants.{Less, Equal, Greater}
 use Rattle.std.specs.Prelude.{◌==◌}
 use Rattle.std.proofs.lemmas.Bool.{lt-ltb}
 use Rattle.std.proofs.lemmas.List.Elements.{All-head, All-tail}
-use Rattle.dc_meters.specs.State.{ReadingRow}
+use Rattle.dc_meters.specs.State.{State, ReadingRow}
+use Rattle.dc_meters.specs.Apply.{confirmed_up_to}
+use Rattle.dc_meters.specs.Valid.{IsOpenSerial, IsState}
 
 abbrev pub serials : List ReadingRow → List ℕ
 serials readings = map (λ (r : ReadingRow). r.serial) readings
@@ -39,3 +41,21 @@ sorted_of_pushed (r ∷ rs) new sorted below = (
   all_of_pushed (λ y. nat_cmp r.serial y ≡ Less) rs new sorted.0 (nat_cmp-less r.serial new.serial (All-head (λ (q : ReadingRow). q.serial < new.serial) r rs below)),
   sorted_of_pushed rs new sorted.1 (All-tail (λ (q : ReadingRow). q.serial < new.serial) r rs below),
 )
+
+-- up to the mark or below it no reading goes
+pub none_go : (serial confirmed next : ℕ) (rs : List ReadingRow) → serial ≤ confirmed → All (λ (r : ReadingRow). IsOpenSerial confirmed next r.serial) rs → filter (λ (r : ReadingRow). nat_lt serial r.serial) rs ≡ rs
+none_go serial confirmed next [] le are = refl
+none_go serial confirmed next (r ∷ rs) le are =
+    let first = All-head (λ (r : ReadingRow). IsOpenSerial confirmed next r.serial) r rs are in
+    let behind = All-tail (λ (r : ReadingRow). IsOpenSerial confirmed next r.serial) r rs are in
+    let low = first.low in
+    let stays = filter (λ (r : ReadingRow). nat_lt serial r.serial) rs in
+    ap (λ (b : Bool). cond b (r ∷ stays) stays) (lt-ltb serial r.serial (omega (arith, le, low)))
+    ∙ ap (λ (l : List ReadingRow). r ∷ l) (none_go serial confirmed next rs le behind)
+
+-- so the state is as it was
+pub confirmed_before : (serial budget : ℕ) (s : State) → IsState budget s → serial ≤ s.confirmed → confirmed_up_to serial s ≡ s
+confirmed_before serial budget s is le =
+    let mark : max s.confirmed serial ≡ s.confirmed = omega arith in
+    let stay = none_go serial s.confirmed s.next_serial s.readings le is.serials_are in
+    λ i. record s { confirmed = mark i; readings = stay i }

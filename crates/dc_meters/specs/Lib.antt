@@ -3,6 +3,7 @@ pub mod Fault
 pub mod Flat
 pub mod State
 pub mod Body
+pub mod Words
 pub mod Line
 pub mod Apply
 pub mod Size
@@ -11,3 +12,12 @@ pub mod Accepts
 pub mod History
 pub mod Writing
 pub mod Encoding
+pub mod Spelled
+pub mod Lengths
+pub mod DecodeFault
+pub mod Reading
+pub mod Exact
+pub mod Spellings
+pub mod ChangeSpellings
+pub mod StateSpellings
+pub mod Order

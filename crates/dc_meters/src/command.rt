@@ -48,6 +48,15 @@ pub enum Command {
     },
 }
 
+/// A command under its number.
+#[derive(Clone, Copy)]
+pub struct Numbered {
+    /// Its number, from 1, of at most 18 digits.
+    pub number: u64,
+    /// What is ordered.
+    pub command: Command,
+}
+
 impl Command {
     /// The command's line under a number: `n FIT ident line addr flat`, `n MOVE ident flat`, `n OUT ident`,
     /// `n CONFIRM serial` or `n SWAP old new addr`, `addr` being `S` or a primary address.

@@ -5,7 +5,9 @@ ghost use Rattle.dc_meters.specs.Valid.{IsState};
 
 mod apply;
 mod check;
+mod decode;
 mod encode;
+mod replay;
 
 use crate::{CommandLine, Meter, Reading};
 use dc_address::Identity;

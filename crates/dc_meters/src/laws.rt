@@ -1,10 +1,14 @@
-//! Laws of lists of changes. The functions do nothing; their contracts are the laws.
+//! Laws of changes and of spellings. The functions do nothing; their contracts are the laws.
 
-ghost use Rattle.std.specs.Prelude.{◌≡◌, ℕ, List, [], ◌∷◌, ◌++◌};
+ghost use Rattle.std.specs.Prelude.{◌≡◌, ℕ, ◌+◌, ◌^◌, ◌<◌, ◌≤◌, List, [], ◌∷◌, ◌++◌, length};
 ghost use Rattle.dc_meters.specs.declared.change.Change.{Change};
 ghost use Rattle.dc_meters.specs.State.{State};
 ghost use Rattle.dc_meters.specs.Apply.{applied};
 ghost use Rattle.dc_meters.specs.History.{after, AcceptsAll};
+ghost use Rattle.dc_meters.specs.Size.{size_of};
+ghost use Rattle.dc_meters.specs.Encoding.{state_bytes, change_bytes};
+ghost use Rattle.dc_meters.specs.Valid.{IsChange, IsState};
+ghost use Rattle.dc_meters.specs.Spelled.{SpellsState, SpellsChanges};
 
 /// The state after a list of changes is that after its second part, from the state after its first; one change
 /// more is applied last.
@@ -19,4 +23,23 @@ pub fn after_goes_by_parts()
 pub fn acceptance_goes_by_parts()
     ensures append { (budget : ℕ) (s : State) (first then : List Change) → AcceptsAll budget s first → AcceptsAll budget (after s first) then → AcceptsAll budget s (first ++ then) }
     ensures parts { (budget : ℕ) (s : State) (first then : List Change) → AcceptsAll budget s (first ++ then) → AcceptsAll budget s first × AcceptsAll budget (after s first) then }
+{}
+
+/// A state is spelled in the bytes of its size, less the room that its last line leaves of 120: within the budget,
+/// and in 33 bytes at least.
+#[tactic(auto, using(crate::specs::Lengths::state_len, crate::specs::Lengths::state_fits, crate::specs::Lengths::state_some))]
+pub fn length_of_spelling()
+    ensures size { (s : State) → length (state_bytes s) + 120 ≡ size_of s + length s.last_line }
+    ensures fits { (budget : ℕ) (s : State) → IsState budget s → length (state_bytes s) ≤ budget }
+    ensures some { (s : State) → 33 ≤ length (state_bytes s) }
+{}
+
+/// No two states are spelled alike, and no two lists of changes; no spelling of a change begins another. No changes
+/// are spelled in no bytes.
+#[tactic(auto, using(crate::specs::StateSpellings::spelled_once, crate::specs::ChangeSpellings::changes_spelled_once, crate::specs::ChangeSpellings::one_change))]
+pub fn one_spelling()
+    ensures states { (budget other : ℕ) (bytes : List ℕ) (s t : State) → budget < 2 ^ 32 → other < 2 ^ 32 → SpellsState budget bytes s → SpellsState other bytes t → s ≡ t }
+    ensures changes { (bytes : List ℕ) (a b : List Change) → SpellsChanges bytes a → SpellsChanges bytes b → a ≡ b }
+    ensures begins { (a b : Change) (x y : List ℕ) → IsChange a → IsChange b → change_bytes a ++ x ≡ change_bytes b ++ y → (a ≡ b) × (x ≡ y) }
+    ensures none { SpellsChanges [] [] }
 {}

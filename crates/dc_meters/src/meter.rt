@@ -48,6 +48,24 @@ impl<A: Allocator> Meter<A> {
         }
     }
 
+    /// A meter with these open parts.
+    pub(crate) fn with_parts(
+        line: u8,
+        address: Option<Primary>,
+        flat: Flat,
+        parts: Vec<Part<A>, A>,
+    ) -> Meter<A>
+        requires { IsMeter (record { line = line; address = address; flat = flat; parts = parts.items }) }
+        ensures { result ≡ record { line = line; address = address; flat = flat; parts = parts.items } }
+    {
+        Meter {
+            line,
+            address,
+            flat,
+            parts,
+        }
+    }
+
     /// The bus line on which it hangs, from 1 to 8.
     pub fn line(&self) -> u8
         ensures line { result ≡ self.now.line }

@@ -10,6 +10,8 @@ use std::alloc::Allocator;
 use std::process::Abort;
 use std::test::Fail;
 
+mod decoding;
+
 // The meter 12345678.PAD.01.07 tells a volume, and then a date and the volume on it.
 const FIRST: &[u8] =
     b"\x78\x56\x34\x12\x24\x40\x01\x07\x01\x00\x00\x00\x0C\x13\x78\x56\x34\x12\x1F";

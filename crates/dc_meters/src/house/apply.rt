@@ -208,6 +208,10 @@ impl<A: Allocator + Copy> House<A> {
         requires { serial < self.old.state.next_serial }
         ensures { self.new ≡ record self.old { state = confirmed_up_to serial self.old.state } }
     {
+        // What the mark has passed is gone: a confirmation below it looks at no reading.
+        if serial <= self.confirmed {
+            return;
+        }
         self.confirmed = self.confirmed.max(serial);
         self.size -= forget(&mut self.readings, serial);
     }

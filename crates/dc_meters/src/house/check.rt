@@ -11,12 +11,10 @@ ghost use Rattle.dc_meters.specs.Size.{size_of, parts_size};
 ghost use Rattle.dc_meters.specs.Valid.{IsChange};
 
 use super::House;
+use crate::pieces::END_OF_NUMBERS;
 use crate::{Body, Change, ChangeFault, Command, Flat, Meter};
 use dc_address::{Identity, Primary};
 use std::alloc::Allocator;
-
-/// Numbers and serials have at most 18 digits.
-const END_OF_NUMBERS: u64 = 1_000_000_000_000_000_000;
 
 impl<A: Allocator + Copy> House<A> {
     /// Why the change is refused, if it is: the first that stands of Known, Unknown, AddressTaken, Beyond and Full.
