@@ -1,4 +1,8 @@
--- what an image stands for, and what is promised of it
-pub mod Half
-pub mod Laws
+pub mod Fault
+pub mod Halves
+pub mod Language
+pub mod Refusal
+pub mod Roots
 pub mod Stands
+pub mod Store
+pub mod Writing

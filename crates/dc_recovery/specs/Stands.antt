@@ -1,89 +1,147 @@
--- What an image reads as, when it is fresh, and which state it stands for (this product).
---
--- Nothing here knows of meters: `Spells` says which state a base group's payload spells, and `Leads`
--- that a change group's payload spells changes which, each accepted in turn, lead from one state to
--- another.
-use Rattle.std.specs.Prelude.{◌≡◌, ◌<◌, ℕ, zero, suc, ◌+◌, ◌*◌, ◌^◌, ◌≤◌, List}
-use Rattle.dc_sectors.specs.Disk.{Image}
+-- The state that an image reads as, and stands for: this product's image format.
+use Rattle.std.specs.Prelude.{◌≡◌, ◌⊎◌, ◌<◌, ℕ, zero, suc, ◌+◌, ◌*◌, ◌^◌, ◌≤◌, List, replicate}
+use Rattle.dc_sectors.specs.Disk.{Image, Choices, IsImage}
+use Rattle.dc_sectors.specs.declared.sector.Sector.{Sector}
+use Rattle.dc_sectors.specs.declared.sector.Sector.TheVariants.{Bytes}
 use Rattle.dc_roots.specs.declared.root.Root.{Root}
 use Rattle.dc_roots.specs.Choice.{IsChosen}
-use Rattle.dc_pages.specs.Group.{IsGroup, IsComplete, IsKnown, Carries, base_kind, change_kind}
-use Rattle.dc_recovery.specs.Half.{half_start, half_end}
+use Rattle.dc_pages.specs.Group.{base_kind, change_kind, IsGroup, IsComplete, Carries}
+use Rattle.dc_recovery.specs.Halves.{half_start, half_end, budget_of}
+use Rattle.dc_recovery.specs.Language.{State, Change, SpellsState, SpellsChanges, AcceptsAll, after}
 
--- No page or commit sector of the two halves has a greater session, or a greater sequence.
-abbrev pub IsFresh : (half_len session sequence : ℕ) → Image → Type 0
+-- the version that the sectors of this product's images carry
+abbrev pub image_version : ℕ
+image_version = 2
+
+-- a sector of zeros
+abbrev pub blank : Sector
+blank = Bytes (replicate 512 0)
+
+-- a number of eight bytes, as sequences are
+abbrev pub IsSequence : ℕ → Type 0
+IsSequence n = n < 2 ^ 64
+
+-- No page or commit sector of the two halves has a greater session or a greater sequence.
+abbrev pub IsFresh : ℕ → ℕ → ℕ → Image → Type 0
 IsFresh half_len session sequence image =
     (m s q : ℕ) → 3 ≤ m → m < 3 + 2 * half_len → Carries s q (image m) → (s ≤ session) × (q ≤ sequence)
 
--- No page or commit sector of the two halves has that stamp.
-abbrev pub IsUnused : (half_len session sequence : ℕ) → Image → Type 0
+-- None of the two halves has that stamp.
+abbrev pub IsUnused : ℕ → ℕ → ℕ → Image → Type 0
 IsUnused half_len session sequence image =
     (m : ℕ) → 3 ≤ m → m < 3 + 2 * half_len → Carries session sequence (image m) → ⊥
 
--- A further group of changes is complete there. Its sequence is a number of eight bytes.
-pub record IsNext (version sequence place limit : ℕ) (image : Image) : Type 0 where
-  pub small : sequence < 2 ^ 64
-  pub complete : IsComplete version change_kind sequence place limit image
+-- the half begins with a base group that spells the state; it ends before `place`
+pub record HasBase (half_len : ℕ) (root : Root) (place : ℕ) (state : State) (image : Image) : Type 0 where
+  pub session : ℕ
+  pub payload : List ℕ
+  pub pages : ℕ
+  pub group : IsGroup root.version base_kind session root.base_sequence payload pages (half_start half_len root.half) (half_end half_len root.half) image
+  pub spells : SpellsState (budget_of half_len) payload state
+  pub end : place ≡ half_start half_len root.half + pages + 1
 
-module _ {S : Type 0} (Spells : List ℕ → S → Type 0) (Leads : List ℕ → S → S → Type 0) where
-  -- The root's half begins with a complete base group that spells the state, and it ends before `place`.
-  pub record HasBase (half_len : ℕ) (root : Root) (place : ℕ) (state : S) (image : Image) : Type 0 where
-    pub session : ℕ
-    pub payload : List ℕ
-    pub pages : ℕ
-    pub group : IsGroup root.version base_kind session root.base_sequence payload pages (half_start half_len root.half) (half_end half_len root.half) image
-    pub spells : Spells payload state
-    pub end : place ≡ half_start half_len root.half + pages + 1
+-- one group of changes more than what `Before` says of a place and a state
+pub record HasMore (half_len : ℕ) (Before : ℕ → State → Type 0) (version sequence limit place : ℕ) (state : State) (image : Image) : Type 0 where
+  pub from : ℕ
+  pub was : State
+  pub before : Before from was
+  pub session : ℕ
+  pub payload : List ℕ
+  pub pages : ℕ
+  pub is_sequence : IsSequence sequence
+  pub group : IsGroup version change_kind session sequence payload pages from limit image
+  pub changes : List Change
+  pub spells : SpellsChanges payload changes
+  pub accepted : AcceptsAll (budget_of half_len) was changes
+  pub state_is : state ≡ after was changes
+  pub end : place ≡ from + pages + 1
 
-  -- Behind what `Before` says of a place and a state there is one complete group of changes more.
-  pub record HasMore (Before : ℕ → S → Type 0) (version sequence limit place : ℕ) (state : S) (image : Image) : Type 0 where
-    pub from : ℕ
-    pub was : S
-    pub before : Before from was
-    pub small : sequence < 2 ^ 64
-    pub session : ℕ
-    pub payload : List ℕ
-    pub pages : ℕ
-    pub group : IsGroup version change_kind session sequence payload pages from limit image
-    pub leads : Leads payload was state
-    pub end : place ≡ from + pages + 1
+-- After the base and m groups of changes with consecutive sequences the state is this, and the last of them ends before `place`.
+abbrev pub Holds : ℕ → Root → Image → ℕ → ℕ → State → Type 0
+Holds half_len root image zero place state = HasBase half_len root place state image
+Holds half_len root image (suc m) place state = HasMore half_len (Holds half_len root image m) root.version (root.base_sequence + suc m) (half_end half_len root.half) place state image
 
-  -- The base and m groups of changes with consecutive sequences lead to this state, and the last of
-  -- them ends before `place`.
-  abbrev pub Holds : (half_len : ℕ) → Root → Image → ℕ → ℕ → S → Type 0
-  Holds half_len root image zero place state = HasBase half_len root place state image
-  Holds half_len root image (suc m) place state =
-      HasMore (Holds half_len root image m) root.version (root.base_sequence + suc m) (half_end half_len root.half) place state image
+-- The image reads as the state, by this root and m groups of changes, and `place` is where the next would go.
+pub record ReadsBy (half_len : ℕ) (root : Root) (m place : ℕ) (state : State) (image : Image) : Type 0 where
+  pub chosen : IsChosen root image
+  pub version : root.version ≡ image_version
+  pub length_is : root.half_len ≡ half_len
+  pub holds : Holds half_len root image m place state
+  pub no_more : IsSequence (root.base_sequence + suc m) → IsComplete root.version change_kind (root.base_sequence + suc m) place (half_end half_len root.half) image → ⊥
 
-  -- The image reads as the state by this root and m groups of changes: no further one is complete at `place`.
-  pub record ReadsBy (half_len : ℕ) (root : Root) (m place : ℕ) (state : S) (image : Image) : Type 0 where
-    pub chosen : IsChosen root image
-    pub version : IsKnown root.version
-    pub length_is : root.half_len ≡ half_len
-    pub holds : Holds half_len root image m place state
-    pub no_more : IsNext root.version (root.base_sequence + suc m) place (half_end half_len root.half) image → ⊥
+-- it reads, and it is fresh
+pub record StandsBy (half_len : ℕ) (root : Root) (m place : ℕ) (state : State) (image : Image) : Type 0 where
+  pub reads : ReadsBy half_len root m place state image
+  pub fresh : IsFresh half_len root.session (root.base_sequence + suc m) image
 
-  -- it reads so, and it is fresh
-  pub record StandsBy (half_len : ℕ) (root : Root) (m place : ℕ) (state : S) (image : Image) : Type 0 where
-    pub reads : ReadsBy half_len root m place state image
-    pub fresh : IsFresh half_len root.session (root.base_sequence + suc m) image
+pub record Reads (half_len : ℕ) (state : State) (image : Image) : Type 0 where
+  pub root : Root
+  pub m : ℕ
+  pub place : ℕ
+  pub by : ReadsBy half_len root m place state image
 
-  -- THE IMAGE READS AS THE STATE
-  pub record Reads (half_len : ℕ) (state : S) (image : Image) : Type 0 where
-    pub root : Root
-    pub m : ℕ
-    pub place : ℕ
-    pub by : ReadsBy half_len root m place state image
+pub record Stands (half_len : ℕ) (state : State) (image : Image) : Type 0 where
+  pub root : Root
+  pub m : ℕ
+  pub place : ℕ
+  pub by : StandsBy half_len root m place state image
 
-  -- THE IMAGE STANDS FOR THE STATE
-  pub record Stands (half_len : ℕ) (state : S) (image : Image) : Type 0 where
-    pub root : Root
-    pub m : ℕ
-    pub place : ℕ
-    pub by : StandsBy half_len root m place state image
+-- WHAT A STORE KNOWS IN ITS LIFE of the one image that its disk has: it stands, and none of its sectors has the stamp that comes next.
+pub record IsReady (half_len : ℕ) (root : Root) (m place : ℕ) (state : State) (image : Image) : Type 0 where
+  pub stands : StandsBy half_len root m place state image
+  pub unused : IsUnused half_len root.session (root.base_sequence + suc m) image
 
-  -- What a store knows, while it isn't stopped, of the one image that its disk has: it stands, and the
-  -- stamp of the next group is used nowhere.
-  pub record IsReady (half_len : ℕ) (root : Root) (m place : ℕ) (state : S) (image : Image) : Type 0 where
-    pub stands : StandsBy half_len root m place state image
-    pub unused : IsUnused half_len root.session (root.base_sequence + suc m) image
+-- the root in force, of this version and for halves of this length
+pub record IsCurrent (half_len : ℕ) (root : Root) (image : Image) : Type 0 where
+  pub chosen : IsChosen root image
+  pub version : root.version ≡ image_version
+  pub length_is : root.half_len ≡ half_len
+
+-- The root in force leads to this state by the groups up to one of sequence `last`, and the next would go to `place`.
+pub record IsReached (half_len : ℕ) (root : Root) (place last : ℕ) (state : State) (image : Image) : Type 0 where
+  pub current : IsCurrent half_len root image
+  pub m : ℕ
+  pub holds : Holds half_len root image m place state
+  pub last_is : last ≡ root.base_sequence + m
+
+-- and no group of the next sequence is complete there
+pub record IsRead (half_len : ℕ) (root : Root) (place last : ℕ) (state : State) (image : Image) : Type 0 where
+  pub m : ℕ
+  pub by : ReadsBy half_len root m place state image
+  pub last_is : last ≡ root.base_sequence + m
+
+-- each image stands for some state
+abbrev pub EachStands : ℕ → Choices → Type 0
+EachStands half_len choices = (image : Image) → IsImage choices image → (state : State) × Stands half_len state image
+
+-- the image stands for a state that one of those images stood for
+pub record StandsForOne (half_len : ℕ) (choices : Choices) (image : Image) : Type 0 where
+  pub state : State
+  pub stands : Stands half_len state image
+  pub was : Image
+  pub was_image : IsImage choices was
+  pub stood : Stands half_len state was
+
+-- the image stands for one of two states
+abbrev pub StandsForEither : ℕ → State → State → Image → Type 0
+StandsForEither half_len before after image = Stands half_len before image ⊎ Stands half_len after image
+
+-- A payload that spells accepted changes may follow: the image is ready, and this are the place, the half's end and the next sequence.
+pub record IsAppendable (half_len : ℕ) (root : Root) (m place limit sequence : ℕ) (was : State) (payload : List ℕ) (changes : List Change) (image : Image) : Type 0 where
+  pub ready : IsReady half_len root m place was image
+  pub at_limit : limit ≡ half_end half_len root.half
+  pub at_sequence : sequence ≡ root.base_sequence + suc m
+  pub is_sequence : IsSequence sequence
+  pub spells : SpellsChanges payload changes
+  pub accepted : AcceptsAll (budget_of half_len) was changes
+
+-- the image stands for the state, and the stamp that comes next is unused
+pub record IsReadyFor (half_len : ℕ) (state : State) (image : Image) : Type 0 where
+  pub root : Root
+  pub m : ℕ
+  pub place : ℕ
+  pub ready : IsReady half_len root m place state image
+
+-- AN IMAGE READS AS ONE STATE
+abbrev pub ReadsOnce : Type 0
+ReadsOnce = (half_len : ℕ) → half_len ≤ 65536 → (image : Image) (state other : State) → Reads half_len state image → Reads half_len other image → state ≡ other

@@ -1,32 +1,34 @@
-//! What an image of a store stands for, and what holds of it through every stop.
+//! The store: the register and the readings of a house on a disk, through every stop.
 //!
-//! This product's own rule. An image reads as a state: its chosen root names a half, the half begins
-//! with a base group that spells a state, and complete groups of changes with consecutive sequences
-//! follow. It stands for that state where it is fresh too: no sector carries a session or a sequence
-//! that is still to come.
+//! This product's own format. Behind two root slots an image has two halves. The root in force names one; it
+//! begins with a base group that spells a whole state, and groups of changes with consecutive sequences follow
+//! as long as they are complete. What these lead to is the state that the image reads as. It stands for that
+//! state where it is fresh too: no sector carries a session or a sequence that is still to come.
 //!
-//! The laws speak of any [`Language`] of states and changes, and of images alone: appending is whole or
-//! not at all, the write of the next root and the base group of a compaction change no state, and an
-//! image reads as one state.
+//! Proved, of any disk that keeps the disk rule: [`Store::open`] answers exactly the state that the image reads
+//! as, or why there is none; and no image of any moment of a format that ended, an open, an append or a
+//! compaction stands for another state than the one before or the one after. So a stop within any call of the
+//! disk leaves an image that is opened as one of the two, and what was answered with `Ok` is there.
 //!
-//! [`append_group`] and [`switch_root`] are the two durable steps of which a store's life is made: a
-//! group of changes with one sync, and the next root with one. Each says of every moment which images a
-//! stop may leave. Formatting, opening and compacting are not here yet.
+//! An append is a group and one sync. A compaction is the whole state as a base group in the other half, a
+//! sync, the next root and a sync. An open reads each sector that it needs once.
 #![tactic(auto)]
 
 mod appending;
-mod language;
+mod compacting;
+mod fault;
+mod formatting;
+mod halves;
 mod laws;
-mod switching;
+mod opening;
+mod reading;
+mod rooting;
+mod store;
+mod writing;
 
-pub use appending::append_group;
-pub use language::Language;
-pub use laws::{
-    appending_is_whole, appending_leaves_ready, compacting_keeps_state, compacting_leaves_ready,
-    formatting_leaves_ready, opening_keeps_state, opening_leaves_ready, reads_as_one_state,
-    switching_keeps_state,
-};
-pub use switching::switch_root;
+pub use fault::{FormatFault, OpenFault, StoreFault};
+pub use laws::{a_refused_image_is_not_read, one_refusal, reads_as_one_state};
+pub use store::Store;
 
 #[cfg(test)]
 mod tests;

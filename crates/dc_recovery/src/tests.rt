@@ -1,60 +1,198 @@
-// What no clause says: which calls of the disk are made.
-ghost use Rattle.std.specs.Prelude.{◌≡◌, ◌++◌, List, ℕ};
+// What no clause says: bytes, calls of the disk, and what an image of a stop is opened as.
+ghost use Rattle.std.specs.Prelude.{ℕ, IfOk, IfSome};
+ghost use Rattle.std.specs.List.{AllZip};
+ghost use Rattle.dc_sectors.specs.Memory.{IsPickFor};
+ghost use Rattle.dc_meters.specs.Valid.{IsChange, IsNumber};
 
-use crate::{Language, append_group, switch_root};
-use dc_roots::{Root, RootFault};
-use dc_sectors::{Disk, Failed, MemoryDisk};
+mod faults;
+mod formats;
+mod lives;
+mod roots;
+
+use crate::{OpenFault, Store, StoreFault};
+use dc_address::{Identity, Primary};
+use dc_base::NoMemory;
+use dc_meters::{Body, Change, Command, Flat, House, encode_change};
+use dc_records::Bytes;
+use dc_sectors::{Disk, MemoryDisk, Pick};
+use std::alloc::{Allocator, Global};
+use std::process::Abort;
 use std::test::Fail;
 
-/// Payloads that spell themselves: the state is all bytes so far.
-struct Texts;
+// The meter 12345678.PAD.01.07 tells a volume, and then a date and the volume on it.
+const FIRST: &[u8] =
+    b"\x78\x56\x34\x12\x24\x40\x01\x07\x01\x00\x00\x00\x0C\x13\x78\x56\x34\x12\x1F";
 
-impl Language for Texts {
-    ghost state = { List ℕ };
+const LAST: &[u8] =
+    b"\x78\x56\x34\x12\x24\x40\x01\x07\x02\x00\x00\x00\x42\x6C\x1F\x3C\x4C\x13\x00\x50\x34\x12";
 
-    ghost spells = { λ budget payload state. payload ≡ state };
-
-    ghost leads = { λ budget payload was next. next ≡ was ++ payload };
+fn confirm(number: u64) -> Change<'static>
+    requires { IsNumber number }
+    ensures { IsChange result }
+{
+    let command = Command::Confirm { serial: 0 };
+    Change::Command { number, command }
 }
 
-const ROOT: Root = Root {
-    version: 2,
-    half: 0,
-    generation: 2,
-    session: 2,
-    base_sequence: 1,
-    half_len: 64,
-};
-
-#[test]
-fn a_group_needs_one_sync(rt: HostRuntime) -> Result<(), Fail> {
-    let mut disk = MemoryDisk::new(rt.alloc(), 131)?;
-    assert_eq!(rt; disk.count(), 131);
-    disk.fuse(3);
-    assert!(rt; append_group::<Texts, _>(&mut disk, &ROOT, 5, 67, 2, b"change") == Ok(2));
-    assert_eq!(rt; disk.calls(), 3);
-    assert_eq!(rt; disk.pending()?.len(), 0);
-    assert!(rt; append_group::<Texts, _>(&mut disk, &ROOT, 7, 67, 3, b"change") == Err(Failed));
-    Ok(())
+fn fit(number: u64, meter: &[u8], address: u8) -> Result<Change<'static>, Fail>
+    requires { IsNumber number }
+    ensures { IfOk result (λ change. IsChange change) }
+{
+    let meter = Identity::parse_text(meter)?;
+    let address = Primary::new(address).ok_or("address")?;
+    let flat = Flat::new(b"A1").ok_or("flat")?;
+    let command = Command::Fit {
+        meter,
+        line: 1,
+        address: Some(address),
+        flat,
+    };
+    Ok(Change::Command { number, command })
 }
 
-#[test]
-fn a_root_is_in_force_once_it_is_synced(rt: HostRuntime) -> Result<(), Fail> {
-    let mut disk = MemoryDisk::new(rt.alloc(), 131)?;
-    assert_eq!(rt; disk.count(), 131);
-    disk.fuse(3);
-    let next = Root {
-        generation: 3,
-        ..ROOT
-    };
-    assert!(rt; switch_root(&mut disk, &ROOT) == Ok(next));
-    assert_eq!(rt; disk.calls(), 2);
-    assert!(rt; switch_root(&mut disk, &next) == Err(RootFault::Device));
-    let last = Root {
-        generation: u64::MAX,
-        ..ROOT
-    };
-    assert!(rt; switch_root(&mut disk, &last) == Err(RootFault::Worn));
-    assert_eq!(rt; disk.calls(), 4);
-    Ok(())
+fn told(part: u8, body: &'static [u8]) -> Result<Change<'static>, Fail>
+    ensures { IfOk result (λ change. IsChange change) }
+{
+    let body = Body::parse(body).ok_or("body")?;
+    Ok(Change::Telegram {
+        part,
+        moment: 100,
+        body,
+    })
+}
+
+/// A blank disk, formatted.
+fn formatted(rt: &impl Abort, alloc: Global) -> Result<MemoryDisk<Global>, Fail> {
+    match Store::format(MemoryDisk::new(alloc, 131)?) {
+        Ok(disk) => {
+            assert_eq!(rt; disk.count(), 131);
+            assert_eq!(rt; disk.pending()?.len(), 0);
+            Ok(disk)
+        }
+        Err((fault, _)) => Err(Fail::from(fault)),
+    }
+}
+
+/// A store that is open, and the house beside it.
+#[derive(Drop)]
+struct Life {
+    store: Store<MemoryDisk<Global>>,
+    house: House<Global>,
+}
+
+/// How many calls of the disk an open of this image makes.
+fn calls_of_open(alloc: Global, disk: &MemoryDisk<Global>) -> Result<u64, Fail> {
+    let disk = disk.copy()?;
+    let before = disk.calls();
+    let life = opened(alloc, disk)?;
+    Ok(life.store.close().calls().saturating_sub(before))
+}
+
+/// The state that an image is opened as, in its bytes.
+fn state_of(alloc: Global, disk: MemoryDisk<Global>) -> Result<Bytes<Global>, Fail> {
+    let life = opened(alloc, disk)?;
+    encoded(alloc, &life.house)
+}
+
+fn opened(alloc: Global, disk: MemoryDisk<Global>) -> Result<Life, OpenFault> {
+    match Store::open(alloc, disk) {
+        Ok((store, house)) => Ok(Life { store, house }),
+        Err((fault, _)) => Err(fault),
+    }
+}
+
+/// Does the change in the house, and writes it: as a group, or with the whole state where it doesn't fit.
+fn accept(
+    rt: &impl Abort,
+    alloc: Global,
+    life: &mut Life,
+    change: &Change<'_>,
+) -> Result<Result<(), StoreFault>, Fail>
+    requires { IsChange change.now }
+{
+    apply(rt, &mut life.house, change)?;
+    let mut bytes = Bytes::new(alloc);
+    encode_change(change, &mut bytes)?;
+    assert!(rt; !bytes.as_slice().is_empty());
+    if life.store.fits(bytes.as_slice().len()) {
+        return Ok(life.store.append(bytes.as_slice()));
+    }
+    Ok(compact(rt, life))
+}
+
+fn compact(rt: &impl Abort, life: &mut Life) -> Result<(), StoreFault> {
+    assert!(rt; life.house.budget() <= life.store.budget());
+    life.store.compact(&life.house)
+}
+
+fn apply(rt: &impl Abort, house: &mut House<Global>, change: &Change<'_>) -> Result<(), NoMemory>
+    requires { IsChange change.now }
+{
+    assert!(rt; house.check(change).is_ok());
+    match change {
+        Change::Telegram { .. } => house.apply(change),
+        Change::Command { number, .. } => {
+            assert!(rt; house.last_number() < *number);
+            assert!(rt; *number - 1 == house.last_number());
+            house.apply(change)
+        }
+    }
+}
+
+fn encoded(alloc: Global, house: &House<Global>) -> Result<Bytes<Global>, Fail> {
+    let mut bytes = Bytes::new(alloc);
+    house.encode(&mut bytes)?;
+    Ok(bytes)
+}
+
+// ---- the images of a stop, by number
+
+/// One way of a sector that was written so often: as before, unreadable, or as one of its writes left it.
+fn pick_of(way: usize, writes: usize) -> Pick
+    ensures { (n : ℕ) → IsPickFor (n, writes) result }
+{
+    if way == 0 {
+        return Pick::Old;
+    }
+    if way == 1 {
+        return Pick::Unreadable;
+    }
+    if way - 2 < writes {
+        Pick::Written(way - 2)
+    } else {
+        Pick::Old
+    }
+}
+
+/// The picks of an image by its number, if a stop has so many.
+fn picks_of(
+    alloc: Global,
+    pending: &[(u32, usize)],
+    number: usize,
+) -> Result<Option<Vec<Pick>>, NoMemory>
+    ensures { IfOk result (λ picks. IfSome picks (λ p. AllZip IsPickFor pending.now p.items)) }
+{
+    let mut rest = number;
+    let mut picks = Vec::new(alloc);
+    for &(_, writes) in pending {
+        let ways = writes.saturating_add(2);
+        picks.push(pick_of(rest % ways, writes))?;
+        rest /= ways;
+    }
+    if rest > 0 {
+        return Ok(None);
+    }
+    Ok(Some(picks))
+}
+
+/// Stops the disk with the image of that number, if there is one.
+fn stop_at(alloc: Global, disk: &mut MemoryDisk<Global>, number: usize) -> Result<bool, Fail> {
+    let pending = disk.pending()?;
+    match picks_of(alloc, pending.as_slice(), number)? {
+        Some(picks) => {
+            disk.stop(picks.as_slice());
+            Ok(true)
+        }
+        None => Ok(false),
+    }
 }

@@ -1,0 +1,77 @@
+-- What a store that keeps a state leaves, and keeps.
+use Rattle.std.proofs.Common.{◌≡◌, ◌<◌, ◌+◌, ◌^◌, ℕ, zero, suc, List, false, inl, arith, ap, sym, subst, ◌∙◌}
+use Rattle.dc_sectors.specs.Disk.{Image, Choices, IsImage, settled}
+use Rattle.dc_sectors.specs.Images.{settled_image}
+use Rattle.dc_roots.specs.declared.root.Root.{Root}
+use Rattle.dc_recovery.specs.Halves.{half_len_of, half_end, budget_of}
+use Rattle.dc_recovery.specs.Language.{State, Change, SpellsChanges, AcceptsAll}
+use Rattle.dc_recovery.specs.Roots.{compacted}
+use Rattle.dc_recovery.specs.Stands.{IsReady, IsReadyFor, IsAppendable, Stands, StandsForEither}
+use Rattle.dc_recovery.specs.Store.{Kept, Keeps}
+
+-- each image of a settled disk that is ready for a state stands for it
+pub ready_stands : (half_len : ℕ) (state : State) (choices : Choices) (reads image : Image) → choices ≡ settled reads → IsReadyFor half_len state reads → IsImage choices image → Stands half_len state image
+ready_stands half_len state choices reads image is_settled ready is =
+    let same : image ≡ reads = settled_image reads image (subst (λ (c : Choices). IsImage c image) is_settled is) in
+    subst (Stands half_len state) (sym same) (record { root = ready.root; m = ready.m; place = ready.place; by = ready.ready.stands })
+
+module _ {D : Type 0} (sectors : D → ℕ) (reads : D → Image) (choices : D → Choices) where
+  -- before anything is written
+  pub keeps_stands : (store : Kept D) (was next : State) (image : Image) → Keeps sectors reads choices store was → IsImage (choices store.disk) image
+      → StandsForEither (half_len_of (sectors store.disk)) was next image
+  keeps_stands store was next image kept is =
+      inl (ready_stands (half_len_of (sectors store.disk)) was (choices store.disk) (reads store.disk) image kept.is_settled
+      (record { root = store.root; m = kept.m; place = store.place; ready = kept.ready }) is)
+
+  -- accepted changes may follow
+  pub keeps_appendable : (store : Kept D) (was : State) (payload : List ℕ) (changes : List Change) (half_len limit next : ℕ) → (kept : Keeps sectors reads choices store was)
+      → half_len ≡ half_len_of (sectors store.disk) → limit ≡ half_end half_len store.root.half → next ≡ store.last + 1 → next < 2 ^ 64
+      → SpellsChanges payload changes → AcceptsAll (budget_of (half_len_of (sectors store.disk))) was changes
+      → IsAppendable (half_len_of (sectors store.disk)) store.root kept.m store.place limit next was payload changes (reads store.disk)
+  keeps_appendable store was payload changes half_len limit next kept at_half at_limit at_next small spells accepted =
+      let last_is = kept.last_is in
+      record {
+        ready = kept.ready;
+        at_limit = at_limit ∙ ap (λ (h : ℕ). half_end h store.root.half) at_half;
+        at_sequence = omega (arith, at_next, last_is);
+        is_sequence = small;
+        spells = spells;
+        accepted = accepted;
+      }
+
+  -- and are kept
+  pub keeps_after : (store new : Kept D) (was : State) (count next : ℕ) (now : State) → (kept : Keeps sectors reads choices store was)
+      → new.is_stopped ≡ false → new.root ≡ store.root → new.place ≡ store.place + count → new.last ≡ store.last + 1 → sectors new.disk ≡ sectors store.disk
+      → choices new.disk ≡ settled (reads new.disk)
+      → IsReady (half_len_of (sectors store.disk)) store.root (suc kept.m) (store.place + count) now (reads new.disk) → Keeps sectors reads choices new now
+  keeps_after store new was count next now kept running root place last same is_settled ready =
+      let last_is = kept.last_is in
+      let base : new.root.base_sequence ≡ store.root.base_sequence = ap (λ (r : Root). r.base_sequence) root in
+      record {
+        running = running;
+        is_settled = is_settled;
+        m = suc kept.m;
+        ready = subst (λ (s : ℕ). IsReady (half_len_of s) new.root (suc kept.m) new.place now (reads new.disk)) (sym same)
+            (subst (λ (p : ℕ). IsReady (half_len_of (sectors store.disk)) new.root (suc kept.m) p now (reads new.disk)) (sym place)
+            (subst (λ (r : Root). IsReady (half_len_of (sectors store.disk)) r (suc kept.m) (store.place + count) now (reads new.disk)) (sym root) ready));
+        last_is = omega (arith, last, last_is, base);
+      }
+
+  pub keeps_stands_now : (store : Kept D) (state : State) (image : Image) → Keeps sectors reads choices store state → IsImage (choices store.disk) image
+      → Stands (half_len_of (sectors store.disk)) state image
+  keeps_stands_now store state image kept is =
+      ready_stands (half_len_of (sectors store.disk)) state (choices store.disk) (reads store.disk) image kept.is_settled
+      (record { root = store.root; m = kept.m; place = store.place; ready = kept.ready }) is
+
+  -- the state that was compacted is kept
+  pub keeps_compacted : (store new : Kept D) (state : State) (sequence : ℕ) → new.is_stopped ≡ false → new.root ≡ compacted store.root sequence → new.last ≡ sequence → sectors new.disk ≡ sectors store.disk
+      → choices new.disk ≡ settled (reads new.disk) → IsReady (half_len_of (sectors store.disk)) new.root zero new.place state (reads new.disk) → Keeps sectors reads choices new state
+  keeps_compacted store new state sequence running root last same is_settled ready =
+      let base : new.root.base_sequence ≡ sequence = ap (λ (r : Root). r.base_sequence) root in
+      record {
+        running = running;
+        is_settled = is_settled;
+        m = zero;
+        ready = subst (λ (s : ℕ). IsReady (half_len_of s) new.root zero new.place state (reads new.disk)) (sym same) ready;
+        last_is = omega (arith, last, base);
+      }

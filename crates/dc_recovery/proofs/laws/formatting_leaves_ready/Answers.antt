@@ -1,5 +1,0 @@
-use Rattle.dc_recovery.proofs.LawProofs.{format_leaves_ready}
-use Rattle.dc_recovery.proofs.laws.formatting_leaves_ready.Goals as goal
-
-pub returns : goal.returns
-returns g c budget = format_leaves_ready (g.L.Language.spells budget) (g.L.Language.leads budget)

@@ -1,0 +1,23 @@
+use Rattle.std.proofs.Common.{◌-◌, ◌≡◌, ◌≤◌, ℕ}
+use Rattle.dc_sectors.specs.Disk.{IsImage, LeavesOnly}
+use Rattle.dc_recovery.specs.Halves.{half_end, budget_of}
+use Rattle.dc_recovery.specs.Stands.{IsReached}
+use Rattle.dc_recovery.proofs.reading.read_groups.Given as goal
+
+abbrev pub invariant-groups : goal.invariant-groups
+invariant-groups g l = record {
+  reached : g.D.Disk.honest → (half_len : ℕ) → l.limit ≡ half_end half_len l.fn.found.root.half → l.fn.found.house.budget ≡ budget_of half_len
+      → IsReached half_len l.fn.found.root l.fn.found.place l.fn.found.last l.fn.found.house.state (g.D.Disk.reads l.fn.disk)
+      → IsReached half_len l.found.root l.found.place l.found.last l.found.house.state (g.D.Disk.reads l.fn.disk);
+  root : l.found.root ≡ l.fn.found.root;
+  budget : l.found.house.budget ≡ l.fn.found.house.budget;
+  within : l.found.place ≤ l.limit;
+  reads : g.D.Disk.honest → g.D.Disk.reads l.disk ≡ g.D.Disk.reads l.fn.disk;
+  choices : g.D.Disk.honest → g.D.Disk.choices l.disk ≡ g.D.Disk.choices l.fn.disk;
+  any_moment : g.D.Disk.honest → LeavesOnly g.D.Disk.moment g.D.Disk.images_since l.fn.disk l.disk (IsImage (g.D.Disk.choices l.fn.disk));
+  count : g.D.Disk.sectors l.disk ≡ g.D.Disk.sectors l.fn.disk;
+  failures : g.D.Disk.failures l.fn.disk ≤ g.D.Disk.failures l.disk;
+}
+
+abbrev pub decreases-groups : goal.decreases-groups
+decreases-groups g l = l.limit - l.found.place

@@ -1,0 +1,39 @@
+use Rattle.std.proofs.Common.{◌≡◌, ◌∙◌, ap, sym, subst}
+use Rattle.dc_sectors.specs.Disk.{Image}
+use Rattle.dc_roots.specs.declared.root.Root.{Root}
+use Rattle.dc_recovery.specs.Halves.{half_end}
+use Rattle.dc_recovery.specs.Stands.{IsCurrent, IsReached, IsRead}
+use Rattle.dc_recovery.proofs.ReadMoments.{read_on}
+use Rattle.dc_recovery.proofs.reading.read_image.Goals as goal
+
+pub returns-in_err-found-clause-any_moment : goal.returns-in_err-found-clause-any_moment
+returns-in_err-found-clause-any_moment g c h =
+    read_on g.D.Disk.moment g.D.Disk.images_since g.D.Disk.choices c.args.disk.now c.current_root.new.disk c.read_base.new.disk (c.current_root.ensures.any_moment h) (c.current_root.ensures.choices h) (c.read_base.ensures.any_moment h)
+
+pub returns-in_err-read_groups-clause-any_moment : goal.returns-in_err-read_groups-clause-any_moment
+returns-in_err-read_groups-clause-any_moment g c h =
+    read_on g.D.Disk.moment g.D.Disk.images_since g.D.Disk.choices c.args.disk.now c.read_base.new.disk c.read_groups.new.disk
+    (read_on g.D.Disk.moment g.D.Disk.images_since g.D.Disk.choices c.args.disk.now c.current_root.new.disk c.read_base.new.disk (c.current_root.ensures.any_moment h) (c.current_root.ensures.choices h) (c.read_base.ensures.any_moment h))
+    (c.read_base.ensures.choices h ∙ c.current_root.ensures.choices h) (c.read_groups.ensures.any_moment h)
+
+pub returns-clause-any_moment : goal.returns-clause-any_moment
+returns-clause-any_moment g c h =
+    read_on g.D.Disk.moment g.D.Disk.images_since g.D.Disk.choices c.args.disk.now c.read_base.new.disk c.read_groups.new.disk
+    (read_on g.D.Disk.moment g.D.Disk.images_since g.D.Disk.choices c.args.disk.now c.current_root.new.disk c.read_base.new.disk (c.current_root.ensures.any_moment h) (c.current_root.ensures.choices h) (c.read_base.ensures.any_moment h))
+    (c.read_base.ensures.choices h ∙ c.current_root.ensures.choices h) (c.read_groups.ensures.any_moment h)
+
+pub returns-clause-all : goal.returns-clause-all
+returns-clause-all g c h =
+    let H = c.args.half_len in
+    let old = g.D.Disk.reads c.args.disk.now in
+    let chosen : g.D.Disk.reads c.current_root.new.disk ≡ old = c.current_root.ensures.reads h in
+    let based : g.D.Disk.reads c.read_base.new.disk ≡ g.D.Disk.reads c.current_root.new.disk = c.read_base.ensures.reads h in
+    let root = c.in_ok-root.root in
+    let found = c.in_ok-found.found in
+    let same_root : found.root ≡ root = c.in_ok-found.ensures.root in
+    let current = subst (λ (i : Image). IsCurrent H root i) (sym chosen) (c.in_ok-root.ensures.current h) in
+    let reached = subst (λ (i : Image). IsReached H root found.place found.last found.house.state i) (sym based) (c.in_ok-found.ensures.reached h current) in
+    let reached' = subst (λ (r : Root). IsReached H r found.place found.last found.house.state (g.D.Disk.reads c.read_base.new.disk)) (sym same_root) reached in
+    let at_limit = c.half_end-limit.ensures.exact ∙ ap (λ (r : Root). half_end H r.half) (sym same_root) in
+    let now = c.read_groups.new.found in
+    subst (λ (i : Image). IsRead H now.root now.place now.last now.house.state i) (based ∙ chosen) (c.in_ok-read_groups.ensures.all h H at_limit c.in_ok-found.ensures.budget reached')

@@ -1,0 +1,47 @@
+use Rattle.std.proofs.Common.{◌≡◌, ◌≤◌, ℕ, ap, subst, sym, ◌∙◌, refl}
+use Rattle.dc_sectors.specs.Disk.{LeavesOnly}
+use Rattle.dc_recovery.specs.Halves.{half_len_of}
+use Rattle.dc_recovery.specs.Stands.{EachStands, StandsForOne, IsReady}
+use Rattle.dc_recovery.specs.Refusal.{IsRefused, IsWorn}
+use Rattle.dc_recovery.proofs.Refusals.{stands_or_refused}
+use Rattle.dc_recovery.proofs.store.Store.open.Goals as goal
+
+pub returns-in-Ok-clause-kept : goal.returns-in-Ok-clause-kept
+returns-in-Ok-clause-kept g c h each =
+    let found = c.in-Ok.found in
+    let disk = c.open_on.new.disk in
+    let at : c.half_len_of.result ≡ half_len_of (g.D.Disk.sectors c.args.disk) = c.half_len_of.ensures.exact ∙ ap half_len_of c.count-count.ensures in
+    let same : c.half_len_of.result ≡ half_len_of (g.D.Disk.sectors disk) = at ∙ ap half_len_of (sym c.open_on.ensures.count) in
+    let ready = c.in-Ok.ensures.ready h (subst (λ (n : ℕ). EachStands n (g.D.Disk.choices c.args.disk)) (sym at) each) in
+    record {
+      running = refl;
+      is_settled = c.in-Ok.ensures.durable h;
+      m = ready.0;
+      ready = subst (λ (n : ℕ). IsReady n found.root ready.0 found.place found.house.state (g.D.Disk.reads disk)) same ready.1;
+      last_is = ready.2;
+    }
+
+pub returns-in-Ok-clause-any_moment : goal.returns-in-Ok-clause-any_moment
+returns-in-Ok-clause-any_moment g c h each =
+    let at : c.half_len_of.result ≡ half_len_of (g.D.Disk.sectors c.args.disk) = c.half_len_of.ensures.exact ∙ ap half_len_of c.count-count.ensures in
+    subst (λ (n : ℕ). LeavesOnly g.D.Disk.moment g.D.Disk.images_since c.args.disk c.open_on.new.disk (StandsForOne n (g.D.Disk.choices c.args.disk))) at
+    (c.open_on.ensures.any_moment h (subst (λ (n : ℕ). EachStands n (g.D.Disk.choices c.args.disk)) (sym at) each))
+
+pub returns-in-Err-clause-any_moment : goal.returns-in-Err-clause-any_moment
+returns-in-Err-clause-any_moment g c h each =
+    let at : c.half_len_of.result ≡ half_len_of (g.D.Disk.sectors c.args.disk) = c.half_len_of.ensures.exact ∙ ap half_len_of c.count-count.ensures in
+    subst (λ (n : ℕ). LeavesOnly g.D.Disk.moment g.D.Disk.images_since c.args.disk c.open_on.new.disk (StandsForOne n (g.D.Disk.choices c.args.disk))) at
+    (c.open_on.ensures.any_moment h (subst (λ (n : ℕ). EachStands n (g.D.Disk.choices c.args.disk)) (sym at) each))
+
+pub returns-in-Ok-clause-not_worn : goal.returns-in-Ok-clause-not_worn
+returns-in-Ok-clause-not_worn g c h worn =
+    let at : c.half_len_of.result ≡ half_len_of (g.D.Disk.sectors c.args.disk) = c.half_len_of.ensures.exact ∙ ap half_len_of c.count-count.ensures in
+    c.in-Ok.ensures.not_worn h (subst (λ (n : ℕ). IsWorn n (g.D.Disk.reads c.args.disk)) (sym at) worn)
+
+pub returns-in-Err-clause-premise : goal.returns-in-Err-clause-premise
+returns-in-Err-clause-premise g c h enough each tells =
+    let disk = c.args.disk in
+    let at : c.half_len_of.result ≡ half_len_of (g.D.Disk.sectors disk) = c.half_len_of.ensures.exact ∙ ap half_len_of c.count-count.ensures in
+    let one = each (g.D.Disk.reads disk) (g.met.D.Disk.reads_a_choice h disk) in
+    stands_or_refused (half_len_of (g.D.Disk.sectors disk)) (subst (λ (n : ℕ). n ≤ 65536) at c.half_len_of.ensures.most) (g.D.Disk.reads disk) one.0 c.in-Err.fault tells
+    (subst (λ (n : ℕ). IsRefused n (g.D.Disk.reads disk) c.in-Err.fault) at (c.in-Err.ensures.refused h)) one.1

@@ -1,0 +1,104 @@
+-- Why an image isn't opened, as a fact of the image: this product's image format. Opening looks at the roots, at the version
+-- and the half length of the one in force, at the base group, and then at each group of changes; the first step that fails is answered.
+use Rattle.std.specs.Prelude.{◌≡◌, ◌≢◌, ◌⊎◌, ◌≤◌, ◌^◌, ◌-◌, ℕ, suc, ◌+◌, List, Some, None}
+use Rattle.dc_sectors.specs.Disk.{Image}
+use Rattle.dc_roots.specs.declared.root.Root.{Root}
+use Rattle.dc_roots.specs.Root.{slot}
+use Rattle.dc_roots.specs.Choice.{IsChosen, IsRootless}
+use Rattle.dc_pages.specs.Group.{base_kind, change_kind, IsGroup}
+use Rattle.dc_pages.specs.Reading.{IsCutAt}
+use Rattle.dc_recovery.specs.declared.fault.OpenFault.{OpenFault}
+use Rattle.dc_recovery.specs.declared.fault.OpenFault.TheVariants.{NotImage, Damaged, Version, Worn, Device, NoMemory}
+use Rattle.dc_recovery.specs.Halves.{half_start, half_end, budget_of}
+use Rattle.dc_recovery.specs.Language.{State, Change, SpellsState, SpellsChanges, AcceptsAll}
+use Rattle.dc_recovery.specs.Stands.{image_version, IsSequence, IsCurrent, Holds, ReadsBy, Reads}
+
+-- a root slot can't be read, and no other root is there
+pub record HasNoRoot (n : ℕ) (image : Image) : Type 0 where
+  pub rootless : IsRootless (Some n) image
+
+-- the root in force is for halves of another length
+pub record HasOtherLength (half_len n : ℕ) (image : Image) : Type 0 where
+  pub root : Root
+  pub chosen : IsChosen root image
+  pub version : root.version ≡ image_version
+  pub other_length : root.half_len ≢ half_len
+  pub at : n ≡ slot root.generation
+
+-- the base group isn't complete, and that sector is the first that doesn't fit
+pub record HasNoBase (half_len n : ℕ) (image : Image) : Type 0 where
+  pub root : Root
+  pub current : IsCurrent half_len root image
+  pub cut : IsCutAt image_version base_kind root.base_sequence (half_start half_len root.half) (half_end half_len root.half) n image
+
+-- the base group is complete and spells no state
+pub record HasBadBase (half_len n : ℕ) (image : Image) : Type 0 where
+  pub root : Root
+  pub current : IsCurrent half_len root image
+  pub session : ℕ
+  pub pages : ℕ
+  pub payload : List ℕ
+  pub group : IsGroup image_version base_kind session root.base_sequence payload pages (half_start half_len root.half) (half_end half_len root.half) image
+  pub no_state : (state : State) → SpellsState (budget_of half_len) payload state → ⊥
+  pub at : n ≡ half_start half_len root.half
+
+-- a complete group of changes, behind those that could be read, spells no changes that are accepted in turn
+pub record HasBadGroup (half_len n : ℕ) (image : Image) : Type 0 where
+  pub root : Root
+  pub current : IsCurrent half_len root image
+  pub m : ℕ
+  pub state : State
+  pub before : Holds half_len root image m n state
+  pub is_sequence : IsSequence (root.base_sequence + suc m)
+  pub session : ℕ
+  pub pages : ℕ
+  pub payload : List ℕ
+  pub group : IsGroup image_version change_kind session (root.base_sequence + suc m) payload pages n (half_end half_len root.half) image
+  pub no_changes : (changes : List Change) → SpellsChanges payload changes → AcceptsAll (budget_of half_len) state changes → ⊥
+
+abbrev pub IsDamagedAt : ℕ → ℕ → Image → Type 0
+IsDamagedAt half_len n image =
+    (((HasNoRoot n image ⊎ HasOtherLength half_len n image) ⊎ HasNoBase half_len n image) ⊎ HasBadBase half_len n image) ⊎ HasBadGroup half_len n image
+
+-- the root in force is of another version
+pub record HasOtherVersion (image : Image) : Type 0 where
+  pub root : Root
+  pub chosen : IsChosen root image
+  pub other_version : root.version ≢ image_version
+
+-- the image can be read, and its root has no next generation or no next session
+pub record IsWorn (half_len : ℕ) (image : Image) : Type 0 where
+  pub root : Root
+  pub m : ℕ
+  pub place : ℕ
+  pub state : State
+  pub by : ReadsBy half_len root m place state image
+  pub full : (root.generation ≡ 2 ^ 64 - 1) ⊎ (root.session ≡ 2 ^ 64 - 1)
+
+-- why reading the image stops; a device may always fail, and memory may always be refused
+abbrev pub IsRefused : ℕ → Image → OpenFault → Type 0
+IsRefused half_len image NotImage = IsRootless None image
+IsRefused half_len image (Damaged n) = IsDamagedAt half_len n image
+IsRefused half_len image Version = HasOtherVersion image
+IsRefused half_len image Worn = IsWorn half_len image
+IsRefused half_len image Device = Unit {0}
+IsRefused half_len image NoMemory = Unit {0}
+
+-- what a fault says of the image; a device may always fail, and memory may always be refused
+abbrev pub TellsOfImage : OpenFault → Type 0
+TellsOfImage NotImage = Unit {0}
+TellsOfImage (Damaged n) = Unit {0}
+TellsOfImage Version = Unit {0}
+TellsOfImage Worn = Unit {0}
+TellsOfImage Device = ⊥
+TellsOfImage NoMemory = ⊥
+
+-- WHAT IS PROMISED, each by the lemma that is named beside it
+
+-- An image has one refusal: where a fault's fact stands, no other's does (one_refusal).
+abbrev pub OneRefusal : Type 0
+OneRefusal = (half_len : ℕ) → half_len ≤ 65536 → (image : Image) (f g : OpenFault) → TellsOfImage f → TellsOfImage g → IsRefused half_len image f → IsRefused half_len image g → f ≡ g
+
+-- An image that reads as a state is refused only as worn (read_or_refused).
+abbrev pub RefusedIsNotRead : Type 0
+RefusedIsNotRead = (half_len : ℕ) → half_len ≤ 65536 → (image : Image) (state : State) (f : OpenFault) → TellsOfImage f → IsRefused half_len image f → Reads half_len state image → f ≡ Worn

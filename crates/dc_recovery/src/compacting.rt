@@ -1,0 +1,69 @@
+//! Writing the whole state into the other half.
+
+ghost use Rattle.std.specs.Prelude.{◌≡◌, ◌<◌, ◌≤◌, ◌+◌, ◌-◌, ◌*◌, ◌^◌, ℕ, zero, suc, IfOk, OnOk, OnErr};
+ghost use Rattle.dc_base.specs.Failures.{HasRisen};
+ghost use Rattle.dc_sectors.specs.Disk.{LeavesOnly, settled};
+ghost use Rattle.dc_recovery.specs.Halves.{half_end, budget_of};
+ghost use Rattle.dc_recovery.specs.Roots.{compacted};
+ghost use Rattle.dc_recovery.specs.Stands.{IsReady, Stands};
+
+use crate::halves::{half_end, half_start};
+use crate::reading::BASE;
+use crate::rooting::put_root;
+use crate::writing::{Place, write_state};
+use dc_meters::House;
+use dc_pages::Stamp;
+use dc_roots::Root;
+use dc_sectors::{Disk, Failed};
+use std::alloc::Allocator;
+
+/// Writes a base group with the house's state into the other half and syncs, and then puts the root in force
+/// that names it. Answers that root, and the place of the next group.
+pub(crate) fn compact_into_other_half<A: Allocator + Copy, D: Disk>(
+    disk: &mut D,
+    root: &Root,
+    half_len: u32,
+    sequence: u64,
+    house: &House<A>,
+) -> Result<(Root, u32), Failed>
+    requires half { root.now.half ≤ 1 }
+    requires some { 64 ≤ half_len }
+    requires most { half_len ≤ 65536 }
+    requires fits { 3 + 2 * half_len ≤ D.sectors disk.old }
+    requires generation { root.now.generation < 2 ^ 64 - 1 }
+    requires budget { house.now.budget ≤ budget_of half_len }
+    ensures ready { D.honest → D.choices disk.old ≡ settled (D.reads disk.old) → (m place : ℕ) → IsReady half_len root.now m place house.now.state (D.reads disk.old) → sequence ≡ root.now.base_sequence + suc m
+        → IfOk result (λ o. IsReady half_len o.0 zero o.1 house.now.state (D.reads disk.new)) }
+    ensures any_moment { D.honest → D.choices disk.old ≡ settled (D.reads disk.old) → (m place : ℕ) → IsReady half_len root.now m place house.now.state (D.reads disk.old) → sequence ≡ root.now.base_sequence + suc m
+        → LeavesOnly D.moment D.images_since disk.old disk.new (Stands half_len house.now.state) }
+    ensures durable { D.honest → OnOk result (D.choices disk.new ≡ settled (D.reads disk.new)) }
+    ensures root { IfOk result (λ o. o.0 ≡ compacted root.now sequence) }
+    ensures within { IfOk result (λ o. o.1 ≤ half_end half_len o.0.half) }
+    ensures count { D.sectors disk.new ≡ D.sectors disk.old }
+    ensures failures { D.failures disk.old ≤ D.failures disk.new }
+    ensures failed { OnErr result (HasRisen (D.failures disk.old) (D.failures disk.new)) }
+{
+    let _size = house.size(); // for what it says: the state is one within its budget
+    let half = 1 - root.half;
+    let to = Place {
+        at: half_start(half_len, half),
+        limit: half_end(half_len, half),
+        kind: BASE,
+        version: root.version,
+        stamp: Stamp {
+            session: root.session,
+            sequence,
+        },
+    };
+    let count = write_state(disk, to, house)?;
+    disk.sync()?;
+    let based = Root {
+        half,
+        base_sequence: sequence,
+        ..*root
+    };
+    match put_root(disk, &based) {
+        Ok(next) => Ok((next, to.at + count)),
+        Err(_) => Err(Failed),
+    }
+}

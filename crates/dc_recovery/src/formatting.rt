@@ -1,0 +1,112 @@
+//! Formatting a disk.
+
+ghost use Rattle.std.specs.Prelude.{◌≡◌, ◌<◌, ◌≤◌, ◌+◌, ◌*◌, ◌^◌, ◌↔◌, ℕ, OnOk, OnErr, IsErrOf};
+ghost use Rattle.dc_base.specs.Failures.{HasRisen};
+ghost use Rattle.dc_sectors.specs.Disk.{Image, settled};
+ghost use Rattle.dc_roots.specs.declared.root.Root.{Root};
+ghost use Rattle.dc_roots.specs.Choice.{HasRoot};
+ghost use Rattle.dc_recovery.specs.declared.fault.FormatFault.TheVariants.{TooSmall, AlreadyFormatted, Device};
+ghost use Rattle.dc_recovery.specs.Halves.{half_len_of};
+ghost use Rattle.dc_recovery.specs.Language.{empty_state};
+ghost use Rattle.dc_recovery.specs.Stands.{IsReadyFor, blank};
+
+use crate::FormatFault;
+use crate::halves::{FEWEST_SECTORS, half_end, half_len_of, half_start};
+use crate::reading::{BASE, VERSION};
+use crate::rooting::put_root;
+use crate::writing::{Place, write_group};
+use dc_pages::Stamp;
+use dc_roots::{Root, RootFault, choose};
+use dc_sectors::{Disk, Failed};
+
+/// The bytes that spell the empty register: the next serial is 1, and all else is nothing.
+const EMPTY: [u8; 33] = [
+    1, 0, 0, 0, 0, 0, 0, 0, 0, 0, 0, 0, 0, 0, 0, 0, 0, 0, 0, 0, 0, 0, 0, 0, 0, 0, 0, 0, 0, 0, 0, 0,
+    0,
+];
+
+/// Writes zeros to the sectors from 1 on, up to that one.
+fn blank_sectors<D: Disk>(disk: &mut D, end: u32) -> Result<(), Failed>
+    requires { end ≤ D.sectors disk.old }
+    ensures blank { D.honest → OnOk result ((k : ℕ) → 1 ≤ k → k < end → D.reads disk.new k ≡ blank) }
+    ensures count { D.sectors disk.new ≡ D.sectors disk.old }
+    ensures failures { D.failures disk.old ≤ D.failures disk.new }
+    ensures failed { OnErr result (HasRisen (D.failures disk.old) (D.failures disk.new)) }
+{
+    let zeros = [0; 512];
+    for n in 1..end {
+        disk.write(n, &zeros)?;
+    }
+    Ok(())
+}
+
+/// Lays out an image of the empty register: zeros, the base group, and then the root.
+fn lay_out<D: Disk>(disk: &mut D, half_len: u32) -> Result<(), Failed>
+    requires some { 64 ≤ half_len }
+    requires most { half_len ≤ 65536 }
+    requires fits { 3 + 2 * half_len ≤ D.sectors disk.old }
+    ensures ready { D.honest → OnOk result (IsReadyFor half_len empty_state (D.reads disk.new)) }
+    ensures durable { D.honest → OnOk result (D.choices disk.new ≡ settled (D.reads disk.new)) }
+    ensures count { D.sectors disk.new ≡ D.sectors disk.old }
+    ensures failures { D.failures disk.old ≤ D.failures disk.new }
+    ensures failed { OnErr result (HasRisen (D.failures disk.old) (D.failures disk.new)) }
+{
+    blank_sectors(disk, half_end(half_len, 1))?;
+    disk.sync()?;
+    let to = Place {
+        at: half_start(half_len, 0),
+        limit: half_end(half_len, 0),
+        kind: BASE,
+        version: VERSION,
+        stamp: Stamp {
+            session: 1,
+            sequence: 1,
+        },
+    };
+    write_group(disk, to, &EMPTY)?;
+    disk.sync()?;
+    let root = Root {
+        version: VERSION,
+        half: 0,
+        generation: 0,
+        session: 1,
+        base_sequence: 1,
+        half_len,
+    };
+    match put_root(disk, &root) {
+        Ok(_) => Ok(()),
+        Err(_) => Err(Failed),
+    }
+}
+
+/// Formats a lent disk.
+pub(crate) fn format_on<D: Disk>(disk: &mut D) -> Result<(), FormatFault>
+    ensures too_small { IsErrOf result TooSmall ↔ (D.sectors disk.old < 131) }
+    ensures untouched { IsErrOf result TooSmall → disk.new ≡ disk.old }
+    ensures already { D.honest → IsErrOf result AlreadyFormatted → (root : Root) × HasRoot root (D.reads disk.old) }
+    ensures kept { D.honest → IsErrOf result AlreadyFormatted → D.reads disk.new ≡ D.reads disk.old }
+    ensures never_over { D.honest → (root : Root) → HasRoot root (D.reads disk.old) → OnOk result ⊥ }
+    ensures ready { D.honest → OnOk result (IsReadyFor (half_len_of (D.sectors disk.old)) empty_state (D.reads disk.new)) }
+    ensures durable { D.honest → OnOk result (D.choices disk.new ≡ settled (D.reads disk.new)) }
+    ensures device { IsErrOf result Device → HasRisen (D.failures disk.old) (D.failures disk.new) }
+    ensures count { D.sectors disk.new ≡ D.sectors disk.old }
+    ensures failures { D.failures disk.old ≤ D.failures disk.new }
+{
+    let count = disk.count();
+    if count < FEWEST_SECTORS {
+        return Err(FormatFault::TooSmall);
+    }
+    match disk.sync() {
+        Ok(()) => {}
+        Err(Failed) => return Err(FormatFault::Device),
+    }
+    match choose(disk) {
+        Ok(_) => return Err(FormatFault::AlreadyFormatted),
+        Err(RootFault::NoRoot(_)) => {}
+        Err(_) => return Err(FormatFault::Device),
+    }
+    match lay_out(disk, half_len_of(count)) {
+        Ok(()) => Ok(()),
+        Err(Failed) => Err(FormatFault::Device),
+    }
+}

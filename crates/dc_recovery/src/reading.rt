@@ -1,0 +1,212 @@
+//! Reading an image: from the root in force to the state.
+
+ghost use Rattle.std.specs.Prelude.{true, false, ◌≡◌, ◌≢◌, ◌⊎◌, ◌<◌, ◌≤◌, ◌+◌, ◌-◌, ◌*◌, ◌^◌, List, ℕ, zero, suc, IfOk, IfErr, OnOk, OnErr, IsErrOf};
+ghost use Rattle.dc_base.specs.Failures.{HasRisen};
+ghost use Rattle.dc_sectors.specs.Disk.{Image, IsImage, LeavesOnly};
+ghost use Rattle.dc_roots.specs.declared.root.Root.{Root};
+ghost use Rattle.dc_recovery.specs.declared.fault.OpenFault.{OpenFault};
+ghost use Rattle.dc_recovery.specs.declared.fault.OpenFault.TheVariants.{Device};
+ghost use Rattle.dc_recovery.specs.Halves.{half_end, budget_of};
+ghost use Rattle.dc_recovery.specs.Language.{State};
+ghost use Rattle.dc_recovery.specs.Stands.{image_version, IsSequence, IsCurrent, IsReached, IsRead, Holds, ReadsBy, Reads};
+ghost use Rattle.dc_pages.specs.Group.{change_kind, IsComplete};
+ghost use Rattle.dc_recovery.specs.Refusal.{IsRefused};
+
+use crate::OpenFault;
+use crate::halves::{budget_of, half_end, half_start};
+use dc_meters::{DecodeFault, House};
+use dc_pages::{GroupFault, read_group};
+use dc_roots::{Root, RootFault, choose};
+use dc_sectors::Disk;
+use std::alloc::Allocator;
+
+/// The kind of a base page.
+pub(crate) const BASE: u8 = 0x42;
+
+/// The kind of a change page.
+pub(crate) const CHANGES: u8 = 0x50;
+
+/// The version of the image's sectors.
+pub(crate) const VERSION: u8 = 2;
+
+/// Chooses the root in force, which has to be of this version and for halves of this length.
+fn current_root<D: Disk>(disk: &mut D, half_len: u32) -> Result<Root, OpenFault>
+    requires { 2 < D.sectors disk.old }
+    ensures current { D.honest → IfOk result (λ root. IsCurrent half_len root (D.reads disk.old)) }
+    ensures half { IfOk result (λ root. root.half ≤ 1) }
+    ensures refused { D.honest → IfErr result (λ fault. IsRefused half_len (D.reads disk.old) fault) }
+    ensures device { IsErrOf result Device → HasRisen (D.failures disk.old) (D.failures disk.new) }
+    ensures reads { D.honest → D.reads disk.new ≡ D.reads disk.old }
+    ensures choices { D.honest → D.choices disk.new ≡ D.choices disk.old }
+    ensures any_moment { D.honest → LeavesOnly D.moment D.images_since disk.old disk.new (IsImage (D.choices disk.old)) }
+    ensures count { D.sectors disk.new ≡ D.sectors disk.old }
+    ensures failures { D.failures disk.old ≤ D.failures disk.new }
+{
+    match choose(disk) {
+        Ok(root) => {
+            if root.version != VERSION {
+                Err(OpenFault::Version)
+            } else if root.half_len != half_len {
+                Err(OpenFault::Damaged(1 + (root.generation % 2) as u32))
+            } else {
+                Ok(root)
+            }
+        }
+        Err(RootFault::NoRoot(None)) => Err(OpenFault::NotImage),
+        Err(RootFault::NoRoot(Some(slot))) => Err(OpenFault::Damaged(slot)),
+        Err(RootFault::Worn) | Err(RootFault::Device) => Err(OpenFault::Device),
+    }
+}
+
+/// What was read so far: the root in force, the state, the place of the next group, and the sequence of the last one.
+#[derive(Drop)]
+pub(crate) struct Found<A: Allocator + Copy> {
+    pub root: Root,
+    pub house: House<A>,
+    pub place: u32,
+    pub last: u64,
+}
+
+/// Reads the base group of the root in force.
+fn read_base<A: Allocator + Copy, D: Disk>(
+    alloc: A,
+    disk: &mut D,
+    root: Root,
+    half_len: u32,
+) -> Result<Found<A>, OpenFault>
+    requires half { root.half ≤ 1 }
+    requires most { half_len ≤ 65536 }
+    requires fits { 3 + 2 * half_len ≤ D.sectors disk.old }
+    ensures reached { D.honest → IsCurrent half_len root (D.reads disk.old) → IfOk result (λ found. IsReached half_len root found.place found.last found.house.state (D.reads disk.old)) }
+    ensures root { IfOk result (λ found. found.root ≡ root) }
+    ensures budget { IfOk result (λ found. found.house.budget ≡ budget_of half_len) }
+    ensures within { IfOk result (λ found. found.place ≤ half_end half_len root.half) }
+    ensures refused { D.honest → IsCurrent half_len root (D.reads disk.old) → IfErr result (λ fault. IsRefused half_len (D.reads disk.old) fault) }
+    ensures device { IsErrOf result Device → HasRisen (D.failures disk.old) (D.failures disk.new) }
+    ensures reads { D.honest → D.reads disk.new ≡ D.reads disk.old }
+    ensures choices { D.honest → D.choices disk.new ≡ D.choices disk.old }
+    ensures any_moment { D.honest → LeavesOnly D.moment D.images_since disk.old disk.new (IsImage (D.choices disk.old)) }
+    ensures count { D.sectors disk.new ≡ D.sectors disk.old }
+    ensures failures { D.failures disk.old ≤ D.failures disk.new }
+{
+    let start = half_start(half_len, root.half);
+    let limit = half_end(half_len, root.half);
+    let group = match read_group(alloc, disk, start, limit, BASE, VERSION, root.base_sequence) {
+        Ok(group) => group,
+        Err(GroupFault::Incomplete(sector)) => return Err(OpenFault::Damaged(sector)),
+        Err(GroupFault::Device) => return Err(OpenFault::Device),
+        Err(GroupFault::NoMemory) => return Err(OpenFault::NoMemory),
+    };
+    match House::decode(alloc, group.payload.as_slice(), budget_of(half_len)) {
+        Ok(house) => Ok(Found {
+            root,
+            house,
+            place: start + group.sectors,
+            last: root.base_sequence,
+        }),
+        Err(DecodeFault::Bad) => Err(OpenFault::Damaged(start)),
+        Err(DecodeFault::NoMemory) => Err(OpenFault::NoMemory),
+    }
+}
+
+/// Reads the next group of changes, where one is complete, and answers whether one was.
+fn read_next<A: Allocator + Copy, D: Disk>(
+    alloc: A,
+    disk: &mut D,
+    found: &mut Found<A>,
+    limit: u32,
+) -> Result<bool, OpenFault>
+    requires within { found.old.place ≤ limit }
+    requires fits { limit ≤ D.sectors disk.old }
+    ensures more { D.honest → (half_len : ℕ) → limit ≡ half_end half_len found.old.root.half → found.old.house.budget ≡ budget_of half_len
+        → IsReached half_len found.old.root found.old.place found.old.last found.old.house.state (D.reads disk.old)
+        → OnOk result (IsReached half_len found.new.root found.new.place found.new.last found.new.house.state (D.reads disk.old)) }
+    ensures none { D.honest → result ≡ Ok false → (sequence : ℕ) → sequence ≡ found.new.last + 1 → IsSequence sequence → IsComplete image_version change_kind sequence found.new.place limit (D.reads disk.old) → ⊥ }
+    ensures refused { D.honest → (half_len : ℕ) → limit ≡ half_end half_len found.old.root.half → found.old.house.budget ≡ budget_of half_len
+        → IsReached half_len found.old.root found.old.place found.old.last found.old.house.state (D.reads disk.old)
+        → IfErr result (λ fault. IsRefused half_len (D.reads disk.old) fault) }
+    ensures further { result ≡ Ok true → found.old.place < found.new.place }
+    ensures within { OnOk result (found.new.place ≤ limit) }
+    ensures kept { (found.new.root ≡ found.old.root) × (found.new.house.budget ≡ found.old.house.budget) }
+    ensures device { IsErrOf result Device → HasRisen (D.failures disk.old) (D.failures disk.new) }
+    ensures reads { D.honest → D.reads disk.new ≡ D.reads disk.old }
+    ensures choices { D.honest → D.choices disk.new ≡ D.choices disk.old }
+    ensures any_moment { D.honest → LeavesOnly D.moment D.images_since disk.old disk.new (IsImage (D.choices disk.old)) }
+    ensures count { D.sectors disk.new ≡ D.sectors disk.old }
+    ensures failures { D.failures disk.old ≤ D.failures disk.new }
+{
+    if found.last == u64::MAX {
+        return Ok(false);
+    }
+    let next = found.last + 1;
+    let group = match read_group(alloc, disk, found.place, limit, CHANGES, VERSION, next) {
+        Ok(group) => group,
+        Err(GroupFault::Incomplete(_)) => return Ok(false),
+        Err(GroupFault::Device) => return Err(OpenFault::Device),
+        Err(GroupFault::NoMemory) => return Err(OpenFault::NoMemory),
+    };
+    match found.house.replay(group.payload.as_slice()) {
+        Ok(()) => {}
+        Err(DecodeFault::Bad) => return Err(OpenFault::Damaged(found.place)),
+        Err(DecodeFault::NoMemory) => return Err(OpenFault::NoMemory),
+    }
+    found.place += group.sectors;
+    found.last = next;
+    Ok(true)
+}
+
+/// Reads the groups of changes that follow, as long as they are complete.
+fn read_groups<A: Allocator + Copy, D: Disk>(
+    alloc: A,
+    disk: &mut D,
+    found: &mut Found<A>,
+    limit: u32,
+) -> Result<(), OpenFault>
+    requires within { found.old.place ≤ limit }
+    requires fits { limit ≤ D.sectors disk.old }
+    ensures all { D.honest → (half_len : ℕ) → limit ≡ half_end half_len found.old.root.half → found.old.house.budget ≡ budget_of half_len
+        → IsReached half_len found.old.root found.old.place found.old.last found.old.house.state (D.reads disk.old)
+        → OnOk result (IsRead half_len found.new.root found.new.place found.new.last found.new.house.state (D.reads disk.old)) }
+    ensures refused { D.honest → (half_len : ℕ) → limit ≡ half_end half_len found.old.root.half → found.old.house.budget ≡ budget_of half_len
+        → IsReached half_len found.old.root found.old.place found.old.last found.old.house.state (D.reads disk.old)
+        → IfErr result (λ fault. IsRefused half_len (D.reads disk.old) fault) }
+    ensures within { OnOk result (found.new.place ≤ limit) }
+    ensures root { found.new.root ≡ found.old.root }
+    ensures budget { found.new.house.budget ≡ found.old.house.budget }
+    ensures device { IsErrOf result Device → HasRisen (D.failures disk.old) (D.failures disk.new) }
+    ensures reads { D.honest → D.reads disk.new ≡ D.reads disk.old }
+    ensures choices { D.honest → D.choices disk.new ≡ D.choices disk.old }
+    ensures any_moment { D.honest → LeavesOnly D.moment D.images_since disk.old disk.new (IsImage (D.choices disk.old)) }
+    ensures count { D.sectors disk.new ≡ D.sectors disk.old }
+    ensures failures { D.failures disk.old ≤ D.failures disk.new }
+{
+    'groups: while read_next(alloc, disk, found, limit)? {}
+    Ok(())
+}
+
+/// Reads the whole image: from the root in force to the state.
+pub(crate) fn read_image<A: Allocator + Copy, D: Disk>(
+    alloc: A,
+    disk: &mut D,
+    half_len: u32,
+) -> Result<Found<A>, OpenFault>
+    requires most { half_len ≤ 65536 }
+    requires fits { 3 + 2 * half_len ≤ D.sectors disk.old }
+    ensures all { D.honest → IfOk result (λ found. IsRead half_len found.root found.place found.last found.house.state (D.reads disk.old)) }
+    ensures refused { D.honest → IfErr result (λ fault. IsRefused half_len (D.reads disk.old) fault) }
+    ensures budget { IfOk result (λ found. found.house.budget ≡ budget_of half_len) }
+    ensures half { IfOk result (λ found. found.root.half ≤ 1) }
+    ensures within { IfOk result (λ found. found.place ≤ half_end half_len found.root.half) }
+    ensures device { IsErrOf result Device → HasRisen (D.failures disk.old) (D.failures disk.new) }
+    ensures reads { D.honest → D.reads disk.new ≡ D.reads disk.old }
+    ensures choices { D.honest → D.choices disk.new ≡ D.choices disk.old }
+    ensures any_moment { D.honest → LeavesOnly D.moment D.images_since disk.old disk.new (IsImage (D.choices disk.old)) }
+    ensures count { D.sectors disk.new ≡ D.sectors disk.old }
+    ensures failures { D.failures disk.old ≤ D.failures disk.new }
+{
+    let root = current_root(disk, half_len)?;
+    let mut found = read_base(alloc, disk, root, half_len)?;
+    let limit = half_end(half_len, root.half);
+    read_groups(alloc, disk, &mut found, limit)?;
+    Ok(found)
+}

@@ -1,0 +1,37 @@
+//! Putting the next root in force.
+
+ghost use Rattle.std.specs.Prelude.{◌≡◌, ◌<◌, ◌≤◌, ◌-◌, ◌^◌, ◌↔◌, ℕ, Option, IfOk, OnOk, IsErrOf};
+ghost use Rattle.dc_base.specs.Failures.{HasRisen};
+ghost use Rattle.dc_sectors.specs.Disk.{LeavesOnly, settled};
+ghost use Rattle.dc_roots.specs.Root.{next_of};
+ghost use Rattle.dc_roots.specs.Choice.{IsRootWrite};
+ghost use Rattle.dc_recovery.specs.Roots.{IsRootDone};
+
+use dc_roots::{Root, RootFault, write_next};
+use dc_sectors::{Disk, Failed};
+
+/// Writes that root with its generation + 1 into the other slot, and syncs. Until then the old root or the
+/// next one is in force.
+pub(crate) fn put_root<D: Disk>(disk: &mut D, root: &Root) -> Result<Root, RootFault>
+    requires slots { 2 < D.sectors disk.old }
+    requires half { root.now.half ≤ 1 }
+    ensures next { IfOk result (λ next. next ≡ next_of root.now) }
+    ensures worn { IsErrOf result RootFault.Worn ↔ (root.now.generation ≡ 2 ^ 64 - 1) }
+    ensures unchanged { IsErrOf result RootFault.Worn → disk.new ≡ disk.old }
+    ensures not_rootless { (unreadable : Option ℕ) → IsErrOf result (RootFault.NoRoot unreadable) → ⊥ }
+    ensures done { D.honest → D.choices disk.old ≡ settled (D.reads disk.old) → OnOk result (IsRootDone (next_of root.now) (D.reads disk.old) (D.reads disk.new)) }
+    ensures durable { D.honest → OnOk result (D.choices disk.new ≡ settled (D.reads disk.new)) }
+    ensures any_moment { D.honest → D.choices disk.old ≡ settled (D.reads disk.old) → LeavesOnly D.moment D.images_since disk.old disk.new (IsRootWrite (next_of root.now) (D.reads disk.old)) }
+    ensures device { IsErrOf result RootFault.Device → HasRisen (D.failures disk.old) (D.failures disk.new) }
+    ensures count { D.sectors disk.new ≡ D.sectors disk.old }
+    ensures failures { D.failures disk.old ≤ D.failures disk.new }
+{
+    if root.generation == u64::MAX {
+        return Err(RootFault::Worn);
+    }
+    let next = write_next(disk, root)?;
+    match disk.sync() {
+        Ok(()) => Ok(next),
+        Err(Failed) => Err(RootFault::Device),
+    }
+}

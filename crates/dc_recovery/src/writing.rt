@@ -1,0 +1,88 @@
+//! Writing a group, without the sync that makes it durable.
+
+ghost use Rattle.std.specs.Prelude.{◌≡◌, ◌<◌, ◌≤◌, ◌+◌, ◌*◌, length, IfOk, OnOk, OnErr};
+ghost use Rattle.dc_base.specs.Failures.{HasRisen};
+ghost use Rattle.dc_sectors.specs.Disk.{LeavesOnly, settled};
+ghost use Rattle.dc_pages.specs.Streaming.{GoesInto, BreaksOff};
+ghost use Rattle.dc_recovery.specs.Language.{state_bytes};
+ghost use Rattle.dc_recovery.specs.Writing.{IsAttempt, IsWritten};
+
+use dc_meters::House;
+use dc_pages::{GroupSink, GroupWriter, Stamp};
+use dc_records::IoFault;
+use dc_sectors::{Disk, Failed};
+use std::alloc::Allocator;
+
+/// Where a group goes: its first sector, the number behind the half's last one, its kind and its stamp.
+#[derive(Clone, Copy)]
+pub(crate) struct Place {
+    pub at: u32,
+    pub limit: u32,
+    pub kind: u8,
+    pub version: u8,
+    pub stamp: Stamp,
+}
+
+/// Writes a group with these bytes, and answers how many sectors it has.
+pub(crate) fn write_group<D: Disk>(disk: &mut D, to: Place, bytes: &[u8]) -> Result<u32, Failed>
+    requires some { 0 < length bytes.now }
+    requires room { 488 * to.at + length bytes.now + 488 ≤ 488 * to.limit }
+    requires limit { to.limit ≤ D.sectors disk.old }
+    ensures written { D.honest → D.choices disk.old ≡ settled (D.reads disk.old)
+        → IfOk result (λ count. IsWritten to.version to.kind to.stamp.session to.stamp.sequence bytes.now to.at to.limit count (D.reads disk.old) (D.reads disk.new)) }
+    ensures any_moment { D.honest → D.choices disk.old ≡ settled (D.reads disk.old)
+        → LeavesOnly D.moment D.images_since disk.old disk.new (IsAttempt to.version to.kind to.stamp.session to.stamp.sequence bytes.now to.at to.limit (D.reads disk.old)) }
+    ensures within { IfOk result (λ count. to.at + count ≤ to.limit) }
+    ensures count { D.sectors disk.new ≡ D.sectors disk.old }
+    ensures failures { D.failures disk.old ≤ D.failures disk.new }
+    ensures failed { OnErr result (HasRisen (D.failures disk.old) (D.failures disk.new)) }
+{
+    let mut writer = GroupWriter::begin(to.at, to.limit, to.stamp, to.kind, to.version);
+    writer.put(disk, bytes)?;
+    let count = writer.finish(disk)?;
+    Ok(count)
+}
+
+// The house's bytes go into the group, piece by piece.
+fn encode_into<A: Allocator + Copy, D: Disk>(
+    sink: &mut GroupSink<'_, D>,
+    house: &House<A>,
+) -> Result<(), Failed>
+    ensures same_reference { sink.new.disk.ghost_name ≡ sink.old.disk.ghost_name }
+    ensures goes_into { OnOk result (GoesInto D.honest D.reads D.choices D.moment D.images_since D.sectors D.failures sink.old.disk.now sink.new.disk.now sink.old.writer sink.new.writer (state_bytes house.now.state)) }
+    ensures breaks_off { OnErr result (BreaksOff D.honest D.reads D.choices D.moment D.images_since D.sectors D.failures sink.old.disk.now sink.new.disk.now sink.old.writer (state_bytes house.now.state)) }
+{
+    match house.encode(sink) {
+        Ok(()) => Ok(()),
+        Err(IoFault) => Err(Failed),
+    }
+}
+
+/// Writes a group with the bytes that spell a house's state, and answers how many sectors it has.
+pub(crate) fn write_state<A: Allocator + Copy, D: Disk>(
+    disk: &mut D,
+    to: Place,
+    house: &House<A>,
+) -> Result<u32, Failed>
+    requires some { 0 < length (state_bytes house.now.state) }
+    requires room { 488 * to.at + length (state_bytes house.now.state) + 488 ≤ 488 * to.limit }
+    requires limit { to.limit ≤ D.sectors disk.old }
+    ensures written { D.honest → D.choices disk.old ≡ settled (D.reads disk.old)
+        → IfOk result (λ count. IsWritten to.version to.kind to.stamp.session to.stamp.sequence (state_bytes house.now.state) to.at to.limit count (D.reads disk.old) (D.reads disk.new)) }
+    ensures any_moment { D.honest → D.choices disk.old ≡ settled (D.reads disk.old)
+        → LeavesOnly D.moment D.images_since disk.old disk.new (IsAttempt to.version to.kind to.stamp.session to.stamp.sequence (state_bytes house.now.state) to.at to.limit (D.reads disk.old)) }
+    ensures within { IfOk result (λ count. to.at + count ≤ to.limit) }
+    ensures count { D.sectors disk.new ≡ D.sectors disk.old }
+    ensures failures { D.failures disk.old ≤ D.failures disk.new }
+    ensures failed { OnErr result (HasRisen (D.failures disk.old) (D.failures disk.new)) }
+{
+    let mut sink = GroupSink {
+        disk,
+        writer: GroupWriter::begin(to.at, to.limit, to.stamp, to.kind, to.version),
+        failures: 0,
+    };
+    encode_into(&mut sink, house)?;
+    let GroupSink { disk, writer, .. } = sink;
+    let count = writer.finish(disk)?;
+    Ok(count)
+}
