@@ -11,3 +11,6 @@ append_none None = refl
 append_none (Some xs) = ap Some (append-nil xs)
 
 pub ruleset written = (append_more, append_none)
+
+pub regroup : (a b c : List ℕ) → (a ++ b) ++ c ≡ a ++ (b ++ c)
+regroup a b c = append_assoc a b c

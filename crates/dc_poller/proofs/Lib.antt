@@ -5,8 +5,11 @@ pub mod Inputs
 pub mod Known
 pub mod Pairs
 pub mod Placed
+pub mod Readings
 pub mod Records
 pub mod Solid
 pub mod Spelled
+pub mod Steps
+pub mod Telegrams
 pub mod Turns
 pub mod Values

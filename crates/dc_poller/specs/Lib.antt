@@ -1,8 +1,10 @@
 -- the definitions that contracts cite
 pub mod Fault
+pub mod Fold
 pub mod Frames
 pub mod Hex
 pub mod Lines
+pub mod Register
 pub mod Seen
 pub mod Telegram
 pub mod Text

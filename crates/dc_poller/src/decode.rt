@@ -1,6 +1,6 @@
 //! The engine of `decode`: from a source's lines of hex digits to a sink's text.
 
-ghost use Rattle.std.specs.Prelude.{◌≡◌, ◌≢◌, ◌<◌, ◌≤◌, [], length, take, vec_len, Some, None, MatchOption, IfSome, IfOk, IfErr, OnOk, OnErr, IsErrOf};
+ghost use Rattle.std.specs.Prelude.{◌≡◌, ◌≢◌, ◌<◌, ◌≤◌, [], length, take, Some, None, MatchOption, IfSome, IfOk, IfErr, OnOk, OnErr, IsErrOf};
 ghost use Rattle.std.specs.Io.KnownBytes.{append_known};
 ghost use Rattle.dc_base.specs.Failures.{HasRisen};
 ghost use Rattle.dc_records.specs.Stream.{Puts};
@@ -10,13 +10,10 @@ use crate::fault::ProgramFault;
 use crate::frames::put_frames;
 use crate::hex::{decode_into, lacks_space, squeeze_into};
 use crate::input::{MOST, read_input};
-use crate::lines::first_line;
-use crate::room::{ROOM, Room};
+use crate::lines::{LONGEST, first_line};
+use crate::room::{ROOM, Room, zeros};
 use dc_records::{IoFault, Sink, Source};
-use std::alloc::{AllocError, Allocator};
-
-// The most characters that a line may have.
-const LONGEST: usize = 4096;
+use std::alloc::Allocator;
 
 // The bytes of a line's digits, and how many. `digits` is room for the line without its spaces.
 #[tactic(auto, unfolding(crate::specs::Text::decoded))]
@@ -108,13 +105,6 @@ fn put_input<A: Allocator, W: Sink>(
     let found = put_lines(input, digits, bytes, room, writer)?;
     room.put(writer)?;
     Ok(found)
-}
-
-// So many bytes. What they are is left open: a proof that saw them would write them out.
-fn zeros<A: Allocator>(alloc: A, len: usize) -> Result<Vec<u8, A>, AllocError>
-    ensures { IfOk result (λ bytes. vec_len bytes ≡ len) }
-{
-    vec![in alloc; 0u8; len]
 }
 
 /// Writes what the lines of hex digits that the reader has left stand for: the frames in each, and the telegram of

@@ -1,13 +1,17 @@
 //! What holds of the definitions alone.
 
-ghost use Rattle.std.specs.Prelude.{◌≡◌, ℕ, ◌<◌, List, [], ◌∷◌, ◌++◌, length, map, flat_map, Some};
+ghost use Rattle.std.specs.Prelude.{◌≡◌, ℕ, ◌<◌, Bool, Option, List, [], ◌∷◌, ◌++◌, length, map, flat_map, Some};
 ghost use Rattle.std.specs.List.{AllByRecursion, concat};
 ghost use Rattle.dc_linkframe.specs.Frame.{FrameSeen, HasRoom, spelling};
+ghost use Rattle.dc_meters.specs.declared.change.Change.{Change};
+ghost use Rattle.dc_poller.specs.Fold.{IsFolded, IsReadAs};
 ghost use Rattle.dc_poller.specs.Lines.{LacksFeed, lines_of};
 ghost use Rattle.dc_poller.specs.Hex.{bytes_of, upper_hex};
 ghost use Rattle.dc_poller.specs.Frames.{frames_of, frame_text, all_shown};
 
 use dc_linkframe::need_agrees_with_parse;
+use dc_meters::{a_line_has_one_command, a_text_has_one_first_word};
+use dc_records::one_telegram;
 
 /// How an input comes apart into lines.
 pub fn lines_end_at_feeds()
@@ -32,4 +36,14 @@ pub fn frames_are_told_in_turn()
     ensures text { (frames : List FrameSeen) → AllByRecursion HasRoom frames → all_shown (frames_of (flat_map spelling frames)) ≡ flat_map frame_text frames }
 {
     need_agrees_with_parse();
+}
+
+/// A line is read one way by `fold`, so an input has one text.
+pub fn an_input_has_one_fold()
+    ensures line { (line : List ℕ) (a b : Option Change) → IsReadAs line a → IsReadAs line b → a ≡ b }
+    ensures text { (input text other : List ℕ) (found found_2 : Bool) → IsFolded input text found → IsFolded input other found_2 → (text ≡ other) × (found ≡ found_2) }
+{
+    a_text_has_one_first_word();
+    a_line_has_one_command();
+    one_telegram();
 }

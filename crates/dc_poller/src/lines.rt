@@ -5,6 +5,9 @@ ghost use Rattle.dc_poller.specs.Lines.{lines_of};
 
 use memchr::memchr;
 
+/// The most bytes that a line may have.
+pub const LONGEST: usize = 4096;
+
 /// The first line, and what follows it.
 pub fn first_line(text: &[u8]) -> (&[u8], &[u8])
     requires { 0 < length text.now }

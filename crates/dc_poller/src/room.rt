@@ -1,6 +1,6 @@
 //! Text on its way to a sink: it gathers in a room, and goes on in large pieces.
 
-ghost use Rattle.std.specs.Prelude.{◌≡◌, ◌+◌, ◌≤◌, ◌↔◌, ◌++◌, [], length, take, vec_len, IsTrue, OnOk, OnErr, decimal};
+ghost use Rattle.std.specs.Prelude.{◌≡◌, ◌+◌, ◌≤◌, ◌↔◌, ◌++◌, [], length, take, vec_len, IsTrue, IfOk, OnOk, OnErr, decimal};
 ghost use Rattle.std.specs.Io.KnownBytes.{append_known};
 ghost use Rattle.dc_base.specs.Failures.{HasRisen};
 ghost use Rattle.dc_poller.specs.Hex.{upper_hex};
@@ -10,7 +10,7 @@ ghost use Rattle.dc_records.specs.Stream.{Puts};
 use crate::hex::pair_of;
 use dc_records::{IoFault, Sink};
 use itoa::Buffer;
-use std::alloc::Allocator;
+use std::alloc::{AllocError, Allocator};
 use std::marker::Model;
 
 /// How many bytes a room holds.
@@ -174,6 +174,13 @@ impl<A: Allocator> Room<A> {
         self.add(writer, name.as_bytes())?;
         self.add(writer, b"\n")
     }
+}
+
+/// So many bytes. What they are is left open: a proof that saw them would write them out.
+pub fn zeros<A: Allocator>(alloc: A, len: usize) -> Result<Vec<u8, A>, AllocError>
+    ensures { IfOk result (λ bytes. vec_len bytes ≡ len) }
+{
+    vec![in alloc; 0u8; len]
 }
 
 // Places a piece behind the first `at` bytes.

@@ -43,13 +43,13 @@ fn changed(alloc: Global, at: usize, digit: u8) -> Result<Vec<u8>, AllocError> {
     Ok(line)
 }
 
-fn joined(alloc: Global, front: &[u8], back: &[u8]) -> Result<Vec<u8>, AllocError> {
+pub fn joined(alloc: Global, front: &[u8], back: &[u8]) -> Result<Vec<u8>, AllocError> {
     let mut both = Vec::from_slice(alloc, front)?;
     both.extend_from_slice(back)?;
     Ok(both)
 }
 
-fn spaces(alloc: Global, count: usize) -> Result<Vec<u8>, AllocError> {
+pub fn spaces(alloc: Global, count: usize) -> Result<Vec<u8>, AllocError> {
     vec![in alloc; b' '; count]
 }
 
@@ -238,10 +238,10 @@ fn bodies_at_fault_are_told(rt: HostRuntime) -> Result<(), Fail> {
 
 // Gives 40 bytes at most with each take, and fails after so many takes.
 #[derive(Drop)]
-struct Failing<'a> {
-    bytes: &'a [u8],
-    takes: u64,
-    failures: u64,
+pub struct Failing<'a> {
+    pub bytes: &'a [u8],
+    pub takes: u64,
+    pub failures: u64,
 }
 
 impl<'a> Source for Failing<'a> {
@@ -294,10 +294,10 @@ fn a_failed_read_leaves_the_writer(rt: HostRuntime) -> Result<(), Fail> {
 
 // Counts the bytes that are put, and fails after so many puts.
 #[derive(Drop)]
-struct Full {
-    puts: u64,
-    bytes: usize,
-    failures: u64,
+pub struct Full {
+    pub puts: u64,
+    pub bytes: usize,
+    pub failures: u64,
 }
 
 impl Sink for Full {

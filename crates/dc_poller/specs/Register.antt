@@ -1,0 +1,20 @@
+-- The text of a register (this product).
+use Rattle.std.specs.Prelude.{ℕ, List, ◌++◌, codes, length, flat_map}
+use Rattle.dc_address.specs.Text.{text_of}
+use Rattle.dc_address.specs.declared.identity.Identity.{Identity}
+use Rattle.dc_meters.specs.Line.{address_word}
+use Rattle.dc_meters.specs.Size.{size_of}
+use Rattle.dc_meters.specs.State.{State, MeterRow}
+use Rattle.dc_poller.specs.Words.{number_word}
+
+-- `METER ident line addr flat open`, the last being the number of parts of a readout that isn't finished
+unfoldable pub meter_line : Identity × MeterRow → List ℕ
+meter_line (meter, row) =
+    codes "METER " ++ text_of meter ++ number_word row.line ++ codes " " ++ address_word row.address
+    ++ codes " " ++ row.flat ++ number_word (length row.parts) ++ codes "\n"
+
+-- the meters by identity, how many readings there are, and what the state is counted as
+unfoldable pub register_text : State → List ℕ
+register_text s =
+    flat_map meter_line s.meters ++ codes "READINGS" ++ number_word (length s.readings)
+    ++ codes "\nSIZE" ++ number_word (size_of s) ++ codes "\n"

@@ -1,0 +1,216 @@
+//! The engine of `fold`: from a source's telegrams and commands to a sink's text of the register.
+
+ghost use Rattle.std.specs.Prelude.{◌≡◌, ◌≢◌, ◌<◌, ◌≤◌, ◌++◌, ℕ, List, length, codes, IfSome, IfOk, IfErr, OnOk, IsErrOf};
+ghost use Rattle.dc_base.specs.Failures.{HasRisen};
+ghost use Rattle.dc_meters.specs.Fault.{number_of, name_of};
+ghost use Rattle.dc_meters.specs.Valid.{IsChange};
+ghost use Rattle.dc_records.specs.Stream.{Puts};
+ghost use Rattle.dc_poller.specs.Fold.{IsFolded, IsStep, IsTelegramStep, AreSteps, is_due, change_answer, after_change, order_line};
+ghost use Rattle.dc_poller.specs.Lines.{lines_of};
+ghost use Rattle.dc_poller.specs.Words.{fault_line};
+
+use crate::fault::ProgramFault;
+use crate::input::{MOST, read_input};
+use crate::lines::{LONGEST, first_line};
+use crate::register::{add_number, add_register};
+use crate::room::{ROOM, zeros};
+use crate::telegram_line::parse_telegram;
+use dc_base::NoMemory;
+use dc_meters::{Body, Change, ChangeFault, Command, House};
+use dc_records::{Sink, Source};
+use std::alloc::Allocator;
+
+// The bytes within which the register stays: a disk of 131 sectors has room for as many.
+const BUDGET: u32 = 15_616;
+
+// Whether a command has the number after the last one's.
+fn is_due<A: Allocator + Copy>(change: &Change<'_>, house: &House<A>) -> bool
+    ensures { result ≡ is_due change.now house.now.state }
+{
+    match change {
+        Change::Telegram { .. } => true,
+        Change::Command { number, .. } => *number == house.last_number() + 1,
+    }
+}
+
+#[tactic(auto, using(crate::proofs::Known::regroup), unfolding(crate::specs::Words::fault_line))]
+fn add_refusal<A: Allocator>(text: &mut Vec<u8, A>, fault: ChangeFault) -> Result<(), NoMemory>
+    ensures { OnOk result (text.new.items ≡ text.old.items ++ fault_line (codes "REFUSED") (number_of fault) (name_of fault)) }
+{
+    text.extend_from_slice(b"REFUSED")?;
+    add_number(text, u64::from(fault.number()))?;
+    text.extend_from_slice(b" ")?;
+    text.extend_from_slice(fault.name().as_bytes())?;
+    text.extend_from_slice(b"\n")?;
+    Ok(())
+}
+
+#[tactic(auto, using(crate::proofs::Known::regroup))]
+fn add_order<A: Allocator + Copy>(text: &mut Vec<u8, A>, house: &House<A>) -> Result<(), NoMemory>
+    ensures { OnOk result (text.new.items ≡ text.old.items ++ order_line house.now.state) }
+{
+    text.extend_from_slice(b"ORDER")?;
+    add_number(text, house.last_number())?;
+    text.extend_from_slice(b"\n")?;
+    Ok(())
+}
+
+// Does a change if it can be done, and answers.
+#[tactic(auto, unfolding(crate::specs::Fold::change_answer, crate::specs::Fold::after_change))]
+fn answer<A: Allocator + Copy>(
+    change: &Change<'_>,
+    house: &mut House<A>,
+    text: &mut Vec<u8, A>,
+) -> Result<(), NoMemory>
+    requires { IsChange change.now }
+    ensures text { OnOk result (text.new.items ≡ text.old.items ++ change_answer house.old.budget change.now house.old.state) }
+    ensures house { OnOk result (house.new ≡ record house.old { state = after_change house.old.budget change.now house.old.state }) }
+{
+    if !is_due(change, house) {
+        return add_order(text, house);
+    }
+    match house.check(change) {
+        Ok(()) => {
+            house.apply(change)?;
+            text.extend_from_slice(b"OK\n")?;
+            Ok(())
+        }
+        Err(fault) => add_refusal(text, fault),
+    }
+}
+
+// Answers a line, and says whether it spells no change. `bytes` is room for a body.
+fn fold_line<A: Allocator + Copy>(
+    line: &[u8],
+    bytes: &mut [u8],
+    house: &mut House<A>,
+    text: &mut Vec<u8, A>,
+) -> Result<bool, NoMemory>
+    requires { 2048 ≤ length bytes.old }
+    ensures { IfOk result (λ unread. IsStep line.now unread house.old house.new text.old.items text.new.items) }
+{
+    if let Some(found) = Command::parse_line(line) {
+        let change = Change::Command {
+            number: found.number,
+            command: found.command,
+        };
+        answer(&change, house, text)?;
+        return Ok(false);
+    }
+    if fold_telegram(line, bytes, house, text)? {
+        return Ok(false);
+    }
+    text.extend_from_slice(b"SYNTAX\n")?;
+    Ok(true)
+}
+
+// Answers a line that tells a telegram, and says whether it does.
+fn fold_telegram<A: Allocator + Copy>(
+    line: &[u8],
+    bytes: &mut [u8],
+    house: &mut House<A>,
+    text: &mut Vec<u8, A>,
+) -> Result<bool, NoMemory>
+    requires { 2048 ≤ length bytes.old }
+    ensures { IfOk result (λ told. IsTelegramStep line.now told house.old house.new text.old.items text.new.items) }
+{
+    if line.len() > LONGEST {
+        return Ok(false);
+    }
+    let Some((part, moment, count)) = parse_telegram(line, bytes) else {
+        return Ok(false);
+    };
+    let (content, _) = bytes.split_at(count);
+    let Some(body) = Body::parse(content) else {
+        return Ok(false);
+    };
+    let change = Change::Telegram { part, moment, body };
+    answer(&change, house, text)?;
+    Ok(true)
+}
+
+// Answers the lines of an input in order, and says whether one spells no change.
+fn fold_all<A: Allocator + Copy>(
+    input: &[u8],
+    bytes: &mut [u8],
+    house: &mut House<A>,
+    text: &mut Vec<u8, A>,
+) -> Result<bool, NoMemory>
+    requires { 2048 ≤ length bytes.old }
+    ensures { IfOk result (λ found. AreSteps (lines_of input.now) found house.old house.new text.old.items text.new.items) }
+{
+    let mut found = false;
+    let mut rest = input;
+    'lines: while !rest.is_empty() {
+        let (line, after) = first_line(rest);
+        let unread = fold_line(line, bytes, house, text)?;
+        found |= unread;
+        rest = after;
+    }
+    Ok(found)
+}
+
+// The text for an input, and whether a SYNTAX is in it.
+fn fold_input<A: Allocator + Copy>(
+    alloc: A,
+    input: &[u8],
+    bytes: &mut [u8],
+) -> Result<(Vec<u8, A>, bool), NoMemory>
+    requires { 2048 ≤ length bytes.old }
+    ensures { IfOk result (λ folded. IsFolded input.now folded.0.items folded.1) }
+{
+    let mut house = House::new(alloc, BUDGET);
+    let mut text = Vec::new(alloc);
+    let found = fold_all(input, bytes, &mut house, &mut text)?;
+    add_register(&mut text, &house)?;
+    Ok((text, found))
+}
+
+/// Writes what becomes of the telegrams and the commands that the lines which the reader has left spell: an answer to
+/// each line, over an empty register at first, and then the register. A line is `TELEGRAM part moment hex` or a
+/// command's line. The answer says whether a SYNTAX is among it.
+///
+/// The whole input is read, and the whole text made, before anything is written. The text is defined by
+/// `specs/Fold.antt`.
+///
+/// # Errors
+/// [`ProgramFault::Read`] and [`ProgramFault::Write`] where that end failed, [`ProgramFault::TooLong`] over 1 MiB,
+/// [`ProgramFault::NoMemory`] where memory was refused. Only after `Write` may something have been written.
+pub fn fold_lines<A: Allocator + Copy, R: Source, W: Sink>(
+    alloc: A,
+    reader: &mut R,
+    writer: &mut W,
+) -> Result<bool, ProgramFault>
+    // What is written is the text for the input, byte for byte, and the answer says whether a SYNTAX is in it.
+    ensures text { IfOk result (λ found. IfSome (R.left reader.old) (λ input. (text : List ℕ) × IsFolded input text found × Puts (W.written writer.old) (W.written writer.new) text)) }
+
+    // An input over the limit is refused, and no other is refused for its length.
+    ensures fits { OnOk result (IfSome (R.left reader.old) (λ input. length input ≤ 1048576)) }
+    ensures too_long { IsErrOf result ProgramFault.TooLong → IfSome (R.left reader.old) (λ input. 1048576 < length input) }
+
+    // A fault of an end is told only where that end counted a failure.
+    ensures read { IsErrOf result ProgramFault.Read → HasRisen (R.take_failures reader.old) (R.take_failures reader.new) }
+    ensures write { IsErrOf result ProgramFault.Write → HasRisen (W.put_failures writer.old) (W.put_failures writer.new) }
+    ensures ok { OnOk result ((R.take_failures reader.new ≡ R.take_failures reader.old) × (W.put_failures writer.new ≡ W.put_failures writer.old)) }
+
+    // After any fault but a failed write the writer is as it was.
+    ensures untouched { IfErr result (λ fault. fault ≢ ProgramFault.Write → writer.new ≡ writer.old) }
+{
+    let Ok(mut bytes) = zeros(alloc, LONGEST / 2) else {
+        return Err(ProgramFault::NoMemory);
+    };
+    let Ok(mut chunk) = zeros(alloc, ROOM) else {
+        return Err(ProgramFault::NoMemory);
+    };
+    let input = read_input(alloc, reader, chunk.as_mut_slice())?;
+    if input.len() > MOST {
+        return Err(ProgramFault::TooLong);
+    }
+    let Ok((text, found)) = fold_input(alloc, input.as_slice(), bytes.as_mut_slice()) else {
+        return Err(ProgramFault::NoMemory);
+    };
+    match writer.put(text.as_slice()) {
+        Ok(()) => Ok(found),
+        Err(_) => Err(ProgramFault::Write),
+    }
+}
