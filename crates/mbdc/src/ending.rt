@@ -2,7 +2,9 @@
 
 use clap::Error;
 use clap::error::ErrorKind;
+use dc_recovery::FormatFault;
 use std::alloc::{AllocError, Global};
+use std::fmt::Display;
 use std::io;
 use std::io::Write;
 use std::process::ExitCode;
@@ -23,6 +25,8 @@ pub enum Ending<'a> {
     NotText,
     /// A file or a stream failed, or had too much.
     File(&'a str),
+    /// The image wasn't formatted.
+    Format(FormatFault),
     /// Memory was refused.
     Memory,
 }
@@ -36,6 +40,7 @@ impl Ending<'_> {
             Ending::Words(error) => told_words(rt, error),
             Ending::NotText => told_line(rt, "the words aren't UTF-8 text; try mbdc --help", 2),
             Ending::File(name) => told_file(rt, name),
+            Ending::Format(fault) => told_store(rt, "format", fault),
             Ending::Memory => told_line(rt, "memory", 4),
         };
         ExitCode::from(status)
@@ -51,6 +56,12 @@ fn told_line<R: Eprint>(rt: &R, what: &str, status: u8) -> u8 {
 fn told_file<R: Eprint>(rt: &R, name: &str) -> u8 {
     let _ = eprintln!(rt; "mbdc: file: {name}");
     4
+}
+
+// The store has refused, or failed.
+fn told_store<R: Eprint, F: Display>(rt: &R, command: &str, fault: &F) -> u8 {
+    let _ = eprintln!(rt; "mbdc: {command}: {fault}");
+    3
 }
 
 // Help and the version go to standard output, which may fail as any output may.

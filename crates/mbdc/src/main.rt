@@ -3,6 +3,7 @@
 #![tactic(auto)]
 
 mod ending;
+mod format;
 mod tasks;
 mod words;
 

@@ -1,31 +1,56 @@
 //! What each command does: an engine of `dc_poller` between the ends that the words name.
 
 use crate::ending::{Ending, STREAM};
-use crate::words::Task;
-use dc_poller::{ProgramFault, decode_lines};
+use crate::format::format_image;
+use crate::words::{Engine, Task};
+use dc_poller::{ProgramFault, decode_lines, fold_lines};
 use dc_records::{ReadSource, Source, WriteSink};
+use std::fs::OpenFile;
+use std::io::Read;
+use std::os::unix::fs::FileExt;
 use std::rt::Files;
 use std::{fs, io};
 
 /// Does what the words ask for.
-pub fn run<'a, R: Files + Input + Print + AllocGlobal>(rt: &R, task: Task<'a>) -> Ending<'a> {
+pub fn run<'a, F, R>(rt: &R, task: Task<'a>) -> Ending<'a>
+where
+    F: Read + FileExt + OpenFile + Drop,
+    R: Files<File = F> + Input + Print + AllocGlobal,
+{
     match task {
-        Task::Decode(Some(name)) => decode_file(rt, name),
-        Task::Decode(None) => { ending_of(decode(rt, &mut ReadSource::new(rt.reader())), STREAM) }
+        Task::Lines {
+            engine,
+            file: Some(name),
+        } => work_on_file(rt, engine, name),
+        Task::Lines { engine, file: None } => {
+            ending_of(work(rt, engine, &mut ReadSource::new(rt.reader())), STREAM)
+        }
+        Task::Format { image, sectors } => format_image(rt, image, sectors),
     }
 }
 
-fn decode_file<'a, R: Files + Print + AllocGlobal>(rt: &R, name: &'a str) -> Ending<'a> {
+fn work_on_file<'a, R: Files + Print + AllocGlobal>(
+    rt: &R,
+    engine: Engine,
+    name: &'a str,
+) -> Ending<'a> {
     match fs::open(rt, name) {
-        Ok(file) => ending_of(decode(rt, &mut ReadSource::new(file)), name),
+        Ok(file) => ending_of(work(rt, engine, &mut ReadSource::new(file)), name),
         Err(_) => Ending::File(name),
     }
 }
 
-// Decodes what the source has left to standard output. The engine writes in large pieces.
-fn decode<R: Print + AllocGlobal, S: Source>(rt: &R, reader: &mut S) -> Result<bool, ProgramFault> {
+// Runs the engine from what the source has left to standard output. It writes in large pieces.
+fn work<R: Print + AllocGlobal, S: Source>(
+    rt: &R,
+    engine: Engine,
+    reader: &mut S,
+) -> Result<bool, ProgramFault> {
     let mut writer = WriteSink::new(io::writer(rt));
-    let found = decode_lines(rt.alloc(), reader, &mut writer)?;
+    let found = match engine {
+        Engine::Decode => decode_lines(rt.alloc(), reader, &mut writer)?,
+        Engine::Fold => fold_lines(rt.alloc(), reader, &mut writer)?,
+    };
     match writer.flush() {
         Ok(()) => Ok(found),
         Err(_) => Err(ProgramFault::Write),

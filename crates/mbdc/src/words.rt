@@ -1,29 +1,94 @@
 //! The program's words, read with `clap`.
 
-use clap::{Arg, Command, Error};
-use std::alloc::Global;
+use crate::format::SECTORS;
+use clap::{Arg, Command, Error, value_parser};
+use std::alloc::{AllocError, Global};
+
+/// An engine of `dc_poller` over lines.
+#[derive(Clone, Copy)]
+pub enum Engine {
+    /// The text of each frame.
+    Decode,
+    /// An answer to each telegram and command, and the register after them.
+    Fold,
+}
 
 /// What the words ask for.
+#[derive(Clone, Copy)]
 pub enum Task<'a> {
-    /// The text of each frame in a file, or in standard input.
-    Decode(Option<&'a str>),
+    /// An engine over a file, or over standard input.
+    Lines {
+        /// What is done.
+        engine: Engine,
+        /// The file's name.
+        file: Option<&'a str>,
+    },
+    /// An image of an empty register, in a file.
+    Format {
+        /// The file's name.
+        image: &'a str,
+        /// How many sectors it has.
+        sectors: u32,
+    },
+}
+
+fn decode_command<'a>(alloc: Global) -> Result<Command<'a>, AllocError> {
+    let file = Arg::new(alloc, "FILE").help("Lines of hex digits [default: standard input]");
+    Command::new(alloc, "decode")
+        .about("Prints what each M-Bus frame says: link fields, meter, records, end")
+        .arg(file)
+}
+
+fn fold_command<'a>(alloc: Global) -> Result<Command<'a>, AllocError> {
+    let file = Arg::new(alloc, "FILE").help(
+        "Lines of telegrams and commands [default: standard input]",
+    );
+    Command::new(alloc, "fold")
+        .about("Applies telegrams and commands to an empty register, and prints it")
+        .arg(file)
+}
+
+fn format_command<'a>(alloc: Global) -> Result<Command<'a>, AllocError> {
+    let image = Arg::new(alloc, "IMAGE")
+        .required(true)
+        .help("The image's file; it is made where it isn't there");
+    let sectors = Arg::new(alloc, "SECTORS")
+        .required(true)
+        .value_parser(value_parser!(u32).range(SECTORS.0..=SECTORS.1))
+        .help("How many sectors of 512 bytes it has, from 131 to 131075");
+    Command::new(alloc, "format")
+        .about("Makes an image that holds an empty register")
+        .arg(image)?
+        .arg(sectors)
 }
 
 /// The task that the words name. The first word is the program's name.
 pub fn task_of<'a>(alloc: Global, words: &'a [String]) -> Result<Task<'a>, Error> {
-    let file = Arg::new(alloc, "FILE").help("Lines of hex digits [default: standard input]");
-    let decode = Command::new(alloc, "decode")
-        .about("Prints what each M-Bus frame says: link fields, meter, records, end")
-        .arg(file)?;
     let command = Command::new(alloc, "mbdc")
         .version("0.1.0")
         .about(
             "Data concentrator of wired M-Bus submeters; without a command it decodes standard input",
         )
-        .subcommand(decode)?;
+        .subcommand(decode_command(alloc)?)?
+        .subcommand(fold_command(alloc)?)?
+        .subcommand(format_command(alloc)?)?;
     let matches = command.try_get_matches_from(words)?;
     match matches.subcommand() {
-        Some((_, inner)) => Ok(Task::Decode(inner.get_str("FILE"))),
-        None => Ok(Task::Decode(None)),
+        Some(("format", inner)) => Ok(Task::Format {
+            image: inner.get_str("IMAGE").unwrap_or_default(),
+            sectors: inner.get_one("SECTORS").unwrap_or_default(),
+        }),
+        Some(("fold", inner)) => Ok(Task::Lines {
+            engine: Engine::Fold,
+            file: inner.get_str("FILE"),
+        }),
+        Some((_, inner)) => Ok(Task::Lines {
+            engine: Engine::Decode,
+            file: inner.get_str("FILE"),
+        }),
+        None => Ok(Task::Lines {
+            engine: Engine::Decode,
+            file: None,
+        }),
     }
 }
