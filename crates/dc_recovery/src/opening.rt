@@ -8,7 +8,7 @@ ghost use Rattle.dc_recovery.specs.Halves.{half_end, budget_of};
 ghost use Rattle.dc_recovery.specs.Language.{State};
 ghost use Rattle.dc_recovery.specs.Roots.{opened};
 ghost use Rattle.dc_recovery.specs.Stands.{IsRead, IsReady, StandsBy, Stands, Reads, EachStands, StandsForOne};
-ghost use Rattle.dc_recovery.specs.Refusal.{IsRefused, IsWorn};
+ghost use Rattle.dc_recovery.specs.Refusal.{IsRefused, IsWorn, TellsOfImage};
 
 use crate::OpenFault;
 use crate::reading::{Found, read_image};
@@ -54,6 +54,7 @@ pub(crate) fn open_on<A: Allocator + Copy, D: Disk>(
     requires fits { 3 + 2 * half_len ≤ D.sectors disk.old }
     ensures reads { D.honest → IfOk result (λ found. Reads half_len found.house.state (D.reads disk.old)) }
     ensures refused { D.honest → IfErr result (λ fault. IsRefused half_len (D.reads disk.old) fault) }
+    ensures unwritten { D.honest → IfErr result (λ fault. TellsOfImage fault → D.reads disk.new ≡ D.reads disk.old) }
     ensures not_worn { D.honest → OnOk result (IsWorn half_len (D.reads disk.old) → ⊥) }
     ensures ready { D.honest → EachStands half_len (D.choices disk.old) → IfOk result (λ found. (m : ℕ) × IsReady half_len found.root m found.place found.house.state (D.reads disk.new) × (found.last ≡ found.root.base_sequence + m)) }
     ensures durable { D.honest → OnOk result (D.choices disk.new ≡ settled (D.reads disk.new)) }

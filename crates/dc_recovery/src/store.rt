@@ -91,6 +91,7 @@ impl<D: Disk + Drop> Store<D> {
         // Ok gives exactly the state that the image reads as, and a refusal is a fact of the image.
         ensures reads { D.honest → IfOk result (λ o. Reads (half_len_of (D.sectors disk)) o.1.state (D.reads disk)) }
         ensures refused { D.honest → 131 ≤ D.sectors disk → IfErr result (λ e. IsRefused (half_len_of (D.sectors disk)) (D.reads disk) e.0) }
+        ensures unwritten { D.honest → IfErr result (λ e. TellsOfImage e.0 → D.reads e.1 ≡ D.reads disk) }
         ensures not_worn { D.honest → OnOk result (IsWorn (half_len_of (D.sectors disk)) (D.reads disk) → ⊥) }
         ensures device { IfErr result (λ e. e.0 ≡ OpenDevice → HasRisen (D.failures disk) (D.failures e.1)) }
 

@@ -77,15 +77,21 @@ fn two_pages(alloc: Global) -> Result<Bytes<Global>, Fail> {
     Ok(bytes)
 }
 
-/// Opens the image and writes that group, whose sync fails.
+/// Opens the image, fits two meters where it has none, and writes that group, whose sync fails.
 fn left_behind(
     rt: &impl Abort,
     alloc: Global,
     mut disk: MemoryDisk<Global>,
 ) -> Result<MemoryDisk<Global>, Fail> {
     let opening = calls_of_open(alloc, &disk)?;
-    disk.fuse(opening.saturating_add(3));
+    let is_fitted = opened(alloc, disk.copy()?)?.house.last_number() == 2;
+    let passes = if is_fitted { 3 } else { 9 };
+    disk.fuse(opening.saturating_add(passes));
     let mut life = opened(alloc, disk)?;
+    if !is_fitted {
+        assert_eq!(rt; accept(rt, alloc, &mut life, &fit(1, ONE, 1)?)?, Ok(()));
+        assert_eq!(rt; accept(rt, alloc, &mut life, &fit(2, OTHER, 2)?)?, Ok(()));
+    }
     let bytes = two_pages(alloc)?;
     assert!(rt; !bytes.as_slice().is_empty());
     assert!(rt; life.store.fits(bytes.as_slice().len()));
@@ -106,25 +112,22 @@ fn left_behind(
 #[test]
 fn leftovers_of_two_lives_are_no_group(rt: HostRuntime) -> Result<(), Fail> {
     let alloc = rt.alloc();
-    let mut life = opened(alloc, formatted(&rt, alloc)?)?;
-    assert_eq!(rt; accept(&rt, alloc, &mut life, &fit(1, ONE, 1)?)?, Ok(()));
-    assert_eq!(rt; accept(&rt, alloc, &mut life, &fit(2, OTHER, 2)?)?, Ok(()));
-    let before = encoded(alloc, &life.house)?;
 
     // Sector 9 is as before, 10 and 11 as written; then 9 as written, 10 and 11 as before.
-    let mut disk = left_behind(&rt, alloc, life.store.close())?;
+    let mut disk = left_behind(&rt, alloc, formatted(&rt, alloc)?)?;
     assert!(rt; stop_at(alloc, &mut disk, 2 * 3 + 2 * 9)?);
-    assert!(rt; state_of(alloc, disk.copy()?)?.as_slice() == before.as_slice());
+    let before = state_of(alloc, disk.copy()?)?;
     let mut disk = left_behind(&rt, alloc, disk)?;
     assert!(rt; stop_at(alloc, &mut disk, 2)?);
     assert!(rt; state_of(alloc, disk.copy()?)?.as_slice() == before.as_slice());
 
     let mut life = opened(alloc, disk)?;
+    assert_eq!(rt; life.house.meters().len(), 2);
     assert_eq!(rt; accept(&rt, alloc, &mut life, &confirm(3))?, Ok(()));
     let mut disk = life.store.close();
     assert_eq!(rt; disk.count(), 131);
     let page = disk.read(9)?;
-    assert_eq!(rt; (page[8], page[16]), (5, 4));
+    assert_eq!(rt; (page[8], page[16]), (4, 4));
     assert_eq!(rt; opened(alloc, disk)?.house.last_number(), 3);
     Ok(())
 }
