@@ -263,3 +263,82 @@ fn a_house_has_its_bytes(rt: HostRuntime) -> Result<(), Fail> {
     assert_eq!(rt; bytes.as_slice(), wanted.concat(rt.alloc())?.as_slice());
     Ok(())
 }
+
+// A header, and data of the manufacturer: the longest body.
+fn longest() -> [u8; 252] {
+    let mut body = [0; 252];
+    body[..13].copy_from_slice(b"\x78\x56\x34\x12\x24\x40\x01\x07\x01\x00\x00\x00\x0F");
+    body
+}
+
+fn heard(body: &[u8]) -> Result<Change<'_>, Fail>
+    ensures { IfOk result (λ change. IsChange change) }
+{
+    let body = Body::parse(body).ok_or("body")?;
+    Ok(Change::Telegram {
+        part: 1,
+        moment: 100,
+        body,
+    })
+}
+
+#[test]
+fn a_full_house_has_room_once_a_reading_is_confirmed(rt: HostRuntime) -> Result<(), Fail> {
+    let body = longest();
+    let mut house = House::new(rt.alloc(), 15_616);
+    apply(&rt, &mut house, &fit(1)?)?;
+    for _ in 0..54 {
+        apply(&rt, &mut house, &heard(&body)?)?;
+    }
+    assert_eq!(rt; house.size(), 15_341);
+    assert_eq!(rt; house.check(&heard(&body)?), Err(ChangeFault::Full));
+    order(&rt, &mut house, 2, Command::Confirm { serial: 1 })?;
+    apply(&rt, &mut house, &heard(&body)?)?;
+    assert_eq!(rt; house.size(), 15_341);
+    assert_eq!(rt; house.next_serial(), 56);
+    Ok(())
+}
+
+fn swap(old: &[u8], new: &[u8]) -> Result<Command, Fail>
+    ensures { IfOk result (λ command. IsCommand command) }
+{
+    let old = Identity::parse_text(old)?;
+    let new = Identity::parse_text(new)?;
+    let address = Primary::new(2);
+    Ok(Command::Swap { old, new, address })
+}
+
+fn ordered(number: u64, command: Command) -> Change<'static>
+    requires number { IsNumber number }
+    requires command { IsCommand command }
+    ensures { IsChange result }
+{
+    Change::Command { number, command }
+}
+
+#[test]
+fn a_meter_is_swapped_and_back(rt: HostRuntime) -> Result<(), Fail> {
+    let one = b"12345678.PAD.01.07";
+    let other = b"00000001.PAD.01.07";
+    let mut house = House::new(rt.alloc(), 15_616);
+    apply(&rt, &mut house, &fit(1)?)?;
+    apply(&rt, &mut house, &told(1, FIRST)?)?;
+    apply(&rt, &mut house, &told(2, LAST)?)?;
+    order(&rt, &mut house, 2, swap(one, other)?)?;
+    assert_eq!(rt; house.size(), 246);
+    let known = ordered(3, swap(other, other)?);
+    assert_eq!(rt; house.check(&known), Err(ChangeFault::Known));
+    let unknown = ordered(3, swap(one, one)?);
+    assert_eq!(rt; house.check(&unknown), Err(ChangeFault::Unknown));
+    order(&rt, &mut house, 3, swap(other, one)?)?;
+    assert_eq!(rt; house.readings().len(), 1);
+
+    // The open parts go with the meter.
+    let mut house = House::new(rt.alloc(), 15_616);
+    apply(&rt, &mut house, &fit(1)?)?;
+    apply(&rt, &mut house, &told(1, FIRST)?)?;
+    order(&rt, &mut house, 2, swap(one, other)?)?;
+    assert_eq!(rt; house.size(), 167);
+    assert_eq!(rt; house.readings().len(), 0);
+    Ok(())
+}
