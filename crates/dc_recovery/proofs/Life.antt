@@ -57,12 +57,6 @@ module _ {D : Type 0} (sectors : D → ℕ) (reads : D → Image) (choices : D �
         last_is = omega (arith, last, last_is, base);
       }
 
-  pub keeps_stands_now : (store : Kept D) (state : State) (image : Image) → Keeps sectors reads choices store state → IsImage (choices store.disk) image
-      → Stands (half_len_of (sectors store.disk)) state image
-  keeps_stands_now store state image kept is =
-      ready_stands (half_len_of (sectors store.disk)) state (choices store.disk) (reads store.disk) image kept.is_settled
-      (record { root = store.root; m = kept.m; place = store.place; ready = kept.ready }) is
-
   -- the state that was compacted is kept
   pub keeps_compacted : (store new : Kept D) (state : State) (sequence : ℕ) → new.is_stopped ≡ false → new.root ≡ compacted store.root sequence → new.last ≡ sequence → sectors new.disk ≡ sectors store.disk
       → choices new.disk ≡ settled (reads new.disk) → IsReady (half_len_of (sectors store.disk)) new.root zero new.place state (reads new.disk) → Keeps sectors reads choices new state

@@ -4,16 +4,16 @@ use Rattle.dc_sectors.specs.Moments.{started}
 use Rattle.dc_roots.specs.declared.root.Root.{Root}
 use Rattle.dc_recovery.specs.Halves.{half_len_of}
 use Rattle.dc_recovery.specs.Roots.{compacted}
-use Rattle.dc_recovery.specs.Store.{Kept}
 use Rattle.dc_recovery.specs.Stands.{IsReady}
-use Rattle.dc_recovery.proofs.Life.{keeps_stands_now, keeps_compacted}
+use Rattle.dc_recovery.specs.Store.{Kept, kept_stands}
+use Rattle.dc_recovery.proofs.Life.{keeps_compacted}
 use Rattle.dc_recovery.proofs.store.Store.compact.Goals as goal
 
 pub returns-then-self-2-clause-any_moment : goal.returns-then-self-2-clause-any_moment
 returns-then-self-2-clause-any_moment g c h kept =
     let store = c.args.self.now in
     started g.D.Disk.moment g.D.Disk.images_since store.disk _
-    (λ image left. keeps_stands_now g.D.Disk.sectors g.D.Disk.reads g.D.Disk.choices store c.args.house.now.state image kept (g.met.D.Disk.only_now h store.disk image left))
+    (λ image left. kept_stands g.D.Disk.sectors g.D.Disk.reads g.D.Disk.choices store c.args.house.now.state image kept (g.met.D.Disk.only_now h store.disk image left))
 
 pub returns-in-Ok-clause-kept : goal.returns-in-Ok-clause-kept
 returns-in-Ok-clause-kept g c h kept =
