@@ -2,7 +2,7 @@
 
 ghost use Rattle.std.specs.Prelude.{◌≡◌, ◌⊎◌, ◌<◌, ◌≤◌, ◌+◌, ◌*◌, ◌-◌, ◌^◌, ◌↔◌, List, ℕ, length, true, false, IsTrue, IfOk, IfErr, OnOk, MatchResult, IsErrOf, Err};
 ghost use Rattle.dc_base.specs.Failures.{HasRisen};
-ghost use Rattle.dc_sectors.specs.Disk.{Image, IsImage, LeavesOnly};
+ghost use Rattle.dc_sectors.specs.Disk.{Image, IsImage, LeavesOnly, settled};
 ghost use Rattle.dc_roots.specs.declared.root.Root.{Root};
 ghost use Rattle.dc_roots.specs.Choice.{HasRoot};
 ghost use Rattle.dc_recovery.specs.Refusal.{IsRefused, IsWorn, TellsOfImage};
@@ -104,6 +104,7 @@ impl<D: Disk + Drop> Store<D> {
         // And such an image is refused only as worn.
         ensures premise { D.honest → 131 ≤ D.sectors disk → EachStands (half_len_of (D.sectors disk)) (D.choices disk)
             → IfErr result (λ e. TellsOfImage e.0 → e.0 ≡ OpenWorn) }
+        ensures durable { D.honest → IfOk result (λ o. D.choices o.0.disk ≡ settled (D.reads o.0.disk)) }
         ensures running { IfOk result (λ o. o.0.is_stopped ≡ false) }
         ensures budget { IfOk result (λ o. o.1.budget ≡ budget_of (half_len_of (D.sectors disk))) }
         ensures count { IfOk result (λ o. D.sectors o.0.disk ≡ D.sectors disk) }
