@@ -4,9 +4,12 @@ use Rattle.std.specs.Char.{is_ascii_digit}
 use Rattle.std.specs.List.{list_all}
 use Rattle.std.proofs.lemmas.Bool.{eq-eqb, ne_eqb, and_from, and_parts, le-leb, ltb-true, eqb-true}
 use Rattle.std.proofs.lemmas.Bool.Decides.{nat_tests}
-use Rattle.dc_address.specs.Digits.{decimal_digits, decimal_digits-are_digits, is_digit}
-use Rattle.dc_address.specs.Maker.{IsLetter-from_test, first_letter, first_letter-maker_code, is_letter, is_letter-of, maker_code, second_letter, second_letter-maker_code, third_letter, third_letter-maker_code}
-use Rattle.dc_address.specs.Text.{IsText, decimal_code, drop-text_of, hex_code, identity_fault, is_dot, is_hex, length-text_of, same_from_text, stands, take-text_of, text_of, text_rest}
+use Rattle.dc_address.specs.Digits.{decimal_digits, is_digit}
+use Rattle.dc_address.proofs.Decimals.{decimal_digits-are_digits}
+use Rattle.dc_address.specs.Maker.{first_letter, is_letter, maker_code, second_letter, third_letter}
+use Rattle.dc_address.proofs.Letters.{IsLetter-from_test, first_letter-maker_code, is_letter-of, second_letter-maker_code, third_letter-maker_code}
+use Rattle.dc_address.specs.Text.{IsText, decimal_code, hex_code, identity_fault, is_dot, is_hex, stands, text_of}
+use Rattle.dc_address.proofs.Texts.{drop-text_of, length-text_of, same_from_text, take-text_of, text_rest}
 use Rattle.dc_address.specs.declared.identity.Identity.{Identity}
 use Rattle.dc_address.specs.declared.fault.IdentityFault.{IdentityFault}
 use Rattle.dc_address.specs.declared.fault.IdentityFault.TheVariants.{Length, Digit, Letter, Hex, Dot}

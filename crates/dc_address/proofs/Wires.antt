@@ -3,9 +3,12 @@ use Rattle.std.proofs.Common.{◌≡◌, ◌<◌, ℕ, List, [], ◌∷◌, true
 use Rattle.std.specs.List.{list_all}
 use Rattle.std.proofs.lemmas.Bool.{and_left, and_right}
 use Rattle.byteorder.specs.Endian.{little_number}
-use Rattle.dc_address.specs.Digits.{decimal_digits, decimal_digits-are_digits, is_nibble, is_digit, nibbles_from_digits, unpacked_digits}
-use Rattle.dc_address.specs.Maker.{is_maker, IsMaker-from_test}
-use Rattle.dc_address.specs.Identity.{IsWire, is_identity, is_identity-wire_of, same_from_wire, WireParts}
+use Rattle.dc_address.specs.Digits.{decimal_digits, is_nibble, is_digit, unpacked_digits}
+use Rattle.dc_address.proofs.Decimals.{decimal_digits-are_digits, nibbles_from_digits}
+use Rattle.dc_address.specs.Maker.{is_maker}
+use Rattle.dc_address.proofs.Letters.{IsMaker-from_test}
+use Rattle.dc_address.specs.Identity.{IsWire, is_identity}
+use Rattle.dc_address.proofs.Identities.{is_identity-wire_of, same_from_wire, WireParts}
 use Rattle.dc_address.specs.declared.identity.Identity.{Identity}
 
 -- digits fit halves of a byte

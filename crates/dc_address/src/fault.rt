@@ -1,22 +1,20 @@
+//! Why a text is no identity.
+
 use thiserror::Error;
 
-/// Why a text is no identity: the first of these that stands.
+/// Why a text is no identity: the first of these that stands. It prints as its number and its name.
 #[derive(Clone, Copy, Debug, PartialEq, Eq, Error)]
+#[error("{} {}", self.number(), self.name())]
 pub enum IdentityFault {
     /// Not 18 bytes.
-    #[error("{} {}", self.number(), self.name())]
     Length,
     /// One of the first eight bytes isn't a digit.
-    #[error("{} {}", self.number(), self.name())]
     Digit,
     /// A manufacturer's letter isn't A to Z.
-    #[error("{} {}", self.number(), self.name())]
     Letter,
     /// Version or device type isn't two hexadecimal digits in capitals.
-    #[error("{} {}", self.number(), self.name())]
     Hex,
     /// A dot is missing between the parts.
-    #[error("{} {}", self.number(), self.name())]
     Dot,
 }
 
@@ -25,8 +23,8 @@ impl IdentityFault {
     ghost use Rattle.dc_address.specs.Text.{number_of, name_of};
 
     /// The fault's number, from 1 in the order in which they are looked for.
-    pub fn number(&self) -> u8
-        ensures { result ≡ number_of self.now }
+    pub fn number(self) -> u8
+        ensures { result ≡ number_of self }
     {
         match self {
             IdentityFault::Length => 1,
@@ -38,8 +36,8 @@ impl IdentityFault {
     }
 
     /// The fault's name, as printed.
-    pub fn name(&self) -> &'static str
-        ensures { result.now ≡ name_of self.now }
+    pub fn name(self) -> &'static str
+        ensures { result.now ≡ name_of self }
     {
         match self {
             IdentityFault::Length => "Length",

@@ -1,3 +1,5 @@
+//! A meter's identity, its eight bytes and its printed text.
+
 ghost use Rattle.std.specs.Prelude.{◌<◌};
 ghost use Rattle.dc_address.specs.Maker.{IsMaker};
 
@@ -6,6 +8,11 @@ use crate::digits::{digits_of, number_of, packed, unpacked};
 use crate::maker::{is_maker, letters_of, maker_of};
 use crate::text::{are_dots, byte_of_hex, codes_of, hex_code, number_of_codes};
 use byteorder::{ByteOrder, LittleEndian};
+
+// The codes of AAA and ZZZ.
+const LEAST_MAKER: u16 = 0x0421;
+
+const GREATEST_MAKER: u16 = 0x6B5A;
 
 /// A meter's identity: the identification number of eight decimal digits, the manufacturer's code of
 /// three letters, the version and the device type, as in the fixed data header of EN 13757-3.
@@ -26,10 +33,35 @@ pub struct Identity {
 }
 
 impl Identity {
-    ghost use Rattle.std.specs.Prelude.{◌≡◌, ◌<◌, IfSome, is_some, IfOk, MatchResult, Some, None, Ok};
-    ghost use Rattle.dc_address.specs.Identity.{IsWire, is_identity, wire_of};
+    ghost use Rattle.std.specs.Prelude.{◌≡◌, ◌≢◌, ◌<◌, IfSome, is_some, IfOk, MatchResult, Some, None, Ok};
+    ghost use Rattle.dc_address.specs.Identity.{IsWire, identity_cmp, is_identity, wire_of};
+    ghost use Rattle.std.specs.declared.cmp.Ordering.TheVariants.{Greater};
     ghost use Rattle.dc_address.specs.Text.{IsText, identity_fault, text_of};
     ghost use Rattle.dc_address.specs.declared.identity.Identity.{Identity};
+
+    /// The least of all: nothing but zeros and `AAA`.
+    pub fn least() -> Identity
+        ensures { (other : Identity) → identity_cmp result other ≢ Greater }
+    {
+        Identity {
+            number: 0,
+            maker: LEAST_MAKER,
+            version: 0,
+            kind: 0,
+        }
+    }
+
+    /// The greatest of all: nothing but nines, `ZZZ` and FF.
+    pub fn greatest() -> Identity
+        ensures { (other : Identity) → other.version < 256 → other.kind < 256 → identity_cmp other result ≢ Greater }
+    {
+        Identity {
+            number: 99_999_999,
+            maker: GREATEST_MAKER,
+            version: 0xFF,
+            kind: 0xFF,
+        }
+    }
 
     /// The eight bytes that name the meter in a telegram's header and in a selection.
     #[tactic(auto, using(crate::proofs::Wires::nibbles), unfolding(crate::specs::Identity::wire_of))]

@@ -23,7 +23,10 @@ mod text;
 
 pub use fault::IdentityFault;
 pub use identity::Identity;
-pub use laws::{mask_of_all_matches_all, mask_of_asks_for_one, with_digit_narrows};
+pub use laws::{
+    mask_of_all_matches_all, mask_of_asks_for_one, masks_are_read_as_sent, order_of,
+    with_digit_narrows,
+};
 pub use mask::Mask;
 pub use primary::Primary;
 

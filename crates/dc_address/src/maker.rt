@@ -1,3 +1,5 @@
+//! The three letters of a manufacturer's code.
+
 ghost use Rattle.std.specs.Prelude.{◌≡◌, ◌∷◌, [], IfSome, is_some};
 ghost use Rattle.std.specs.List.{list_all};
 ghost use Rattle.dc_address.specs.Maker.{IsMaker, first_letter, is_letter, is_maker, maker_code, second_letter, third_letter};

@@ -1,8 +1,11 @@
+//! What a selection asks for.
+
 ghost use Rattle.std.specs.Prelude.{◌≡◌, Some, map};
-ghost use Rattle.dc_address.specs.Mask.{all_fit, fits, nibble_of, value_or_wildcard};
+ghost use Rattle.std.specs.List.{list_all};
+ghost use Rattle.dc_address.specs.Mask.{all_fit, code_or_wildcard, digit_or_wildcard, fits, is_sent, nibble_of, value_or_wildcard};
 
 use crate::Identity;
-use crate::digits::{digits_of, packed};
+use crate::digits::{digits_of, packed, unpacked};
 use byteorder::{ByteOrder, LittleEndian};
 use std::marker::Model;
 
@@ -24,7 +27,7 @@ impl Model for Mask {
 
     ghost view = { λ m. record { digits = m.digits; maker = m.maker; version = m.version; kind = m.kind } };
 
-    ghost invariant = { λ m. IsMask m.digits };
+    ghost invariant = { λ m. IsMask (record { digits = m.digits; maker = m.maker; version = m.version; kind = m.kind }) };
 
     ghost inverse = { λ p. record { digits = p.digits; maker = p.maker; version = p.version; kind = p.kind } };
 }
@@ -36,21 +39,39 @@ fn value_or_wildcard(byte: u8) -> Option<u8>
     if byte == 0xFF { None } else { Some(byte) }
 }
 
+/// A manufacturer as a mask asks for it: FFFF is the wildcard.
+fn code_or_wildcard(code: u16) -> Option<u16>
+    ensures { result ≡ code_or_wildcard code }
+{
+    if code == 0xFFFF { None } else { Some(code) }
+}
+
+/// A digit as a mask asks for it: F is the wildcard.
+fn digit_or_wildcard(nibble: u8) -> Option<u8>
+    ensures { result ≡ digit_or_wildcard nibble }
+{
+    if nibble == 0xF { None } else { Some(nibble) }
+}
+
+/// Whether each half of a byte is one that a mask sends: a digit, or F.
+fn are_sent(nibbles: &[u8; 8]) -> bool
+    ensures { result ≡ list_all is_sent nibbles.now }
+{
+    nibbles.iter().all(|nibble| *nibble < 10 || *nibble == 0xF)
+}
+
+/// Eight digits as a mask asks for them.
+fn places_of(nibbles: [u8; 8]) -> [Option<u8>; 8]
+    ensures { result ≡ map digit_or_wildcard nibbles }
+{
+    nibbles.map(digit_or_wildcard)
+}
+
 /// Eight digits, each fixed.
 fn fixed(digits: [u8; 8]) -> [Option<u8>; 8]
     ensures { result ≡ map Some digits }
 {
-    let [a, b, c, d, e, f, g, h] = digits;
-    [
-        Some(a),
-        Some(b),
-        Some(c),
-        Some(d),
-        Some(e),
-        Some(f),
-        Some(g),
-        Some(h),
-    ]
+    digits.map(Some)
 }
 
 /// A digit as a mask sends it: F for the wildcard.
@@ -64,17 +85,7 @@ fn nibble_of(wanted: Option<u8>) -> u8
 fn nibbles_of(digits: [Option<u8>; 8]) -> [u8; 8]
     ensures { result ≡ map nibble_of digits }
 {
-    let [a, b, c, d, e, f, g, h] = digits;
-    [
-        nibble_of(a),
-        nibble_of(b),
-        nibble_of(c),
-        nibble_of(d),
-        nibble_of(e),
-        nibble_of(f),
-        nibble_of(g),
-        nibble_of(h),
-    ]
+    digits.map(nibble_of)
 }
 
 /// Whether each digit is asked for at its place.
@@ -102,8 +113,8 @@ fn byte_fits(wanted: Option<u8>, value: u8) -> bool
 }
 
 impl Mask {
-    ghost use Rattle.std.specs.Prelude.{◌≡◌, ◌<◌};
-    ghost use Rattle.dc_address.specs.Mask.{mask_of_all, mask_of, with_digit, matches, mask_wire};
+    ghost use Rattle.std.specs.Prelude.{◌≡◌, ◌<◌, IsTrue, SomeIff};
+    ghost use Rattle.dc_address.specs.Mask.{are_sent, mask_at, mask_of_all, mask_of, with_digit, matches, mask_wire};
 
     /// All wildcards: every meter matches.
     pub fn all() -> Mask
@@ -163,5 +174,22 @@ impl Mask {
         let mut wire = [first, second, third, fourth, 0, 0, version, kind];
         LittleEndian::write_u16(&mut wire[4..6], self.maker.unwrap_or(0xFFFF));
         wire
+    }
+    /// The mask that a selection's eight bytes send; none where half of a byte is neither a digit nor F.
+    #[tactic(auto, unfolding(crate::specs::Mask::mask_at))]
+    pub fn from_wire(wire: &[u8; 8]) -> Option<Mask>
+        ensures { SomeIff result (IsTrue (are_sent wire.now)) (mask_at wire.now) }
+    {
+        let [first, second, third, fourth, low, high, version, kind] = *wire;
+        let nibbles = unpacked([first, second, third, fourth]);
+        if !are_sent(&nibbles) {
+            return None;
+        }
+        Some(Mask {
+            digits: places_of(nibbles),
+            maker: code_or_wildcard(LittleEndian::read_u16(&[low, high])),
+            version: value_or_wildcard(version),
+            kind: value_or_wildcard(kind),
+        })
     }
 }

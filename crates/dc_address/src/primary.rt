@@ -1,3 +1,5 @@
+//! Primary addresses.
+
 use std::marker::Model;
 
 /// A primary address, from 1 to 250 (EN 13757-2: 0 is unconfigured, 251 and above have other uses).

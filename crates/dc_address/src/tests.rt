@@ -1,4 +1,7 @@
-use crate::{Identity, IdentityFault, Mask, Primary};
+//! Identities and masks as they are sent and printed.
+
+use crate::{Identity, IdentityFault, Mask, Primary, order_of};
+use std::cmp::Ordering;
 use std::test::Fail;
 
 /// 12345678.PAD.01.07 as eight bytes.
@@ -47,8 +50,21 @@ fn the_first_fault_of_a_text_is_named(rt: HostRuntime) {
         Identity::parse_text(b"12345678.PAD.01-07"),
         Err(IdentityFault::Dot)
     );
-    assert_eq!(rt; IdentityFault::Dot.number(), 5);
-    assert_eq!(rt; IdentityFault::Letter.name(), "Letter");
+}
+
+#[test]
+fn faults_print_as_number_and_name(rt: HostRuntime) -> Result<(), Fail> {
+    let table = [
+        (IdentityFault::Length, "1 Length"),
+        (IdentityFault::Digit, "2 Digit"),
+        (IdentityFault::Letter, "3 Letter"),
+        (IdentityFault::Hex, "4 Hex"),
+        (IdentityFault::Dot, "5 Dot"),
+    ];
+    for (fault, wanted) in &table {
+        assert_eq!(rt; format!(in rt.alloc(); "{fault}")?.as_str(), *wanted);
+    }
+    Ok(())
 }
 
 #[test]
@@ -64,6 +80,33 @@ fn masks_are_sent_with_wildcards(rt: HostRuntime) -> Result<(), Fail> {
     assert!(rt; first.matches(&identity));
     assert!(rt; !Mask::all().with_digit(7, 1).matches(&identity));
     assert!(rt; Mask::of(&identity).matches(&identity));
+    Ok(())
+}
+
+#[test]
+fn masks_are_read_as_they_are_sent(rt: HostRuntime) -> Result<(), Fail> {
+    let identity = Identity::from_wire(&WIRE).ok_or("an identity")?;
+    assert_eq!(rt; Mask::from_wire(&WIRE), Some(Mask::of(&identity)));
+    assert_eq!(rt; Mask::from_wire(&[0xFF; 8]), Some(Mask::all()));
+    assert_eq!(rt;
+        Mask::from_wire(&[0xFF, 0xFF, 0xFF, 0x1F, 0xFF, 0xFF, 0xFF, 0xFF]),
+        Some(Mask::all().with_digit(0, 1))
+    );
+    let no_digit = [0xFF, 0xFF, 0xFF, 0x1A, 0xFF, 0xFF, 0xFF, 0xFF];
+    assert_eq!(rt; Mask::from_wire(&no_digit), None);
+    Ok(())
+}
+
+#[test]
+fn identities_ascend_from_the_least_to_the_greatest(rt: HostRuntime) -> Result<(), Fail> {
+    let identity = Identity::from_wire(&WIRE).ok_or("an identity")?;
+    assert_eq!(rt; Identity::least().text(), *b"00000000.AAA.00.00");
+    assert_eq!(rt; Identity::greatest().text(), *b"99999999.ZZZ.FF.FF");
+    assert_eq!(rt; order_of(&Identity::least(), &identity), Ordering::Less);
+    assert_eq!(rt;
+        order_of(&Identity::greatest(), &identity),
+        Ordering::Greater
+    );
     Ok(())
 }
 

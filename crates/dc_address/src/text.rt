@@ -1,3 +1,5 @@
+//! The parts of a printed identity.
+
 ghost use Rattle.std.specs.Prelude.{◌≡◌, ◌<◌, ◌/◌, ◌%◌, ◌∷◌, [], IfSome, IsTrue, is_some, map};
 ghost use Rattle.std.specs.Char.{is_ascii_digit};
 ghost use Rattle.std.specs.List.{list_all};
@@ -35,17 +37,7 @@ fn value_of(code: u8) -> u8
 fn values_of(codes: &[u8; 8]) -> [u8; 8]
     ensures { result ≡ map code_value codes.now }
 {
-    let [a, b, c, d, e, f, g, h] = *codes;
-    [
-        value_of(a),
-        value_of(b),
-        value_of(c),
-        value_of(d),
-        value_of(e),
-        value_of(f),
-        value_of(g),
-        value_of(h),
-    ]
+    codes.map(value_of)
 }
 
 /// The number that eight ASCII digits write; none where a byte isn't one.

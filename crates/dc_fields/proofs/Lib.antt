@@ -1,1 +1,1 @@
--- the crate's lemmas stand in specs/, for the crates above
+pub mod Numbers

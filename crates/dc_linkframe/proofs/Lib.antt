@@ -1,4 +1,6 @@
 -- lemmas by topic
+pub mod Spellings
+pub mod Readings
 pub mod Checksums
 pub mod Buffers
 pub mod Cutting

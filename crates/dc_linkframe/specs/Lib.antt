@@ -2,6 +2,6 @@
 pub mod Frame
 pub mod Fault
 pub mod Reading
-pub mod Spellings
+pub mod Control
 pub mod Need
 pub mod Buffer

@@ -1,3 +1,5 @@
+//! The bytes of one frame, without memory.
+
 ghost use Rattle.std.specs.Prelude.{◌≡◌, ◌+◌, ◌≤◌, ◌++◌, [], length};
 ghost use Rattle.dc_linkframe.specs.Buffer.{capacity};
 

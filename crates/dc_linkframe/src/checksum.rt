@@ -1,3 +1,5 @@
+//! The checksum of a frame.
+
 ghost use Rattle.std.specs.Prelude.{◌≡◌};
 ghost use Rattle.dc_linkframe.specs.Frame.{checksum};
 

@@ -1,3 +1,5 @@
+//! Why bytes are no link frame.
+
 ghost use Rattle.std.specs.Prelude.{◌≡◌};
 ghost use Rattle.dc_linkframe.specs.Fault.{number_of, name_of};
 
@@ -25,8 +27,8 @@ pub enum FrameFault {
 
 impl FrameFault {
     /// The fault's number, from 1.
-    pub fn number(&self) -> u8
-        ensures { result ≡ number_of self.now }
+    pub fn number(self) -> u8
+        ensures { result ≡ number_of self }
     {
         match self {
             FrameFault::Empty => 1,
@@ -40,8 +42,8 @@ impl FrameFault {
     }
 
     /// The fault's name.
-    pub fn name(&self) -> &'static str
-        ensures { result.now ≡ name_of self.now }
+    pub fn name(self) -> &'static str
+        ensures { result.now ≡ name_of self }
     {
         match self {
             FrameFault::Empty => "Empty",

@@ -1,3 +1,5 @@
+//! Link frames, and the bytes that mark them.
+
 /// A link frame (EN 13757-2); the body of a long one lies in the bytes that were read.
 #[derive(Clone, Copy, Debug, PartialEq, Eq)]
 pub enum Frame<'a> {
@@ -17,8 +19,8 @@ pub enum Frame<'a> {
     },
 }
 
-/// The byte that acknowledges.
-pub(crate) const ACK: u8 = 0xE5;
+/// The single byte that acknowledges.
+pub const ACK: u8 = 0xE5;
 
 /// The byte that begins a short frame.
 pub(crate) const SHORT: u8 = 0x10;

@@ -1,13 +1,18 @@
 //! What holds of the definitions alone.
 
-ghost use Rattle.std.specs.Prelude.{◌≡◌, ℕ, List, ◌≤◌, ◌<◌, ◌⊎◌, ◌++◌, length, take, Some};
+ghost use Rattle.std.specs.Prelude.{◌≡◌, ℕ, true, List, [], ◌∷◌, ◌≤◌, ◌<◌, ◌⊎◌, ◌++◌, length, slice_index, take, Some};
 ghost use Rattle.dc_linkframe.specs.declared.fault.FrameFault.{FrameFault};
-ghost use Rattle.dc_linkframe.specs.Frame.{FrameSeen, spelling, Spells};
+ghost use Rattle.dc_linkframe.specs.Frame.{FrameSeen, ack, spelling, Spells};
+ghost use Rattle.dc_linkframe.specs.Control.{application_error, is_rsp_ud, selected, selection, snd_nke, snd_ud, variable_data};
 ghost use Rattle.dc_linkframe.specs.Fault.{fault_of};
 ghost use Rattle.dc_linkframe.specs.Reading.{frame_of};
 ghost use Rattle.dc_linkframe.specs.Need.{need_of};
 
+use crate::control::{
+    APPLICATION_ERROR, RSP_UD, SELECTED, SELECTION, SND_NKE, SND_UD, VARIABLE_DATA,
+};
 use crate::fault::FrameFault;
+use crate::frame::ACK;
 use crate::needs::Need;
 
 /// No two frames share a spelling, so `parse` of what was written gives the frame.
@@ -15,9 +20,19 @@ pub fn spellings_differ()
     ensures { (one other : FrameSeen) → spelling one ≡ spelling other → one ≡ other }
 {}
 
-/// A frame is read where it is spelled.
-pub fn spelled_frames_are_read()
-    ensures { (text : List ℕ) (frame : FrameSeen) → Spells text frame → frame_of text ≡ Some frame }
+/// A frame is read where it is spelled, and only there. That the second byte is one stands for all: a long
+/// frame's length is that byte, so its body has at most 252.
+pub fn frames_are_read_as_spelled()
+    ensures read { (text : List ℕ) (frame : FrameSeen) → Spells text frame → frame_of text ≡ Some frame }
+    ensures spelled { (text : List ℕ) (frame : FrameSeen) → slice_index text 1 < 256
+        → frame_of text ≡ Some frame → Spells text frame }
+{}
+
+/// The bytes of [`control`](crate::control) are the ones that the definitions name.
+pub fn control_bytes_are_the_standards()
+    ensures requests { (SND_NKE ≡ snd_nke) × (SND_UD ≡ snd_ud) × (SELECTED ≡ selected) }
+    ensures answers { (is_rsp_ud RSP_UD ≡ true) × (spelling ack ≡ ACK ∷ []) }
+    ensures information { (VARIABLE_DATA ≡ variable_data) × (APPLICATION_ERROR ≡ application_error) × (SELECTION ≡ selection) }
 {}
 
 /// What `need` tells of what `parse` will answer.

@@ -7,13 +7,15 @@
 //! [`parse`] answers a frame exactly where the whole text spells it, and else the first fault that
 //! stands in the text. [`need`] says of the bytes that came so far how many more the frame at their
 //! front needs, or where it ends. [`write_short`] and [`write_long`] leave a frame's spelling in a
-//! [`FrameBuf`], so that `parse` of it gives the frame again.
+//! [`FrameBuf`], so that `parse` of it gives the frame again. [`control`] has the bytes by which a master's
+//! requests and a meter's answers are known, and writes the requests.
 //!
 //! Nothing here takes memory.
 #![tactic(auto)]
 
 mod buffer;
 mod checksum;
+pub mod control;
 mod fault;
 mod frame;
 mod laws;
@@ -24,8 +26,11 @@ mod writer;
 
 pub use buffer::FrameBuf;
 pub use fault::FrameFault;
-pub use frame::Frame;
-pub use laws::{need_agrees_with_parse, spelled_frames_are_read, spellings_differ};
+pub use frame::{ACK, Frame};
+pub use laws::{
+    control_bytes_are_the_standards, frames_are_read_as_spelled, need_agrees_with_parse,
+    spellings_differ,
+};
 pub use needs::Need;
 pub use parser::parse;
 pub use stream::need;

@@ -1,3 +1,5 @@
+//! What the front of a stream needs.
+
 /// What the frame at the front of some bytes needs.
 #[derive(Clone, Copy, Debug, PartialEq, Eq)]
 pub enum Need {

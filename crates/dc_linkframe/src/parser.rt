@@ -1,3 +1,5 @@
+//! A text is read as a frame.
+
 ghost use Rattle.std.specs.Prelude.{◌≡◌, Some, IfOk, IfErr, IsOkAnd, option_map, slice_index};
 ghost use Rattle.std.specs.Result.{result_ok};
 ghost use Rattle.dc_linkframe.specs.declared.fault.FrameFault.{FrameFault};
@@ -35,7 +37,7 @@ fn read(text: &[u8]) -> Result<Frame<'_>, FrameFault>
 }
 
 fn read_short(text: &[u8]) -> Result<Frame<'_>, FrameFault>
-    requires { slice_index text.now 0 ≡ 0x10 }
+    requires { slice_index text.now 0 ≡ SHORT }
     ensures found { IfOk result (λ frame. Spells text.now (seen frame)) }
     ensures refused { IfErr result (λ fault. fault_of text.now ≡ Some fault) }
 {
@@ -58,7 +60,7 @@ fn read_short(text: &[u8]) -> Result<Frame<'_>, FrameFault>
 }
 
 fn read_long(text: &[u8]) -> Result<Frame<'_>, FrameFault>
-    requires { slice_index text.now 0 ≡ 0x68 }
+    requires { slice_index text.now 0 ≡ LONG }
     ensures found { IfOk result (λ frame. Spells text.now (seen frame)) }
     ensures refused { IfErr result (λ fault. fault_of text.now ≡ Some fault) }
 {

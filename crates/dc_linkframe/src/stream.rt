@@ -1,3 +1,5 @@
+//! A stream is cut into frames.
+
 ghost use Rattle.std.specs.Prelude.{◌≡◌};
 ghost use Rattle.dc_linkframe.specs.Need.{need_of, up_to};
 

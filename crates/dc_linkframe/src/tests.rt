@@ -1,4 +1,7 @@
-use crate::{Frame, FrameBuf, FrameFault, Need, need, parse, write_long, write_short};
+//! Frames as they are sent, and texts that are none.
+
+use crate::control::{is_rsp_ud, write_request, write_reset, write_selection};
+use crate::{Frame, FrameBuf, FrameFault, Need, need, parse, write_long};
 use std::process::Abort;
 use std::test::Fail;
 
@@ -71,9 +74,18 @@ fn a_stream_is_cut_by_need(rt: HostRuntime) {
     }
 }
 
-fn selects(body: &[u8; 8], text: &[u8; 17], rt: &impl Abort) {
+#[test]
+fn a_response_has_either_flag_bit(rt: HostRuntime) {
+    for control in [0x08, 0x18, 0x28, 0x38] {
+        assert!(rt; is_rsp_ud(control));
+    }
+    assert!(rt; !is_rsp_ud(0x53));
+    assert!(rt; !is_rsp_ud(0x48));
+}
+
+fn selects(mask: &[u8; 8], text: &[u8; 17], rt: &impl Abort) {
     let mut buf = FrameBuf::new();
-    write_long(0x53, 0xFD, 0x52, body, &mut buf);
+    write_selection(mask, &mut buf);
     assert_eq!(rt; buf.as_slice(), text.as_slice());
 }
 
@@ -81,10 +93,12 @@ fn selects(body: &[u8; 8], text: &[u8; 17], rt: &impl Abort) {
 fn frames_are_written_as_sent(rt: HostRuntime) {
     let mut buf = FrameBuf::new();
     assert!(rt; buf.as_slice().is_empty());
-    write_short(0x40, 0xFD, &mut buf);
+    write_reset(0xFD, &mut buf);
     assert_eq!(rt; buf.as_slice(), [0x10, 0x40, 0xFD, 0x3D, 0x16].as_slice());
-    write_short(0x7B, 0xFD, &mut buf);
+    write_request(true, 0xFD, &mut buf);
     assert_eq!(rt; buf.as_slice(), [0x10, 0x7B, 0xFD, 0x78, 0x16].as_slice());
+    write_request(false, 0x01, &mut buf);
+    assert_eq!(rt; buf.as_slice(), [0x10, 0x5B, 0x01, 0x5C, 0x16].as_slice());
     // one meter, every meter, and those whose number begins with 1
     selects(
         &[0x78, 0x56, 0x34, 0x12, 0x24, 0x40, 0x01, 0x07],

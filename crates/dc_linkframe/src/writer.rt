@@ -1,3 +1,5 @@
+//! Frames are written as they are spelled.
+
 ghost use Rattle.std.specs.Prelude.{◌≡◌, ◌≤◌, length};
 ghost use Rattle.dc_linkframe.specs.Frame.{spelling, short, long};
 

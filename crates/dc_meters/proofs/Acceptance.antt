@@ -1,14 +1,15 @@
 -- What an accepted change says.
 use Rattle.std.proofs.Common.{◌≡◌, ℕ, ◌<◌, ◌≤◌, Bool, true, false, cond, Option, Some, None, refl, arith}
-use Rattle.std.specs.Prelude.{is_some, nat_lt, nat_le, not, ◌||◌, ◌&&◌}
-use Rattle.dc_meters.specs.declared.command.Command.{Command}
-use Rattle.dc_meters.specs.declared.command.Command.TheVariants.{Fit, Move, Out, Confirm, Swap}
-use Rattle.dc_meters.specs.Body.{BodyRow}
-use Rattle.dc_meters.specs.State.{State, row_of}
-use Rattle.dc_meters.specs.Apply.{told, commanded}
-use Rattle.dc_meters.specs.Size.{size_of}
-use Rattle.dc_meters.specs.Valid.{end_of_numbers}
-use Rattle.dc_meters.specs.Accepts.{CanBeApplied, command_refusal, telegram_refusal, continues, is_taken}
+use Rattle.std.specs.Prelude.{is_some, IsSome, nat_lt, nat_le, not, ◌||◌, ◌&&◌}
+use Rattle.dc_changes.specs.declared.command.Command.{Command}
+use Rattle.dc_changes.specs.declared.command.Command.TheVariants.{Fit, Move, Out, Confirm, Swap}
+use Rattle.dc_changes.specs.Body.{BodyRow}
+use Rattle.dc_changes.specs.State.{State, row_of}
+use Rattle.dc_changes.specs.Apply.{told, commanded}
+use Rattle.dc_changes.specs.Size.{size_of}
+use Rattle.dc_changes.specs.Valid.{end_of_numbers}
+use Rattle.dc_changes.specs.Accepts.{command_refusal, telegram_refusal, continues, is_taken}
+use Rattle.dc_meters.specs.Steps.{CanBeApplied}
 use Rattle.std.proofs.lemmas.Bool.Decides.{nat_tests}
 
 none_first : {X : Type 0} (b : Bool) (x : X) (rest : Option X) → cond b (Some x) rest ≡ None → (b ≡ false) × (rest ≡ None)
@@ -18,6 +19,10 @@ none_first false x rest e = (refl, e)
 pub none_of : {X : Type 0} (o : Option X) → is_some o ≡ false → o ≡ None
 none_of None e = refl
 none_of (Some x) e = cc
+
+some_of : {X : Type 0} (o : Option X) → not (is_some o) ≡ false → IsSome o
+some_of None e = cc
+some_of (Some x) e = refl
 
 below : (a b : ℕ) → nat_lt a b ≡ false → b ≤ a
 below a b e = grind (arith, nat_tests)
@@ -35,7 +40,10 @@ can_be_applied budget (Move meter flat) s e =
     below budget _ d.0
 can_be_applied budget (Out meter) s e = tt
 can_be_applied budget (Confirm serial) s e = let a = none_first (nat_le s.next_serial serial) _ _ e in grind (arith, nat_tests, a.0)
-can_be_applied budget (Swap old new address) s e = let a = none_first (is_some (row_of new s)) _ _ e in none_of (row_of new s) a.0
+can_be_applied budget (Swap old new address) s e =
+    let a = none_first (is_some (row_of new s)) _ _ e in
+    let b = none_first (not (is_some (row_of old s))) _ _ a.1 in
+    (none_of (row_of new s) a.0, some_of (row_of old s) b.0)
 
 pub record CanBeTold (budget part moment : ℕ) (body : BodyRow) (s : State) : Type 0 where
   pub continues_it : continues part (row_of body.meter s) ≡ true

@@ -1,9 +1,9 @@
 -- Reading so many, one after the other, as a loop does.
 use Rattle.std.proofs.Common.{◌≡◌, ℕ, suc, ◌-◌, ◌+◌, ◌≤◌, ◌<◌, List, [], ◌∷◌, ◌++◌, Option, Some, None, refl, sym, ap, ◌∙◌, append_assoc, append-nil, arith}
-use Rattle.dc_meters.specs.declared.decode_fault.DecodeFault.{DecodeFault}
-use Rattle.dc_meters.specs.declared.decode_fault.DecodeFault.TheVariants.{Bad, NoMemory}
-use Rattle.dc_meters.specs.Reading.{Reader, Fails, ◌>>=◌, many}
-use Rattle.dc_meters.specs.Exact.{some_is}
+use Rattle.dc_changes.specs.declared.decode_fault.DecodeFault.{DecodeFault}
+use Rattle.dc_changes.specs.declared.decode_fault.DecodeFault.TheVariants.{Bad, NoMemory}
+use Rattle.dc_changes.specs.Reading.{Reader, Fails, ◌>>=◌, many}
+use Rattle.dc_changes.proofs.Exact.{some_is}
 
 module _ {X : Type 0} where
   -- what was read before, and what is still read

@@ -2,16 +2,17 @@
 use Rattle.std.proofs.Common.{◌≡◌, ℕ, ◌^◌, ◌+◌, ◌≤◌, ◌<◌, List, [], ◌++◌, length, Some, None, sym, ap, subst, ◌∙◌, arith, length-append}
 use Rattle.std.proofs.lemmas.List.Elements.{All-weaker}
 use Rattle.dc_address.specs.declared.identity.Identity.{Identity}
-use Rattle.dc_meters.specs.State.{State, MeterRow, ReadingRow}
-use Rattle.dc_meters.specs.Size.{size_of}
-use Rattle.dc_meters.specs.Valid.{IsState, IsKept, IsReading}
-use Rattle.dc_meters.specs.Order.{MetersAscend, ReadingsAscend}
-use Rattle.dc_meters.specs.Encoding.{long_bytes, counted}
-use Rattle.dc_meters.specs.Lengths.{length-counted, state_len}
-use Rattle.dc_meters.specs.Spelled.{SpellsState}
-use Rattle.dc_meters.specs.Reading.{listed, count_at, entry_at, reading_at, Head, head_of, head_at}
-use Rattle.dc_meters.specs.Exact.{IsBytes, some_is}
-use Rattle.dc_meters.specs.StateSpellings.{Exact-head, Reads, reads_takes, reads_again, values_are, IsSpelledReading}
+use Rattle.dc_changes.specs.State.{State, MeterRow, ReadingRow}
+use Rattle.dc_changes.specs.Size.{size_of}
+use Rattle.dc_changes.specs.Valid.{IsState, IsReading}
+use Rattle.dc_meters.specs.Kept.{IsKept}
+use Rattle.dc_changes.specs.Order.{MetersAscend, ReadingsAscend}
+use Rattle.dc_changes.specs.Encoding.{long_bytes, counted}
+use Rattle.dc_changes.proofs.Lengths.{length-counted, state_len}
+use Rattle.dc_changes.specs.Spelled.{SpellsState}
+use Rattle.dc_changes.specs.Reading.{listed, count_at, entry_at, reading_at, Head, head_of, head_at}
+use Rattle.dc_changes.proofs.Exact.{IsBytes, some_is}
+use Rattle.dc_changes.proofs.StateSpellings.{Exact-head, Reads, reads_takes, reads_again, values_are, IsSpelledReading}
 
 -- ---- what is left to read of a state
 

@@ -8,8 +8,9 @@ use Rattle.std.specs.Cmp.{tied_then}
 use Rattle.std.proofs.lemmas.Bool.{and_parts}
 use Rattle.std.proofs.lemmas.Cmp.{ranked}
 use Rattle.dc_address.specs.declared.identity.Identity.{Identity}
-use Rattle.dc_address.specs.Identity.{identity_cmp, same_identity}
-use Rattle.dc_meters.specs.State.{State, MeterRow, row_of}
+use Rattle.dc_address.specs.Identity.{identity_cmp}
+use Rattle.dc_address.proofs.Identities.{same_identity}
+use Rattle.dc_changes.specs.State.{State, MeterRow, row_of}
 
 nat_equal_at : (x y : ℕ) (o : Ordering) → o ≡ nat_cmp x y → is_eq o ≡ true → x ≡ y
 nat_equal_at x y Less e t = cc

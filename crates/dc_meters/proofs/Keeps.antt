@@ -10,10 +10,11 @@ use Rattle.std.proofs.lemmas.Map.Views.{All-values-insert_entry, All-values-set_
 use Rattle.std.proofs.lemmas.List.Elements.{All-nil, All-filter, filter_passes, All-push}
 use Rattle.dc_address.specs.declared.identity.Identity.{Identity}
 use Rattle.dc_address.specs.Identity.{identity_cmp}
-use Rattle.dc_meters.specs.State.{State, MeterRow, PartRow, ReadingRow, row_of, empty_state}
-use Rattle.dc_meters.specs.Size.{parts_size, meter_size, reading_size, size_of}
-use Rattle.dc_meters.specs.Apply.{with_row, joined, moved, heard, fitted, taken_out, confirmed_up_to}
-use Rattle.dc_meters.specs.Valid.{IsKept, IsMeter, IsReading, IsOpenSerial, end_of_numbers}
+use Rattle.dc_changes.specs.State.{State, MeterRow, PartRow, ReadingRow, row_of, empty_state}
+use Rattle.dc_changes.specs.Size.{parts_size, meter_size, reading_size, size_of}
+use Rattle.dc_changes.specs.Apply.{with_row, joined, moved, heard, fitted, taken_out, confirmed_up_to}
+use Rattle.dc_changes.specs.Valid.{IsMeter, IsReading, IsOpenSerial, end_of_numbers}
+use Rattle.dc_meters.specs.Kept.{IsKept}
 use Rattle.dc_meters.proofs.Readings.{sorted_of_kept, sorted_of_pushed}
 use Rattle.dc_meters.proofs.Sizes.{size_of-with_row, size_of-fitted, size_of-taken_out, size_of-read, meter_size-le, size_of-heard_last}
 

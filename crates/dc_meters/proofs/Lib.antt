@@ -1,17 +1,13 @@
-pub mod Spellings
-pub mod Lines
-pub mod Padding
 pub mod Sizes
 pub mod Identities
-pub mod Readings
-pub mod Keeps
-pub mod Acceptance
-pub mod History
-pub mod Writes
-pub mod Loops
-pub mod PartLists
-pub mod Counts
-pub mod Runs
-pub mod Ascending
-pub mod Lists
-pub mod Decoded
+mod Readings
+mod Keeps
+mod Acceptance
+mod Loops
+mod PartLists
+mod Counts
+mod Replays
+mod Ascending
+mod Lists
+mod Decoded
+pub mod DueDates

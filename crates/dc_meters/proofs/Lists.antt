@@ -10,10 +10,10 @@ use Rattle.std.proofs.lemmas.Cmp.{ranked}
 use Rattle.std.proofs.lemmas.List.Elements.{All-nil, All-push, All-head, All-tail, All-cons}
 use Rattle.dc_address.specs.declared.identity.Identity.{Identity}
 use Rattle.dc_address.specs.Identity.{identity_cmp}
-use Rattle.dc_meters.specs.State.{MeterRow, ReadingRow}
-use Rattle.dc_meters.specs.Valid.{IsOpenSerial}
-use Rattle.dc_meters.specs.Order.{MetersAscend, ReadingsAscend, IsNextSerial}
-use Rattle.dc_meters.specs.Reading.{Reader, many, entry_at, reading_at}
+use Rattle.dc_changes.specs.State.{MeterRow, ReadingRow}
+use Rattle.dc_changes.specs.Valid.{IsOpenSerial}
+use Rattle.dc_changes.specs.Order.{MetersAscend, ReadingsAscend, IsNextSerial}
+use Rattle.dc_changes.specs.Reading.{Reader, many, entry_at, reading_at}
 use Rattle.dc_meters.proofs.Counts.{with_front, begins_with, goes_on, front_of}
 use Rattle.dc_meters.proofs.Ascending.{insert_last, before_next}
 use Rattle.dc_meters.proofs.Sizes.{identities_total}

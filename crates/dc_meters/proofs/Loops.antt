@@ -3,7 +3,8 @@ use Rattle.std.proofs.Common.{◌≡◌, ℕ, ◌+◌, ◌<◌, List, [], ◌∷
 use Rattle.std.specs.List.{flat_map}
 use Rattle.std.proofs.lemmas.List.{append-nil, take-append-drop, take_more, drop_more}
 use Rattle.std.proofs.lemmas.List.Concat.{flat_map-append}
-use Rattle.dc_meters.specs.Writing.{IsWritten, IsStopped, written_both, stopped_first, stopped_second}
+use Rattle.dc_changes.specs.Writing.{IsWritten, IsStopped}
+use Rattle.dc_changes.proofs.Writes.{written_both, stopped_first, stopped_second}
 
 module _ {X : Type 0} (f : X → List ℕ) (xs : List X) (i : ℕ) (x : X) where
   front_more : i < length xs → x ≡ get_or xs i x → flat_map f (take (i + 1) xs) ≡ flat_map f (take i xs) ++ f x

@@ -8,9 +8,9 @@ use Rattle.std.specs.declared.cmp.Ordering.TheVariants.{Less, Equal, Greater}
 use Rattle.std.specs.Prelude.{◌==◌}
 use Rattle.std.proofs.lemmas.Bool.{lt-ltb}
 use Rattle.std.proofs.lemmas.List.Elements.{All-head, All-tail}
-use Rattle.dc_meters.specs.State.{State, ReadingRow}
-use Rattle.dc_meters.specs.Apply.{confirmed_up_to}
-use Rattle.dc_meters.specs.Valid.{IsOpenSerial, IsState}
+use Rattle.dc_changes.specs.State.{State, ReadingRow}
+use Rattle.dc_changes.specs.Apply.{confirmed_up_to}
+use Rattle.dc_changes.specs.Valid.{IsOpenSerial, IsState}
 
 abbrev pub serials : List ReadingRow → List ℕ
 serials readings = map (λ (r : ReadingRow). r.serial) readings

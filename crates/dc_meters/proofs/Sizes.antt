@@ -11,10 +11,10 @@ use Rattle.std.proofs.lemmas.List.Sums.{sum_by-append, sum_by-cons}
 use Rattle.std.proofs.lemmas.Map.Entries.{sum_by-set_value, sum_by-insert_entry, sum_by-remove_entry, length-values_of}
 use Rattle.dc_address.specs.declared.identity.Identity.{Identity}
 use Rattle.dc_address.specs.Identity.{identity_cmp}
-use Rattle.dc_meters.specs.Body.{BodyRow}
-use Rattle.dc_meters.specs.State.{State, MeterRow, PartRow, ReadingRow, row_of}
-use Rattle.dc_meters.specs.Size.{part_size, parts_size, meter_size, reading_size, size_of}
-use Rattle.dc_meters.specs.Apply.{with_row, joined, heard, told, moved, fitted, taken_out}
+use Rattle.dc_changes.specs.Body.{BodyRow}
+use Rattle.dc_changes.specs.State.{State, MeterRow, PartRow, ReadingRow, row_of}
+use Rattle.dc_changes.specs.Size.{part_size, parts_size, meter_size, reading_size, size_of}
+use Rattle.dc_changes.specs.Apply.{with_row, joined, heard, told, moved, fitted, taken_out}
 
 pub identities_total : IsTotalOrder identity_cmp
 identities_total = then_total (on_total (λ a. a.number) nat_cmp_total) (then_total (on_total (λ a. a.maker) nat_cmp_total) (then_total (on_total (λ a. a.version) nat_cmp_total) (on_total (λ a. a.kind) nat_cmp_total)))

@@ -1,7 +1,9 @@
+//! The register of a house's meters and their readings.
+
 ghost use Rattle.std.specs.Prelude.{◌≡◌, ◌≤◌, option_copied};
-ghost use Rattle.dc_meters.specs.State.{empty_state, row_of};
-ghost use Rattle.dc_meters.specs.Size.{size_of};
-ghost use Rattle.dc_meters.specs.Valid.{IsState};
+ghost use Rattle.dc_changes.specs.State.{empty_state, row_of};
+ghost use Rattle.dc_changes.specs.Size.{size_of, empty_size};
+ghost use Rattle.dc_changes.specs.Valid.{IsState};
 
 mod apply;
 mod check;
@@ -9,12 +11,16 @@ mod decode;
 mod encode;
 mod replay;
 
-use crate::{CommandLine, Meter, Reading};
+use crate::{Meter, Reading};
 use dc_address::Identity;
+use dc_changes::CommandLine;
 use std::alloc::Allocator;
 use std::collections::BTreeMap;
 use std::collections::btree_map::Iter;
 use std::marker::Model;
+
+/// The bytes that a state without meters and readings is counted as.
+const EMPTY_SIZE: u32 = 153;
 
 /// The register of a house's meters, and their readings.
 #[derive(Drop)]
@@ -31,8 +37,8 @@ pub struct House<A: Allocator + Copy> {
 }
 
 impl<A: Allocator + Copy> Model for House<A> {
-    ghost use Rattle.dc_meters.specs.State.{Held};
-    ghost use Rattle.dc_meters.specs.Valid.{IsKept};
+    ghost use Rattle.dc_changes.specs.State.{Held};
+    ghost use Rattle.dc_meters.specs.Kept.{IsKept};
 
     ghost Value = { Held };
 
@@ -44,7 +50,7 @@ impl<A: Allocator + Copy> Model for House<A> {
 impl<A: Allocator + Copy> House<A> {
     /// A house with no meter and no reading, in whose budget every later state stays.
     pub fn new(alloc: A, budget: u32) -> House<A>
-        requires { 153 ≤ budget }
+        requires { empty_size ≤ budget }
         ensures { result ≡ record { state = empty_state; budget = budget } }
     {
         House {
@@ -55,7 +61,7 @@ impl<A: Allocator + Copy> House<A> {
             confirmed: 0,
             last_number: 0,
             last_line: CommandLine::empty(),
-            size: 153,
+            size: EMPTY_SIZE,
             budget,
         }
     }

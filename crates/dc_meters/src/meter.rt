@@ -1,14 +1,17 @@
+//! A registered meter.
+
 ghost use Rattle.std.specs.Prelude.{◌≡◌, ◌+◌, ◌≤◌, ◌==◌, if◌then◌else◌, length, [], Some, true, OnOk, OnErr, ◌∷◌, ◌++◌};
-ghost use Rattle.dc_meters.specs.Apply.{joined};
-ghost use Rattle.dc_meters.specs.Accepts.{continues, occupies, same_primary};
-ghost use Rattle.dc_meters.specs.Size.{meter_size, parts_size};
-ghost use Rattle.dc_meters.specs.Flat.{IsFlat};
-ghost use Rattle.dc_meters.specs.Valid.{IsMeter, IsPart, IsReading};
+ghost use Rattle.dc_changes.specs.Apply.{joined};
+ghost use Rattle.dc_changes.specs.Accepts.{continues, occupies, same_primary};
+ghost use Rattle.dc_changes.specs.Size.{meter_size, parts_size};
+ghost use Rattle.dc_changes.specs.Flat.{IsFlat};
+ghost use Rattle.dc_changes.specs.Valid.{IsMeter, IsPart, IsReading, most_parts};
 
 use crate::part::parts_size;
-use crate::{Flat, Part, Reading};
+use crate::{Part, Reading};
 use dc_address::{Identity, Primary};
 use dc_base::NoMemory;
+use dc_changes::Flat;
 use std::alloc::Allocator;
 use std::marker::Model;
 use std::mem::replace;
@@ -23,8 +26,8 @@ pub struct Meter<A: Allocator> {
 }
 
 impl<A: Allocator> Model for Meter<A> {
-    ghost use Rattle.dc_meters.specs.State.{MeterRow};
-    ghost use Rattle.dc_meters.specs.Valid.{IsMeter};
+    ghost use Rattle.dc_changes.specs.State.{MeterRow};
+    ghost use Rattle.dc_changes.specs.Valid.{IsMeter};
 
     ghost Value = { MeterRow };
 
@@ -175,7 +178,7 @@ impl<A: Allocator> Meter<A> {
     /// Keeps one part more.
     fn push(&mut self, part: Part<A>) -> Result<(), NoMemory>
         requires part_is { IsPart part }
-        requires room { length self.old.parts + 1 ≤ 255 }
+        requires room { length self.old.parts + 1 ≤ most_parts }
         ensures ok { OnOk result (self.new ≡ record self.old { parts = self.old.parts ++ part ∷ [] }) }
         ensures err { OnErr result (self.new ≡ self.old) }
     {

@@ -1,9 +1,13 @@
+//! A part of a readout.
+
 ghost use Rattle.std.specs.Prelude.{◌≡◌, ◌*◌, ◌≤◌, length, IfOk};
-ghost use Rattle.dc_meters.specs.State.{PartRow};
-ghost use Rattle.dc_meters.specs.Size.{part_size, parts_size};
-ghost use Rattle.dc_meters.specs.Valid.{IsPart};
+ghost use Rattle.dc_records.specs.Telegram.{parsed, telegram_at};
+ghost use Rattle.dc_changes.specs.State.{PartRow};
+ghost use Rattle.dc_changes.specs.Size.{part_size, parts_size};
+ghost use Rattle.dc_changes.specs.Valid.{IsPart, most_parts};
 
 use dc_base::NoMemory;
+use dc_records::Telegram;
 use std::alloc::Allocator;
 use std::marker::Model;
 
@@ -15,8 +19,8 @@ pub struct Part<A: Allocator> {
 }
 
 impl<A: Allocator> Model for Part<A> {
-    ghost use Rattle.dc_meters.specs.State.{PartRow};
-    ghost use Rattle.dc_meters.specs.Valid.{IsPart};
+    ghost use Rattle.dc_changes.specs.State.{PartRow};
+    ghost use Rattle.dc_changes.specs.Valid.{IsPart};
 
     ghost Value = { PartRow };
 
@@ -52,6 +56,16 @@ impl<A: Allocator> Part<A> {
         &self.body
     }
 
+    /// The telegram whose body it is.
+    pub fn telegram(&self) -> Telegram<'_>
+        ensures { telegram_at self.now.body ≡ Ok (parsed result) }
+    {
+        match Telegram::parse(&self.body) {
+            Ok(telegram) => telegram,
+            Err(_) => unreachable!(),
+        }
+    }
+
     pub(crate) fn size(&self) -> u32
         ensures size { result ≡ part_size self.now }
         ensures bound { result ≤ 261 }
@@ -62,7 +76,7 @@ impl<A: Allocator> Part<A> {
 
 /// The bytes that parts are counted as.
 pub(crate) fn parts_size<A: Allocator>(parts: &[Part<A>]) -> u32
-    requires { length parts.now ≤ 255 }
+    requires { length parts.now ≤ most_parts }
     ensures size { result ≡ parts_size parts.now }
     ensures bound { result ≤ 261 * length parts.now }
 {

@@ -1,10 +1,13 @@
-ghost use Rattle.std.specs.Prelude.{◌≡◌, ◌≤◌};
-ghost use Rattle.dc_meters.specs.Size.{reading_size};
-ghost use Rattle.dc_meters.specs.Valid.{IsReading};
+//! A finished readout.
 
+ghost use Rattle.std.specs.Prelude.{◌≡◌, ◌≤◌};
+ghost use Rattle.dc_changes.specs.Size.{reading_size};
+ghost use Rattle.dc_changes.specs.Valid.{IsReading};
+
+use crate::Part;
 use crate::part::parts_size;
-use crate::{Flat, Part};
 use dc_address::Identity;
+use dc_changes::Flat;
 use std::alloc::Allocator;
 use std::marker::Model;
 
@@ -18,8 +21,8 @@ pub struct Reading<A: Allocator> {
 }
 
 impl<A: Allocator> Model for Reading<A> {
-    ghost use Rattle.dc_meters.specs.State.{ReadingRow};
-    ghost use Rattle.dc_meters.specs.Valid.{IsReading};
+    ghost use Rattle.dc_changes.specs.State.{ReadingRow};
+    ghost use Rattle.dc_changes.specs.Valid.{IsReading};
 
     ghost Value = { ReadingRow };
 

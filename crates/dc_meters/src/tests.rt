@@ -1,16 +1,20 @@
-ghost use Rattle.std.specs.Prelude.{◌≡◌, IfOk};
-ghost use Rattle.dc_meters.specs.Valid.{IsChange, IsCommand, IsNumber};
+//! What the register does, on worked changes.
 
-use crate::{Body, Change, ChangeFault, Command, Flat, House, encode_change};
+ghost use Rattle.std.specs.Prelude.{◌≡◌, IfOk};
+ghost use Rattle.dc_changes.specs.Valid.{IsChange, IsCommand, IsNumber};
+
+use crate::House;
 use dc_address::{Identity, Primary};
 use dc_base::NoMemory;
-use dc_records::Bytes;
+use dc_changes::{Body, Change, ChangeFault, Command, Flat};
+use dc_stream::Bytes;
 use refusing_alloc::Refusing;
 use std::alloc::Allocator;
 use std::process::Abort;
 use std::test::Fail;
 
 mod decoding;
+mod due;
 
 // The meter 12345678.PAD.01.07 tells a volume, and then a date and the volume on it.
 const FIRST: &[u8] =
@@ -167,39 +171,6 @@ fn the_register_changes(rt: HostRuntime) -> Result<(), Fail> {
     Ok(())
 }
 
-#[test]
-fn changes_have_their_bytes(rt: HostRuntime) -> Result<(), Fail> {
-    let old = Identity::parse_text(b"12345678.PAD.01.07")?;
-    let new = Identity::parse_text(b"00000001.PAD.01.07")?;
-    let mut bytes = Bytes::new(rt.alloc());
-    encode_change(&fit(1)?, &mut bytes)?;
-    let fitted =
-        b"\x02\x01\x00\x00\x00\x00\x00\x00\x00\x78\x56\x34\x12\x24\x40\x01\x07\x01\x01\x02\x41\x31";
-    assert_eq!(rt; bytes.as_slice(), fitted.as_slice());
-    let swap = Change::Command {
-        number: 2,
-        command: Command::Swap {
-            old,
-            new,
-            address: Primary::new(2),
-        },
-    };
-    let mut bytes = Bytes::new(rt.alloc());
-    encode_change(&swap, &mut bytes)?;
-    let swapped =
-        b"\x06\x02\x00\x00\x00\x00\x00\x00\x00\x78\x56\x34\x12\x24\x40\x01\x07\x01\x00\x00\x00\x24\x40\x01\x07\x02";
-    assert_eq!(rt; bytes.as_slice(), swapped.as_slice());
-    let mut bytes = Bytes::new(rt.alloc());
-    encode_change(
-        &told(1, b"\x78\x56\x34\x12\x24\x40\x01\x07\x01\x00\x00\x00")?,
-        &mut bytes,
-    )?;
-    let heard =
-        b"\x01\x01\x64\x00\x00\x00\x00\x00\x00\x00\x0C\x78\x56\x34\x12\x24\x40\x01\x07\x01\x00\x00\x00";
-    assert_eq!(rt; bytes.as_slice(), heard.as_slice());
-    Ok(())
-}
-
 // Each request of each change is refused in turn: nothing changes, and the same change then succeeds. A fitted meter
 // takes room in the map; a first part its body and room for parts; the last part its body and room for the reading.
 #[test]
@@ -340,5 +311,76 @@ fn a_meter_is_swapped_and_back(rt: HostRuntime) -> Result<(), Fail> {
     order(&rt, &mut house, 2, swap(one, other)?)?;
     assert_eq!(rt; house.size(), 167);
     assert_eq!(rt; house.readings().len(), 0);
+    Ok(())
+}
+
+#[test]
+fn a_meter_moves_between_two_parts(rt: HostRuntime) -> Result<(), Fail> {
+    let meter = Identity::parse_text(b"12345678.PAD.01.07")?;
+    let flat = Flat::new(b"B2").ok_or("flat")?;
+    let mut house = House::new(rt.alloc(), 15_616);
+    apply(&rt, &mut house, &fit(1)?)?;
+    apply(&rt, &mut house, &told(1, FIRST)?)?;
+    order(&rt, &mut house, 2, Command::Move { meter, flat })?;
+    apply(&rt, &mut house, &told(2, LAST)?)?;
+    let row = house.meter(&meter).ok_or("meter")?;
+    assert_eq!(rt; row.flat(), flat);
+    assert_eq!(rt; row.parts().len(), 0);
+    for reading in house.readings() {
+        assert_eq!(rt; reading.flat(), flat);
+        assert_eq!(rt; reading.parts().len(), 2);
+    }
+    Ok(())
+}
+
+// Meters 00000002 and so on, none of which has a primary address.
+fn fit_more<A: Allocator + Copy>(
+    rt: &impl Abort,
+    house: &mut House<A>,
+    alloc: A,
+    count: u32,
+) -> Result<(), Fail> {
+    for at in 0..count {
+        let flat = Flat::new(b"C3").ok_or("flat")?;
+        let text = format!(in alloc; "{:08}.PAD.01.07", at + 2)?;
+        let meter = Identity::parse_text(text.as_bytes())?;
+        let command = Command::Fit {
+            meter,
+            line: 1,
+            address: None,
+            flat,
+        };
+        order(rt, house, u64::from(at) + 2, command)?;
+    }
+    Ok(())
+}
+
+// Where the meter that is swapped in finds no room, the old one stays; the same change then succeeds.
+#[test]
+fn a_swap_without_memory_changes_nothing(rt: HostRuntime) -> Result<(), Fail> {
+    let one = b"12345678.PAD.01.07";
+    let other = b"00000001.PAD.01.07";
+    let heap = Refusing::new(rt.alloc());
+    let mut refused = false;
+    for count in 0..40u32 {
+        heap.refuse(0);
+        let mut house = House::new(&heap, 15_616);
+        apply(&rt, &mut house, &fit(1)?)?;
+        fit_more(&rt, &mut house, &heap, count)?;
+        let before = (house.size(), house.last_number());
+        let swapped = swap(one, other)?;
+        heap.refuse(1);
+        if order(&rt, &mut house, u64::from(count) + 2, swapped).is_err() {
+            refused = true;
+            assert_eq!(rt; (house.size(), house.last_number()), before);
+            assert!(rt; house.meter(&Identity::parse_text(one)?).is_some());
+            assert!(rt; house.meter(&Identity::parse_text(other)?).is_none());
+            order(&rt, &mut house, u64::from(count) + 2, swapped)?;
+        }
+        heap.refuse(0);
+        assert!(rt; house.meter(&Identity::parse_text(one)?).is_none());
+        assert!(rt; house.meter(&Identity::parse_text(other)?).is_some());
+    }
+    assert!(rt; refused);
     Ok(())
 }

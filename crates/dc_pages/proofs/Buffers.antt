@@ -4,7 +4,7 @@ use Rattle.std.proofs.lemmas.List.{drop-append-le, drop-take, drop-drop, drop-re
 use borrow.Rule.Slice.PartMut.{put_mid, mid_of, same_len_mid}
 use Rattle.dc_pages.specs.Buffer.{IsBuffer}
 use Rattle.dc_pages.specs.Group.{head_bytes, page_bytes}
-use Rattle.dc_pages.specs.Stamped.{length-head_bytes}
+use Rattle.dc_pages.proofs.Stamped.{length-head_bytes}
 
 module _ (used count k : ℕ) (page bytes : List ℕ) (is : IsBuffer used page) (within : used + count ≤ 488) (all : length bytes ≡ count) (k_is : k ≡ count) where
   front : List ℕ

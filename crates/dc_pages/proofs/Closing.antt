@@ -3,7 +3,7 @@ use Rattle.std.proofs.Common.{◌≡◌, ℕ, ◌<◌, ◌≤◌, ◌+◌, ◌^�
 use Rattle.dc_sectors.specs.Disk.{Image, Choices, IsImage, Elapses, put, added}
 use Rattle.dc_pages.specs.Draft.{Draft}
 use Rattle.dc_pages.specs.Group.{commit_kind, head_bytes, page_bytes, commit_bytes}
-use Rattle.dc_pages.specs.Stamped.{commit_bytes-is_commit}
+use Rattle.dc_pages.proofs.Stamped.{commit_bytes-is_commit}
 use Rattle.dc_pages.specs.Writing.{IsOnDisk, IsGoing, IsClosed}
 use Rattle.dc_pages.proofs.Turning.{closed}
 

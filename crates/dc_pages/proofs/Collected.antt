@@ -7,7 +7,7 @@ use Rattle.dc_sectors.specs.Disk.{Image}
 use Rattle.dc_pages.specs.Group.{IsHead, IsPage, IsCommit, IsGroup, commit_kind, piece}
 use Rattle.dc_pages.specs.Reading.{IsBegun, IsCutAt}
 use Rattle.dc_pages.specs.Judging.{IsStep}
-use Rattle.dc_pages.specs.Agree.{page_or_commit}
+use Rattle.dc_pages.proofs.Agree.{page_or_commit}
 use Rattle.dc_pages.specs.declared.fault.GroupFault.{GroupFault}
 use Rattle.dc_pages.specs.declared.reader.Wanted.{Wanted}
 use Rattle.dc_pages.proofs.Turning.{piece_same}

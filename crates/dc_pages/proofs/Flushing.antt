@@ -7,7 +7,7 @@ use Rattle.dc_sectors.specs.Disk.{Image, Choices, IsImage, Elapses, LeavesOnly, 
 use Rattle.dc_pages.specs.Buffer.{IsBuffer}
 use Rattle.dc_pages.specs.Draft.{Draft}
 use Rattle.dc_pages.specs.Group.{IsPage, piece, head_bytes, page_bytes}
-use Rattle.dc_pages.specs.Stamped.{page_bytes-is_page}
+use Rattle.dc_pages.proofs.Stamped.{page_bytes-is_page}
 use Rattle.dc_pages.specs.Writing.{IsPageWritten, IsPartOf, IsOnDisk}
 use Rattle.dc_pages.proofs.Buffers.{sealed}
 use Rattle.dc_pages.proofs.Turning.{flush_left, flushed}

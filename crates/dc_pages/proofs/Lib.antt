@@ -1,7 +1,14 @@
-pub mod Buffers
-pub mod Closing
-pub mod Collected
-pub mod Flushing
-pub mod Going
-pub mod Heads
-pub mod Turning
+-- for the crates above
+pub mod Agree
+pub mod Chained
+pub mod Cut
+pub mod OneSync
+-- of this crate alone
+mod Buffers
+mod Closing
+mod Collected
+mod Flushing
+mod Going
+mod Heads
+mod Stamped
+mod Turning

@@ -7,7 +7,7 @@ use Rattle.dc_sectors.specs.declared.sector.Sector.{Sector}
 use Rattle.dc_sectors.specs.declared.sector.Sector.TheVariants.{Bytes, Unreadable}
 use Rattle.dc_sectors.specs.Disk.{Image, Choices, IsImage, Elapses, LeavesOnly, put, added}
 use Rattle.dc_sectors.specs.Images.{put_elsewhere, put_here, added_here, added_elsewhere}
-use Rattle.dc_sectors.specs.Moments.{goes_on, weakened}
+use Rattle.dc_sectors.proofs.Moments.{goes_on, weakened}
 use Rattle.dc_pages.specs.Group.{IsPage, IsCommit, piece, commit_bytes}
 use Rattle.dc_pages.specs.Writing.{IsPageWritten, IsPartOf, IsTorn, IsOnDisk, IsClosed, TornAt, PartOrTorn}
 

@@ -20,3 +20,7 @@ draft_len draft = 488 * draft.pages + length draft.buffer
 -- so many bytes more and a commit sector fit
 abbrev pub HasRoom : Draft → ℕ → Type 0
 HasRoom draft more = 488 * draft.place + draft_len draft + more + 488 ≤ 488 * draft.limit
+
+-- so many bytes and a commit sector fit from a place on, in a half that ends before `limit`
+abbrev pub FitsAt : ℕ → ℕ → ℕ → Type 0
+FitsAt place limit len = 488 * place + len + 488 ≤ 488 * limit

@@ -4,6 +4,12 @@ ghost use Rattle.dc_pages.specs.Group.{IsHead, head_bytes};
 use crate::Stamp;
 use dc_fields::{put_u16, put_u32, put_u64, u16_at, u32_at, u64_at};
 
+/// The kind of a page of a whole state.
+pub const BASE: u8 = 0x42;
+
+/// The kind of a page of changes.
+pub const CHANGES: u8 = 0x50;
+
 /// The kind of a commit sector.
 pub(crate) const COMMIT: u8 = 0x43;
 

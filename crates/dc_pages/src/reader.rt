@@ -120,6 +120,7 @@ impl<A: Allocator> Reading<A> {
         ensures wanted { self.new.wanted ≡ self.old.wanted }
         ensures pages { IfOk result (λ done. self.new.pages ≡ (if done then self.old.pages else self.old.pages + 1)) }
         ensures device { IsErrOf result GroupFault.Device → HasRisen (D.failures disk.old) (D.failures disk.new) }
+        ensures passed { (IsErrOf result GroupFault.Device → ⊥) → D.failures disk.new ≡ D.failures disk.old }
         ensures reads { D.honest → D.reads disk.new ≡ D.reads disk.old }
         ensures choices { D.honest → D.choices disk.new ≡ D.choices disk.old }
         ensures time { D.honest → Elapses (D.moment disk.old) (D.moment disk.new) (D.images_since disk.old) (D.images_since disk.new) (IsImage (D.choices disk.old)) }
@@ -170,6 +171,7 @@ pub fn read_group<A: Allocator, D: Disk>(
     ensures incomplete { D.honest → (n : ℕ) → IsErrOf result (GroupFault.Incomplete n) → IsCutAt version kind sequence place limit n (D.reads disk.old) }
     ensures within { IfOk result (λ group. (1 ≤ group.sectors) × (place + group.sectors ≤ limit)) }
     ensures device { IsErrOf result GroupFault.Device → HasRisen (D.failures disk.old) (D.failures disk.new) }
+    ensures passed { (IsErrOf result GroupFault.Device → ⊥) → D.failures disk.new ≡ D.failures disk.old }
     ensures reads { D.honest → D.reads disk.new ≡ D.reads disk.old }
     ensures choices { D.honest → D.choices disk.new ≡ D.choices disk.old }
     ensures any_moment { D.honest → LeavesOnly D.moment D.images_since disk.old disk.new (IsImage (D.choices disk.old)) }

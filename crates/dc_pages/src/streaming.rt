@@ -5,8 +5,8 @@ ghost use Rattle.dc_pages.specs.Streaming.{GoesInto, BreaksOff};
 
 use crate::GroupWriter;
 use dc_base::one_failure_more;
-use dc_records::{IoFault, Sink};
 use dc_sectors::{Disk, Failed};
+use dc_stream::{IoFault, Sink};
 
 /// A group writer and its disk, as one writer of bytes: what is put goes into the group. It takes no
 /// memory and doesn't sync.

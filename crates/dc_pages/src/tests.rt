@@ -4,8 +4,8 @@ ghost use Rattle.std.specs.List.{AllZip};
 ghost use Rattle.dc_sectors.specs.Memory.{IsPickFor};
 
 use crate::{GroupFault, GroupSink, GroupWriter, Stamp, read_group};
-use dc_records::{IoFault, Sink};
 use dc_sectors::{Disk, Failed, MemoryDisk, Pick};
+use dc_stream::{IoFault, Sink};
 use refusing_alloc::Refusing;
 use std::alloc::Global;
 use std::process::Abort;

@@ -1,10 +1,6 @@
-pub mod Digits
 pub mod Feeds
 pub mod Cuts
 pub mod Inputs
-pub mod Known
-pub mod Pairs
-pub mod Placed
 pub mod Readings
 pub mod Records
 pub mod Solid
@@ -12,4 +8,3 @@ pub mod Spelled
 pub mod Steps
 pub mod Telegrams
 pub mod Turns
-pub mod Values

@@ -4,15 +4,16 @@ use Rattle.std.specs.Fmt.{decimal}
 use Rattle.std.proofs.lemmas.Fmt.{decimal_injective, decimal_is_IsNumeral}
 use Rattle.std.proofs.lemmas.Str.Parse.{digit_at}
 use Rattle.dc_records.specs.Telegram.{Parsed, IsTelegram}
-use Rattle.dc_meters.specs.Body.{BodyRow, IsBody, body_of}
-use Rattle.dc_meters.specs.Line.{NamesMeters, command_text, line_of}
-use Rattle.dc_meters.specs.Valid.{IsCommand, IsNumber, last_moment}
-use Rattle.dc_meters.specs.Words.{IsWord, decimal_is_word}
-use Rattle.dc_meters.specs.declared.change.Change.{Change}
-use Rattle.dc_meters.specs.declared.change.Change.TheVariants.{Telegram, Command as Numbered}
-use Rattle.dc_meters.specs.declared.command.Command.{Command}
+use Rattle.dc_changes.specs.Body.{BodyRow, IsBody, body_of}
+use Rattle.dc_changes.specs.Line.{NamesMeters, command_text, line_of}
+use Rattle.dc_changes.specs.Valid.{IsCommand, IsNumber, last_moment}
+use Rattle.dc_changes.specs.Words.{IsWord}
+use Rattle.dc_changes.proofs.Decimals.{decimal_is_word}
+use Rattle.dc_changes.specs.declared.change.Change.{Change}
+use Rattle.dc_changes.specs.declared.change.Change.TheVariants.{Telegram, Command as Numbered}
+use Rattle.dc_changes.specs.declared.command.Command.{Command}
 use Rattle.dc_poller.specs.Fold.{SpellsTelegram, IsLineOf, IsReadAs, AreReadAs, IsFolded, any_unread, fold_text}
-use Rattle.dc_poller.specs.Hex.{bytes_of}
+use Rattle.dc_text.specs.Hex.{bytes_of}
 use Rattle.dc_poller.specs.Lines.{lines_of}
 use Rattle.dc_poller.proofs.Telegrams.{words_of_telegram}
 

@@ -3,8 +3,9 @@ use Rattle.std.proofs.Common.{ℕ, ◌≤◌, List, [], ◌∷◌, ◌≡◌, �
 use Rattle.std.proofs.lemmas.Grind.{same_number_lists}
 use Rattle.std.specs.List.{join_with_byte}
 use Rattle.std.specs.Fmt.{decimal}
-use Rattle.dc_meters.specs.Valid.{last_moment}
-use Rattle.dc_meters.specs.Words.{IsWord, decimal_is_word}
+use Rattle.dc_changes.specs.Valid.{last_moment}
+use Rattle.dc_changes.specs.Words.{IsWord}
+use Rattle.dc_changes.proofs.Decimals.{decimal_is_word}
 
 pub part_is_word : (part : ℕ) → part ≤ 255 → IsWord (decimal part)
 part_is_word part fits = decimal_is_word part (omega arith)

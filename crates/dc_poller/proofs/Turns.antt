@@ -6,7 +6,7 @@ use Rattle.std.proofs.Math.Seq.{take-append_seam, drop-append_seam}
 use Rattle.dc_linkframe.specs.declared.needs.Need.TheVariants.{Whole}
 use Rattle.dc_linkframe.specs.Frame.{FrameSeen, ack, short, long, HasRoom, spelling, Spells}
 use Rattle.dc_linkframe.specs.Need.{need_of}
-use Rattle.dc_linkframe.specs.Spellings.{frame_of-spelling}
+use Rattle.dc_linkframe.proofs.Spellings.{frame_of-spelling}
 use Rattle.dc_poller.specs.Frames.{len_by, front_len, frames_of, read_text, frame_text, shown, all_shown}
 use Rattle.dc_poller.proofs.Cuts.{first_cut, front_some, no_cut, none_shown, first_shown}
 use Rattle.dc_poller.proofs.Spelled.{frame_is_parsed}

@@ -1,20 +1,20 @@
 -- What `fold` writes (this product): an answer to each line, and then the register as the lines left it.
 use Rattle.std.specs.Prelude.{◌≡◌, ℕ, ◌+◌, ◌≤◌, ◌==◌, ◌&&◌, ◌||◌, if◌then◌else◌, Bool, true, false, Option, Some, None, is_none, List, [], ◌∷◌, ◌++◌, codes, length, decimal}
 use Rattle.std.specs.List.{join_with_byte}
-use Rattle.dc_meters.specs.Accepts.{refusal}
-use Rattle.dc_meters.specs.Apply.{applied}
-use Rattle.dc_meters.specs.Body.{BodyRow}
-use Rattle.dc_meters.specs.Fault.{number_of, name_of}
-use Rattle.dc_meters.specs.Line.{line_of, NamesMeters}
-use Rattle.dc_meters.specs.State.{State, Held, empty_state}
-use Rattle.dc_meters.specs.Valid.{IsChange}
-use Rattle.dc_meters.specs.declared.change.Change.{Change}
-use Rattle.dc_meters.specs.declared.change.Change.TheVariants.{Telegram, Command as Numbered}
-use Rattle.dc_meters.specs.declared.fault.ChangeFault.{ChangeFault}
-use Rattle.dc_poller.specs.Hex.{bytes_of}
+use Rattle.dc_changes.specs.Accepts.{refusal}
+use Rattle.dc_changes.specs.Apply.{applied}
+use Rattle.dc_changes.specs.Body.{BodyRow}
+use Rattle.dc_changes.specs.Fault.{number_of, name_of}
+use Rattle.dc_changes.specs.Line.{line_of, NamesMeters}
+use Rattle.dc_changes.specs.State.{State, Held, empty_state}
+use Rattle.dc_changes.specs.Valid.{IsChange}
+use Rattle.dc_changes.specs.declared.change.Change.{Change}
+use Rattle.dc_changes.specs.declared.change.Change.TheVariants.{Telegram, Command as Numbered}
+use Rattle.dc_changes.specs.declared.fault.ChangeFault.{ChangeFault}
+use Rattle.dc_text.specs.Hex.{bytes_of}
 use Rattle.dc_poller.specs.Lines.{lines_of}
 use Rattle.dc_poller.specs.Register.{register_text}
-use Rattle.dc_poller.specs.Words.{fault_line, number_word}
+use Rattle.dc_text.specs.Words.{fault_line, number_word}
 
 -- ---- lines
 

@@ -2,10 +2,8 @@
 pub mod Fault
 pub mod Fold
 pub mod Frames
-pub mod Hex
 pub mod Lines
 pub mod Register
 pub mod Seen
 pub mod Telegram
 pub mod Text
-pub mod Words

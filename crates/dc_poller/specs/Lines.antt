@@ -1,5 +1,5 @@
 -- The lines of an input (this product).
-use Rattle.std.specs.Prelude.{◌≢◌, ℕ, ◌<◌, slice_index, length, ◌==◌, if◌then◌else◌, List, [], ◌∷◌}
+use Rattle.std.specs.Prelude.{◌≢◌, ℕ, ◌<◌, slice_index, length, ◌==◌, Bool, not, if◌then◌else◌, List, [], ◌∷◌}
 
 -- a byte in front of the first line
 abbrev pub onto_first : ℕ → List (List ℕ) → List (List ℕ)
@@ -14,3 +14,7 @@ lines_of (b ∷ rest) = if b == 10 then [] ∷ lines_of rest else onto_first b (
 -- no byte of the line is a line feed
 abbrev pub LacksFeed : List ℕ → Type 0
 LacksFeed line = (k : ℕ) → k < length line → slice_index line k ≢ 10
+
+-- a character that is no space
+abbrev pub is_solid : ℕ → Bool
+is_solid b = not (b == 32)

@@ -7,7 +7,7 @@ use Rattle.dc_records.specs.Record.{Entry}
 use Rattle.dc_records.specs.Body.{Ending, plain, last, more}
 use Rattle.dc_records.specs.Telegram.{Parsed}
 use Rattle.dc_poller.specs.Seen.{seen_word}
-use Rattle.dc_poller.specs.Words.{number_word, bytes_word}
+use Rattle.dc_text.specs.Words.{number_word, hex_word}
 
 -- who sent it, the access number and the status byte
 unfoldable pub meter_line : Header → List ℕ
@@ -19,7 +19,7 @@ record_words r = number_word r.storage ++ number_word r.tariff ++ number_word r.
 
 -- with its VIB, its data and what they are
 unfoldable pub record_line : Entry → List ℕ
-record_line r = codes "RECORD" ++ record_words r ++ bytes_word r.vib ++ bytes_word r.content ++ seen_word r ++ codes "\n"
+record_line r = codes "RECORD" ++ record_words r ++ hex_word r.vib ++ hex_word r.content ++ seen_word r ++ codes "\n"
 
 -- how it ends, and how many bytes of the manufacturer's data stand there
 abbrev pub end_line : Ending → List ℕ

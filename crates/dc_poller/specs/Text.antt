@@ -1,7 +1,7 @@
 -- The text for an input: what its lines have, in order (this product).
 use Rattle.std.specs.Prelude.{ℕ, ◌||◌, nat_lt, if◌then◌else◌, Bool, true, false, List, [], ◌∷◌, codes, length, filter, flat_map, Option, Some, None}
-use Rattle.dc_poller.specs.Lines.{lines_of}
-use Rattle.dc_poller.specs.Hex.{is_solid, bytes_of}
+use Rattle.dc_text.specs.Hex.{bytes_of}
+use Rattle.dc_poller.specs.Lines.{lines_of, is_solid}
 use Rattle.dc_poller.specs.Frames.{frames_of, all_shown, any_bad}
 
 -- The bytes of a line of hex digits. A line has at most 4,096 characters, spaces among them.

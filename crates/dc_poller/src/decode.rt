@@ -1,18 +1,17 @@
 //! The engine of `decode`: from a source's lines of hex digits to a sink's text.
 
 ghost use Rattle.std.specs.Prelude.{◌≡◌, ◌≢◌, ◌<◌, ◌≤◌, [], length, take, Some, None, MatchOption, IfSome, IfOk, IfErr, OnOk, OnErr, IsErrOf};
-ghost use Rattle.std.specs.Io.KnownBytes.{append_known};
 ghost use Rattle.dc_base.specs.Failures.{HasRisen};
-ghost use Rattle.dc_records.specs.Stream.{Puts};
+ghost use Rattle.dc_stream.specs.Stream.{Puts, Wrote};
 ghost use Rattle.dc_poller.specs.Text.{decoded, line_text, is_bad_line, text_of, has_fault};
 
 use crate::fault::ProgramFault;
 use crate::frames::put_frames;
-use crate::hex::{decode_into, lacks_space, squeeze_into};
-use crate::input::{MOST, read_input};
+use crate::input::{CHUNK, MOST, read_input};
 use crate::lines::{LONGEST, first_line};
-use crate::room::{ROOM, Room, zeros};
-use dc_records::{IoFault, Sink, Source};
+use crate::spaces::{lacks_space, squeeze_into};
+use dc_stream::{IoFault, Sink, Source, room};
+use dc_text::decode_hex;
 use std::alloc::Allocator;
 
 // The bytes of a line's digits, and how many. `digits` is room for the line without its spaces.
@@ -27,83 +26,55 @@ fn decode_line(line: &[u8], digits: &mut [u8], bytes: &mut [u8]) -> Option<usize
         return None;
     }
     if lacks_space(line) {
-        return decode_into(line, bytes);
+        return decode_hex(line, bytes);
     }
     let count = squeeze_into(line, digits);
-    decode_into(&digits[..count], bytes)
+    decode_hex(&digits[..count], bytes)
 }
 
 // Writes what a line has, and says whether a fault is among it.
-#[tactic(auto, using(crate::proofs::Known::written), unfolding(crate::specs::Text::line_text, crate::specs::Text::is_bad_line))]
-fn put_line<A: Allocator, W: Sink>(
+#[tactic(auto, using(dc_stream::proofs::Pieces::written), unfolding(crate::specs::Text::line_text, crate::specs::Text::is_bad_line))]
+fn put_line<W: Sink>(
     line: &[u8],
     digits: &mut [u8],
     bytes: &mut [u8],
-    room: &mut Room<A>,
-    writer: &mut W,
+    out: &mut W,
 ) -> Result<bool, IoFault>
     requires digits { 4096 ≤ length digits.old }
     requires bytes { 2048 ≤ length bytes.old }
-    ensures text { OnOk result (Puts (append_known (W.written writer.old) room.old) (append_known (W.written writer.new) room.new) (line_text line.now)) }
+    ensures wrote { Wrote W.written W.put_failures result out.old out.new (line_text line.now) }
     ensures fault { IfOk result (λ bad. bad ≡ is_bad_line line.now) }
-    ensures ok { OnOk result (W.put_failures writer.new ≡ W.put_failures writer.old) }
-    ensures err { OnErr result (HasRisen (W.put_failures writer.old) (W.put_failures writer.new)) }
 {
     match decode_line(line, digits, bytes) {
-        Some(count) => put_frames(&bytes[..count], room, writer),
+        Some(count) => put_frames(&bytes[..count], out),
         None => {
-            room.add(writer, b"HEX FAULT\n")?;
+            out.put(b"HEX FAULT\n")?;
             Ok(true)
         }
     }
 }
 
 // Writes what the lines of an input have, and says whether a fault is among it.
-#[tactic(auto, using(crate::proofs::Known::written, crate::proofs::Inputs::lines))]
-fn put_lines<A: Allocator, W: Sink>(
+#[tactic(auto, using(dc_stream::proofs::Pieces::written, crate::proofs::Inputs::lines))]
+fn put_lines<W: Sink>(
     input: &[u8],
     digits: &mut [u8],
     bytes: &mut [u8],
-    room: &mut Room<A>,
-    writer: &mut W,
+    out: &mut W,
 ) -> Result<bool, IoFault>
     requires digits { 4096 ≤ length digits.old }
     requires bytes { 2048 ≤ length bytes.old }
-    ensures text { OnOk result (Puts (append_known (W.written writer.old) room.old) (append_known (W.written writer.new) room.new) (text_of input.now)) }
+    ensures wrote { Wrote W.written W.put_failures result out.old out.new (text_of input.now) }
     ensures fault { IfOk result (λ bad. bad ≡ has_fault input.now) }
-    ensures ok { OnOk result (W.put_failures writer.new ≡ W.put_failures writer.old) }
-    ensures err { OnErr result (HasRisen (W.put_failures writer.old) (W.put_failures writer.new)) }
 {
     let mut found = false;
     let mut rest = input;
     'lines: while !rest.is_empty() {
         let (line, after) = first_line(rest);
-        let bad = put_line(line, digits, bytes, room, writer)?;
+        let bad = put_line(line, digits, bytes, out)?;
         found |= bad;
         rest = after;
     }
-    Ok(found)
-}
-
-// Writes the text for an input by way of a room, to the last byte.
-#[tactic(auto, using(crate::proofs::Known::written))]
-fn put_input<A: Allocator, W: Sink>(
-    input: &[u8],
-    digits: &mut [u8],
-    bytes: &mut [u8],
-    room: &mut Room<A>,
-    writer: &mut W,
-) -> Result<bool, IoFault>
-    requires digits { 4096 ≤ length digits.old }
-    requires bytes { 2048 ≤ length bytes.old }
-    requires room { room.old ≡ [] }
-    ensures text { OnOk result (Puts (W.written writer.old) (W.written writer.new) (text_of input.now)) }
-    ensures fault { IfOk result (λ bad. bad ≡ has_fault input.now) }
-    ensures ok { OnOk result (W.put_failures writer.new ≡ W.put_failures writer.old) }
-    ensures err { OnErr result (HasRisen (W.put_failures writer.old) (W.put_failures writer.new)) }
-{
-    let found = put_lines(input, digits, bytes, room, writer)?;
-    room.put(writer)?;
     Ok(found)
 }
 
@@ -138,25 +109,17 @@ pub fn decode_lines<A: Allocator + Copy, R: Source, W: Sink>(
     // After any fault but a failed write the writer is as it was.
     ensures untouched { IfErr result (λ fault. fault ≢ ProgramFault.Write → writer.new ≡ writer.old) }
 {
-    let Ok(mut digits) = zeros(alloc, LONGEST) else {
-        return Err(ProgramFault::NoMemory);
-    };
-    let Ok(mut bytes) = zeros(alloc, LONGEST / 2) else {
-        return Err(ProgramFault::NoMemory);
-    };
-    let Ok(mut chunk) = zeros(alloc, ROOM) else {
-        return Err(ProgramFault::NoMemory);
-    };
+    let mut digits = room(alloc, LONGEST)?;
+    let mut bytes = room(alloc, LONGEST / 2)?;
+    let mut chunk = room(alloc, CHUNK)?;
     let input = read_input(alloc, reader, chunk.as_mut_slice())?;
     if input.len() > MOST {
         return Err(ProgramFault::TooLong);
     }
-    let mut room = Room::new(chunk);
-    match put_input(
+    match put_lines(
         input.as_slice(),
         digits.as_mut_slice(),
         bytes.as_mut_slice(),
-        &mut room,
         writer,
     ) {
         Ok(found) => Ok(found),

@@ -2,7 +2,9 @@
 
 ghost use Rattle.std.specs.Prelude.{◌≡◌};
 ghost use Rattle.dc_poller.specs.Fault.{number_of, name_of};
+ghost use Rattle.dc_poller.specs.declared.fault.ProgramFault.TheVariants.{NoMemory};
 
+use dc_base::NoMemory;
 use thiserror::Error;
 
 /// Why an engine of the program stopped (this product).
@@ -45,5 +47,13 @@ impl ProgramFault {
             ProgramFault::Write => "Write",
             ProgramFault::NoMemory => "NoMemory",
         }
+    }
+}
+
+impl From<NoMemory> for ProgramFault {
+    ghost from_gives = { λ _ fault. fault ≡ NoMemory };
+
+    fn from(_refused: NoMemory) -> ProgramFault {
+        ProgramFault::NoMemory
     }
 }

@@ -1,23 +1,22 @@
 //! The engine of `fold`: from a source's telegrams and commands to a sink's text of the register.
 
-ghost use Rattle.std.specs.Prelude.{◌≡◌, ◌≢◌, ◌<◌, ◌≤◌, ◌++◌, ℕ, List, length, codes, IfSome, IfOk, IfErr, OnOk, IsErrOf};
+ghost use Rattle.std.specs.Prelude.{◌≡◌, ◌≢◌, ◌↔◌, ◌<◌, ◌≤◌, ◌++◌, ℕ, List, length, IfSome, IfOk, IfErr, OnOk, IsOk, IsErrOf};
 ghost use Rattle.dc_base.specs.Failures.{HasRisen};
-ghost use Rattle.dc_meters.specs.Fault.{number_of, name_of};
-ghost use Rattle.dc_meters.specs.Valid.{IsChange};
-ghost use Rattle.dc_records.specs.Stream.{Puts};
+ghost use Rattle.dc_changes.specs.Valid.{IsChange};
+ghost use Rattle.dc_stream.specs.Stream.{Puts, Wrote};
 ghost use Rattle.dc_poller.specs.Fold.{IsFolded, IsStep, IsTelegramStep, AreSteps, is_due, change_answer, after_change, order_line};
 ghost use Rattle.dc_poller.specs.Lines.{lines_of};
-ghost use Rattle.dc_poller.specs.Words.{fault_line};
 
 use crate::fault::ProgramFault;
-use crate::input::{MOST, read_input};
+use crate::input::{CHUNK, MOST, read_input};
 use crate::lines::{LONGEST, first_line};
-use crate::register::{add_number, add_register};
-use crate::room::{ROOM, zeros};
+use crate::register::put_register;
 use crate::telegram_line::parse_telegram;
 use dc_base::NoMemory;
-use dc_meters::{Body, Change, ChangeFault, Command, House};
-use dc_records::{Sink, Source};
+use dc_changes::{Body, Change, ChangeFault, Command};
+use dc_meters::House;
+use dc_stream::{Bytes, IoFault, Sink, Source, room};
+use dc_text::{put_fault_line, put_number_word};
 use std::alloc::Allocator;
 
 // The bytes within which the register stays: a disk of 131 sectors has room for as many.
@@ -33,26 +32,23 @@ fn is_due<A: Allocator + Copy>(change: &Change<'_>, house: &House<A>) -> bool
     }
 }
 
-#[tactic(auto, using(crate::proofs::Known::regroup), unfolding(crate::specs::Words::fault_line))]
-fn add_refusal<A: Allocator>(text: &mut Vec<u8, A>, fault: ChangeFault) -> Result<(), NoMemory>
-    ensures { OnOk result (text.new.items ≡ text.old.items ++ fault_line (codes "REFUSED") (number_of fault) (name_of fault)) }
+// A put into memory fails where memory is refused.
+fn kept(put: Result<(), IoFault>) -> Result<(), NoMemory>
+    ensures { IsOk result ↔ IsOk put }
 {
-    text.extend_from_slice(b"REFUSED")?;
-    add_number(text, u64::from(fault.number()))?;
-    text.extend_from_slice(b" ")?;
-    text.extend_from_slice(fault.name().as_bytes())?;
-    text.extend_from_slice(b"\n")?;
-    Ok(())
+    match put {
+        Ok(()) => Ok(()),
+        Err(IoFault) => Err(NoMemory),
+    }
 }
 
-#[tactic(auto, using(crate::proofs::Known::regroup))]
-fn add_order<A: Allocator + Copy>(text: &mut Vec<u8, A>, house: &House<A>) -> Result<(), NoMemory>
-    ensures { OnOk result (text.new.items ≡ text.old.items ++ order_line house.now.state) }
+#[tactic(auto, using(dc_stream::proofs::Pieces::written), unfolding(crate::specs::Fold::order_line))]
+fn put_order<A: Allocator + Copy, W: Sink>(house: &House<A>, out: &mut W) -> Result<(), IoFault>
+    ensures { Wrote W.written W.put_failures result out.old out.new (order_line house.now.state) }
 {
-    text.extend_from_slice(b"ORDER")?;
-    add_number(text, house.last_number())?;
-    text.extend_from_slice(b"\n")?;
-    Ok(())
+    out.put(b"ORDER")?;
+    put_number_word(out, house.last_number())?;
+    out.put(b"\n")
 }
 
 // Does a change if it can be done, and answers.
@@ -60,22 +56,21 @@ fn add_order<A: Allocator + Copy>(text: &mut Vec<u8, A>, house: &House<A>) -> Re
 fn answer<A: Allocator + Copy>(
     change: &Change<'_>,
     house: &mut House<A>,
-    text: &mut Vec<u8, A>,
+    text: &mut Bytes<A>,
 ) -> Result<(), NoMemory>
     requires { IsChange change.now }
-    ensures text { OnOk result (text.new.items ≡ text.old.items ++ change_answer house.old.budget change.now house.old.state) }
+    ensures text { OnOk result (text.new.bytes ≡ text.old.bytes ++ change_answer house.old.budget change.now house.old.state) }
     ensures house { OnOk result (house.new ≡ record house.old { state = after_change house.old.budget change.now house.old.state }) }
 {
     if !is_due(change, house) {
-        return add_order(text, house);
+        return kept(put_order(house, text));
     }
     match house.check(change) {
         Ok(()) => {
             house.apply(change)?;
-            text.extend_from_slice(b"OK\n")?;
-            Ok(())
+            kept(text.put(b"OK\n"))
         }
-        Err(fault) => add_refusal(text, fault),
+        Err(fault) => kept(put_fault_line(text, b"REFUSED", fault.number(), fault.name())),
     }
 }
 
@@ -84,10 +79,10 @@ fn fold_line<A: Allocator + Copy>(
     line: &[u8],
     bytes: &mut [u8],
     house: &mut House<A>,
-    text: &mut Vec<u8, A>,
+    text: &mut Bytes<A>,
 ) -> Result<bool, NoMemory>
     requires { 2048 ≤ length bytes.old }
-    ensures { IfOk result (λ unread. IsStep line.now unread house.old house.new text.old.items text.new.items) }
+    ensures { IfOk result (λ unread. IsStep line.now unread house.old house.new text.old.bytes text.new.bytes) }
 {
     if let Some(found) = Command::parse_line(line) {
         let change = Change::Command {
@@ -100,7 +95,7 @@ fn fold_line<A: Allocator + Copy>(
     if fold_telegram(line, bytes, house, text)? {
         return Ok(false);
     }
-    text.extend_from_slice(b"SYNTAX\n")?;
+    kept(text.put(b"SYNTAX\n"))?;
     Ok(true)
 }
 
@@ -109,10 +104,10 @@ fn fold_telegram<A: Allocator + Copy>(
     line: &[u8],
     bytes: &mut [u8],
     house: &mut House<A>,
-    text: &mut Vec<u8, A>,
+    text: &mut Bytes<A>,
 ) -> Result<bool, NoMemory>
     requires { 2048 ≤ length bytes.old }
-    ensures { IfOk result (λ told. IsTelegramStep line.now told house.old house.new text.old.items text.new.items) }
+    ensures { IfOk result (λ told. IsTelegramStep line.now told house.old house.new text.old.bytes text.new.bytes) }
 {
     if line.len() > LONGEST {
         return Ok(false);
@@ -134,10 +129,10 @@ fn fold_all<A: Allocator + Copy>(
     input: &[u8],
     bytes: &mut [u8],
     house: &mut House<A>,
-    text: &mut Vec<u8, A>,
+    text: &mut Bytes<A>,
 ) -> Result<bool, NoMemory>
     requires { 2048 ≤ length bytes.old }
-    ensures { IfOk result (λ found. AreSteps (lines_of input.now) found house.old house.new text.old.items text.new.items) }
+    ensures { IfOk result (λ found. AreSteps (lines_of input.now) found house.old house.new text.old.bytes text.new.bytes) }
 {
     let mut found = false;
     let mut rest = input;
@@ -155,14 +150,14 @@ fn fold_input<A: Allocator + Copy>(
     alloc: A,
     input: &[u8],
     bytes: &mut [u8],
-) -> Result<(Vec<u8, A>, bool), NoMemory>
+) -> Result<(Bytes<A>, bool), NoMemory>
     requires { 2048 ≤ length bytes.old }
-    ensures { IfOk result (λ folded. IsFolded input.now folded.0.items folded.1) }
+    ensures { IfOk result (λ folded. IsFolded input.now folded.0.bytes folded.1) }
 {
     let mut house = House::new(alloc, BUDGET);
-    let mut text = Vec::new(alloc);
+    let mut text = Bytes::new(alloc);
     let found = fold_all(input, bytes, &mut house, &mut text)?;
-    add_register(&mut text, &house)?;
+    kept(put_register(&house, &mut text))?;
     Ok((text, found))
 }
 
@@ -196,19 +191,13 @@ pub fn fold_lines<A: Allocator + Copy, R: Source, W: Sink>(
     // After any fault but a failed write the writer is as it was.
     ensures untouched { IfErr result (λ fault. fault ≢ ProgramFault.Write → writer.new ≡ writer.old) }
 {
-    let Ok(mut bytes) = zeros(alloc, LONGEST / 2) else {
-        return Err(ProgramFault::NoMemory);
-    };
-    let Ok(mut chunk) = zeros(alloc, ROOM) else {
-        return Err(ProgramFault::NoMemory);
-    };
+    let mut bytes = room(alloc, LONGEST / 2)?;
+    let mut chunk = room(alloc, CHUNK)?;
     let input = read_input(alloc, reader, chunk.as_mut_slice())?;
     if input.len() > MOST {
         return Err(ProgramFault::TooLong);
     }
-    let Ok((text, found)) = fold_input(alloc, input.as_slice(), bytes.as_mut_slice()) else {
-        return Err(ProgramFault::NoMemory);
-    };
+    let (text, found) = fold_input(alloc, input.as_slice(), bytes.as_mut_slice())?;
     match writer.put(text.as_slice()) {
         Ok(()) => Ok(found),
         Err(_) => Err(ProgramFault::Write),

@@ -1,6 +1,6 @@
 use crate::tests::{Failing, Full, joined, spaces};
 use crate::{ProgramFault, fold_lines};
-use dc_records::Bytes;
+use dc_stream::Bytes;
 use refusing_alloc::Refusing;
 use std::alloc::{AllocError, Allocator, Global};
 use std::process::Abort;

@@ -2,12 +2,14 @@
 
 ghost use Rattle.std.specs.Prelude.{◌≡◌, ◌⊎◌, ◌<◌, ◌≤◌, length, vec_len, IfOk, IfErr, OnOk, IsErrOf};
 ghost use Rattle.dc_base.specs.Failures.{HasRisen};
-ghost use Rattle.dc_records.specs.Stream.{Takes, IsAtEnd};
+ghost use Rattle.dc_stream.specs.Stream.{Takes, IsAtEnd};
 
 use crate::fault::ProgramFault;
-use crate::room::ROOM;
-use dc_records::Source;
+use dc_stream::Source;
 use std::alloc::Allocator;
+
+/// How many bytes one read asks for.
+pub const CHUNK: usize = 65_536;
 
 /// The most bytes that an input may have.
 pub const MOST: usize = 1_048_576;
@@ -26,7 +28,7 @@ pub fn read_input<A: Allocator, R: Source>(
     ensures read { IsErrOf result ProgramFault.Read → HasRisen (R.take_failures reader.old) (R.take_failures reader.new) }
 {
     // So that no growth follows: a read that begins at the limit still fits.
-    let Ok(mut input) = Vec::with_capacity(alloc, MOST + ROOM) else {
+    let Ok(mut input) = Vec::with_capacity(alloc, MOST + CHUNK) else {
         return Err(ProgramFault::NoMemory);
     };
     'takes: while input.len() <= MOST {

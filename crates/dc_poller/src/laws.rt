@@ -3,14 +3,14 @@
 ghost use Rattle.std.specs.Prelude.{◌≡◌, ℕ, ◌<◌, Bool, Option, List, [], ◌∷◌, ◌++◌, length, map, flat_map, Some};
 ghost use Rattle.std.specs.List.{AllByRecursion, concat};
 ghost use Rattle.dc_linkframe.specs.Frame.{FrameSeen, HasRoom, spelling};
-ghost use Rattle.dc_meters.specs.declared.change.Change.{Change};
+ghost use Rattle.dc_changes.specs.declared.change.Change.{Change};
 ghost use Rattle.dc_poller.specs.Fold.{IsFolded, IsReadAs};
 ghost use Rattle.dc_poller.specs.Lines.{LacksFeed, lines_of};
-ghost use Rattle.dc_poller.specs.Hex.{bytes_of, upper_hex};
+ghost use Rattle.dc_text.specs.Hex.{bytes_of, upper_hex};
 ghost use Rattle.dc_poller.specs.Frames.{frames_of, frame_text, all_shown};
 
+use dc_changes::{a_line_has_one_command, a_text_has_one_first_word};
 use dc_linkframe::need_agrees_with_parse;
-use dc_meters::{a_line_has_one_command, a_text_has_one_first_word};
 use dc_records::one_telegram;
 
 /// How an input comes apart into lines.

@@ -10,7 +10,8 @@
 //! its answer tells whether a line is none of those.
 //!
 //! Read and write faults are answered only where that end counted a failure, and an input over 1 MiB is never worked
-//! on. The input is read and all memory is taken before anything is written.
+//! on. The input is read and all memory is taken before anything is written. They put many small pieces: a caller gives
+//! them a sink that gathers these, as [`Buffered`](dc_text::Buffered).
 //!
 //! Laws of these texts: [`lines_end_at_feeds`]; [`hex_is_read_back`]; [`frames_are_told_in_turn`], by which a line's
 //! bytes come apart into texts without loss, and frames that follow one another are told one by one; and
@@ -21,13 +22,12 @@ mod decode;
 mod fault;
 mod fold;
 mod frames;
-mod hex;
 mod input;
 mod laws;
 mod lines;
 mod register;
-mod room;
 mod seen;
+mod spaces;
 mod telegram;
 mod telegram_line;
 

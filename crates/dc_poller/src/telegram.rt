@@ -1,128 +1,90 @@
 //! The text of a telegram.
 
 ghost use Rattle.std.specs.Prelude.{◌≡◌, OnOk, OnErr};
-ghost use Rattle.std.specs.Io.KnownBytes.{append_known};
-ghost use Rattle.dc_base.specs.Failures.{HasRisen};
 ghost use Rattle.dc_records.specs.Record.{view};
 ghost use Rattle.dc_records.specs.Seen.{ending};
-ghost use Rattle.dc_records.specs.Stream.{Puts};
+ghost use Rattle.dc_stream.specs.Stream.{Wrote};
 ghost use Rattle.dc_records.specs.Telegram.{parsed};
 ghost use Rattle.dc_poller.specs.Telegram.{meter_line, record_words, record_line, record_lines, end_line, telegram_text};
 
-use crate::room::Room;
 use crate::seen::put_seen;
-use dc_records::{End, Header, IoFault, Record, Records, Sink, Telegram};
-use std::alloc::Allocator;
+use dc_records::{End, Header, Record, Records, Telegram};
+use dc_stream::{IoFault, Sink};
+use dc_text::{put_hex_word, put_number_word};
 
 // Writes the line of the meter.
-#[tactic(auto, using(crate::proofs::Known::written), unfolding(crate::specs::Telegram::meter_line))]
-fn put_meter<A: Allocator, W: Sink>(
-    header: &Header,
-    room: &mut Room<A>,
-    writer: &mut W,
-) -> Result<(), IoFault>
-    ensures text { OnOk result (Puts (append_known (W.written writer.old) room.old) (append_known (W.written writer.new) room.new) (meter_line header.now)) }
-    ensures ok { OnOk result (W.put_failures writer.new ≡ W.put_failures writer.old) }
-    ensures err { OnErr result (HasRisen (W.put_failures writer.old) (W.put_failures writer.new)) }
+#[tactic(auto, using(dc_stream::proofs::Pieces::written), unfolding(crate::specs::Telegram::meter_line))]
+fn put_meter<W: Sink>(header: &Header, out: &mut W) -> Result<(), IoFault>
+    ensures wrote { Wrote W.written W.put_failures result out.old out.new (meter_line header.now) }
 {
-    room.add(writer, b"METER ")?;
-    room.add(writer, &header.identity.text())?;
-    room.add_number(writer, u64::from(header.access))?;
-    room.add_number(writer, u64::from(header.status))?;
-    room.add(writer, b"\n")
+    out.put(b"METER ")?;
+    out.put(&header.identity.text())?;
+    put_number_word(out, u64::from(header.access))?;
+    put_number_word(out, u64::from(header.status))?;
+    out.put(b"\n")
 }
 
 // Writes the numbers of what a record is about.
-#[tactic(auto, using(crate::proofs::Known::written), unfolding(crate::specs::Telegram::record_words))]
-fn put_numbers<A: Allocator, W: Sink>(
-    found: &Record<'_>,
-    room: &mut Room<A>,
-    writer: &mut W,
-) -> Result<(), IoFault>
-    ensures text { OnOk result (Puts (append_known (W.written writer.old) room.old) (append_known (W.written writer.new) room.new) (record_words (view found.now))) }
-    ensures ok { OnOk result (W.put_failures writer.new ≡ W.put_failures writer.old) }
-    ensures err { OnErr result (HasRisen (W.put_failures writer.old) (W.put_failures writer.new)) }
+#[tactic(auto, using(dc_stream::proofs::Pieces::written), unfolding(crate::specs::Telegram::record_words))]
+fn put_numbers<W: Sink>(found: &Record<'_>, out: &mut W) -> Result<(), IoFault>
+    ensures wrote { Wrote W.written W.put_failures result out.old out.new (record_words (view found.now)) }
 {
-    room.add_number(writer, found.storage)?;
-    room.add_number(writer, u64::from(found.tariff))?;
-    room.add_number(writer, u64::from(found.subunit))?;
-    room.add_number(writer, u64::from(found.function))
+    put_number_word(out, found.storage)?;
+    put_number_word(out, u64::from(found.tariff))?;
+    put_number_word(out, u64::from(found.subunit))?;
+    put_number_word(out, u64::from(found.function))
 }
 
 // Writes the line of a record.
-#[tactic(auto, using(crate::proofs::Known::written), unfolding(crate::specs::Telegram::record_line))]
-fn put_record<A: Allocator, W: Sink>(
-    found: &Record<'_>,
-    room: &mut Room<A>,
-    writer: &mut W,
-) -> Result<(), IoFault>
-    ensures text { OnOk result (Puts (append_known (W.written writer.old) room.old) (append_known (W.written writer.new) room.new) (record_line (view found.now))) }
-    ensures ok { OnOk result (W.put_failures writer.new ≡ W.put_failures writer.old) }
-    ensures err { OnErr result (HasRisen (W.put_failures writer.old) (W.put_failures writer.new)) }
+#[tactic(auto, using(dc_stream::proofs::Pieces::written), unfolding(crate::specs::Telegram::record_line))]
+fn put_record<W: Sink>(found: &Record<'_>, out: &mut W) -> Result<(), IoFault>
+    ensures wrote { Wrote W.written W.put_failures result out.old out.new (record_line (view found.now)) }
 {
-    room.add(writer, b"RECORD")?;
-    put_numbers(found, room, writer)?;
-    room.add_bytes(writer, found.vib)?;
-    room.add_bytes(writer, found.content)?;
-    put_seen(found, room, writer)?;
-    room.add(writer, b"\n")
+    out.put(b"RECORD")?;
+    put_numbers(found, out)?;
+    put_hex_word(out, found.vib)?;
+    put_hex_word(out, found.content)?;
+    put_seen(found, out)?;
+    out.put(b"\n")
 }
 
 // Writes the lines of records.
-#[tactic(auto, using(crate::proofs::Known::written, crate::proofs::Records::records))]
-fn put_records<A: Allocator, W: Sink>(
-    records: Records<'_>,
-    room: &mut Room<A>,
-    writer: &mut W,
-) -> Result<(), IoFault>
-    ensures text { OnOk result (Puts (append_known (W.written writer.old) room.old) (append_known (W.written writer.new) room.new) (record_lines records.entry)) }
-    ensures ok { OnOk result (W.put_failures writer.new ≡ W.put_failures writer.old) }
-    ensures err { OnErr result (HasRisen (W.put_failures writer.old) (W.put_failures writer.new)) }
+#[tactic(auto, using(dc_stream::proofs::Pieces::written, crate::proofs::Records::records))]
+fn put_records<W: Sink>(records: Records<'_>, out: &mut W) -> Result<(), IoFault>
+    ensures wrote { Wrote W.written W.put_failures result out.old out.new (record_lines records.entry) }
 {
     'records: for found in records {
-        put_record(&found, room, writer)?;
+        put_record(&found, out)?;
     }
     Ok(())
 }
 
 // Writes the line of a body's end.
-#[tactic(auto, using(crate::proofs::Known::written))]
-fn put_end<A: Allocator, W: Sink>(
-    end: End<'_>,
-    room: &mut Room<A>,
-    writer: &mut W,
-) -> Result<(), IoFault>
-    ensures text { OnOk result (Puts (append_known (W.written writer.old) room.old) (append_known (W.written writer.new) room.new) (end_line (ending end.entry))) }
-    ensures ok { OnOk result (W.put_failures writer.new ≡ W.put_failures writer.old) }
-    ensures err { OnErr result (HasRisen (W.put_failures writer.old) (W.put_failures writer.new)) }
+#[tactic(auto, using(dc_stream::proofs::Pieces::written))]
+fn put_end<W: Sink>(end: End<'_>, out: &mut W) -> Result<(), IoFault>
+    ensures wrote { Wrote W.written W.put_failures result out.old out.new (end_line (ending end.entry)) }
 {
     match end {
-        End::Plain => room.add(writer, b"END\n"),
+        End::Plain => out.put(b"END\n"),
         End::Last(rest) => {
-            room.add(writer, b"LAST")?;
-            room.add_number(writer, rest.len() as u64)?;
-            room.add(writer, b"\n")
+            out.put(b"LAST")?;
+            put_number_word(out, rest.len() as u64)?;
+            out.put(b"\n")
         }
         End::More(rest) => {
-            room.add(writer, b"MORE")?;
-            room.add_number(writer, rest.len() as u64)?;
-            room.add(writer, b"\n")
+            out.put(b"MORE")?;
+            put_number_word(out, rest.len() as u64)?;
+            out.put(b"\n")
         }
     }
 }
 
 /// Writes the lines of a telegram.
-#[tactic(auto, using(crate::proofs::Known::written), unfolding(crate::specs::Telegram::telegram_text))]
-pub fn put_telegram<A: Allocator, W: Sink>(
-    telegram: &Telegram<'_>,
-    room: &mut Room<A>,
-    writer: &mut W,
-) -> Result<(), IoFault>
-    ensures text { OnOk result (Puts (append_known (W.written writer.old) room.old) (append_known (W.written writer.new) room.new) (telegram_text (parsed telegram.now))) }
-    ensures ok { OnOk result (W.put_failures writer.new ≡ W.put_failures writer.old) }
-    ensures err { OnErr result (HasRisen (W.put_failures writer.old) (W.put_failures writer.new)) }
+#[tactic(auto, using(dc_stream::proofs::Pieces::written), unfolding(crate::specs::Telegram::telegram_text))]
+pub fn put_telegram<W: Sink>(telegram: &Telegram<'_>, out: &mut W) -> Result<(), IoFault>
+    ensures wrote { Wrote W.written W.put_failures result out.old out.new (telegram_text (parsed telegram.now)) }
 {
-    put_meter(&telegram.header(), room, writer)?;
-    put_records(telegram.records(), room, writer)?;
-    put_end(telegram.end(), room, writer)
+    put_meter(&telegram.header(), out)?;
+    put_records(telegram.records(), out)?;
+    put_end(telegram.end(), out)
 }

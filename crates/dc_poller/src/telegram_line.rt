@@ -1,11 +1,11 @@
 //! The lines of `fold` that tell a telegram.
 
 ghost use Rattle.std.specs.Prelude.{◌≡◌, ◌≤◌, ◌∷◌, ◌++◌, ℕ, List, IfSome, Some, MatchOption, length, take, decimal, codes};
-ghost use Rattle.dc_meters.specs.Valid.{last_moment};
+ghost use Rattle.dc_changes.specs.Valid.{last_moment};
 ghost use Rattle.dc_poller.specs.Fold.{SpellsTelegram};
 
-use crate::hex::decode_into;
-use dc_meters::{parse_number, split_word};
+use dc_changes::{parse_number, split_word};
+use dc_text::decode_hex;
 
 // The last second of the year 9999.
 const LAST_MOMENT: u64 = 253_402_300_799;
@@ -41,7 +41,7 @@ fn parse_words(words: &[u8], bytes: &mut [u8]) -> Option<(u8, u64, usize)>
     let part = parse_part(part)?;
     let (moment, digits) = split_word(rest)?;
     let moment = parse_moment(moment)?;
-    let count = decode_into(digits, bytes)?;
+    let count = decode_hex(digits, bytes)?;
     Some((part, moment, count))
 }
 

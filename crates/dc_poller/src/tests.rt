@@ -1,6 +1,7 @@
 use crate::{ProgramFault, decode_lines};
 use dc_base::one_failure_more;
-use dc_records::{Bytes, IoFault, Sink, Source};
+use dc_stream::{Bytes, IoFault, Sink, Source};
+use dc_text::Buffered;
 use refusing_alloc::Refusing;
 use std::alloc::{AllocError, Allocator, Global};
 use std::process::Abort;
@@ -173,6 +174,19 @@ fn data_of_the_manufacturer_is_counted(rt: HostRuntime) -> Result<(), Fail> {
 }
 
 #[test]
+fn the_longest_frame_is_told(rt: HostRuntime) -> Result<(), Fail> {
+    let front = b"68 FF FF 68 08 01 72 78 56 34 12 24 40 01 07 01 00 00 00 0D 78 BF ";
+    let line = joined(rt.alloc(), front, &[b'4'; 382])?;
+    let line = joined(rt.alloc(), line.as_slice(), b" 0F ")?;
+    let line = joined(rt.alloc(), line.as_slice(), &[b'2'; 90])?;
+    let line = joined(rt.alloc(), line.as_slice(), b" 05 16")?;
+    let head = b"LONG 08 01 72 252\nMETER 12345678.PAD.01.07 1 0\nRECORD 0 0 0 0 78 ";
+    let text = joined(rt.alloc(), head, &[b'4'; 382])?;
+    let text = joined(rt.alloc(), text.as_slice(), b" = other\nLAST 45\n")?;
+    is_told(&rt, line.as_slice(), text.as_slice(), false)
+}
+
+#[test]
 fn lines_are_told_in_order(rt: HostRuntime) -> Result<(), Fail> {
     is_told(&rt, b"E5 10 40 01 41 16", b"ACK\nSHORT 40 01\n", false)?;
     is_told(&rt, b"E5 zz", b"HEX FAULT\n", true)?;
@@ -334,17 +348,21 @@ fn a_failed_write_is_told(rt: HostRuntime) -> Result<(), Fail> {
     let mut fits = 0;
     for puts in 0..20 {
         let mut reader = Bytes::from_slice(rt.alloc(), lines.as_slice())?;
-        let mut writer = Full {
+        let full = Full {
             puts,
             bytes: 0,
             failures: 0,
         };
-        match decode_lines(rt.alloc(), &mut reader, &mut writer) {
-            Ok(_) => {
+        let mut writer = Buffered::new(rt.alloc(), 65_536, full)?;
+        let told = decode_lines(rt.alloc(), &mut reader, &mut writer);
+        let (full, put) = writer.finish();
+        match told {
+            Ok(_) if put.is_ok() => {
                 fits = puts;
-                assert_eq!(rt; writer.bytes, SAID.len() * 1000);
+                assert_eq!(rt; full.bytes, SAID.len() * 1000);
                 break;
             }
+            Ok(_) => assert_eq!(rt; full.failures, 1),
             Err(fault) => assert_eq!(rt; fault, ProgramFault::Write),
         }
     }
@@ -376,7 +394,7 @@ fn refused_at<A: Allocator + Copy>(alloc: A, lines: &[u8]) -> Result<bool, Progr
         failures: 0,
     };
     let mut writer = Full {
-        puts: 20,
+        puts: u64::MAX,
         bytes: 0,
         failures: 0,
     };
@@ -398,7 +416,7 @@ fn each_refused_growth_is_told(rt: HostRuntime) {
         assert_eq!(rt; outcome, Err(ProgramFault::NoMemory));
         assert_eq!(rt; refused_at(&heap, ANSWER), Ok(false));
     }
-    // room for a line's digits, its bytes, a read and the text, and the input
+    // room for a line's digits, for its bytes and for a read, and the input
     assert_eq!(rt; wanted, 4);
 }
 
@@ -408,7 +426,7 @@ fn lines_and_frames_take_no_memory(rt: HostRuntime) -> Result<(), Fail> {
     let heap = Refusing::new(rt.alloc());
     let mut reader = Bytes::from_slice(rt.alloc(), lines.as_slice())?;
     let mut writer = Full {
-        puts: 20,
+        puts: u64::MAX,
         bytes: 0,
         failures: 0,
     };

@@ -10,9 +10,9 @@ use Rattle.dc_records.specs.Telegram.{Parsed}
 use Rattle.dc_readout.specs.declared.stage.Stage.{Stage}
 use Rattle.dc_readout.specs.declared.stage.Stage.TheVariants.{Resets, Selects, Requests, Pending, Ended}
 use Rattle.dc_readout.specs.declared.why.Why.{Why}
-use Rattle.dc_readout.specs.Answer.{Outcome, acknowledged, answered, missed, broken}
-use Rattle.dc_readout.specs.Summary.{Summary, Verdict, again, ready, new, failed, asked_by, outcome_at, verdict_of_outcome, verdict_by, heard_by, settled_by, stage_settled, IsPending}
-use Rattle.dc_readout.specs.Session.{Event, hears, settles, Past, is_again, is_ready, is_failed, telegram_in, stage_by_telegrams, commands, stage_of, sum_of, settled_in, verdicts_of, summary, judged, and_heard, and_settled, AreLawful, SumsUp}
+use Rattle.dc_readout.specs.Answer.{Meaning, acknowledged, answered, missed, broken}
+use Rattle.dc_readout.specs.Summary.{Summary, Verdict, again, ready, new, failed, asked_by, meaning_at, verdict_of_meaning, verdict_by, heard_by, settled_by, stage_settled, IsPending}
+use Rattle.dc_readout.specs.Session.{Call, hears, settles, Past, is_again, is_ready, is_failed, telegram_in, stage_by_telegrams, commands, stage_of, sum_of, settled_in, verdicts_of, summary, judged, and_heard, and_settled, AreLawful, SumsUp}
 use Rattle.dc_readout.proofs.Table.{answered_when, acknowledged_when}
 
 -- the telegrams of these verdicts, the latest first
@@ -131,17 +131,17 @@ after_miss : (meter : Identity) (address : Option ℕ) (verdicts : List Verdict)
 after_miss meter address verdicts n true why = after_again meter address verdicts n
 after_miss meter address verdicts n false why = after_failed meter address verdicts n why
 
-pub after_outcome : (meter : Identity) (address : Option ℕ) (verdicts : List Verdict) (n : ℕ) (answer : List ℕ) (o : Outcome) → IsRegular address verdicts n → outcome_at (stage_of address verdicts n) meter address n (frame_of answer) ≡ o → sum_of meter address (verdict_of_outcome (prefix_len is_again verdicts) n o ∷ verdicts) n ≡ heard_by (sum_of meter address verdicts n) (verdict_of_outcome (prefix_len is_again verdicts) n o)
-after_outcome meter address verdicts n answer acknowledged regular e =
+pub after_meaning : (meter : Identity) (address : Option ℕ) (verdicts : List Verdict) (n : ℕ) (answer : List ℕ) (o : Meaning) → IsRegular address verdicts n → meaning_at (stage_of address verdicts n) meter address n (frame_of answer) ≡ o → sum_of meter address (verdict_of_meaning (prefix_len is_again verdicts) n o ∷ verdicts) n ≡ heard_by (sum_of meter address verdicts n) (verdict_of_meaning (prefix_len is_again verdicts) n o)
+after_meaning meter address verdicts n answer acknowledged regular e =
     elim (acknowledged_when (stage_of address verdicts n) meter address n (frame_of answer) e) [
       | inl resets ↦ after_reset meter address verdicts n regular resets
       | inr selects ↦ after_selection meter address verdicts n regular selects
     ]
-after_outcome meter address verdicts n answer (answered t) regular e =
+after_meaning meter address verdicts n answer (answered t) regular e =
     after_new meter address verdicts n (n + 1) t regular.settled_came (answered_when (stage_of address verdicts n) meter address n (frame_of answer) t e)
-after_outcome meter address verdicts n answer (missed why) regular e =
+after_meaning meter address verdicts n answer (missed why) regular e =
     after_miss meter address verdicts n (nat_lt (prefix_len is_again verdicts) 2) why
-after_outcome meter address verdicts n answer (broken why) regular e = after_failed meter address verdicts n why
+after_meaning meter address verdicts n answer (broken why) regular e = after_failed meter address verdicts n why
 
 -- ---- every lawful past is regular
 
@@ -161,25 +161,25 @@ regular_miss : (address : Option ℕ) (verdicts : List Verdict) (n : ℕ) (left 
 regular_miss address verdicts n true why regular = record { settled_came = regular.settled_came; one_waits = regular.one_waits; commands_first = regular.commands_first }
 regular_miss address verdicts n false why regular = record { settled_came = regular.settled_came; one_waits = regular.one_waits; commands_first = regular.commands_first }
 
-regular_outcome : (meter : Identity) (address : Option ℕ) (verdicts : List Verdict) (n tries : ℕ) (answer : List ℕ) (o : Outcome) → IsRegular address verdicts n → outcome_at (stage_of address verdicts n) meter address n (frame_of answer) ≡ o → IsRegular address (verdict_of_outcome tries n o ∷ verdicts) n
-regular_outcome meter address verdicts n tries answer acknowledged regular e =
+regular_meaning : (meter : Identity) (address : Option ℕ) (verdicts : List Verdict) (n tries : ℕ) (answer : List ℕ) (o : Meaning) → IsRegular address verdicts n → meaning_at (stage_of address verdicts n) meter address n (frame_of answer) ≡ o → IsRegular address (verdict_of_meaning tries n o ∷ verdicts) n
+regular_meaning meter address verdicts n tries answer acknowledged regular e =
     record { settled_came = regular.settled_came; one_waits = regular.one_waits; commands_first = λ less. regular.commands_first (omega arith) }
-regular_outcome meter address verdicts n tries answer (answered t) regular e =
+regular_meaning meter address verdicts n tries answer (answered t) regular e =
     let stage = answered_when (stage_of address verdicts n) meter address n (frame_of answer) t e in
     let passed = past_stages (list_any is_failed verdicts) (nat_lt (length (filter is_ready verdicts)) 1) (nat_lt (length (filter is_ready verdicts)) (commands address)) (stage_by_telegrams n (telegrams verdicts)) stage in
     let few : length (telegrams verdicts) ≤ n = none_waits n (telegrams verdicts) passed.3 in
     let came : n ≤ length (telegrams verdicts) = regular.settled_came in
     let commanded : commands address ≤ length (filter is_ready verdicts) = ltb-false _ _ passed.2 in
     record { settled_came = omega arith; one_waits = omega arith; commands_first = λ less. absurd (omega arith) }
-regular_outcome meter address verdicts n tries answer (missed why) regular e =
+regular_meaning meter address verdicts n tries answer (missed why) regular e =
     regular_miss address verdicts n (nat_lt tries 2) why regular
-regular_outcome meter address verdicts n tries answer (broken why) regular e =
+regular_meaning meter address verdicts n tries answer (broken why) regular e =
     record { settled_came = regular.settled_came; one_waits = regular.one_waits; commands_first = regular.commands_first }
 
-pub regular_past : (meter : Identity) (address : Option ℕ) (events : List Event) → AreLawful meter address events → IsRegular address (verdicts_of meter address events) (settled_in events)
+pub regular_past : (meter : Identity) (address : Option ℕ) (calls : List Call) → AreLawful meter address calls → IsRegular address (verdicts_of meter address calls) (settled_in calls)
 regular_past meter address [] lawful = record { settled_came = omega arith; one_waits = omega arith; commands_first = λ less. refl }
 regular_past meter address (hears answer ∷ earlier) lawful =
-    regular_outcome meter address (verdicts_of meter address earlier) (settled_in earlier) (prefix_len is_again (verdicts_of meter address earlier)) answer _ (regular_past meter address earlier lawful.1) refl
+    regular_meaning meter address (verdicts_of meter address earlier) (settled_in earlier) (prefix_len is_again (verdicts_of meter address earlier)) answer _ (regular_past meter address earlier lawful.1) refl
 regular_past meter address (settles ∷ earlier) lawful =
     let verdicts = verdicts_of meter address earlier in
     let n = settled_in earlier in
@@ -193,9 +193,9 @@ regular_past meter address (settles ∷ earlier) lawful =
 
 pub sums_heard : (past : Past) (s after : Summary) (answer : List ℕ) (v : Verdict) → SumsUp past s → IsSome (asked_by s) → v ≡ verdict_by s answer → after ≡ heard_by s v → (v ≡ judged past answer) × SumsUp (and_heard answer past) after
 sums_heard past s after answer v sums asks is left =
-    let verdicts = verdicts_of past.meter past.address past.events in
+    let verdicts = verdicts_of past.meter past.address past.calls in
     let judged_so : v ≡ judged past answer = is ∙ ap (λ x. verdict_by x answer) (sym sums.is) in
-    let follows = after_outcome past.meter past.address verdicts (settled_in past.events) answer _ (regular_past past.meter past.address past.events sums.lawful) refl in (
+    let follows = after_meaning past.meter past.address verdicts (settled_in past.calls) answer _ (regular_past past.meter past.address past.calls sums.lawful) refl in (
       judged_so,
       record {
         lawful = (subst (λ x. IsSome (asked_by x)) (sym sums.is) asks, sums.lawful);
@@ -205,10 +205,10 @@ sums_heard past s after answer v sums asks is left =
 
 pub sums_settled : (past : Past) (s after : Summary) → SumsUp past s → IsPending s.stage → after ≡ settled_by s → SumsUp (and_settled past) after
 sums_settled past s after sums pending left =
-    let verdicts = verdicts_of past.meter past.address past.events in
+    let verdicts = verdicts_of past.meter past.address past.calls in
     let waits : IsPending (summary past).stage = subst (λ x. IsPending x.stage) (sym sums.is) pending in
-    let regular = regular_past past.meter past.address past.events sums.lawful in
+    let regular = regular_past past.meter past.address past.calls sums.lawful in
     record {
       lawful = (waits, sums.lawful);
-      is = after_settling past.meter past.address verdicts (settled_in past.events) (settled_in (settles ∷ past.events)) (omega arith) regular.one_waits waits ∙ ap settled_by sums.is ∙ sym left;
+      is = after_settling past.meter past.address verdicts (settled_in past.calls) (settled_in (settles ∷ past.calls)) (omega arith) regular.one_waits waits ∙ ap settled_by sums.is ∙ sym left;
     }

@@ -1,4 +1,4 @@
--- What each outcome tells of the line of the table that it comes from.
+-- What each meaning tells of the line of the table that it comes from.
 use Rattle.std.proofs.Common.{◌≡◌, ℕ, ◌+◌, ◌≤◌, ◌⊎◌, inl, inr, Bool, true, false, not, ◌&&◌, Option, Some, None, Ok, Err, Result, cond, eqb, arith, refl, sym, ◌∙◌, ap}
 use Rattle.std.proofs.lemmas.Bool.{eq-eqb}
 use Rattle.dc_linkframe.specs.Frame.{FrameSeen, ack, short, long}
@@ -10,17 +10,17 @@ use Rattle.dc_readout.specs.declared.why.Why.TheVariants.{WrongFrame, WrongAddre
 use Rattle.dc_readout.specs.declared.stage.Stage.{Stage}
 use Rattle.dc_readout.specs.declared.stage.Stage.TheVariants.{Resets, Selects, Requests, Pending, Ended}
 use Rattle.dc_readout.specs.Why.{number_of}
-use Rattle.dc_readout.specs.Answer.{Outcome, acknowledged, answered, missed, broken, max_parts, to_command, to_request, by_body, is_meter}
-use Rattle.dc_readout.specs.Summary.{to_reset, outcome_at}
+use Rattle.dc_readout.specs.Answer.{Meaning, acknowledged, answered, missed, broken, max_parts, to_command, to_request, by_body, is_meter}
+use Rattle.dc_readout.specs.Summary.{to_reset, meaning_at}
 
 -- what no line of a table gives, none gives
-past_three : (first second third : Bool) (o wanted : Outcome) → (missed WrongFrame ≡ wanted → ⊥) → (missed WrongAddress ≡ wanted → ⊥) → (broken ApplicationError ≡ wanted → ⊥) → cond first (missed WrongFrame) (cond second (missed WrongAddress) (cond third (broken ApplicationError) o)) ≡ wanted → o ≡ wanted
+pub past_three : (first second third : Bool) (o wanted : Meaning) → (missed WrongFrame ≡ wanted → ⊥) → (missed WrongAddress ≡ wanted → ⊥) → (broken ApplicationError ≡ wanted → ⊥) → cond first (missed WrongFrame) (cond second (missed WrongAddress) (cond third (broken ApplicationError) o)) ≡ wanted → o ≡ wanted
 past_three true second third o wanted a b c e = absurd (a e)
 past_three false true third o wanted a b c e = absurd (b e)
 past_three false false true o wanted a b c e = absurd (c e)
 past_three false false false o wanted a b c e = e
 
-past_two : (first second : Bool) (o wanted : Outcome) → (broken Stranger ≡ wanted → ⊥) → (broken TooManyParts ≡ wanted → ⊥) → cond first (broken Stranger) (cond second (broken TooManyParts) o) ≡ wanted → (second ≡ false) × (o ≡ wanted)
+past_two : (first second : Bool) (o wanted : Meaning) → (broken Stranger ≡ wanted → ⊥) → (broken TooManyParts ≡ wanted → ⊥) → cond first (broken Stranger) (cond second (broken TooManyParts) o) ≡ wanted → (second ≡ false) × (o ≡ wanted)
 past_two true second o wanted a b e = absurd (a e)
 past_two false true o wanted a b e = absurd (b e)
 past_two false false o wanted a b e = (refl, e)
@@ -66,7 +66,7 @@ reset_not_answered None frame t e = cc
 reset_not_answered (Some address) frame t e = not_answered frame t e
 
 -- a telegram is heard where one is asked for
-pub answered_when : (stage : Stage) (meter : Identity) (address : Option ℕ) (n : ℕ) (frame : Option FrameSeen) (t : Parsed) → outcome_at stage meter address n frame ≡ answered t → stage ≡ Requests
+pub answered_when : (stage : Stage) (meter : Identity) (address : Option ℕ) (n : ℕ) (frame : Option FrameSeen) (t : Parsed) → meaning_at stage meter address n frame ≡ answered t → stage ≡ Requests
 answered_when Resets meter address n frame t e = absurd (reset_not_answered address frame t e)
 answered_when Selects meter address n frame t e = absurd (not_answered frame t e)
 answered_when Requests meter address n frame t e = refl
@@ -74,7 +74,7 @@ answered_when (Pending more) meter address n frame t e = absurd cc
 answered_when Ended meter address n frame t e = absurd cc
 
 -- and an acknowledgement where a command was sent
-pub acknowledged_when : (stage : Stage) (meter : Identity) (address : Option ℕ) (n : ℕ) (frame : Option FrameSeen) → outcome_at stage meter address n frame ≡ acknowledged → (stage ≡ Resets) ⊎ (stage ≡ Selects)
+pub acknowledged_when : (stage : Stage) (meter : Identity) (address : Option ℕ) (n : ℕ) (frame : Option FrameSeen) → meaning_at stage meter address n frame ≡ acknowledged → (stage ≡ Resets) ⊎ (stage ≡ Selects)
 acknowledged_when Resets meter address n frame e = inl refl
 acknowledged_when Selects meter address n frame e = inr refl
 acknowledged_when Requests meter address n frame e = absurd (never_acknowledged meter address (n + 1) frame e)
@@ -82,7 +82,7 @@ acknowledged_when (Pending more) meter address n frame e = absurd cc
 acknowledged_when Ended meter address n frame e = absurd cc
 
 -- so the last part that is waited for ends the readout
-pub last_part : (stage : Stage) (meter : Identity) (address : Option ℕ) (n : ℕ) (frame : Option FrameSeen) (t : Parsed) → outcome_at stage meter address n frame ≡ answered t → n + 1 ≡ max_parts → continues t.ending ≡ false
+pub last_part : (stage : Stage) (meter : Identity) (address : Option ℕ) (n : ℕ) (frame : Option FrameSeen) (t : Parsed) → meaning_at stage meter address n frame ≡ answered t → n + 1 ≡ max_parts → continues t.ending ≡ false
 last_part Resets meter address n frame t e last = absurd (reset_not_answered address frame t e)
 last_part Selects meter address n frame t e last = absurd (not_answered frame t e)
 last_part Requests meter address n frame t e last = answered_fits meter address (n + 1) frame t e last
@@ -90,19 +90,19 @@ last_part (Pending more) meter address n frame t e last = absurd cc
 last_part Ended meter address n frame t e last = absurd cc
 
 -- what ends a readout at once has a number from 4 on
-abbrev pub BreaksLate : Outcome → Type 0
+abbrev pub BreaksLate : Meaning → Type 0
 BreaksLate acknowledged = Unit {0}
 BreaksLate (answered t) = Unit {0}
 BreaksLate (missed why) = Unit {0}
 BreaksLate (broken why) = 4 ≤ number_of why
 
-late_three : (first second third : Bool) (o : Outcome) → BreaksLate o → BreaksLate (cond first (missed WrongFrame) (cond second (missed WrongAddress) (cond third (broken ApplicationError) o)))
+late_three : (first second third : Bool) (o : Meaning) → BreaksLate o → BreaksLate (cond first (missed WrongFrame) (cond second (missed WrongAddress) (cond third (broken ApplicationError) o)))
 late_three true second third o late = tt
 late_three false true third o late = tt
 late_three false false true o late = omega arith
 late_three false false false o late = late
 
-late_two : (first second : Bool) (o : Outcome) → BreaksLate o → BreaksLate (cond first (broken Stranger) (cond second (broken TooManyParts) o))
+late_two : (first second : Bool) (o : Meaning) → BreaksLate o → BreaksLate (cond first (broken Stranger) (cond second (broken TooManyParts) o))
 late_two true second o late = omega arith
 late_two false true o late = omega arith
 late_two false false o late = late
@@ -124,7 +124,7 @@ late_request meter address part (Some (short control sender)) = tt
 late_request meter address part (Some (long control sender ci body)) =
     late_three _ _ _ _ (late_body meter part (telegram_at body))
 
-pub breaks_late : (stage : Stage) (meter : Identity) (address : Option ℕ) (n : ℕ) (frame : Option FrameSeen) → BreaksLate (outcome_at stage meter address n frame)
+pub breaks_late : (stage : Stage) (meter : Identity) (address : Option ℕ) (n : ℕ) (frame : Option FrameSeen) → BreaksLate (meaning_at stage meter address n frame)
 breaks_late Resets meter None n frame = tt
 breaks_late Resets meter (Some address) n frame = late_command frame
 breaks_late Selects meter address n frame = late_command frame

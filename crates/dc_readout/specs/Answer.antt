@@ -2,6 +2,7 @@
 -- structure of EN 13757-3; the order of the lines is this product's.
 use Rattle.std.specs.Prelude.{ℕ, Bool, true, not, ◌&&◌, ◌||◌, Option, Some, None, Result, Ok, Err, ◌==◌, if◌then◌else◌}
 use Rattle.dc_linkframe.specs.Frame.{FrameSeen, ack, short, long}
+use Rattle.dc_linkframe.specs.Control.{is_rsp_ud, variable_data, application_error}
 use Rattle.dc_address.specs.declared.identity.Identity.{Identity}
 use Rattle.dc_records.specs.declared.fault.BodyFault.{BodyFault}
 use Rattle.dc_records.specs.Body.{continues}
@@ -15,26 +16,22 @@ max_parts = 32
 
 -- An answer is the acknowledgement that was asked for, the telegram that was asked for, a failed try, or the
 -- end of the readout.
-pub data Outcome : Type 0 where
-  acknowledged : Outcome
-  answered : Parsed → Outcome
-  missed : Why → Outcome
-  broken : Why → Outcome
+pub data Meaning : Type 0 where
+  acknowledged : Meaning
+  answered : Parsed → Meaning
+  missed : Why → Meaning
+  broken : Why → Meaning
 
 -- where the acknowledgement is expected; no frame stands for no byte and for bytes that are none
-abbrev pub to_command : Option FrameSeen → Outcome
+abbrev pub to_command : Option FrameSeen → Meaning
 to_command None = missed NoAnswer
 to_command (Some ack) = acknowledged
 to_command (Some (short control address)) = missed WrongFrame
 to_command (Some (long control address ci body)) = missed WrongFrame
 
--- the control bytes of RSP_UD, with the bits for access demand and flow control either way
-abbrev pub is_response : ℕ → Bool
-is_response control = control == 0x08 || control == 0x18 || control == 0x28 || control == 0x38
-
 -- data or an application error
 abbrev pub is_understood : ℕ → Bool
-is_understood ci = ci == 0x72 || ci == 0x70
+is_understood ci = ci == variable_data || ci == application_error
 
 -- with secondary addressing the address byte isn't looked at
 abbrev pub is_from : Option ℕ → ℕ → Bool
@@ -46,23 +43,23 @@ is_meter meter sender =
     sender.number == meter.number && sender.maker == meter.maker && sender.version == meter.version && sender.kind == meter.kind
 
 -- the telegram of a part, which no telegram may follow after the last part
-abbrev pub by_telegram : Identity → ℕ → Parsed → Outcome
+abbrev pub by_telegram : Identity → ℕ → Parsed → Meaning
 by_telegram meter part telegram =
     if not (is_meter meter telegram.header.identity) then broken Stranger
     else if part == max_parts && continues telegram.ending then broken TooManyParts
     else answered telegram
 
-abbrev pub by_body : Identity → ℕ → Result Parsed BodyFault → Outcome
+abbrev pub by_body : Identity → ℕ → Result Parsed BodyFault → Meaning
 by_body meter part (Err fault) = broken (Content fault)
 by_body meter part (Ok telegram) = by_telegram meter part telegram
 
 -- where the telegram of a part is expected
-abbrev pub to_request : Identity → Option ℕ → ℕ → Option FrameSeen → Outcome
+abbrev pub to_request : Identity → Option ℕ → ℕ → Option FrameSeen → Meaning
 to_request meter address part None = missed NoAnswer
 to_request meter address part (Some ack) = missed WrongFrame
 to_request meter address part (Some (short control sender)) = missed WrongFrame
 to_request meter address part (Some (long control sender ci body)) =
-    if not (is_response control && is_understood ci) then missed WrongFrame
+    if not (is_rsp_ud control && is_understood ci) then missed WrongFrame
     else if not (is_from address sender) then missed WrongAddress
-    else if ci == 0x70 then broken ApplicationError
+    else if ci == application_error then broken ApplicationError
     else by_body meter part (telegram_at body)

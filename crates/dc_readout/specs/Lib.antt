@@ -5,3 +5,4 @@ pub mod Summary
 pub mod Session
 pub mod Protocol
 pub mod Seen
+pub mod Taken

@@ -11,23 +11,23 @@ use Rattle.dc_readout.specs.declared.stage.Stage.TheVariants.{Resets, Selects, R
 use Rattle.dc_readout.specs.Summary.{Summary, Verdict, again, ready, new, failed, asked_by, verdict_by, IsPending}
 
 -- An answer was heard (no byte is silence), or the telegram that came last was settled.
-pub data Event : Type 0 where
-  hears : List ℕ → Event
-  settles : Event
+pub data Call : Type 0 where
+  hears : List ℕ → Call
+  settles : Call
 
 -- a session's past: whom it reads, and what happened, the latest first
 pub record Past : Type 0 where
   pub meter : Identity
   pub address : Option ℕ
-  pub events : List Event
+  pub calls : List Call
 
-abbrev pub is_settling : Event → Bool
+abbrev pub is_settling : Call → Bool
 is_settling settles = true
 is_settling (hears answer) = false
 
 -- how many telegrams were settled
-abbrev pub settled_in : List Event → ℕ
-settled_in events = length (filter is_settling events)
+abbrev pub settled_in : List Call → ℕ
+settled_in calls = length (filter is_settling calls)
 
 abbrev pub is_again : Verdict → Bool
 is_again again = true
@@ -81,7 +81,7 @@ sum_of meter address verdicts settled =
     record { meter = meter; address = address; stage = stage_of address verdicts settled; tries = prefix_len is_again verdicts; settled = settled }
 
 -- how each answer was judged, by what came before it, the latest first
-abbrev pub verdicts_of : Identity → Option ℕ → List Event → List Verdict
+abbrev pub verdicts_of : Identity → Option ℕ → List Call → List Verdict
 verdicts_of meter address [] = []
 verdicts_of meter address (settles ∷ earlier) = verdicts_of meter address earlier
 verdicts_of meter address (hears answer ∷ earlier) =
@@ -89,7 +89,7 @@ verdicts_of meter address (hears answer ∷ earlier) =
 
 -- the summary of a past, what is asked after it, and how an answer is judged there
 abbrev pub summary : Past → Summary
-summary past = sum_of past.meter past.address (verdicts_of past.meter past.address past.events) (settled_in past.events)
+summary past = sum_of past.meter past.address (verdicts_of past.meter past.address past.calls) (settled_in past.calls)
 
 abbrev pub asked : Past → Option FrameSeen
 asked past = asked_by (summary past)
@@ -97,27 +97,27 @@ asked past = asked_by (summary past)
 abbrev pub judged : Past → List ℕ → Verdict
 judged past answer = verdict_by (summary past) answer
 
--- a past with one event more
+-- a past with one call more
 abbrev pub and_heard : List ℕ → Past → Past
-and_heard answer past = record past { events = hears answer ∷ past.events }
+and_heard answer past = record past { calls = hears answer ∷ past.calls }
 
 abbrev pub and_settled : Past → Past
-and_settled past = record past { events = settles ∷ past.events }
+and_settled past = record past { calls = settles ∷ past.calls }
 
 -- a past in which nothing has happened yet
 abbrev pub past_of : Identity → Option ℕ → Past
-past_of meter address = record { meter = meter; address = address; events = [] }
+past_of meter address = record { meter = meter; address = address; calls = [] }
 
 -- An answer is heard only where one is asked for, and only a telegram that waits is settled.
-abbrev pub AreLawful : Identity → Option ℕ → List Event → Type 0
+abbrev pub AreLawful : Identity → Option ℕ → List Call → Type 0
 AreLawful meter address [] = Unit {0}
 AreLawful meter address (hears answer ∷ earlier) =
-    IsSome (asked (record { meter = meter; address = address; events = earlier })) × AreLawful meter address earlier
+    IsSome (asked (record { meter = meter; address = address; calls = earlier })) × AreLawful meter address earlier
 AreLawful meter address (settles ∷ earlier) =
-    IsPending (summary (record { meter = meter; address = address; events = earlier })).stage × AreLawful meter address earlier
+    IsPending (summary (record { meter = meter; address = address; calls = earlier })).stage × AreLawful meter address earlier
 
 abbrev pub IsLawful : Past → Type 0
-IsLawful past = AreLawful past.meter past.address past.events
+IsLawful past = AreLawful past.meter past.address past.calls
 
 -- this is the summary of a past that was lived
 pub record SumsUp (past : Past) (s : Summary) : Type 0 where

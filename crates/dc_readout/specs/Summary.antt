@@ -1,7 +1,8 @@
 -- What a session knows of its past, what it asks next and how an answer changes it: the frame count bit of
 -- EN 13757-2, and selection as EN 13757-3 (2004, 2013) and EN 13757-7 have it.
-use Rattle.std.specs.Prelude.{◌≡◌, refl, ℕ, ◌+◌, ◌%◌, true, false, List, Option, Some, None, ◌<◌, nat_lt, ◌==◌, if◌then◌else◌}
-use Rattle.dc_linkframe.specs.Frame.{FrameSeen, short, long}
+use Rattle.std.specs.Prelude.{ℕ, ◌+◌, ◌%◌, Bool, true, false, List, Option, Some, None, ◌<◌, nat_lt, ◌==◌, if◌then◌else◌}
+use Rattle.dc_linkframe.specs.Frame.{FrameSeen}
+use Rattle.dc_linkframe.specs.Control.{selected, reset_to, request_to, selection_by}
 use Rattle.dc_linkframe.specs.Reading.{frame_of}
 use Rattle.dc_address.specs.declared.identity.Identity.{Identity}
 use Rattle.dc_address.specs.Mask.{mask_of, mask_wire}
@@ -11,7 +12,7 @@ use Rattle.dc_readout.specs.declared.stage.Stage.{Stage}
 use Rattle.dc_readout.specs.declared.stage.Stage.TheVariants.{Resets, Selects, Requests, Pending, Ended}
 use Rattle.dc_readout.specs.declared.why.Why.{Why}
 use Rattle.dc_readout.specs.declared.why.Why.TheVariants.{NoAnswer}
-use Rattle.dc_readout.specs.Answer.{Outcome, max_parts, acknowledged, answered, missed, broken, to_command, to_request}
+use Rattle.dc_readout.specs.Answer.{Meaning, max_parts, acknowledged, answered, missed, broken, to_command, to_request}
 
 -- `settled` counts the telegrams that were settled, `tries` the answers in a row that were none to the request.
 pub record Summary : Type 0 where
@@ -30,30 +31,24 @@ pub data Verdict : Type 0 where
 
 -- ---- requests
 
--- the address that requests go to: FD is every meter that is selected
+-- the address that requests go to
 abbrev pub link_address : Option ℕ → ℕ
-link_address None = 0xFD
+link_address None = selected
 link_address (Some address) = address
 
--- SND_NKE
 abbrev pub reset_of : Option ℕ → FrameSeen
-reset_of address = short 0x40 (link_address address)
+reset_of address = reset_to (link_address address)
 
--- SND_UD that selects the meters of this identity
+-- the selection of the meters of this identity
 unfoldable pub selection_of : Identity → FrameSeen
-selection_of meter = long 0x53 0xFD 0x52 (mask_wire (mask_of meter))
+selection_of meter = selection_by (mask_wire (mask_of meter))
 
--- REQ_UD2: the first has frame count bit 1, and each settled telegram changes it
-abbrev pub request_control : ℕ → ℕ
-request_control settled = if settled % 2 == 0 then 0x7B else 0x5B
+-- the frame count bit of a request: the first has bit 1, and each settled telegram changes it
+abbrev pub request_bit : ℕ → Bool
+request_bit settled = settled % 2 == 0
 
 abbrev pub request_of : Option ℕ → ℕ → FrameSeen
-request_of address settled = short (request_control settled) (link_address address)
-
--- the selection is a long frame, whatever it selects
-pub selection_is_long : (meter : Identity) → selection_of meter ≡ long 0x53 0xFD 0x52 (mask_wire (mask_of meter))
-unfolding selection_of
-selection_is_long meter = refl
+request_of address settled = request_to (request_bit settled) (link_address address)
 
 abbrev pub asked_at : Stage → Identity → Option ℕ → ℕ → Option FrameSeen
 asked_at Resets meter address settled = Some (reset_of address)
@@ -68,27 +63,27 @@ asked_by s = asked_at s.stage s.meter s.address s.settled
 -- ---- answers
 
 -- the reset of every selected meter is acknowledged by whatever comes
-abbrev pub to_reset : Option ℕ → Option FrameSeen → Outcome
+abbrev pub to_reset : Option ℕ → Option FrameSeen → Meaning
 to_reset None frame = acknowledged
 to_reset (Some address) frame = to_command frame
 
 -- nothing waits for an answer after a telegram that isn't settled, nor at the end
-abbrev pub outcome_at : Stage → Identity → Option ℕ → ℕ → Option FrameSeen → Outcome
-outcome_at Resets meter address settled frame = to_reset address frame
-outcome_at Selects meter address settled frame = to_command frame
-outcome_at Requests meter address settled frame = to_request meter address (settled + 1) frame
-outcome_at (Pending more) meter address settled frame = missed NoAnswer
-outcome_at Ended meter address settled frame = missed NoAnswer
+abbrev pub meaning_at : Stage → Identity → Option ℕ → ℕ → Option FrameSeen → Meaning
+meaning_at Resets meter address settled frame = to_reset address frame
+meaning_at Selects meter address settled frame = to_command frame
+meaning_at Requests meter address settled frame = to_request meter address (settled + 1) frame
+meaning_at (Pending more) meter address settled frame = missed NoAnswer
+meaning_at Ended meter address settled frame = missed NoAnswer
 
 -- the third failed try ends the session
-abbrev pub verdict_of_outcome : ℕ → ℕ → Outcome → Verdict
-verdict_of_outcome tries settled acknowledged = ready
-verdict_of_outcome tries settled (answered telegram) = new (settled + 1) telegram
-verdict_of_outcome tries settled (missed why) = if nat_lt tries 2 then again else failed why
-verdict_of_outcome tries settled (broken why) = failed why
+abbrev pub verdict_of_meaning : ℕ → ℕ → Meaning → Verdict
+verdict_of_meaning tries settled acknowledged = ready
+verdict_of_meaning tries settled (answered telegram) = new (settled + 1) telegram
+verdict_of_meaning tries settled (missed why) = if nat_lt tries 2 then again else failed why
+verdict_of_meaning tries settled (broken why) = failed why
 
 abbrev pub verdict_by : Summary → List ℕ → Verdict
-verdict_by s answer = verdict_of_outcome s.tries s.settled (outcome_at s.stage s.meter s.address s.settled (frame_of answer))
+verdict_by s answer = verdict_of_meaning s.tries s.settled (meaning_at s.stage s.meter s.address s.settled (frame_of answer))
 
 -- ---- what follows
 

@@ -1,26 +1,23 @@
 //! What an answer is to the request that waits for it.
 
-ghost use Rattle.std.specs.Prelude.{◌≡◌};
+ghost use Rattle.std.specs.Prelude.{◌≡◌, ◌≤◌, length};
 ghost use Rattle.dc_linkframe.specs.Reading.{frame_of};
-ghost use Rattle.dc_records.specs.Telegram.{telegram_at};
-ghost use Rattle.dc_readout.specs.Answer.{to_command, to_request, by_body, is_response, is_understood, is_from};
-ghost use Rattle.dc_readout.specs.Seen.{outcome};
+ghost use Rattle.dc_records.specs.Telegram.{Parsed, telegram_at};
+ghost use Rattle.dc_readout.specs.Answer.{answered, to_command, to_request, by_body, is_understood, is_from};
+ghost use Rattle.dc_readout.specs.Seen.{meaning};
 
 use crate::why::Why;
 use dc_address::{Identity, Primary};
+use dc_linkframe::control::{APPLICATION_ERROR, VARIABLE_DATA, is_rsp_ud};
 use dc_linkframe::{Frame, parse};
 use dc_records::Telegram;
 
 // The parts that a readout has at most.
 const MAX_PARTS: u8 = 32;
 
-// The control information of a telegram, and of an application error.
-const VARIABLE_DATA: u8 = 0x72;
-
-const APPLICATION_ERROR: u8 = 0x70;
-
+// What an answer means to the request: it is what was asked for, a failed try, or the end of the readout.
 #[derive(Clone, Copy)]
-pub(crate) enum Outcome<'a> {
+pub(crate) enum Meaning<'a> {
     Acknowledged,
     Answered(Telegram<'a>),
     Missed(Why),
@@ -28,20 +25,14 @@ pub(crate) enum Outcome<'a> {
 }
 
 // An answer where the acknowledgement is expected.
-pub(crate) fn to_command(answer: &[u8]) -> Outcome<'_>
-    ensures { outcome result ≡ to_command (frame_of answer.now) }
+pub(crate) fn to_command(answer: &[u8]) -> Meaning<'_>
+    ensures { meaning result ≡ to_command (frame_of answer.now) }
 {
     match parse(answer) {
-        Err(_) => Outcome::Missed(Why::NoAnswer),
-        Ok(Frame::Ack) => Outcome::Acknowledged,
-        Ok(_) => Outcome::Missed(Why::WrongFrame),
+        Err(_) => Meaning::Missed(Why::NoAnswer),
+        Ok(Frame::Ack) => Meaning::Acknowledged,
+        Ok(_) => Meaning::Missed(Why::WrongFrame),
     }
-}
-
-fn is_response(control: u8) -> bool
-    ensures { result ≡ is_response control }
-{
-    matches!(control, 0x08 | 0x18 | 0x28 | 0x38)
 }
 
 fn is_understood(ci: u8) -> bool
@@ -62,11 +53,12 @@ pub(crate) fn to_request<'a>(
     address: Option<Primary>,
     part: u8,
     answer: &'a [u8],
-) -> Outcome<'a>
-    ensures { outcome result ≡ to_request meter.now address part (frame_of answer.now) }
+) -> Meaning<'a>
+    ensures exact { meaning result ≡ to_request meter.now address part (frame_of answer.now) }
+    ensures fits { (t : Parsed) → meaning result ≡ answered t → length t.body ≤ 252 }
 {
     let Ok(frame) = parse(answer) else {
-        return Outcome::Missed(Why::NoAnswer);
+        return Meaning::Missed(Why::NoAnswer);
     };
     let Frame::Long {
         control,
@@ -75,33 +67,35 @@ pub(crate) fn to_request<'a>(
         body,
     } = frame
     else {
-        return Outcome::Missed(Why::WrongFrame);
+        return Meaning::Missed(Why::WrongFrame);
     };
-    if !is_response(control) || !is_understood(ci) {
-        return Outcome::Missed(Why::WrongFrame);
+    if !is_rsp_ud(control) || !is_understood(ci) {
+        return Meaning::Missed(Why::WrongFrame);
     }
     if !is_from(address, sender) {
-        return Outcome::Missed(Why::WrongAddress);
+        return Meaning::Missed(Why::WrongAddress);
     }
     if ci == APPLICATION_ERROR {
-        return Outcome::Broken(Why::ApplicationError);
+        return Meaning::Broken(Why::ApplicationError);
     }
     by_body(meter, part, body)
 }
 
 // The body of a part.
-fn by_body<'a>(meter: &Identity, part: u8, body: &'a [u8]) -> Outcome<'a>
-    ensures { outcome result ≡ by_body meter.now part (telegram_at body.now) }
+fn by_body<'a>(meter: &Identity, part: u8, body: &'a [u8]) -> Meaning<'a>
+    requires { length body.now ≤ 252 }
+    ensures exact { meaning result ≡ by_body meter.now part (telegram_at body.now) }
+    ensures fits { (t : Parsed) → meaning result ≡ answered t → length t.body ≤ 252 }
 {
     match Telegram::parse(body) {
-        Err(fault) => Outcome::Broken(Why::Content(fault)),
+        Err(fault) => Meaning::Broken(Why::Content(fault)),
         Ok(telegram) => {
             if telegram.header().identity != *meter {
-                Outcome::Broken(Why::Stranger)
+                Meaning::Broken(Why::Stranger)
             } else if part == MAX_PARTS && telegram.more_follows() {
-                Outcome::Broken(Why::TooManyParts)
+                Meaning::Broken(Why::TooManyParts)
             } else {
-                Outcome::Answered(telegram)
+                Meaning::Answered(telegram)
             }
         }
     }

@@ -1,3 +1,5 @@
+//! What `hear` answers.
+
 use crate::why::Why;
 use dc_records::Telegram;
 

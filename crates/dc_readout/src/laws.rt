@@ -1,23 +1,25 @@
-//! The protocol's rules, said of a session's whole past.
+//! The protocol's rules, said of a session's whole past and of what it knows of it.
 
-ghost use Rattle.std.specs.Prelude.{◌≡◌, ◌≢◌, ◌+◌, ◌<◌, ◌≤◌, ℕ, List, [], Some, true, false};
+ghost use Rattle.std.specs.Prelude.{◌≡◌, ◌≢◌, ◌↔◌, ◌+◌, ◌%◌, ◌<◌, ◌≤◌, ℕ, List, [], Option, Some, true, false};
 ghost use Rattle.dc_linkframe.specs.Frame.{FrameSeen};
 ghost use Rattle.dc_records.specs.Body.{continues};
 ghost use Rattle.dc_records.specs.Telegram.{Parsed};
 ghost use Rattle.dc_readout.specs.declared.why.Why.{Why};
 ghost use Rattle.dc_readout.specs.Why.{number_of};
-ghost use Rattle.dc_readout.specs.Summary.{again, new, failed, request_of};
-ghost use Rattle.dc_readout.specs.Session.{Event, Past, IsLawful, settled_in, summary, asked, judged, and_heard, and_settled};
+ghost use Rattle.dc_address.specs.declared.identity.Identity.{Identity};
+ghost use Rattle.dc_readout.specs.Summary.{Summary, again, new, failed, begun, request_of, asked_by, verdict_by, heard_by, settled_by};
+ghost use Rattle.dc_readout.specs.Session.{Call, Past, IsLawful, past_of, settled_in, summary, asked, judged, and_heard, and_settled};
+ghost use Rattle.dc_readout.specs.Taken.{IsTaken};
 ghost use Rattle.dc_readout.specs.Protocol.{IsRequest, IsFollowed, and_then};
 
 /// The frame count bit of a request is the parity of the telegrams that were settled.
 pub fn the_bit_changes_with_a_settled_telegram()
     // It is 1 where their number is even.
     ensures parity { (past : Past) (request : FrameSeen) → asked past ≡ Some request → IsRequest request
-        → request ≡ request_of past.address (settled_in past.events) }
+        → request ≡ request_of past.address (settled_in past.calls) }
     // Between two requests with different bits lies exactly one settled telegram.
-    ensures between { (past : Past) (events : List Event) (request next : FrameSeen) → IsFollowed past events request next
-        → IsRequest request → IsRequest next → request ≢ next → settled_in events ≡ 1 }
+    ensures between { (past : Past) (calls : List Call) (request next : FrameSeen) → IsFollowed past calls request next
+        → IsRequest request → IsRequest next → request ≢ next → settled_in calls ≡ 1 }
 {}
 
 /// A request is repeated until it is answered validly or has failed three times.
@@ -40,14 +42,37 @@ pub fn requests_are_repeated()
 pub fn nothing_more_is_asked()
     ensures while_it_waits { (past : Past) (answer : List ℕ) (part : ℕ) (t : Parsed) → IsLawful (and_heard answer past)
         → judged past answer ≡ new part t → asked (and_heard answer past) ≡ None }
-    ensures after_failure { (past : Past) (answer : List ℕ) (why : Why) (events : List Event) → judged past answer ≡ failed why
-        → IsLawful (and_then events (and_heard answer past)) → (events ≡ []) × (asked (and_heard answer past) ≡ None) }
-    ensures after_the_last { (past : Past) (answer : List ℕ) (part : ℕ) (t : Parsed) (events : List Event)
+    ensures after_failure { (past : Past) (answer : List ℕ) (why : Why) (calls : List Call) → judged past answer ≡ failed why
+        → IsLawful (and_then calls (and_heard answer past)) → (calls ≡ []) × (asked (and_heard answer past) ≡ None) }
+    ensures after_the_last { (past : Past) (answer : List ℕ) (part : ℕ) (t : Parsed) (calls : List Call)
         → judged past answer ≡ new part t → continues t.ending ≡ false
-        → IsLawful (and_then events (and_settled (and_heard answer past)))
-        → (events ≡ []) × (asked (and_settled (and_heard answer past)) ≡ None) }
+        → IsLawful (and_then calls (and_settled (and_heard answer past)))
+        → (calls ≡ []) × (asked (and_settled (and_heard answer past)) ≡ None) }
     // Where more follow, the next request has the other bit.
     ensures but_the_next { (past : Past) (answer : List ℕ) (part : ℕ) (t : Parsed) → IsLawful (and_heard answer past)
         → judged past answer ≡ new part t → continues t.ending ≡ true
-        → asked (and_settled (and_heard answer past)) ≡ Some (request_of past.address (settled_in past.events + 1)) }
+        → asked (and_settled (and_heard answer past)) ≡ Some (request_of past.address (settled_in past.calls + 1)) }
+{}
+
+/// A session's summary follows its past, call by call.
+pub fn the_summary_follows_the_past()
+    ensures begins { (meter : Identity) (address : Option ℕ) → summary (past_of meter address) ≡ begun meter address }
+    ensures heard { (past : Past) (answer : List ℕ) → IsLawful past
+        → summary (and_heard answer past) ≡ heard_by (summary past) (judged past answer) }
+    ensures settled { (past : Past) → IsLawful (and_settled past)
+        → summary (and_settled past) ≡ settled_by (summary past) }
+{}
+
+/// A telegram that a session takes was asked for, it is the next part, and it is the meter's own and whole; more
+/// follow only below the last part that a readout has.
+pub fn a_taken_telegram_was_asked_for()
+    ensures { (s : Summary) (answer : List ℕ) (part : ℕ) (t : Parsed) → verdict_by s answer ≡ new part t → IsTaken s part t }
+{}
+
+/// Two requests for a telegram at one address are the same where their sessions' counts of settled telegrams have
+/// one parity, and only there.
+pub fn requests_differ_by_the_parity_of_what_is_settled()
+    ensures { (s later : Summary) (request next : FrameSeen) → later.address ≡ s.address
+        → asked_by s ≡ Some request → asked_by later ≡ Some next → IsRequest request → IsRequest next
+        → (request ≡ next) ↔ (s.settled % 2 ≡ later.settled % 2) }
 {}

@@ -1,37 +1,25 @@
-ghost use Rattle.std.specs.Prelude.{◌≡◌, ◌+◌, ◌↔◌, false, IsSome, IsTrue, option_map};
+//! One session: what it asks, how it judges what it hears, and what it then knows.
+
+ghost use Rattle.std.specs.Prelude.{◌≡◌, ◌+◌, ◌<◌, ◌≤◌, ◌↔◌, ℕ, length, false, IsSome, IsTrue, option_map};
 ghost use Rattle.dc_linkframe.specs.Frame.{spelling};
 ghost use Rattle.dc_linkframe.specs.Reading.{frame_of};
 ghost use Rattle.dc_records.specs.Body.{continues};
-ghost use Rattle.dc_records.specs.Telegram.{parsed};
-ghost use Rattle.dc_readout.specs.Answer.{max_parts, missed};
-ghost use Rattle.dc_readout.specs.Seen.{outcome, verdict};
+ghost use Rattle.dc_records.specs.Telegram.{Parsed, parsed};
+ghost use Rattle.dc_readout.specs.Answer.{max_parts, missed, answered};
+ghost use Rattle.dc_readout.specs.declared.stage.Stage.TheVariants.{Ended};
+ghost use Rattle.dc_readout.specs.Seen.{meaning, verdict};
 ghost use Rattle.dc_readout.specs.Session.{Past, SumsUp, past_of, asked, judged, and_heard, and_settled};
-ghost use Rattle.dc_readout.specs.Summary.{begun, asked_by, verdict_by, heard_by, settled_by, ready, new, failed, outcome_at, verdict_of_outcome, IsPending, parts_left, request_control, link_address};
+ghost use Rattle.dc_readout.specs.Summary.{begun, asked_by, verdict_by, heard_by, settled_by, ready, new, failed, meaning_at, verdict_of_meaning, IsPending, parts_left, request_bit, link_address};
 
-use crate::answers::{Outcome, to_command, to_request};
+use crate::answers::{Meaning, to_command, to_request};
 use crate::heard::Heard;
 use crate::stage::Stage;
 use crate::why::Why;
 use dc_address::{Identity, Mask, Primary};
-use dc_linkframe::{FrameBuf, write_long, write_short};
+use dc_linkframe::FrameBuf;
+use dc_linkframe::control::{SELECTED, write_request, write_reset, write_selection};
 use dc_records::Telegram;
 use std::marker::Model;
-
-// SND_NKE.
-const RESET: u8 = 0x40;
-
-// SND_UD of a selection, and its control information.
-const SELECT: u8 = 0x53;
-
-const SELECTION: u8 = 0x52;
-
-// REQ_UD2 with frame count bit 1 and 0.
-const REQUEST_1: u8 = 0x7B;
-
-const REQUEST_0: u8 = 0x5B;
-
-// The address of whichever meter is selected.
-const SELECTED: u8 = 0xFD;
 
 // A request is tried at most three times.
 const MAX_TRIES: u8 = 3;
@@ -77,16 +65,15 @@ impl Session {
     #[tactic(auto, unfolding(crate::specs::Summary::selection_of))]
     pub fn ask(&self) -> Option<FrameBuf>
         ensures exact { result ≡ option_map spelling (asked_by self.now) }
+        // Where a request goes out, a part is left.
+        ensures left { IsSome result → self.now.settled < max_parts }
         ensures past { (past : Past) → SumsUp past self.now → result ≡ option_map spelling (asked past) }
     {
         let mut buf = FrameBuf::new();
         match self.stage {
-            Stage::Resets => write_short(RESET, self.link_address(), &mut buf),
-            Stage::Selects => {
-                let wire = Mask::of(&self.meter).wire();
-                write_long(SELECT, SELECTED, SELECTION, &wire, &mut buf);
-            }
-            Stage::Requests => write_short(self.request_control(), self.link_address(), &mut buf),
+            Stage::Resets => write_reset(self.link_address(), &mut buf),
+            Stage::Selects => write_selection(&Mask::of(&self.meter).wire(), &mut buf),
+            Stage::Requests => write_request(self.request_bit(), self.link_address(), &mut buf),
             Stage::Pending { .. } | Stage::Ended => return None,
         }
         Some(buf)
@@ -97,6 +84,8 @@ impl Session {
         requires { IsSome (asked_by self.old) }
         ensures exact { verdict result ≡ verdict_by self.old answer.now }
         ensures after { self.new ≡ heard_by self.old (verdict result) }
+        // A telegram came in one frame.
+        ensures fits { (part : ℕ) (t : Parsed) → verdict result ≡ new part t → length t.body ≤ 252 }
         ensures past { (past : Past) → SumsUp past self.old
             → (verdict result ≡ judged past answer.now) × SumsUp (and_heard answer.now past) self.new }
     {
@@ -110,6 +99,34 @@ impl Session {
         ensures past { (past : Past) → SumsUp past self.old → SumsUp (and_settled past) self.new }
     {
         self.leave_telegram();
+    }
+
+    /// The meter that it reads.
+    pub fn meter(&self) -> Identity
+        ensures { result ≡ self.now.meter }
+    {
+        self.meter
+    }
+
+    /// Whether a request waits for an answer: what `ask` gives is one.
+    pub fn is_asking(&self) -> bool
+        ensures { IsTrue result ↔ IsSome (asked_by self.now) }
+    {
+        matches!(self.stage, Stage::Resets | Stage::Selects | Stage::Requests)
+    }
+
+    /// Whether it is at its end: nothing is asked any more, and no telegram waits to be settled.
+    pub fn is_over(&self) -> bool
+        ensures { IsTrue result ↔ (self.now.stage ≡ Ended) }
+    {
+        matches!(self.stage, Stage::Ended)
+    }
+
+    /// Whether a telegram was settled: without one the next is the readout's first.
+    pub fn has_settled(&self) -> bool
+        ensures { IsTrue result ↔ (0 < self.now.settled) }
+    {
+        self.settled > 0
     }
 
     /// Whether a telegram waits to be settled.
@@ -136,22 +153,24 @@ impl Session {
         requires { IsSome (asked_by self.old) }
         ensures exact { verdict result ≡ verdict_by self.old answer.now }
         ensures after { self.new ≡ heard_by self.old (verdict result) }
+        ensures fits { (part : ℕ) (t : Parsed) → verdict result ≡ new part t → length t.body ≤ 252 }
     {
-        match self.outcome_of(answer) {
-            Outcome::Acknowledged => self.go_on(),
-            Outcome::Answered(telegram) => self.wait_for(telegram),
-            Outcome::Missed(why) => self.miss(why),
-            Outcome::Broken(why) => self.fail(why),
+        match self.meaning_of(answer) {
+            Meaning::Acknowledged => self.go_on(),
+            Meaning::Answered(telegram) => self.wait_for(telegram),
+            Meaning::Missed(why) => self.miss(why),
+            Meaning::Broken(why) => self.fail(why),
         }
     }
 
-    fn outcome_of<'a>(&self, answer: &'a [u8]) -> Outcome<'a>
+    fn meaning_of<'a>(&self, answer: &'a [u8]) -> Meaning<'a>
         requires { IsSome (asked_by self.now) }
-        ensures { outcome result ≡ outcome_at self.now.stage self.now.meter self.now.address self.now.settled (frame_of answer.now) }
+        ensures exact { meaning result ≡ meaning_at self.now.stage self.now.meter self.now.address self.now.settled (frame_of answer.now) }
+        ensures fits { (t : Parsed) → meaning result ≡ answered t → length t.body ≤ 252 }
     {
         match self.stage {
             // Whatever answers the reset of every selected meter will do.
-            Stage::Resets if self.address.is_none() => Outcome::Acknowledged,
+            Stage::Resets if self.address.is_none() => Meaning::Acknowledged,
             Stage::Resets | Stage::Selects => to_command(answer),
             Stage::Requests => to_request(&self.meter, self.address, self.settled + 1, answer),
             Stage::Pending { .. } | Stage::Ended => unreachable!(),
@@ -186,7 +205,7 @@ impl Session {
     // The third failed try ends the session.
     fn miss(&mut self, why: Why) -> Heard<'static>
         requires { IsSome (asked_by self.old) }
-        ensures answer { verdict result ≡ verdict_of_outcome self.old.tries self.old.settled (missed why) }
+        ensures answer { verdict result ≡ verdict_of_meaning self.old.tries self.old.settled (missed why) }
         ensures after { self.new ≡ heard_by self.old (verdict result) }
     {
         if self.tries + 1 == MAX_TRIES {
@@ -221,13 +240,9 @@ impl Session {
     }
 
     // The frame count bit changes with each settled telegram.
-    fn request_control(&self) -> u8
-        ensures { result ≡ request_control self.now.settled }
+    fn request_bit(&self) -> bool
+        ensures { result ≡ request_bit self.now.settled }
     {
-        if self.settled % 2 == 0 {
-            REQUEST_1
-        } else {
-            REQUEST_0
-        }
+        self.settled % 2 == 0
     }
 }

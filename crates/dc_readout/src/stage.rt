@@ -1,4 +1,5 @@
-// What a session waits for.
+//! What a session waits for.
+
 #[derive(Clone, Copy, Debug, PartialEq, Eq)]
 pub(crate) enum Stage {
     // The answer to the reset.

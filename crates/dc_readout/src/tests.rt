@@ -1,3 +1,5 @@
+//! Worked readouts, byte by byte.
+
 use crate::{Heard, Session, Why};
 use dc_address::{Identity, Primary};
 use dc_records::BodyFault;
@@ -8,6 +10,12 @@ use std::test::Fail;
 const FIRST: [u8; 28] = [
     0x68, 0x16, 0x16, 0x68, 0x08, 0x01, 0x72, 0x78, 0x56, 0x34, 0x12, 0x24, 0x40, 0x01, 0x07, 0x01,
     0x00, 0x00, 0x00, 0x0C, 0x13, 0x78, 0x56, 0x34, 0x12, 0x1F, 0x4E, 0x16,
+];
+
+const FOREIGN: [u8; 37] = [
+    0x68, 0x1F, 0x1F, 0x68, 0x08, 0x02, 0x72, 0x78, 0x56, 0x34, 0x12, 0x24, 0x40, 0x01, 0x07, 0x55,
+    0x00, 0x00, 0x00, 0x03, 0x13, 0x15, 0x31, 0x00, 0xDA, 0x02, 0x3B, 0x13, 0x01, 0x8B, 0x60, 0x04,
+    0x37, 0x18, 0x02, 0x18, 0x16,
 ];
 
 const SECOND: [u8; 31] = [
@@ -80,12 +88,16 @@ fn a_readout_of_two_telegrams(rt: HostRuntime) -> Result<(), Fail> {
     assert_eq!(rt; hear(&mut session, &SILENCE, &rt), Heard::Again);
     asks(&session, &REQUEST_1, &rt);
     hears_part(&mut session, &FIRST, 1, true, &rt);
+    assert!(rt; !session.has_settled());
     settle(&mut session, &rt);
+    assert!(rt; session.has_settled());
     asks(&session, &REQUEST_0, &rt);
     hears_part(&mut session, &SECOND, 2, false, &rt);
     settle(&mut session, &rt);
     assert!(rt; session.ask().is_none());
     assert!(rt; !session.is_pending());
+    assert!(rt; session.is_over());
+    assert_eq!(rt; session.meter(), meter()?);
     Ok(())
 }
 
@@ -101,7 +113,10 @@ fn a_selected_meter_is_asked_at_fd(rt: HostRuntime) -> Result<(), Fail> {
     asks(&session, &selection, &rt);
     assert_eq!(rt; hear(&mut session, &ACKNOWLEDGED, &rt), Heard::Ready);
     asks(&session, &[0x10, 0x7B, 0xFD, 0x78, 0x16], &rt);
-    hears_part(&mut session, &FIRST, 1, true, &rt);
+    // from whichever address the selected meter answers
+    hears_part(&mut session, &changed(5, 0x02, 0x4F), 1, true, &rt);
+    settle(&mut session, &rt);
+    asks(&session, &[0x10, 0x5B, 0xFD, 0x58, 0x16], &rt);
     Ok(())
 }
 
@@ -154,6 +169,37 @@ fn answers_are_judged_by_the_table(rt: HostRuntime) -> Result<(), Fail> {
     fails_at_once(&changed(7, 0x79, 0x4F), Why::Stranger, &rt)
 }
 
+// Silence, another frame and another address are failed tries of one count, and the third's reason is answered.
+#[test]
+fn reasons_are_mixed_in_one_count(rt: HostRuntime) -> Result<(), Fail> {
+    let short = [0x10, 0x08, 0x01, 0x09, 0x16];
+    let foreign = changed(5, 0x02, 0x4F);
+    let orders: [([&[u8]; 3], Why); 3] = [
+        ([&SILENCE, &short, &foreign], Why::WrongAddress),
+        ([&foreign, &SILENCE, &short], Why::WrongFrame),
+        ([&short, &foreign, &SILENCE], Why::NoAnswer),
+    ];
+    for (answers, why) in orders {
+        let mut session = requesting(&rt)?;
+        let [first, second, third] = answers;
+        assert_eq!(rt; hear(&mut session, first, &rt), Heard::Again);
+        assert_eq!(rt; hear(&mut session, second, &rt), Heard::Again);
+        assert_eq!(rt; hear(&mut session, third, &rt), Heard::Failed(why));
+        assert!(rt; session.is_over());
+    }
+    Ok(())
+}
+
+// RSP_UD has four control bytes: the bits for access demand and flow control are either way.
+#[test]
+fn each_response_is_taken(rt: HostRuntime) -> Result<(), Fail> {
+    for (control, sum) in [(0x18, 0x5E), (0x28, 0x6E), (0x38, 0x7E)] {
+        let mut session = requesting(&rt)?;
+        hears_part(&mut session, &changed(4, control, sum), 1, true, &rt);
+    }
+    Ok(())
+}
+
 #[test]
 fn tries_begin_anew_with_each_request(rt: HostRuntime) -> Result<(), Fail> {
     let mut session = Session::start(meter()?, Primary::new(1));
@@ -177,19 +223,29 @@ fn tries_begin_anew_with_each_request(rt: HostRuntime) -> Result<(), Fail> {
     Ok(())
 }
 
-#[test]
-fn the_32nd_part_is_the_last(rt: HostRuntime) -> Result<(), Fail> {
-    let mut session = requesting(&rt)?;
+// A session that has settled 31 telegrams.
+fn waiting_for_part_32(rt: &impl Abort) -> Result<Session, Fail> {
+    let mut session = requesting(rt)?;
     for access in 1..32u8 {
         let telegram = changed(15, access, 0x4D + access);
-        hears_part(&mut session, &telegram, access, true, &rt);
-        settle(&mut session, &rt);
+        hears_part(&mut session, &telegram, access, true, rt);
+        settle(&mut session, rt);
     }
+    Ok(session)
+}
+
+#[test]
+fn the_32nd_part_is_the_last(rt: HostRuntime) -> Result<(), Fail> {
+    let mut session = waiting_for_part_32(&rt)?;
     let telegram = changed(15, 32, 0x6D);
     assert_eq!(rt;
         hear(&mut session, &telegram, &rt),
         Heard::Failed(Why::TooManyParts)
     );
+    let mut session = waiting_for_part_32(&rt)?;
+    hears_part(&mut session, &SECOND, 32, false, &rt);
+    settle(&mut session, &rt);
+    assert!(rt; session.is_over());
     Ok(())
 }
 
@@ -208,6 +264,25 @@ fn a_damaged_answer_is_none(rt: HostRuntime) -> Result<(), Fail> {
                 let mut copy = session;
                 assert_eq!(rt; hear(&mut copy, &text, &rt), Heard::Again);
             }
+        }
+    }
+    Ok(())
+}
+
+// Three records of a meter at address 2, whole or damaged, in answer to the request of the one at address 1.
+#[test]
+fn a_damaged_foreign_answer_is_none(rt: HostRuntime) -> Result<(), Fail> {
+    let session = requesting(&rt)?;
+    for len in 0..37 {
+        let mut copy = session;
+        assert_eq!(rt; hear(&mut copy, &FOREIGN[..len], &rt), Heard::Again);
+    }
+    for at in 0..37 {
+        for byte in 0..=255u8 {
+            let mut text = FOREIGN;
+            text[at] = byte;
+            let mut copy = session;
+            assert_eq!(rt; hear(&mut copy, &text, &rt), Heard::Again);
         }
     }
     Ok(())

@@ -1,3 +1,5 @@
+//! Why a readout failed.
+
 ghost use Rattle.std.specs.Prelude.{◌≡◌};
 ghost use Rattle.dc_readout.specs.Why.{number_of, name_of};
 
@@ -7,7 +9,7 @@ use thiserror::Error;
 /// Why a readout failed. The first that stands, in this order, is answered.
 #[derive(Clone, Copy, Debug, PartialEq, Eq, Error)]
 pub enum Why {
-    /// No byte came, or no readable frame, three times.
+    /// The third try was answered by no byte, or by no readable frame.
     #[error("{} {}", self.number(), self.name())]
     NoAnswer,
     /// The third try was answered by another frame than the one asked for.

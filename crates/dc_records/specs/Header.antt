@@ -1,7 +1,8 @@
 -- The fixed part of a telegram's body: twelve bytes (EN 13757-3, the long data header).
 use Rattle.std.specs.Prelude.{◌≡◌, ℕ, ◌/◌, ◌%◌, ◌<◌, ◌≤◌, Bool, true, false, List, length, take, slice_index, Result, Ok, Err, nat_lt, if◌then◌else◌, refl}
 use Rattle.byteorder.specs.Endian.{little_from}
-use Rattle.dc_address.specs.Identity.{IsWire, is_identity, spelled_identity}
+use Rattle.dc_address.specs.Identity.{IsWire, is_identity}
+use Rattle.dc_address.proofs.Identities.{spelled_identity}
 use Rattle.dc_address.specs.declared.identity.Identity.{Identity}
 use Rattle.dc_records.specs.declared.fault.BodyFault.{BodyFault}
 use Rattle.dc_records.specs.declared.fault.BodyFault.TheVariants.{Short, BadIdentity}

@@ -1,8 +1,4 @@
 -- the definitions that contracts cite
-pub mod Stream
-pub mod Pieces
-pub mod Bytes
-pub mod Chain
 pub mod Fault
 pub mod Record
 pub mod Reading

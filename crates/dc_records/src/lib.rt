@@ -1,4 +1,4 @@
-//! Telegrams of wired M-Bus meters and their data records, and the ends that bytes come from and go to.
+//! Telegrams of wired M-Bus meters and their data records.
 //!
 //! A telegram's body is the variable data structure of EN 13757-3: a header of twelve bytes, data records with fillers
 //! between them, and perhaps manufacturer specific data at the end. [`Telegram::parse`] reads one from borrowed bytes and
@@ -9,37 +9,25 @@
 //! are spelled; a record that nothing here interprets is a record all the same. Each other byte string has one fault
 //! ([`BodyFault`]). Past the header that is the fault of the byte that rules out every item and every end, once as many
 //! whole items as there are have been taken ([`first_fault`]).
-//!
-//! [`Source`] and [`Sink`] are the readers and writers of this product. They tell their bytes where they can and count
-//! their failures, so that who answers a fault can be held to a failure that happened. [`Bytes`] is both over memory;
-//! [`ReadSource`] and [`WriteSink`] are those of std and tell no bytes.
 #![tactic(auto)]
 
-mod bytes;
 mod end;
 mod fault;
 mod front;
 mod header;
 mod laws;
-mod read_source;
 mod reading;
 mod record;
 mod records;
-mod stream;
 mod telegram;
-mod write_sink;
 
-pub use bytes::Bytes;
 pub use end::End;
 pub use fault::BodyFault;
 pub use header::Header;
 pub use laws::{first_fault, one_record, one_telegram, read_as_spelled};
-pub use read_source::ReadSource;
 pub use record::Record;
 pub use records::Records;
-pub use stream::{IoFault, Sink, Source};
 pub use telegram::Telegram;
-pub use write_sink::WriteSink;
 
 #[cfg(test)]
 mod tests;

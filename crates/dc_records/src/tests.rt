@@ -1,10 +1,7 @@
 ghost use Rattle.std.specs.Prelude.{◌≡◌, ◌==◌, count_by, length};
 ghost use Rattle.dc_records.specs.Telegram.{parsed};
 
-use crate::{
-    BodyFault, Bytes, End, Header, IoFault, ReadSource, Record, Sink, Source, Telegram, WriteSink,
-};
-use refusing_alloc::Refusing;
+use crate::{BodyFault, End, Header, Record, Telegram};
 use std::fmt::Write;
 use std::test::Fail;
 
@@ -206,51 +203,5 @@ fn faults_print_as_number_and_name(rt: HostRuntime) -> Result<(), Fail> {
     let want =
         "1 Short,2 BadIdentity,3 Encrypted,4 ReservedDif,5 TooManyDife,6 TooManyVife,7 BadLength,8 PlainTextExtension,9 Cut,";
     assert_eq!(rt; text.as_str(), want);
-    Ok(())
-}
-
-#[test]
-fn bytes_go_in_and_come_out(rt: HostRuntime) -> Result<(), Fail> {
-    let mut bytes = Bytes::from_slice(rt.alloc(), b"ab")?;
-    bytes.put(b"cde")?;
-    let mut room = [0; 4];
-    assert_eq!(rt; bytes.take(&mut room)?, 4);
-    assert_eq!(rt; room, *b"abcd");
-    assert_eq!(rt; bytes.take(&mut room)?, 1);
-    assert_eq!(rt; bytes.take(&mut room)?, 0);
-    assert_eq!(rt; bytes.as_slice(), b"abcde".as_slice());
-    let mut empty = Bytes::new(rt.alloc());
-    assert_eq!(rt; empty.take(&mut room)?, 0);
-    empty.put(b"f")?;
-    assert_eq!(rt; empty.as_slice(), b"f".as_slice());
-    Ok(())
-}
-
-#[test]
-fn std_readers_and_writers_are_ends(rt: HostRuntime) -> Result<(), Fail> {
-    let mut source = ReadSource::new(b"abc".as_slice());
-    let mut room = [0; 2];
-    assert_eq!(rt; source.take(&mut room)?, 2);
-    assert_eq!(rt; room, *b"ab");
-    assert_eq!(rt; source.take(&mut room)?, 1);
-    assert_eq!(rt; source.take(&mut room)?, 0);
-    let mut sink = WriteSink::new(Vec::new(rt.alloc()));
-    sink.put(b"abc")?;
-    sink.flush()?;
-    assert_eq!(rt; sink.writer.as_slice(), b"abc".as_slice());
-    Ok(())
-}
-
-#[test]
-fn each_growth_of_bytes_is_refused_in_turn(rt: HostRuntime) -> Result<(), Fail> {
-    let heap = Refusing::new(rt.alloc());
-    heap.refuse(1);
-    assert!(rt; Bytes::from_slice(&heap, b"ab").is_err());
-    let mut bytes = Bytes::from_slice(&heap, b"ab")?;
-    heap.refuse(1);
-    assert_eq!(rt; bytes.put(&[7; 100]), Err(IoFault));
-    assert_eq!(rt; bytes.as_slice(), b"ab".as_slice());
-    bytes.put(&[7; 100])?;
-    assert_eq!(rt; bytes.as_slice().len(), 102);
     Ok(())
 }

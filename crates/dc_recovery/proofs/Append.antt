@@ -6,14 +6,14 @@ use Rattle.dc_sectors.specs.Disk.{Image}
 use Rattle.dc_roots.specs.declared.root.Root.{Root}
 use Rattle.dc_pages.specs.Group.{IsGroup, IsComplete, Carries, change_kind}
 use Rattle.dc_pages.specs.Writing.{IsTorn, IsPartOf}
-use Rattle.dc_roots.specs.Choice.{same_chosen}
+use Rattle.dc_roots.proofs.Choices.{same_chosen}
 use Rattle.dc_recovery.specs.Halves.{half_start, half_end}
 use Rattle.dc_recovery.specs.Language.{State, Change, SpellsChanges, AcceptsAll, after}
 use Rattle.dc_recovery.specs.Halves.{budget_of}
 use Rattle.dc_recovery.specs.Stands.{IsSequence, IsFresh, Holds, ReadsBy, StandsBy, IsReady}
-use Rattle.dc_pages.specs.Agree.{same_group}
+use Rattle.dc_pages.proofs.Agree.{same_group}
 use Rattle.dc_pages.specs.Group.{IsPageKind, IsKnown}
-use Rattle.dc_pages.specs.OneSync.{page_carries, one_stamp, lost_carries_none, member, one_sync, part_incomplete}
+use Rattle.dc_pages.proofs.OneSync.{page_carries, one_stamp, lost_carries_none, member, one_sync, part_incomplete}
 
 -- a half lies within the two
 pub half_within : (half_len half : ℕ) → half ≤ 1 → half_end half_len half ≤ 3 + 2 * half_len
@@ -126,7 +126,7 @@ module _ (half_len : ℕ) (root : Root) (m place : ℕ) (state : State) (old : I
   limit = half_end half_len root.half
 
   known : IsKnown root.version
-  known = inr ready.stands.reads.version
+  known = ready.stands.reads.version
 
   within : (half_start half_len root.half < place) × (place ≤ limit)
   within = place_within half_len root old m place state ready.stands.reads.holds

@@ -1,16 +1,17 @@
 -- What an image stands for while it is compacted, and then.
-use Rattle.std.proofs.Common.{◌≡◌, ◌⊎◌, inr, ⊎_elim, ℕ, zero, suc, ◌<◌, ◌≤◌, ◌+◌, ◌-◌, List, arith, sym, subst, refl}
+use Rattle.std.proofs.Common.{◌≡◌, ◌⊎◌, inl, inr, ⊎_elim, ℕ, zero, suc, ◌<◌, ◌≤◌, ◌+◌, ◌-◌, List, arith, sym, subst, refl}
 use Rattle.dc_sectors.specs.Disk.{Image}
 use Rattle.dc_roots.specs.declared.root.Root.{Root}
 use Rattle.dc_roots.specs.Root.{slot}
-use Rattle.dc_roots.specs.Choice.{IsRootWrite, slot_range}
+use Rattle.dc_roots.specs.Choice.{IsRootWrite}
+use Rattle.dc_roots.proofs.Choices.{slot_range}
 use Rattle.dc_pages.specs.Group.{IsGroup, base_kind}
 use Rattle.dc_pages.specs.Writing.{IsPartOf, IsTorn}
-use Rattle.dc_meters.specs.Valid.{IsState}
+use Rattle.dc_changes.specs.Valid.{IsState}
 use Rattle.dc_recovery.specs.Halves.{half_start, half_end, budget_of}
 use Rattle.dc_recovery.specs.Language.{State, SpellsState, state_bytes}
 use Rattle.dc_recovery.specs.Roots.{IsRootDone, compacted}
-use Rattle.dc_recovery.specs.Stands.{IsUnused, StandsBy, IsReady, Stands}
+use Rattle.dc_recovery.specs.Stands.{image_version, IsUnused, StandsBy, IsReady, Stands, StandsForEither}
 use Rattle.dc_recovery.specs.Writing.{IsAttempt, IsWritten}
 use Rattle.dc_recovery.proofs.NextRoot.{IsPrepared, root_step, root_done, base_part, base_torn, base_prepared, base_unused}
 
@@ -43,57 +44,57 @@ module _ (half_len : ℕ) (root : Root) (m place : ℕ) (state : State) (sequenc
       (subst (λ (l : ℕ). P sequence first l) at_end is))
 
   -- while the base group is written
-  pub base_attempt : (payload : List ℕ) (image : Image) → IsAttempt root.version base_kind root.session sequence payload first end old image → Stands half_len state image
+  pub base_attempt : (payload : List ℕ) (image : Image) → IsAttempt image_version base_kind root.session sequence payload first end old image → Stands half_len state image
   base_attempt payload image attempt =
-      let known = inr ready.stands.reads.version in
+      let known = inr refl in
       ⊎_elim
       (λ part. record {
         root = root;
         m = m;
         place = place;
-        by = base_part half_len root m place state root.version (1 - root.half) old image ready.stands known other
-            (there (λ q p l. IsPartOf root.version base_kind root.session q p l old image) part);
+        by = base_part half_len root m place state image_version (1 - root.half) old image ready.stands known other
+            (there (λ q p l. IsPartOf image_version base_kind root.session q p l old image) part);
       })
       (λ torn. record {
         root = root;
         m = m;
         place = place;
-        by = base_torn half_len root m place state root.version payload torn.pages (1 - root.half) old torn.written image ready.stands known other
-            (there (λ q p l. IsGroup root.version base_kind root.session q payload torn.pages p l torn.written) torn.group)
+        by = base_torn half_len root m place state image_version payload torn.pages (1 - root.half) old torn.written image ready.stands known other
+            (there (λ q p l. IsGroup image_version base_kind root.session q payload torn.pages p l torn.written) torn.group)
             (subst (λ (p : ℕ). IsTorn p (torn.pages + 1) old torn.written image) at_first torn.torn);
       })
       attempt
 
-  module _ (count : ℕ) (written : Image) (done : IsWritten root.version base_kind root.session sequence (state_bytes state) first end count old written) (spells : SpellsState (budget_of half_len) (state_bytes state) state) where
+  module _ (next : State) (count : ℕ) (written : Image) (done : IsWritten image_version base_kind root.session sequence (state_bytes next) first end count old written) (spells : SpellsState (budget_of half_len) (state_bytes next) next) where
     outside : (k : ℕ) → (k < half_start half_len (1 - root.half)) ⊎ (half_start half_len (1 - root.half) + (done.pages + 1) ≤ k) → written k ≡ old k
     outside k out = done.outside k (subst (λ (p : ℕ). (k < p) ⊎ (p + (done.pages + 1) ≤ k)) (sym at_first) out)
 
     -- the base group is there, and the root doesn't name it yet
     still : StandsBy half_len root m place state written
-    still = base_torn half_len root m place state root.version (state_bytes state) done.pages (1 - root.half) old written written ready.stands (inr ready.stands.reads.version) other
-        (there (λ q p l. IsGroup root.version base_kind root.session q (state_bytes state) done.pages p l written) done.group)
+    still = base_torn half_len root m place state image_version (state_bytes next) done.pages (1 - root.half) old written written ready.stands (inr refl) other
+        (there (λ q p l. IsGroup image_version base_kind root.session q (state_bytes next) done.pages p l written) done.group)
         (record { inside = λ k le lt. inr refl; outside = outside })
 
-    prepared : IsPrepared half_len (compacted root sequence) zero (first + count) state written
+    prepared : IsPrepared half_len (compacted root sequence) zero (first + count) next written
     prepared =
         let count_is = done.count_is in
         let e : half_start half_len (1 - root.half) + done.pages + 1 ≡ first + count = omega (arith, at_first) in
-        subst (λ (p : ℕ). IsPrepared half_len (compacted root sequence) zero p state written) e
-        (base_prepared half_len root (compacted root sequence) m place state (state_bytes state) done.pages old written ready.stands
-        ready.stands.reads.version ready.stands.reads.length_is (omega arith) refl at_sequence
-        (there (λ q p l. IsGroup root.version base_kind root.session q (state_bytes state) done.pages p l written) done.group) spells outside)
+        subst (λ (p : ℕ). IsPrepared half_len (compacted root sequence) zero p next written) e
+        (base_prepared half_len root (compacted root sequence) m place state next (state_bytes next) done.pages old written ready.stands
+        (inr refl) ready.stands.reads.length_is (omega arith) refl at_sequence
+        (there (λ q p l. IsGroup image_version base_kind root.session q (state_bytes next) done.pages p l written) done.group) spells outside)
 
     -- while the root is written
-    pub compacting_step : (image : Image) → IsRootWrite (compacted root sequence) written image → Stands half_len state image
+    pub compacting_step : (image : Image) → IsRootWrite (compacted root sequence) written image → StandsForEither half_len state next image
     compacting_step image write = ⊎_elim
-        (λ before. record { root = root; m = m; place = place; by = before })
-        (λ after. record { root = compacted root sequence; m = zero; place = first + count; by = after })
-        (root_step half_len root (compacted root sequence) m place zero (first + count) state state written image still prepared refl write)
+        (λ before. inl (record { root = root; m = m; place = place; by = before }))
+        (λ after. inr (record { root = compacted root sequence; m = zero; place = first + count; by = after }))
+        (root_step half_len root (compacted root sequence) m place zero (first + count) state next written image still prepared refl write)
 
     -- once it is in force
-    pub compacting_done : (image : Image) → IsRootDone (compacted root sequence) written image → IsReady half_len (compacted root sequence) zero (first + count) state image
+    pub compacting_done : (image : Image) → IsRootDone (compacted root sequence) written image → IsReady half_len (compacted root sequence) zero (first + count) next image
     compacting_done image put = record {
-      stands = root_done half_len root (compacted root sequence) m place zero (first + count) state state written image still prepared refl put.elsewhere put.here;
+      stands = root_done half_len root (compacted root sequence) m place zero (first + count) state next written image still prepared refl put.elsewhere put.here;
       unused = subst (λ (q : ℕ). IsUnused half_len root.session (q + suc zero) image) (sym at_sequence)
           (base_unused half_len root.session (root.base_sequence + suc m) written image still.fresh
           (λ k from. let in_slot = slot_range (compacted root sequence).generation in sym (put.elsewhere k (λ (e : k ≡ slot (compacted root sequence).generation). omega (arith, e, in_slot.1)))));

@@ -4,7 +4,7 @@ use Rattle.std.specs.Prelude.{Contains}
 use Rattle.std.proofs.lemmas.List.{drop_all}
 use Rattle.dc_sectors.specs.Disk.{Image, Choices, IsImage, LeavesOnly, settled}
 use Rattle.dc_sectors.specs.Images.{only_one, settled_image}
-use Rattle.dc_sectors.specs.Moments.{started, weakened}
+use Rattle.dc_sectors.proofs.Moments.{started, weakened}
 use Rattle.dc_pages.specs.Draft.{Draft}
 use Rattle.dc_pages.specs.Writing.{IsPartOf, IsGoing, IsClosed}
 use Rattle.dc_recovery.specs.Writing.{IsAttempt, IsWritten}

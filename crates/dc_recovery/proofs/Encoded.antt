@@ -1,9 +1,9 @@
 -- What the puts of an encoder do to a group's sink, all together.
 use Rattle.std.proofs.Common.{◌≡◌, ℕ, List, ◌∙◌}
-use Rattle.dc_records.specs.Chain.{IsChain, IsBroken}
+use Rattle.dc_stream.specs.Chain.{IsChain, IsBroken}
 use Rattle.dc_sectors.specs.Disk.{Image, Choices}
 use Rattle.dc_pages.specs.Streaming.{GoesInto, BreaksOff}
-use Rattle.dc_pages.specs.Chained.{run_keeps, chain_goes_into, chain_breaks_off}
+use Rattle.dc_pages.proofs.Chained.{run_keeps, chain_goes_into, chain_breaks_off}
 use Rattle.dc_pages.specs.declared.streaming.GroupSink.{GroupSink}
 
 module _ {D : Type 0} (honest : Type 0) (reads : D → Image) (choices : D → Choices) (moment : D → ℕ) (images_since : D → ℕ → Image → Type 0) (sectors failures : D → ℕ) where

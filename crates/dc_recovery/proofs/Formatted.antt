@@ -5,21 +5,19 @@ use Rattle.std.specs.Prelude.{slice_index}
 use Rattle.dc_sectors.specs.declared.sector.Sector.{Sector}
 use Rattle.dc_sectors.specs.declared.sector.Sector.TheVariants.{Bytes}
 use Rattle.dc_sectors.specs.Disk.{Image}
+use Rattle.dc_sectors.proofs.Texts.{one_text}
 use Rattle.dc_roots.specs.declared.root.Root.{Root}
 use Rattle.dc_roots.specs.Root.{IsRoot, slot, next_of}
-use Rattle.dc_roots.specs.Choice.{one_generation}
+use Rattle.dc_roots.proofs.Choices.{one_generation}
 use Rattle.dc_pages.specs.Group.{IsGroup, Carries, base_kind, change_kind}
-use Rattle.dc_pages.specs.OneSync.{member, one_stamp}
-use Rattle.dc_pages.specs.Agree.{same_group}
+use Rattle.dc_pages.proofs.OneSync.{member, one_stamp}
+use Rattle.dc_pages.proofs.Agree.{same_group}
 use Rattle.dc_recovery.specs.Roots.{IsRootDone}
 use Rattle.dc_recovery.specs.Writing.{IsWritten}
 use Rattle.dc_recovery.proofs.Append.{any_complete_carries}
 use Rattle.dc_recovery.specs.Halves.{half_start, half_end, budget_of}
 use Rattle.dc_recovery.specs.Language.{State, SpellsState}
 use Rattle.dc_recovery.specs.Stands.{blank, image_version, StandsBy, IsReady}
-
-one_text : (sector : Sector) (a b : List ℕ) → sector ≡ Bytes a → sector ≡ Bytes b → a ≡ b
-one_text sector a b left right = cc
 
 blank_kind : (sector : Sector) → sector ≡ blank → (bytes : List ℕ) → sector ≡ Bytes bytes → slice_index bytes 0 ≡ 0
 blank_kind sector is bytes readable = ap (λ (l : List ℕ). slice_index l 0) (one_text sector bytes (replicate 512 0) readable is)
@@ -78,7 +76,7 @@ module _ (half_len : ℕ) (root : Root) (payload : List ℕ) (pages : ℕ) (stat
   formatted_stands = record {
     reads = record {
       chosen = record { here = is.root_is; greatest = greatest };
-      version = is.version;
+      version = inr is.version;
       length_is = is.length_is;
       holds = record {
         session = 1;

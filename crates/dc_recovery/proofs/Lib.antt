@@ -4,6 +4,7 @@ pub mod Compacted
 pub mod Drafts
 pub mod Encoded
 pub mod Formatted
+pub mod Fronts
 pub mod Once
 pub mod Life
 pub mod NextRoot
@@ -15,3 +16,4 @@ pub mod RootWrite
 pub mod Session
 pub mod Spellings
 pub mod Steps
+pub mod Wiped

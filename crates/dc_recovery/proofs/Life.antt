@@ -6,22 +6,23 @@ use Rattle.dc_roots.specs.declared.root.Root.{Root}
 use Rattle.dc_recovery.specs.Halves.{half_len_of, half_end, budget_of}
 use Rattle.dc_recovery.specs.Language.{State, Change, SpellsChanges, AcceptsAll}
 use Rattle.dc_recovery.specs.Roots.{compacted}
-use Rattle.dc_recovery.specs.Stands.{IsReady, IsReadyFor, IsAppendable, Stands, StandsForEither}
+use Rattle.dc_recovery.specs.Stands.{IsReady, IsReadyFor, IsAppendable, Reads, Stands, EachStands, StandsForEither}
 use Rattle.dc_recovery.specs.Store.{Kept, Keeps}
+use Rattle.dc_recovery.proofs.Once.{reads_once}
 
 -- each image of a settled disk that is ready for a state stands for it
-pub ready_stands : (half_len : ℕ) (state : State) (choices : Choices) (reads image : Image) → choices ≡ settled reads → IsReadyFor half_len state reads → IsImage choices image → Stands half_len state image
-ready_stands half_len state choices reads image is_settled ready is =
+pub ready_stands : (half_len : ℕ) (root : Root) (state : State) (choices : Choices) (reads image : Image) → choices ≡ settled reads → IsReadyFor half_len root state reads → IsImage choices image → Stands half_len state image
+ready_stands half_len root state choices reads image is_settled ready is =
     let same : image ≡ reads = settled_image reads image (subst (λ (c : Choices). IsImage c image) is_settled is) in
-    subst (Stands half_len state) (sym same) (record { root = ready.root; m = ready.m; place = ready.place; by = ready.ready.stands })
+    subst (Stands half_len state) (sym same) (record { root = root; m = ready.m; place = ready.place; by = ready.ready.stands })
 
 module _ {D : Type 0} (sectors : D → ℕ) (reads : D → Image) (choices : D → Choices) where
   -- before anything is written
   pub keeps_stands : (store : Kept D) (was next : State) (image : Image) → Keeps sectors reads choices store was → IsImage (choices store.disk) image
       → StandsForEither (half_len_of (sectors store.disk)) was next image
   keeps_stands store was next image kept is =
-      inl (ready_stands (half_len_of (sectors store.disk)) was (choices store.disk) (reads store.disk) image kept.is_settled
-      (record { root = store.root; m = kept.m; place = store.place; ready = kept.ready }) is)
+      inl (ready_stands (half_len_of (sectors store.disk)) store.root was (choices store.disk) (reads store.disk) image kept.is_settled
+      (record { m = kept.m; place = store.place; ready = kept.ready }) is)
 
   -- accepted changes may follow
   pub keeps_appendable : (store : Kept D) (was : State) (payload : List ℕ) (changes : List Change) (half_len limit next : ℕ) → (kept : Keeps sectors reads choices store was)
@@ -49,6 +50,7 @@ module _ {D : Type 0} (sectors : D → ℕ) (reads : D → Image) (choices : D �
       let base : new.root.base_sequence ≡ store.root.base_sequence = ap (λ (r : Root). r.base_sequence) root in
       record {
         running = running;
+        version = ap (λ (r : Root). r.version) root ∙ kept.version;
         is_settled = is_settled;
         m = suc kept.m;
         ready = subst (λ (s : ℕ). IsReady (half_len_of s) new.root (suc kept.m) new.place now (reads new.disk)) (sym same)
@@ -64,8 +66,25 @@ module _ {D : Type 0} (sectors : D → ℕ) (reads : D → Image) (choices : D �
       let base : new.root.base_sequence ≡ sequence = ap (λ (r : Root). r.base_sequence) root in
       record {
         running = running;
+        version = ap (λ (r : Root). r.version) root;
         is_settled = is_settled;
         m = zero;
         ready = subst (λ (s : ℕ). IsReady (half_len_of s) new.root zero new.place state (reads new.disk)) (sym same) ready;
         last_is = omega (arith, last, base);
       }
+
+  -- FOR THE CRATES ABOVE
+
+  -- each image of a store that keeps a state stands for it
+  pub kept_stands : (store : Kept D) (state : State) (image : Image) → Keeps sectors reads choices store state → IsImage (choices store.disk) image → Stands (half_len_of (sectors store.disk)) state image
+  kept_stands store state image kept is =
+      ready_stands (half_len_of (sectors store.disk)) store.root state (choices store.disk) (reads store.disk) image kept.is_settled (record { m = kept.m; place = store.place; ready = kept.ready }) is
+
+  -- and so may be opened again
+  pub kept_each_stands : (store : Kept D) (state : State) → Keeps sectors reads choices store state → EachStands (half_len_of (sectors store.disk)) (choices store.disk)
+  kept_each_stands store state kept image is = (state, kept_stands store state image kept is)
+
+  -- what its disk reads as, once it is closed and opened with Ok, is that state
+  pub close_open : (store : Kept D) (was now : State) → Keeps sectors reads choices store was → Reads (half_len_of (sectors store.disk)) now (reads store.disk) → now ≡ was
+  close_open store was now kept read =
+      reads_once (half_len_of (sectors store.disk)) (omega arith) (reads store.disk) now was read (record { root = store.root; m = kept.m; place = store.place; by = kept.ready.stands.reads })

@@ -7,15 +7,16 @@ use Rattle.dc_roots.specs.declared.root.Root.{Root}
 use Rattle.dc_pages.specs.Group.{IsGroup, IsComplete, Carries, base_kind, change_kind}
 use Rattle.dc_pages.specs.Writing.{IsTorn, IsPartOf}
 use Rattle.dc_roots.specs.Root.{IsRoot, slot}
-use Rattle.dc_roots.specs.Choice.{IsChosen, IsRootWrite, chosen_step, slot_range}
+use Rattle.dc_roots.specs.Choice.{IsChosen, IsRootWrite}
+use Rattle.dc_roots.proofs.Choices.{chosen_step, slot_range}
 use Rattle.dc_recovery.specs.Roots.{opened}
 use Rattle.dc_recovery.specs.Halves.{half_start, half_end}
 use Rattle.dc_recovery.specs.Language.{State, SpellsState}
 use Rattle.dc_recovery.specs.Halves.{budget_of}
-use Rattle.dc_recovery.specs.Stands.{IsSequence, image_version, IsFresh, IsUnused, Holds, StandsBy, IsReady}
-use Rattle.dc_pages.specs.Agree.{same_complete}
+use Rattle.dc_recovery.specs.Stands.{IsSequence, IsFresh, IsUnused, Holds, StandsBy, IsReady}
+use Rattle.dc_pages.proofs.Agree.{same_complete}
 use Rattle.dc_pages.specs.Group.{IsKnown}
-use Rattle.dc_pages.specs.OneSync.{member, page_carries, one_stamp, lost_carries_none}
+use Rattle.dc_pages.proofs.OneSync.{member, page_carries, one_stamp, lost_carries_none}
 use Rattle.dc_recovery.proofs.Append.{half_within, place_within, same_holds, kept, torn_fresh, any_complete_carries}
 
 abbrev holds : ℕ → Root → Image → ℕ → ℕ → State → Type 0
@@ -29,7 +30,7 @@ is_ready = IsReady
 
 -- all that a root has to find in an image, but that it is chosen
 pub record IsPrepared (half_len : ℕ) (root : Root) (m place : ℕ) (state : State) (image : Image) : Type 0 where
-  pub version : root.version ≡ image_version
+  pub version : IsKnown root.version
   pub length_is : root.half_len ≡ half_len
   pub holds_it : holds half_len root image m place state
   pub no_more : IsSequence (root.base_sequence + suc m) → IsComplete root.version change_kind (root.base_sequence + suc m) place (half_end half_len root.half) image → ⊥
@@ -167,13 +168,13 @@ base_torn half_len root m place state version payload pages half old written ima
             inl (subst (λ (h : ℕ). k < half_start half_len h) (sym one) (omega arith))
 
 -- with all of it written, the next root finds the state there
-pub base_prepared : (half_len : ℕ) (root next : Root) (m place : ℕ) (state : State) (payload : List ℕ) (pages : ℕ) (old written : Image) → stands_by half_len root m place state old
-    → next.version ≡ image_version → next.half_len ≡ half_len → next.half ≤ 1 → next.session ≡ root.session → next.base_sequence ≡ root.base_sequence + suc m
+pub base_prepared : (half_len : ℕ) (root next : Root) (m place : ℕ) (state state' : State) (payload : List ℕ) (pages : ℕ) (old written : Image) → stands_by half_len root m place state old
+    → IsKnown next.version → next.half_len ≡ half_len → next.half ≤ 1 → next.session ≡ root.session → next.base_sequence ≡ root.base_sequence + suc m
     → IsGroup next.version base_kind root.session (root.base_sequence + suc m) payload pages (half_start half_len next.half) (half_end half_len next.half) written
-    → SpellsState (budget_of half_len) payload state
+    → SpellsState (budget_of half_len) payload state'
     → ((k : ℕ) → (k < half_start half_len next.half) ⊎ (half_start half_len next.half + (pages + 1) ≤ k) → written k ≡ old k)
-    → IsPrepared half_len next zero (half_start half_len next.half + pages + 1) state written
-base_prepared half_len root next m place state payload pages old written is known len small session base group spells outside = record {
+    → IsPrepared half_len next zero (half_start half_len next.half + pages + 1) state' written
+base_prepared half_len root next m place state state' payload pages old written is known len small session base group spells outside = record {
   version = known;
   length_is = len;
   holds_it = record {
@@ -185,7 +186,7 @@ base_prepared half_len root next m place state payload pages old written is know
     group = subst (λ (q : ℕ). IsGroup next.version base_kind root.session q payload pages (half_start half_len next.half) (half_end half_len next.half) written) (sym base) group;
   };
   no_more = λ _ complete.
-      let first = any_complete_carries next.version change_kind (next.base_sequence + suc zero) (half_start half_len next.half + pages + 1) (half_end half_len next.half) written (inr refl) (inr known) complete in
+      let first = any_complete_carries next.version change_kind (next.base_sequence + suc zero) (half_start half_len next.half + pages + 1) (half_end half_len next.half) written (inr refl) known complete in
       let top = half_within half_len next.half small in
       let low = is.fresh (half_start half_len next.half + pages + 1) first.1.0 (next.base_sequence + suc zero) (omega arith) (omega arith)
       (subst (Carries first.1.0 (next.base_sequence + suc zero)) (outside (half_start half_len next.half + pages + 1) (inr (omega arith))) first.1.1) in
@@ -193,7 +194,7 @@ base_prepared half_len root next m place state payload pages old written is know
   fresh = λ k s q from to carries.
       let low = torn_fresh half_len root.session (root.base_sequence + suc m) root.session (root.base_sequence + suc m) (half_start half_len next.half) (pages + 1) old written written
       is.fresh (record { inside = λ j le lt. inr refl; outside = outside })
-      (λ j le lt. member next.version base_kind root.session (root.base_sequence + suc m) payload pages (half_start half_len next.half) (half_end half_len next.half) written (inl refl) (inr known) group j le (omega arith)) (omega arith) (omega arith) k s q from to carries in
+      (λ j le lt. member next.version base_kind root.session (root.base_sequence + suc m) payload pages (half_start half_len next.half) (half_end half_len next.half) written (inl refl) known group j le (omega arith)) (omega arith) (omega arith) k s q from to carries in
       (omega arith, omega arith);
 }
 

@@ -4,14 +4,14 @@ use Rattle.std.proofs.lemmas.Bool.{cases_lt}
 use Rattle.dc_sectors.specs.Disk.{Image}
 use Rattle.dc_roots.specs.declared.root.Root.{Root}
 use Rattle.dc_pages.specs.Group.{IsGroup, IsComplete, base_kind, change_kind}
-use Rattle.dc_roots.specs.Choice.{one_root}
+use Rattle.dc_roots.proofs.Choices.{one_root}
 use Rattle.dc_recovery.specs.Halves.{half_end}
 use Rattle.dc_recovery.proofs.Spellings.{one_state, one_list}
 use Rattle.dc_recovery.specs.Language.{State, Change, SpellsState, SpellsChanges, after}
 use Rattle.dc_recovery.specs.Halves.{budget_of}
 use Rattle.dc_recovery.specs.Stands.{IsSequence, IsFresh, StandsBy, Stands, HasMore, Holds, ReadsBy, Reads}
-use Rattle.dc_pages.specs.Agree.{one_group}
-use Rattle.dc_pages.specs.OneSync.{not_commit}
+use Rattle.dc_pages.proofs.Agree.{one_group}
+use Rattle.dc_pages.proofs.OneSync.{not_commit}
 
 module _ (half_len : ℕ) (most : half_len ≤ 65536) where
   abbrev holds : ℕ → Root → Image → ℕ → ℕ → State → Type 0

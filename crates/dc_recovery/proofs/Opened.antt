@@ -1,12 +1,12 @@
 -- What opening may leave at any moment, and on Ok.
-use Rattle.std.proofs.Common.{◌≡◌, ◌≤◌, ℕ, sym, subst}
+use Rattle.std.proofs.Common.{◌≡◌, ◌≤◌, ℕ}
 use Rattle.dc_sectors.specs.Disk.{Image, Choices, IsImage, LeavesOnly, Elapses, settled}
-use Rattle.dc_sectors.specs.Images.{settled_image}
-use Rattle.dc_sectors.specs.Moments.{started, goes_on, followed}
+use Rattle.dc_sectors.proofs.Moments.{weakened, followed}
 use Rattle.dc_roots.specs.declared.root.Root.{Root}
 use Rattle.dc_recovery.specs.Language.{State}
 use Rattle.dc_recovery.specs.Stands.{StandsBy, Stands, IsRead, EachStands, StandsForOne}
 use Rattle.dc_recovery.proofs.Once.{stands_as_read}
+use Rattle.dc_recovery.proofs.ReadMoments.{synced, synced_read}
 
 -- an image of the disk as it was
 pub stood : (half_len : ℕ) (choices : Choices) → EachStands half_len choices → (image : Image) → IsImage choices image → StandsForOne half_len choices image
@@ -22,23 +22,18 @@ module _ {D : Type 0} (moment : D → ℕ) (images_since : D → ℕ → Image �
     (half_len : ℕ) (old : D) (each : EachStands half_len (choices old)) (reads_a_choice : IsImage (choices old) (reads old))
     (only_now : (image : Image) → images_since old (moment old) image → IsImage (choices old) image) where
   -- the first sync
-  pub after_sync : (synced : D) → Elapses (moment old) (moment synced) (images_since old) (images_since synced) (IsImage (choices old))
-      → LeavesOnly moment images_since old synced (StandsForOne half_len (choices old))
-  after_sync synced time =
-      goes_on moment images_since old old synced (StandsForOne half_len (choices old)) (IsImage (choices old))
-      (started moment images_since old (StandsForOne half_len (choices old)) (λ image left. stood half_len (choices old) each image (only_now image left)))
-      time (stood half_len (choices old) each)
+  pub after_sync : (mid : D) → Elapses (moment old) (moment mid) (images_since old) (images_since mid) (IsImage (choices old))
+      → LeavesOnly moment images_since old mid (StandsForOne half_len (choices old))
+  after_sync mid time =
+      weakened moment images_since old mid (IsImage (choices old)) (StandsForOne half_len (choices old)) (synced moment images_since choices old only_now mid time) (stood half_len (choices old) each)
 
   -- and reading
-  pub after_reading : (synced read : D) → Elapses (moment old) (moment synced) (images_since old) (images_since synced) (IsImage (choices old))
-      → choices synced ≡ settled (reads old) → LeavesOnly moment images_since synced read (IsImage (choices synced))
+  pub after_reading : (mid read : D) → Elapses (moment old) (moment mid) (images_since old) (images_since mid) (IsImage (choices old))
+      → choices mid ≡ settled (reads old) → LeavesOnly moment images_since mid read (IsImage (choices mid))
       → LeavesOnly moment images_since old read (StandsForOne half_len (choices old))
-  after_reading synced read time is_settled reading =
-      followed moment images_since old synced read (StandsForOne half_len (choices old)) (IsImage (choices synced)) (StandsForOne half_len (choices old))
-      (after_sync synced time) reading (λ image is. is)
-      (λ image is.
-      let same : image ≡ reads old = settled_image (reads old) image (subst (λ (c : Choices). IsImage c image) is_settled is) in
-      stood half_len (choices old) each image (subst (IsImage (choices old)) (sym same) reads_a_choice))
+  after_reading mid read time is_settled reading =
+      weakened moment images_since old read (IsImage (choices old)) (StandsForOne half_len (choices old))
+      (synced_read moment images_since choices old only_now reads mid read reads_a_choice time is_settled reading) (stood half_len (choices old) each)
 
   -- and the next root
   pub after_session : (synced read begun : D) (state : State) → Elapses (moment old) (moment synced) (images_since old) (images_since synced) (IsImage (choices old))

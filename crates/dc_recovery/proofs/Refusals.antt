@@ -1,21 +1,22 @@
 -- The refusals of an image exclude each other, and an image that reads as a state is refused only as worn.
-use Rattle.std.proofs.Common.{◌≡◌, ◌≢◌, ◌⊎◌, inl, inr, ⊎_elim, ℕ, zero, suc, ◌<◌, ◌≤◌, ◌+◌, ◌-◌, ◌^◌, List, None, arith, ap, sym, subst, ◌∙◌, refl}
+use Rattle.std.proofs.Common.{◌≡◌, ◌⊎◌, inl, inr, ⊎_elim, ℕ, zero, suc, ◌<◌, ◌≤◌, ◌+◌, ◌-◌, List, None, arith, ap, sym, subst, ◌∙◌, refl}
 use Rattle.std.proofs.lemmas.Bool.{cases_lt}
 use Rattle.dc_sectors.specs.Disk.{Image}
 use Rattle.dc_roots.specs.declared.root.Root.{Root}
 use Rattle.dc_roots.specs.Root.{slot}
-use Rattle.dc_roots.specs.Choice.{IsChosen, IsRootless, one_root}
-use Rattle.dc_pages.specs.Group.{base_kind, change_kind, IsGroup, IsComplete}
-use Rattle.dc_pages.specs.Agree.{one_group}
-use Rattle.dc_pages.specs.Cut.{cut_incomplete, one_cut}
-use Rattle.dc_pages.specs.OneSync.{not_commit}
+use Rattle.dc_roots.specs.Choice.{IsChosen, IsRootless}
+use Rattle.dc_roots.proofs.Choices.{one_root}
+use Rattle.dc_pages.specs.Group.{base_kind, change_kind, IsKnown, IsGroup, IsComplete}
+use Rattle.dc_pages.proofs.Agree.{one_group}
+use Rattle.dc_pages.proofs.Cut.{cut_incomplete, one_cut}
+use Rattle.dc_pages.proofs.OneSync.{not_commit}
 use Rattle.dc_pages.specs.Reading.{IsCutAt}
 use Rattle.dc_recovery.specs.declared.fault.OpenFault.{OpenFault}
 use Rattle.dc_recovery.specs.declared.fault.OpenFault.TheVariants.{NotImage, Damaged, Version, Worn, Device, NoMemory}
 use Rattle.dc_recovery.specs.Halves.{half_start, half_end, budget_of}
 use Rattle.dc_recovery.specs.Language.{State, SpellsState, SpellsChanges, AcceptsAll}
-use Rattle.dc_recovery.specs.Stands.{image_version, IsSequence, IsCurrent, HasBase, HasMore, Holds, ReadsBy, Reads, Stands}
-use Rattle.dc_recovery.specs.Refusal.{HasNoRoot, HasOtherLength, HasNoBase, HasBadBase, HasBadGroup, IsDamagedAt, HasOtherVersion, IsWorn, IsRefused, TellsOfImage}
+use Rattle.dc_recovery.specs.Stands.{IsSequence, IsCurrent, HasBase, HasMore, Holds, ReadsBy, Reads, Stands}
+use Rattle.dc_recovery.specs.Refusal.{HasNoRoot, HasOtherLength, HasNoBase, HasBadBase, HasBadGroup, IsDamagedAt, HasOtherVersion, IsSpent, IsWorn, IsRefused, TellsOfImage}
 use Rattle.dc_recovery.proofs.Once.{one_holds, not_more}
 
 module _ (half_len : ℕ) (most : half_len ≤ 65536) (image : Image) where
@@ -30,7 +31,7 @@ module _ (half_len : ℕ) (most : half_len ≤ 65536) (image : Image) where
   NoState n = NoBase n ⊎ HasBadBase half_len n image
 
   abbrev HasBaseGroup : Root → Type 0
-  HasBaseGroup root = IsComplete image_version base_kind root.base_sequence (half_start half_len root.half) (half_end half_len root.half) image
+  HasBaseGroup root = IsComplete root.version base_kind root.base_sequence (half_start half_len root.half) (half_end half_len root.half) image
 
   -- one group of changes behind m of them
   abbrev HasMoreBehind : Root → ℕ → ℕ → State → Type 0
@@ -64,8 +65,7 @@ module _ (half_len : ℕ) (most : half_len ≤ 65536) (image : Image) where
 
   stops_at_state : (n : ℕ) (root : Root) (place : ℕ) (state : State) → NoState n → IsCurrent half_len root image → HasBase half_len root place state image → ⊥
   stops_at_state n root place state (inl early) current base =
-      let group = subst (λ (v : ℕ). IsGroup v base_kind base.session root.base_sequence base.payload base.pages (half_start half_len root.half) (half_end half_len root.half) image) current.version base.group in
-      stops_at_base n root early current (record { session = base.session; payload = base.payload; pages = base.pages; group = group })
+      stops_at_base n root early current (record { session = base.session; payload = base.payload; pages = base.pages; group = base.group })
   stops_at_state n root place state (inr bad) current base =
       let there = subst (λ (r : Root). HasBase half_len r place state image) (one_root root bad.root image current.chosen bad.current.chosen) base in
       let same = one_group _ _ _ _ _ _ _ _ _ _ _ _ _ _ image (not_commit base_kind (inl refl)) bad.group there.group in
@@ -99,12 +99,11 @@ module _ (half_len : ℕ) (most : half_len ≤ 65536) (image : Image) where
       let count : bad.m ≡ m = omega arith in
       let at = one_holds half_len most bad.root image m n place bad.state state (subst (λ (j : ℕ). Holds half_len bad.root image j n bad.state) count bad.before) there.holds in
       let sequence : bad.root.base_sequence + suc bad.m ≡ bad.root.base_sequence + suc m = ap (λ (j : ℕ). bad.root.base_sequence + suc j) count in
-      let complete : IsComplete image_version change_kind (bad.root.base_sequence + suc bad.m) n (half_end half_len bad.root.half) image
+      let complete : IsComplete bad.root.version change_kind (bad.root.base_sequence + suc bad.m) n (half_end half_len bad.root.half) image
       = record { session = bad.session; payload = bad.payload; pages = bad.pages; group = bad.group } in
       there.no_more (subst IsSequence sequence bad.is_sequence)
-      (subst (λ (v : ℕ). IsComplete v change_kind (bad.root.base_sequence + suc m) place (half_end half_len bad.root.half) image) (sym bad.current.version)
-      (subst (λ (p : ℕ). IsComplete image_version change_kind (bad.root.base_sequence + suc m) p (half_end half_len bad.root.half) image) at.0
-      (subst (λ (q : ℕ). IsComplete image_version change_kind q n (half_end half_len bad.root.half) image) sequence complete)))
+      (subst (λ (p : ℕ). IsComplete bad.root.version change_kind (bad.root.base_sequence + suc m) p (half_end half_len bad.root.half) image) at.0
+      (subst (λ (q : ℕ). IsComplete bad.root.version change_kind q n (half_end half_len bad.root.half) image) sequence complete))
 
   -- AND IT NAMES ONE SECTOR
 
@@ -119,7 +118,7 @@ module _ (half_len : ℕ) (most : half_len ≤ 65536) (image : Image) where
   one_base n n' (inl a) (inr b) = absurd (stops_at_root n b.root a b.current)
   one_base n n' (inr a) (inl b) = absurd (stops_at_root n' a.root b a.current)
   one_base n n' (inr a) (inr b) =
-      let there = subst (λ (r : Root). IsCutAt image_version base_kind r.base_sequence (half_start half_len r.half) (half_end half_len r.half) n image) (one_root a.root b.root image a.current.chosen b.current.chosen) a.cut in
+      let there = subst (λ (r : Root). IsCutAt r.version base_kind r.base_sequence (half_start half_len r.half) (half_end half_len r.half) n image) (one_root a.root b.root image a.current.chosen b.current.chosen) a.cut in
       one_cut _ _ _ _ _ n n' image (not_commit base_kind (inl refl)) there b.cut
 
   bad_complete : (n : ℕ) (bad : HasBadBase half_len n image) → HasBaseGroup bad.root
@@ -152,7 +151,7 @@ module _ (half_len : ℕ) (most : half_len ≤ 65536) (image : Image) where
   -- THE FAULTS
 
   -- a damaged image has a root of this version, or none
-  root_of_damage : (n : ℕ) → IsDamagedAt half_len n image → HasNoRoot n image ⊎ ((root : Root) × (IsChosen root image × (root.version ≡ image_version)))
+  root_of_damage : (n : ℕ) → IsDamagedAt half_len n image → HasNoRoot n image ⊎ ((root : Root) × (IsChosen root image × IsKnown root.version))
   root_of_damage n (inl (inl (inl (inl none)))) = inl none
   root_of_damage n (inl (inl (inl (inr other)))) = inr (other.root, (other.chosen, other.version))
   root_of_damage n (inl (inl (inr none))) = inr (none.root, (none.current.chosen, none.current.version))
@@ -162,16 +161,16 @@ module _ (half_len : ℕ) (most : half_len ≤ 65536) (image : Image) where
   damage_and_no_root : (n : ℕ) → IsDamagedAt half_len n image → IsRootless None image → ⊥
   damage_and_no_root n damage rootless = ⊎_elim
       (λ (none : HasNoRoot n image). let first = none.rootless.first in let first' = rootless.first in cc)
-      (λ (has : (root : Root) × (IsChosen root image × (root.version ≡ image_version))). rootless.none has.0 has.1.0.here)
+      (λ (has : (root : Root) × (IsChosen root image × IsKnown root.version)). rootless.none has.0 has.1.0.here)
       (root_of_damage n damage)
 
-  other_version : (root : Root) → IsChosen root image → root.version ≡ image_version → HasOtherVersion image → ⊥
-  other_version root chosen version other = other.other_version (subst (λ (r : Root). r.version ≡ image_version) (one_root root other.root image chosen other.chosen) version)
+  other_version : (root : Root) → IsChosen root image → IsKnown root.version → HasOtherVersion image → ⊥
+  other_version root chosen version other = other.other_version (subst (λ (r : Root). IsKnown r.version) (one_root root other.root image chosen other.chosen) version)
 
   damage_and_other_version : (n : ℕ) → IsDamagedAt half_len n image → HasOtherVersion image → ⊥
   damage_and_other_version n damage other = ⊎_elim
       (λ (none : HasNoRoot n image). none.rootless.none other.root other.chosen.here)
-      (λ (has : (root : Root) × (IsChosen root image × (root.version ≡ image_version))). other_version has.0 has.1.0 has.1.1 other)
+      (λ (has : (root : Root) × (IsChosen root image × IsKnown root.version)). other_version has.0 has.1.0 has.1.1 other)
       (root_of_damage n damage)
 
   -- an image that reads as a state is refused only as worn
@@ -216,14 +215,15 @@ module _ (half_len : ℕ) (most : half_len ≤ 65536) (image : Image) where
   one_refusal Device g tells tells' why why' = absurd tells
   one_refusal NoMemory g tells tells' why why' = absurd tells
 
-  -- an image whose root has a next generation and a next session isn't worn
-  pub not_worn : (root : Root) → IsChosen root image → root.generation ≢ 2 ^ 64 - 1 → root.session ≢ 2 ^ 64 - 1 → IsWorn half_len image → ⊥
-  not_worn root chosen generation session worn =
-      let same : root ≡ worn.root = one_root root worn.root image chosen worn.by.chosen in
-      ⊎_elim
-      (λ (full : worn.root.generation ≡ 2 ^ 64 - 1). generation (ap (λ (r : Root). r.generation) same ∙ full))
-      (λ (full : worn.root.session ≡ 2 ^ 64 - 1). session (ap (λ (r : Root). r.session) same ∙ full))
-      worn.full
+  -- an image whose root isn't spent behind the groups that are read isn't worn
+  pub not_worn : (root : Root) (m place : ℕ) (state : State) → ReadsBy half_len root m place state image → (IsSpent root (root.base_sequence + m) → ⊥) → IsWorn half_len image → ⊥
+  not_worn root m place state by fine worn =
+      let same : worn.root ≡ root = one_root worn.root root image worn.by.chosen by.chosen in
+      let there : ReadsBy half_len root worn.m worn.place worn.state image = subst (λ (r : Root). ReadsBy half_len r worn.m worn.place worn.state image) same worn.by in
+      let le = not_more half_len most root image worn.m m worn.place place worn.state state there by.holds in
+      let ge = not_more half_len most root image m worn.m place worn.place state worn.state by there.holds in
+      let count : worn.m ≡ m = omega arith in
+      fine (subst (λ (n : ℕ). IsSpent root (root.base_sequence + n)) count (subst (λ (r : Root). IsSpent r (r.base_sequence + worn.m)) same worn.spent))
 
   -- and where the image stands for a state, a refusal is that it is worn
   pub stands_or_refused : (state : State) (f : OpenFault) → TellsOfImage f → IsRefused half_len image f → Stands half_len state image → f ≡ Worn

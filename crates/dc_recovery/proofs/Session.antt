@@ -3,7 +3,8 @@ use Rattle.std.proofs.Common.{◌≡◌, ⊎_elim, ℕ, suc, ◌+◌, arith, sym
 use Rattle.dc_sectors.specs.Disk.{Image}
 use Rattle.dc_roots.specs.declared.root.Root.{Root}
 use Rattle.dc_roots.specs.Root.{slot}
-use Rattle.dc_roots.specs.Choice.{IsRootWrite, slot_range}
+use Rattle.dc_roots.specs.Choice.{IsRootWrite}
+use Rattle.dc_roots.proofs.Choices.{slot_range}
 use Rattle.dc_recovery.specs.Language.{State}
 use Rattle.dc_recovery.specs.Roots.{IsRootDone, opened}
 use Rattle.dc_recovery.specs.Stands.{StandsBy, Stands, IsReady}

@@ -5,11 +5,11 @@ use Rattle.std.specs.List.Sorted.{IsStrictlySortedBy}
 use Rattle.std.specs.Ordering.{nat_cmp}
 use Rattle.std.proofs.lemmas.List.Elements.{All-nil}
 use Rattle.dc_address.specs.Identity.{identity_cmp}
-use Rattle.dc_meters.specs.State.{ReadingRow}
-use Rattle.dc_meters.specs.Valid.{IsMeter, IsReading, IsOpenSerial}
-use Rattle.dc_meters.specs.Encoding.{long_bytes, count_bytes, byte, counted, state_bytes}
-use Rattle.dc_meters.specs.StateSpellings.{spelled_once}
-use Rattle.dc_meters.specs.ChangeSpellings.{changes_spelled_once}
+use Rattle.dc_changes.specs.State.{ReadingRow}
+use Rattle.dc_changes.specs.Valid.{IsMeter, IsReading, IsOpenSerial}
+use Rattle.dc_changes.specs.Encoding.{long_bytes, count_bytes, byte, counted, state_bytes}
+use Rattle.dc_changes.proofs.StateSpellings.{spelled_once}
+use Rattle.dc_changes.proofs.ChangeSpellings.{changes_spelled_once}
 use Rattle.dc_recovery.specs.Halves.{budget_of}
 use Rattle.dc_recovery.specs.Language.{State, Change, SpellsState, SpellsChanges, empty_state}
 

@@ -6,17 +6,16 @@ use Rattle.dc_pages.specs.Group.{IsGroup, IsComplete, base_kind, change_kind}
 use Rattle.dc_pages.specs.Reading.{IsCutAt}
 use Rattle.dc_recovery.specs.Halves.{half_start, half_end, budget_of}
 use Rattle.dc_recovery.specs.Language.{State, Change, SpellsState, SpellsChanges, AcceptsAll, after}
-use Rattle.dc_recovery.specs.Stands.{image_version, IsSequence, IsCurrent, IsReached, IsRead}
+use Rattle.dc_recovery.specs.Stands.{IsSequence, IsCurrent, IsReached, IsRead}
 use Rattle.dc_recovery.specs.Refusal.{IsDamagedAt}
 
 module _ (half_len : ℕ) (root : Root) (image : Image) (current : IsCurrent half_len root image) where
   -- the base group that was read spells a state
   pub base_reached : (start limit sectors : ℕ) (payload : List ℕ) (state : State) → start ≡ half_start half_len root.half → limit ≡ half_end half_len root.half
-      → (session : ℕ) × (pages : ℕ) × IsGroup image_version base_kind session root.base_sequence payload pages start limit image × (sectors ≡ pages + 1)
+      → (session : ℕ) × (pages : ℕ) × IsGroup root.version base_kind session root.base_sequence payload pages start limit image × (sectors ≡ pages + 1)
       → SpellsState (budget_of half_len) payload state → IsReached half_len root (start + sectors) root.base_sequence state image
   base_reached start limit sectors payload state at_start at_limit read spells =
-      let group = subst (λ (v : ℕ). IsGroup v base_kind read.0 root.base_sequence payload read.1 start limit image) (sym current.version) read.2 in
-      let group' = subst (λ (l : ℕ). IsGroup root.version base_kind read.0 root.base_sequence payload read.1 start l image) at_limit group in
+      let group' = subst (λ (l : ℕ). IsGroup root.version base_kind read.0 root.base_sequence payload read.1 start l image) at_limit read.2 in
       let count = read.3 in
       record {
         current = current;
@@ -34,24 +33,24 @@ module _ (half_len : ℕ) (root : Root) (image : Image) (current : IsCurrent hal
 
   -- no base group is there
   pub base_cut : (start limit n : ℕ) → start ≡ half_start half_len root.half → limit ≡ half_end half_len root.half
-      → IsCutAt image_version base_kind root.base_sequence start limit n image → IsDamagedAt half_len n image
+      → IsCutAt root.version base_kind root.base_sequence start limit n image → IsDamagedAt half_len n image
   base_cut start limit n at_start at_limit cut =
-      let cut' = subst (λ (l : ℕ). IsCutAt image_version base_kind root.base_sequence start l n image) at_limit cut in
-      inl (inl (inr (record { root = root; current = current; cut = subst (λ (p : ℕ). IsCutAt image_version base_kind root.base_sequence p (half_end half_len root.half) n image) at_start cut' })))
+      let cut' = subst (λ (l : ℕ). IsCutAt root.version base_kind root.base_sequence start l n image) at_limit cut in
+      inl (inl (inr (record { root = root; current = current; cut = subst (λ (p : ℕ). IsCutAt root.version base_kind root.base_sequence p (half_end half_len root.half) n image) at_start cut' })))
 
   -- the base group spells no state
   pub base_bad : (start limit sectors : ℕ) (payload : List ℕ) → start ≡ half_start half_len root.half → limit ≡ half_end half_len root.half
-      → (session : ℕ) × (pages : ℕ) × IsGroup image_version base_kind session root.base_sequence payload pages start limit image × (sectors ≡ pages + 1)
+      → (session : ℕ) × (pages : ℕ) × IsGroup root.version base_kind session root.base_sequence payload pages start limit image × (sectors ≡ pages + 1)
       → ((state : State) → SpellsState (budget_of half_len) payload state → ⊥) → IsDamagedAt half_len start image
   base_bad start limit sectors payload at_start at_limit read none =
-      let group = subst (λ (l : ℕ). IsGroup image_version base_kind read.0 root.base_sequence payload read.1 start l image) at_limit read.2 in
+      let group = subst (λ (l : ℕ). IsGroup root.version base_kind read.0 root.base_sequence payload read.1 start l image) at_limit read.2 in
       inl (inr (record {
         root = root;
         current = current;
         session = read.0;
         pages = read.1;
         payload = payload;
-        group = subst (λ (p : ℕ). IsGroup image_version base_kind read.0 root.base_sequence payload read.1 p (half_end half_len root.half) image) at_start group;
+        group = subst (λ (p : ℕ). IsGroup root.version base_kind read.0 root.base_sequence payload read.1 p (half_end half_len root.half) image) at_start group;
         no_state = none;
         at = at_start;
       }))
@@ -59,13 +58,12 @@ module _ (half_len : ℕ) (root : Root) (image : Image) (current : IsCurrent hal
 -- one group of changes more
 pub group_reached : (half_len : ℕ) (root : Root) (place last limit sectors next : ℕ) (payload : List ℕ) (was state : State) (changes : List Change) (image : Image) → IsReached half_len root place last was image
     → limit ≡ half_end half_len root.half → next ≡ last + 1 → IsSequence next
-    → (session : ℕ) × (pages : ℕ) × IsGroup image_version change_kind session next payload pages place limit image × (sectors ≡ pages + 1)
+    → (session : ℕ) × (pages : ℕ) × IsGroup root.version change_kind session next payload pages place limit image × (sectors ≡ pages + 1)
     → SpellsChanges payload changes → AcceptsAll (budget_of half_len) was changes → state ≡ after was changes → IsReached half_len root (place + sectors) next state image
 group_reached half_len root place last limit sectors next payload was state changes image reached at_limit at_next small read spells accepted is =
     let last_is = reached.last_is in
     let e : next ≡ root.base_sequence + suc reached.m = omega (arith, at_next, last_is) in
-    let group = subst (λ (v : ℕ). IsGroup v change_kind read.0 next payload read.1 place limit image) (sym reached.current.version) read.2 in
-    let group' = subst (λ (l : ℕ). IsGroup root.version change_kind read.0 next payload read.1 place l image) at_limit group in
+    let group' = subst (λ (l : ℕ). IsGroup root.version change_kind read.0 next payload read.1 place l image) at_limit read.2 in
     let count = read.3 in
     record {
       current = reached.current;
@@ -91,12 +89,12 @@ group_reached half_len root place last limit sectors next payload was state chan
 -- a complete group whose changes aren't accepted in turn
 pub group_bad : (half_len : ℕ) (root : Root) (place last limit sectors next : ℕ) (payload : List ℕ) (was : State) (image : Image) → IsReached half_len root place last was image
     → limit ≡ half_end half_len root.half → next ≡ last + 1 → IsSequence next
-    → (session : ℕ) × (pages : ℕ) × IsGroup image_version change_kind session next payload pages place limit image × (sectors ≡ pages + 1)
+    → (session : ℕ) × (pages : ℕ) × IsGroup root.version change_kind session next payload pages place limit image × (sectors ≡ pages + 1)
     → ((changes : List Change) → SpellsChanges payload changes → AcceptsAll (budget_of half_len) was changes → ⊥) → IsDamagedAt half_len place image
 group_bad half_len root place last limit sectors next payload was image reached at_limit at_next small read none =
     let last_is = reached.last_is in
     let e : next ≡ root.base_sequence + suc reached.m = omega (arith, at_next, last_is) in
-    let group = subst (λ (l : ℕ). IsGroup image_version change_kind read.0 next payload read.1 place l image) at_limit read.2 in
+    let group = subst (λ (l : ℕ). IsGroup root.version change_kind read.0 next payload read.1 place l image) at_limit read.2 in
     inr (record {
       root = root;
       current = reached.current;
@@ -107,13 +105,13 @@ group_bad half_len root place last limit sectors next payload was image reached 
       session = read.0;
       pages = read.1;
       payload = payload;
-      group = subst (λ (q : ℕ). IsGroup image_version change_kind read.0 q payload read.1 place (half_end half_len root.half) image) e group;
+      group = subst (λ (q : ℕ). IsGroup root.version change_kind read.0 q payload read.1 place (half_end half_len root.half) image) e group;
       no_changes = none;
     })
 
 -- behind the last complete group the image is read
 pub all_read : (half_len : ℕ) (root : Root) (place last limit : ℕ) (state : State) (image : Image) → IsReached half_len root place last state image → limit ≡ half_end half_len root.half
-    → ((sequence : ℕ) → sequence ≡ last + 1 → IsSequence sequence → IsComplete image_version change_kind sequence place limit image → ⊥) → IsRead half_len root place last state image
+    → ((sequence : ℕ) → sequence ≡ last + 1 → IsSequence sequence → IsComplete root.version change_kind sequence place limit image → ⊥) → IsRead half_len root place last state image
 all_read half_len root place last limit state image reached at_limit none =
     let last_is = reached.last_is in
     let e : root.base_sequence + suc reached.m ≡ last + 1 = omega (arith, last_is) in
@@ -125,8 +123,7 @@ all_read half_len root place last limit state image reached at_limit none =
         length_is = reached.current.length_is;
         holds = reached.holds;
         no_more = λ small complete. none (root.base_sequence + suc reached.m) e small
-            (subst (λ (v : ℕ). IsComplete v change_kind (root.base_sequence + suc reached.m) place limit image) reached.current.version
-            (subst (λ (l : ℕ). IsComplete root.version change_kind (root.base_sequence + suc reached.m) place l image) (sym at_limit) complete));
+            (subst (λ (l : ℕ). IsComplete root.version change_kind (root.base_sequence + suc reached.m) place l image) (sym at_limit) complete);
       };
       last_is = last_is;
     }

@@ -1,6 +1,7 @@
 pub mod Fault
 pub mod Halves
 pub mod Language
+pub mod Looked
 pub mod Refusal
 pub mod Roots
 pub mod Stands

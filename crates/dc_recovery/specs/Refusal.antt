@@ -5,7 +5,7 @@ use Rattle.dc_sectors.specs.Disk.{Image}
 use Rattle.dc_roots.specs.declared.root.Root.{Root}
 use Rattle.dc_roots.specs.Root.{slot}
 use Rattle.dc_roots.specs.Choice.{IsChosen, IsRootless}
-use Rattle.dc_pages.specs.Group.{base_kind, change_kind, IsGroup}
+use Rattle.dc_pages.specs.Group.{base_kind, change_kind, IsKnown, IsGroup}
 use Rattle.dc_pages.specs.Reading.{IsCutAt}
 use Rattle.dc_recovery.specs.declared.fault.OpenFault.{OpenFault}
 use Rattle.dc_recovery.specs.declared.fault.OpenFault.TheVariants.{NotImage, Damaged, Version, Worn, Device, NoMemory}
@@ -21,7 +21,7 @@ pub record HasNoRoot (n : ℕ) (image : Image) : Type 0 where
 pub record HasOtherLength (half_len n : ℕ) (image : Image) : Type 0 where
   pub root : Root
   pub chosen : IsChosen root image
-  pub version : root.version ≡ image_version
+  pub version : IsKnown root.version
   pub other_length : root.half_len ≢ half_len
   pub at : n ≡ slot root.generation
 
@@ -29,7 +29,7 @@ pub record HasOtherLength (half_len n : ℕ) (image : Image) : Type 0 where
 pub record HasNoBase (half_len n : ℕ) (image : Image) : Type 0 where
   pub root : Root
   pub current : IsCurrent half_len root image
-  pub cut : IsCutAt image_version base_kind root.base_sequence (half_start half_len root.half) (half_end half_len root.half) n image
+  pub cut : IsCutAt root.version base_kind root.base_sequence (half_start half_len root.half) (half_end half_len root.half) n image
 
 -- the base group is complete and spells no state
 pub record HasBadBase (half_len n : ℕ) (image : Image) : Type 0 where
@@ -38,7 +38,7 @@ pub record HasBadBase (half_len n : ℕ) (image : Image) : Type 0 where
   pub session : ℕ
   pub pages : ℕ
   pub payload : List ℕ
-  pub group : IsGroup image_version base_kind session root.base_sequence payload pages (half_start half_len root.half) (half_end half_len root.half) image
+  pub group : IsGroup root.version base_kind session root.base_sequence payload pages (half_start half_len root.half) (half_end half_len root.half) image
   pub no_state : (state : State) → SpellsState (budget_of half_len) payload state → ⊥
   pub at : n ≡ half_start half_len root.half
 
@@ -53,27 +53,32 @@ pub record HasBadGroup (half_len n : ℕ) (image : Image) : Type 0 where
   pub session : ℕ
   pub pages : ℕ
   pub payload : List ℕ
-  pub group : IsGroup image_version change_kind session (root.base_sequence + suc m) payload pages n (half_end half_len root.half) image
+  pub group : IsGroup root.version change_kind session (root.base_sequence + suc m) payload pages n (half_end half_len root.half) image
   pub no_changes : (changes : List Change) → SpellsChanges payload changes → AcceptsAll (budget_of half_len) state changes → ⊥
 
 abbrev pub IsDamagedAt : ℕ → ℕ → Image → Type 0
 IsDamagedAt half_len n image =
     (((HasNoRoot n image ⊎ HasOtherLength half_len n image) ⊎ HasNoBase half_len n image) ⊎ HasBadBase half_len n image) ⊎ HasBadGroup half_len n image
 
--- the root in force is of another version
+-- the root in force is of a version that isn't known
 pub record HasOtherVersion (image : Image) : Type 0 where
   pub root : Root
   pub chosen : IsChosen root image
-  pub other_version : root.version ≢ image_version
+  pub other_version : IsKnown root.version → ⊥
 
--- the image can be read, and its root has no next generation or no next session
+-- A root has no next generation or no next session; or it is of version 1, and behind a group of that sequence there aren't the two
+-- generations and the sequence that make it one of version 2.
+abbrev pub IsSpent : Root → ℕ → Type 0
+IsSpent root last = ((root.generation ≡ 2 ^ 64 - 1) ⊎ (root.session ≡ 2 ^ 64 - 1)) ⊎ ((root.version ≢ image_version) × ((root.generation ≡ 2 ^ 64 - 2) ⊎ (2 ^ 64 - 1 ≤ last + 1)))
+
+-- the image can be read, and no session can begin on it
 pub record IsWorn (half_len : ℕ) (image : Image) : Type 0 where
   pub root : Root
   pub m : ℕ
   pub place : ℕ
   pub state : State
   pub by : ReadsBy half_len root m place state image
-  pub full : (root.generation ≡ 2 ^ 64 - 1) ⊎ (root.session ≡ 2 ^ 64 - 1)
+  pub spent : IsSpent root (root.base_sequence + m)
 
 -- why reading the image stops; a device may always fail, and memory may always be refused
 abbrev pub IsRefused : ℕ → Image → OpenFault → Type 0

@@ -1,15 +1,15 @@
 -- The state that an image reads as, and stands for: this product's image format.
-use Rattle.std.specs.Prelude.{◌≡◌, ◌⊎◌, ◌<◌, ℕ, zero, suc, ◌+◌, ◌*◌, ◌^◌, ◌≤◌, List, replicate}
+use Rattle.std.specs.Prelude.{◌≡◌, ◌⊎◌, ◌<◌, ℕ, zero, suc, ◌+◌, ◌*◌, ◌^◌, ◌≤◌, List, length, take, replicate}
 use Rattle.dc_sectors.specs.Disk.{Image, Choices, IsImage}
 use Rattle.dc_sectors.specs.declared.sector.Sector.{Sector}
-use Rattle.dc_sectors.specs.declared.sector.Sector.TheVariants.{Bytes}
+use Rattle.dc_sectors.specs.declared.sector.Sector.TheVariants.{Bytes, Unreadable}
 use Rattle.dc_roots.specs.declared.root.Root.{Root}
-use Rattle.dc_roots.specs.Choice.{IsChosen}
-use Rattle.dc_pages.specs.Group.{base_kind, change_kind, IsGroup, IsComplete, Carries}
+use Rattle.dc_roots.specs.Choice.{HasRoot, IsChosen}
+use Rattle.dc_pages.specs.Group.{base_kind, change_kind, IsKnown, IsGroup, IsComplete, Carries}
 use Rattle.dc_recovery.specs.Halves.{half_start, half_end, budget_of}
-use Rattle.dc_recovery.specs.Language.{State, Change, SpellsState, SpellsChanges, AcceptsAll, after}
+use Rattle.dc_recovery.specs.Language.{State, Change, SpellsState, SpellsChanges, AcceptsAll, after, empty_state}
 
--- the version that the sectors of this product's images carry
+-- the version of the images that are written; those of version 1 are read too
 abbrev pub image_version : ℕ
 image_version = 2
 
@@ -64,7 +64,7 @@ Holds half_len root image (suc m) place state = HasMore half_len (Holds half_len
 -- The image reads as the state, by this root and m groups of changes, and `place` is where the next would go.
 pub record ReadsBy (half_len : ℕ) (root : Root) (m place : ℕ) (state : State) (image : Image) : Type 0 where
   pub chosen : IsChosen root image
-  pub version : root.version ≡ image_version
+  pub version : IsKnown root.version
   pub length_is : root.half_len ≡ half_len
   pub holds : Holds half_len root image m place state
   pub no_more : IsSequence (root.base_sequence + suc m) → IsComplete root.version change_kind (root.base_sequence + suc m) place (half_end half_len root.half) image → ⊥
@@ -91,10 +91,16 @@ pub record IsReady (half_len : ℕ) (root : Root) (m place : ℕ) (state : State
   pub stands : StandsBy half_len root m place state image
   pub unused : IsUnused half_len root.session (root.base_sequence + suc m) image
 
--- the root in force, of this version and for halves of this length
+-- The image is ready behind the groups up to one of sequence `last`, and the next would go to `place`.
+pub record IsBegun (half_len : ℕ) (root : Root) (place last : ℕ) (state : State) (image : Image) : Type 0 where
+  pub m : ℕ
+  pub ready : IsReady half_len root m place state image
+  pub last_is : last ≡ root.base_sequence + m
+
+-- the root in force, of a known version and for halves of this length
 pub record IsCurrent (half_len : ℕ) (root : Root) (image : Image) : Type 0 where
   pub chosen : IsChosen root image
-  pub version : root.version ≡ image_version
+  pub version : IsKnown root.version
   pub length_is : root.half_len ≡ half_len
 
 -- The root in force leads to this state by the groups up to one of sequence `last`, and the next would go to `place`.
@@ -126,6 +132,12 @@ pub record StandsForOne (half_len : ℕ) (choices : Choices) (image : Image) : T
 abbrev pub StandsForEither : ℕ → State → State → Image → Type 0
 StandsForEither half_len before after image = Stands half_len before image ⊎ Stands half_len after image
 
+-- the image stands for the state after a front of those changes
+pub record StandsForFront (half_len : ℕ) (state : State) (changes : List Change) (image : Image) : Type 0 where
+  pub count : ℕ
+  pub within : count ≤ length changes
+  pub stands : Stands half_len (after state (take count changes)) image
+
 -- A payload that spells accepted changes may follow: the image is ready, and this are the place, the half's end and the next sequence.
 pub record IsAppendable (half_len : ℕ) (root : Root) (m place limit sequence : ℕ) (was : State) (payload : List ℕ) (changes : List Change) (image : Image) : Type 0 where
   pub ready : IsReady half_len root m place was image
@@ -135,12 +147,30 @@ pub record IsAppendable (half_len : ℕ) (root : Root) (m place limit sequence :
   pub spells : SpellsChanges payload changes
   pub accepted : AcceptsAll (budget_of half_len) was changes
 
--- the image stands for the state, and the stamp that comes next is unused
-pub record IsReadyFor (half_len : ℕ) (state : State) (image : Image) : Type 0 where
-  pub root : Root
+-- the image stands for the state by this root, and the stamp that comes next is unused
+pub record IsReadyFor (half_len : ℕ) (root : Root) (state : State) (image : Image) : Type 0 where
   pub m : ℕ
   pub place : ℕ
   pub ready : IsReady half_len root m place state image
+
+-- while zeros are written to a sector: what it read before, zeros, or nothing
+abbrev pub WipedAt : Image → ℕ → Sector → Type 0
+WipedAt old k sector = ((sector ≡ old k) ⊎ (sector ≡ blank)) ⊎ (sector ≡ Unreadable)
+
+abbrev pub IsWiped : Image → Image → Type 0
+IsWiped old image = (k : ℕ) → WipedAt old k (image k)
+
+-- no root slot has a valid root
+abbrev pub IsUnformatted : Image → Type 0
+IsUnformatted image = (root : Root) → HasRoot root image → ⊥
+
+-- it has none, or stands for the empty register
+abbrev pub IsBlankOrEmpty : ℕ → Image → Type 0
+IsBlankOrEmpty half_len image = IsUnformatted image ⊎ Stands half_len empty_state image
+
+-- while a disk with such choices is formatted: one of its images, or one without a root or of the empty register
+abbrev pub IsFormatting : ℕ → Choices → Image → Type 0
+IsFormatting half_len choices image = IsImage choices image ⊎ IsBlankOrEmpty half_len image
 
 -- AN IMAGE READS AS ONE STATE
 abbrev pub ReadsOnce : Type 0

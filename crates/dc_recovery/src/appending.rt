@@ -2,13 +2,13 @@
 
 ghost use Rattle.std.specs.Prelude.{◌≡◌, ◌<◌, ◌≤◌, ◌+◌, ◌*◌, List, ℕ, suc, length, IfOk, OnOk, OnErr};
 ghost use Rattle.dc_base.specs.Failures.{HasRisen};
+ghost use Rattle.dc_pages.specs.Draft.{FitsAt};
 ghost use Rattle.dc_sectors.specs.Disk.{LeavesOnly, settled};
 ghost use Rattle.dc_recovery.specs.Language.{State, Change, after};
 ghost use Rattle.dc_recovery.specs.Stands.{IsReady, IsAppendable, StandsForEither};
 
-use crate::reading::CHANGES;
 use crate::writing::{Place, write_group};
-use dc_pages::Stamp;
+use dc_pages::{CHANGES, Stamp};
 use dc_roots::Root;
 use dc_sectors::{Disk, Failed};
 
@@ -22,7 +22,7 @@ pub(crate) fn append_group<D: Disk>(
     bytes: &[u8],
 ) -> Result<u32, Failed>
     requires some { 0 < length bytes.now }
-    requires room { 488 * place + length bytes.now + 488 ≤ 488 * limit }
+    requires room { FitsAt place limit (length bytes.now) }
     requires limit { limit ≤ D.sectors disk.old }
     ensures any_moment { D.honest → D.choices disk.old ≡ settled (D.reads disk.old) → (half_len m : ℕ) (was : State) (changes : List Change)
         → IsAppendable half_len root.now m place limit sequence was bytes.now changes (D.reads disk.old)

@@ -5,20 +5,21 @@ ghost use Rattle.dc_base.specs.Failures.{HasRisen};
 ghost use Rattle.dc_sectors.specs.Disk.{LeavesOnly, settled};
 ghost use Rattle.dc_recovery.specs.Halves.{half_end, budget_of};
 ghost use Rattle.dc_recovery.specs.Roots.{compacted};
-ghost use Rattle.dc_recovery.specs.Stands.{IsReady, Stands};
+ghost use Rattle.dc_recovery.specs.Stands.{IsReady, StandsForEither};
+ghost use Rattle.dc_recovery.specs.Language.{State};
 
 use crate::halves::{half_end, half_start};
-use crate::reading::BASE;
+use crate::reading::VERSION;
 use crate::rooting::put_root;
 use crate::writing::{Place, write_state};
 use dc_meters::House;
-use dc_pages::Stamp;
+use dc_pages::{BASE, Stamp};
 use dc_roots::Root;
 use dc_sectors::{Disk, Failed};
 use std::alloc::Allocator;
 
-/// Writes a base group with the house's state into the other half and syncs, and then puts the root in force
-/// that names it. Answers that root, and the place of the next group.
+/// Writes a base group of this version with the house's state into the other half and syncs, and then puts the
+/// root in force that names it. Answers that root, and the place of the next group.
 pub(crate) fn compact_into_other_half<A: Allocator + Copy, D: Disk>(
     disk: &mut D,
     root: &Root,
@@ -32,10 +33,10 @@ pub(crate) fn compact_into_other_half<A: Allocator + Copy, D: Disk>(
     requires fits { 3 + 2 * half_len ≤ D.sectors disk.old }
     requires generation { root.now.generation < 2 ^ 64 - 1 }
     requires budget { house.now.budget ≤ budget_of half_len }
-    ensures ready { D.honest → D.choices disk.old ≡ settled (D.reads disk.old) → (m place : ℕ) → IsReady half_len root.now m place house.now.state (D.reads disk.old) → sequence ≡ root.now.base_sequence + suc m
+    ensures ready { D.honest → D.choices disk.old ≡ settled (D.reads disk.old) → (m place : ℕ) (was : State) → IsReady half_len root.now m place was (D.reads disk.old) → sequence ≡ root.now.base_sequence + suc m
         → IfOk result (λ o. IsReady half_len o.0 zero o.1 house.now.state (D.reads disk.new)) }
-    ensures any_moment { D.honest → D.choices disk.old ≡ settled (D.reads disk.old) → (m place : ℕ) → IsReady half_len root.now m place house.now.state (D.reads disk.old) → sequence ≡ root.now.base_sequence + suc m
-        → LeavesOnly D.moment D.images_since disk.old disk.new (Stands half_len house.now.state) }
+    ensures any_moment { D.honest → D.choices disk.old ≡ settled (D.reads disk.old) → (m place : ℕ) (was : State) → IsReady half_len root.now m place was (D.reads disk.old) → sequence ≡ root.now.base_sequence + suc m
+        → LeavesOnly D.moment D.images_since disk.old disk.new (StandsForEither half_len was house.now.state) }
     ensures durable { D.honest → OnOk result (D.choices disk.new ≡ settled (D.reads disk.new)) }
     ensures root { IfOk result (λ o. o.0 ≡ compacted root.now sequence) }
     ensures within { IfOk result (λ o. o.1 ≤ half_end half_len o.0.half) }
@@ -49,7 +50,7 @@ pub(crate) fn compact_into_other_half<A: Allocator + Copy, D: Disk>(
         at: half_start(half_len, half),
         limit: half_end(half_len, half),
         kind: BASE,
-        version: root.version,
+        version: VERSION,
         stamp: Stamp {
             session: root.session,
             sequence,
@@ -58,6 +59,7 @@ pub(crate) fn compact_into_other_half<A: Allocator + Copy, D: Disk>(
     let count = write_state(disk, to, house)?;
     disk.sync()?;
     let based = Root {
+        version: VERSION,
         half,
         base_sequence: sequence,
         ..*root

@@ -11,9 +11,10 @@ pub enum OpenFault {
     NotImage,
     /// The image can't be read on from that sector.
     Damaged(u32),
-    /// The root in force has another version.
+    /// The root in force has another version than 1 and 2.
     Version,
-    /// The generation or the session is `u64::MAX`; nothing was written.
+    /// The generation or the session is `u64::MAX`; or the image has version 1, and the generation is `u64::MAX - 1`
+    /// or the next sequence is `u64::MAX` or above. Nothing was written.
     Worn,
     /// The disk failed, and has counted the failure.
     Device,

@@ -2,22 +2,26 @@
 
 ghost use Rattle.std.specs.Prelude.{◌≡◌, ◌<◌, ◌≤◌, ◌+◌, ◌*◌, ◌^◌, ◌↔◌, ℕ, OnOk, OnErr, IsErrOf};
 ghost use Rattle.dc_base.specs.Failures.{HasRisen};
-ghost use Rattle.dc_sectors.specs.Disk.{Image, settled};
+ghost use Rattle.dc_sectors.specs.Disk.{Image, IsImage, LeavesOnly, settled};
 ghost use Rattle.dc_roots.specs.declared.root.Root.{Root};
 ghost use Rattle.dc_roots.specs.Choice.{HasRoot};
 ghost use Rattle.dc_recovery.specs.declared.fault.FormatFault.TheVariants.{TooSmall, AlreadyFormatted, Device};
 ghost use Rattle.dc_recovery.specs.Halves.{half_len_of};
 ghost use Rattle.dc_recovery.specs.Language.{empty_state};
-ghost use Rattle.dc_recovery.specs.Stands.{IsReadyFor, blank};
+ghost use Rattle.dc_recovery.specs.Roots.{first_root};
+ghost use Rattle.dc_recovery.specs.Stands.{IsReadyFor, IsUnformatted, IsBlankOrEmpty, IsFormatting, IsWiped, blank};
 
 use crate::FormatFault;
 use crate::halves::{FEWEST_SECTORS, half_end, half_len_of, half_start};
-use crate::reading::{BASE, VERSION};
+use crate::reading::VERSION;
 use crate::rooting::put_root;
 use crate::writing::{Place, write_group};
-use dc_pages::Stamp;
+use dc_pages::{BASE, Stamp};
 use dc_roots::{Root, RootFault, choose};
 use dc_sectors::{Disk, Failed};
+
+/// The session of the first groups and of the first root.
+const FIRST_SESSION: u64 = 1;
 
 /// The bytes that spell the empty register: the next serial is 1, and all else is nothing.
 const EMPTY: [u8; 33] = [
@@ -29,6 +33,7 @@ const EMPTY: [u8; 33] = [
 fn blank_sectors<D: Disk>(disk: &mut D, end: u32) -> Result<(), Failed>
     requires { end ≤ D.sectors disk.old }
     ensures blank { D.honest → OnOk result ((k : ℕ) → 1 ≤ k → k < end → D.reads disk.new k ≡ blank) }
+    ensures any_moment { D.honest → D.choices disk.old ≡ settled (D.reads disk.old) → LeavesOnly D.moment D.images_since disk.old disk.new (IsWiped (D.reads disk.old)) }
     ensures count { D.sectors disk.new ≡ D.sectors disk.old }
     ensures failures { D.failures disk.old ≤ D.failures disk.new }
     ensures failed { OnErr result (HasRisen (D.failures disk.old) (D.failures disk.new)) }
@@ -45,8 +50,10 @@ fn lay_out<D: Disk>(disk: &mut D, half_len: u32) -> Result<(), Failed>
     requires some { 64 ≤ half_len }
     requires most { half_len ≤ 65536 }
     requires fits { 3 + 2 * half_len ≤ D.sectors disk.old }
-    ensures ready { D.honest → OnOk result (IsReadyFor half_len empty_state (D.reads disk.new)) }
+    ensures ready { D.honest → OnOk result (IsReadyFor half_len (first_root half_len) empty_state (D.reads disk.new)) }
     ensures durable { D.honest → OnOk result (D.choices disk.new ≡ settled (D.reads disk.new)) }
+    ensures any_moment { D.honest → D.choices disk.old ≡ settled (D.reads disk.old) → IsUnformatted (D.reads disk.old)
+        → LeavesOnly D.moment D.images_since disk.old disk.new (IsBlankOrEmpty half_len) }
     ensures count { D.sectors disk.new ≡ D.sectors disk.old }
     ensures failures { D.failures disk.old ≤ D.failures disk.new }
     ensures failed { OnErr result (HasRisen (D.failures disk.old) (D.failures disk.new)) }
@@ -59,7 +66,7 @@ fn lay_out<D: Disk>(disk: &mut D, half_len: u32) -> Result<(), Failed>
         kind: BASE,
         version: VERSION,
         stamp: Stamp {
-            session: 1,
+            session: FIRST_SESSION,
             sequence: 1,
         },
     };
@@ -69,7 +76,7 @@ fn lay_out<D: Disk>(disk: &mut D, half_len: u32) -> Result<(), Failed>
         version: VERSION,
         half: 0,
         generation: 0,
-        session: 1,
+        session: FIRST_SESSION,
         base_sequence: 1,
         half_len,
     };
@@ -84,9 +91,12 @@ pub(crate) fn format_on<D: Disk>(disk: &mut D) -> Result<(), FormatFault>
     ensures too_small { IsErrOf result TooSmall ↔ (D.sectors disk.old < 131) }
     ensures untouched { IsErrOf result TooSmall → disk.new ≡ disk.old }
     ensures already { D.honest → IsErrOf result AlreadyFormatted → (root : Root) × HasRoot root (D.reads disk.old) }
-    ensures kept { D.honest → IsErrOf result AlreadyFormatted → D.reads disk.new ≡ D.reads disk.old }
+    ensures passed { IsErrOf result AlreadyFormatted → D.failures disk.new ≡ D.failures disk.old }
+    ensures spared { D.honest → (root : Root) → HasRoot root (D.reads disk.old) → D.reads disk.new ≡ D.reads disk.old }
+    ensures spares_images { D.honest → (root : Root) → HasRoot root (D.reads disk.old) → LeavesOnly D.moment D.images_since disk.old disk.new (IsImage (D.choices disk.old)) }
+    ensures any_moment { D.honest → LeavesOnly D.moment D.images_since disk.old disk.new (IsFormatting (half_len_of (D.sectors disk.old)) (D.choices disk.old)) }
     ensures never_over { D.honest → (root : Root) → HasRoot root (D.reads disk.old) → OnOk result ⊥ }
-    ensures ready { D.honest → OnOk result (IsReadyFor (half_len_of (D.sectors disk.old)) empty_state (D.reads disk.new)) }
+    ensures ready { D.honest → OnOk result (IsReadyFor (half_len_of (D.sectors disk.old)) (first_root (half_len_of (D.sectors disk.old))) empty_state (D.reads disk.new)) }
     ensures durable { D.honest → OnOk result (D.choices disk.new ≡ settled (D.reads disk.new)) }
     ensures device { IsErrOf result Device → HasRisen (D.failures disk.old) (D.failures disk.new) }
     ensures count { D.sectors disk.new ≡ D.sectors disk.old }

@@ -10,6 +10,9 @@
 //! compaction stands for another state than the one before or the one after. So a stop within any call of the
 //! disk leaves an image that is opened as one of the two, and what was answered with `Ok` is there.
 //!
+//! An image of version 1 opens too: behind the session's root it is compacted into an image of version 2, which is
+//! what every store keeps. There is no way back.
+//!
 //! An append is a group and one sync. A compaction is the whole state as a base group in the other half, a
 //! sync, the next root and a sync. An open reads each sector that it needs once.
 #![tactic(auto)]

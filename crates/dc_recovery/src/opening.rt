@@ -1,17 +1,19 @@
 //! Opening an image.
 
-ghost use Rattle.std.specs.Prelude.{◌≡◌, ◌⊎◌, ◌<◌, ◌≤◌, ◌+◌, ◌-◌, ◌*◌, ◌^◌, ℕ, IfOk, IfErr, OnOk, IsErrOf};
+ghost use Rattle.std.specs.Prelude.{◌≡◌, ◌≢◌, ◌⊎◌, ◌<◌, ◌≤◌, ◌+◌, ◌-◌, ◌*◌, ◌^◌, ◌↔◌, ℕ, IsTrue, IfOk, IfErr, OnOk, IsErrOf};
 ghost use Rattle.dc_base.specs.Failures.{HasRisen};
 ghost use Rattle.dc_sectors.specs.Disk.{Image, IsImage, LeavesOnly, settled};
 ghost use Rattle.dc_recovery.specs.declared.fault.OpenFault.TheVariants.{Device};
 ghost use Rattle.dc_recovery.specs.Halves.{half_end, budget_of};
 ghost use Rattle.dc_recovery.specs.Language.{State};
-ghost use Rattle.dc_recovery.specs.Roots.{opened};
-ghost use Rattle.dc_recovery.specs.Stands.{IsRead, IsReady, StandsBy, Stands, Reads, EachStands, StandsForOne};
-ghost use Rattle.dc_recovery.specs.Refusal.{IsRefused, IsWorn, TellsOfImage};
+ghost use Rattle.dc_recovery.specs.Roots.{opened, IsOpenedRoot};
+ghost use Rattle.dc_recovery.specs.Stands.{image_version, IsRead, IsReady, IsBegun, StandsBy, Stands, ReadsBy, Reads, EachStands, StandsForOne};
+ghost use Rattle.dc_roots.specs.declared.root.Root.{Root};
+ghost use Rattle.dc_recovery.specs.Refusal.{IsRefused, IsSpent, IsWorn};
 
 use crate::OpenFault;
-use crate::reading::{Found, read_image};
+use crate::compacting::compact_into_other_half;
+use crate::reading::{Found, VERSION, read_image};
 use crate::rooting::put_root;
 use dc_roots::Root;
 use dc_sectors::{Disk, Failed};
@@ -44,24 +46,84 @@ fn begin_session<D: Disk>(disk: &mut D, root: &Root) -> Result<Root, OpenFault>
     }
 }
 
+/// No session can begin on an image with that root, behind a group of that sequence.
+fn is_spent(root: &Root, last: u64) -> bool
+    ensures { IsTrue result ↔ IsSpent root.now last }
+{
+    if root.generation == u64::MAX || root.session == u64::MAX {
+        return true;
+    }
+    root.version != VERSION && (root.generation == u64::MAX - 1 || last >= u64::MAX - 1)
+}
+
+/// Begins a session on the image that was read. An image of version 1 is then compacted into one of this version.
+fn begin<A: Allocator + Copy, D: Disk>(
+    disk: &mut D,
+    found: &mut Found<A>,
+    half_len: u32,
+) -> Result<(), OpenFault>
+    requires half { found.old.root.half ≤ 1 }
+    requires some { 64 ≤ half_len }
+    requires most { half_len ≤ 65536 }
+    requires fits { 3 + 2 * half_len ≤ D.sectors disk.old }
+    requires budget { found.old.house.budget ≡ budget_of half_len }
+    requires within { found.old.place ≤ half_end half_len found.old.root.half }
+    requires unspent { IsSpent found.old.root found.old.last → ⊥ }
+    ensures root { OnOk result (IsOpenedRoot found.old.root found.old.last found.new.root) }
+    ensures version { OnOk result (found.new.root.version ≡ image_version) }
+    ensures house { found.new.house ≡ found.old.house }
+    ensures only_device { IfErr result (λ fault. fault ≡ Device) }
+    ensures ready { D.honest → D.choices disk.old ≡ settled (D.reads disk.old) → (m : ℕ) → StandsBy half_len found.old.root m found.old.place found.old.house.state (D.reads disk.old)
+        → found.old.last ≡ found.old.root.base_sequence + m → OnOk result (IsBegun half_len found.new.root found.new.place found.new.last found.old.house.state (D.reads disk.new)) }
+    ensures durable { D.honest → OnOk result (D.choices disk.new ≡ settled (D.reads disk.new)) }
+    ensures any_moment { D.honest → D.choices disk.old ≡ settled (D.reads disk.old) → (m : ℕ) → StandsBy half_len found.old.root m found.old.place found.old.house.state (D.reads disk.old)
+        → found.old.last ≡ found.old.root.base_sequence + m → LeavesOnly D.moment D.images_since disk.old disk.new (Stands half_len found.old.house.state) }
+    ensures half { OnOk result (found.new.root.half ≤ 1) }
+    ensures within { OnOk result (found.new.place ≤ half_end half_len found.new.root.half) }
+    ensures device { IsErrOf result Device → HasRisen (D.failures disk.old) (D.failures disk.new) }
+    ensures count { D.sectors disk.new ≡ D.sectors disk.old }
+    ensures failures { D.failures disk.old ≤ D.failures disk.new }
+{
+    let begun = begin_session(disk, &found.root)?;
+    if begun.version == VERSION {
+        found.root = begun;
+        return Ok(());
+    }
+    let next = found.last + 1;
+    match compact_into_other_half(disk, &begun, half_len, next, &found.house) {
+        Ok((root, place)) => {
+            found.root = root;
+            found.place = place;
+            found.last = next;
+            Ok(())
+        }
+        Err(Failed) => Err(OpenFault::Device),
+    }
+}
+
 /// Syncs, reads the image, and begins a session.
 pub(crate) fn open_on<A: Allocator + Copy, D: Disk>(
     alloc: A,
     disk: &mut D,
     half_len: u32,
 ) -> Result<Found<A>, OpenFault>
+    requires some { 64 ≤ half_len }
     requires most { half_len ≤ 65536 }
     requires fits { 3 + 2 * half_len ≤ D.sectors disk.old }
     ensures reads { D.honest → IfOk result (λ found. Reads half_len found.house.state (D.reads disk.old)) }
     ensures refused { D.honest → IfErr result (λ fault. IsRefused half_len (D.reads disk.old) fault) }
-    ensures unwritten { D.honest → IfErr result (λ fault. TellsOfImage fault → D.reads disk.new ≡ D.reads disk.old) }
+    ensures unwritten { D.honest → IfErr result (λ fault. fault ≢ Device → D.reads disk.new ≡ D.reads disk.old) }
+    ensures spares_images { D.honest → IfErr result (λ fault. fault ≢ Device → LeavesOnly D.moment D.images_since disk.old disk.new (IsImage (D.choices disk.old))) }
+    ensures root { D.honest → IfOk result (λ found. (root : Root) × (m : ℕ) × (place : ℕ) × ReadsBy half_len root m place found.house.state (D.reads disk.old) × IsOpenedRoot root (root.base_sequence + m) found.root) }
+    ensures version { IfOk result (λ found. found.root.version ≡ image_version) }
     ensures not_worn { D.honest → OnOk result (IsWorn half_len (D.reads disk.old) → ⊥) }
-    ensures ready { D.honest → EachStands half_len (D.choices disk.old) → IfOk result (λ found. (m : ℕ) × IsReady half_len found.root m found.place found.house.state (D.reads disk.new) × (found.last ≡ found.root.base_sequence + m)) }
+    ensures ready { D.honest → EachStands half_len (D.choices disk.old) → IfOk result (λ found. IsBegun half_len found.root found.place found.last found.house.state (D.reads disk.new)) }
     ensures durable { D.honest → OnOk result (D.choices disk.new ≡ settled (D.reads disk.new)) }
     ensures any_moment { D.honest → EachStands half_len (D.choices disk.old) → LeavesOnly D.moment D.images_since disk.old disk.new (StandsForOne half_len (D.choices disk.old)) }
     ensures budget { IfOk result (λ found. found.house.budget ≡ budget_of half_len) }
     ensures half { IfOk result (λ found. found.root.half ≤ 1) }
     ensures within { IfOk result (λ found. found.place ≤ half_end half_len found.root.half) }
+    ensures passed { IfErr result (λ fault. fault ≢ Device → D.failures disk.new ≡ D.failures disk.old) }
     ensures device { IsErrOf result Device → HasRisen (D.failures disk.old) (D.failures disk.new) }
     ensures count { D.sectors disk.new ≡ D.sectors disk.old }
     ensures failures { D.failures disk.old ≤ D.failures disk.new }
@@ -71,10 +133,9 @@ pub(crate) fn open_on<A: Allocator + Copy, D: Disk>(
         Err(Failed) => return Err(OpenFault::Device),
     }
     let mut found = read_image(alloc, disk, half_len)?;
-    let root = found.root;
-    if root.generation == u64::MAX || root.session == u64::MAX {
+    if is_spent(&found.root, found.last) {
         return Err(OpenFault::Worn);
     }
-    found.root = begin_session(disk, &root)?;
+    begin(disk, &mut found, half_len)?;
     Ok(found)
 }

@@ -2,52 +2,48 @@
 
 ghost use Rattle.std.specs.Prelude.{true, false, ◌≡◌, ◌≢◌, ◌⊎◌, ◌<◌, ◌≤◌, ◌+◌, ◌-◌, ◌*◌, ◌^◌, List, ℕ, zero, suc, IfOk, IfErr, OnOk, OnErr, IsErrOf};
 ghost use Rattle.dc_base.specs.Failures.{HasRisen};
-ghost use Rattle.dc_sectors.specs.Disk.{Image, IsImage, LeavesOnly};
+ghost use Rattle.dc_recovery.specs.Looked.{OnlyLooked};
 ghost use Rattle.dc_roots.specs.declared.root.Root.{Root};
 ghost use Rattle.dc_recovery.specs.declared.fault.OpenFault.{OpenFault};
 ghost use Rattle.dc_recovery.specs.declared.fault.OpenFault.TheVariants.{Device};
 ghost use Rattle.dc_recovery.specs.Halves.{half_end, budget_of};
 ghost use Rattle.dc_recovery.specs.Language.{State};
-ghost use Rattle.dc_recovery.specs.Stands.{image_version, IsSequence, IsCurrent, IsReached, IsRead, Holds, ReadsBy, Reads};
-ghost use Rattle.dc_pages.specs.Group.{change_kind, IsComplete};
+ghost use Rattle.dc_recovery.specs.Stands.{IsSequence, IsCurrent, IsReached, IsRead, Holds, ReadsBy, Reads};
+ghost use Rattle.dc_pages.specs.Group.{change_kind, IsKnown, IsComplete};
 ghost use Rattle.dc_recovery.specs.Refusal.{IsRefused};
 
 use crate::OpenFault;
 use crate::halves::{budget_of, half_end, half_start};
-use dc_meters::{DecodeFault, House};
-use dc_pages::{GroupFault, read_group};
+use dc_changes::DecodeFault;
+use dc_meters::House;
+use dc_pages::{BASE, CHANGES, GroupFault, read_group};
 use dc_roots::{Root, RootFault, choose};
 use dc_sectors::Disk;
 use std::alloc::Allocator;
 
-/// The kind of a base page.
-pub(crate) const BASE: u8 = 0x42;
-
-/// The kind of a change page.
-pub(crate) const CHANGES: u8 = 0x50;
-
-/// The version of the image's sectors.
+/// The version of the sectors that are written.
 pub(crate) const VERSION: u8 = 2;
 
-/// Chooses the root in force, which has to be of this version and for halves of this length.
+/// The version of images that are read too, and that opening makes into images of this one.
+const FIRST_VERSION: u8 = 1;
+
+/// Chooses the root in force, which has to be of a known version and for halves of this length.
 fn current_root<D: Disk>(disk: &mut D, half_len: u32) -> Result<Root, OpenFault>
     requires { 2 < D.sectors disk.old }
     ensures current { D.honest → IfOk result (λ root. IsCurrent half_len root (D.reads disk.old)) }
     ensures half { IfOk result (λ root. root.half ≤ 1) }
+    ensures known { IfOk result (λ root. IsKnown root.version) }
     ensures refused { D.honest → IfErr result (λ fault. IsRefused half_len (D.reads disk.old) fault) }
     ensures device { IsErrOf result Device → HasRisen (D.failures disk.old) (D.failures disk.new) }
-    ensures reads { D.honest → D.reads disk.new ≡ D.reads disk.old }
-    ensures choices { D.honest → D.choices disk.new ≡ D.choices disk.old }
-    ensures any_moment { D.honest → LeavesOnly D.moment D.images_since disk.old disk.new (IsImage (D.choices disk.old)) }
-    ensures count { D.sectors disk.new ≡ D.sectors disk.old }
-    ensures failures { D.failures disk.old ≤ D.failures disk.new }
+    ensures passed { (IsErrOf result Device → ⊥) → D.failures disk.new ≡ D.failures disk.old }
+    ensures looked { OnlyLooked D.honest D.reads D.choices D.moment D.images_since D.sectors D.failures disk.old disk.new }
 {
     match choose(disk) {
         Ok(root) => {
-            if root.version != VERSION {
+            if root.version != VERSION && root.version != FIRST_VERSION {
                 Err(OpenFault::Version)
             } else if root.half_len != half_len {
-                Err(OpenFault::Damaged(1 + (root.generation % 2) as u32))
+                Err(OpenFault::Damaged(root.slot()))
             } else {
                 Ok(root)
             }
@@ -83,15 +79,20 @@ fn read_base<A: Allocator + Copy, D: Disk>(
     ensures within { IfOk result (λ found. found.place ≤ half_end half_len root.half) }
     ensures refused { D.honest → IsCurrent half_len root (D.reads disk.old) → IfErr result (λ fault. IsRefused half_len (D.reads disk.old) fault) }
     ensures device { IsErrOf result Device → HasRisen (D.failures disk.old) (D.failures disk.new) }
-    ensures reads { D.honest → D.reads disk.new ≡ D.reads disk.old }
-    ensures choices { D.honest → D.choices disk.new ≡ D.choices disk.old }
-    ensures any_moment { D.honest → LeavesOnly D.moment D.images_since disk.old disk.new (IsImage (D.choices disk.old)) }
-    ensures count { D.sectors disk.new ≡ D.sectors disk.old }
-    ensures failures { D.failures disk.old ≤ D.failures disk.new }
+    ensures passed { (IsErrOf result Device → ⊥) → D.failures disk.new ≡ D.failures disk.old }
+    ensures looked { OnlyLooked D.honest D.reads D.choices D.moment D.images_since D.sectors D.failures disk.old disk.new }
 {
     let start = half_start(half_len, root.half);
     let limit = half_end(half_len, root.half);
-    let group = match read_group(alloc, disk, start, limit, BASE, VERSION, root.base_sequence) {
+    let group = match read_group(
+        alloc,
+        disk,
+        start,
+        limit,
+        BASE,
+        root.version,
+        root.base_sequence,
+    ) {
         Ok(group) => group,
         Err(GroupFault::Incomplete(sector)) => return Err(OpenFault::Damaged(sector)),
         Err(GroupFault::Device) => return Err(OpenFault::Device),
@@ -121,7 +122,7 @@ fn read_next<A: Allocator + Copy, D: Disk>(
     ensures more { D.honest → (half_len : ℕ) → limit ≡ half_end half_len found.old.root.half → found.old.house.budget ≡ budget_of half_len
         → IsReached half_len found.old.root found.old.place found.old.last found.old.house.state (D.reads disk.old)
         → OnOk result (IsReached half_len found.new.root found.new.place found.new.last found.new.house.state (D.reads disk.old)) }
-    ensures none { D.honest → result ≡ Ok false → (sequence : ℕ) → sequence ≡ found.new.last + 1 → IsSequence sequence → IsComplete image_version change_kind sequence found.new.place limit (D.reads disk.old) → ⊥ }
+    ensures none { D.honest → result ≡ Ok false → (sequence : ℕ) → sequence ≡ found.new.last + 1 → IsSequence sequence → IsComplete found.new.root.version change_kind sequence found.new.place limit (D.reads disk.old) → ⊥ }
     ensures refused { D.honest → (half_len : ℕ) → limit ≡ half_end half_len found.old.root.half → found.old.house.budget ≡ budget_of half_len
         → IsReached half_len found.old.root found.old.place found.old.last found.old.house.state (D.reads disk.old)
         → IfErr result (λ fault. IsRefused half_len (D.reads disk.old) fault) }
@@ -129,17 +130,22 @@ fn read_next<A: Allocator + Copy, D: Disk>(
     ensures within { OnOk result (found.new.place ≤ limit) }
     ensures kept { (found.new.root ≡ found.old.root) × (found.new.house.budget ≡ found.old.house.budget) }
     ensures device { IsErrOf result Device → HasRisen (D.failures disk.old) (D.failures disk.new) }
-    ensures reads { D.honest → D.reads disk.new ≡ D.reads disk.old }
-    ensures choices { D.honest → D.choices disk.new ≡ D.choices disk.old }
-    ensures any_moment { D.honest → LeavesOnly D.moment D.images_since disk.old disk.new (IsImage (D.choices disk.old)) }
-    ensures count { D.sectors disk.new ≡ D.sectors disk.old }
-    ensures failures { D.failures disk.old ≤ D.failures disk.new }
+    ensures passed { (IsErrOf result Device → ⊥) → D.failures disk.new ≡ D.failures disk.old }
+    ensures looked { OnlyLooked D.honest D.reads D.choices D.moment D.images_since D.sectors D.failures disk.old disk.new }
 {
     if found.last == u64::MAX {
         return Ok(false);
     }
     let next = found.last + 1;
-    let group = match read_group(alloc, disk, found.place, limit, CHANGES, VERSION, next) {
+    let group = match read_group(
+        alloc,
+        disk,
+        found.place,
+        limit,
+        CHANGES,
+        found.root.version,
+        next,
+    ) {
         Ok(group) => group,
         Err(GroupFault::Incomplete(_)) => return Ok(false),
         Err(GroupFault::Device) => return Err(OpenFault::Device),
@@ -174,11 +180,8 @@ fn read_groups<A: Allocator + Copy, D: Disk>(
     ensures root { found.new.root ≡ found.old.root }
     ensures budget { found.new.house.budget ≡ found.old.house.budget }
     ensures device { IsErrOf result Device → HasRisen (D.failures disk.old) (D.failures disk.new) }
-    ensures reads { D.honest → D.reads disk.new ≡ D.reads disk.old }
-    ensures choices { D.honest → D.choices disk.new ≡ D.choices disk.old }
-    ensures any_moment { D.honest → LeavesOnly D.moment D.images_since disk.old disk.new (IsImage (D.choices disk.old)) }
-    ensures count { D.sectors disk.new ≡ D.sectors disk.old }
-    ensures failures { D.failures disk.old ≤ D.failures disk.new }
+    ensures passed { (IsErrOf result Device → ⊥) → D.failures disk.new ≡ D.failures disk.old }
+    ensures looked { OnlyLooked D.honest D.reads D.choices D.moment D.images_since D.sectors D.failures disk.old disk.new }
 {
     'groups: while read_next(alloc, disk, found, limit)? {}
     Ok(())
@@ -196,13 +199,11 @@ pub(crate) fn read_image<A: Allocator + Copy, D: Disk>(
     ensures refused { D.honest → IfErr result (λ fault. IsRefused half_len (D.reads disk.old) fault) }
     ensures budget { IfOk result (λ found. found.house.budget ≡ budget_of half_len) }
     ensures half { IfOk result (λ found. found.root.half ≤ 1) }
+    ensures known { IfOk result (λ found. IsKnown found.root.version) }
     ensures within { IfOk result (λ found. found.place ≤ half_end half_len found.root.half) }
     ensures device { IsErrOf result Device → HasRisen (D.failures disk.old) (D.failures disk.new) }
-    ensures reads { D.honest → D.reads disk.new ≡ D.reads disk.old }
-    ensures choices { D.honest → D.choices disk.new ≡ D.choices disk.old }
-    ensures any_moment { D.honest → LeavesOnly D.moment D.images_since disk.old disk.new (IsImage (D.choices disk.old)) }
-    ensures count { D.sectors disk.new ≡ D.sectors disk.old }
-    ensures failures { D.failures disk.old ≤ D.failures disk.new }
+    ensures passed { (IsErrOf result Device → ⊥) → D.failures disk.new ≡ D.failures disk.old }
+    ensures looked { OnlyLooked D.honest D.reads D.choices D.moment D.images_since D.sectors D.failures disk.old disk.new }
 {
     let root = current_root(disk, half_len)?;
     let mut found = read_base(alloc, disk, root, half_len)?;

@@ -1,17 +1,18 @@
 //! The store: an image that is open.
 
-ghost use Rattle.std.specs.Prelude.{◌≡◌, ◌⊎◌, ◌<◌, ◌≤◌, ◌+◌, ◌*◌, ◌-◌, ◌^◌, ◌↔◌, List, ℕ, length, true, false, IsTrue, IfOk, IfErr, OnOk, MatchResult, IsErrOf, Err};
+ghost use Rattle.std.specs.Prelude.{◌≡◌, ◌≢◌, ◌⊎◌, ◌<◌, ◌≤◌, ◌+◌, ◌*◌, ◌-◌, ◌^◌, ◌↔◌, List, ℕ, length, true, false, IsTrue, IfOk, IfErr, OnOk, MatchResult, IsErrOf, Err};
 ghost use Rattle.dc_base.specs.Failures.{HasRisen};
 ghost use Rattle.dc_sectors.specs.Disk.{Image, IsImage, LeavesOnly, settled};
 ghost use Rattle.dc_roots.specs.declared.root.Root.{Root};
-ghost use Rattle.dc_roots.specs.Choice.{HasRoot};
+ghost use Rattle.dc_roots.specs.Choice.{HasRoot, IsChosen};
 ghost use Rattle.dc_recovery.specs.Refusal.{IsRefused, IsWorn, TellsOfImage};
 ghost use Rattle.dc_recovery.specs.declared.fault.OpenFault.TheVariants.{NotImage, Worn as OpenWorn, Device as OpenDevice};
 ghost use Rattle.dc_recovery.specs.declared.fault.FormatFault.TheVariants.{TooSmall, AlreadyFormatted, Device as FormatDevice};
 ghost use Rattle.dc_recovery.specs.declared.fault.StoreFault.TheVariants.{Device as StoreDevice, Worn as StoreWorn, Stopped};
 ghost use Rattle.dc_recovery.specs.Halves.{half_len_of, half_end, budget_of};
+ghost use Rattle.dc_recovery.specs.Roots.{first_root, compacted, IsOpenedRoot};
 ghost use Rattle.dc_recovery.specs.Language.{State, Change, SpellsChanges, AcceptsAll, after, empty_state};
-ghost use Rattle.dc_recovery.specs.Stands.{EachStands, StandsForOne, StandsForEither, Stands, Reads};
+ghost use Rattle.dc_recovery.specs.Stands.{EachStands, StandsForOne, StandsForEither, Stands, ReadsBy, Reads, IsFormatting, image_version};
 
 use crate::appending::append_group;
 use crate::compacting::compact_into_other_half;
@@ -57,19 +58,31 @@ impl<D: Disk + Drop> Store<D> {
     /// # Errors
     ///
     /// `TooSmall` under 131 sectors; `AlreadyFormatted` where no call failed and a slot has a valid root. Both
-    /// write nothing. `Device` where a call failed; what the disk holds then isn't said.
+    /// write nothing. `Device` where a call failed: nothing was written where a slot had a valid root.
     pub fn format(mut disk: D) -> Result<D, (FormatFault, D)>
         ensures small { D.sectors disk < 131 → result ≡ Err (TooSmall, disk) }
         ensures too_small { IfErr result (λ e. e.0 ≡ TooSmall → D.sectors disk < 131) }
         ensures already { D.honest → IfErr result (λ e. e.0 ≡ AlreadyFormatted → (root : Root) × HasRoot root (D.reads disk)) }
-        ensures kept { D.honest → IfErr result (λ e. e.0 ≡ AlreadyFormatted → D.reads e.1 ≡ D.reads disk) }
         ensures never_over { D.honest → (root : Root) → HasRoot root (D.reads disk) → OnOk result ⊥ }
         ensures device { IfErr result (λ e. e.0 ≡ FormatDevice → HasRisen (D.failures disk) (D.failures e.1)) }
+        ensures passed { IfErr result (λ e. e.0 ≡ AlreadyFormatted → D.failures e.1 ≡ D.failures disk) }
 
-        // Each image of the disk stands for the empty register.
+        // Where a slot had a valid root, the disk reads as before, and each image of every moment is one of those before.
+        ensures spared { D.honest → (root : Root) → HasRoot root (D.reads disk) → IfErr result (λ e. D.reads e.1 ≡ D.reads disk) }
+        ensures spares_images { D.honest → (root : Root) → HasRoot root (D.reads disk)
+            → IfErr result (λ e. LeavesOnly D.moment D.images_since disk e.1 (IsImage (D.choices disk))) }
+
+        // On the way each image is one of those before, has no valid root, or stands for the empty register.
+        ensures any_moment { D.honest → MatchResult result (λ d. LeavesOnly D.moment D.images_since disk d (IsFormatting (half_len_of (D.sectors disk)) (D.choices disk)))
+            (λ e. LeavesOnly D.moment D.images_since disk e.1 (IsFormatting (half_len_of (D.sectors disk)) (D.choices disk))) }
+
+        // Each image of the disk stands for the empty register, by the first root.
         ensures formatted { D.honest → IfOk result (λ d. (image : Image) → IsImage (D.choices d) image
             → Stands (half_len_of (D.sectors d)) empty_state image) }
-        ensures count { IfOk result (λ d. D.sectors d ≡ D.sectors disk) }
+        ensures root { D.honest → IfOk result (λ d. IsChosen (first_root (half_len_of (D.sectors d))) (D.reads d)) }
+        ensures durable { D.honest → IfOk result (λ d. D.choices d ≡ settled (D.reads d)) }
+        ensures count { MatchResult result (λ d. D.sectors d ≡ D.sectors disk) (λ e. D.sectors e.1 ≡ D.sectors disk) }
+        ensures failures { MatchResult result (λ d. D.failures disk ≤ D.failures d) (λ e. D.failures disk ≤ D.failures e.1) }
     {
         match format_on(&mut disk) {
             Ok(()) => Ok(disk),
@@ -77,7 +90,8 @@ impl<D: Disk + Drop> Store<D> {
         }
     }
 
-    /// Opens the image: reads the state, and begins a session by the next root.
+    /// Opens the image: reads the state, and begins a session by the next root. An image of version 1 becomes one of
+    /// version 2: behind the session's root the whole state goes into the other half, and the root after it names that.
     ///
     /// # Errors
     ///
@@ -91,9 +105,17 @@ impl<D: Disk + Drop> Store<D> {
         // Ok gives exactly the state that the image reads as, and a refusal is a fact of the image.
         ensures reads { D.honest → IfOk result (λ o. Reads (half_len_of (D.sectors disk)) o.1.state (D.reads disk)) }
         ensures refused { D.honest → 131 ≤ D.sectors disk → IfErr result (λ e. IsRefused (half_len_of (D.sectors disk)) (D.reads disk) e.0) }
-        ensures unwritten { D.honest → IfErr result (λ e. TellsOfImage e.0 → D.reads e.1 ≡ D.reads disk) }
+        ensures version { IfOk result (λ o. o.0.root.version ≡ image_version) }
+        ensures root { D.honest → IfOk result (λ o. (root : Root) × (m : ℕ) × (place : ℕ) × ReadsBy (half_len_of (D.sectors disk)) root m place o.1.state (D.reads disk)
+            × IsOpenedRoot root (root.base_sequence + m) o.0.root) }
+
+        // Unless the device failed, a refusal wrote nothing: the disk reads as before, and so does each image of every moment.
+        ensures unwritten { D.honest → IfErr result (λ e. e.0 ≢ OpenDevice → D.reads e.1 ≡ D.reads disk) }
+        ensures spares_images { D.honest → IfErr result (λ e. e.0 ≢ OpenDevice → LeavesOnly D.moment D.images_since disk e.1 (IsImage (D.choices disk))) }
         ensures not_worn { D.honest → OnOk result (IsWorn (half_len_of (D.sectors disk)) (D.reads disk) → ⊥) }
         ensures device { IfErr result (λ e. e.0 ≡ OpenDevice → HasRisen (D.failures disk) (D.failures e.1)) }
+        ensures passed { IfErr result (λ e. e.0 ≢ OpenDevice → D.failures e.1 ≡ D.failures disk) }
+        ensures failures { MatchResult result (λ o. D.failures disk ≤ D.failures o.0.disk) (λ e. D.failures disk ≤ D.failures e.1) }
 
         // Where each image stands for some state, a stop leaves one that stands for a state that one of them stood for.
         ensures kept { D.honest → EachStands (half_len_of (D.sectors disk)) (D.choices disk) → IfOk result (λ o. Keeps D.sectors D.reads D.choices o.0 o.1.state) }
@@ -107,7 +129,7 @@ impl<D: Disk + Drop> Store<D> {
         ensures durable { D.honest → IfOk result (λ o. D.choices o.0.disk ≡ settled (D.reads o.0.disk)) }
         ensures running { IfOk result (λ o. o.0.is_stopped ≡ false) }
         ensures budget { IfOk result (λ o. o.1.budget ≡ budget_of (half_len_of (D.sectors disk))) }
-        ensures count { IfOk result (λ o. D.sectors o.0.disk ≡ D.sectors disk) }
+        ensures count { MatchResult result (λ o. D.sectors o.0.disk ≡ D.sectors disk) (λ e. D.sectors e.1 ≡ D.sectors disk) }
     {
         let count = disk.count();
         if count < FEWEST_SECTORS {
@@ -141,6 +163,13 @@ impl<D: Disk + Drop> Store<D> {
         budget_of(half_len_of(self.disk.count()))
     }
 
+    /// Whether a failure of the disk has stopped the store.
+    pub fn is_stopped(&self) -> bool
+        ensures { result ≡ self.now.is_stopped }
+    {
+        self.is_stopped
+    }
+
     /// Whether a group of so many bytes fits in the half's rest: its pages of 488 bytes, and one commit sector.
     pub fn fits(&self, len: usize) -> bool
         ensures { IsTrue result ↔ Fits (D.sectors self.now.disk) self.now len }
@@ -164,6 +193,9 @@ impl<D: Disk + Drop> Store<D> {
         ensures unchanged { IsErrOf result Stopped ⊎ IsErrOf result StoreWorn → self.new ≡ self.old }
         ensures device { IsErrOf result StoreDevice → HasRisen (D.failures self.old.disk) (D.failures self.new.disk) }
         ensures stops { IsErrOf result StoreDevice → self.new.is_stopped ≡ true }
+        ensures running { OnOk result (self.new.is_stopped ≡ false) }
+        ensures root { self.new.root ≡ self.old.root }
+        ensures last { OnOk result (self.new.last ≡ self.old.last + 1) }
 
         // The changes are accepted in turn in the state that the store keeps.
         ensures kept { D.honest → (was : State) (changes : List Change) → Keeps D.sectors D.reads D.choices self.old was → SpellsChanges bytes.now changes
@@ -195,8 +227,8 @@ impl<D: Disk + Drop> Store<D> {
         }
     }
 
-    /// Writes the house's whole state as the base group of the other half, and puts that half in force. Where
-    /// the house is the state that the store keeps, no image on the way stands for another.
+    /// Writes the house's whole state as the base group of the other half, and puts that half in force. Each image
+    /// on the way stands for the state that the store keeps or for the house's, and in the end for the house's.
     ///
     /// # Errors
     ///
@@ -209,9 +241,12 @@ impl<D: Disk + Drop> Store<D> {
         ensures unchanged { IsErrOf result Stopped ⊎ IsErrOf result StoreWorn → self.new ≡ self.old }
         ensures device { IsErrOf result StoreDevice → HasRisen (D.failures self.old.disk) (D.failures self.new.disk) }
         ensures stops { IsErrOf result StoreDevice → self.new.is_stopped ≡ true }
-        ensures kept { D.honest → Keeps D.sectors D.reads D.choices self.old house.now.state → OnOk result (Keeps D.sectors D.reads D.choices self.new house.now.state) }
-        ensures any_moment { D.honest → Keeps D.sectors D.reads D.choices self.old house.now.state
-            → LeavesOnly D.moment D.images_since self.old.disk self.new.disk (Stands (half_len_of (D.sectors self.old.disk)) house.now.state) }
+        ensures running { OnOk result (self.new.is_stopped ≡ false) }
+        ensures root { OnOk result (self.new.root ≡ compacted self.old.root (self.old.last + 1)) }
+        ensures last { OnOk result (self.new.last ≡ self.old.last + 1) }
+        ensures kept { D.honest → (was : State) → Keeps D.sectors D.reads D.choices self.old was → OnOk result (Keeps D.sectors D.reads D.choices self.new house.now.state) }
+        ensures any_moment { D.honest → (was : State) → Keeps D.sectors D.reads D.choices self.old was
+            → LeavesOnly D.moment D.images_since self.old.disk self.new.disk (StandsForEither (half_len_of (D.sectors self.old.disk)) was house.now.state) }
         ensures count { D.sectors self.new.disk ≡ D.sectors self.old.disk }
         ensures failures { D.failures self.old.disk ≤ D.failures self.new.disk }
     {

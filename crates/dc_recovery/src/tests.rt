@@ -2,19 +2,22 @@
 ghost use Rattle.std.specs.Prelude.{ℕ, IfOk, IfSome};
 ghost use Rattle.std.specs.List.{AllZip};
 ghost use Rattle.dc_sectors.specs.Memory.{IsPickFor};
-ghost use Rattle.dc_meters.specs.Valid.{IsChange, IsNumber};
+ghost use Rattle.dc_changes.specs.Valid.{IsChange, IsNumber};
 
 mod faults;
+mod files;
 mod formats;
 mod lives;
 mod roots;
+mod upgrades;
 
 use crate::{OpenFault, Store, StoreFault};
 use dc_address::{Identity, Primary};
 use dc_base::NoMemory;
-use dc_meters::{Body, Change, Command, Flat, House, encode_change};
-use dc_records::Bytes;
+use dc_changes::{Body, Change, Command, Flat, encode_change};
+use dc_meters::House;
 use dc_sectors::{Disk, MemoryDisk, Pick};
+use dc_stream::Bytes;
 use std::alloc::{Allocator, Global};
 use std::process::Abort;
 use std::test::Fail;
@@ -71,6 +74,23 @@ fn formatted(rt: &impl Abort, alloc: Global) -> Result<MemoryDisk<Global>, Fail>
         }
         Err((fault, _)) => Err(Fail::from(fault)),
     }
+}
+
+/// Each sector of the two disks reads alike.
+fn reads_alike(
+    rt: &impl Abort,
+    one: &mut MemoryDisk<Global>,
+    other: &mut MemoryDisk<Global>,
+) -> bool {
+    assert_eq!(rt; one.count(), other.count());
+    for n in 0..one.count() {
+        assert!(rt; n < one.count());
+        assert!(rt; n < other.count());
+        if one.read(n) != other.read(n) {
+            return false;
+        }
+    }
+    true
 }
 
 /// A store that is open, and the house beside it.
@@ -164,19 +184,33 @@ fn pick_of(way: usize, writes: usize) -> Pick
     }
 }
 
-/// The picks of an image by its number, if a stop has so many.
+/// Which image a stop leaves: one by its number, whose digits are the sectors' ways, or all sectors in one way.
+#[derive(Clone, Copy)]
+enum Left {
+    Number(usize),
+    Alike(usize),
+}
+
+/// The picks of an image, if a stop has it.
 fn picks_of(
     alloc: Global,
     pending: &[(u32, usize)],
-    number: usize,
+    left: Left,
 ) -> Result<Option<Vec<Pick>>, NoMemory>
     ensures { IfOk result (λ picks. IfSome picks (λ p. AllZip IsPickFor pending.now p.items)) }
 {
-    let mut rest = number;
+    let mut rest = match left {
+        Left::Number(number) => number,
+        Left::Alike(_) => 0,
+    };
     let mut picks = Vec::new(alloc);
     for &(_, writes) in pending {
         let ways = writes.saturating_add(2);
-        picks.push(pick_of(rest % ways, writes))?;
+        let way = match left {
+            Left::Number(_) => rest % ways,
+            Left::Alike(way) => way,
+        };
+        picks.push(pick_of(way, writes))?;
         rest /= ways;
     }
     if rest > 0 {
@@ -185,14 +219,19 @@ fn picks_of(
     Ok(Some(picks))
 }
 
-/// Stops the disk with the image of that number, if there is one.
-fn stop_at(alloc: Global, disk: &mut MemoryDisk<Global>, number: usize) -> Result<bool, Fail> {
+/// Stops the disk with that image, if there is one.
+fn stop(alloc: Global, disk: &mut MemoryDisk<Global>, left: Left) -> Result<bool, Fail> {
     let pending = disk.pending()?;
-    match picks_of(alloc, pending.as_slice(), number)? {
+    match picks_of(alloc, pending.as_slice(), left)? {
         Some(picks) => {
             disk.stop(picks.as_slice());
             Ok(true)
         }
         None => Ok(false),
     }
+}
+
+/// Stops the disk with the image of that number, if there is one.
+fn stop_at(alloc: Global, disk: &mut MemoryDisk<Global>, number: usize) -> Result<bool, Fail> {
+    stop(alloc, disk, Left::Number(number))
 }

@@ -3,14 +3,15 @@
 ghost use Rattle.std.specs.Prelude.{◌≡◌, ◌<◌, ◌≤◌, ◌+◌, ◌*◌, length, IfOk, OnOk, OnErr};
 ghost use Rattle.dc_base.specs.Failures.{HasRisen};
 ghost use Rattle.dc_sectors.specs.Disk.{LeavesOnly, settled};
+ghost use Rattle.dc_pages.specs.Draft.{FitsAt};
 ghost use Rattle.dc_pages.specs.Streaming.{GoesInto, BreaksOff};
 ghost use Rattle.dc_recovery.specs.Language.{state_bytes};
 ghost use Rattle.dc_recovery.specs.Writing.{IsAttempt, IsWritten};
 
 use dc_meters::House;
 use dc_pages::{GroupSink, GroupWriter, Stamp};
-use dc_records::IoFault;
 use dc_sectors::{Disk, Failed};
+use dc_stream::IoFault;
 use std::alloc::Allocator;
 
 /// Where a group goes: its first sector, the number behind the half's last one, its kind and its stamp.
@@ -26,7 +27,7 @@ pub(crate) struct Place {
 /// Writes a group with these bytes, and answers how many sectors it has.
 pub(crate) fn write_group<D: Disk>(disk: &mut D, to: Place, bytes: &[u8]) -> Result<u32, Failed>
     requires some { 0 < length bytes.now }
-    requires room { 488 * to.at + length bytes.now + 488 ≤ 488 * to.limit }
+    requires room { FitsAt to.at to.limit (length bytes.now) }
     requires limit { to.limit ≤ D.sectors disk.old }
     ensures written { D.honest → D.choices disk.old ≡ settled (D.reads disk.old)
         → IfOk result (λ count. IsWritten to.version to.kind to.stamp.session to.stamp.sequence bytes.now to.at to.limit count (D.reads disk.old) (D.reads disk.new)) }
@@ -65,7 +66,7 @@ pub(crate) fn write_state<A: Allocator + Copy, D: Disk>(
     house: &House<A>,
 ) -> Result<u32, Failed>
     requires some { 0 < length (state_bytes house.now.state) }
-    requires room { 488 * to.at + length (state_bytes house.now.state) + 488 ≤ 488 * to.limit }
+    requires room { FitsAt to.at to.limit (length (state_bytes house.now.state)) }
     requires limit { to.limit ≤ D.sectors disk.old }
     ensures written { D.honest → D.choices disk.old ≡ settled (D.reads disk.old)
         → IfOk result (λ count. IsWritten to.version to.kind to.stamp.session to.stamp.sequence (state_bytes house.now.state) to.at to.limit count (D.reads disk.old) (D.reads disk.new)) }

@@ -1,1 +1,3 @@
-pub mod Writing
+pub mod Choices
+pub mod Spelled
+mod Writing

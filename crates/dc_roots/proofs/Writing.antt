@@ -2,7 +2,7 @@
 use Rattle.std.proofs.Common.{◌≡◌, ℕ, List, subst}
 use Rattle.dc_sectors.specs.Disk.{Image, Choices, IsImage, Elapses, LeavesOnly, added}
 use Rattle.dc_sectors.specs.Images.{image_within, within_added}
-use Rattle.dc_sectors.specs.Moments.{started, goes_on}
+use Rattle.dc_sectors.proofs.Moments.{started, goes_on}
 
 module _ {D : Type 0} (moment : D → ℕ) (images_since : D → ℕ → Image → Type 0) (old : D) (choices : Choices)
     (now : (image : Image) → images_since old (moment old) image → IsImage choices image) (n : ℕ) (bytes : List ℕ) where

@@ -1,4 +1,4 @@
-ghost use Rattle.std.specs.Prelude.{◌≡◌, ◌<◌, ◌≤◌, IfOk, OnErr, IsErrOf};
+ghost use Rattle.std.specs.Prelude.{◌≡◌, ◌<◌, ◌≤◌, IfOk, OnOk, OnErr, IsErrOf};
 ghost use Rattle.dc_base.specs.Failures.{HasRisen};
 ghost use Rattle.dc_sectors.specs.declared.sector.Sector.TheVariants.{Bytes};
 ghost use Rattle.dc_sectors.specs.Disk.{Image, IsImage, Elapses, LeavesOnly};
@@ -28,7 +28,7 @@ fn held_by(bytes: &[u8; 512], slot: u32) -> Held
     match root_of(bytes) {
         None => Held::Other,
         Some(root) => {
-            if 1 + root.generation % 2 == slot as u64 {
+            if root.slot() == slot {
                 Held::Valid(root)
             } else {
                 Held::Other
@@ -47,6 +47,7 @@ fn read_slot<D: Disk>(disk: &mut D, slot: u32) -> Result<Held, Failed>
     ensures time { D.honest → Elapses (D.moment disk.old) (D.moment disk.new) (D.images_since disk.old) (D.images_since disk.new) (IsImage (D.choices disk.old)) }
     ensures count { D.sectors disk.new ≡ D.sectors disk.old }
     ensures failures { D.failures disk.old ≤ D.failures disk.new }
+    ensures passed { OnOk result (D.failures disk.new ≡ D.failures disk.old) }
     ensures failed { OnErr result (HasRisen (D.failures disk.old) (D.failures disk.new)) }
 {
     match disk.read(slot) {
@@ -99,6 +100,7 @@ pub fn choose<D: Disk>(disk: &mut D) -> Result<Root, RootFault>
     ensures choice { D.honest → IsChoice (D.reads disk.old) result }
     ensures half { IfOk result (λ root. root.half ≤ 1) }
     ensures device { IsErrOf result RootFault.Device → HasRisen (D.failures disk.old) (D.failures disk.new) }
+    ensures passed { (IsErrOf result RootFault.Device → ⊥) → D.failures disk.new ≡ D.failures disk.old }
     ensures not_worn { IsErrOf result RootFault.Worn → ⊥ }
     ensures reads { D.honest → D.reads disk.new ≡ D.reads disk.old }
     ensures choices { D.honest → D.choices disk.new ≡ D.choices disk.old }

@@ -1,3 +1,5 @@
+ghost use Rattle.std.specs.Prelude.{◌≡◌};
+
 /// What a root sector says.
 #[derive(Clone, Copy, Debug, PartialEq, Eq)]
 pub struct Root {
@@ -13,4 +15,15 @@ pub struct Root {
     pub base_sequence: u64,
     /// The number of sectors of a half.
     pub half_len: u32,
+}
+
+impl Root {
+    ghost use Rattle.dc_roots.specs.Root.{slot};
+
+    /// The sector that holds a root of this generation: 1 or 2.
+    pub fn slot(&self) -> u32
+        ensures { result ≡ slot self.now.generation }
+    {
+        1 + (self.generation % 2) as u32
+    }
 }

@@ -6,7 +6,8 @@ use Rattle.std.proofs.Math.Nat.{pow-le-pow_right, pow-suc}
 use Rattle.std.proofs.lemmas.Bool.{and_from, lt-ltb}
 use Rattle.std.proofs.lemmas.List.Folds.{list_all-append}
 use Rattle.std.proofs.lemmas.Int.Digits.{number_push}
-use Rattle.dc_address.specs.Digits.{decimal_digits, decimal_digits-are_digits, decimal_digits-number_from_digits, is_digit, length-decimal_digits, number_from_digits-decimal_digits}
+use Rattle.dc_address.specs.Digits.{decimal_digits, is_digit}
+use Rattle.dc_address.proofs.Decimals.{decimal_digits-are_digits, decimal_digits-number_from_digits, length-decimal_digits, number_from_digits-decimal_digits}
 use Rattle.dc_address.specs.Mask.{MaskParts, with_digit}
 use Rattle.dc_search.specs.Branch.{IsBranch}
 use Rattle.dc_search.specs.Prefix.{mask_of_digits}

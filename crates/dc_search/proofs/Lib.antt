@@ -7,3 +7,4 @@ pub mod Prefixes
 pub mod Ranges
 pub mod Sweeps
 pub mod Walks
+pub mod Rounds

@@ -9,7 +9,8 @@ use Rattle.std.proofs.lemmas.Bool.{eq-eqb}
 use Rattle.std.proofs.lemmas.Bool.Decides.{nat_tests}
 use Rattle.std.proofs.lemmas.Int.Digits.{number_push}
 use Rattle.dc_address.specs.Digits.{decimal_digits}
-use Rattle.dc_address.specs.Mask.{MaskParts, mask_of_all, matches, matches-mask_of_all, matches-with_digit, with_digit}
+use Rattle.dc_address.specs.Mask.{MaskParts, mask_of_all, matches, with_digit}
+use Rattle.dc_address.proofs.Masks.{matches-mask_of_all, matches-with_digit}
 use Rattle.dc_address.specs.declared.identity.Identity.{Identity}
 use Rattle.dc_search.specs.Prefix.{mask_of_digits}
 

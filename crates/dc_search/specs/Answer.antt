@@ -1,6 +1,7 @@
 -- What the answer to a request for data tells of a search (EN 13757-2, RSP_UD; EN 13757-3, CI 72h).
-use Rattle.std.specs.Prelude.{ℕ, Bool, ◌&&◌, ◌||◌, List, Option, Some, None, Result, Ok, Err, ◌==◌, if◌then◌else◌}
+use Rattle.std.specs.Prelude.{ℕ, ◌&&◌, List, Option, Some, None, Result, Ok, Err, ◌==◌, if◌then◌else◌}
 use Rattle.dc_address.specs.declared.identity.Identity.{Identity}
+use Rattle.dc_linkframe.specs.Control.{is_rsp_ud, variable_data}
 use Rattle.dc_linkframe.specs.Frame.{FrameSeen, ack, short, long}
 use Rattle.dc_linkframe.specs.Reading.{frame_of}
 use Rattle.dc_records.specs.Header.{header_at}
@@ -15,12 +16,8 @@ identity_of (Err fault) = None
 abbrev pub identity_at : List ℕ → Option Identity
 identity_at body = identity_of (header_at body)
 
--- the control byte of RSP_UD, with either value of its two flag bits
-abbrev pub is_response : ℕ → Bool
-is_response control = control == 0x08 || (control == 0x18 || (control == 0x28 || control == 0x38))
-
 abbrev pub identity_in : Option FrameSeen → Option Identity
-identity_in (Some (long control address ci body)) = if is_response control && ci == 0x72 then identity_at body else None
+identity_in (Some (long control address ci body)) = if is_rsp_ud control && ci == variable_data then identity_at body else None
 identity_in (Some ack) = None
 identity_in (Some (short control address)) = None
 identity_in None = None

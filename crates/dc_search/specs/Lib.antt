@@ -4,5 +4,6 @@ pub mod Branch
 pub mod Bus
 pub mod Fault
 pub mod Prefix
+pub mod Request
 pub mod State
 pub mod Walk

@@ -1,20 +1,13 @@
+//! What the answer to a request tells.
+
 ghost use Rattle.std.specs.Prelude.{◌≡◌, Some};
-ghost use Rattle.dc_search.specs.Answer.{answer_of, identity_at, identity_in, is_response};
+ghost use Rattle.dc_search.specs.Answer.{answer_of, identity_at, identity_in};
 ghost use Rattle.dc_linkframe.specs.Frame.{seen};
 
 use dc_address::Identity;
+use dc_linkframe::control::{VARIABLE_DATA, is_rsp_ud};
 use dc_linkframe::{Frame, parse};
 use dc_records::Header;
-
-/// CI of a telegram with a long header (EN 13757-3, variable data structure).
-const CI_TELEGRAM: u8 = 0x72;
-
-/// Whether a control byte is that of RSP_UD (EN 13757-2).
-fn is_response(control: u8) -> bool
-    ensures { result ≡ is_response control }
-{
-    matches!(control, 0x08 | 0x18 | 0x28 | 0x38)
-}
 
 /// The identity in the header of a telegram's body.
 fn identity_at(body: &[u8]) -> Option<Identity>
@@ -36,7 +29,7 @@ fn meter_in(frame: &Frame<'_>) -> Option<Identity>
             ci,
             body,
             ..
-        } if is_response(*control) && *ci == CI_TELEGRAM => identity_at(body),
+        } if is_rsp_ud(*control) && *ci == VARIABLE_DATA => identity_at(body),
         _ => None,
     }
 }

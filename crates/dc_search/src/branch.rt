@@ -1,3 +1,5 @@
+//! The masks of a search's walk.
+
 use dc_address::Mask;
 use std::marker::Model;
 

@@ -14,17 +14,11 @@ use crate::search::Search;
 use crate::step::Step;
 use dc_address::{Identity, Mask};
 use dc_base::NoMemory;
-use dc_linkframe::{FrameBuf, write_long};
+use dc_linkframe::control::{RSP_UD, VARIABLE_DATA};
+use dc_linkframe::{ACK, FrameBuf, write_long};
 use std::alloc::Allocator;
 
-/// The control byte of RSP_UD, and the control information of a telegram with a long header.
-const RSP_UD: u8 = 0x08;
-
-const CI_TELEGRAM: u8 = 0x72;
-
-/// The acknowledgement, and a byte that is no frame, as colliding answers make it.
-const ACK: u8 = 0xE5;
-
+/// A byte that is no frame, as colliding answers make it.
 const NOISE: u8 = 0x00;
 
 /// Which meters match a mask.
@@ -67,7 +61,7 @@ pub(crate) fn telegram_of(meter: &Identity) -> FrameBuf
     ensures { answer_of result ≡ Some meter.now }
 {
     let mut frame = FrameBuf::new();
-    write_long(RSP_UD, 0, CI_TELEGRAM, &body_of(meter), &mut frame);
+    write_long(RSP_UD, 0, VARIABLE_DATA, &body_of(meter), &mut frame);
     frame
 }
 

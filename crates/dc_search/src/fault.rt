@@ -1,13 +1,14 @@
+//! Why a search takes no answer.
+
 use thiserror::Error;
 
 /// Why what was heard was not taken; the search is unchanged.
 #[derive(Clone, Copy, Debug, PartialEq, Eq, Error)]
+#[error("{} {}", self.number(), self.name())]
 pub enum SearchFault {
     /// Nothing was to be heard: the search is done, or its budget is spent.
-    #[error("{} {}", self.number(), self.name())]
     Idle,
     /// Memory was refused; the same bytes can be heard again.
-    #[error("{} {}", self.number(), self.name())]
     NoMemory,
 }
 
@@ -16,8 +17,8 @@ impl SearchFault {
     ghost use Rattle.dc_search.specs.Fault.{number_of, name_of};
 
     /// The fault's number.
-    pub fn number(&self) -> u8
-        ensures { result ≡ number_of self.now }
+    pub fn number(self) -> u8
+        ensures { result ≡ number_of self }
     {
         match self {
             SearchFault::Idle => 1,
@@ -26,8 +27,8 @@ impl SearchFault {
     }
 
     /// The fault's name, as printed.
-    pub fn name(&self) -> &'static str
-        ensures { result.now ≡ name_of self.now }
+    pub fn name(self) -> &'static str
+        ensures { result.now ≡ name_of self }
     {
         match self {
             SearchFault::Idle => "Idle",

@@ -5,8 +5,8 @@
 //! ten masks with the next digit of the identification number, deeper ones first. A meter that answers
 //! alone is found; where all eight digits are fixed and answers still collide, the number is shared.
 //!
-//! [`Search`] does no talking: [`Search::next`] says what to do, [`Search::heard`] takes what came, and
-//! both are a rule on the masks due, what was found and the selections made. [`sweep`] runs a search on a
+//! [`Search`] does no talking: [`Search::next`] says what to do, [`Step::request`] has the frame to be sent
+//! for it, [`Search::heard`] takes what came, and these are a rule on the masks due, what was found and the selections made. [`sweep`] runs a search on a
 //! list of meters: within the budget it finds every meter whose number no other has, names every number
 //! that more than one has, both ascending, with at most forty selections a meter and the first.
 //!
@@ -17,11 +17,13 @@ mod answer;
 mod branch;
 mod bus;
 mod fault;
+mod laws;
 mod search;
 mod step;
 
 pub use bus::sweep;
 pub use fault::SearchFault;
+pub use laws::searches_end;
 pub use search::Search;
 pub use step::Step;
 

@@ -1,3 +1,5 @@
+//! The rule of a search, step by step.
+
 use crate::answer::meter_of;
 use crate::branch::Branch;
 use crate::fault::SearchFault;

@@ -1,4 +1,12 @@
+//! What a search is to do next, and what it sends for it.
+
+ghost use Rattle.std.specs.Prelude.{◌≡◌, option_map};
+ghost use Rattle.dc_linkframe.specs.Frame.{spelling};
+ghost use Rattle.dc_search.specs.Request.{request_by};
+
 use dc_address::Mask;
+use dc_linkframe::FrameBuf;
+use dc_linkframe::control::{SELECTED, write_request, write_selection};
 
 /// What a search is to do next.
 #[derive(Clone, Copy, Debug, PartialEq, Eq)]
@@ -11,4 +19,20 @@ pub enum Step {
     Done,
     /// A selection is due, and the budget is spent.
     Budget,
+}
+
+impl Step {
+    /// The frame that is sent for it: the selection by the mask, or the request for data with frame count
+    /// bit 1. At the end there is none.
+    pub fn request(&self) -> Option<FrameBuf>
+        ensures { result ≡ option_map spelling (request_by self.now) }
+    {
+        let mut buf = FrameBuf::new();
+        match self {
+            Step::Select(mask) => write_selection(&mask.wire(), &mut buf),
+            Step::Request => write_request(true, SELECTED, &mut buf),
+            Step::Done | Step::Budget => return None,
+        }
+        Some(buf)
+    }
 }

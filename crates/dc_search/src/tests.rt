@@ -1,3 +1,5 @@
+//! Searches on buses, in memory that is refused, and of answers that others made.
+
 ghost use Rattle.std.specs.Prelude.{◌<◌, ◌≤◌};
 
 use crate::bus::{Matching, matches_on, telegram_of};
@@ -184,4 +186,80 @@ fn a_refused_growth_is_heard_again(rt: HostRuntime) -> Result<(), Fail> {
     assert!(rt; matches!(sweep(&heap, &bus, 200), Err(NoMemory)));
     assert_eq!(rt; sweep(&heap, &bus, 200)?.shared(), [20_000_000].as_slice());
     Ok(())
+}
+
+fn sends(step: Step, frame: &[u8], rt: &impl Abort) {
+    let sent = step.request();
+    assert_eq!(rt; sent.map(|sent| sent.as_slice() == frame), Some(true));
+}
+
+#[test]
+fn steps_are_sent_as_frames(rt: HostRuntime) {
+    sends(
+        Step::Select(Mask::of(&meter(12_345_678, 1))),
+        &[
+            0x68, 0x0B, 0x0B, 0x68, 0x53, 0xFD, 0x52, 0x78, 0x56, 0x34, 0x12, 0x24, 0x40, 0x01,
+            0x07, 0x22, 0x16,
+        ],
+        &rt,
+    );
+    sends(
+        Step::Select(Mask::all()),
+        &[
+            0x68, 0x0B, 0x0B, 0x68, 0x53, 0xFD, 0x52, 0xFF, 0xFF, 0xFF, 0xFF, 0xFF, 0xFF, 0xFF,
+            0xFF, 0x9A, 0x16,
+        ],
+        &rt,
+    );
+    sends(
+        Step::Select(Mask::all().with_digit(0, 1)),
+        &[
+            0x68, 0x0B, 0x0B, 0x68, 0x53, 0xFD, 0x52, 0xFF, 0xFF, 0xFF, 0x1F, 0xFF, 0xFF, 0xFF,
+            0xFF, 0xBA, 0x16,
+        ],
+        &rt,
+    );
+    sends(Step::Request, &[0x10, 0x7B, 0xFD, 0x78, 0x16], &rt);
+    assert!(rt; Step::Done.request().is_none());
+    assert!(rt; Step::Budget.request().is_none());
+}
+
+// The telegram of the water meter 12345678.PAD.01.07, by its control byte and its checksum.
+fn telegram(control: u8, sum: u8) -> [u8; 37] {
+    [
+        0x68, 0x1F, 0x1F, 0x68, control, 0x02, 0x72, 0x78, 0x56, 0x34, 0x12, 0x24, 0x40, 0x01,
+        0x07, 0x55, 0x00, 0x00, 0x00, 0x03, 0x13, 0x15, 0x31, 0x00, 0xDA, 0x02, 0x3B, 0x13, 0x01,
+        0x8B, 0x60, 0x04, 0x37, 0x18, 0x02, sum, 0x16,
+    ]
+}
+
+#[test]
+fn a_meter_that_others_made_is_found(rt: HostRuntime) {
+    for (control, sum) in [(0x08, 0x18), (0x18, 0x28), (0x28, 0x38), (0x38, 0x48)] {
+        let mut search = Search::new(rt.alloc(), 100);
+        assert_eq!(rt; search.heard(&[0xE5]), Ok(()));
+        assert_eq!(rt; search.next(), Step::Request);
+        assert_eq!(rt; search.heard(&telegram(control, sum)), Ok(()));
+        assert_eq!(rt; search.found(), [meter(12_345_678, 1)].as_slice());
+        assert_eq!(rt; search.next(), Step::Done);
+    }
+}
+
+#[test]
+fn other_answers_are_collisions(rt: HostRuntime) {
+    let unknown = telegram(0x48, 0x58);
+    let error = [0x68, 0x04, 0x04, 0x68, 0x08, 0x02, 0x70, 0x08, 0x82, 0x16];
+    let answers: [&[u8]; 4] = [&unknown, &error, &[0xE5], &[]];
+    let digit = Mask::all().with_digit(0, 0);
+    for answer in &answers {
+        let mut search = Search::new(rt.alloc(), 100);
+        assert_eq!(rt; search.heard(&[0xE5]), Ok(()));
+        assert_eq!(rt; search.heard(answer), Ok(()));
+        assert_eq!(rt; search.next(), Step::Select(digit));
+        // a meter that the first digit doesn't ask for
+        assert_eq!(rt; search.heard(&[0xE5]), Ok(()));
+        assert_eq!(rt; search.heard(&telegram(0x08, 0x18)), Ok(()));
+        assert_eq!(rt; search.next(), Step::Select(digit.with_digit(1, 0)));
+        assert!(rt; search.found().is_empty());
+    }
 }

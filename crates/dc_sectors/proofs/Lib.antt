@@ -1,5 +1,8 @@
--- lemmas of this crate alone
-pub mod Kept
-pub mod Pending
-pub mod Scanning
-pub mod Stops
+-- for callers: what runs of calls leave, and the text of a sector
+pub mod Moments
+pub mod Texts
+-- of this crate alone
+mod Kept
+mod Pending
+mod Scanning
+mod Stops

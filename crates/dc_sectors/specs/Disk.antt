@@ -48,7 +48,3 @@ pub record LeavesOnly {D : Type 0} (moment : D → ℕ) (images_since : D → �
   pub each : (image : Image) → images_since new (moment old) image → P image
   -- for a run of calls that began earlier
   pub before : (t : ℕ) (image : Image) → t ≤ moment old → images_since new t image → images_since old t image ⊎ P image
-
--- outside the run of count sectors from the first the image is a choice of these
-abbrev pub ChoiceOutside : ℕ → ℕ → Choices → Image → Type 0
-ChoiceOutside first count choices image = (m : ℕ) → (m < first) ⊎ (first + count ≤ m) → Contains (choices m) (image m)

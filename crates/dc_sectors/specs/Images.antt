@@ -1,11 +1,11 @@
 -- Lemmas for callers: what writes and syncs do to choices, and which images that leaves.
-use Rattle.std.proofs.Common.{◌≡◌, ◌<◌, ◌≤◌, ◌+◌, ◌≢◌, ◌⊎◌, ⊎_elim, inl, inr, refl, ℕ, true, false, ◌==◌, List, [], ◌∷◌, ◌++◌, sym, ◌∙◌, subst, arith}
+use Rattle.std.proofs.Common.{◌≡◌, ◌≢◌, ◌⊎◌, ⊎_elim, inl, inr, refl, ℕ, true, false, ◌==◌, List, [], ◌∷◌, ◌++◌, sym, ◌∙◌, subst, arith}
 use Rattle.std.specs.Prelude.{if◌then◌else◌, Contains}
 use Rattle.std.proofs.lemmas.Bool.Decides.{nat_tests}
 use Rattle.std.proofs.lemmas.List.Elements.{Contains-append_left, Contains-append_right, Contains-append_cases, Contains-push, Contains-push_cases}
 use Rattle.dc_sectors.specs.declared.sector.Sector.{Sector}
 use Rattle.dc_sectors.specs.declared.sector.Sector.TheVariants.{Bytes, Unreadable}
-use Rattle.dc_sectors.specs.Disk.{Image, Choices, IsImage, ChoiceOutside, put, added, settled}
+use Rattle.dc_sectors.specs.Disk.{Image, Choices, IsImage, put, added, settled}
 
 -- what is read after a write
 
@@ -30,23 +30,12 @@ Within c d = (m : ℕ) (s : Sector) → Contains (c m) s → Contains (d m) s
 pub image_within : (c d : Choices) → Within c d → (image : Image) → IsImage c image → IsImage d image
 image_within c d within image is = λ m. within m (image m) (is m)
 
-pub within_trans : (c d e : Choices) → Within c d → Within d e → Within c e
-within_trans c d e first second m s is = second m s (first m s is)
-
 -- a write takes no choice away
 pub within_added : (c : Choices) (n : ℕ) (bytes : List ℕ) → Within c (added c n bytes)
 within_added c n bytes m s is =
     elim (m == n) as (λ here. Contains (if here then c m ++ Bytes bytes ∷ Unreadable ∷ [] else c m) s) [
       | true ↦ Contains-append_left (c m) (Bytes bytes ∷ Unreadable ∷ []) s is
       | false ↦ is
-    ]
-
-pub added_within : (c d : Choices) (n : ℕ) (bytes : List ℕ) → Within c d → Within (added c n bytes) (added d n bytes)
-added_within c d n bytes within m s =
-    let two = Bytes bytes ∷ Unreadable ∷ [] in
-    elim (m == n) as (λ here. Contains (if here then c m ++ two else c m) s → Contains (if here then d m ++ two else d m) s) [
-      | true ↦ λ is. ⊎_elim (λ old. Contains-append_left (d m) two s (within m s old)) (λ new. Contains-append_right (d m) two s new) (Contains-append_cases (c m) two s is)
-      | false ↦ within m s
     ]
 
 pub only_one : (r s : Sector) → Contains (r ∷ []) s → s ≡ r
@@ -78,14 +67,3 @@ put_added c image n bytes is m =
       | true ↦ Contains-append_right (c m) two (Bytes bytes) (Contains-append_left (Bytes bytes ∷ []) (Unreadable ∷ []) (Bytes bytes) (Contains-push [] (Bytes bytes)))
       | false ↦ is m
     ]
-
--- a run of sectors
-
-pub outside_not : (first count n m : ℕ) → first ≤ n → n < first + count → (m < first) ⊎ (first + count ≤ m) → m ≢ n
-outside_not first count n m le lt outside e = ⊎_elim (λ below. omega (arith, e, below)) (λ above. omega (arith, e, above)) outside
-
--- a write within the run leaves what is outside
-pub outside_added : (old choices : Choices) (first count n : ℕ) (bytes : List ℕ) → first ≤ n → n < first + count
-    → ((m : ℕ) → (m < first) ⊎ (first + count ≤ m) → choices m ≡ old m) → (image : Image) → IsImage (added choices n bytes) image → ChoiceOutside first count old image
-outside_added old choices first count n bytes le lt same image is m outside =
-    subst (λ (l : List Sector). Contains l (image m)) (added_elsewhere choices n bytes m (outside_not first count n m le lt outside) ∙ same m outside) (is m)

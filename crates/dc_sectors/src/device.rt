@@ -1,7 +1,7 @@
 ghost use Rattle.std.specs.Prelude.{◌≡◌, ◌≢◌, ◌⊎◌, ◌<◌, ◌≤◌, List, ℕ, OnOk, OnErr, IsErrOf, Contains};
 ghost use Rattle.dc_base.specs.Failures.{HasRisen};
 ghost use Rattle.dc_sectors.specs.declared.sector.Sector.{Sector};
-ghost use Rattle.dc_sectors.specs.declared.sector.ReadFault.TheVariants.{Failed as ReadFailed};
+ghost use Rattle.dc_sectors.specs.declared.sector.ReadFault.TheVariants.{Unreadable as CannotRead, Failed as ReadFailed};
 ghost use Rattle.dc_sectors.specs.Disk.{IsImage, Answers, put, added, settled, Elapses};
 
 use crate::{Failed, ReadFault};
@@ -28,7 +28,7 @@ pub trait Disk {
     /// The images that a stop at some moment from that one on might have left, within a call or between two.
     ghost images_since: { Self → ℕ → (ℕ → Sector) → Type 0 };
 
-    /// How often the device has failed. At `u64::MAX` the count stays.
+    /// How often the device has failed; a call that passes leaves it. At `u64::MAX` the count stays.
     ghost failures: { Self → ℕ };
 
     /// The number of sectors.
@@ -44,6 +44,8 @@ pub trait Disk {
         ensures time { honest → Elapses (moment self.old) (moment self.new) (images_since self.old) (images_since self.new) (IsImage (choices self.old)) }
         ensures count { sectors self.new ≡ sectors self.old }
         ensures failures { failures self.old ≤ failures self.new }
+        ensures passed { OnOk result (failures self.new ≡ failures self.old) }
+        ensures unreadable { IsErrOf result CannotRead → failures self.new ≡ failures self.old }
         ensures failed { IsErrOf result ReadFailed → HasRisen (failures self.old) (failures self.new) };
 
     /// Writes a sector, which stays one of the sector's choices until a sync. A write that failed may
@@ -57,6 +59,7 @@ pub trait Disk {
         ensures time { honest → Elapses (moment self.old) (moment self.new) (images_since self.old) (images_since self.new) (IsImage (added (choices self.old) n bytes.now)) }
         ensures count { sectors self.new ≡ sectors self.old }
         ensures failures { failures self.old ≤ failures self.new }
+        ensures passed { OnOk result (failures self.new ≡ failures self.old) }
         ensures failed { OnErr result (HasRisen (failures self.old) (failures self.new)) };
 
     /// Leaves what each sector reads as its only choice. One that failed changes nothing, but for the
@@ -68,6 +71,7 @@ pub trait Disk {
         ensures time { honest → Elapses (moment self.old) (moment self.new) (images_since self.old) (images_since self.new) (IsImage (choices self.old)) }
         ensures count { sectors self.new ≡ sectors self.old }
         ensures failures { failures self.old ≤ failures self.new }
+        ensures passed { OnOk result (failures self.new ≡ failures self.old) }
         ensures failed { OnErr result (HasRisen (failures self.old) (failures self.new)) };
 
     /// What a sector reads is one of its choices.

@@ -109,6 +109,8 @@ impl<F: FileExt + OpenFile + Drop> Disk for FileDisk<F> {
         ensures lost { self.old.lost ≡ true → IsErr result }
         ensures count { self.new.sectors ≡ self.old.sectors }
         ensures failures { self.old.failures ≤ self.new.failures }
+        ensures passed { OnOk result (self.new.failures ≡ self.old.failures) }
+        ensures unreadable { IsErrOf result CannotRead → self.new.failures ≡ self.old.failures }
         ensures failed { IsErrOf result ReadFailed → HasRisen self.old.failures self.new.failures }
     {
         let mut bytes = [0; 512];
@@ -126,6 +128,7 @@ impl<F: FileExt + OpenFile + Drop> Disk for FileDisk<F> {
         ensures lost { self.old.lost ≡ true → IsErr result }
         ensures count { self.new.sectors ≡ self.old.sectors }
         ensures failures { self.old.failures ≤ self.new.failures }
+        ensures passed { OnOk result (self.new.failures ≡ self.old.failures) }
         ensures failed { OnErr result (HasRisen self.old.failures self.new.failures) }
     {
         if self.lost || self.file.write_all_at(bytes, position(n)).is_err() {
@@ -143,6 +146,7 @@ impl<F: FileExt + OpenFile + Drop> Disk for FileDisk<F> {
         ensures lost { self.old.lost ≡ true → IsErr result }
         ensures count { self.new.sectors ≡ self.old.sectors }
         ensures failures { self.old.failures ≤ self.new.failures }
+        ensures passed { OnOk result (self.new.failures ≡ self.old.failures) }
         ensures failed { OnErr result (HasRisen self.old.failures self.new.failures) }
     {
         if self.lost || self.file.sync_data().is_err() {

@@ -17,14 +17,12 @@
 //! say. It reads and writes whole sectors, each fault of its file is a counted failure, and after a sync
 //! that failed every call fails.
 //!
-//! [`write_durably`] and [`write_both_durably`] show how calls compose: what they leave is stated for
-//! every moment, and proved from the trait alone. The lemmas for that are in `specs/`: `Moments` on runs
-//! of calls, `Images` on choices, `Picks` on the picks of a stop.
+//! Callers state what they leave for every moment, and prove it from the trait alone. The lemmas for that are
+//! `proofs/Moments` on runs of calls and `specs/Images` on choices.
 #![tactic(auto)]
 
 mod calls;
 mod device;
-mod durable;
 mod event;
 mod file;
 mod memory;
@@ -33,7 +31,6 @@ mod scan;
 mod sector;
 
 pub use device::Disk;
-pub use durable::{write_both_durably, write_durably};
 pub use file::FileDisk;
 pub use memory::MemoryDisk;
 pub use pick::Pick;

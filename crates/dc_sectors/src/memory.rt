@@ -1,7 +1,7 @@
 ghost use Rattle.std.specs.Prelude.{◌≡◌, ◌≢◌, ◌⊎◌, ◌<◌, ◌≤◌, ℕ, Some, None, IfOk, OnOk, OnErr, IsErrOf, [], length};
 ghost use Rattle.std.specs.List.{AllZip};
 ghost use Rattle.dc_base.specs.Failures.{HasRisen};
-ghost use Rattle.dc_sectors.specs.declared.sector.ReadFault.TheVariants.{Failed as ReadFailed};
+ghost use Rattle.dc_sectors.specs.declared.sector.ReadFault.TheVariants.{Unreadable as CannotRead, Failed as ReadFailed};
 ghost use Rattle.dc_sectors.specs.Disk.{Answers, Elapses, IsImage, put, added, settled};
 ghost use Rattle.dc_sectors.specs.Memory.{blank, pending_of, pending_below, reads_of, choices_of, IsPickFor, image_picked, picked_from, IsKept, IsRead, IsWrite, IsSync, answer_of};
 ghost use Rattle.dc_sectors.specs.Record.{image_of, writes_after, ImageSince};
@@ -186,6 +186,8 @@ impl<A: Allocator + Copy> Disk for MemoryDisk<A> {
         ensures time { Elapses (length self.old.events) (length self.new.events) (ImageSince (image_of self.old.start) self.old.events) (ImageSince (image_of self.new.start) self.new.events) (IsImage (choices_of self.old)) }
         ensures count { length self.new.start ≡ length self.old.start }
         ensures failures { self.old.calls.failed ≤ self.new.calls.failed }
+        ensures passed { OnOk result (self.new.calls.failed ≡ self.old.calls.failed) }
+        ensures unreadable { IsErrOf result CannotRead → self.new.calls.failed ≡ self.old.calls.failed }
         ensures failed { IsErrOf result ReadFailed → HasRisen self.old.calls.failed self.new.calls.failed }
     {
         if !self.calls.begin() {
@@ -205,6 +207,7 @@ impl<A: Allocator + Copy> Disk for MemoryDisk<A> {
         ensures time { Elapses (length self.old.events) (length self.new.events) (ImageSince (image_of self.old.start) self.old.events) (ImageSince (image_of self.new.start) self.new.events) (IsImage (added (choices_of self.old) n bytes.now)) }
         ensures count { length self.new.start ≡ length self.old.start }
         ensures failures { self.old.calls.failed ≤ self.new.calls.failed }
+        ensures passed { OnOk result (self.new.calls.failed ≡ self.old.calls.failed) }
         ensures failed { OnErr result (HasRisen self.old.calls.failed self.new.calls.failed) }
     {
         let done = self.calls.begin();
@@ -232,6 +235,7 @@ impl<A: Allocator + Copy> Disk for MemoryDisk<A> {
         ensures time { Elapses (length self.old.events) (length self.new.events) (ImageSince (image_of self.old.start) self.old.events) (ImageSince (image_of self.new.start) self.new.events) (IsImage (choices_of self.old)) }
         ensures count { length self.new.start ≡ length self.old.start }
         ensures failures { self.old.calls.failed ≤ self.new.calls.failed }
+        ensures passed { OnOk result (self.new.calls.failed ≡ self.old.calls.failed) }
         ensures failed { OnErr result (HasRisen self.old.calls.failed self.new.calls.failed) }
     {
         if !self.calls.begin() {

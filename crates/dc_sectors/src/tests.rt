@@ -1,9 +1,7 @@
 // What no clause says: that calls succeed where there is memory, and what a real file does.
 ghost use Rattle.dc_sectors.specs.Memory.{IsPickFor};
 
-use crate::{
-    Disk, Failed, FileDisk, MemoryDisk, Pick, ReadFault, write_both_durably, write_durably,
-};
+use crate::{Disk, Failed, FileDisk, MemoryDisk, Pick, ReadFault};
 use refusing_alloc::Refusing;
 use std::alloc::Global;
 use std::fs::File;
@@ -86,7 +84,8 @@ fn a_fuse_fails_all_that_follows(rt: HostRuntime) -> Result<(), Fail> {
     let mut disk = MemoryDisk::new(rt.alloc(), 8)?;
     assert_eq!(rt; disk.count(), 8);
     disk.fuse(2);
-    assert_eq!(rt; write_durably(&mut disk, 3, &A), Ok(()));
+    assert_eq!(rt; disk.write(3, &A), Ok(()));
+    assert_eq!(rt; disk.sync(), Ok(()));
     assert_eq!(rt; disk.write(3, &B), Err(Failed));
     assert_eq!(rt; disk.sync(), Err(Failed));
     assert!(rt; disk.read(3) == Err(ReadFault::Failed));
@@ -100,16 +99,6 @@ fn a_fuse_fails_all_that_follows(rt: HostRuntime) -> Result<(), Fail> {
     disk.stop(&[Pick::Written(0)]);
     assert_eq!(rt; disk.count(), 8);
     assert!(rt; disk.read(3) == Ok(B));
-    Ok(())
-}
-
-#[test]
-fn the_second_waits_for_the_first(rt: HostRuntime) -> Result<(), Fail> {
-    let mut disk = MemoryDisk::new(rt.alloc(), 8)?;
-    assert_eq!(rt; disk.count(), 8);
-    disk.fuse(1);
-    assert_eq!(rt; write_both_durably(&mut disk, 1, &A, 2, &B), Err(Failed));
-    assert_eq!(rt; disk.pending()?.as_slice(), [(1, 1)].as_slice());
     Ok(())
 }
 
@@ -152,7 +141,9 @@ fn a_file_keeps_what_was_written(rt: HostRuntime) -> Result<(), Fail> {
     File::create(&rt, path.as_str())?.set_len(4 * 512 + 100)?;
     let mut disk = FileDisk::open(&rt, path.as_str())?;
     assert_eq!(rt; disk.count(), 4);
-    assert_eq!(rt; write_both_durably(&mut disk, 2, &A, 3, &B), Ok(()));
+    assert_eq!(rt; disk.write(2, &A), Ok(()));
+    assert_eq!(rt; disk.write(3, &B), Ok(()));
+    assert_eq!(rt; disk.sync(), Ok(()));
     drop(disk);
     let mut disk = FileDisk::open(&rt, path.as_str())?;
     assert_eq!(rt; disk.count(), 4);

@@ -27,11 +27,11 @@ unit_of DateTime = []
 unit_of HeatCostAllocator = codes "HCA"
 unit_of ErrorFlags = codes "flags"
 
--- a quantity that dates others: a date, or a date and time
-abbrev pub is_date : Quantity → Bool
-is_date Date = true
-is_date DateTime = true
-is_date _ = false
+-- a time point: a date, or a date and time
+abbrev pub is_time_point : Quantity → Bool
+is_time_point Date = true
+is_time_point DateTime = true
+is_time_point _ = false
 
 -- data fields of whole numbers: 1, 2, 3, 4, 6 and 7
 abbrev pub is_integer : ℕ → Bool

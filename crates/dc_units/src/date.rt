@@ -1,3 +1,5 @@
+//! Days of the calendar.
+
 ghost use Rattle.std.specs.Prelude.{◌≡◌, ◌↔◌, ◌≤◌, ◌+◌, length, Some, pos, IsSome};
 ghost use Rattle.std.specs.Prelude.{ℕ, drop, ◌++◌};
 ghost use Rattle.jiff.specs.Words.{IsDate};

@@ -1,3 +1,5 @@
+//! Decimal numbers and their texts.
+
 ghost use Rattle.std.specs.Prelude.{◌≡◌, ◌+◌, ◌<◌, ◌≤◌, ◌++◌, length, drop, Some, IsAscii};
 ghost use Rattle.dc_units.specs.Text.{decimal_text, magnitude_text, fraction_text, whole_text};
 

@@ -1,3 +1,5 @@
+//! The numbers of data fields (types A and B).
+
 ghost use Rattle.std.specs.Prelude.{◌≡◌, ◌-◌, ◌*◌, ◌^◌, ◌<◌, ◌≤◌, length, IfSome};
 ghost use Rattle.dc_units.specs.Number.{unsigned, integer, bcd, bcd_digits, number_after, digit_pair};
 
@@ -31,16 +33,7 @@ fn least(len: usize) -> u64
     requires { (1 ≤ len) × (len ≤ 8) }
     ensures { result ≡ 2 ^ (8 * len - 1) }
 {
-    match len {
-        1 => 0x80,
-        2 => 0x8000,
-        3 => 0x80_0000,
-        4 => 0x8000_0000,
-        5 => 0x80_0000_0000,
-        6 => 0x8000_0000_0000,
-        7 => 0x80_0000_0000_0000,
-        _ => 0x8000_0000_0000_0000,
-    }
+    1 << (8 * len - 1)
 }
 
 /// Packed BCD of 1 to 6 bytes, the lowest first (type A). F as the highest digit means minus, any other

@@ -1,3 +1,5 @@
+//! Records as data points.
+
 ghost use Rattle.std.specs.Prelude.{◌≡◌, ◌==◌, length, IsTrue};
 ghost use Rattle.dc_records.specs.Record.{view, width};
 ghost use Rattle.dc_units.specs.Point.{IsPoint, IfPoint, seen_of};

@@ -1,5 +1,7 @@
+//! Quantities, their units and the data fields in which they come.
+
 ghost use Rattle.std.specs.Prelude.{◌≡◌};
-ghost use Rattle.dc_units.specs.Quantity.{unit_of, is_date, takes, is_integer, is_bcd};
+ghost use Rattle.dc_units.specs.Quantity.{unit_of, is_time_point, takes, is_integer, is_bcd};
 
 /// What a record's value is of, with the unit in which the table of codes gives it (EN 13757-3).
 #[derive(Clone, Copy, Debug, PartialEq, Eq)]
@@ -60,8 +62,8 @@ impl Quantity {
     }
 
     /// Whether it is a time point: a date, or a date and time.
-    pub fn is_date(&self) -> bool
-        ensures { result ≡ is_date self.now }
+    pub fn is_time_point(&self) -> bool
+        ensures { result ≡ is_time_point self.now }
     {
         matches!(self, Quantity::Date | Quantity::DateTime)
     }

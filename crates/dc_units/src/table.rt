@@ -1,3 +1,5 @@
+//! The table of units: quantities and powers of ten by value information block.
+
 ghost use Rattle.std.specs.Prelude.{◌≡◌, [], ◌∷◌};
 ghost use Rattle.dc_units.specs.Table.{unit_at};
 

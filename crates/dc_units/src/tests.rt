@@ -1,3 +1,5 @@
+//! Records with the values that the standard gives them, and printed texts.
+
 use crate::{Date, Decimal, Quantity, Seen, Value, point_of};
 use dc_records::Record;
 use std::process::Abort;
@@ -328,7 +330,7 @@ fn readers_and_texts(rt: HostRuntime) -> Result<(), Fail> {
     assert_eq!(rt; Value::Minute(date, 1, 2).day(), Some(date));
     assert_eq!(rt; Value::Day(date).day(), Some(date));
     assert_eq!(rt; Value::None.day(), None);
-    assert!(rt; Quantity::DateTime.is_date() && !Quantity::Volume.is_date());
+    assert!(rt; Quantity::DateTime.is_time_point() && !Quantity::Volume.is_time_point());
     let number = Decimal {
         mantissa: -12345,
         exponent: -3,
@@ -338,6 +340,24 @@ fn readers_and_texts(rt: HostRuntime) -> Result<(), Fail> {
         format!(in rt.alloc(); "{}", Value::Number(number))?.as_str(),
         "-12.345"
     );
+    Ok(())
+}
+
+#[test]
+fn values_print_as_they_are_written(rt: HostRuntime) -> Result<(), Fail> {
+    let date = Date::new(2025, 1, 31).ok_or("no date")?;
+    let flags = Value::Flags {
+        len: 2,
+        bits: 0x0104,
+    };
+    for (value, wanted) in [
+        (Value::Day(date), "2025-01-31"),
+        (Value::Minute(date, 23, 59), "2025-01-31T23:59"),
+        (flags, "0104"),
+        (Value::None, "none"),
+    ] {
+        assert_eq!(rt; format!(in rt.alloc(); "{value}")?.as_str(), wanted);
+    }
     Ok(())
 }
 

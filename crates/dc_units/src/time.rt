@@ -1,3 +1,5 @@
+//! Dates and times of data fields (types G and F).
+
 ghost use Rattle.std.specs.Prelude.{◌≡◌, ◌≤◌, length};
 ghost use Rattle.dc_units.specs.Date.{type_g, short_year, year_bits, date_in};
 ghost use Rattle.dc_units.specs.Time.{type_f, century_year};

@@ -1,3 +1,5 @@
+//! The values of data fields, and their texts.
+
 ghost use Rattle.std.specs.Prelude.{◌≡◌, ◌+◌, ◌≤◌, ◌++◌, length, drop, Some, IsAscii};
 ghost use Rattle.dc_units.specs.Text.{value_text, minute_text};
 ghost use Rattle.dc_units.specs.Value.{day_of};

@@ -4,12 +4,16 @@ use crate::ending::{Ending, STREAM};
 use crate::format::format_image;
 use crate::words::{Engine, Task};
 use dc_poller::{ProgramFault, decode_lines, fold_lines};
-use dc_records::{ReadSource, Source, WriteSink};
+use dc_stream::{ReadSource, Source, WriteSink};
+use dc_text::Buffered;
 use std::fs::OpenFile;
 use std::io::Read;
 use std::os::unix::fs::FileExt;
 use std::rt::Files;
 use std::{fs, io};
+
+// How many bytes go to standard output at once.
+const ROOM: usize = 65_536;
 
 /// Does what the words ask for.
 pub fn run<'a, F, R>(rt: &R, task: Task<'a>) -> Ending<'a>
@@ -46,15 +50,16 @@ fn work<R: Print + AllocGlobal, S: Source>(
     engine: Engine,
     reader: &mut S,
 ) -> Result<bool, ProgramFault> {
-    let mut writer = WriteSink::new(io::writer(rt));
+    let mut writer = Buffered::new(rt.alloc(), ROOM, WriteSink::new(io::writer(rt)))?;
     let found = match engine {
         Engine::Decode => decode_lines(rt.alloc(), reader, &mut writer)?,
         Engine::Fold => fold_lines(rt.alloc(), reader, &mut writer)?,
     };
-    match writer.flush() {
-        Ok(()) => Ok(found),
-        Err(_) => Err(ProgramFault::Write),
+    let (mut output, put) = writer.finish();
+    if put.is_err() || output.flush().is_err() {
+        return Err(ProgramFault::Write);
     }
+    Ok(found)
 }
 
 // How a run over this input ended.

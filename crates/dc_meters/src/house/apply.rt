@@ -1,18 +1,21 @@
 //! What a change does to a house.
 
-ghost use Rattle.std.specs.Prelude.{◌≡◌, ◌+◌, ◌-◌, ◌≤◌, ◌<◌, ◌^◌, ◌∷◌, ◌++◌, [], true, false, None, Some, length, OnOk, OnErr, filter, nat_lt, sum_by};
-ghost use Rattle.dc_meters.specs.State.{PartRow, row_of};
-ghost use Rattle.dc_meters.specs.Apply.{applied, told, heard, commanded, moved, taken_out, confirmed_up_to, swapped, fitted, joined};
-ghost use Rattle.dc_meters.specs.Line.{line_of};
-ghost use Rattle.dc_meters.specs.Accepts.{Accepts, continues, CanBeApplied};
-ghost use Rattle.dc_meters.specs.Size.{size_of, meter_size, reading_size, parts_size};
-ghost use Rattle.dc_meters.specs.Flat.{IsFlat};
-ghost use Rattle.dc_meters.specs.Valid.{IsChange, IsCommand, IsNumber, IsTelegram, IsAddress, IsMeter, IsPart, end_of_numbers};
+ghost use Rattle.std.specs.Prelude.{◌≡◌, ◌+◌, ◌-◌, ◌≤◌, ◌<◌, ◌^◌, ◌∷◌, ◌++◌, [], true, false, None, Some, IsSome, length, OnOk, OnErr, filter, nat_lt, sum_by};
+ghost use Rattle.dc_changes.specs.State.{PartRow, row_of};
+ghost use Rattle.dc_changes.specs.Apply.{applied, told, heard, commanded, moved, taken_out, confirmed_up_to, swapped, fitted, joined};
+ghost use Rattle.dc_changes.specs.Line.{line_of};
+ghost use Rattle.dc_changes.specs.Accepts.{Accepts, continues};
+ghost use Rattle.dc_changes.specs.Size.{size_of, meter_size, reading_size, parts_size};
+ghost use Rattle.dc_changes.specs.Flat.{IsFlat};
+ghost use Rattle.dc_changes.specs.Line.{longest_line};
+ghost use Rattle.dc_changes.specs.Valid.{IsChange, IsCommand, IsNumber, IsTelegram, IsAddress, IsMeter, IsPart, end_of_numbers};
+ghost use Rattle.dc_meters.specs.Steps.{CanBeApplied};
 
 use super::House;
-use crate::{Body, Change, Command, CommandLine, Flat, Meter, Part, Reading};
+use crate::{Meter, Part, Reading};
 use dc_address::{Identity, Primary};
 use dc_base::NoMemory;
+use dc_changes::{Body, Change, Command, CommandLine, Flat};
 use std::alloc::Allocator;
 
 impl<A: Allocator + Copy> House<A> {
@@ -75,7 +78,7 @@ impl<A: Allocator + Copy> House<A> {
         ensures err { OnErr result (self.new ≡ self.old) }
     {
         let Some(row) = self.meters.get_mut(&meter) else {
-            return Ok(());
+            unreachable!()
         };
         let before = row.size();
         row.join(self.alloc, number, part)?;
@@ -95,7 +98,7 @@ impl<A: Allocator + Copy> House<A> {
     {
         self.readings.reserve(1)?;
         let Some(row) = self.meters.get_mut(&meter) else {
-            return Ok(());
+            unreachable!()
         };
         let before = row.size();
         row.join(self.alloc, number, part)?;
@@ -132,11 +135,12 @@ impl<A: Allocator + Copy> House<A> {
     ) -> Result<(), NoMemory>
         requires is_address { IsAddress address }
         requires absent { row_of new self.old.state ≡ None }
+        requires registered { IsSome (row_of old self.old.state) }
         ensures ok { OnOk result (self.new ≡ record self.old { state = swapped old new address (row_of old self.old.state) self.old.state }) }
         ensures err { OnErr result (self.new ≡ self.old) }
     {
         let Some(row) = self.meters.get(&old) else {
-            return Ok(());
+            unreachable!()
         };
         let row = Meter::new(self.alloc, row.line(), address, row.flat());
         let size = row.size();
@@ -196,7 +200,7 @@ impl<A: Allocator + Copy> House<A> {
     /// The number and the line of the last command.
     fn sign(&mut self, number: u64, line: CommandLine)
         requires number { number < end_of_numbers }
-        requires line { length line ≤ 120 }
+        requires line { length line ≤ longest_line }
         ensures { self.new ≡ record self.old { state = record self.old.state { last_number = number; last_line = line } } }
     {
         self.last_number = number;

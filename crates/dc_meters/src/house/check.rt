@@ -4,28 +4,36 @@ ghost use Rattle.std.specs.Prelude.{◌≡◌, ℕ, ◌+◌, ◌≤◌, None, So
 ghost use Rattle.std.specs.List.{list_any};
 ghost use Rattle.std.specs.BTreeMap.{is_at};
 ghost use Rattle.dc_address.specs.Identity.{identity_cmp};
-ghost use Rattle.dc_meters.specs.State.{row_of};
-ghost use Rattle.dc_meters.specs.Apply.{told};
-ghost use Rattle.dc_meters.specs.Accepts.{refusal, refused_by, telegram_refusal, command_refusal, is_taken, occupies};
-ghost use Rattle.dc_meters.specs.Size.{size_of, parts_size};
-ghost use Rattle.dc_meters.specs.Valid.{IsChange};
+ghost use Rattle.dc_changes.specs.State.{row_of};
+ghost use Rattle.dc_changes.specs.Apply.{told};
+ghost use Rattle.dc_changes.specs.Accepts.{refusal, is_next, refused_by, telegram_refusal, command_refusal, is_taken, occupies};
+ghost use Rattle.dc_changes.specs.Size.{size_of, parts_size};
 
 use super::House;
-use crate::pieces::END_OF_NUMBERS;
-use crate::{Body, Change, ChangeFault, Command, Flat, Meter};
+use crate::Meter;
 use dc_address::{Identity, Primary};
+use dc_changes::{Body, Change, ChangeFault, Command, END_OF_NUMBERS, Flat};
 use std::alloc::Allocator;
 
 impl<A: Allocator + Copy> House<A> {
     /// Why the change is refused, if it is: the first that stands of Known, Unknown, AddressTaken, Beyond and Full.
     /// Whether a command's number is the next isn't looked at.
     pub fn check(&self, change: &Change<'_>) -> Result<(), ChangeFault>
-        requires { IsChange change.now }
         ensures { result ≡ refused_by (refusal self.now.budget change.now self.now.state) }
     {
         match change {
             Change::Telegram { part, body, .. } => self.check_telegram(*part, body),
             Change::Command { command, .. } => self.check_command(command),
+        }
+    }
+
+    /// Whether a command has the number after the last one's; a telegram has none.
+    pub fn is_next(&self, change: &Change<'_>) -> bool
+        ensures { result ≡ is_next change.now self.now.state }
+    {
+        match change {
+            Change::Telegram { .. } => true,
+            Change::Command { number, .. } => *number == self.last_number() + 1,
         }
     }
 

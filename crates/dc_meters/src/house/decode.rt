@@ -7,19 +7,20 @@ ghost use Rattle.std.specs.Ordering.{nat_cmp};
 ghost use Rattle.std.specs.declared.cmp.Ordering.TheVariants.{Less};
 ghost use Rattle.dc_address.specs.declared.identity.Identity.{Identity};
 ghost use Rattle.dc_address.specs.Identity.{identity_cmp};
-ghost use Rattle.dc_meters.specs.State.{State, MeterRow, ReadingRow};
-ghost use Rattle.dc_meters.specs.Order.{MetersAscend, ReadingsAscend, IsNextSerial};
-ghost use Rattle.dc_meters.specs.Spelled.{SpellsState};
-ghost use Rattle.dc_meters.specs.Reading.{Gives, many, listed, count_at, entry_at, reading_at, head_at};
+ghost use Rattle.dc_changes.specs.Line.{longest_line};
+ghost use Rattle.dc_changes.specs.State.{State, MeterRow, ReadingRow};
+ghost use Rattle.dc_changes.specs.Order.{MetersAscend, ReadingsAscend, IsNextSerial};
+ghost use Rattle.dc_changes.specs.Spelled.{SpellsState};
+ghost use Rattle.dc_changes.specs.Reading.{Gives, Reads, many, listed, count_at, entry_at, reading_at, head_at};
 
 use super::House;
-use crate::decoding::parts_at;
-use crate::pieces::{
-    END_OF_NUMBERS, address_of, byte_at, count_at, counted_at, flat_of, identity_at, line_at,
-    long_at,
-};
-use crate::{CommandLine, DecodeFault, Meter, Reading};
+use crate::parts::parts_at;
+use crate::{Meter, Reading};
 use dc_address::Identity;
+use dc_changes::pieces::{
+    address_of, byte_at, count_at, counted_at, flat_of, identity_at, line_at, long_at,
+};
+use dc_changes::{CommandLine, DecodeFault, END_OF_NUMBERS, LONGEST_LINE};
 use std::alloc::Allocator;
 use std::collections::BTreeMap;
 
@@ -33,9 +34,9 @@ struct Head<'a> {
 }
 
 impl<'a> Head<'a> {
-    #[tactic(auto, unfolding(crate::specs::Reading::head_at))]
+    #[tactic(auto, unfolding(dc_changes::specs::Reading::head_at))]
     fn read(bytes: &'a [u8]) -> Result<(Head<'a>, &'a [u8]), DecodeFault>
-        ensures { Gives (λ x. (record { next_serial = x.0.next_serial; confirmed = x.0.confirmed; last_number = x.0.last_number; last_line = x.0.last_line.now }, x.1.now)) result (head_at bytes.now) }
+        ensures { Reads (λ x. (record { next_serial = x.0.next_serial; confirmed = x.0.confirmed; last_number = x.0.last_number; last_line = x.0.last_line.now }, x.1.now)) result (head_at bytes.now) }
     {
         let (next_serial, rest) = long_at(bytes)?;
         let (confirmed, rest) = long_at(rest)?;
@@ -44,7 +45,7 @@ impl<'a> Head<'a> {
         if next_serial > END_OF_NUMBERS
             || confirmed >= next_serial
             || last_number >= END_OF_NUMBERS
-            || last_line.len() > 120
+            || last_line.len() > LONGEST_LINE
         {
             return Err(DecodeFault::Bad);
         }
@@ -59,7 +60,7 @@ impl<'a> Head<'a> {
 }
 
 /// A meter and its row.
-#[tactic(auto, unfolding(crate::specs::Reading::entry_at, crate::specs::Reading::address_at, crate::specs::Reading::flat_at))]
+#[tactic(auto, unfolding(dc_changes::specs::Reading::entry_at, dc_changes::specs::Reading::address_at, dc_changes::specs::Reading::flat_at))]
 fn entry_at<A: Allocator + Copy>(
     alloc: A,
     bytes: &[u8],
@@ -77,7 +78,7 @@ fn entry_at<A: Allocator + Copy>(
 }
 
 /// A reading.
-#[tactic(auto, unfolding(crate::specs::Reading::reading_at, crate::specs::Reading::flat_at))]
+#[tactic(auto, unfolding(dc_changes::specs::Reading::reading_at, dc_changes::specs::Reading::flat_at))]
 fn reading_at<A: Allocator + Copy>(
     alloc: A,
     bytes: &[u8],
@@ -206,10 +207,10 @@ fn readings_at<A: Allocator + Copy>(
 /// The size of the state that the bytes spell with this last line, if it is within the budget.
 fn spelled_size(bytes: &[u8], last_line: &[u8], budget: u32) -> Option<u32>
     requires { length last_line.now ≤ length bytes.now }
-    ensures found { IfSome result (λ size. (size + length last_line.now ≡ length bytes.now + 120) × (size ≤ budget)) }
-    ensures none { IfNone result (length bytes.now + 120 ≤ budget + length last_line.now → ⊥) }
+    ensures found { IfSome result (λ size. (size + length last_line.now ≡ length bytes.now + longest_line) × (size ≤ budget)) }
+    ensures none { IfNone result (length bytes.now + longest_line ≤ budget + length last_line.now → ⊥) }
 {
-    let size = bytes.len() - last_line.len() + 120;
+    let size = bytes.len() - last_line.len() + LONGEST_LINE;
     if size <= budget as usize {
         Some(size as u32)
     } else {

@@ -2,15 +2,16 @@
 
 ghost use Rattle.std.specs.Prelude.{◌≡◌, ◌*◌, ◌≤◌, ◌<◌, ◌^◌, length, OnOk, OnErr};
 ghost use Rattle.std.specs.List.{flat_map};
-ghost use Rattle.dc_meters.specs.Encoding.{state_bytes, head_bytes, meters_bytes, readings_bytes, meter_bytes, reading_bytes};
-ghost use Rattle.dc_meters.specs.Writing.{IsWritten, IsStopped};
+ghost use Rattle.dc_changes.specs.Encoding.{state_bytes, head_bytes, meters_bytes, readings_bytes, meter_bytes, reading_bytes};
+ghost use Rattle.dc_changes.specs.Writing.{IsWritten, IsStopped};
 
 use super::House;
-use crate::encoding::{address_number, put_parts};
-use crate::writing::{put_byte, put_count, put_counted, put_identity, put_long};
+use crate::parts::put_parts;
 use crate::{Meter, Reading};
 use dc_address::Identity;
-use dc_records::{IoFault, Sink};
+use dc_changes::address_number;
+use dc_changes::writing::{put_byte, put_count, put_counted, put_identity, put_long};
+use dc_stream::{IoFault, Sink};
 use std::alloc::Allocator;
 use std::collections::BTreeMap;
 

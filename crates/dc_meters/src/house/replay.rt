@@ -1,25 +1,27 @@
 //! Changes that are read and applied one by one.
 
-ghost use Rattle.std.specs.Prelude.{◌≡◌, ◌+◌, List, true, false, OnOk, OnErr, IsErrOf};
-ghost use Rattle.dc_meters.specs.declared.change.Change.{Change};
-ghost use Rattle.dc_meters.specs.Apply.{applied};
-ghost use Rattle.dc_meters.specs.Accepts.{Accepts, IsNext};
-ghost use Rattle.dc_meters.specs.History.{after, AcceptsAll};
-ghost use Rattle.dc_meters.specs.Spelled.{SpellsChanges};
-ghost use Rattle.dc_meters.specs.Valid.{IsChange};
+ghost use Rattle.std.specs.Prelude.{◌≡◌, ℕ, List, OnOk, OnErr, IsErrOf};
+ghost use Rattle.dc_changes.specs.declared.change.Change.{Change};
+ghost use Rattle.dc_changes.specs.Apply.{applied};
+ghost use Rattle.dc_changes.specs.Accepts.{Accepts};
+ghost use Rattle.dc_changes.specs.History.{after, AcceptsAll};
+ghost use Rattle.dc_changes.specs.Spelled.{SpellsChanges};
+ghost use Rattle.dc_changes.specs.Valid.{IsChange};
+ghost use Rattle.dc_meters.specs.Replay.{IsApplied, IsHeldUp};
 
 use super::House;
-use crate::decoding::change_at;
-use crate::{Change, DecodeFault};
+use dc_changes::{Change, DecodeFault, change_at};
 use std::alloc::Allocator;
 
 impl<A: Allocator + Copy> House<A> {
     /// Applies the changes that the bytes spell, each as it is read. At the first that isn't accepted it ends with
-    /// `Bad`, as where the bytes spell no changes; those before it stay applied.
+    /// `Bad`, as where the bytes spell no changes, and with `NoMemory` at one that is accepted and finds no memory.
+    /// Those before it are a front of the bytes, and stay applied.
     pub fn replay(&mut self, bytes: &[u8]) -> Result<(), DecodeFault>
         ensures ok { OnOk result ((changes : List Change) × SpellsChanges bytes.now changes × AcceptsAll self.old.budget self.old.state changes × (self.new.state ≡ after self.old.state changes)) }
         ensures bad { IsErrOf result DecodeFault.Bad → (changes : List Change) → SpellsChanges bytes.now changes → AcceptsAll self.old.budget self.old.state changes → ⊥ }
-        ensures left { OnErr result ((changes : List Change) × AcceptsAll self.old.budget self.old.state changes × (self.new.state ≡ after self.old.state changes)) }
+        ensures no_memory { IsErrOf result DecodeFault.NoMemory → IsHeldUp self.old self.new bytes.now }
+        ensures left { OnErr result ((rest : List ℕ) × IsApplied self.old self.new bytes.now rest) }
         ensures budget { self.new.budget ≡ self.old.budget }
     {
         let mut rest = bytes;
@@ -37,6 +39,7 @@ impl<A: Allocator + Copy> House<A> {
         ensures accepted { OnOk result (Accepts self.old.budget change.now self.old.state) }
         ensures ok { OnOk result (self.new ≡ record self.old { state = applied change.now self.old.state }) }
         ensures bad { IsErrOf result DecodeFault.Bad → Accepts self.old.budget change.now self.old.state → ⊥ }
+        ensures no_memory { IsErrOf result DecodeFault.NoMemory → Accepts self.old.budget change.now self.old.state }
         ensures err { OnErr result (self.new ≡ self.old) }
     {
         if !self.is_next(change) || self.check(change).is_err() {
@@ -44,16 +47,5 @@ impl<A: Allocator + Copy> House<A> {
         }
         self.apply(change)?;
         Ok(())
-    }
-
-    /// Whether a command has the number after the last one's.
-    fn is_next(&self, change: &Change<'_>) -> bool
-        ensures yes { result ≡ true → IsNext change.now self.now.state }
-        ensures no { result ≡ false → IsNext change.now self.now.state → ⊥ }
-    {
-        match change {
-            Change::Telegram { .. } => true,
-            Change::Command { number, .. } => *number == self.last_number() + 1,
-        }
     }
 }

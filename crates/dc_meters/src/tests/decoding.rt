@@ -1,9 +1,10 @@
-// Bytes that are read back. The worked bytes are put together by hand from the format.
+//! Bytes that are read back. The worked bytes are put together by hand from the format.
 
 use super::{FIRST, LAST, apply, change, fit, told};
-use crate::{Change, Command, DecodeFault, Flat, House, decode_changes, encode_change};
+use crate::House;
 use dc_address::{Identity, Primary};
-use dc_records::Bytes;
+use dc_changes::{Change, Command, DecodeFault, Flat, encode_change};
+use dc_stream::Bytes;
 use refusing_alloc::Refusing;
 use std::alloc::Allocator;
 use std::process::Abort;
@@ -225,34 +226,6 @@ fn write_changes<A: Allocator>(bytes: &mut Bytes<A>) -> Result<(), Fail> {
 }
 
 #[test]
-fn a_change_of_each_tag_reads_back(rt: HostRuntime) -> Result<(), Fail> {
-    let mut bytes = Bytes::new(rt.alloc());
-    write_changes(&mut bytes)?;
-    let changes = decode_changes(rt.alloc(), bytes.as_slice())?;
-    assert_eq!(rt; changes.len(), 7);
-    let mut again = Bytes::new(rt.alloc());
-    for change in &changes {
-        encode_change(change, &mut again)?;
-    }
-    assert_eq!(rt; again.as_slice(), bytes.as_slice());
-    assert!(rt; decode_changes(rt.alloc(), b"")?.is_empty());
-
-    // a cut end, and a tag that there isn't
-    let whole = bytes.as_slice();
-    assert!(rt; whole.len() > 1);
-    let cut = decode_changes(rt.alloc(), &whole[..whole.len() - 1]);
-    assert!(rt; matches!(cut, Err(DecodeFault::Bad)));
-    for tag in [b"\0".as_slice(), b"\x07"] {
-        let more = [whole, tag, ZERO, A].concat(rt.alloc())?;
-        let refused = decode_changes(rt.alloc(), &more);
-        assert!(rt; matches!(refused, Err(DecodeFault::Bad)));
-    }
-    let name = format!(in rt.alloc(); "{}, {}", DecodeFault::Bad, DecodeFault::NoMemory)?;
-    assert_eq!(rt; name.as_str(), "1 Bad, 2 NoMemory");
-    Ok(())
-}
-
-#[test]
 fn changes_are_replayed(rt: HostRuntime) -> Result<(), Fail> {
     let mut bytes = Bytes::new(rt.alloc());
     write_changes(&mut bytes)?;
@@ -288,8 +261,6 @@ fn changes_are_replayed(rt: HostRuntime) -> Result<(), Fail> {
 // Each request is refused in turn, and the same call then succeeds.
 #[test]
 fn each_growth_of_a_reading_back_is_refused_in_turn(rt: HostRuntime) -> Result<(), Fail> {
-    let mut bytes = Bytes::new(rt.alloc());
-    write_changes(&mut bytes)?;
     let mut house = House::new(rt.alloc(), 15_616);
     for at in 0..3usize {
         apply(&rt, &mut house, &change(at)?)?;
@@ -298,7 +269,7 @@ fn each_growth_of_a_reading_back_is_refused_in_turn(rt: HostRuntime) -> Result<(
     let mut state = Bytes::new(rt.alloc());
     house.encode(&mut state)?;
     let heap = Refusing::new(rt.alloc());
-    let mut refused = (0, 0);
+    let mut refused = 0;
     for k in 1..30u64 {
         heap.refuse(k);
         if House::decode(&heap, state.as_slice(), 15_616).is_ok() {
@@ -306,20 +277,11 @@ fn each_growth_of_a_reading_back_is_refused_in_turn(rt: HostRuntime) -> Result<(
         }
         let again = House::decode(&heap, state.as_slice(), 15_616)?;
         assert_eq!(rt; again.size(), house.size());
-        refused.0 = k;
-    }
-    for k in 1..30u64 {
-        heap.refuse(k);
-        if decode_changes(&heap, bytes.as_slice()).is_ok() {
-            break;
-        }
-        assert_eq!(rt; decode_changes(&heap, bytes.as_slice())?.len(), 7);
-        refused.1 = k;
+        refused = k;
     }
 
-    // A map of meters, a list of parts and a body; a list of readings, a list of parts and two bodies. A list of
-    // changes grows twice.
-    assert_eq!(rt; refused, (7, 2));
+    // A map of meters, a list of parts and a body; a list of readings, a list of parts and two bodies.
+    assert_eq!(rt; refused, 7);
     Ok(())
 }
 

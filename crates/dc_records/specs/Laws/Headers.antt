@@ -5,7 +5,8 @@ use Rattle.byteorder.specs.Endian.{little_from}
 use Rattle.std.proofs.lemmas.Bool.{ltb-false, le-ltb, ltb-true}
 use Rattle.std.proofs.lemmas.Bool.Decides.{nat_tests}
 use Rattle.std.proofs.lemmas.List.{get_or-drop}
-use Rattle.dc_address.specs.Identity.{IsWire, is_identity, spelled_identity, same_from_wire, is_identity-wire_of}
+use Rattle.dc_address.specs.Identity.{IsWire, is_identity}
+use Rattle.dc_address.proofs.Identities.{spelled_identity, same_from_wire, is_identity-wire_of}
 use Rattle.dc_address.specs.declared.identity.Identity.{Identity}
 use Rattle.dc_records.specs.declared.fault.BodyFault.{BodyFault}
 use Rattle.dc_records.specs.declared.fault.BodyFault.TheVariants.{Short, BadIdentity}

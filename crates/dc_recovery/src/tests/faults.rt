@@ -42,7 +42,13 @@ fn a_failure_in_format_or_open_is_a_device_fault(rt: HostRuntime) -> Result<(), 
     for passes in 0..opening {
         let mut failing = disk.copy()?;
         failing.fail_once(passes);
-        assert_eq!(rt; opened(alloc, failing).err(), Some(OpenFault::Device));
+        match Store::open(alloc, failing) {
+            Err((fault, again)) => {
+                assert_eq!(rt; fault, OpenFault::Device);
+                assert_eq!(rt; opened(alloc, again)?.house.last_number(), 0);
+            }
+            Ok(_) => return Err(Fail::from("no call failed")),
+        }
     }
     Ok(())
 }

@@ -1,9 +1,10 @@
 // The bytes of an image.
 ghost use Rattle.std.specs.Prelude.{◌≤◌, length};
 
-use super::{accept, confirm, fit, formatted, opened};
-use dc_records::Bytes;
+use super::{Left, accept, compact, confirm, fit, formatted, opened, reads_alike, stop};
+use crate::{FormatFault, OpenFault, Store};
 use dc_sectors::{Disk, MemoryDisk};
+use dc_stream::Bytes;
 use std::alloc::Global;
 use std::process::Abort;
 use std::test::Fail;
@@ -11,7 +12,7 @@ use std::test::Fail;
 const ONE: &[u8] = b"12345678.PAD.01.07";
 
 /// A root sector of an image of 131 sectors.
-fn root(half: u8, generation: u8, session: u8, base_sequence: u8) -> [u8; 512] {
+pub(super) fn root(half: u8, generation: u8, session: u8, base_sequence: u8) -> [u8; 512] {
     let mut bytes = [0; 512];
     bytes[..5].copy_from_slice(&[0x4D, 0x42, 0x44, 0x43, 2]);
     bytes[5] = half;
@@ -23,7 +24,14 @@ fn root(half: u8, generation: u8, session: u8, base_sequence: u8) -> [u8; 512] {
 }
 
 /// A page or a commit sector: kind, used bytes and index, session and sequence, payload.
-fn stamped(kind: u8, used: u8, index: u8, session: u8, sequence: u8, payload: &[u8]) -> [u8; 512]
+pub(super) fn stamped(
+    kind: u8,
+    used: u8,
+    index: u8,
+    session: u8,
+    sequence: u8,
+    payload: &[u8],
+) -> [u8; 512]
     requires { length payload.now ≤ 488 }
 {
     let mut bytes = [0; 512];
@@ -37,7 +45,12 @@ fn stamped(kind: u8, used: u8, index: u8, session: u8, sequence: u8, payload: &[
     bytes
 }
 
-fn holds(rt: &impl Abort, disk: &mut MemoryDisk<Global>, n: u32, bytes: [u8; 512]) -> bool {
+pub(super) fn holds(
+    rt: &impl Abort,
+    disk: &mut MemoryDisk<Global>,
+    n: u32,
+    bytes: [u8; 512],
+) -> bool {
     assert!(rt; n < disk.count());
     disk.read(n) == Ok(bytes)
 }
@@ -64,7 +77,7 @@ fn an_open_begins_a_session_and_an_append_is_one_group(rt: HostRuntime) -> Resul
     assert_eq!(rt; life.store.budget(), 15_616);
     let mut bytes = Bytes::new(alloc);
     let change = fit(1, ONE, 1)?;
-    dc_meters::encode_change(&change, &mut bytes)?;
+    dc_changes::encode_change(&change, &mut bytes)?;
     assert_eq!(rt; accept(&rt, alloc, &mut life, &change)?, Ok(()));
     let mut disk = life.store.close();
     assert!(rt; holds(&rt, &mut disk, 1, root(0, 2, 2, 1)));
@@ -127,5 +140,77 @@ fn a_full_half_is_left_for_the_other(rt: HostRuntime) -> Result<(), Fail> {
     assert!(rt; holds(&rt, &mut disk, 1, root(0, 2, 2, 1)));
     let again = opened(alloc, disk)?;
     assert_eq!(rt; again.house.last_number(), 32);
+    Ok(())
+}
+
+/// Halves of 98 sectors: the second begins at 101.
+#[test]
+fn halves_are_as_long_as_the_disk_allows(rt: HostRuntime) -> Result<(), Fail> {
+    let alloc = rt.alloc();
+    let disk = match Store::format(MemoryDisk::new(alloc, 200)?) {
+        Ok(disk) => disk,
+        Err((fault, _)) => return Err(Fail::from(fault)),
+    };
+    let mut life = opened(alloc, disk)?;
+    assert_eq!(rt; life.store.budget(), 488 * 49);
+    assert_eq!(rt; accept(&rt, alloc, &mut life, &fit(1, ONE, 1)?)?, Ok(()));
+    assert_eq!(rt; compact(&rt, &mut life), Ok(()));
+    let state = super::encoded(alloc, &life.house)?;
+    let mut disk = life.store.close();
+    let size = state.as_slice().len();
+    assert!(rt; size < 256);
+    let base = stamped(0x42, size as u8, 0, 2, 3, state.as_slice());
+    assert!(rt; holds(&rt, &mut disk, 101, base));
+    let mut of_98 = root(1, 3, 2, 3);
+    of_98[32] = 98;
+    assert!(rt; holds(&rt, &mut disk, 2, of_98));
+    assert_eq!(rt; opened(alloc, disk)?.house.meters().len(), 1);
+    Ok(())
+}
+
+/// What an image before left in the halves isn't read.
+#[test]
+fn a_format_wipes_what_was_there(rt: HostRuntime) -> Result<(), Fail> {
+    let alloc = rt.alloc();
+    let mut life = opened(alloc, formatted(&rt, alloc)?)?;
+    assert_eq!(rt; accept(&rt, alloc, &mut life, &fit(1, ONE, 1)?)?, Ok(()));
+    let mut disk = life.store.close();
+    assert_eq!(rt; disk.count(), 131);
+    disk.write(1, &[0; 512])?;
+    disk.write(2, &[0; 512])?;
+    disk.sync()?;
+    let mut again = match Store::format(disk) {
+        Ok(again) => again,
+        Err((fault, _)) => return Err(Fail::from(fault)),
+    };
+    assert!(rt; reads_alike(&rt, &mut again, &mut formatted(&rt, alloc)?));
+    assert_eq!(rt; opened(alloc, again)?.house.meters().len(), 0);
+    Ok(())
+}
+
+/// Stopped in its reading, in the zeros, in the base group and in the root, with each pending sector picked alike.
+#[test]
+fn a_stop_in_a_format_leaves_no_image_or_an_empty_one(rt: HostRuntime) -> Result<(), Fail> {
+    let alloc = rt.alloc();
+    for &passes in &[0u64, 2, 3, 60, 133, 134, 135, 136, 137, 138] {
+        let mut disk = MemoryDisk::new(alloc, 131)?;
+        disk.fuse(passes);
+        let disk = match Store::format(disk) {
+            Err((FormatFault::Device, disk)) => disk,
+            _ => return Err(Fail::from("no call failed")),
+        };
+        for way in 0..3 {
+            let mut stopped = disk.copy()?;
+            assert!(rt; stop(alloc, &mut stopped, Left::Alike(way))?);
+            match opened(alloc, stopped) {
+                Ok(life) => assert_eq!(rt; life.house.last_number(), 0),
+                Err(OpenFault::NotImage) => {}
+                Err(fault) => {
+                    let slot = if passes < 137 { 1 } else { 2 };
+                    assert_eq!(rt; fault, OpenFault::Damaged(slot));
+                }
+            }
+        }
+    }
     Ok(())
 }

@@ -5,9 +5,9 @@ use super::{
     state_of, stop_at, told,
 };
 use crate::StoreFault;
-use dc_meters::encode_change;
-use dc_records::Bytes;
+use dc_changes::encode_change;
 use dc_sectors::{Disk, MemoryDisk};
+use dc_stream::Bytes;
 use std::alloc::Global;
 use std::process::Abort;
 use std::test::Fail;
@@ -31,18 +31,22 @@ fn stopped_in_append(
     Ok(life.store.close())
 }
 
+/// Stopped at the write of the page, at that of the commit sector, which counts as made, and at the sync.
 #[test]
 fn a_group_counts_once_all_of_it_is_there(rt: HostRuntime) -> Result<(), Fail> {
     let alloc = rt.alloc();
-    let disk = stopped_in_append(&rt, alloc, 2)?;
-    for image in 0..9 {
-        let mut stopped = disk.copy()?;
-        assert!(rt; stop_at(alloc, &mut stopped, image)?);
-        let life = opened(alloc, stopped)?;
-        assert_eq!(rt; life.house.meters().len(), if image == 8 { 1 } else { 0 });
+    for passes in 0..3 {
+        let disk = stopped_in_append(&rt, alloc, passes)?;
+        let images = if passes == 0 { 3 } else { 9 };
+        for image in 0..images {
+            let mut stopped = disk.copy()?;
+            assert!(rt; stop_at(alloc, &mut stopped, image)?);
+            let life = opened(alloc, stopped)?;
+            assert_eq!(rt; life.house.meters().len(), if image == 8 { 1 } else { 0 });
+        }
+        let mut none = disk.copy()?;
+        assert!(rt; !stop_at(alloc, &mut none, images)?);
     }
-    let mut none = disk.copy()?;
-    assert!(rt; !stop_at(alloc, &mut none, 9)?);
     Ok(())
 }
 

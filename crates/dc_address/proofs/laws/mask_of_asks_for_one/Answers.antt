@@ -1,4 +1,4 @@
-use Rattle.dc_address.specs.Mask.{mask_wire-mask_of, matches-mask_of, same_from_matches}
+use Rattle.dc_address.proofs.Masks.{mask_wire-mask_of, matches-mask_of, same_from_matches}
 use Rattle.dc_address.proofs.laws.mask_of_asks_for_one.Goals as goal
 
 pub returns-clause-own : goal.returns-clause-own

@@ -1,4 +1,4 @@
-use Rattle.dc_address.specs.Mask.{matches-with_digit}
+use Rattle.dc_address.proofs.Masks.{matches-with_digit}
 use Rattle.dc_address.proofs.laws.with_digit_narrows.Goals as goal
 
 pub returns : goal.returns

@@ -3,7 +3,8 @@ use Rattle.std.proofs.Common.{◌≡◌, ◌<◌, ◌^◌, ℕ, List, Option, So
 use Rattle.std.specs.List.{list_all}
 use Rattle.std.specs.Int.Digits.{number_from_digits}
 use Rattle.std.proofs.lemmas.List.{length-map}
-use Rattle.dc_address.specs.Digits.{decimal_digits, decimal_digits-number_from_digits, is_digit, number_from_digits-lt}
+use Rattle.dc_address.specs.Digits.{decimal_digits, is_digit}
+use Rattle.dc_address.proofs.Decimals.{decimal_digits-number_from_digits, number_from_digits-lt}
 use Rattle.dc_address.specs.Text.{code_value, decimal_code}
 use Rattle.dc_address.proofs.Texts.{codes_from_digits, digits_from_codes}
 use Rattle.dc_address.proofs.text.number_of_codes.Goals as goal

@@ -1,5 +1,5 @@
 use Rattle.std.proofs.Common.{arith}
-use Rattle.dc_fields.specs.Fields.{put_number}
+use Rattle.dc_fields.proofs.Numbers.{put_number}
 use Rattle.dc_fields.proofs.fields.put_u64.Goals as goal
 
 pub returns : goal.returns

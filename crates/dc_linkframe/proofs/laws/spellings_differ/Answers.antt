@@ -1,4 +1,4 @@
-use Rattle.dc_linkframe.specs.Spellings.{same_frame}
+use Rattle.dc_linkframe.proofs.Spellings.{same_frame}
 use Rattle.dc_linkframe.proofs.laws.spellings_differ.Goals as goal
 
 pub returns : goal.returns

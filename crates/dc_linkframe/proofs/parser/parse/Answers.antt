@@ -1,4 +1,4 @@
-use Rattle.dc_linkframe.specs.Spellings.{only_found, only_refused, same_as_read}
+use Rattle.dc_linkframe.proofs.Spellings.{only_found, only_refused, same_as_read}
 use Rattle.dc_linkframe.proofs.parser.parse.Goals as goal
 
 pub returns-clause-only : goal.returns-clause-only

@@ -1,6 +1,6 @@
 use Rattle.std.proofs.Common.{slice_index_or, ap, sym, ◌∙◌, arith}
 use Rattle.dc_linkframe.specs.Fault.{fault_of}
-use Rattle.dc_linkframe.specs.Spellings.{long_parts, wrong_sum, long_found}
+use Rattle.dc_linkframe.proofs.Spellings.{long_parts, wrong_sum, long_found}
 use Rattle.dc_linkframe.proofs.parser.read_long.Goals as goal
 
 pub returns-then-sum-checksum-clause-refused : goal.returns-then-sum-checksum-clause-refused

@@ -1,4 +1,4 @@
-use Rattle.dc_pages.specs.OneSync.{one_sync}
+use Rattle.dc_pages.proofs.OneSync.{one_sync}
 use Rattle.dc_pages.proofs.laws.complete_as_written.Goals as goal
 
 pub returns : goal.returns

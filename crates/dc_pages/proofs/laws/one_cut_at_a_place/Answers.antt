@@ -1,4 +1,4 @@
-use Rattle.dc_pages.specs.Cut.{one_cut}
+use Rattle.dc_pages.proofs.Cut.{one_cut}
 use Rattle.dc_pages.proofs.laws.one_cut_at_a_place.Goals as goal
 
 pub returns : goal.returns

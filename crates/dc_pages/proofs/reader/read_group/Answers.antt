@@ -2,7 +2,7 @@ use Rattle.std.proofs.Common.{◌≡◌, ◌+◌, Bool, false, Ok, Err, arith, s
 use Rattle.std.specs.Prelude.{if◌then◌else◌}
 use Rattle.std.proofs.lemmas.Result.{err_from_is_err_and}
 use Rattle.dc_sectors.specs.Disk.{Choices, IsImage}
-use Rattle.dc_sectors.specs.Moments.{goes_on}
+use Rattle.dc_sectors.proofs.Moments.{goes_on}
 use Rattle.dc_pages.specs.Judging.{IsStep}
 use Rattle.dc_pages.specs.declared.fault.GroupFault.{GroupFault}
 use Rattle.dc_pages.specs.declared.fault.GroupFault.TheVariants.{Incomplete}
@@ -53,5 +53,5 @@ loop-at-preserved g c =
       any_moment = λ h. goes_on g.D.Disk.moment g.D.Disk.images_since c.args.disk.now c.loop-at.disk c.read_next.new.disk (IsImage (g.D.Disk.choices c.args.disk.now)) _ (so_far.any_moment h) (next.time h)
           (λ image is. subst (λ (d : Choices). IsImage d image) (so_far.choices h) is);
       count = next.count ∙ so_far.count;
-      failures = omega arith;
+      failures = next.passed (λ is. absurd (cc is)) ∙ so_far.failures;
     }

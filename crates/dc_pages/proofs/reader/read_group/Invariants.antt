@@ -1,4 +1,4 @@
-use Rattle.std.proofs.Common.{◌≡◌, ◌≤◌, ◌+◌}
+use Rattle.std.proofs.Common.{◌≡◌, ◌+◌}
 use Rattle.dc_sectors.specs.Disk.{IsImage, LeavesOnly}
 use Rattle.dc_pages.specs.Reading.{IsBegun}
 use Rattle.dc_pages.proofs.reader.read_group.Given as goal
@@ -12,5 +12,5 @@ invariant-loop-at g l = record {
   choices : g.D.Disk.honest → g.D.Disk.choices l.disk ≡ g.D.Disk.choices l.fn.disk;
   any_moment : g.D.Disk.honest → LeavesOnly g.D.Disk.moment g.D.Disk.images_since l.fn.disk l.disk (IsImage (g.D.Disk.choices l.fn.disk));
   count : g.D.Disk.sectors l.disk ≡ g.D.Disk.sectors l.fn.disk;
-  failures : g.D.Disk.failures l.fn.disk ≤ g.D.Disk.failures l.disk;
+  failures : g.D.Disk.failures l.disk ≡ g.D.Disk.failures l.fn.disk;
 }

@@ -8,9 +8,9 @@ abbrev pub invariant-lines : goal.invariant-lines
 invariant-lines g l = record {
   digits : 4096 ≤ length l.digits;
   bytes : 2048 ≤ length l.bytes;
-  text : append_known (append_known (g.W.Sink.written l.writer) l.room) (text_of l.rest) ≡ append_known (append_known (g.W.Sink.written l.initial.writer) l.initial.room) (text_of l.input);
+  text : append_known (g.W.Sink.written l.out) (text_of l.rest) ≡ append_known (g.W.Sink.written l.initial.out) (text_of l.input);
   fault : (l.found || has_fault l.rest) ≡ has_fault l.input;
-  ok : g.W.Sink.put_failures l.writer ≡ g.W.Sink.put_failures l.initial.writer;
+  ok : g.W.Sink.put_failures l.out ≡ g.W.Sink.put_failures l.initial.out;
 }
 
 abbrev pub decreases-lines : goal.decreases-lines

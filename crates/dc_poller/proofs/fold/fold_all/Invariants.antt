@@ -1,6 +1,6 @@
 use Rattle.std.proofs.Common.{◌≤◌, length, Bool, List, ℕ}
 use Rattle.std.specs.Prelude.{◌||◌}
-use Rattle.dc_meters.specs.State.{Held}
+use Rattle.dc_changes.specs.State.{Held}
 use Rattle.dc_poller.specs.Fold.{AreSteps}
 use Rattle.dc_poller.specs.Lines.{lines_of}
 use Rattle.dc_poller.proofs.fold.fold_all.Given as goal
@@ -9,8 +9,8 @@ use Rattle.dc_poller.proofs.fold.fold_all.Given as goal
 abbrev pub invariant-lines : goal.invariant-lines
 invariant-lines g l = record {
   bytes : 2048 ≤ length l.bytes;
-  steps : (found : Bool) (house : Held) (text : List ℕ) → AreSteps (lines_of l.rest) found l.house house l.text.items text
-      → AreSteps (lines_of l.input) (l.found || found) l.initial.house house l.initial.text.items text;
+  steps : (found : Bool) (house : Held) (text : List ℕ) → AreSteps (lines_of l.rest) found l.house house l.text.bytes text
+      → AreSteps (lines_of l.input) (l.found || found) l.initial.house house l.initial.text.bytes text;
 }
 
 abbrev pub decreases-lines : goal.decreases-lines

@@ -1,5 +1,5 @@
 use Rattle.std.proofs.Common.{arith, Some, refl}
-use Rattle.dc_meters.specs.declared.change.Change.TheVariants.{Command as Numbered}
+use Rattle.dc_changes.specs.declared.change.Change.TheVariants.{Command as Numbered}
 use Rattle.dc_poller.proofs.fold.fold_line.Goals as goal
 
 pub returns-in-Some : goal.returns-in-Some

@@ -1,5 +1,5 @@
 use Rattle.std.proofs.Common.{arith, Some, refl, sym, subst, ◌∙◌}
-use Rattle.dc_meters.specs.declared.change.Change.TheVariants.{Telegram}
+use Rattle.dc_changes.specs.declared.change.Change.TheVariants.{Telegram}
 use Rattle.dc_poller.specs.Fold.{SpellsTelegram}
 use Rattle.dc_poller.proofs.fold.fold_telegram.Goals as goal
 

@@ -6,9 +6,9 @@ use Rattle.dc_poller.proofs.frames.put_frames.Given as goal
 
 abbrev pub invariant-frames : goal.invariant-frames
 invariant-frames g l = record {
-  text : append_known (append_known (g.W.Sink.written l.writer) l.room) (all_shown (frames_of l.rest)) ≡ append_known (append_known (g.W.Sink.written l.initial.writer) l.initial.room) (all_shown (frames_of l.bytes));
+  text : append_known (g.W.Sink.written l.out) (all_shown (frames_of l.rest)) ≡ append_known (g.W.Sink.written l.initial.out) (all_shown (frames_of l.bytes));
   fault : (l.found || any_bad (frames_of l.rest)) ≡ any_bad (frames_of l.bytes);
-  ok : g.W.Sink.put_failures l.writer ≡ g.W.Sink.put_failures l.initial.writer;
+  ok : g.W.Sink.put_failures l.out ≡ g.W.Sink.put_failures l.initial.out;
 }
 
 abbrev pub decreases-frames : goal.decreases-frames

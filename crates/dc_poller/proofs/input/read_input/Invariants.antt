@@ -1,5 +1,5 @@
 use Rattle.std.proofs.Common.{◌≡◌, ◌-◌, ◌<◌, vec_len, length}
-use Rattle.dc_records.specs.Stream.{Takes}
+use Rattle.dc_stream.specs.Stream.{Takes}
 use Rattle.dc_poller.proofs.input.read_input.Given as goal
 
 abbrev pub invariant-takes : goal.invariant-takes

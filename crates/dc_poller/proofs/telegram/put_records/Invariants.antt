@@ -5,6 +5,6 @@ use Rattle.dc_poller.proofs.telegram.put_records.Given as goal
 
 abbrev pub invariant-records : goal.invariant-records
 invariant-records g l = record {
-  text : append_known (append_known (g.W.Sink.written l.writer) l.room) (record_lines l.found-iterator) ≡ append_known (append_known (g.W.Sink.written l.initial.writer) l.initial.room) (record_lines l.fn.records);
-  ok : g.W.Sink.put_failures l.writer ≡ g.W.Sink.put_failures l.initial.writer;
+  text : append_known (g.W.Sink.written l.out) (record_lines l.found-iterator) ≡ append_known (g.W.Sink.written l.initial.out) (record_lines l.fn.records);
+  ok : g.W.Sink.put_failures l.out ≡ g.W.Sink.put_failures l.initial.out;
 }

@@ -1,6 +1,6 @@
 use Rattle.std.proofs.Common.{◌+◌, suc, subst, sym}
 use Rattle.dc_sectors.specs.Disk.{Image}
-use Rattle.dc_sectors.specs.Moments.{weakened, goes_on, at_end}
+use Rattle.dc_sectors.proofs.Moments.{weakened, goes_on, at_end}
 use Rattle.dc_recovery.specs.Language.{after}
 use Rattle.dc_recovery.specs.Stands.{IsReady}
 use Rattle.dc_recovery.proofs.Appended.{appending_stands, appended_ready}

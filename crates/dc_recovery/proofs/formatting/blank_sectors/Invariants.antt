@@ -1,10 +1,14 @@
 use Rattle.std.proofs.Common.{◌≡◌, ◌<◌, ◌≤◌, ℕ}
-use Rattle.dc_recovery.specs.Stands.{blank}
+use Rattle.dc_sectors.specs.Disk.{LeavesOnly, settled}
+use Rattle.dc_recovery.specs.Stands.{blank, IsWiped}
+use Rattle.dc_recovery.proofs.Wiped.{WipedChoices}
 use Rattle.dc_recovery.proofs.formatting.blank_sectors.Given as goal
 
 abbrev pub invariant-loop-n : goal.invariant-loop-n
 invariant-loop-n g l = record {
   blanks : g.D.Disk.honest → (k : ℕ) → 1 ≤ k → k < l.n → g.D.Disk.reads l.disk k ≡ blank;
+  choices : g.D.Disk.honest → g.D.Disk.choices l.fn.disk ≡ settled (g.D.Disk.reads l.fn.disk) → WipedChoices (g.D.Disk.reads l.fn.disk) (g.D.Disk.choices l.disk);
+  any_moment : g.D.Disk.honest → g.D.Disk.choices l.fn.disk ≡ settled (g.D.Disk.reads l.fn.disk) → LeavesOnly g.D.Disk.moment g.D.Disk.images_since l.fn.disk l.disk (IsWiped (g.D.Disk.reads l.fn.disk));
   count : g.D.Disk.sectors l.disk ≡ g.D.Disk.sectors l.fn.disk;
   failures : g.D.Disk.failures l.fn.disk ≤ g.D.Disk.failures l.disk;
 }

@@ -1,4 +1,4 @@
-use Rattle.dc_sectors.specs.Moments.{weakened}
+use Rattle.dc_sectors.proofs.Moments.{weakened}
 use Rattle.dc_recovery.proofs.Session.{session_step, session_done}
 use Rattle.dc_recovery.proofs.opening.begin_session.Goals as goal
 

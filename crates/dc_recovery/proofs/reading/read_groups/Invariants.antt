@@ -1,5 +1,5 @@
 use Rattle.std.proofs.Common.{◌-◌, ◌≡◌, ◌≤◌, ℕ}
-use Rattle.dc_sectors.specs.Disk.{IsImage, LeavesOnly}
+use Rattle.dc_recovery.specs.Looked.{OnlyLooked}
 use Rattle.dc_recovery.specs.Halves.{half_end, budget_of}
 use Rattle.dc_recovery.specs.Stands.{IsReached}
 use Rattle.dc_recovery.proofs.reading.read_groups.Given as goal
@@ -12,11 +12,8 @@ invariant-groups g l = record {
   root : l.found.root ≡ l.fn.found.root;
   budget : l.found.house.budget ≡ l.fn.found.house.budget;
   within : l.found.place ≤ l.limit;
-  reads : g.D.Disk.honest → g.D.Disk.reads l.disk ≡ g.D.Disk.reads l.fn.disk;
-  choices : g.D.Disk.honest → g.D.Disk.choices l.disk ≡ g.D.Disk.choices l.fn.disk;
-  any_moment : g.D.Disk.honest → LeavesOnly g.D.Disk.moment g.D.Disk.images_since l.fn.disk l.disk (IsImage (g.D.Disk.choices l.fn.disk));
-  count : g.D.Disk.sectors l.disk ≡ g.D.Disk.sectors l.fn.disk;
-  failures : g.D.Disk.failures l.fn.disk ≤ g.D.Disk.failures l.disk;
+  looked : OnlyLooked g.D.Disk.honest g.D.Disk.reads g.D.Disk.choices g.D.Disk.moment g.D.Disk.images_since g.D.Disk.sectors g.D.Disk.failures l.fn.disk l.disk;
+  passed : g.D.Disk.failures l.disk ≡ g.D.Disk.failures l.fn.disk;
 }
 
 abbrev pub decreases-groups : goal.decreases-groups

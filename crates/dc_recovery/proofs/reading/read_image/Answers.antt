@@ -3,31 +3,29 @@ use Rattle.dc_sectors.specs.Disk.{Image}
 use Rattle.dc_roots.specs.declared.root.Root.{Root}
 use Rattle.dc_recovery.specs.Halves.{half_end}
 use Rattle.dc_recovery.specs.Stands.{IsCurrent, IsReached, IsRead}
-use Rattle.dc_recovery.proofs.ReadMoments.{read_on}
+use Rattle.dc_recovery.proofs.ReadMoments.{looked_on}
 use Rattle.dc_recovery.proofs.reading.read_image.Goals as goal
 
-pub returns-in_err-found-clause-any_moment : goal.returns-in_err-found-clause-any_moment
-returns-in_err-found-clause-any_moment g c h =
-    read_on g.D.Disk.moment g.D.Disk.images_since g.D.Disk.choices c.args.disk.now c.current_root.new.disk c.read_base.new.disk (c.current_root.ensures.any_moment h) (c.current_root.ensures.choices h) (c.read_base.ensures.any_moment h)
+pub returns-in_err-found-clause-looked : goal.returns-in_err-found-clause-looked
+returns-in_err-found-clause-looked g c =
+    looked_on g.D.Disk.honest g.D.Disk.reads g.D.Disk.choices g.D.Disk.moment g.D.Disk.images_since g.D.Disk.sectors g.D.Disk.failures c.args.disk.now c.current_root.new.disk c.read_base.new.disk c.current_root.ensures.looked c.read_base.ensures.looked
 
-pub returns-in_err-read_groups-clause-any_moment : goal.returns-in_err-read_groups-clause-any_moment
-returns-in_err-read_groups-clause-any_moment g c h =
-    read_on g.D.Disk.moment g.D.Disk.images_since g.D.Disk.choices c.args.disk.now c.read_base.new.disk c.read_groups.new.disk
-    (read_on g.D.Disk.moment g.D.Disk.images_since g.D.Disk.choices c.args.disk.now c.current_root.new.disk c.read_base.new.disk (c.current_root.ensures.any_moment h) (c.current_root.ensures.choices h) (c.read_base.ensures.any_moment h))
-    (c.read_base.ensures.choices h ∙ c.current_root.ensures.choices h) (c.read_groups.ensures.any_moment h)
+pub returns-in_err-read_groups-clause-looked : goal.returns-in_err-read_groups-clause-looked
+returns-in_err-read_groups-clause-looked g c =
+    looked_on g.D.Disk.honest g.D.Disk.reads g.D.Disk.choices g.D.Disk.moment g.D.Disk.images_since g.D.Disk.sectors g.D.Disk.failures c.args.disk.now c.read_base.new.disk c.read_groups.new.disk
+    (looked_on g.D.Disk.honest g.D.Disk.reads g.D.Disk.choices g.D.Disk.moment g.D.Disk.images_since g.D.Disk.sectors g.D.Disk.failures c.args.disk.now c.current_root.new.disk c.read_base.new.disk c.current_root.ensures.looked c.read_base.ensures.looked) c.read_groups.ensures.looked
 
-pub returns-clause-any_moment : goal.returns-clause-any_moment
-returns-clause-any_moment g c h =
-    read_on g.D.Disk.moment g.D.Disk.images_since g.D.Disk.choices c.args.disk.now c.read_base.new.disk c.read_groups.new.disk
-    (read_on g.D.Disk.moment g.D.Disk.images_since g.D.Disk.choices c.args.disk.now c.current_root.new.disk c.read_base.new.disk (c.current_root.ensures.any_moment h) (c.current_root.ensures.choices h) (c.read_base.ensures.any_moment h))
-    (c.read_base.ensures.choices h ∙ c.current_root.ensures.choices h) (c.read_groups.ensures.any_moment h)
+pub returns-clause-looked : goal.returns-clause-looked
+returns-clause-looked g c =
+    looked_on g.D.Disk.honest g.D.Disk.reads g.D.Disk.choices g.D.Disk.moment g.D.Disk.images_since g.D.Disk.sectors g.D.Disk.failures c.args.disk.now c.read_base.new.disk c.read_groups.new.disk
+    (looked_on g.D.Disk.honest g.D.Disk.reads g.D.Disk.choices g.D.Disk.moment g.D.Disk.images_since g.D.Disk.sectors g.D.Disk.failures c.args.disk.now c.current_root.new.disk c.read_base.new.disk c.current_root.ensures.looked c.read_base.ensures.looked) c.read_groups.ensures.looked
 
 pub returns-clause-all : goal.returns-clause-all
 returns-clause-all g c h =
     let H = c.args.half_len in
     let old = g.D.Disk.reads c.args.disk.now in
-    let chosen : g.D.Disk.reads c.current_root.new.disk ≡ old = c.current_root.ensures.reads h in
-    let based : g.D.Disk.reads c.read_base.new.disk ≡ g.D.Disk.reads c.current_root.new.disk = c.read_base.ensures.reads h in
+    let chosen : g.D.Disk.reads c.current_root.new.disk ≡ old = c.current_root.ensures.looked.reads_same h in
+    let based : g.D.Disk.reads c.read_base.new.disk ≡ g.D.Disk.reads c.current_root.new.disk = c.read_base.ensures.looked.reads_same h in
     let root = c.in_ok-root.root in
     let found = c.in_ok-found.found in
     let same_root : found.root ≡ root = c.in_ok-found.ensures.root in

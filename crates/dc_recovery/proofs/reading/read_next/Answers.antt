@@ -1,17 +1,16 @@
 use Rattle.std.proofs.Common.{◌≡◌, ◌+◌, ℕ, List, arith, subst, sym, inr, refl}
 use Rattle.dc_pages.specs.Group.{IsComplete, change_kind}
-use Rattle.dc_pages.specs.OneSync.{not_commit}
-use Rattle.dc_pages.specs.Cut.{cut_incomplete}
+use Rattle.dc_pages.proofs.OneSync.{not_commit}
+use Rattle.dc_pages.proofs.Cut.{cut_incomplete}
 use Rattle.dc_recovery.specs.Language.{SpellsChanges, AcceptsAll}
-use Rattle.dc_recovery.specs.Stands.{image_version}
 use Rattle.dc_recovery.proofs.Steps.{group_reached, group_bad}
 use Rattle.dc_recovery.proofs.reading.read_next.Goals as goal
 
 pub returns-in-Err-Incomplete-clause-none : goal.returns-in-Err-Incomplete-clause-none
 returns-in-Err-Incomplete-clause-none g c h was sequence next small complete =
     let e : sequence ≡ c.args.found.now.last + 1 = next in
-    cut_incomplete image_version change_kind (c.args.found.now.last + 1) c.args.found.now.place c.args.limit _ (g.D.Disk.reads c.args.disk.now) (not_commit change_kind (inr refl)) (c.read_group.ensures.incomplete h c.in-Err-Incomplete.field-0-0 (cc))
-    (subst (λ (q : ℕ). IsComplete image_version change_kind q c.args.found.now.place c.args.limit (g.D.Disk.reads c.args.disk.now)) e complete)
+    cut_incomplete c.args.found.now.root.version change_kind (c.args.found.now.last + 1) c.args.found.now.place c.args.limit _ (g.D.Disk.reads c.args.disk.now) (not_commit change_kind (inr refl)) (c.read_group.ensures.incomplete h c.in-Err-Incomplete.field-0-0 (cc))
+    (subst (λ (q : ℕ). IsComplete c.args.found.now.root.version change_kind q c.args.found.now.place c.args.limit (g.D.Disk.reads c.args.disk.now)) e complete)
 
 pub returns-in-Err-Bad-clause-refused : goal.returns-in-Err-Bad-clause-refused
 returns-in-Err-Bad-clause-refused g c h half_len at_limit budget reached =

@@ -1,5 +1,5 @@
 use Rattle.std.proofs.Common.{◌<◌, ◌-◌, ◌^◌, arith}
-use Rattle.dc_sectors.specs.Moments.{started, goes_on, weakened, at_end}
+use Rattle.dc_sectors.proofs.Moments.{started, goes_on, weakened, at_end}
 use Rattle.dc_roots.specs.Root.{next_of, root_bytes}
 use Rattle.dc_recovery.proofs.RootWrite.{root_write, unwritten_root}
 use Rattle.dc_recovery.proofs.rooting.put_root.Goals as goal

@@ -1,5 +1,6 @@
 use Rattle.std.proofs.Common.{arith, ap, ◌∙◌, ℕ}
-use Rattle.dc_roots.specs.Root.{root_bytes-is_root, root_bytes, next_of, slot}
+use Rattle.dc_roots.proofs.Spelled.{root_bytes-is_root}
+use Rattle.dc_roots.specs.Root.{root_bytes, next_of, slot}
 use Rattle.dc_roots.proofs.Writing.{unwritten, written}
 use Rattle.dc_roots.proofs.writer.write_next.Goals as goal
 

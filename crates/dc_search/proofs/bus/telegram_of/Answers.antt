@@ -1,10 +1,11 @@
 -- A frame is read as it was written, and its body's header has the meter's identity.
 use Rattle.std.proofs.Common.{◌≡◌, ℕ, ◌+◌, List, [], ◌∷◌, ◌++◌, Some, take, drop, arith, ap, sym, ◌∙◌, refl, length-append}
 use Rattle.std.proofs.Math.Seq.{take-append_seam, drop-append_seam}
-use Rattle.dc_address.specs.Identity.{length-wire_of, wire_of}
+use Rattle.dc_address.specs.Identity.{wire_of}
+use Rattle.dc_address.proofs.Identities.{length-wire_of}
 use Rattle.dc_address.specs.declared.identity.Identity.{Identity}
 use Rattle.dc_linkframe.specs.Frame.{long}
-use Rattle.dc_linkframe.specs.Spellings.{frame_of-spelling}
+use Rattle.dc_linkframe.proofs.Spellings.{frame_of-spelling}
 use Rattle.dc_records.specs.Laws.Headers.{at_found}
 use Rattle.dc_search.specs.Answer.{answer_of, identity_at, identity_in, identity_of}
 use Rattle.dc_search.proofs.bus.telegram_of.Goals as goal

@@ -5,7 +5,8 @@ use Rattle.std.specs.Int.Digits.{number_from_digits}
 use Rattle.byteorder.specs.Endian.{little_number}
 use Rattle.dc_address.specs.Digits.{is_digit, unpacked_digits}
 use Rattle.dc_address.specs.Maker.{is_maker}
-use Rattle.dc_address.specs.Identity.{is_identity, WireParts, wire_from_parts, test_from_parts}
+use Rattle.dc_address.specs.Identity.{is_identity}
+use Rattle.dc_address.proofs.Identities.{WireParts, wire_from_parts, test_from_parts}
 use Rattle.dc_address.proofs.Wires.{back_of, only_answer, refused_by_digits, refused_by_maker, digits_read, maker_read, parts_read}
 use Rattle.dc_address.proofs.identity.Identity.from_wire.Goals as goal
 

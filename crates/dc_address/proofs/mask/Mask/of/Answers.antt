@@ -1,7 +1,6 @@
-use Rattle.std.proofs.Common.{Some, map, ap, sym, ◌∙◌, subst}
-use Rattle.dc_address.specs.Mask.{IsMask}
-use Rattle.dc_address.proofs.Masks.{IsMask-fixed}
+use Rattle.dc_address.proofs.Masks.{IsMask-mask_of}
 use Rattle.dc_address.proofs.mask.Mask.of.Goals as goal
 
 pub invariant_of-result : goal.invariant_of-result
-invariant_of-result c = subst IsMask (sym (c.fixed.ensures ∙ ap (map Some) c.digits_of.ensures)) (IsMask-fixed c.args.identity.now.number)
+invariant_of-result c =
+    rw (c.fixed.ensures, c.digits_of.ensures, c.value_or_wildcard.ensures, c.value_or_wildcard-2.ensures) (IsMask-mask_of c.args.identity.now)

@@ -1,9 +1,9 @@
 use Rattle.std.proofs.Common.{◌≡◌, ◌+◌, [], false, ap, sym, ◌∙◌, arith}
 use Rattle.std.specs.Prelude.{is_some}
-use Rattle.dc_meters.specs.State.{State, Held, MeterRow, row_of}
-use Rattle.dc_meters.specs.Apply.{fitted}
-use Rattle.dc_meters.specs.Accepts.{is_taken}
-use Rattle.dc_meters.specs.Size.{size_of}
+use Rattle.dc_changes.specs.State.{State, Held, MeterRow, row_of}
+use Rattle.dc_changes.specs.Apply.{fitted}
+use Rattle.dc_changes.specs.Accepts.{is_taken}
+use Rattle.dc_changes.specs.Size.{size_of}
 use Rattle.dc_meters.proofs.Sizes.{size_of-fitted}
 use Rattle.dc_meters.proofs.Acceptance.{none_of}
 use Rattle.dc_meters.proofs.house.House.check_fit.Goals as goal

@@ -1,7 +1,7 @@
 use Rattle.std.proofs.Common.{◌≡◌, ◌+◌, ◌-◌, Some, ap, sym, ◌∙◌, arith, length}
-use Rattle.dc_meters.specs.State.{State, Held, MeterRow, row_of}
-use Rattle.dc_meters.specs.Apply.{moved}
-use Rattle.dc_meters.specs.Size.{size_of}
+use Rattle.dc_changes.specs.State.{State, Held, MeterRow, row_of}
+use Rattle.dc_changes.specs.Apply.{moved}
+use Rattle.dc_changes.specs.Size.{size_of}
 use Rattle.dc_meters.proofs.Sizes.{size_of-moved, meter_size-le}
 use Rattle.dc_meters.proofs.house.House.check_move.Goals as goal
 

@@ -1,7 +1,7 @@
 use Rattle.std.proofs.Common.{◌≡◌, ℕ, ◌+◌, ◌-◌, ◌<◌, List, ap, subst, sym, arith, sum_by, filter, nat_lt}
-use Rattle.dc_meters.specs.State.{State, Held, ReadingRow}
-use Rattle.dc_meters.specs.Size.{reading_size}
-use Rattle.dc_meters.specs.Apply.{confirmed_up_to}
+use Rattle.dc_changes.specs.State.{State, Held, ReadingRow}
+use Rattle.dc_changes.specs.Size.{reading_size}
+use Rattle.dc_changes.specs.Apply.{confirmed_up_to}
 use Rattle.dc_meters.proofs.Keeps.{IsKept-confirmed}
 use Rattle.dc_meters.proofs.Readings.{confirmed_before}
 use Rattle.dc_meters.proofs.house.House.confirm.Goals as goal

@@ -2,17 +2,15 @@ use Rattle.std.proofs.Common.{◌≡◌, length, List, ℕ, [], Err, Some, refl,
 use Rattle.std.proofs.lemmas.Bool.Decides.{nat_tests}
 use Rattle.std.proofs.lemmas.List.{nil_from_length}
 use Rattle.std.proofs.lemmas.Result.{err_from_is_err_and}
-use Rattle.dc_meters.specs.declared.decode_fault.DecodeFault.{DecodeFault}
-use Rattle.dc_meters.specs.Reading.{Head, head_at}
-use Rattle.dc_meters.proofs.Runs.{is_bad, bad_exit}
+use Rattle.dc_changes.specs.declared.decode_fault.DecodeFault.{DecodeFault}
+use Rattle.dc_changes.specs.Reading.{Head}
+use Rattle.dc_changes.proofs.Runs.{is_bad}
 use Rattle.dc_meters.proofs.Decoded.{behind_head, no_head, too_large, behind_meters, ascend_of, behind_readings, line_within, decoded}
 use Rattle.dc_meters.proofs.house.House.decode.Goals as goal
 
 pub returns-in_err-head-clause-bad : goal.returns-in_err-head-clause-bad
 returns-in_err-head-clause-bad g c = λ bad s spells.
-    let p = err_from_is_err_and c.from_residual.result c.from_residual.ensures.1 in
-    let none = bad_exit c.from_residual.result p.0 c.in_err-head.field-0.0 (head_at c.args.bytes.now) p.1 p.2 c.in_err-head.ensures bad in
-    no_head c.args.budget c.args.bytes.now s c.ranges.budget.fits spells none
+    no_head c.args.budget c.args.bytes.now s c.ranges.budget.fits spells c.in_err-head.ensures.1
 
 pub spelled_size-requires : goal.spelled_size-requires
 spelled_size-requires g c =

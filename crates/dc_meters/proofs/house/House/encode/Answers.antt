@@ -1,9 +1,9 @@
 use Rattle.std.proofs.Common.{◌≡◌, sym, ap, ◌∙◌, arith, length, List}
-use Rattle.dc_meters.specs.State.{State, Held, ReadingRow}
+use Rattle.dc_changes.specs.State.{State, Held, ReadingRow}
 use Rattle.dc_meters.proofs.Sizes.{meters-le, readings-le}
-use Rattle.dc_meters.specs.Size.{size_of}
-use Rattle.dc_meters.specs.Writing.{written_both, stopped_first, stopped_second}
-use Rattle.dc_meters.proofs.Writes.{on_any_err}
+use Rattle.dc_changes.specs.Size.{size_of}
+use Rattle.dc_changes.proofs.Writes.{written_both, stopped_first, stopped_second}
+use Rattle.dc_changes.proofs.Writes.{on_any_err}
 use Rattle.dc_meters.proofs.house.House.encode.Goals as goal
 
 pub returns-in_err-put_head-clause-err : goal.returns-in_err-put_head-clause-err

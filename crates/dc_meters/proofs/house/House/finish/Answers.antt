@@ -1,9 +1,9 @@
 use Rattle.std.proofs.Common.{rules, ◌∷◌, ◌++◌, ◌≡◌, ◌<◌, ◌≤◌, [], Option, true, false, ap, subst, sym, ◌∙◌, arith}
-use Rattle.dc_meters.specs.State.{State, Held, MeterRow, row_of}
-use Rattle.dc_meters.specs.Accepts.{continues}
-use Rattle.dc_meters.specs.Apply.{heard}
-use Rattle.dc_meters.specs.Valid.{end_of_numbers}
-use Rattle.dc_meters.specs.Size.{size_of}
+use Rattle.dc_changes.specs.State.{State, Held, MeterRow, row_of}
+use Rattle.dc_changes.specs.Accepts.{continues}
+use Rattle.dc_changes.specs.Apply.{heard}
+use Rattle.dc_changes.specs.Valid.{end_of_numbers}
+use Rattle.dc_changes.specs.Size.{size_of}
 use Rattle.dc_meters.proofs.Keeps.{IsKept-heard_last}
 use Rattle.dc_meters.proofs.house.House.finish.Goals as goal
 

@@ -3,9 +3,9 @@ use Rattle.std.specs.Map.{keys_of}
 use Rattle.std.specs.List.Sorted.{IsStrictlySortedBy}
 use Rattle.dc_address.specs.declared.identity.Identity.{Identity}
 use Rattle.dc_address.specs.Identity.{identity_cmp}
-use Rattle.dc_meters.specs.State.{State, Held, MeterRow, row_of}
-use Rattle.dc_meters.specs.Size.{size_of}
-use Rattle.dc_meters.specs.Apply.{fitted}
+use Rattle.dc_changes.specs.State.{State, Held, MeterRow, row_of}
+use Rattle.dc_changes.specs.Size.{size_of}
+use Rattle.dc_changes.specs.Apply.{fitted}
 use Rattle.dc_meters.proofs.Sizes.{size_of-fitted}
 use Rattle.dc_meters.proofs.Keeps.{IsKept-fitted}
 use Rattle.dc_meters.proofs.house.House.fit.Goals as goal

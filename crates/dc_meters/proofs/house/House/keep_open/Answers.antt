@@ -1,8 +1,8 @@
 use Rattle.std.proofs.Common.{◌≡◌, ◌≤◌, Option, true, ap, subst, sym, ◌∙◌, arith}
-use Rattle.dc_meters.specs.State.{State, Held, MeterRow, row_of}
-use Rattle.dc_meters.specs.Accepts.{continues}
-use Rattle.dc_meters.specs.Apply.{heard}
-use Rattle.dc_meters.specs.Size.{size_of}
+use Rattle.dc_changes.specs.State.{State, Held, MeterRow, row_of}
+use Rattle.dc_changes.specs.Accepts.{continues}
+use Rattle.dc_changes.specs.Apply.{heard}
+use Rattle.dc_changes.specs.Size.{size_of}
 use Rattle.dc_meters.proofs.Keeps.{IsKept-heard_open}
 use Rattle.dc_meters.proofs.house.House.keep_open.Goals as goal
 

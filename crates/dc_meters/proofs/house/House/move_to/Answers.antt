@@ -1,7 +1,7 @@
 use Rattle.std.proofs.Common.{◌≤◌, subst, sym, arith}
-use Rattle.dc_meters.specs.State.{State, Held, row_of}
-use Rattle.dc_meters.specs.Apply.{moved}
-use Rattle.dc_meters.specs.Size.{size_of}
+use Rattle.dc_changes.specs.State.{State, Held, row_of}
+use Rattle.dc_changes.specs.Apply.{moved}
+use Rattle.dc_changes.specs.Size.{size_of}
 use Rattle.dc_meters.proofs.Keeps.{IsKept-moved}
 use Rattle.dc_meters.proofs.house.House.move_to.Goals as goal
 

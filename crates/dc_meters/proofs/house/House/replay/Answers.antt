@@ -1,21 +1,20 @@
 use Rattle.std.proofs.Common.{◌<◌, length, Err, ap, arith}
 use Rattle.std.proofs.lemmas.Bool.Decides.{nat_tests}
 use Rattle.std.proofs.lemmas.Result.{err_from_is_err_and}
-use Rattle.dc_meters.specs.declared.decode_fault.DecodeFault.{DecodeFault}
-use Rattle.dc_meters.specs.Reading.{change_at}
-use Rattle.dc_meters.proofs.Runs.{is_bad, bad_exit, none_spelled, read_on, apply_on, none_accepted}
+use Rattle.dc_changes.specs.declared.decode_fault.DecodeFault.{DecodeFault}
+use Rattle.dc_changes.specs.declared.decode_fault.DecodeFault.TheVariants.{NoMemory}
+use Rattle.dc_changes.proofs.Runs.{fault_is, is_bad, none_spelled, read_on}
+use Rattle.dc_meters.proofs.Replays.{up_to, held_up, apply_on, none_accepted}
 use Rattle.dc_meters.proofs.house.House.replay.Goals as goal
 
 pub returns-in_err-change-clause-bad : goal.returns-in_err-change-clause-bad
 returns-in_err-change-clause-bad g c = λ bad changes spells accepted.
-    let p = err_from_is_err_and c.from_residual.result c.from_residual.ensures.1 in
-    let none = bad_exit c.from_residual.result p.0 c.in_err-change.field-0.0 (change_at c.loop-rest.rest.now) p.1 p.2 c.in_err-change.ensures bad in
     let some : 0 < length c.loop-rest.rest.now = grind (arith, nat_tests) in
-    none_spelled c.args.bytes.now c.loop-rest.invariant.changes changes c.loop-rest.rest.now c.loop-rest.invariant.up_to some none spells
+    none_spelled c.args.bytes.now c.loop-rest.invariant.changes changes c.loop-rest.rest.now (up_to c.loop-rest.invariant) some c.in_err-change.ensures.1 spells
 
 pub accept-requires : goal.accept-requires
 accept-requires g c =
-    let more = read_on c.args.bytes.now c.loop-rest.invariant.changes c.loop-rest.rest.now c.in_ok-change.change c.in_ok-change.after.now (λ i. omega (arith, c.type_inv.bytes i)) c.loop-rest.invariant.up_to c.in_ok-change.ensures in
+    let more = read_on c.args.bytes.now c.loop-rest.invariant.changes c.loop-rest.rest.now c.in_ok-change.change c.in_ok-change.after.now (λ i. omega (arith, c.type_inv.bytes i)) (up_to c.loop-rest.invariant) c.in_ok-change.ensures in
     more.is_change
 
 pub returns-in_err-accept-clause-bad : goal.returns-in_err-accept-clause-bad
@@ -26,9 +25,16 @@ returns-in_err-accept-clause-bad g c = λ bad changes spells accepted.
     none_accepted c.args.self.now c.loop-rest.self c.args.bytes.now c.loop-rest.rest.now c.in_ok-change.change c.in_ok-change.after.now changes c.loop-rest.invariant some c.in_ok-change.ensures
     (c.in_err-accept.ensures.bad (ap (λ (e : DecodeFault). Err e) fault)) spells accepted
 
+pub returns-in_err-accept-clause-no_memory : goal.returns-in_err-accept-clause-no_memory
+returns-in_err-accept-clause-no_memory g c = λ none.
+    let p = err_from_is_err_and c.from_residual-in_err-accept.result c.from_residual-in_err-accept.ensures.1 in
+    let fault = fault_is c.from_residual-in_err-accept.result p.0 c.in_err-accept.field-0.0 NoMemory p.1 p.2 none in
+    rw c.in_err-accept.ensures.err (held_up c.args.self.now c.loop-rest.self c.args.bytes.now c.loop-rest.rest.now c.in_ok-change.change c.in_ok-change.after.now
+    (λ i. omega (arith, c.type_inv.bytes i)) c.loop-rest.invariant c.in_ok-change.ensures (c.in_err-accept.ensures.no_memory (ap (λ (e : DecodeFault). Err e) fault)))
+
 pub loop-rest-smaller : goal.loop-rest-smaller
 loop-rest-smaller g c =
-    let more = read_on c.args.bytes.now c.loop-rest.invariant.changes c.loop-rest.rest.now c.in_ok-change.change c.in_ok-change.after.now (λ i. omega (arith, c.type_inv.bytes i)) c.loop-rest.invariant.up_to c.in_ok-change.ensures in
+    let more = read_on c.args.bytes.now c.loop-rest.invariant.changes c.loop-rest.rest.now c.in_ok-change.change c.in_ok-change.after.now (λ i. omega (arith, c.type_inv.bytes i)) (up_to c.loop-rest.invariant) c.in_ok-change.ensures in
     more.shorter
 
 pub loop-rest-preserved : goal.loop-rest-preserved

@@ -4,10 +4,10 @@ use Rattle.std.specs.BTreeMap.{is_at}
 use Rattle.std.specs.List.Sorted.{IsStrictlySortedBy}
 use Rattle.dc_address.specs.declared.identity.Identity.{Identity}
 use Rattle.dc_address.specs.Identity.{identity_cmp}
-use Rattle.dc_meters.specs.State.{State, Held, MeterRow, row_of}
-use Rattle.dc_meters.specs.Apply.{fitted}
-use Rattle.dc_meters.specs.Size.{meter_size}
-use Rattle.dc_meters.specs.Valid.{IsMeter}
+use Rattle.dc_changes.specs.State.{State, Held, MeterRow, row_of}
+use Rattle.dc_changes.specs.Apply.{fitted}
+use Rattle.dc_changes.specs.Size.{meter_size}
+use Rattle.dc_changes.specs.Valid.{IsMeter}
 use Rattle.dc_meters.proofs.Identities.{apart_from_rows}
 use Rattle.dc_meters.proofs.Sizes.{meter_size-le}
 use Rattle.dc_meters.proofs.Keeps.{IsKept-swapped}

@@ -3,7 +3,7 @@ use Rattle.std.specs.Map.{keys_of}
 use Rattle.std.specs.List.Sorted.{IsStrictlySortedBy}
 use Rattle.dc_address.specs.declared.identity.Identity.{Identity}
 use Rattle.dc_address.specs.Identity.{identity_cmp}
-use Rattle.dc_meters.specs.State.{State, MeterRow}
+use Rattle.dc_changes.specs.State.{State, MeterRow}
 use Rattle.dc_meters.proofs.Sizes.{meter_size-le}
 use Rattle.dc_meters.proofs.Keeps.{IsKept-taken_out}
 use Rattle.dc_meters.proofs.house.House.take_out.Goals as goal

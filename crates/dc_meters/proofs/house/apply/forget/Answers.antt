@@ -1,7 +1,7 @@
 use Rattle.std.proofs.Common.{rules, ap, arith, nat_lt, filter, sum_by, List}
 use Rattle.std.proofs.lemmas.Fn.{filter_same}
-use Rattle.dc_meters.specs.State.{ReadingRow}
-use Rattle.dc_meters.specs.Size.{reading_size}
+use Rattle.dc_changes.specs.State.{ReadingRow}
+use Rattle.dc_changes.specs.Size.{reading_size}
 use Rattle.dc_meters.proofs.house.apply.forget.Goals as goal
 
 -- the closure only tests

@@ -1,5 +1,5 @@
 use Rattle.std.proofs.Common.{◌≡◌, ◌+◌, take, filter, nat_lt, sum_by}
-use Rattle.dc_meters.specs.Size.{reading_size}
+use Rattle.dc_changes.specs.Size.{reading_size}
 use Rattle.dc_meters.proofs.house.apply.size_up_to.Given as goal
 
 -- those that go and those that stay, so far

@@ -1,7 +1,7 @@
 use Rattle.std.proofs.lemmas.Result.{err_from_is_err_and}
-use Rattle.dc_meters.specs.Reading.{many, reading_at}
+use Rattle.dc_changes.specs.Reading.{many, reading_at}
 use Rattle.dc_meters.proofs.Counts.{ends, is_done}
-use Rattle.dc_meters.proofs.Runs.{bad_exit}
+use Rattle.dc_changes.proofs.Runs.{bad_exit}
 use Rattle.dc_meters.proofs.Lists.{no_readings, reading_refused, reading_kept}
 use Rattle.dc_meters.proofs.house.decode.each_reading.Goals as goal
 

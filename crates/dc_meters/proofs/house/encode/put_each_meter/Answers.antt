@@ -1,10 +1,11 @@
 use Rattle.std.proofs.Common.{rules, ◌≡◌, List, [], ◌∷◌, ◌++◌, ap, sym, subst, ◌∙◌, append_assoc}
 use Rattle.std.specs.List.{flat_map}
 use Rattle.dc_address.specs.declared.identity.Identity.{Identity}
-use Rattle.dc_meters.specs.State.{MeterRow}
-use Rattle.dc_meters.specs.Encoding.{meter_bytes}
-use Rattle.dc_meters.specs.Writing.{IsStopped, written_none, written_both, stopped_first, stopped_second}
-use Rattle.dc_meters.proofs.Writes.{on_any_err}
+use Rattle.dc_changes.specs.State.{MeterRow}
+use Rattle.dc_changes.specs.Encoding.{meter_bytes}
+use Rattle.dc_changes.specs.Writing.{IsStopped}
+use Rattle.dc_changes.proofs.Writes.{written_none, written_both, stopped_first, stopped_second}
+use Rattle.dc_changes.proofs.Writes.{on_any_err}
 use Rattle.dc_meters.proofs.house.encode.put_each_meter.Goals as goal
 
 pub loop-meter-init : goal.loop-meter-init

@@ -1,6 +1,6 @@
 use Rattle.std.proofs.Common.{arith}
-use Rattle.dc_meters.specs.Encoding.{reading_bytes}
-use Rattle.dc_meters.proofs.Writes.{on_any_err}
+use Rattle.dc_changes.specs.Encoding.{reading_bytes}
+use Rattle.dc_changes.proofs.Writes.{on_any_err}
 use Rattle.dc_meters.proofs.Loops.{written_more, stopped_within}
 use Rattle.dc_meters.proofs.house.encode.put_each_reading.Goals as goal
 

@@ -1,7 +1,7 @@
 use Rattle.std.specs.List.{flat_map}
 use Rattle.std.proofs.Common.{take}
-use Rattle.dc_meters.specs.Encoding.{reading_bytes}
-use Rattle.dc_meters.specs.Writing.{IsWritten}
+use Rattle.dc_changes.specs.Encoding.{reading_bytes}
+use Rattle.dc_changes.specs.Writing.{IsWritten}
 use Rattle.dc_meters.proofs.house.encode.put_each_reading.Given as goal
 
 -- those so far went in

@@ -1,6 +1,6 @@
-use Rattle.dc_meters.specs.Writing.{written_both, stopped_first, stopped_second}
-use Rattle.dc_meters.proofs.Writes.{on_any_err}
-use Rattle.dc_meters.specs.Encoding.{reading_bytes}
+use Rattle.dc_changes.proofs.Writes.{written_both, stopped_first, stopped_second}
+use Rattle.dc_changes.proofs.Writes.{on_any_err}
+use Rattle.dc_changes.specs.Encoding.{reading_bytes}
 use Rattle.dc_meters.proofs.house.encode.put_reading.Goals as goal
 
 pub returns-in_err-put_long-clause-err : goal.returns-in_err-put_long-clause-err

@@ -1,6 +1,6 @@
 use Rattle.std.proofs.Common.{◌≡◌, ◌+◌, ℕ, suc, arith, ap, subst, sym, ◌∙◌, refl}
 use Rattle.dc_sectors.specs.Disk.{Image, settled}
-use Rattle.dc_sectors.specs.Moments.{started}
+use Rattle.dc_sectors.proofs.Moments.{started}
 use Rattle.dc_roots.specs.declared.root.Root.{Root}
 use Rattle.dc_recovery.specs.Halves.{half_len_of, half_end}
 use Rattle.dc_recovery.specs.Store.{Kept}

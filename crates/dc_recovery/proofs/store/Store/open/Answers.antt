@@ -15,10 +15,11 @@ returns-in-Ok-clause-kept g c h each =
     let ready = c.in-Ok.ensures.ready h (subst (λ (n : ℕ). EachStands n (g.D.Disk.choices c.args.disk)) (sym at) each) in
     record {
       running = refl;
+      version = c.in-Ok.ensures.version;
       is_settled = c.in-Ok.ensures.durable h;
-      m = ready.0;
-      ready = subst (λ (n : ℕ). IsReady n found.root ready.0 found.place found.house.state (g.D.Disk.reads disk)) same ready.1;
-      last_is = ready.2;
+      m = ready.m;
+      ready = subst (λ (n : ℕ). IsReady n found.root ready.m found.place found.house.state (g.D.Disk.reads disk)) same ready.ready;
+      last_is = ready.last_is;
     }
 
 pub returns-in-Ok-clause-any_moment : goal.returns-in-Ok-clause-any_moment

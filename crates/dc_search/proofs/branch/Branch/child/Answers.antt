@@ -1,5 +1,6 @@
 use Rattle.std.proofs.Common.{◌≡◌, ◌<◌, ◌+◌, ◌*◌, ℕ, List, length, arith, ap, sym, ◌∙◌, ◌++◌, ◌∷◌, []}
-use Rattle.dc_address.specs.Digits.{decimal_digits, length-decimal_digits}
+use Rattle.dc_address.specs.Digits.{decimal_digits}
+use Rattle.dc_address.proofs.Decimals.{length-decimal_digits}
 use Rattle.dc_search.proofs.Branches.{IsBranch-child, decimal_digits-push, few_digits}
 use Rattle.dc_search.proofs.branch.Branch.child.Goals as goal
 

@@ -1,5 +1,5 @@
 use Rattle.std.proofs.Common.{length, ◌==◌, ap, sym, ◌∙◌}
-use Rattle.dc_address.specs.Digits.{length-decimal_digits}
+use Rattle.dc_address.proofs.Decimals.{length-decimal_digits}
 use Rattle.dc_search.proofs.branch.Branch.is_full.Goals as goal
 
 pub returns : goal.returns

@@ -1,6 +1,6 @@
 use Rattle.std.proofs.Common.{ap, sym, ◌∙◌}
 use Rattle.std.specs.Int.Digits.{number_from_digits}
-use Rattle.dc_address.specs.Digits.{number_from_digits-decimal_digits}
+use Rattle.dc_address.proofs.Decimals.{number_from_digits-decimal_digits}
 use Rattle.dc_search.proofs.branch.Branch.number.Goals as goal
 
 pub returns : goal.returns

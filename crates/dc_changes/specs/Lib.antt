@@ -1,0 +1,19 @@
+-- the definitions that contracts cite
+pub mod Fault
+pub mod DecodeFault
+pub mod Flat
+pub mod Body
+pub mod State
+pub mod Words
+pub mod Line
+pub mod ChangeLine
+pub mod Apply
+pub mod Size
+pub mod Valid
+pub mod Order
+pub mod Accepts
+pub mod History
+pub mod Writing
+pub mod Encoding
+pub mod Spelled
+pub mod Reading

@@ -1,0 +1,65 @@
+//! Why bytes aren't read.
+
+ghost use Rattle.std.specs.Prelude.{◌≡◌};
+ghost use Rattle.dc_changes.specs.DecodeFault.{number_of, name_of};
+ghost use Rattle.dc_changes.specs.declared.decode_fault.DecodeFault.TheVariants.{NoMemory};
+
+use std::alloc::{AllocError, AllocFailed};
+use thiserror::Error;
+
+/// Why bytes aren't read.
+#[derive(Clone, Copy, Debug, PartialEq, Eq, Error)]
+pub enum DecodeFault {
+    /// They spell nothing of what was asked for.
+    #[error("{} {}", self.number(), self.name())]
+    Bad,
+    /// Memory was refused.
+    #[error("{} {}", self.number(), self.name())]
+    NoMemory,
+}
+
+impl DecodeFault {
+    /// The fault's number.
+    pub fn number(&self) -> u8
+        ensures { result ≡ number_of self.now }
+    {
+        match self {
+            DecodeFault::Bad => 1,
+            DecodeFault::NoMemory => 2,
+        }
+    }
+
+    /// The fault's name.
+    pub fn name(&self) -> &'static str
+        ensures { result.now ≡ name_of self.now }
+    {
+        match self {
+            DecodeFault::Bad => "Bad",
+            DecodeFault::NoMemory => "NoMemory",
+        }
+    }
+}
+
+impl From<dc_base::NoMemory> for DecodeFault {
+    ghost from_gives = { λ _ e. e ≡ NoMemory };
+
+    fn from(_error: dc_base::NoMemory) -> DecodeFault {
+        DecodeFault::NoMemory
+    }
+}
+
+impl From<AllocError> for DecodeFault {
+    ghost from_gives = { λ _ e. e ≡ NoMemory };
+
+    fn from(_error: AllocError) -> DecodeFault {
+        DecodeFault::NoMemory
+    }
+}
+
+impl<T: Drop> From<AllocFailed<T>> for DecodeFault {
+    ghost from_gives = { λ _ e. e ≡ NoMemory };
+
+    fn from(_error: AllocFailed<T>) -> DecodeFault {
+        DecodeFault::NoMemory
+    }
+}

@@ -1,0 +1,190 @@
+-- A run goes on by one turn.
+use Rattle.std.proofs.Common.{◌≡◌, ◌≤◌, ◌+◌, ℕ, max, List, [], ◌∷◌, ◌++◌, Option, None, Some, Result, Ok, Err, length, take, refl, ap, sym, subst, ◌∙◌, arith, append_assoc, length-append}
+use Rattle.std.specs.Prelude.{map}
+use Rattle.std.proofs.lemmas.List.{map-append, append-nil, take-append-le, length-take-le, flat_map_more}
+use Rattle.std.proofs.Math.Seq.{take-append-add}
+use Rattle.dc_sectors.specs.Disk.{Image, Choices, IsImage, LeavesOnly}
+use Rattle.dc_sectors.proofs.Moments.{started as begun, followed}
+use Rattle.dc_changes.specs.State.{State}
+use Rattle.dc_changes.specs.declared.change.Change.{Change}
+use Rattle.dc_changes.specs.History.{after}
+use Rattle.dc_changes.proofs.History.{after_of_append}
+use Rattle.dc_recovery.specs.Halves.{half_len_of}
+use Rattle.dc_recovery.specs.Stands.{Stands, StandsForFront}
+use Rattle.dc_recovery.specs.Store.{Kept}
+use Rattle.dc_core.specs.declared.line_heard.LineHeard.TheVariants.{Again, Ready, Accepted, Failed}
+use Rattle.dc_core.specs.Core.{Core, opened}
+use Rattle.dc_core.specs.Event.{Event, Answer, starts, asks, hears, commits, started, asked, heard, committed}
+use Rattle.dc_core.specs.Step.{May, next}
+use Rattle.dc_core.specs.Transcript.{Turn, leads, IsChain, accepted_by, accepted_in}
+use Rattle.dc_core.specs.Promised.{Seen, nothing_seen, and_seen, seen_from, promised_in, HoldsFront}
+use Rattle.dc_core.specs.Images.{Machine, IsAt, StandsForPromised}
+use Rattle.dc_core.specs.Text.{answer_text, run_text}
+use Rattle.dc_core.specs.Run.{Turned, Ran}
+use Rattle.dc_core.proofs.Fronts.{promised_is_committed, promised_within}
+use Rattle.dc_core.proofs.Followed.{none_is_unknown}
+
+-- ---- a chain with one turn more
+
+leads_push : (core : Core) (turns : List Turn) (t : Turn) → leads core (turns ++ t ∷ []) ≡ next (leads core turns) t.0 t.1
+leads_push core [] t = refl
+leads_push core (u ∷ turns) t = leads_push (next core u.0 u.1) turns t
+
+chain_push : (budget : ℕ) (core : Core) (turns : List Turn) (t : Turn) → IsChain budget core turns → May budget (leads core turns) t.0 t.1 → IsChain budget core (turns ++ t ∷ [])
+chain_push budget core [] t chain may = (may, tt)
+chain_push budget core (u ∷ turns) t chain may = (chain.0, chain_push budget (next core u.0 u.1) turns t chain.1 may)
+
+accepted_push : (core : Core) (turns : List Turn) (t : Turn) → accepted_in core (turns ++ t ∷ []) ≡ accepted_in core turns ++ accepted_by (leads core turns) t.0 t.1
+accepted_push core [] t = append-nil (accepted_by core t.0 t.1)
+accepted_push core (u ∷ turns) t =
+    ap (λ (x : List Change). accepted_by core u.0 u.1 ++ x) (accepted_push (next core u.0 u.1) turns t)
+    ∙ sym (append_assoc (accepted_by core u.0 u.1) (accepted_in (next core u.0 u.1) turns) (accepted_by (leads (next core u.0 u.1) turns) t.0 t.1))
+
+seen_push : (seen : Seen) (turns : List Turn) (t : Turn) → seen_from seen (turns ++ t ∷ []) ≡ and_seen t.0 t.1 (seen_from seen turns)
+seen_push seen [] t = refl
+seen_push seen (u ∷ turns) t = seen_push (and_seen u.0 u.1 seen) turns t
+
+-- no turn takes a promise back
+still_promised : (event : Event) (answer : Answer) (seen : Seen) → seen.promised ≤ seen.accepted → seen.promised ≤ (and_seen event answer seen).promised
+still_promised (hears line moment bytes) (heard (Ok (Accepted part more))) seen within = omega arith
+still_promised (hears line moment bytes) (heard (Ok Again)) seen within = omega arith
+still_promised (hears line moment bytes) (heard (Ok Ready)) seen within = omega arith
+still_promised (hears line moment bytes) (heard (Ok (Failed why))) seen within = omega arith
+still_promised (hears line moment bytes) (heard (Err fault)) seen within = omega arith
+still_promised (asks line) (asked (Some request)) seen within = omega arith
+still_promised (asks line) (asked None) seen within = omega arith
+still_promised commits (committed (Ok count)) seen within = within
+still_promised commits (committed (Err fault)) seen within = omega arith
+still_promised (starts line meter) (started answer) seen within = omega arith
+still_promised (starts line meter) (asked answer) seen within = omega arith
+still_promised (starts line meter) (heard answer) seen within = omega arith
+still_promised (starts line meter) (committed answer) seen within = omega arith
+still_promised (asks line) (started answer) seen within = omega arith
+still_promised (asks line) (heard answer) seen within = omega arith
+still_promised (asks line) (committed answer) seen within = omega arith
+still_promised (hears line moment bytes) (started answer) seen within = omega arith
+still_promised (hears line moment bytes) (asked answer) seen within = omega arith
+still_promised (hears line moment bytes) (committed answer) seen within = omega arith
+still_promised commits (started answer) seen within = omega arith
+still_promised commits (asked answer) seen within = omega arith
+still_promised commits (heard answer) seen within = omega arith
+
+promised_push : (budget : ℕ) (state : State) (turns : List Turn) (t : Turn) → IsChain budget (opened state) turns → promised_in turns ≤ promised_in (turns ++ t ∷ [])
+promised_push budget state turns t chain =
+    subst (λ (s : Seen). promised_in turns ≤ s.promised) (sym (seen_push nothing_seen turns t)) (still_promised t.0 t.1 (seen_from nothing_seen turns) (promised_within budget state turns chain))
+
+-- ---- what images stand for
+
+grown : (half_len : ℕ) (state : State) (promised : ℕ) (changes more : List Change) (image : Image) → StandsForPromised half_len state promised changes image → StandsForPromised half_len state promised (changes ++ more) image
+grown half_len state promised changes more image stands =
+    let within = stands.front.within in
+    record {
+      front = record { count = stands.front.count; within = omega (arith, within, length-append changes more); stands = rw take-append-le stands.front.stands };
+      all_promised = stands.all_promised;
+    }
+
+fewer : (half_len : ℕ) (state : State) (few promised : ℕ) (changes : List Change) (image : Image) → few ≤ promised → StandsForPromised half_len state promised changes image → StandsForPromised half_len state few changes image
+fewer half_len state few promised changes image less stands = let all = stands.all_promised in record { front = stands.front; all_promised = omega (arith, less, all) }
+
+-- What is committed and a front of what is pending is the first state and a front of what was accepted, with all that is promised.
+from_first : (half_len : ℕ) (state : State) (turns : List Turn) (core : Core) (image : Image) → HoldsFront state turns core → StandsForFront half_len core.committed core.pending image
+    → StandsForPromised half_len state (promised_in turns) (accepted_in (opened state) turns) image
+from_first half_len state turns core image holds stands =
+    let all = accepted_in (opened state) turns in
+    let done = take holds.count all in
+    let within = stands.within in
+    let parts = ap length holds.pending ∙ length-append done core.pending in
+    let least = holds.promised in
+    let counted = length-take-le holds.count all holds.within in
+    let cut : take (length done + stands.count) all ≡ done ++ take stands.count core.pending = ap (take (length done + stands.count)) holds.pending ∙ take-append-add done core.pending stands.count in
+    let e : after core.committed (take stands.count core.pending) ≡ after state (take (length done + stands.count) all) =
+    ap (λ (s : State). after s (take stands.count core.pending)) holds.committed ∙ sym (after_of_append state done (take stands.count core.pending)) ∙ ap (after state) (sym cut) in
+    record {
+      front = record {
+        count = length done + stands.count;
+        within = omega (arith, within, parts);
+        stands = subst (λ (s : State). Stands half_len s image) e stands.stands;
+      };
+      all_promised = omega (arith, least, counted);
+    }
+
+module _ {D : Type 0} (honest : Type 0) (sectors : D → ℕ) (reads : D → Image) (choices : D → Choices) (moment : D → ℕ) (images_since : D → ℕ → Image → Type 0) where
+  -- a call that leaves the store
+  pub at_rest : (machine new : Machine D) (core : Core) → IsAt honest sectors reads choices machine core → honest → new.store ≡ machine.store
+      → ((image : Image) → images_since machine.store.disk (moment machine.store.disk) image → IsImage (choices machine.store.disk) image)
+      → LeavesOnly moment images_since machine.store.disk new.store.disk (StandsForFront (half_len_of (sectors machine.store.disk)) core.committed core.pending)
+  at_rest machine new core at h same only =
+      let P : Image → Type 0 = StandsForFront (half_len_of (sectors machine.store.disk)) core.committed core.pending in
+      subst (λ (s : Kept D). LeavesOnly moment images_since machine.store.disk s.disk P) (sym same)
+      (begun moment images_since machine.store.disk P (λ image left. at.leaves h image (only image left)))
+
+  -- no event yet
+  pub ran_none : (budget : ℕ) (state : State) (before : List Turn) (wrote : List ℕ → Type 0) (machine : Machine D) → IsChain budget (opened state) before → IsAt honest sectors reads choices machine (leads (opened state) before)
+      → (honest → (image : Image) → images_since machine.store.disk (moment machine.store.disk) image → IsImage (choices machine.store.disk) image) → wrote []
+      → Ran honest sectors reads choices moment images_since budget state before [] wrote machine machine
+  ran_none budget state before wrote machine chain at only text =
+      let e = sym (append-nil before) in
+      let H = half_len_of (sectors machine.store.disk) in
+      let all = accepted_in (opened state) before in
+      let core = leads (opened state) before in
+      let stands : honest → (image : Image) → IsImage (choices machine.store.disk) image → StandsForPromised H state (promised_in before) all image =
+      λ h image is. from_first H state before core image (promised_is_committed budget state before chain) (at.leaves h image is) in
+      record {
+        turns = [];
+        events_are = refl;
+        chain = subst (IsChain budget (opened state)) e chain;
+        text = text;
+        at = subst (λ (ts : List Turn). IsAt honest sectors reads choices machine (leads (opened state) ts)) e at;
+        holds = promised_is_committed budget state (before ++ []) (subst (IsChain budget (opened state)) e chain);
+        knows = none_is_unknown budget state (before ++ []) (subst (IsChain budget (opened state)) e chain);
+        count = refl;
+        kept = subst (λ (ts : List Turn). promised_in before ≤ promised_in ts) e (omega arith);
+        leaves = λ h. subst (λ (ts : List Turn). LeavesOnly moment images_since machine.store.disk machine.store.disk (StandsForPromised H state (promised_in before) (accepted_in (opened state) ts))) e
+            (begun moment images_since machine.store.disk (StandsForPromised H state (promised_in before) all) (λ image left. stands h image (only h image left)));
+        behind = λ h image is. subst (λ (ts : List Turn). StandsForPromised H state (promised_in ts) (accepted_in (opened state) ts) image) e (stands h image is);
+      }
+
+  -- one event more
+  pub ran_more : (budget : ℕ) (state : State) (before : List Turn) (events : List Event) (event : Event) (wrote piece all_wrote : List ℕ → Type 0) (first old new : Machine D)
+      → (ran : Ran honest sectors reads choices moment images_since budget state before events wrote first old)
+      → (turned : Turned honest sectors reads choices budget (leads (opened state) (before ++ ran.turns)) event piece new) → sectors new.store.disk ≡ sectors old.store.disk
+      → ((text more : List ℕ) → wrote text → piece more → all_wrote (text ++ more))
+      → (honest → LeavesOnly moment images_since old.store.disk new.store.disk (StandsForFront (half_len_of (sectors old.store.disk)) (leads (opened state) (before ++ ran.turns)).committed (leads (opened state) (before ++ ran.turns)).pending))
+      → Ran honest sectors reads choices moment images_since budget state before (events ++ event ∷ []) all_wrote first new
+  ran_more budget state before events event wrote piece all_wrote first old new ran turned count joins left =
+      let t : Turn = (event, turned.answer) in
+      let past = before ++ ran.turns in
+      let e : past ++ t ∷ [] ≡ before ++ (ran.turns ++ t ∷ []) = append_assoc before ran.turns (t ∷ []) in
+      let core = leads (opened state) past in
+      let H = half_len_of (sectors first.store.disk) in
+      let all = accepted_in (opened state) past in
+      let more = accepted_by core event turned.answer in
+      let chain : IsChain budget (opened state) (past ++ t ∷ []) = chain_push budget (opened state) past t ran.chain turned.may in
+      let at : IsAt honest sectors reads choices new (leads (opened state) (past ++ t ∷ [])) = subst (λ (c : Core). IsAt honest sectors reads choices new c) (sym (leads_push (opened state) past t)) turned.at in
+      let chain' = subst (IsChain budget (opened state)) e chain in
+      let kept = ran.kept in
+      let now = promised_push budget state past t ran.chain in
+      let same_size : sectors new.store.disk ≡ sectors first.store.disk = count ∙ ran.count in
+      let longer : (image : Image) → StandsForPromised H state (promised_in before) all image → StandsForPromised H state (promised_in before) (accepted_in (opened state) (past ++ t ∷ [])) image =
+      λ image stands. subst (λ (x : List Change). StandsForPromised H state (promised_in before) x image) (sym (accepted_push (opened state) past t)) (grown H state (promised_in before) all more image stands) in
+      let within : (image : Image) → StandsForFront (half_len_of (sectors old.store.disk)) core.committed core.pending image → StandsForPromised H state (promised_in before) all image =
+      λ image stands. fewer H state (promised_in before) (promised_in past) all image kept
+      (from_first H state past core image ran.holds (subst (λ (n : ℕ). StandsForFront (half_len_of n) core.committed core.pending image) ran.count stands)) in
+      record {
+        turns = ran.turns ++ t ∷ [];
+        events_are = map-append (λ (t : Turn). t.0) ran.turns (t ∷ []) ∙ ap (λ (es : List Event). es ++ event ∷ []) ran.events_are;
+        chain = chain';
+        text = subst all_wrote (flat_map_more (λ (turn : Turn). answer_text turn.1) [] ran.turns t) (joins (run_text ran.turns) (answer_text turned.answer) ran.text turned.text);
+        at = subst (λ (ts : List Turn). IsAt honest sectors reads choices new (leads (opened state) ts)) e at;
+        holds = promised_is_committed budget state (before ++ (ran.turns ++ t ∷ [])) chain';
+        knows = none_is_unknown budget state (before ++ (ran.turns ++ t ∷ [])) chain';
+        count = same_size;
+        kept = subst (λ (ts : List Turn). promised_in before ≤ promised_in ts) e (omega (arith, kept, now));
+        leaves = λ h. subst (λ (ts : List Turn). LeavesOnly moment images_since first.store.disk new.store.disk (StandsForPromised H state (promised_in before) (accepted_in (opened state) ts))) e
+            (followed moment images_since first.store.disk old.store.disk new.store.disk
+            (StandsForPromised H state (promised_in before) all) (StandsForFront (half_len_of (sectors old.store.disk)) core.committed core.pending) (StandsForPromised H state (promised_in before) (accepted_in (opened state) (past ++ t ∷ [])))
+            (ran.leaves h) (left h) longer (λ image stands. longer image (within image stands)));
+        behind = λ h image is. subst (λ (ts : List Turn). StandsForPromised H state (promised_in ts) (accepted_in (opened state) ts) image) e
+            (from_first H state (past ++ t ∷ []) (leads (opened state) (past ++ t ∷ [])) image (promised_is_committed budget state (past ++ t ∷ []) chain)
+            (subst (λ (n : ℕ). StandsForFront (half_len_of n) (leads (opened state) (past ++ t ∷ [])).committed (leads (opened state) (past ++ t ∷ [])).pending image) same_size (at.leaves h image is)));
+      }

@@ -1,0 +1,125 @@
+use Rattle.std.proofs.Common.{◌≡◌, ◌⊎◌, ap, sym, subst, ◌∙◌, refl, arith, ℕ, true, false, length, Option, Some, None, Result, Err, List}
+use Rattle.std.specs.Prelude.{is_some}
+use Rattle.std.proofs.lemmas.Result.{err_from_is_err_and}
+use Rattle.std.proofs.lemmas.Grind.{common_steps}
+use Rattle.dc_records.specs.Body.{continues}
+use Rattle.dc_core.specs.declared.line_heard.LineHeard.{LineHeard}
+use Rattle.dc_core.specs.declared.fault.HearFault.{HearFault}
+use Rattle.dc_core.specs.declared.fault.HearFault.TheVariants.{NoMemory}
+use Rattle.dc_core.specs.Core.{present, session_of}
+use Rattle.dc_core.proofs.Refused.{answer_is, by_refusal}
+use Rattle.dc_records.specs.Telegram.{parsed}
+use Rattle.dc_readout.specs.Summary.{Summary, again, ready, new, failed, heard_by, verdict_by, asked_by}
+use Rattle.dc_core.specs.declared.line_heard.LineHeard.TheVariants.{Again, Ready, Accepted, Failed}
+use Rattle.dc_waiting.specs.Lines.{is_line, on_line, put_on}
+use Rattle.dc_core.specs.Step.{hear_answer, unless_refused, MayHear}
+use Rattle.dc_core.specs.Fault.{hear_fault}
+use Rattle.dc_waiting.specs.declared.fault.TakeFault.{TakeFault}
+use Rattle.dc_waiting.specs.Taking.{change_of, IsTaken, refuses}
+use Rattle.dc_waiting.specs.Waiting.{Waiting}
+use Rattle.dc_changes.specs.State.{Held, State}
+use Rattle.dc_core.specs.Images.{Machine}
+use Rattle.dc_core.proofs.At.{at_heard, at_taken}
+use Rattle.dc_core.proofs.concentrator.Concentrator.hear.Goals as goal
+
+pub take-requires-clause-fits : goal.take-requires-clause-fits
+take-requires-clause-fits g c = c.in-New.ensures.fits c.in-New.part (parsed c.in-New.telegram) refl
+
+pub returns-in_err-take-in-New-clause-may : goal.returns-in_err-take-in-New-clause-may
+returns-in_err-take-in-New-clause-may g c core at =
+    let machine = c.args.self.now in
+    let inside = c.self.inside in
+    let line = c.args.line in
+    let s = c.in-Some.session in
+    let t = parsed c.in-New.telegram in
+    let change = change_of c.args.moment c.in-New.part t in
+    let house : inside.house ≡ machine.house = ap (λ (b : Machine (g.row.D.Denot)). b.house) c.self.view_is in
+    let waiting : inside.waiting ≡ machine.waiting = ap (λ (b : Machine (g.row.D.Denot)). b.waiting) c.self.view_is in
+    let lines : inside.lines ≡ machine.lines = ap (λ (b : Machine (g.row.D.Denot)). b.lines) c.self.view_is in
+    let stopped : inside.store.is_stopped ≡ machine.store.is_stopped = ap (λ (b : Machine (g.row.D.Denot)). b.store.is_stopped) c.self.view_is in
+    let who : session_of core line ≡ Some s = ap (on_line line) (sym (lines ∙ at.lines_are)) ∙ sym c.in-Some.ensures in
+    let yes : is_line line ≡ true = grind (arith, common_steps) in
+    let running : core.stopped ≡ false = sym at.stopped_is ∙ sym stopped ∙ sym c.is_stopped.ensures ∙ c.if-is_stopped.false in
+    let asks : is_some (asked_by s) ≡ true = c.if-not-is_asking.ensures.0 refl in
+    let r = refuses inside.house.budget inside.waiting.count change inside.house.state in
+    let same : r ≡ refuses machine.house.budget (length core.pending) change (present core) =
+    ap (λ (h : Held). refuses h.budget inside.waiting.count change h.state) house
+    ∙ ap (λ (n : ℕ). refuses machine.house.budget n change machine.house.state) (ap (λ (w : Waiting). w.count) waiting ∙ at.count_is)
+    ∙ ap (λ (x : State). refuses machine.house.budget (length core.pending) change x) at.house_is in
+    let accepted = Accepted c.in-New.part (continues t.ending) in
+    let whole : hear_answer machine.house.budget core line c.args.moment c.args.answer.now ≡ unless_refused r accepted =
+    answer_is machine.house.budget core line c.args.moment c.args.answer.now s c.in-New.part t yes running who asks (sym c.in-New.ensures.exact) ∙ ap (λ (x : Option TakeFault). unless_refused x accepted) (sym same) in
+    let fault = c.in_err-take-in-New.field-0.0 in
+    let by = by_refusal r fault c.in-New.part (continues t.ending) c.in_err-take-in-New.ensures.refused c.in_err-take-in-New.ensures.accepted in
+    let p = err_from_is_err_and c.from_residual.result c.from_residual.ensures.1 in
+    let from : c.from_residual.result ≡ Err (hear_fault fault) = cc (p.1, p.2) in
+    subst (λ (a : Result LineHeard HearFault). MayHear a c.from_residual.result) (sym whole)
+    (subst (λ (x : Result LineHeard HearFault). MayHear (unless_refused r accepted) x) (sym from) by)
+
+pub returns-in-Again-clause-at : goal.returns-in-Again-clause-at
+returns-in-Again-clause-at g c core at =
+    let machine = c.args.self.now in
+    let inside = c.self.inside in
+    let line = c.args.line in
+    let s = c.in-Some.session in
+    let store : inside.store ≡ machine.store = ap (λ (b : Machine (g.row.D.Denot)). b.store) c.self.view_is in
+    let house : inside.house ≡ machine.house = ap (λ (b : Machine (g.row.D.Denot)). b.house) c.self.view_is in
+    let waiting : inside.waiting ≡ machine.waiting = ap (λ (b : Machine (g.row.D.Denot)). b.waiting) c.self.view_is in
+    let lines : inside.lines ≡ machine.lines = ap (λ (b : Machine (g.row.D.Denot)). b.lines) c.self.view_is in
+    let who : on_line line machine.lines ≡ Some s = ap (on_line line) (sym lines) ∙ sym c.in-Some.ensures in
+    let new : Machine (g.row.D.Denot) = record { store = inside.store; house = inside.house; waiting = inside.waiting; lines = c.put.new.self } in
+    let there : c.put.new.self ≡ put_on line (Some (heard_by s again)) machine.lines =
+    c.put.ensures ∙ ap (λ (x : Summary). put_on line (Some x) inside.lines) c.in-Again.ensures.after ∙ ap (put_on line (Some (heard_by s again))) lines in
+    at_heard g.D.Disk.honest g.D.Disk.sectors g.D.Disk.reads g.D.Disk.choices machine new core line c.args.moment c.args.answer.now s again Again at who (sym c.in-Again.ensures.exact) refl store house waiting there
+
+pub returns-in-Ready-clause-at : goal.returns-in-Ready-clause-at
+returns-in-Ready-clause-at g c core at =
+    let machine = c.args.self.now in
+    let inside = c.self.inside in
+    let line = c.args.line in
+    let s = c.in-Some.session in
+    let store : inside.store ≡ machine.store = ap (λ (b : Machine (g.row.D.Denot)). b.store) c.self.view_is in
+    let house : inside.house ≡ machine.house = ap (λ (b : Machine (g.row.D.Denot)). b.house) c.self.view_is in
+    let waiting : inside.waiting ≡ machine.waiting = ap (λ (b : Machine (g.row.D.Denot)). b.waiting) c.self.view_is in
+    let lines : inside.lines ≡ machine.lines = ap (λ (b : Machine (g.row.D.Denot)). b.lines) c.self.view_is in
+    let who : on_line line machine.lines ≡ Some s = ap (on_line line) (sym lines) ∙ sym c.in-Some.ensures in
+    let new : Machine (g.row.D.Denot) = record { store = inside.store; house = inside.house; waiting = inside.waiting; lines = c.put-in-Ready.new.self } in
+    let there : c.put-in-Ready.new.self ≡ put_on line (Some (heard_by s ready)) machine.lines =
+    c.put-in-Ready.ensures ∙ ap (λ (x : Summary). put_on line (Some x) inside.lines) c.in-Ready.ensures.after ∙ ap (put_on line (Some (heard_by s ready))) lines in
+    at_heard g.D.Disk.honest g.D.Disk.sectors g.D.Disk.reads g.D.Disk.choices machine new core line c.args.moment c.args.answer.now s ready Ready at who (sym c.in-Ready.ensures.exact) refl store house waiting there
+
+pub returns-in-Failed-clause-at : goal.returns-in-Failed-clause-at
+returns-in-Failed-clause-at g c core at =
+    let machine = c.args.self.now in
+    let inside = c.self.inside in
+    let line = c.args.line in
+    let s = c.in-Some.session in
+    let store : inside.store ≡ machine.store = ap (λ (b : Machine (g.row.D.Denot)). b.store) c.self.view_is in
+    let house : inside.house ≡ machine.house = ap (λ (b : Machine (g.row.D.Denot)). b.house) c.self.view_is in
+    let waiting : inside.waiting ≡ machine.waiting = ap (λ (b : Machine (g.row.D.Denot)). b.waiting) c.self.view_is in
+    let lines : inside.lines ≡ machine.lines = ap (λ (b : Machine (g.row.D.Denot)). b.lines) c.self.view_is in
+    let who : on_line line machine.lines ≡ Some s = ap (on_line line) (sym lines) ∙ sym c.in-Some.ensures in
+    let new : Machine (g.row.D.Denot) = record { store = inside.store; house = inside.house; waiting = inside.waiting; lines = c.put-in-Failed.new.self } in
+    let there : c.put-in-Failed.new.self ≡ put_on line None machine.lines = c.put-in-Failed.ensures ∙ ap (put_on line None) lines in
+    at_heard g.D.Disk.honest g.D.Disk.sectors g.D.Disk.reads g.D.Disk.choices machine new core line c.args.moment c.args.answer.now s (failed c.in-Failed.why) (Failed c.in-Failed.why) at who (sym c.in-Failed.ensures.exact) refl store house waiting there
+
+pub returns-in_ok-take-in-New-clause-at : goal.returns-in_ok-take-in-New-clause-at
+returns-in_ok-take-in-New-clause-at g c core at =
+    let machine = c.args.self.now in
+    let inside = c.self.inside in
+    let line = c.args.line in
+    let s = c.in-Some.session in
+    let store : inside.store ≡ machine.store = ap (λ (b : Machine (g.row.D.Denot)). b.store) c.self.view_is in
+    let house : inside.house ≡ machine.house = ap (λ (b : Machine (g.row.D.Denot)). b.house) c.self.view_is in
+    let waiting : inside.waiting ≡ machine.waiting = ap (λ (b : Machine (g.row.D.Denot)). b.waiting) c.self.view_is in
+    let lines : inside.lines ≡ machine.lines = ap (λ (b : Machine (g.row.D.Denot)). b.lines) c.self.view_is in
+    let who : on_line line machine.lines ≡ Some s = ap (on_line line) (sym lines) ∙ sym c.in-Some.ensures in
+    let t = parsed c.in-New.telegram in
+    let v = new c.in-New.part t in
+    let now : Machine (g.row.D.Denot) = record { store = inside.store; house = c.take.new.house; waiting = c.take.new.waiting; lines = c.put-in-New.new.self } in
+    let there : c.put-in-New.new.self ≡ put_on line (Some (heard_by s v)) machine.lines =
+    c.put-in-New.ensures ∙ ap (λ (x : Summary). put_on line (Some x) inside.lines) c.in-New.ensures.after ∙ ap (put_on line (Some (heard_by s v))) lines in
+    let taken' = c.in_ok-take-in-New.ensures.ok in
+    let taken = subst (λ (w : Waiting). IsTaken machine.house now.house w now.waiting (change_of c.args.moment c.in-New.part t)) waiting
+    (subst (λ (h : Held). IsTaken h now.house inside.waiting now.waiting (change_of c.args.moment c.in-New.part t)) house taken') in
+    at_taken g.D.Disk.honest g.D.Disk.sectors g.D.Disk.reads g.D.Disk.choices machine now core line c.args.moment c.args.answer.now s v (change_of c.args.moment c.in-New.part t) (Accepted c.in-New.part c.more_follows-more.result) at who (sym c.in-New.ensures.exact) refl store taken there

@@ -1,0 +1,43 @@
+-- Which state a concentrator is in, and what the images of its disk stand for (this product).
+use Rattle.std.specs.Prelude.{◌≡◌, ℕ, ◌≤◌, false, List, Option, length}
+use Rattle.dc_sectors.specs.Disk.{Image, Choices, IsImage}
+use Rattle.dc_changes.specs.State.{State, Held}
+use Rattle.dc_changes.specs.declared.change.Change.{Change}
+use Rattle.dc_changes.specs.History.{after, AcceptsAll}
+use Rattle.dc_changes.specs.Spelled.{SpellsChanges}
+use Rattle.dc_readout.specs.Summary.{Summary}
+use Rattle.dc_recovery.specs.Halves.{half_len_of, budget_of}
+use Rattle.dc_recovery.specs.Stands.{Stands, StandsForFront}
+use Rattle.dc_recovery.specs.Store.{Kept, Keeps}
+use Rattle.dc_waiting.specs.Waiting.{Waiting}
+use Rattle.dc_core.specs.Core.{Core, present}
+
+-- The image stands for the state after a front of the changes that leaves out none of the first so many, which are promised.
+pub record StandsForPromised (half_len : ℕ) (state : State) (promised : ℕ) (changes : List Change) (image : Image) : Type 0 where
+  pub front : StandsForFront half_len state changes image
+  pub all_promised : promised ≤ front.count
+
+-- what a concentrator consists of
+pub record Machine (D : Type 0) : Type 0 where
+  pub store : Kept D
+  pub house : Held
+  pub waiting : Waiting
+  pub lines : List (Option Summary)
+
+-- its register's budget is that of its image
+abbrev pub IsWithin : {D : Type 0} → ℕ → Machine D → Type 0
+IsWithin sectors machine = machine.house.budget ≡ budget_of (half_len_of sectors)
+
+-- THE CONCENTRATOR IS IN THIS STATE. In memory: its register is what is present, what waits spells what is pending and
+-- is accepted behind what is committed, and its lines are those. On an honest disk: each image that a stop may leave
+-- stands for what is committed and a front of what is pending, and where the store isn't stopped, for what is committed.
+pub record IsAt {D : Type 0} (honest : Type 0) (sectors : D → ℕ) (reads : D → Image) (choices : D → Choices) (machine : Machine D) (core : Core) : Type 0 where
+  pub house_is : machine.house.state ≡ present core
+  pub spells : SpellsChanges machine.waiting.bytes core.pending
+  pub count_is : machine.waiting.count ≡ length core.pending
+  pub accepted : AcceptsAll machine.house.budget core.committed core.pending
+  pub lines_are : machine.lines ≡ core.lines
+  pub stopped_is : machine.store.is_stopped ≡ core.stopped
+  pub keeps : honest → core.stopped ≡ false → Keeps sectors reads choices machine.store core.committed
+  pub stands : honest → core.stopped ≡ false → (image : Image) → IsImage (choices machine.store.disk) image → Stands (half_len_of (sectors machine.store.disk)) core.committed image
+  pub leaves : honest → (image : Image) → IsImage (choices machine.store.disk) image → StandsForFront (half_len_of (sectors machine.store.disk)) core.committed core.pending image

@@ -1,0 +1,55 @@
+-- Events in code, and what a run of them leaves (this product).
+use Rattle.std.specs.Prelude.{◌≡◌, ℕ, ◌≤◌, List, ◌++◌, map}
+use Rattle.dc_sectors.specs.Disk.{Image, Choices, IsImage, LeavesOnly}
+use Rattle.dc_changes.specs.State.{State}
+use Rattle.dc_changes.specs.Valid.{last_moment}
+use Rattle.dc_recovery.specs.Halves.{half_len_of}
+use Rattle.dc_core.specs.declared.event.Event as declared
+use Rattle.dc_core.specs.declared.event.Event.TheVariants.{Start, Ask, Hear, Commit}
+use Rattle.dc_core.specs.Core.{Core, opened}
+use Rattle.dc_core.specs.Event.{Event, Answer, starts, asks, hears, commits}
+use Rattle.dc_core.specs.Step.{May, next}
+use Rattle.dc_core.specs.Transcript.{Turn, leads, IsChain, accepted_in}
+use Rattle.dc_core.specs.Promised.{promised_in, HoldsFront}
+use Rattle.dc_core.specs.Known.{KnowsItsMeters}
+use Rattle.dc_core.specs.Text.{answer_text, run_text}
+use Rattle.dc_core.specs.Images.{Machine, IsAt, StandsForPromised}
+
+abbrev pub event_of : declared.Event → Event
+event_of (Start line meter) = starts line meter
+event_of (Ask line) = asks line
+event_of (Hear line moment answer) = hears line moment answer.now
+event_of Commit = commits
+
+-- what a call asks of its arguments: a moment is a second up to the year 9999
+abbrev pub IsEvent : declared.Event → Type 0
+IsEvent (Start line meter) = Unit {0}
+IsEvent (Ask line) = Unit {0}
+IsEvent (Hear line moment answer) = moment ≤ last_moment
+IsEvent Commit = Unit {0}
+
+-- One event in a state: an answer that it may have, its text is what was written, and the concentrator is in the next state.
+pub record Turned {D : Type 0} (honest : Type 0) (sectors : D → ℕ) (reads : D → Image) (choices : D → Choices) (budget : ℕ) (core : Core) (event : Event) (wrote : List ℕ → Type 0) (new : Machine D) : Type 0 where
+  pub answer : Answer
+  pub may : May budget core event answer
+  pub text : wrote (answer_text answer)
+  pub at : IsAt honest sectors reads choices new (next core event answer)
+
+-- A RUN of these events, behind the turns that were before, in a life that began with the state: the turns make a chain of
+-- steps, their text is what was written, and the concentrator is where the chain ends. There what is promised is committed, and
+-- the register knows what comes. A stop at any moment of the run leaves an image that stands for the state after a front of what
+-- was accepted, with all that was promised before the run; a stop behind it, with all that is promised then.
+pub record Ran {D : Type 0} (honest : Type 0) (sectors : D → ℕ) (reads : D → Image) (choices : D → Choices) (moment : D → ℕ) (images_since : D → ℕ → Image → Type 0) (budget : ℕ) (state : State) (before : List Turn) (events : List Event) (wrote : List ℕ → Type 0) (first new : Machine D) : Type 0 where
+  pub turns : List Turn
+  pub events_are : map (λ (t : Turn). t.0) turns ≡ events
+  pub chain : IsChain budget (opened state) (before ++ turns)
+  pub text : wrote (run_text turns)
+  pub at : IsAt honest sectors reads choices new (leads (opened state) (before ++ turns))
+  pub holds : HoldsFront state (before ++ turns) (leads (opened state) (before ++ turns))
+  pub knows : KnowsItsMeters budget (leads (opened state) (before ++ turns))
+  pub count : sectors new.store.disk ≡ sectors first.store.disk
+  pub kept : promised_in before ≤ promised_in (before ++ turns)
+  pub leaves : honest → LeavesOnly moment images_since first.store.disk new.store.disk
+      (StandsForPromised (half_len_of (sectors first.store.disk)) state (promised_in before) (accepted_in (opened state) (before ++ turns)))
+  pub behind : honest → (image : Image) → IsImage (choices new.store.disk) image
+      → StandsForPromised (half_len_of (sectors first.store.disk)) state (promised_in (before ++ turns)) (accepted_in (opened state) (before ++ turns)) image

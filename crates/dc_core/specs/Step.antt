@@ -1,0 +1,163 @@
+-- What each event does to a concentrator, and what it answers (this product). Each answer is a function of the state,
+-- but where memory is refused, the disk fails, or the store's numbers are at their end.
+use Rattle.std.specs.Prelude.{◌≡◌, ◌≢◌, ◌⊎◌, ℕ, Bool, true, false, not, ◌||◌, ◌==◌, Option, None, Some, is_some, option_map, Result, Ok, Err, List, [], ◌∷◌, ◌++◌, length, if◌then◌else◌}
+use Rattle.dc_linkframe.specs.Frame.{spelling}
+use Rattle.dc_address.specs.declared.identity.Identity.{Identity}
+use Rattle.dc_records.specs.Body.{continues}
+use Rattle.dc_readout.specs.Summary.{Summary, Verdict, again, ready, new, failed, asked_by, verdict_by, heard_by, begun}
+use Rattle.dc_changes.specs.declared.change.Change.{Change}
+use Rattle.dc_changes.specs.State.{State, MeterRow, row_of}
+use Rattle.dc_waiting.specs.declared.fault.TakeFault.{TakeFault}
+use Rattle.dc_waiting.specs.Lines.{is_line, settled_lines}
+use Rattle.dc_waiting.specs.Taking.{change_of, refuses}
+use Rattle.dc_core.specs.declared.fault.StartFault.{StartFault}
+use Rattle.dc_core.specs.declared.fault.StartFault.TheVariants.{NoLine as StartNoLine, Unknown, Busy, Stopped as StartStopped}
+use Rattle.dc_core.specs.declared.line_heard.LineHeard.{LineHeard}
+use Rattle.dc_core.specs.declared.line_heard.LineHeard.TheVariants.{Again, Ready, Accepted, Failed}
+use Rattle.dc_core.specs.declared.fault.HearFault.{HearFault}
+use Rattle.dc_core.specs.declared.fault.HearFault.TheVariants.{NoLine, Idle, NoMemory, Stopped}
+use Rattle.dc_core.specs.declared.fault.CommitFault.{CommitFault}
+use Rattle.dc_core.specs.declared.fault.CommitFault.TheVariants.{Device, Worn, Stopped as CommitStopped}
+use Rattle.dc_core.specs.Fault.{hear_fault}
+use Rattle.dc_core.specs.Core.{Core, present, session_of, with_session}
+use Rattle.dc_core.specs.Event.{Event, Answer, starts, asks, hears, commits, started, asked, heard, committed}
+
+-- ---- a readout begins
+
+abbrev pub is_on : ℕ → Option MeterRow → Bool
+is_on line None = false
+is_on line (Some row) = row.line == line
+
+abbrev pub address_in : Option MeterRow → Option ℕ
+address_in None = None
+address_in (Some row) = row.address
+
+abbrev pub start_answer : Core → ℕ → Identity → Result (Unit {0}) StartFault
+start_answer core line meter =
+    if not (is_line line) then Err StartNoLine
+    else if core.stopped then Err StartStopped
+    else if not (is_on line (row_of meter (present core))) then Err Unknown
+    else if is_some (session_of core line) then Err Busy
+    else Ok tt
+
+-- the meter's session is on the line, by the address of the register
+abbrev pub after_start : Core → ℕ → Identity → Result (Unit {0}) StartFault → Core
+after_start core line meter (Ok done) = with_session line (Some (begun meter (address_in (row_of meter (present core))))) core
+after_start core line meter (Err fault) = core
+
+-- ---- a request is asked for
+
+abbrev pub asked_on : Option Summary → Option (List ℕ)
+asked_on None = None
+asked_on (Some s) = option_map spelling (asked_by s)
+
+abbrev pub ask_answer : Core → ℕ → Option (List ℕ)
+ask_answer core line = if not (is_line line) || core.stopped then None else asked_on (session_of core line)
+
+-- ---- an answer is heard
+
+abbrev pub unless_refused : Option TakeFault → LineHeard → Result LineHeard HearFault
+unless_refused None accepted = Ok accepted
+unless_refused (Some fault) accepted = Err (hear_fault fault)
+
+-- a telegram is accepted unless something stands against its change
+abbrev pub take_answer : ℕ → Core → Change → LineHeard → Result LineHeard HearFault
+take_answer budget core change accepted = unless_refused (refuses budget (length core.pending) change (present core)) accepted
+
+abbrev pub verdict_answer : ℕ → Core → ℕ → Verdict → Result LineHeard HearFault
+verdict_answer budget core moment again = Ok Again
+verdict_answer budget core moment ready = Ok Ready
+verdict_answer budget core moment (new part telegram) = take_answer budget core (change_of moment part telegram) (Accepted part (continues telegram.ending))
+verdict_answer budget core moment (failed why) = Ok (Failed why)
+
+abbrev pub answer_on : ℕ → Core → ℕ → List ℕ → Option Summary → Result LineHeard HearFault
+answer_on budget core moment bytes None = Err Idle
+answer_on budget core moment bytes (Some s) = if is_some (asked_by s) then verdict_answer budget core moment (verdict_by s bytes) else Err Idle
+
+-- what is answered where memory isn't refused
+abbrev pub hear_answer : ℕ → Core → ℕ → ℕ → List ℕ → Result LineHeard HearFault
+hear_answer budget core line moment bytes =
+    if not (is_line line) then Err NoLine
+    else if core.stopped then Err Stopped
+    else answer_on budget core moment bytes (session_of core line)
+
+-- a session that failed leaves its line
+abbrev pub session_after : Summary → Verdict → Option Summary
+session_after s again = Some (heard_by s again)
+session_after s ready = Some (heard_by s ready)
+session_after s (new part telegram) = Some (heard_by s (new part telegram))
+session_after s (failed why) = None
+
+-- a telegram adds its change to what waits
+abbrev pub and_pending : ℕ → List Change → Verdict → List Change
+and_pending moment pending again = pending
+and_pending moment pending ready = pending
+and_pending moment pending (new part telegram) = pending ++ change_of moment part telegram ∷ []
+and_pending moment pending (failed why) = pending
+
+abbrev pub judged : Core → ℕ → ℕ → Summary → Verdict → Core
+judged core line moment s verdict = record (with_session line (session_after s verdict) core) { pending = and_pending moment core.pending verdict }
+
+abbrev pub heard_on : Core → ℕ → ℕ → List ℕ → Option Summary → Core
+heard_on core line moment bytes None = core
+heard_on core line moment bytes (Some s) = judged core line moment s (verdict_by s bytes)
+
+-- after a fault the request still waits
+abbrev pub after_hear : Core → ℕ → ℕ → List ℕ → Result LineHeard HearFault → Core
+after_hear core line moment bytes (Ok answer) = heard_on core line moment bytes (session_of core line)
+after_hear core line moment bytes (Err fault) = core
+
+abbrev pub IsAccepted : Result LineHeard HearFault → Type 0
+IsAccepted answer = (part : ℕ) × (more : Bool) × (answer ≡ Ok (Accepted part more))
+
+-- want of memory stands in place of an accepted telegram alone
+abbrev pub MayHear : Result LineHeard HearFault → Result LineHeard HearFault → Type 0
+MayHear right answer = (answer ≡ right) ⊎ ((answer ≡ Err NoMemory) × IsAccepted right)
+
+-- ---- what waits is committed
+
+-- All that waits is committed, and each line settles its telegram; where nothing waits, nothing changes.
+abbrev pub settled_core : Core → List Change → Core
+settled_core core [] = core
+settled_core core (change ∷ changes) = record core { committed = present core; pending = []; lines = settled_lines core.lines }
+
+abbrev pub after_commit : Core → Result ℕ CommitFault → Core
+after_commit core (Ok count) = settled_core core core.pending
+after_commit core (Err Device) = record core { stopped = true }
+after_commit core (Err Worn) = core
+after_commit core (Err CommitStopped) = core
+
+-- Where nothing waits, the answer is 0. Else the disk may fail or be worn, and what has stopped stays stopped.
+abbrev pub MayCommit : Core → Result ℕ CommitFault → Type 0
+MayCommit core (Ok count) = (count ≡ length core.pending) × ((core.pending ≡ []) ⊎ (core.stopped ≡ false))
+MayCommit core (Err Device) = (core.pending ≢ []) × (core.stopped ≡ false)
+MayCommit core (Err Worn) = (core.pending ≢ []) × (core.stopped ≡ false)
+MayCommit core (Err CommitStopped) = (core.pending ≢ []) × (core.stopped ≡ true)
+
+-- ---- THE STEP
+
+-- which answers an event may have
+abbrev pub May : ℕ → Core → Event → Answer → Type 0
+May budget core (starts line meter) (started answer) = answer ≡ start_answer core line meter
+May budget core (asks line) (asked answer) = answer ≡ ask_answer core line
+May budget core (hears line moment bytes) (heard answer) = MayHear (hear_answer budget core line moment bytes) answer
+May budget core commits (committed answer) = MayCommit core answer
+May budget core (starts line meter) (asked answer) = ⊥
+May budget core (starts line meter) (heard answer) = ⊥
+May budget core (starts line meter) (committed answer) = ⊥
+May budget core (asks line) (started answer) = ⊥
+May budget core (asks line) (heard answer) = ⊥
+May budget core (asks line) (committed answer) = ⊥
+May budget core (hears line moment bytes) (started answer) = ⊥
+May budget core (hears line moment bytes) (asked answer) = ⊥
+May budget core (hears line moment bytes) (committed answer) = ⊥
+May budget core commits (started answer) = ⊥
+May budget core commits (asked answer) = ⊥
+May budget core commits (heard answer) = ⊥
+
+-- the one state after it
+abbrev pub next : Core → Event → Answer → Core
+next core (starts line meter) (started answer) = after_start core line meter answer
+next core (hears line moment bytes) (heard answer) = after_hear core line moment bytes answer
+next core commits (committed answer) = after_commit core answer
+next core event answer = core

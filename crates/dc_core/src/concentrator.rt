@@ -1,0 +1,139 @@
+//! The concentrator: a store, the register that it keeps, what waits for a commit, and the lines.
+
+ghost use Rattle.std.specs.Prelude.{◌≡◌, ◌≤◌, ◌<◌, ℕ, Err, OnOk, IfOk, IfErr, MatchResult, false};
+ghost use Rattle.dc_base.specs.Failures.{HasRisen};
+ghost use Rattle.dc_sectors.specs.Disk.{Image, IsImage, LeavesOnly};
+ghost use Rattle.dc_changes.specs.State.{State};
+ghost use Rattle.dc_recovery.specs.Halves.{half_len_of};
+ghost use Rattle.dc_recovery.specs.Stands.{EachStands, Reads, Stands, StandsForOne};
+ghost use Rattle.dc_recovery.specs.Refusal.{IsRefused, IsWorn, TellsOfImage};
+ghost use Rattle.dc_recovery.specs.declared.fault.OpenFault.TheVariants.{NotImage, Worn, Device};
+ghost use Rattle.dc_core.specs.Core.{Core, opened};
+ghost use Rattle.dc_core.specs.Event.{starts, asks, started, asked};
+ghost use Rattle.dc_core.specs.Step.{May, next};
+ghost use Rattle.dc_core.specs.Images.{IsAt};
+
+mod commit;
+mod hear;
+
+use crate::StartFault;
+use dc_address::Identity;
+use dc_linkframe::FrameBuf;
+use dc_meters::House;
+use dc_readout::Session;
+use dc_recovery::{OpenFault, Store};
+use dc_sectors::Disk;
+use dc_waiting::{Lines, Waiting, is_line};
+use std::alloc::Allocator;
+use std::marker::Model;
+
+/// The concentrator of a house. The state that it is in is defined in `specs/Core.antt`, and what a stop leaves of it in
+/// `specs/Images.antt`.
+#[derive(Drop)]
+pub struct Concentrator<D: Disk + Drop, A: Allocator + Copy> {
+    store: Store<D>,
+    house: House<A>,
+    waiting: Waiting,
+    lines: Lines,
+}
+
+impl<D: Disk + Drop, A: Allocator + Copy> Model for Concentrator<D, A> {
+    ghost use Rattle.dc_core.specs.Images.{Machine, IsWithin};
+
+    ghost Value = { Machine D };
+
+    ghost view = { λ c. record { store = c.store; house = c.house; waiting = c.waiting; lines = c.lines } };
+
+    ghost invariant = { λ c. IsWithin (D.sectors c.store.disk) (record { store = c.store; house = c.house; waiting = c.waiting; lines = c.lines }) };
+}
+
+impl<D: Disk + Drop, A: Allocator + Copy> Concentrator<D, A> {
+    /// Opens the image, as [`Store::open`] does. Nothing waits then, and nobody is on a line.
+    ///
+    /// # Errors
+    /// The first that stands in the order of the steps: [`OpenFault`]. The disk comes back.
+    pub fn open(alloc: A, disk: D) -> Result<Concentrator<D, A>, (OpenFault, D)>
+        ensures small { D.sectors disk < 131 → result ≡ Err (NotImage, disk) }
+
+        // Ok gives exactly the state that the image reads as, and a refusal is a fact of the image.
+        ensures reads { D.honest → IfOk result (λ c. Reads (half_len_of (D.sectors disk)) c.house.state (D.reads disk)) }
+        ensures refused { D.honest → 131 ≤ D.sectors disk → IfErr result (λ e. IsRefused (half_len_of (D.sectors disk)) (D.reads disk) e.0) }
+        ensures unwritten { D.honest → IfErr result (λ e. TellsOfImage e.0 → D.reads e.1 ≡ D.reads disk) }
+        ensures not_worn { D.honest → OnOk result (IsWorn (half_len_of (D.sectors disk)) (D.reads disk) → ⊥) }
+        ensures device { IfErr result (λ e. e.0 ≡ Device → HasRisen (D.failures disk) (D.failures e.1)) }
+
+        // Where each image stands for some state, the concentrator is in the opened state, and a stop leaves an image that
+        // stands for a state that one of them stood for.
+        ensures at { (D.honest → EachStands (half_len_of (D.sectors disk)) (D.choices disk))
+            → IfOk result (λ c. IsAt D.honest D.sectors D.reads D.choices c (opened c.house.state)) }
+        ensures any_moment { D.honest → EachStands (half_len_of (D.sectors disk)) (D.choices disk)
+            → MatchResult result (λ c. LeavesOnly D.moment D.images_since disk c.store.disk (StandsForOne (half_len_of (D.sectors disk)) (D.choices disk)))
+            (λ e. LeavesOnly D.moment D.images_since disk e.1 (StandsForOne (half_len_of (D.sectors disk)) (D.choices disk))) }
+        ensures premise { D.honest → 131 ≤ D.sectors disk → EachStands (half_len_of (D.sectors disk)) (D.choices disk)
+            → IfErr result (λ e. TellsOfImage e.0 → e.0 ≡ Worn) }
+        ensures count { IfOk result (λ c. D.sectors c.store.disk ≡ D.sectors disk) }
+    {
+        let (store, house) = Store::open(alloc, disk)?;
+        Ok(Concentrator {
+            store,
+            house,
+            waiting: Waiting::new(),
+            lines: Lines::new(),
+        })
+    }
+
+    /// Begins the readout of a meter on its line, 1 to 8.
+    ///
+    /// # Errors
+    /// The first that stands, in the order `NoLine`, `Stopped`, `Unknown`, `Busy`; nothing has changed.
+    pub fn start(&mut self, line: u8, meter: &Identity) -> Result<(), StartFault>
+        ensures may { (core : Core) → IsAt D.honest D.sectors D.reads D.choices self.old core
+            → May self.old.house.budget core (starts line meter.now) (started result) }
+        ensures at { (core : Core) → IsAt D.honest D.sectors D.reads D.choices self.old core
+            → IsAt D.honest D.sectors D.reads D.choices self.new (next core (starts line meter.now) (started result)) }
+        ensures store { self.new.store ≡ self.old.store }
+        ensures house { self.new.house ≡ self.old.house }
+    {
+        if !is_line(line) {
+            return Err(StartFault::NoLine);
+        }
+        if self.store.is_stopped() {
+            return Err(StartFault::Stopped);
+        }
+        let address = match self.house.meter(meter) {
+            Some(row) if row.line() == line => row.address(),
+            _ => return Err(StartFault::Unknown),
+        };
+        if self.lines.get(line).is_some() {
+            return Err(StartFault::Busy);
+        }
+        self.lines.put(line, Some(Session::start(*meter, address)));
+        Ok(())
+    }
+
+    /// The request that is asked on a line. None where there is no such line, no session on it, where its telegram waits
+    /// for a commit, and where the disk has stopped the concentrator.
+    pub fn ask(&self, line: u8) -> Option<FrameBuf>
+        ensures { (core : Core) → IsAt D.honest D.sectors D.reads D.choices self.now core
+            → May self.now.house.budget core (asks line) (asked result) }
+    {
+        if !is_line(line) || self.store.is_stopped() {
+            return None;
+        }
+        let session = self.lines.get(line)?;
+        session.ask()
+    }
+
+    /// Gives the disk back, and writes nothing: what waits is given up. Unless the disk has failed, each
+    /// image that it may leave stands for what is committed, and so that is what opening it again gives.
+    pub fn close(self) -> D
+        ensures disk { result ≡ self.store.disk }
+        ensures holds { D.honest → (core : Core) → IsAt D.honest D.sectors D.reads D.choices self core → core.stopped ≡ false → (image : Image) → IsImage (D.choices result) image
+            → Stands (half_len_of (D.sectors result)) core.committed image }
+        ensures reads { D.honest → (core : Core) → IsAt D.honest D.sectors D.reads D.choices self core → core.stopped ≡ false → (state : State) → Reads (half_len_of (D.sectors result)) state (D.reads result)
+            → state ≡ core.committed }
+    {
+        let Concentrator { store, .. } = self;
+        store.close()
+    }
+}

@@ -1,0 +1,59 @@
+//! The commit of what waits.
+
+ghost use Rattle.std.specs.Prelude.{◌≡◌, ◌⊎◌, ◌≤◌, ◌+◌, ◌-◌, ◌^◌, IsErrOf};
+ghost use Rattle.dc_base.specs.Failures.{HasRisen};
+ghost use Rattle.dc_sectors.specs.Disk.{LeavesOnly};
+ghost use Rattle.dc_recovery.specs.Halves.{half_len_of};
+ghost use Rattle.dc_core.specs.declared.fault.CommitFault.TheVariants.{Device, Worn};
+ghost use Rattle.dc_core.specs.Core.{Core};
+ghost use Rattle.dc_core.specs.Event.{commits, committed};
+ghost use Rattle.dc_core.specs.Step.{May, next};
+ghost use Rattle.dc_recovery.specs.Stands.{StandsForFront};
+ghost use Rattle.dc_core.specs.Images.{IsAt};
+
+use super::Concentrator;
+use crate::CommitFault;
+use dc_recovery::StoreFault;
+use dc_sectors::Disk;
+use dc_waiting::write_waiting;
+use std::alloc::Allocator;
+
+impl<D: Disk + Drop, A: Allocator + Copy> Concentrator<D, A> {
+    /// Writes all that waits, as one group with one sync, or as the whole register where that doesn't fit, and settles
+    /// every line whose telegram it wrote. It answers the number of changes; where nothing waits, 0 without a call of the
+    /// disk. No memory is taken.
+    ///
+    /// # Errors
+    /// `Stopped` after a failure; `Worn` where there is no next sequence or generation, and nothing has changed; `Device`
+    /// where the disk failed: what waits may be on the disk or not, and nothing more is asked or written.
+    pub fn commit(&mut self) -> Result<usize, CommitFault>
+        ensures may { (core : Core) → IsAt D.honest D.sectors D.reads D.choices self.old core
+            → May self.old.house.budget core commits (committed result) }
+        ensures at { (core : Core) → IsAt D.honest D.sectors D.reads D.choices self.old core
+            → IsAt D.honest D.sectors D.reads D.choices self.new (next core commits (committed result)) }
+
+        // A stop within it leaves what is committed and a front of what waits.
+        ensures any_moment { D.honest → (core : Core) → IsAt D.honest D.sectors D.reads D.choices self.old core
+            → LeavesOnly D.moment D.images_since self.old.store.disk self.new.store.disk (StandsForFront (half_len_of (D.sectors self.old.store.disk)) core.committed core.pending) }
+        ensures device { IsErrOf result Device → HasRisen (D.failures self.old.store.disk) (D.failures self.new.store.disk) }
+        ensures worn { IsErrOf result Worn → (2 ^ 64 - 1 ≤ self.old.store.last + 1) ⊎ (self.old.store.root.generation ≡ 2 ^ 64 - 1) }
+        ensures nothing { self.old.waiting.count ≡ 0 → self.new ≡ self.old }
+        ensures house { self.new.house ≡ self.old.house }
+        ensures count { D.sectors self.new.store.disk ≡ D.sectors self.old.store.disk }
+    {
+        let count = self.waiting.count();
+        if count == 0 {
+            return Ok(0);
+        }
+        match write_waiting(&mut self.store, &self.waiting, &self.house) {
+            Ok(()) => {
+                self.waiting.clear();
+                self.lines.settle();
+                Ok(count)
+            }
+            Err(StoreFault::Device) => Err(CommitFault::Device),
+            Err(StoreFault::Worn) => Err(CommitFault::Worn),
+            Err(StoreFault::Stopped) => Err(CommitFault::Stopped),
+        }
+    }
+}

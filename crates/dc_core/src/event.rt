@@ -1,0 +1,23 @@
+use dc_address::Identity;
+
+/// What happens to a concentrator: a call, with its arguments.
+#[derive(Clone, Copy)]
+pub enum Event<'a> {
+    /// The readout of a meter begins on its line.
+    Start {
+        line: u8,
+        meter: Identity,
+    },
+    /// A line's request is asked for.
+    Ask {
+        line: u8,
+    },
+    /// An answer is heard on a line, at a moment in seconds since 1970. No byte is silence.
+    Hear {
+        line: u8,
+        moment: u64,
+        answer: &'a [u8],
+    },
+    /// What waits is written.
+    Commit,
+}

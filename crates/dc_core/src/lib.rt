@@ -1,0 +1,34 @@
+//! The data concentrator of a house: eight bus lines, a register on a disk, and one commit for what waits (this product;
+//! the frame count bit is that of EN 13757-2).
+//!
+//! A meter goes on to its next telegram when the frame count bit of the request is toggled, and can't go back. So a
+//! [`Concentrator`] asks for the next telegram only after the last one is on the disk: what is heard waits, a
+//! [`Concentrator::commit`] writes all that waits with one sync, and only then do its lines go on.
+//!
+//! Proved: each call is a step of the definition in `specs/Step.antt`, in each state that the concentrator may be in.
+//! Stopped before or within any call of the disk, what is opened again is the register after a front of what was
+//! accepted, which has every telegram after which another request was asked on its line, and all that was accepted
+//! before a commit that answered a number ([`what_is_promised_is_committed`], [`Concentrator::run`]).
+//!
+//! Only [`Concentrator::open`] takes memory, and [`Concentrator::hear`] for a new telegram.
+#![tactic(auto)]
+
+mod concentrator;
+mod event;
+mod fault;
+mod laws;
+mod line_heard;
+mod running;
+mod telling;
+
+pub use concentrator::Concentrator;
+pub use event::Event;
+pub use fault::{CommitFault, HearFault, StartFault, WriteFault};
+pub use laws::{
+    a_settled_telegram_toggles_the_bit, an_image_of_a_life_may_be_opened,
+    no_telegram_asked_for_is_unknown, what_is_promised_is_committed,
+};
+pub use line_heard::LineHeard;
+
+#[cfg(test)]
+mod tests;

@@ -1,0 +1,84 @@
+//! Runs of events, with the text of their answers.
+
+ghost use Rattle.std.specs.Prelude.{◌≡◌, ◌<◌, ◌+◌, ℕ, List, length, take, map, All, OnOk, OnErr};
+ghost use Rattle.dc_base.specs.Failures.{HasRisen};
+ghost use Rattle.dc_sectors.specs.Disk.{LeavesOnly};
+ghost use Rattle.dc_stream.specs.Stream.{Puts, Wrote};
+ghost use Rattle.dc_changes.specs.State.{State};
+ghost use Rattle.dc_recovery.specs.Halves.{half_len_of};
+ghost use Rattle.dc_core.specs.Core.{Core, opened};
+ghost use Rattle.dc_core.specs.Transcript.{Turn, leads, IsChain};
+ghost use Rattle.dc_recovery.specs.Stands.{StandsForFront};
+ghost use Rattle.dc_core.specs.Images.{IsAt};
+ghost use Rattle.dc_core.specs.Run.{event_of, IsEvent, Turned, Ran};
+
+use crate::telling::{put_asked, put_committed, put_heard, put_started};
+use crate::{Concentrator, Event, WriteFault};
+use dc_sectors::Disk;
+use dc_stream::{IoFault, Sink};
+use std::alloc::Allocator;
+
+impl<D: Disk + Drop, A: Allocator + Copy> Concentrator<D, A> {
+    /// Does the events in order, and writes the text of each answer, a line each.
+    ///
+    /// # Errors
+    /// `WriteFault` where the writer failed. The event at which it did is done, and none behind it; how much of the text was
+    /// written isn't known.
+    pub fn run<W: Sink>(&mut self, events: &[Event<'_>], out: &mut W) -> Result<(), WriteFault>
+        requires { All IsEvent events.now }
+        // Behind whatever went before in this life, the events make a chain of steps, and what is written is its text.
+        ensures ran { (state : State) (before : List Turn) → IsChain self.old.house.budget (opened state) before → IsAt D.honest D.sectors D.reads D.choices self.old (leads (opened state) before)
+            → OnOk result (Ran D.honest D.sectors D.reads D.choices D.moment D.images_since self.old.house.budget state before (map event_of events.now) (Puts (W.written out.old) (W.written out.new)) self.old self.new) }
+        // With a fault, so do those up to one of them.
+        ensures ended { (state : State) (before : List Turn) → IsChain self.old.house.budget (opened state) before → IsAt D.honest D.sectors D.reads D.choices self.old (leads (opened state) before)
+            → OnErr result ((last : ℕ) × (last < length events.now)
+            × Ran D.honest D.sectors D.reads D.choices D.moment D.images_since self.old.house.budget state before (map event_of (take (last + 1) events.now)) (λ text. Unit {0}) self.old self.new) }
+        ensures fault { OnErr result (HasRisen (W.put_failures out.old) (W.put_failures out.new)) }
+        ensures well { OnOk result (W.put_failures out.new ≡ W.put_failures out.old) }
+        ensures budget { self.new.house.budget ≡ self.old.house.budget }
+    {
+        for event in events {
+            match self.turn(event, out) {
+                Ok(()) => {}
+                Err(IoFault) => return Err(WriteFault),
+            }
+        }
+        Ok(())
+    }
+
+    // One event, and the text of its answer.
+    fn turn<W: Sink>(&mut self, event: &Event<'_>, out: &mut W) -> Result<(), IoFault>
+        requires { IsEvent event.now }
+        ensures turned { (core : Core) → IsAt D.honest D.sectors D.reads D.choices self.old core
+            → Turned D.honest D.sectors D.reads D.choices self.old.house.budget core (event_of event.now) (Wrote W.written W.put_failures result out.old out.new) self.new }
+        ensures leaves { D.honest → (core : Core) → IsAt D.honest D.sectors D.reads D.choices self.old core
+            → LeavesOnly D.moment D.images_since self.old.store.disk self.new.store.disk (StandsForFront (half_len_of (D.sectors self.old.store.disk)) core.committed core.pending) }
+        ensures count { D.sectors self.new.store.disk ≡ D.sectors self.old.store.disk }
+        ensures budget { self.new.house.budget ≡ self.old.house.budget }
+        ensures fault { OnErr result (HasRisen (W.put_failures out.old) (W.put_failures out.new)) }
+        ensures well { OnOk result (W.put_failures out.new ≡ W.put_failures out.old) }
+    {
+        match *event {
+            Event::Start { line, meter } => {
+                let answer = self.start(line, &meter);
+                put_started(out, answer)
+            }
+            Event::Ask { line } => {
+                let answer = self.ask(line);
+                put_asked(out, answer)
+            }
+            Event::Hear {
+                line,
+                moment,
+                answer: bytes,
+            } => {
+                let answer = self.hear(line, moment, bytes);
+                put_heard(out, answer)
+            }
+            Event::Commit => {
+                let answer = self.commit();
+                put_committed(out, answer)
+            }
+        }
+    }
+}

@@ -1,0 +1,28 @@
+use Rattle.std.proofs.Common.{◌-◌, ◌<◌, length, arith, sym, ◌∙◌, ap}
+use Rattle.std.specs.Prelude.{slice_get, unwrap_or}
+use Rattle.dc_linkframe.specs.Control.{variable_data}
+use Rattle.dc_linkframe.specs.Frame.{long, spelling}
+use Rattle.dc_lives.specs.Meter.{Meter, response, rsp_ud}
+use Rattle.dc_lives.specs.Reply.{bytes_of}
+use Rattle.dc_lives.proofs.Asked.{body_there}
+use Rattle.dc_lives.proofs.Lists.{there}
+use Rattle.dc_lives.proofs.reply.respond.Goals as goal
+
+pub write_long-requires : goal.write_long-requires
+write_long-requires g c =
+    let bodies = c.script.inside.bodies in
+    let place = c.args.place in
+    let within : place - 1 < length bodies = omega (arith, c.if-place-len.false, c.len.ensures) in
+    let at = there bodies (place - 1) c.at.result.now within c.at.ensures in
+    c.requires (place - 1) c.at.result.now (ap (λ (m : Meter). slice_get m.bodies (place - 1)) (sym c.script.view_is) ∙ at)
+
+pub returns : goal.returns
+returns g c =
+    let bodies = c.script.inside.bodies in
+    let place = c.args.place in
+    let within : place - 1 < length bodies = omega (arith, c.if-place-len.false, c.len.ensures) in
+    let at = there bodies (place - 1) c.at.result.now within c.at.ensures in
+    let found = body_there place c.args.script.now.bodies c.at.result.now c.if-place-eq0.false (ap (λ (m : Meter). slice_get m.bodies (place - 1)) (sym c.script.view_is) ∙ at) in
+    c.write_long.ensures
+    ∙ ap (λ sender. spelling (long rsp_ud sender variable_data c.at.result.now)) (c.sender_of.ensures ∙ ap (λ (m : Meter). unwrap_or m.address 0) c.script.view_is)
+    ∙ ap (λ o. bytes_of (response c.args.script.now o)) (sym found)

@@ -1,0 +1,35 @@
+//! Many lives on a lossy line: a concentrator that may stop at any moment reads meters that follow the standard,
+//! over a line that loses requests and replies (EN 13757-2, frame count bit at both stations; EN 13757-3 in its
+//! editions of 2004 and 2013, since 2018 EN 13757-7, selection).
+//!
+//! [`play`] runs the real session of dc_readout against such meters, event by event. What it holds then is what the
+//! world's definition holds, and each is one meter's bodies from the first to the first after which no more follow,
+//! whole, in order, each once. A meter goes on from a body only where the bodies up to it are committed: a law on
+//! the world alone.
+//!
+//! The premises are one definition, which [`are_regular`] tests: each body fits one frame, primary addresses differ,
+//! no meter's selection matches another; and nothing arrives late. That a readout begins anew with the reset or the
+//! selection is part of the meter's definition.
+#![tactic(auto)]
+
+mod body;
+mod event;
+mod held;
+mod laws;
+mod lives;
+mod position;
+mod reply;
+mod request;
+mod running;
+mod script;
+mod world;
+
+pub use body::{Bodies, Body};
+pub use event::{Outcome, WorldEvent};
+pub use held::Held;
+pub use laws::{a_meter_goes_on_from_what_is_committed, what_is_held_is_whole};
+pub use lives::play;
+pub use script::{MeterScript, are_regular};
+
+#[cfg(test)]
+mod tests;

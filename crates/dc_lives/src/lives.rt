@@ -1,0 +1,33 @@
+//! Lives of a concentrator on one line, played through.
+
+ghost use Rattle.std.specs.Prelude.{◌≡◌, IfOk};
+ghost use Rattle.std.specs.List.{AllByRecursion};
+ghost use Rattle.dc_lives.specs.World.{AreRegular, IsWhole, world_after};
+
+use crate::event::WorldEvent;
+use crate::held::Held;
+use crate::script::MeterScript;
+use crate::world::World;
+use dc_base::NoMemory;
+use std::alloc::Allocator;
+
+/// What is held after these events, in order: each is a whole readout of one meter.
+///
+/// It runs the real session against meters that follow the standard. An event that has nothing to act on is
+/// skipped: a start while a session runs or of a meter that isn't there, an exchange without a request, a commit
+/// without a telegram that waits.
+pub fn play<A: Allocator + Copy>(
+    alloc: A,
+    scripts: &[MeterScript<A>],
+    events: &[WorldEvent],
+) -> Result<Vec<Held<A>, A>, NoMemory>
+    requires { AreRegular scripts.now }
+    ensures exact { IfOk result (λ held. held.items ≡ (world_after scripts.now events.now).held) }
+    ensures whole { IfOk result (λ held. AllByRecursion (IsWhole scripts.now) held.items) }
+{
+    let mut world = World::new(alloc, scripts)?;
+    for i in 0..events.len() {
+        world.step(alloc, scripts, events[i])?;
+    }
+    Ok(world.into_held())
+}

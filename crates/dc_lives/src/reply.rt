@@ -1,0 +1,112 @@
+//! What a meter answers, and what is heard of it.
+
+ghost use Rattle.std.specs.Prelude.{◌≡◌, Some, None, unwrap_or, if◌then◌else◌};
+ghost use Rattle.dc_linkframe.specs.Frame.{ack};
+ghost use Rattle.dc_lives.specs.Meter.{answer_to, response, body_at, is_own};
+ghost use Rattle.dc_lives.specs.Request.{frame_asked};
+ghost use Rattle.dc_lives.specs.Reply.{bytes_heard, bytes_of};
+ghost use Rattle.dc_lives.specs.Regular.{Fits};
+
+use crate::position::Position;
+use crate::request::Request;
+use crate::script::MeterScript;
+use dc_address::{Mask, Primary};
+use dc_linkframe::control::{RSP_UD, VARIABLE_DATA};
+use dc_linkframe::{ACK, FrameBuf, write_long};
+use std::alloc::Allocator;
+
+// A byte that is no frame.
+const NOISE: u8 = 0x00;
+
+/// What is heard in answer to a request.
+#[derive(Clone, Copy)]
+pub(crate) enum Reply {
+    Silence,
+    Noise,
+    Acknowledged,
+    Telegram(FrameBuf),
+}
+
+impl Reply {
+    /// Its bytes; silence has none.
+    pub(crate) fn as_slice(&self) -> &[u8]
+        ensures { result.now ≡ bytes_heard self.now }
+    {
+        match self {
+            Reply::Silence => &[],
+            Reply::Noise => &[NOISE],
+            Reply::Acknowledged => &[ACK],
+            Reply::Telegram(frame) => frame.as_slice(),
+        }
+    }
+}
+
+fn acknowledged_if(answers: bool) -> Reply
+    ensures { bytes_heard result ≡ bytes_of (if answers then Some ack else None) }
+{
+    if answers {
+        Reply::Acknowledged
+    } else {
+        Reply::Silence
+    }
+}
+
+// A meter without a primary address answers from 0.
+fn sender_of(own: Option<Primary>) -> u8
+    ensures { result ≡ unwrap_or own 0 }
+{
+    match own {
+        Some(own) => own.get(),
+        None => 0,
+    }
+}
+
+fn is_own(own: Option<Primary>, address: u8) -> bool
+    ensures { result ≡ is_own own address }
+{
+    match own {
+        Some(own) => own.get() == address,
+        None => false,
+    }
+}
+
+// The telegram with the body that the meter stands at; past the last it is silent.
+fn respond<A: Allocator>(script: &MeterScript<A>, place: usize) -> Reply
+    requires { Fits script.now.bodies }
+    ensures { bytes_heard result ≡ bytes_of (response script.now (body_at place script.now.bodies)) }
+{
+    if place == 0 || place > script.bodies.len() {
+        return Reply::Silence;
+    }
+    let mut frame = FrameBuf::new();
+    write_long(
+        RSP_UD,
+        sender_of(script.address),
+        VARIABLE_DATA,
+        script.bodies.at(place - 1),
+        &mut frame,
+    );
+    Reply::Telegram(frame)
+}
+
+/// What the meter answers that the request has brought to this position.
+pub(crate) fn reply_to<A: Allocator>(
+    request: Request,
+    script: &MeterScript<A>,
+    position: &Position,
+) -> Reply
+    requires { Fits script.now.bodies }
+    ensures { bytes_heard result ≡ bytes_of (answer_to (frame_asked request) script.now position.now) }
+{
+    match request {
+        Request::Reset(address) => acknowledged_if(is_own(script.address, address)),
+        Request::Select(meter) => acknowledged_if(Mask::of(&meter).matches(&script.identity)),
+        Request::Data { address, .. } => {
+            if position.hears(script.address, address) {
+                respond(script, position.place())
+            } else {
+                Reply::Silence
+            }
+        }
+    }
+}

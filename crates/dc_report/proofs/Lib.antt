@@ -1,0 +1,4 @@
+mod PlainFields
+mod InOrder
+mod PlaceOrder
+mod LastReadings

@@ -1,0 +1,9 @@
+-- the definitions that contracts cite
+pub mod Line
+pub mod Medium
+pub mod Ascending
+pub mod Places
+pub mod RegisterTable
+pub mod DueTable
+pub mod Last
+pub mod Written

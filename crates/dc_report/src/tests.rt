@@ -1,0 +1,260 @@
+//! The tables of worked houses, byte for byte.
+
+ghost use Rattle.dc_changes.specs.Valid.{IsChange};
+
+use crate::{Date, due_rows, due_table, register_rows, register_table};
+use dc_base::NoMemory;
+use dc_changes::{Body, Change, Command};
+use dc_meters::House;
+use refusing_alloc::Refusing;
+use std::alloc::Allocator;
+use std::process::Abort;
+use std::test::Fail;
+
+const REGISTER: &[u8] = b"flat,meter,medium,line,address,open\n";
+
+const DUE: &[u8] = b"flat,meter,serial,storage,function,tariff,subunit,value,unit\n";
+
+// the wire of 12345678.PAD.01.07 and of 00000002.PAD.01.99, and the rest of a header
+const ONE: &[u8] = b"\x78\x56\x34\x12\x24\x40\x01\x07\x01\0\0\0";
+
+const TWO: &[u8] = b"\x02\0\0\0\x24\x40\x01\x99\x01\0\0\0";
+
+// the day 2024-12-31 of storage 1, and volumes of storage 1
+const DATED: &[u8] = b"\x42\x6C\x1F\x3C";
+
+const VOLUME: &[u8] = b"\x4C\x13\x00\x50\x34\x12";
+
+const OTHER_VOLUME: &[u8] = b"\x4C\x13\x00\x00\x20\x00";
+
+fn apply<A: Allocator + Copy>(
+    rt: &impl Abort,
+    house: &mut House<A>,
+    change: &Change<'_>,
+) -> Result<(), NoMemory>
+    requires { IsChange change.now }
+{
+    assert!(rt; house.is_next(change));
+    assert!(rt; house.check(change).is_ok());
+    house.apply(change)
+}
+
+fn order<A: Allocator + Copy>(
+    rt: &impl Abort,
+    house: &mut House<A>,
+    line: &[u8],
+) -> Result<(), Fail> {
+    let found = Command::parse_line(line).ok_or("line")?;
+    let change = Change::Command {
+        number: found.number,
+        command: found.command,
+    };
+    apply(rt, house, &change)?;
+    Ok(())
+}
+
+// A part of a readout.
+fn hear<A: Allocator + Copy>(
+    rt: &impl Abort,
+    house: &mut House<A>,
+    alloc: A,
+    part: u8,
+    pieces: &[&[u8]],
+) -> Result<(), Fail> {
+    let bytes = pieces.concat(alloc)?;
+    let body = Body::parse(&bytes).ok_or("body")?;
+    let change = Change::Telegram {
+        part,
+        moment: 100,
+        body,
+    };
+    apply(rt, house, &change)?;
+    Ok(())
+}
+
+// A table of these lines.
+fn is_table<A: Allocator + Copy>(alloc: A, table: &[u8], lines: &[&[u8]]) -> Result<bool, Fail> {
+    let wanted = lines.concat(alloc)?;
+    Ok(table == wanted.as_slice())
+}
+
+// One meter and one readout of it, in two parts.
+fn one_reading<A: Allocator + Copy>(rt: &impl Abort, alloc: A) -> Result<House<A>, Fail> {
+    let mut house = House::new(alloc, 15_616);
+    order(rt, &mut house, b"1 FIT 12345678.PAD.01.07 1 1 A1")?;
+    hear(
+        rt,
+        &mut house,
+        alloc,
+        1,
+        &[ONE, b"\x0C\x13\x78\x56\x34\x12\x1F"],
+    )?;
+    hear(rt, &mut house, alloc, 2, &[ONE, DATED, VOLUME])?;
+    Ok(house)
+}
+
+#[test]
+fn a_readout_has_its_rows(rt: HostRuntime) -> Result<(), Fail> {
+    let date = Date::new(2024, 12, 31).ok_or("date")?;
+    let house = one_reading(&rt, rt.alloc())?;
+    let register = register_table(rt.alloc(), &house)?;
+    assert!(rt;
+        is_table(
+            rt.alloc(),
+            &register,
+            &[REGISTER, b"A1,12345678.PAD.01.07,water,1,1,0\n"]
+        )?
+    );
+    assert_eq!(rt; register_rows(&house), 1);
+    let due = due_table(rt.alloc(), &house, date)?;
+    assert!(rt;
+        is_table(
+            rt.alloc(),
+            &due,
+            &[DUE, b"A1,12345678.PAD.01.07,1,1,0,0,0,12345.000,m3\n"]
+        )?
+    );
+    assert_eq!(rt; due_rows(rt.alloc(), &house, date)?, 1);
+
+    // Of another date there is the header alone.
+    let date = Date::new(2023, 12, 31).ok_or("date")?;
+    let due = due_table(rt.alloc(), &house, date)?;
+    assert_eq!(rt; due.as_slice(), DUE);
+    assert_eq!(rt; due_rows(rt.alloc(), &house, date)?, 0);
+    Ok(())
+}
+
+#[test]
+fn flags_and_none_have_their_texts(rt: HostRuntime) -> Result<(), Fail> {
+    let date = Date::new(2024, 12, 31).ok_or("date")?;
+    let mut house = House::new(rt.alloc(), 15_616);
+    order(&rt, &mut house, b"1 FIT 12345678.PAD.01.07 1 S A1")?;
+    let flags: &[u8] = b"\x42\xFD\x17\x04\x01";
+    let least: &[u8] = b"\xD4\x50\x13\0\0\0\x80";
+    hear(&rt, &mut house, rt.alloc(), 1, &[ONE, DATED, flags, least])?;
+    let due = due_table(rt.alloc(), &house, date)?;
+    assert!(rt;
+        is_table(
+            rt.alloc(),
+            &due,
+            &[
+                DUE,
+                b"A1,12345678.PAD.01.07,1,1,0,0,0,0104,flags\n",
+                b"A1,12345678.PAD.01.07,1,1,1,1,1,none,m3\n",
+            ]
+        )?
+    );
+    assert_eq!(rt; due_rows(rt.alloc(), &house, date)?, 2);
+    Ok(())
+}
+
+// Flats by their bytes, and in a flat by identity.
+#[test]
+fn rows_are_in_order_of_flats(rt: HostRuntime) -> Result<(), Fail> {
+    let mut house = House::new(rt.alloc(), 15_616);
+    order(&rt, &mut house, b"1 FIT 12345678.PAD.01.07 1 1 a1")?;
+    order(&rt, &mut house, b"2 FIT 00000002.PAD.01.99 2 S B10")?;
+    order(&rt, &mut house, b"3 FIT 00000003.PAD.01.02 2 250 B2")?;
+    order(&rt, &mut house, b"4 FIT 00000004.PAD.01.08 8 2 B")?;
+    order(&rt, &mut house, b"5 FIT 00000001.PAD.01.0C 8 1 B2")?;
+    hear(&rt, &mut house, rt.alloc(), 1, &[ONE, b"\x1F"])?;
+    let register = register_table(rt.alloc(), &house)?;
+    assert!(rt;
+        is_table(
+            rt.alloc(),
+            &register,
+            &[
+                REGISTER,
+                b"B,00000004.PAD.01.08,heat-cost-allocator,8,2,0\n",
+                b"B10,00000002.PAD.01.99,99,2,S,0\n",
+                b"B2,00000001.PAD.01.0C,heat-inlet,8,1,0\n",
+                b"B2,00000003.PAD.01.02,electricity,2,250,0\n",
+                b"a1,12345678.PAD.01.07,water,1,1,1\n",
+            ]
+        )?
+    );
+    assert_eq!(rt; register_rows(&house), 5);
+    Ok(())
+}
+
+// The last reading that has the date counts, in the flat of then, also of meters that were swapped or taken out.
+#[test]
+fn each_meter_has_its_last_reading_with_the_date(rt: HostRuntime) -> Result<(), Fail> {
+    let date = Date::new(2024, 12, 31).ok_or("date")?;
+    let mut house = House::new(rt.alloc(), 15_616);
+    order(&rt, &mut house, b"1 FIT 12345678.PAD.01.07 1 1 C3")?;
+    order(&rt, &mut house, b"2 FIT 00000002.PAD.01.99 2 S B2")?;
+    hear(&rt, &mut house, rt.alloc(), 1, &[ONE, DATED, VOLUME])?;
+    hear(&rt, &mut house, rt.alloc(), 1, &[TWO, DATED, VOLUME])?;
+    order(&rt, &mut house, b"3 MOVE 12345678.PAD.01.07 A1")?;
+    hear(&rt, &mut house, rt.alloc(), 1, &[ONE, DATED, OTHER_VOLUME])?;
+    hear(&rt, &mut house, rt.alloc(), 1, &[ONE, VOLUME])?;
+    order(
+        &rt,
+        &mut house,
+        b"4 SWAP 12345678.PAD.01.07 00000009.PAD.01.07 1",
+    )?;
+    order(&rt, &mut house, b"5 OUT 00000002.PAD.01.99")?;
+    let due = due_table(rt.alloc(), &house, date)?;
+    assert!(rt;
+        is_table(
+            rt.alloc(),
+            &due,
+            &[
+                DUE,
+                b"A1,12345678.PAD.01.07,3,1,0,0,0,200.000,m3\n",
+                b"B2,00000002.PAD.01.99,2,1,0,0,0,12345.000,m3\n",
+            ]
+        )?
+    );
+    assert_eq!(rt; due_rows(rt.alloc(), &house, date)?, 2);
+    let register = register_table(rt.alloc(), &house)?;
+    assert!(rt;
+        is_table(
+            rt.alloc(),
+            &register,
+            &[REGISTER, b"A1,00000009.PAD.01.07,water,1,1,0\n"]
+        )?
+    );
+    Ok(())
+}
+
+// Each request is refused in turn, and the same call then succeeds. The due-date table takes room for the serials, for
+// the days of the readout (twice), for the last readings, for these by flat, for the rows and for the text; the register
+// table for the places and for the text.
+#[test]
+fn each_growth_is_refused_in_turn(rt: HostRuntime) -> Result<(), Fail> {
+    let date = Date::new(2024, 12, 31).ok_or("date")?;
+    let heap = Refusing::new(rt.alloc());
+    heap.refuse(0);
+    let house = one_reading(&rt, &heap)?;
+    for k in 1..=7u64 {
+        heap.refuse(k);
+        assert!(rt;
+            matches!(due_table(&heap, &house, date), Err(NoMemory)),
+            "at {k}"
+        );
+        assert_eq!(rt; due_table(&heap, &house, date)?.len(), 106);
+    }
+    for k in 1..=6u64 {
+        heap.refuse(k);
+        assert!(rt;
+            matches!(due_rows(&heap, &house, date), Err(NoMemory)),
+            "at {k}"
+        );
+        assert_eq!(rt; due_rows(&heap, &house, date)?, 1);
+    }
+    for k in 1..=2u64 {
+        heap.refuse(k);
+        assert!(rt;
+            matches!(register_table(&heap, &house), Err(NoMemory)),
+            "at {k}"
+        );
+        assert_eq!(rt; register_table(&heap, &house)?.len(), 70);
+    }
+    heap.refuse(8);
+    assert_eq!(rt; due_table(&heap, &house, date)?.len(), 106);
+    heap.refuse(3);
+    assert_eq!(rt; register_table(&heap, &house)?.len(), 70);
+    Ok(())
+}

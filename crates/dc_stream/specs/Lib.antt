@@ -1,0 +1,4 @@
+-- the definitions that contracts cite
+pub mod Stream
+pub mod Bytes
+pub mod Chain

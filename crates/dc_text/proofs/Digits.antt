@@ -1,0 +1,52 @@
+-- Bytes in hex digits, one byte more.
+use Rattle.std.proofs.Common.{◌≡◌, ℕ, ◌+◌, ◌*◌, ◌/◌, ◌%◌, ◌<◌, ◌∙◌, Option, Some, List, [], ◌∷◌, ◌++◌, length, take, get_or, refl, ap, arith, append-nil}
+use Rattle.std.proofs.lemmas.Grind.{common_steps}
+use Rattle.std.proofs.lemmas.List.Concat.{flat_map-append}
+use Rattle.std.proofs.lemmas.Bool.Decides.{nat_tests}
+use Rattle.std.specs.Io.KnownBytes.{prepend_known}
+use Rattle.std.specs.List.{AllByRecursion}
+use Rattle.std.specs.Prelude.{codes}
+use Rattle.dc_text.specs.Hex.{digit_value, pair_value, onto_bytes, bytes_of, upper_digit, upper_pair, upper_hex}
+use Rattle.dc_text.specs.Words.{hex_word}
+
+pub hex_of_none : upper_hex [] ≡ []
+unfolding upper_hex
+hex_of_none = refl
+
+pub hex_of_one_more : (bytes : List ℕ) (i : ℕ) → i < length bytes → upper_hex (take (i + 1) bytes) ≡ upper_hex (take i bytes) ++ upper_pair (get_or bytes i 0)
+unfolding upper_hex
+hex_of_one_more bytes i below =
+    let more : take (i + 1) bytes ≡ take i bytes ++ (get_or bytes i 0 ∷ []) = grind (arith, common_steps) in
+    rw (more, flat_map-append upper_pair (take i bytes) (get_or bytes i 0 ∷ [])) (ap (λ (t : List ℕ). upper_hex (take i bytes) ++ t) (append-nil (upper_pair (get_or bytes i 0))))
+
+pub word_of_none : (bytes : List ℕ) → length bytes ≡ 0 → hex_word bytes ≡ codes " -"
+unfolding hex_word
+word_of_none [] none = refl
+word_of_none (b ∷ bytes) none = absurd (omega arith)
+
+pub word_of_some : (bytes : List ℕ) → 0 < length bytes → hex_word bytes ≡ codes " " ++ upper_hex bytes
+unfolding hex_word
+word_of_some [] some = absurd (omega arith)
+word_of_some (b ∷ bytes) some = refl
+
+pub ruleset words = (word_of_none, word_of_some)
+
+pub ruleset digits = (hex_of_none, hex_of_one_more)
+
+digit_back : (n : ℕ) → n < 16 → digit_value (upper_digit n) ≡ Some n
+digit_back n below = grind (arith, nat_tests)
+
+pair_back : (b : ℕ) → b < 256 → pair_value (digit_value (upper_digit (b / 16))) (digit_value (upper_digit (b % 16))) ≡ Some b
+pair_back b below =
+    let high : b / 16 < 16 = omega arith in
+    let low : b % 16 < 16 = omega arith in
+    let whole : b / 16 * 16 + b % 16 ≡ b = omega arith in
+    ap (λ (v : Option ℕ). pair_value v (digit_value (upper_digit (b % 16)))) (digit_back (b / 16) high)
+    ∙ ap (pair_value (Some (b / 16))) (digit_back (b % 16) low) ∙ ap Some whole
+
+pub read_back : (bytes : List ℕ) → AllByRecursion (λ b. b < 256) bytes → bytes_of (upper_hex bytes) ≡ Some bytes
+unfolding bytes_of upper_hex
+read_back [] small = refl
+read_back (b ∷ bytes) small =
+    ap (λ (v : Option ℕ). onto_bytes v (bytes_of (upper_hex bytes))) (pair_back b small.0)
+    ∙ ap (prepend_known (b ∷ [])) (read_back bytes small.1)

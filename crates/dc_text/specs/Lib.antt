@@ -1,0 +1,4 @@
+-- the definitions that contracts cite
+pub mod Buffered
+pub mod Hex
+pub mod Words

@@ -1,0 +1,132 @@
+//! A sink that goes on to its writer in large pieces.
+
+ghost use Rattle.std.specs.Prelude.{◌≡◌, ◌+◌, ◌≤◌, ◌↔◌, ◌++◌, [], length, take, IsTrue, IfOk, OnErr};
+ghost use Rattle.std.specs.Io.KnownBytes.{append_known};
+ghost use Rattle.dc_stream.specs.Stream.{PutsFront, Wrote};
+
+use dc_base::NoMemory;
+use dc_stream::{IoFault, Sink, room};
+use std::alloc::Allocator;
+use std::marker::Model;
+
+/// A writer, and bytes on their way to it, which wait until its room is full or [`Buffered::flush`] or
+/// [`Buffered::finish`] is called.
+///
+/// Where a put to the writer fails, the bytes that waited are let go.
+#[derive(Drop)]
+pub struct Buffered<W: Sink + Drop, A: Allocator> {
+    writer: W,
+    room: Vec<u8, A>,
+    used: usize,
+}
+
+impl<W: Sink + Drop, A: Allocator> Model for Buffered<W, A> {
+    ghost use Rattle.std.specs.Prelude.{◌≤◌, take, vec_len};
+    ghost use Rattle.dc_text.specs.Buffered.{Holding};
+
+    ghost Value = { Holding W };
+
+    ghost view = { λ b. record { writer = b.writer; held = take b.used b.room.items; capacity = vec_len b.room } };
+
+    ghost invariant = { λ b. b.used ≤ vec_len b.room };
+}
+
+impl<W: Sink + Drop, A: Allocator> Buffered<W, A> {
+    /// The writer behind room for so many bytes.
+    ///
+    /// # Errors
+    /// Where memory is refused, and the writer is then let go.
+    pub fn new(alloc: A, capacity: usize, writer: W) -> Result<Self, NoMemory>
+        ensures { IfOk result (λ b. b ≡ record { writer = writer; held = []; capacity = capacity }) }
+    {
+        let room = room(alloc, capacity)?;
+        Ok(Buffered {
+            writer,
+            room,
+            used: 0,
+        })
+    }
+
+    /// Puts what waits.
+    pub fn flush(&mut self) -> Result<(), IoFault>
+        ensures wrote { Wrote W.written W.put_failures result self.old.writer self.new.writer self.old.held }
+        ensures front { OnErr result (PutsFront (W.written self.old.writer) (W.written self.new.writer) self.old.held) }
+        ensures empty { self.new.held ≡ [] }
+    {
+        let (waiting, _) = self.room.as_slice().split_at(self.used);
+        let put = self.writer.put(waiting);
+        self.used = 0;
+        put
+    }
+
+    /// Puts what waits, and gives the writer back with the answer.
+    pub fn finish(self) -> (W, Result<(), IoFault>)
+        ensures { Wrote W.written W.put_failures result.1 self.writer result.0 self.held }
+    {
+        let mut all = self;
+        let put = all.flush();
+        let Buffered { writer, .. } = all;
+        (writer, put)
+    }
+
+    // Whether so many bytes more fit.
+    #[inline]
+    fn has_place(&self, count: usize) -> bool
+        ensures { IsTrue result ↔ (length self.now.held + count ≤ self.now.capacity) }
+    {
+        count <= self.room.len() - self.used
+    }
+
+    // Holds back a piece that fits.
+    #[inline]
+    fn hold(&mut self, piece: &[u8])
+        requires { length self.old.held + length piece.now ≤ self.old.capacity }
+        ensures { self.new ≡ record self.old { held = self.old.held ++ piece.now } }
+    {
+        place(self.room.as_mut_slice(), self.used, piece);
+        self.used += piece.len();
+    }
+
+    // Puts what waits, and then a piece that had no place behind it.
+    #[cold]
+    #[tactic(auto, using(dc_stream::proofs::Pieces::written, crate::proofs::Fronts::fronts))]
+    fn put_past(&mut self, piece: &[u8]) -> Result<(), IoFault>
+        ensures wrote { Wrote (λ b. append_known (W.written b.writer) b.held) (λ b. W.put_failures b.writer) result self.old self.new piece.now }
+        ensures front { OnErr result (PutsFront (append_known (W.written self.old.writer) self.old.held) (append_known (W.written self.new.writer) self.new.held) piece.now) }
+    {
+        self.flush()?;
+        if self.has_place(piece.len()) {
+            self.hold(piece);
+            return Ok(());
+        }
+        self.writer.put(piece)
+    }
+}
+
+impl<W: Sink + Drop, A: Allocator> Sink for Buffered<W, A> {
+    ghost written = { λ b. append_known (W.written b.writer) b.held };
+
+    ghost put_failures = { λ b. W.put_failures b.writer };
+
+    #[inline]
+    #[tactic(auto, using(dc_stream::proofs::Pieces::written))]
+    fn put(&mut self, piece: &[u8]) -> Result<(), IoFault> {
+        if self.has_place(piece.len()) {
+            self.hold(piece);
+            return Ok(());
+        }
+        self.put_past(piece)
+    }
+}
+
+// Places a piece behind the first `at` bytes.
+#[inline]
+#[tactic(auto, using(crate::proofs::Placed::piece_placed))]
+fn place(bytes: &mut [u8], at: usize, piece: &[u8])
+    requires { at + length piece.now ≤ length bytes.old }
+    ensures { take (at + length piece.now) bytes.new ≡ take at bytes.old ++ piece.now }
+{
+    let (_, free) = bytes.split_at_mut(at);
+    let (front, _) = free.split_at_mut(piece.len());
+    front.copy_from_slice(piece);
+}

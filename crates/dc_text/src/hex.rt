@@ -1,0 +1,111 @@
+//! Hex digits, read in either case and written in capitals.
+
+ghost use Rattle.std.specs.Prelude.{◌≡◌, ◌*◌, ◌<◌, ◌≤◌, length, take, Some, None, MatchOption, IfSome};
+ghost use Rattle.dc_stream.specs.Stream.{Wrote};
+ghost use Rattle.dc_text.specs.Hex.{digit_value, bytes_of, upper_digit, upper_pair, upper_hex};
+ghost use Rattle.dc_text.specs.Words.{byte_word, hex_word};
+
+use dc_stream::{IoFault, Sink};
+
+// The value of each character as a hex digit, or 255.
+static VALUES: [u8; 256] = [
+    255, 255, 255, 255, 255, 255, 255, 255, 255, 255, 255, 255, 255, 255, 255, 255, 255, 255, 255,
+    255, 255, 255, 255, 255, 255, 255, 255, 255, 255, 255, 255, 255, 255, 255, 255, 255, 255, 255,
+    255, 255, 255, 255, 255, 255, 255, 255, 255, 255, 0, 1, 2, 3, 4, 5, 6, 7, 8, 9, 255, 255, 255,
+    255, 255, 255, 255, 10, 11, 12, 13, 14, 15, 255, 255, 255, 255, 255, 255, 255, 255, 255, 255,
+    255, 255, 255, 255, 255, 255, 255, 255, 255, 255, 255, 255, 255, 255, 255, 255, 10, 11, 12, 13,
+    14, 15, 255, 255, 255, 255, 255, 255, 255, 255, 255, 255, 255, 255, 255, 255, 255, 255, 255,
+    255, 255, 255, 255, 255, 255, 255, 255, 255, 255, 255, 255, 255, 255, 255, 255, 255, 255, 255,
+    255, 255, 255, 255, 255, 255, 255, 255, 255, 255, 255, 255, 255, 255, 255, 255, 255, 255, 255,
+    255, 255, 255, 255, 255, 255, 255, 255, 255, 255, 255, 255, 255, 255, 255, 255, 255, 255, 255,
+    255, 255, 255, 255, 255, 255, 255, 255, 255, 255, 255, 255, 255, 255, 255, 255, 255, 255, 255,
+    255, 255, 255, 255, 255, 255, 255, 255, 255, 255, 255, 255, 255, 255, 255, 255, 255, 255, 255,
+    255, 255, 255, 255, 255, 255, 255, 255, 255, 255, 255, 255, 255, 255, 255, 255, 255, 255, 255,
+    255, 255, 255, 255, 255, 255, 255, 255, 255, 255, 255, 255, 255, 255, 255, 255, 255, 255, 255,
+    255, 255, 255,
+];
+
+// The value of a hex digit, in either case.
+#[inline]
+#[tactic(auto, using(crate::proofs::Values::VALUES_at))]
+fn value_of(digit: u8) -> Option<u8>
+    ensures value { result ≡ digit_value digit }
+    ensures small { IfSome result (λ value. value < 16) }
+{
+    let value = VALUES[digit as usize];
+    if value < 16 { Some(value) } else { None }
+}
+
+/// The bytes of pairs of digits, and how many; `None` where they aren't pairs of digits.
+pub fn decode_hex(digits: &[u8], out: &mut [u8]) -> Option<usize>
+    requires { length digits.now ≤ 2 * length out.old }
+    ensures value { MatchOption result (bytes_of digits.now ≡ None) (λ n. bytes_of digits.now ≡ Some (take n out.new)) }
+    ensures count { IfSome result (λ n. 2 * n ≡ length digits.now) }
+{
+    if digits.len() % 2 != 0 {
+        return None;
+    }
+    let count = digits.len() / 2;
+    'pairs: for i in 0..count {
+        let high = value_of(digits[2 * i])?;
+        let low = value_of(digits[2 * i + 1])?;
+        out[i] = high * 16 + low;
+    }
+    Some(count)
+}
+
+#[inline]
+fn digit_of(n: u8) -> u8
+    requires { n < 16 }
+    ensures { result ≡ upper_digit n }
+{
+    if n < 10 { b'0' + n } else { b'A' - 10 + n }
+}
+
+// A byte in two capital hex digits.
+#[inline]
+fn pair_of(byte: u8) -> [u8; 2]
+    ensures { result ≡ upper_pair byte }
+{
+    [digit_of(byte / 16), digit_of(byte % 16)]
+}
+
+/// Puts a byte in two capital hex digits.
+#[inline]
+pub fn put_byte<W: Sink>(out: &mut W, byte: u8) -> Result<(), IoFault>
+    ensures { Wrote W.written W.put_failures result out.old out.new (upper_pair byte) }
+{
+    out.put(&pair_of(byte))
+}
+
+/// Puts bytes in capital hex digits.
+#[tactic(auto, using(dc_stream::proofs::Pieces::written, crate::proofs::Digits::digits))]
+pub fn put_hex<W: Sink>(out: &mut W, bytes: &[u8]) -> Result<(), IoFault>
+    ensures { Wrote W.written W.put_failures result out.old out.new (upper_hex bytes.now) }
+{
+    'bytes: for byte in bytes {
+        put_byte(out, *byte)?;
+    }
+    Ok(())
+}
+
+/// Puts a space and a byte in two capital hex digits.
+#[tactic(auto, using(dc_stream::proofs::Pieces::written))]
+pub fn put_byte_word<W: Sink>(out: &mut W, byte: u8) -> Result<(), IoFault>
+    ensures { Wrote W.written W.put_failures result out.old out.new (byte_word byte) }
+{
+    out.put(b" ")?;
+    put_byte(out, byte)
+}
+
+/// Puts a space and bytes in capital hex digits; `-` stands for no bytes.
+#[tactic(auto, using(dc_stream::proofs::Pieces::written, crate::proofs::Digits::words))]
+pub fn put_hex_word<W: Sink>(out: &mut W, bytes: &[u8]) -> Result<(), IoFault>
+    ensures { Wrote W.written W.put_failures result out.old out.new (hex_word bytes.now) }
+{
+    if bytes.is_empty() {
+        return out.put(b" -");
+    }
+    out.put(b" ")?;
+    put_hex(out, bytes)
+}

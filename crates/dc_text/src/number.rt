@@ -1,0 +1,25 @@
+//! Numbers in decimal.
+
+ghost use Rattle.std.specs.Prelude.{decimal};
+ghost use Rattle.dc_stream.specs.Stream.{Wrote};
+ghost use Rattle.dc_text.specs.Words.{number_word};
+
+use dc_stream::{IoFault, Sink};
+use itoa::Buffer;
+
+/// Puts a number in decimal.
+pub fn put_number<W: Sink>(out: &mut W, number: u64) -> Result<(), IoFault>
+    ensures { Wrote W.written W.put_failures result out.old out.new (decimal number) }
+{
+    let mut digits = Buffer::new();
+    out.put(digits.format(number).as_bytes())
+}
+
+/// Puts a space and a number in decimal.
+#[tactic(auto, using(dc_stream::proofs::Pieces::written))]
+pub fn put_number_word<W: Sink>(out: &mut W, number: u64) -> Result<(), IoFault>
+    ensures { Wrote W.written W.put_failures result out.old out.new (number_word number) }
+{
+    out.put(b" ")?;
+    put_number(out, number)
+}

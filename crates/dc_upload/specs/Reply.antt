@@ -1,0 +1,63 @@
+-- The replies to the office's lines (this product): words with single spaces, each line ended by LF.
+use Rattle.std.specs.Prelude.{ℕ, List, [], ◌++◌, codes, length, flat_map}
+use Rattle.dc_changes.specs.State.{State, Held}
+use Rattle.dc_upload.specs.Code.{word_of}
+use Rattle.dc_upload.specs.Register.{meter_lines}
+use Rattle.dc_upload.specs.Verdict.{verdict_of}
+use Rattle.dc_upload.specs.Window.{reading_lines, window}
+use Rattle.dc_text.specs.Words.{number_word}
+use Rattle.dc_upload.specs.declared.code.Code.{Code}
+use Rattle.dc_upload.specs.declared.code.Code.TheVariants.{Syntax, Store, Order, Known, Unknown, Address, Beyond, Gone, Full, Memory}
+use Rattle.dc_upload.specs.declared.line.OfficeLine.{OfficeLine}
+use Rattle.dc_upload.specs.declared.line.OfficeLine.TheVariants.{Command, Window, Register}
+use Rattle.dc_upload.specs.declared.verdict.Verdict.{Verdict}
+use Rattle.dc_upload.specs.declared.verdict.Verdict.TheVariants.{Repeat, Do, Show, Refuse}
+
+-- a command is done, now or before
+unfoldable pub done_line : ℕ → List ℕ
+done_line number = codes "OK" ++ number_word number ++ codes "\n"
+
+-- the number behind a code's word, if it has one
+abbrev pub detail_of : Code → List ℕ
+detail_of Syntax = []
+detail_of Store = []
+detail_of (Order last) = number_word last
+detail_of Known = []
+detail_of Unknown = []
+detail_of Address = []
+detail_of Beyond = []
+detail_of (Gone confirmed) = number_word confirmed
+detail_of Full = []
+detail_of Memory = []
+
+-- a line is refused
+unfoldable pub refusal_line : Code → List ℕ
+refusal_line code = codes "ERR " ++ word_of code ++ detail_of code ++ codes "\n"
+
+-- what was shown ends, with how much it was
+unfoldable pub end_line : ℕ → List ℕ
+end_line count = codes "END" ++ number_word count ++ codes "\n"
+
+-- ---- what is shown
+
+unfoldable pub window_text : ℕ → ℕ → State → List ℕ
+window_text from count s = flat_map reading_lines (window from count s) ++ end_line (length (window from count s))
+
+unfoldable pub register_text : State → List ℕ
+register_text s = meter_lines s ++ end_line (length s.meters)
+
+abbrev pub shown_text : OfficeLine → State → List ℕ
+shown_text (Command ordered) s = []
+shown_text (Window from count) s = window_text from count s
+shown_text Register s = register_text s
+
+-- ---- the reply. A new command has none before it is done: then it is a repeat.
+
+abbrev pub text_for : Verdict → OfficeLine → State → List ℕ
+text_for Repeat line s = done_line s.last_number
+text_for (Do change) line s = []
+text_for Show line s = shown_text line s
+text_for (Refuse code) line s = refusal_line code
+
+unfoldable pub reply_text : Held → OfficeLine → List ℕ
+reply_text house line = text_for (verdict_of house line) line house.state

@@ -1,0 +1,34 @@
+-- The readings that the office is shown (this product).
+use Rattle.std.specs.Prelude.{ℕ, ◌+◌, List, [], ◌∷◌, ◌++◌, codes, length, filter, nat_le, take}
+use Rattle.dc_address.specs.Text.{text_of}
+use Rattle.dc_changes.specs.State.{State, PartRow, ReadingRow}
+use Rattle.dc_text.specs.Hex.{upper_hex}
+use Rattle.dc_text.specs.Words.{number_word}
+
+-- `PART i moment hex`: its place, when it came, in seconds since 1970, and its body
+unfoldable pub part_line : ℕ → PartRow → List ℕ
+part_line place part =
+    codes "PART" ++ number_word place ++ number_word part.moment ++ codes " " ++ upper_hex part.body ++ codes "\n"
+
+-- parts from a place on
+abbrev pub part_lines : ℕ → List PartRow → List ℕ
+part_lines place [] = []
+part_lines place (part ∷ parts) = part_line place part ++ part_lines (place + 1) parts
+
+-- `READING serial ident flat parts`, the last being how many parts it has
+unfoldable pub reading_line : ReadingRow → List ℕ
+reading_line reading =
+    codes "READING" ++ number_word reading.serial ++ codes " " ++ text_of reading.meter ++ codes " " ++ reading.flat
+    ++ number_word (length reading.parts) ++ codes "\n"
+
+-- that line, and its parts from 1 on
+unfoldable pub reading_lines : ReadingRow → List ℕ
+reading_lines reading = reading_line reading ++ part_lines 1 reading.parts
+
+-- the readings with at least a serial
+abbrev pub readings_from : ℕ → State → List ReadingRow
+readings_from serial s = filter (λ reading. nat_le serial reading.serial) s.readings
+
+-- so many of them at most
+abbrev pub window : ℕ → ℕ → State → List ReadingRow
+window from count s = take count (readings_from from s)

@@ -1,0 +1,111 @@
+//! Replies to the office's lines.
+
+ghost use Rattle.std.specs.Prelude.{◌≡◌};
+ghost use Rattle.dc_changes.specs.Valid.{IsState};
+ghost use Rattle.dc_stream.specs.Stream.{Wrote};
+ghost use Rattle.dc_upload.specs.Line.{IsOfficeLine};
+ghost use Rattle.dc_upload.specs.Reply.{detail_of, done_line, end_line, refusal_line, register_text, reply_text, shown_text};
+ghost use Rattle.dc_upload.specs.Verdict.{IfDo, verdict_of};
+
+use crate::register::write_meters;
+use crate::window::write_window;
+use crate::{Code, OfficeLine, ReplyFault, Verdict, judge};
+use dc_meters::House;
+use dc_stream::{IoFault, Sink};
+use dc_text::put_number_word;
+use std::alloc::Allocator;
+
+/// Writes the reply to a line that is no new command; one that was just done is a repeat. It takes no memory, and a
+/// WINDOW costs what it shows.
+///
+/// # Errors
+/// Write where a write failed; how much of the reply was written then isn't known.
+#[tactic(auto, unfolding(crate::specs::Reply::reply_text))]
+pub fn write_reply<A: Allocator + Copy, W: Sink>(
+    house: &House<A>,
+    line: &OfficeLine,
+    out: &mut W,
+) -> Result<(), ReplyFault>
+    requires line { IsOfficeLine line.now }
+    requires answered { IfDo (verdict_of house.now line.now) (λ _. ⊥) }
+    ensures { Wrote W.written W.put_failures result out.old out.new (reply_text house.now line.now) }
+{
+    match judge(house, line) {
+        Verdict::Repeat => write_done(house.last_number(), out),
+        Verdict::Show => write_shown(house, line, out),
+        Verdict::Refuse(code) => write_refusal(code, out),
+        Verdict::Do(_) => unreachable!(),
+    }
+}
+
+/// Writes `OK number`: the command is done.
+#[tactic(auto, using(dc_stream::proofs::Pieces::written), unfolding(crate::specs::Reply::done_line))]
+fn write_done<W: Sink>(number: u64, out: &mut W) -> Result<(), ReplyFault>
+    ensures { Wrote W.written W.put_failures result out.old out.new (done_line number) }
+{
+    out.put(b"OK")?;
+    put_number_word(out, number)?;
+    out.put(b"\n")?;
+    Ok(())
+}
+
+/// Writes `ERR`, the code's word and its number, if it has one.
+///
+/// # Errors
+/// Write where a write failed; how much of the line was written then isn't known.
+#[tactic(auto, using(dc_stream::proofs::Pieces::written), unfolding(crate::specs::Reply::refusal_line))]
+pub fn write_refusal<W: Sink>(code: Code, out: &mut W) -> Result<(), ReplyFault>
+    ensures { Wrote W.written W.put_failures result out.old out.new (refusal_line code) }
+{
+    out.put(b"ERR ")?;
+    out.put(code.word().as_bytes())?;
+    put_detail(out, code)?;
+    out.put(b"\n")?;
+    Ok(())
+}
+
+fn put_detail<W: Sink>(out: &mut W, code: Code) -> Result<(), IoFault>
+    ensures { Wrote W.written W.put_failures result out.old out.new (detail_of code) }
+{
+    match code {
+        Code::Order { last } => put_number_word(out, last),
+        Code::Gone { confirmed } => put_number_word(out, confirmed),
+        _ => Ok(()),
+    }
+}
+
+fn write_shown<A: Allocator + Copy, W: Sink>(
+    house: &House<A>,
+    line: &OfficeLine,
+    out: &mut W,
+) -> Result<(), ReplyFault>
+    ensures { Wrote W.written W.put_failures result out.old out.new (shown_text line.now house.now.state) }
+{
+    match *line {
+        OfficeLine::Command(_) => {}
+        OfficeLine::Window { from, count } => write_window(house, from, count, out)?,
+        OfficeLine::Register => write_register(house, out)?,
+    }
+    Ok(())
+}
+
+#[tactic(auto, using(dc_stream::proofs::Pieces::written), unfolding(crate::specs::Reply::register_text))]
+fn write_register<A: Allocator + Copy, W: Sink>(
+    house: &House<A>,
+    out: &mut W,
+) -> Result<(), IoFault>
+    ensures { Wrote W.written W.put_failures result out.old out.new (register_text house.now.state) }
+{
+    write_meters(house, out)?;
+    write_end(house.meters().len(), out)
+}
+
+/// Writes `END count`.
+#[tactic(auto, using(dc_stream::proofs::Pieces::written), unfolding(crate::specs::Reply::end_line))]
+pub(crate) fn write_end<W: Sink>(count: usize, out: &mut W) -> Result<(), IoFault>
+    ensures { Wrote W.written W.put_failures result out.old out.new (end_line count) }
+{
+    out.put(b"END")?;
+    put_number_word(out, count as u64)?;
+    out.put(b"\n")
+}

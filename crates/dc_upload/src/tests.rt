@@ -1,0 +1,237 @@
+//! The office's lines as a house answers them, on worked lines.
+
+ghost use Rattle.std.specs.Prelude.{None};
+
+use crate::{
+    Code, ReplyFault, Verdict, a_done_command_is_repeated, judge, parse_line, write_refusal,
+    write_reply,
+};
+use dc_base::one_failure_more;
+use dc_changes::{Body, Change};
+use dc_meters::House;
+use dc_stream::{Bytes, IoFault, Sink};
+use std::alloc::{Allocator, Global};
+use std::process::Abort;
+use std::test::Fail;
+
+const BUDGET: u32 = 15_616;
+
+const FIT: &[u8] = b"1 FIT 12345678.PAD.01.07 1 1 A1";
+
+// The meter 12345678.PAD.01.07 tells a volume, and then a date and the volume on it.
+const FIRST: &[u8] =
+    b"\x78\x56\x34\x12\x24\x40\x01\x07\x01\x00\x00\x00\x0C\x13\x78\x56\x34\x12\x1F";
+
+const LAST: &[u8] =
+    b"\x78\x56\x34\x12\x24\x40\x01\x07\x02\x00\x00\x00\x42\x6C\x1F\x3C\x4C\x13\x00\x50\x34\x12";
+
+// Reads a line, does it if it is new, and replies.
+fn answer<A: Allocator + Copy, W: Sink>(
+    house: &mut House<A>,
+    text: &[u8],
+    out: &mut W,
+) -> Result<Result<(), ReplyFault>, Fail> {
+    let Some(line) = parse_line(text) else {
+        return Ok(write_refusal(Code::Syntax, out));
+    };
+    match judge(house, &line) {
+        Verdict::Do(change) => {
+            house.apply(&change)?;
+            a_done_command_is_repeated();
+            Ok(write_reply(house, &line, out))
+        }
+        Verdict::Repeat | Verdict::Show | Verdict::Refuse(_) => Ok(write_reply(house, &line, out)),
+    }
+}
+
+fn is_answered<A: Allocator + Copy>(
+    rt: &(impl Abort + AllocGlobal),
+    house: &mut House<A>,
+    text: &[u8],
+    reply: &[u8],
+) -> Result<(), Fail> {
+    let mut out = Bytes::new(rt.alloc());
+    answer(house, text, &mut out)??;
+    assert_eq!(rt; out.as_slice(), reply);
+    Ok(())
+}
+
+fn hear<A: Allocator + Copy>(
+    rt: &(impl Abort + AllocGlobal),
+    house: &mut House<A>,
+    part: u8,
+    body: &'static [u8],
+) -> Result<(), Fail> {
+    let change = Change::Telegram {
+        part,
+        moment: 1_735_689_600,
+        body: Body::parse(body).ok_or("body")?,
+    };
+    assert!(rt; house.check(&change).is_ok());
+    house.apply(&change)?;
+    Ok(())
+}
+
+// A house in which one meter was read.
+fn read_house(rt: &(impl Abort + AllocGlobal)) -> Result<House<Global>, Fail> {
+    let mut house = House::new(rt.alloc(), BUDGET);
+    is_answered(rt, &mut house, FIT, b"OK 1\n")?;
+    hear(rt, &mut house, 1, FIRST)?;
+    hear(rt, &mut house, 2, LAST)?;
+    Ok(house)
+}
+
+#[test]
+fn commands_are_done_once(rt: HostRuntime) -> Result<(), Fail> {
+    let mut house = House::new(rt.alloc(), BUDGET);
+    is_answered(&rt, &mut house, FIT, b"OK 1\n")?;
+    is_answered(&rt, &mut house, FIT, b"OK 1\n")?;
+    is_answered(
+        &rt,
+        &mut house,
+        b"1 FIT 12345678.PAD.01.07 1 1 A2",
+        b"ERR ORDER 1\n",
+    )?;
+    is_answered(
+        &rt,
+        &mut house,
+        b"3 OUT 12345678.PAD.01.07",
+        b"ERR ORDER 1\n",
+    )?;
+    is_answered(
+        &rt,
+        &mut house,
+        b"2 FIT 12345678.PAD.01.07 1 2 A1",
+        b"ERR KNOWN\n",
+    )?;
+    is_answered(
+        &rt,
+        &mut house,
+        b"2 FIT 00000001.PAD.01.07 1 1 A1",
+        b"ERR ADDRESS\n",
+    )?;
+    is_answered(
+        &rt,
+        &mut house,
+        b"2 OUT 00000001.PAD.01.07",
+        b"ERR UNKNOWN\n",
+    )?;
+    is_answered(
+        &rt,
+        &mut house,
+        b"02 OUT 12345678.PAD.01.07",
+        b"ERR SYNTAX\n",
+    )?;
+    let mut small = House::new(rt.alloc(), 166);
+    is_answered(&rt, &mut small, FIT, b"ERR FULL\n")
+}
+
+#[test]
+fn confirmed_readings_are_gone(rt: HostRuntime) -> Result<(), Fail> {
+    let mut house = read_house(&rt)?;
+    is_answered(&rt, &mut house, b"2 CONFIRM 2", b"ERR BEYOND\n")?;
+    is_answered(&rt, &mut house, b"2 CONFIRM 1", b"OK 2\n")?;
+    is_answered(&rt, &mut house, b"WINDOW 1 10", b"ERR GONE 1\n")?;
+    is_answered(&rt, &mut house, b"WINDOW 2 10", b"END 0\n")?;
+    let mut empty = House::new(rt.alloc(), BUDGET);
+    is_answered(&rt, &mut empty, b"WINDOW 1 100", b"END 0\n")?;
+    is_answered(&rt, &mut empty, b"REGISTER", b"END 0\n")
+}
+
+#[test]
+fn a_reading_is_shown(rt: HostRuntime) -> Result<(), Fail> {
+    let shown = b"READING 1 12345678.PAD.01.07 A1 2
+PART 1 1735689600 7856341224400107010000000C13785634121F
+PART 2 1735689600 785634122440010702000000426C1F3C4C1300503412
+END 1
+";
+    is_answered(&rt, &mut read_house(&rt)?, b"WINDOW 1 1", shown)
+}
+
+#[test]
+fn a_meter_is_swapped(rt: HostRuntime) -> Result<(), Fail> {
+    let mut house = read_house(&rt)?;
+    let swap = b"2 SWAP 12345678.PAD.01.07 00000001.PAD.01.07 2";
+    is_answered(&rt, &mut house, swap, b"OK 2\n")?;
+    assert_eq!(rt; house.size(), 246);
+    let meters = b"METER 00000001.PAD.01.07 1 2 A1 0\nEND 1\n";
+    is_answered(&rt, &mut house, b"REGISTER", meters)?;
+    let itself = b"3 SWAP 00000001.PAD.01.07 00000001.PAD.01.07 2";
+    is_answered(&rt, &mut house, itself, b"ERR KNOWN\n")?;
+    let gone = b"3 SWAP 12345678.PAD.01.07 12345678.PAD.01.07 2";
+    is_answered(&rt, &mut house, gone, b"ERR UNKNOWN\n")?;
+    let back = b"3 SWAP 00000001.PAD.01.07 12345678.PAD.01.07 2";
+    is_answered(&rt, &mut house, back, b"OK 3\n")
+}
+
+#[test]
+fn long_lines_are_none(rt: HostRuntime) {
+    assert!(rt; parse_line(&[b'1'; 120]).is_none());
+    assert!(rt; parse_line(&[b'1'; 121]).is_none());
+    assert!(rt; parse_line(b"WINDOW 0 1").is_none());
+    assert!(rt; parse_line(b"WINDOW 1 101").is_none());
+    assert!(rt; parse_line(b"WINDOW 1 1 ").is_none());
+    assert!(rt; parse_line(b"REGISTER ").is_none());
+    assert!(rt; parse_line(b"REPORT 2024-12-31").is_none());
+}
+
+// The put after so many fails, and each behind it.
+#[derive(Drop)]
+struct Fails {
+    left: u32,
+    failures: u64,
+}
+
+impl Sink for Fails {
+    ghost written = { λ _. None };
+
+    ghost put_failures = { λ s. s.failures };
+
+    fn put(&mut self, _bytes: &[u8]) -> Result<(), IoFault> {
+        if self.left == 0 {
+            self.failures = one_failure_more(self.failures);
+            return Err(IoFault);
+        }
+        self.left -= 1;
+        Ok(())
+    }
+}
+
+// Each write of a reply fails in turn; the line is answered in full when it comes again.
+fn each_write_fails(
+    rt: &(impl Abort + AllocGlobal),
+    house: &mut House<Global>,
+    text: &[u8],
+    reply: &[u8],
+) -> Result<(), Fail> {
+    for left in 0..100 {
+        let mut out = Fails { left, failures: 0 };
+        if answer(house, text, &mut out)?.is_ok() {
+            assert!(rt; left > 0);
+            return Ok(());
+        }
+        assert_eq!(rt; out.failures, 1);
+        is_answered(rt, house, text, reply)?;
+    }
+    Err(Fail::from("a reply of at most 100 writes"))
+}
+
+#[test]
+fn a_write_fault_changes_nothing(rt: HostRuntime) -> Result<(), Fail> {
+    let mut house = House::new(rt.alloc(), BUDGET);
+    each_write_fails(&rt, &mut house, FIT, b"OK 1\n")?;
+    each_write_fails(
+        &rt,
+        &mut house,
+        b"1 OUT 12345678.PAD.01.07",
+        b"ERR ORDER 1\n",
+    )?;
+    let meters = b"METER 12345678.PAD.01.07 1 1 A1 0\nEND 1\n";
+    each_write_fails(&rt, &mut house, b"REGISTER", meters)?;
+    hear(&rt, &mut house, 1, LAST)?;
+    let shown = b"READING 1 12345678.PAD.01.07 A1 1
+PART 1 1735689600 785634122440010702000000426C1F3C4C1300503412
+END 1
+";
+    each_write_fails(&rt, &mut house, b"WINDOW 1 1", shown)
+}

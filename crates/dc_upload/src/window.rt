@@ -1,0 +1,100 @@
+//! The readings that the office is shown.
+
+ghost use Rattle.std.specs.Prelude.{◌≡◌, ◌≤◌, filter, flat_map, length, nat_le};
+ghost use Rattle.dc_stream.specs.Stream.{Wrote};
+ghost use Rattle.dc_upload.specs.Reply.{window_text};
+ghost use Rattle.dc_upload.specs.Window.{part_line, part_lines, reading_line, reading_lines, readings_from};
+
+use crate::reply::write_end;
+use crate::words::put_word;
+use dc_meters::{House, Part, Reading};
+use dc_stream::{IoFault, Sink};
+use dc_text::{put_hex, put_number_word};
+use std::alloc::Allocator;
+
+/// Writes the readings from a serial on, at most so many, with their parts, and how many they were. What stands
+/// before that serial isn't gone over.
+#[tactic(auto, using(dc_stream::proofs::Pieces::written), unfolding(crate::specs::Reply::window_text))]
+pub fn write_window<A: Allocator + Copy, W: Sink>(
+    house: &House<A>,
+    from: u64,
+    count: u8,
+    out: &mut W,
+) -> Result<(), IoFault>
+    ensures { Wrote W.written W.put_failures result out.old out.new (window_text from count house.now.state) }
+{
+    let readings = readings_from(house, from);
+    let (shown, _) = readings.split_at(readings.len().min(usize::from(count)));
+    write_readings(shown, out)?;
+    write_end(shown.len(), out)
+}
+
+// The readings with at least a serial. Serials ascend.
+fn readings_from<A: Allocator + Copy>(house: &House<A>, serial: u64) -> &[Reading<A>]
+    ensures { result.now ≡ readings_from serial house.now.state }
+{
+    let readings = house.readings();
+    let first = readings.partition_point(|reading| reading.serial() < serial);
+    let (_, shown) = readings.split_at(first);
+    shown
+}
+
+#[tactic(auto, using(dc_stream::proofs::Pieces::written))]
+fn write_readings<A: Allocator, W: Sink>(
+    readings: &[Reading<A>],
+    out: &mut W,
+) -> Result<(), IoFault>
+    ensures { Wrote W.written W.put_failures result out.old out.new (flat_map reading_lines readings.now) }
+{
+    for reading in readings {
+        write_reading(reading, out)?;
+    }
+    Ok(())
+}
+
+#[tactic(auto, using(dc_stream::proofs::Pieces::written), unfolding(crate::specs::Window::reading_lines))]
+fn write_reading<A: Allocator, W: Sink>(reading: &Reading<A>, out: &mut W) -> Result<(), IoFault>
+    ensures { Wrote W.written W.put_failures result out.old out.new (reading_lines reading.now) }
+{
+    write_head(reading, out)?;
+    write_parts(reading.parts(), out)
+}
+
+// The reading's own line.
+#[tactic(auto, using(dc_stream::proofs::Pieces::written), unfolding(crate::specs::Window::reading_line))]
+fn write_head<A: Allocator, W: Sink>(reading: &Reading<A>, out: &mut W) -> Result<(), IoFault>
+    ensures { Wrote W.written W.put_failures result out.old out.new (reading_line reading.now) }
+{
+    out.put(b"READING")?;
+    put_number_word(out, reading.serial())?;
+    put_word(out, &reading.meter().text())?;
+    put_word(out, reading.flat().as_slice())?;
+    put_number_word(out, reading.parts().len() as u64)?;
+    out.put(b"\n")
+}
+
+#[tactic(auto, using(dc_stream::proofs::Pieces::written))]
+fn write_parts<A: Allocator, W: Sink>(parts: &[Part<A>], out: &mut W) -> Result<(), IoFault>
+    ensures { Wrote W.written W.put_failures result out.old out.new (part_lines 1 parts.now) }
+{
+    for (i, part) in parts.iter().enumerate() {
+        write_part(i + 1, part, out)?;
+    }
+    Ok(())
+}
+
+#[tactic(auto, using(dc_stream::proofs::Pieces::written), unfolding(crate::specs::Window::part_line))]
+fn write_part<A: Allocator, W: Sink>(
+    place: usize,
+    part: &Part<A>,
+    out: &mut W,
+) -> Result<(), IoFault>
+    ensures { Wrote W.written W.put_failures result out.old out.new (part_line place part.now) }
+{
+    out.put(b"PART")?;
+    put_number_word(out, place as u64)?;
+    put_number_word(out, part.moment())?;
+    out.put(b" ")?;
+    put_hex(out, part.body())?;
+    out.put(b"\n")
+}

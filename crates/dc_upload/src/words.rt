@@ -1,0 +1,15 @@
+//! Words of a reply.
+
+ghost use Rattle.std.specs.Prelude.{◌++◌, codes};
+ghost use Rattle.dc_stream.specs.Stream.{Wrote};
+
+use dc_stream::{IoFault, Sink};
+
+/// Puts a space and a word.
+#[tactic(auto, using(dc_stream::proofs::Pieces::written))]
+pub fn put_word<W: Sink>(out: &mut W, word: &[u8]) -> Result<(), IoFault>
+    ensures { Wrote W.written W.put_failures result out.old out.new (codes " " ++ word.now) }
+{
+    out.put(b" ")?;
+    out.put(word)
+}

@@ -1,0 +1,4 @@
+-- the definitions that contracts cite
+pub mod Lines
+pub mod Waiting
+pub mod Taking

@@ -1,0 +1,38 @@
+-- The eight bus lines: nobody is on a line, or a session is (this product).
+use Rattle.std.specs.Prelude.{ℕ, ◌-◌, Bool, true, false, Option, None, Some, List, map, replicate, nat_le, ◌&&◌, get_or}
+use Rattle.std.proofs.Math.ListN.{set}
+use Rattle.dc_readout.specs.declared.stage.Stage.{Stage}
+use Rattle.dc_readout.specs.declared.stage.Stage.TheVariants.{Pending}
+use Rattle.dc_readout.specs.Summary.{Summary, settled_by}
+
+-- as many lines has a concentrator
+abbrev pub line_count : ℕ
+line_count = 8
+
+-- lines count from 1
+abbrev pub is_line : ℕ → Bool
+is_line line = nat_le 1 line && nat_le line line_count
+
+abbrev pub no_sessions : List (Option Summary)
+no_sessions = replicate line_count None
+
+-- who is on a line
+abbrev pub on_line : ℕ → List (Option Summary) → Option Summary
+on_line line lines = get_or lines (line - 1) None
+
+-- somebody else, or nobody, is on a line
+abbrev pub put_on : ℕ → Option Summary → List (Option Summary) → List (Option Summary)
+put_on line session lines = set lines (line - 1) session
+
+-- A telegram that waits is settled; after the last one of a readout nobody is on the line.
+abbrev pub settled_at : Stage → Summary → Option Summary
+settled_at (Pending true) s = Some (settled_by s)
+settled_at (Pending false) s = None
+settled_at stage s = Some s
+
+abbrev pub settled_on : Option Summary → Option Summary
+settled_on None = None
+settled_on (Some s) = settled_at s.stage s
+
+abbrev pub settled_lines : List (Option Summary) → List (Option Summary)
+settled_lines lines = map settled_on lines

@@ -1,0 +1,25 @@
+-- What is kept of the changes that aren't committed yet (this product).
+use Rattle.std.specs.Prelude.{ℕ, ◌≤◌, ◌*◌, List, length}
+use Rattle.dc_stream.specs.Bytes.{Filled}
+
+-- the changes' spellings, one after the other, and how many changes they are
+pub record Waiting : Type 0 where
+  pub bytes : List ℕ
+  pub count : ℕ
+
+-- at most so many changes wait for a commit
+abbrev pub most_waiting : ℕ
+most_waiting = 4
+
+-- No change is spelled in more bytes: a telegram's tag, part and moment, and a body of 252 bytes behind its length.
+abbrev pub longest_change : ℕ
+longest_change = 263
+
+-- room for as many changes as may wait
+abbrev pub waiting_room : ℕ
+waiting_room = 1052
+
+pub record IsWaiting (filled : Filled) (count : ℕ) : Type 0 where
+  pub few : count ≤ most_waiting
+  pub some : count ≤ length filled.bytes
+  pub short : length filled.bytes ≤ longest_change * count

@@ -1,0 +1,13 @@
+use thiserror::Error;
+
+/// Why a telegram wasn't taken. The first that stands is answered.
+#[derive(Clone, Copy, Debug, PartialEq, Eq, Error)]
+#[error("the telegram wasn't taken")]
+pub enum TakeFault {
+    /// Four changes wait for a commit.
+    PendingFull,
+    /// The register refuses the telegram.
+    Full,
+    /// Memory was refused; nothing has changed.
+    NoMemory,
+}

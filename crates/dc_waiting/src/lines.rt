@@ -1,0 +1,91 @@
+//! The eight bus lines, and who is read on each.
+
+ghost use Rattle.std.specs.Prelude.{◌≡◌, true, Option};
+ghost use Rattle.dc_readout.specs.Summary.{Summary};
+ghost use Rattle.dc_waiting.specs.Lines.{is_line, no_sessions, on_line, put_on, settled_on, settled_lines};
+
+use dc_readout::Session;
+use std::marker::Model;
+
+// As many bus lines has a concentrator.
+const LINES: u8 = 8;
+
+/// Who is read on each of the eight lines. A line's number counts from 1.
+#[derive(Drop)]
+pub struct Lines {
+    sessions: [Option<Session>; LINES as usize],
+}
+
+impl Model for Lines {
+    ghost use Rattle.std.specs.Prelude.{List, Option};
+    ghost use Rattle.dc_readout.specs.Summary.{Summary};
+
+    ghost Value = { List (Option Summary) };
+
+    ghost view = { λ l. l.sessions };
+}
+
+impl Lines {
+    /// Nobody is on a line.
+    pub fn new() -> Lines
+        ensures { result ≡ no_sessions }
+    {
+        Lines {
+            sessions: [None; LINES as usize],
+        }
+    }
+
+    /// Who is on that line, which has to be one.
+    pub fn get(&self, line: u8) -> Option<Session>
+        requires { is_line line ≡ true }
+        ensures { result ≡ on_line line self.now }
+    {
+        let place = usize::from(line) - 1;
+        self.sessions[place]
+    }
+
+    /// Puts a session, or nobody, on that line, which has to be one.
+    pub fn put(&mut self, line: u8, session: Option<Session>)
+        requires { is_line line ≡ true }
+        ensures { self.new ≡ put_on line session self.old }
+    {
+        self.sessions[usize::from(line) - 1] = session;
+    }
+
+    /// Settles every telegram that waits. After the last one of a readout nobody is on its line.
+    pub fn settle(&mut self)
+        ensures { self.new ≡ settled_lines self.old }
+    {
+        settle_each(&mut self.sessions);
+    }
+}
+
+fn settle_each(sessions: &mut [Option<Session>])
+    ensures { sessions.new ≡ settled_lines sessions.old }
+{
+    for session in sessions.iter_mut() {
+        *session = settled(*session);
+    }
+}
+
+fn settled(session: Option<Session>) -> Option<Session>
+    ensures { result ≡ settled_on session }
+{
+    let mut session = session?;
+    if !session.is_pending() {
+        return Some(session);
+    }
+    session.settle();
+    if session.is_asking() {
+        Some(session)
+    } else {
+        None
+    }
+}
+
+/// Whether there is a line of that number.
+pub fn is_line(line: u8) -> bool
+    ensures { result ≡ is_line line }
+{
+    (1..=LINES).contains(&line)
+}

@@ -1,0 +1,55 @@
+//! The taking of a telegram: into the register, and among what waits.
+
+ghost use Rattle.std.specs.Prelude.{◌≡◌, ◌⊎◌, ◌≤◌, length, None, Some, Ok, Err, OnOk, OnErr};
+ghost use Rattle.dc_records.specs.Telegram.{parsed};
+ghost use Rattle.dc_changes.specs.Valid.{last_moment};
+ghost use Rattle.dc_waiting.specs.declared.fault.TakeFault.TheVariants.{NoMemory};
+ghost use Rattle.dc_waiting.specs.Taking.{change_of, refuses, IsTaken};
+
+use crate::TakeFault;
+use crate::waiting::Waiting;
+use dc_changes::{Body, Change};
+use dc_meters::House;
+use dc_records::Telegram;
+use std::alloc::Allocator;
+
+/// Takes a telegram: applies it to the register, and adds its change to what waits. The moment is in seconds since
+/// 1970. The body is copied once, into the register.
+///
+/// # Errors
+/// `PendingFull` with four changes waiting, then `Full` where the register refuses the telegram, then `NoMemory`.
+/// Nothing has changed then.
+pub fn take<A: Allocator + Copy>(
+    house: &mut House<A>,
+    waiting: &mut Waiting,
+    part: u8,
+    moment: u64,
+    telegram: &Telegram<'_>,
+) -> Result<(), TakeFault>
+    requires moment { moment ≤ last_moment }
+    requires fits { length (parsed telegram.now).body ≤ 252 }
+    // What stands against it is answered, and nothing else is but want of memory.
+    ensures refused { (fault : _) → refuses house.old.budget waiting.old.count (change_of moment part (parsed telegram.now)) house.old.state ≡ Some fault → result ≡ Err fault }
+    ensures accepted { refuses house.old.budget waiting.old.count (change_of moment part (parsed telegram.now)) house.old.state ≡ None → (result ≡ Ok tt) ⊎ (result ≡ Err NoMemory) }
+    ensures ok { OnOk result (IsTaken house.old house.new waiting.old waiting.new (change_of moment part (parsed telegram.now))) }
+    ensures house { OnErr result (house.new ≡ house.old) }
+    ensures waiting { OnErr result (waiting.new ≡ waiting.old) }
+{
+    if waiting.is_full() {
+        return Err(TakeFault::PendingFull);
+    }
+    // A telegram is no body of a change only where it is longer than 252 bytes, which a frame can't hold.
+    let Some(body) = Body::of(telegram) else {
+        return Err(TakeFault::Full);
+    };
+    let _is_body = body.as_slice();
+    let change = Change::Telegram { part, moment, body };
+    if house.check(&change).is_err() {
+        return Err(TakeFault::Full);
+    }
+    if house.apply(&change).is_err() {
+        return Err(TakeFault::NoMemory);
+    }
+    waiting.push(&change);
+    Ok(())
+}

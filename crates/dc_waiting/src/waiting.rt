@@ -1,0 +1,89 @@
+//! The changes that wait for a commit, as they are going to be written.
+
+ghost use Rattle.std.specs.Prelude.{◌≡◌, ◌+◌, ◌≤◌, ◌<◌, ◌++◌, [], length, nat_le};
+ghost use Rattle.dc_changes.specs.declared.change.Change.{Change};
+ghost use Rattle.dc_changes.specs.Encoding.{change_bytes};
+ghost use Rattle.dc_changes.specs.Valid.{IsChange};
+ghost use Rattle.dc_waiting.specs.Waiting.{Waiting, most_waiting};
+
+use dc_changes::{Change, encode_change};
+use dc_stream::{FixedSink, IoFault};
+use std::marker::Model;
+
+// At most so many changes wait.
+const MOST: u8 = 4;
+
+// Room for as many of the longest change.
+const ROOM: usize = 1052;
+
+/// At most four changes, encoded one after the other, in a buffer of fixed room.
+#[derive(Drop)]
+pub struct Waiting {
+    bytes: FixedSink<ROOM>,
+    count: u8,
+}
+
+impl Model for Waiting {
+    ghost use Rattle.dc_waiting.specs.Waiting.{Waiting as Encoded, IsWaiting};
+
+    ghost Value = { Encoded };
+
+    ghost view = { λ w. record { bytes = w.bytes.bytes; count = w.count } };
+
+    ghost invariant = { λ w. IsWaiting w.bytes w.count };
+}
+
+impl Waiting {
+    /// No change waits.
+    pub fn new() -> Waiting
+        ensures { result ≡ record { bytes = []; count = 0 } }
+    {
+        Waiting {
+            bytes: FixedSink::new(),
+            count: 0,
+        }
+    }
+
+    /// How many changes wait.
+    pub fn count(&self) -> usize
+        ensures count { result ≡ self.now.count }
+        ensures most { result ≤ most_waiting }
+        ensures some { self.now.count ≤ length self.now.bytes }
+    {
+        usize::from(self.count)
+    }
+
+    /// Whether four wait, and so no more may.
+    pub fn is_full(&self) -> bool
+        ensures { result ≡ nat_le most_waiting self.now.count }
+    {
+        self.count >= MOST
+    }
+
+    /// Their spellings, one after the other.
+    pub fn as_slice(&self) -> &[u8]
+        ensures { result.now ≡ self.now.bytes }
+    {
+        self.bytes.as_slice()
+    }
+
+    /// One change more, which always fits.
+    pub fn push(&mut self, change: &Change<'_>)
+        requires room { self.old.count < most_waiting }
+        requires is_change { IsChange change.now }
+        ensures { self.new ≡ record { bytes = self.old.bytes ++ change_bytes change.now; count = self.old.count + 1 } }
+    {
+        match encode_change(change, &mut self.bytes) {
+            Ok(()) => {}
+            Err(IoFault) => unreachable!(),
+        }
+        self.count += 1;
+    }
+
+    /// Nothing waits any more.
+    pub fn clear(&mut self)
+        ensures { self.new ≡ record { bytes = []; count = 0 } }
+    {
+        *self = Waiting::new();
+    }
+}
