@@ -12,8 +12,8 @@ use Rattle.dc_records.specs.declared.fault.BodyFault.{BodyFault}
 use Rattle.dc_records.specs.declared.fault.BodyFault.TheVariants.{Short, BadIdentity}
 use Rattle.dc_records.specs.declared.header.Header.{Header}
 use Rattle.dc_records.specs.Header.{BeginsWithHeader, HasHeaderFault, short, bad_identity, header_with, header_by, header_at}
-use Rattle.dc_records.specs.Laws.Fields.{chosen, ok_is}
-use Rattle.dc_records.specs.Laws.Faults.{err_is}
+use Rattle.dc_records.proofs.Spellings.Fields.{chosen, ok_is}
+use Rattle.dc_records.proofs.Spellings.Faults.{err_is}
 
 -- the test is true of what an identity is written as
 passes : (bytes : List ℕ) (identity : Identity) → IsWire bytes identity → is_identity bytes ≡ true

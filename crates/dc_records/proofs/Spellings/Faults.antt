@@ -10,8 +10,8 @@ use Rattle.dc_records.specs.Record.{Entry, Extends, IsLength, IsCounted, IsVib, 
 use Rattle.dc_records.specs.Reading.{◌>>=◌, chain_len, split_at, counted_at, vib_len, data_at, entry_of, record_at}
 use Rattle.dc_records.specs.Body.{front_at, gives}
 use Rattle.dc_records.specs.Stops.{GoesOn, IsHead, Stops, reserved, many_difes, many_vifes, extension, text_length, data_length, cut}
-use Rattle.dc_records.specs.Laws.Chain.{chain_full}
-use Rattle.dc_records.specs.Laws.Fields.{ok_is, chosen, chain_takes, vib_takes, vib_again, chain_again, record_takes, record_again}
+use Rattle.dc_records.proofs.Spellings.Chain.{chain_full}
+use Rattle.dc_records.proofs.Spellings.Fields.{ok_is, chosen, chain_takes, vib_takes, vib_again, chain_again, record_takes, record_again}
 
 abbrev pub failed : {A : Type 0} → BodyFault → Result A BodyFault
 failed f = Err f

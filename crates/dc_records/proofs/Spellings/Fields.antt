@@ -7,7 +7,7 @@ use Rattle.dc_records.specs.declared.fault.BodyFault.{BodyFault}
 use Rattle.dc_records.specs.declared.fault.BodyFault.TheVariants.{ReservedDif, TooManyDife, TooManyVife, BadLength, PlainTextExtension, Cut}
 use Rattle.dc_records.specs.Record.{Entry, Extends, IsLength, IsCounted, IsVib, IsData, width, Spells}
 use Rattle.dc_records.specs.Reading.{◌>>=◌, chain_len, split_at, counted_at, vib_len, data_at, entry_of, record_at}
-use Rattle.dc_records.specs.Laws.Chain.{chain_ends}
+use Rattle.dc_records.proofs.Spellings.Chain.{chain_ends}
 
 -- the value of a step that did not fail
 pub bind_ok : {A B : Type 0} (r : Result A BodyFault) (f : A → Result B BodyFault) (y : B) → (r >>= f) ≡ Ok y → (x : A) × (r ≡ Ok x) × (f x ≡ Ok y)

@@ -8,7 +8,7 @@ use Rattle.std.specs.Prelude.{MatchResult}
 use Rattle.dc_records.specs.Reading.{Gives}
 use Rattle.dc_records.specs.Seen.{front}
 use Rattle.dc_records.specs.declared.front.Front as code
-use Rattle.dc_records.specs.Laws.Fields.{bind_ok, chosen, ok_is, record_takes}
+use Rattle.dc_records.proofs.Spellings.Fields.{bind_ok, chosen, ok_is, record_takes}
 
 pub record_shorter : (bytes : List ℕ) (x : Entry × List ℕ) → record_at bytes ≡ Ok x → length x.1 < length bytes
 record_shorter bytes x e =

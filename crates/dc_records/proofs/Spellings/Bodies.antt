@@ -8,9 +8,9 @@ use Rattle.dc_records.specs.Record.{Entry}
 use Rattle.dc_records.specs.Reading.{record_at}
 use Rattle.dc_records.specs.Body.{Ending, plain, last, more, Front, ends, skips, gives, front_at, with_record, turns, after, content_at, Item, filler, spelled, IsItem, IsEnd, text_of, records_of, IsContent}
 use Rattle.dc_records.specs.Stops.{Fails}
-use Rattle.dc_records.specs.Laws.Fields.{bind_ok, chosen, ok_is, Taken, record_takes}
-use Rattle.dc_records.specs.Laws.Turns.{reads_front, reads_fault}
-use Rattle.dc_records.specs.Laws.Faults.{err_is, front_stops, stops_front, spells_front}
+use Rattle.dc_records.proofs.Spellings.Fields.{bind_ok, chosen, ok_is, Taken, record_takes}
+use Rattle.dc_records.proofs.Spellings.Turns.{reads_front, reads_fault}
+use Rattle.dc_records.proofs.Spellings.Faults.{err_is, front_stops, stops_front, spells_front}
 
 Stands : List ℕ → Front → Type 0
 Stands text (ends end) = IsEnd text end

@@ -12,10 +12,10 @@ use Rattle.dc_records.specs.Reading.{◌>>=◌, Gives, record_at}
 use Rattle.dc_records.specs.Header.{BeginsWithHeader, security_mode, header_at}
 use Rattle.dc_records.specs.Body.{Ending, content_at, end_in, records_in}
 use Rattle.dc_records.specs.Telegram.{Parsed, parsed, parsed_of, IsTelegram, HasFault, no_header, encrypted, no_content, telegram_at}
-use Rattle.dc_records.specs.Laws.Fields.{bind_ok, chosen, ok_is, record_again}
-use Rattle.dc_records.specs.Laws.Faults.{bind_err, err_is}
-use Rattle.dc_records.specs.Laws.Headers.{header_takes, header_again, header_fails, header_faults_again}
-use Rattle.dc_records.specs.Laws.Bodies.{content_takes, content_again, content_fails, fails_again}
+use Rattle.dc_records.proofs.Spellings.Fields.{bind_ok, chosen, ok_is, record_again}
+use Rattle.dc_records.proofs.Spellings.Faults.{bind_err, err_is}
+use Rattle.dc_records.proofs.Spellings.Headers.{header_takes, header_again, header_fails, header_faults_again}
+use Rattle.dc_records.proofs.Spellings.Bodies.{content_takes, content_again, content_fails, fails_again}
 
 -- what is read once the header is
 abbrev behind : List ℕ → Header → Result Parsed BodyFault
