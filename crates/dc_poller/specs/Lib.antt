@@ -4,6 +4,8 @@ pub mod Fold
 pub mod Frames
 pub mod Lines
 pub mod Register
+pub mod Script
+pub mod ScriptLine
 pub mod Seen
 pub mod Telegram
 pub mod Text

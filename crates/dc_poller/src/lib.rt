@@ -26,6 +26,8 @@ mod input;
 mod laws;
 mod lines;
 mod register;
+mod script;
+mod script_line;
 mod seen;
 mod spaces;
 mod telegram;
@@ -34,8 +36,10 @@ pub use decode::decode_lines;
 pub use fault::ProgramFault;
 pub use fold::fold_lines;
 pub use laws::{
-    an_input_has_one_fold, frames_are_told_in_turn, hex_is_read_back, lines_end_at_feeds,
+    a_script_line_asks_for_one_thing, an_input_has_one_fold, frames_are_told_in_turn,
+    hex_is_read_back, lines_end_at_feeds,
 };
+pub use script_line::ScriptLine;
 
 #[cfg(test)]
 mod fold_tests;
