@@ -174,9 +174,9 @@ module _ {D : Type 0} (honest : Type 0) (sectors : D → ℕ) (reads : D → Ima
               (StandsForPromised H state (promised_in before) (accepted_in (opened state) past)) (StandsForPromised (half_len_of (sectors old.store.disk)) state (promised_in past) accepted) (StandsForPromised H state (promised_in before) accepted)
               (a.leaves h) (one.leaves h)
               (λ image stands. subst (λ (x : List Change). StandsForPromised H state (promised_in before) x image) (sym (accepted_append (opened state) past one.turns))
-                (grown H state (promised_in before) (accepted_in (opened state) past) (accepted_in (leads (opened state) past) one.turns) image stands))
+              (grown H state (promised_in before) (accepted_in (opened state) past) (accepted_in (leads (opened state) past) one.turns) image stands))
               (λ image stands. fewer H state (promised_in before) (promised_in past) accepted image a_kept
-                (subst (λ (n : ℕ). StandsForPromised (half_len_of n) state (promised_in past) accepted image) same_size stands)));
+              (subst (λ (n : ℕ). StandsForPromised (half_len_of n) state (promised_in past) accepted image) same_size stands)));
           behind = λ h image is. subst (λ (ts : List Turn). StandsForPromised H state (promised_in ts) (accepted_in (opened state) ts) image) e
               (subst (λ (n : ℕ). StandsForPromised (half_len_of n) state (promised_in (past ++ one.turns)) accepted image) same_size (one.behind h image is));
         };
@@ -195,7 +195,7 @@ module _ {D : Type 0} (honest : Type 0) (sectors : D → ℕ) (reads : D → Ima
   pub one_more : (budget : ℕ) (input : List (List ℕ)) (line : List ℕ) (rest : List (List ℕ)) (asked : LineSeen) (moment count : ℕ) (wrote piece all : List ℕ → Type 0) (first old new : Machine D)
       → SoFar budget input (line ∷ rest) moment count wrote first old → IsLineOf line asked
       → ((state : State) (before : List Turn) → IsChain budget (opened state) before → IsAt honest sectors reads choices old (leads (opened state) before)
-        → Ran honest sectors reads choices moment_of images_since budget state before (events_at moment asked) piece old new)
+      → Ran honest sectors reads choices moment_of images_since budget state before (events_at moment asked) piece old new)
       → ((text more : List ℕ) → wrote text → piece more → all (text ++ (own_text asked ++ more)))
       → SoFar budget input rest (moment_behind moment asked) (count + 1) all first new
   one_more budget input line rest asked moment count wrote piece all first old new so_far is one joins =

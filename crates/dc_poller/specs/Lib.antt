@@ -2,6 +2,7 @@
 pub mod Fault
 pub mod Fold
 pub mod Frames
+pub mod ImageRun
 pub mod Lines
 pub mod Register
 pub mod Script

@@ -26,6 +26,7 @@ mod input;
 mod laws;
 mod lines;
 mod register;
+mod run;
 mod script;
 mod script_line;
 mod seen;
@@ -39,6 +40,7 @@ pub use laws::{
     a_script_line_asks_for_one_thing, an_input_has_one_fold, frames_are_told_in_turn,
     hex_is_read_back, lines_end_at_feeds,
 };
+pub use run::run_script;
 pub use script_line::ScriptLine;
 
 #[cfg(test)]

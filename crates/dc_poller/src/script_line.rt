@@ -20,34 +20,19 @@ pub enum ScriptLine<'a> {
     /// Nothing: the line is empty.
     Nothing,
     /// `AT seconds`: what is heard from here on is heard at that second since 1970.
-    At {
-        moment: u64,
-    },
+    At { moment: u64 },
     /// `START line ident`: the readout of a meter begins on its line.
-    Start {
-        line: u8,
-        meter: Identity,
-    },
+    Start { line: u8, meter: Identity },
     /// `ASK line`: a line's request is asked for.
-    Ask {
-        line: u8,
-    },
+    Ask { line: u8 },
     /// `HEAR line hex`: an answer is heard on a line; `HEAR line` is silence.
-    Hear {
-        line: u8,
-        answer: &'a [u8],
-    },
+    Hear { line: u8, answer: &'a [u8] },
     /// `COMMIT`: what waits is written.
     Commit,
     /// `POLL line ident`: a meter is read through the gateway.
-    Poll {
-        line: u8,
-        meter: Identity,
-    },
+    Poll { line: u8, meter: Identity },
     /// `SEARCH budget`: meters are searched for through the gateway.
-    Search {
-        budget: u32,
-    },
+    Search { budget: u32 },
 }
 
 impl<'a> ScriptLine<'a> {

@@ -28,10 +28,10 @@ lines-init g c = record {
     moment_is = refl;
     count_is = refl;
     ran = λ state before chain at. record {
-        ran = ran_none g.D.Disk.honest g.D.Disk.sectors g.D.Disk.reads g.D.Disk.choices g.D.Disk.moment g.D.Disk.images_since c.args.concentrator.now.house.budget state before (λ text. Unit {0}) c.args.concentrator.now chain at
-            (λ h image left. g.met.D.Disk.only_now h c.args.concentrator.now.store.disk image left) tt;
-        text = puts-none (g.W.Sink.written c.args.out.now);
-      };
+      ran = ran_none g.D.Disk.honest g.D.Disk.sectors g.D.Disk.reads g.D.Disk.choices g.D.Disk.moment g.D.Disk.images_since c.args.concentrator.now.house.budget state before (λ text. Unit {0}) c.args.concentrator.now chain at
+          (λ h image left. g.met.D.Disk.only_now h c.args.concentrator.now.store.disk image left) tt;
+      text = puts-none (g.W.Sink.written c.args.out.now);
+    };
   };
 }
 
@@ -52,7 +52,7 @@ lines-preserved g c =
     let more = one_more g.D.Disk.honest g.D.Disk.sectors g.D.Disk.reads g.D.Disk.choices g.D.Disk.moment g.D.Disk.images_since first.house.budget (lines_of c.args.input.now) c.first_line.result.0.now (lines_of c.first_line.result.1.now) asked c.lines.moment c.lines.count
     (Puts (w c.args.out.now) (w c.lines.out)) piece (Puts (w c.args.out.now) (w c.run_line.new.out)) first old new here c.in-Some.ensures.found
     (λ state before chain at. subst (λ (b : ℕ). Ran g.D.Disk.honest g.D.Disk.sectors g.D.Disk.reads g.D.Disk.choices g.D.Disk.moment g.D.Disk.images_since b state before (events_at c.lines.moment asked) piece old new) b_is
-      (c.in_default-run_line.ensures.ran state before (subst (λ (b : ℕ). IsChain b (opened state) before) (sym b_is) chain) at))
+    (c.in_default-run_line.ensures.ran state before (subst (λ (b : ℕ). IsChain b (opened state) before) (sym b_is) chain) at))
     (λ text more wrote put. puts-both (w c.args.out.now) (w c.lines.out) (w c.run_line.new.out) text (own_text asked ++ more) wrote put) in
     record {
       bytes = omega arith;
@@ -78,7 +78,7 @@ returns-in-Err-clause-cut g c state before chain at =
     let more = one_more g.D.Disk.honest g.D.Disk.sectors g.D.Disk.reads g.D.Disk.choices g.D.Disk.moment g.D.Disk.images_since first.house.budget (lines_of c.args.input.now) c.first_line.result.0.now (lines_of c.first_line.result.1.now) asked c.lines.moment c.lines.count
     (Puts (w c.args.out.now) (w c.lines.out)) piece (λ text. Unit {0}) first old new here c.in-Some.ensures.found
     (λ state before chain at. subst (λ (b : ℕ). Ran g.D.Disk.honest g.D.Disk.sectors g.D.Disk.reads g.D.Disk.choices g.D.Disk.moment g.D.Disk.images_since b state before (events_at c.lines.moment asked) piece old new) b_is
-      (c.run_line.ensures.ran state before (subst (λ (b : ℕ). IsChain b (opened state) before) (sym b_is) chain) at))
+    (c.run_line.ensures.ran state before (subst (λ (b : ℕ). IsChain b (opened state) before) (sym b_is) chain) at))
     (λ text more wrote put. tt) in
     record { asked = more.done; rest = lines_of c.first_line.result.1.now; are_read = more.are_read; done = more.ran state before chain at }
 
