@@ -15,6 +15,7 @@ ghost use Rattle.dc_core.specs.Images.{IsAt};
 
 mod commit;
 mod hear;
+mod office;
 
 use crate::StartFault;
 use dc_address::Identity;
