@@ -23,7 +23,7 @@ use Rattle.dc_core.specs.Text.{answer_text, run_text}
 use Rattle.dc_core.specs.Run.{Ran}
 use Rattle.dc_core.proofs.Going.{ran_none}
 use Rattle.dc_poller.specs.Script.{AskFor, LinesRan, events_at, events_from, moment_behind, own_text, count_of, lines_text}
-use Rattle.dc_poller.specs.ScriptLine.{LineSeen, nothing, at, start, ask, hear, commit, poll, search, IsLineOf, HasBounds}
+use Rattle.dc_poller.specs.ScriptLine.{LineSeen, nothing, at, start, ask, hear, commit, office, poll, search, IsLineOf, HasBounds}
 
 -- ---- what two runs leave, one after the other
 
@@ -102,6 +102,7 @@ moment_fits moment (start line meter) fits bounds = fits
 moment_fits moment (ask line) fits bounds = fits
 moment_fits moment (hear line answer) fits bounds = fits
 moment_fits moment commit fits bounds = fits
+moment_fits moment (office line) fits bounds = fits
 moment_fits moment (poll line meter) fits bounds = fits
 moment_fits moment (search budget) fits bounds = fits
 
@@ -112,6 +113,7 @@ count_at moment (start line meter) = refl
 count_at moment (ask line) = refl
 count_at moment (hear line answer) = refl
 count_at moment commit = refl
+count_at moment (office line) = refl
 count_at moment (poll line meter) = refl
 count_at moment (search budget) = refl
 

@@ -13,7 +13,7 @@ use Rattle.dc_changes.specs.Words.{IsWord, is_inside}
 use Rattle.dc_changes.proofs.Decimals.{decimal_is_word}
 use Rattle.dc_changes.proofs.LineSpellings.{one_word}
 use Rattle.dc_text.specs.Hex.{bytes_of}
-use Rattle.dc_poller.specs.ScriptLine.{LineSeen, nothing, at, start, ask, hear, commit, poll, search, IsLineOf, HasBounds, Spells, SpellsAnswer, greatest_line}
+use Rattle.dc_poller.specs.ScriptLine.{LineSeen, nothing, at, start, ask, hear, commit, office, poll, search, IsLineOf, HasBounds, Spells, SpellsAnswer, greatest_line}
 
 pub line_is_word : (line : ℕ) → line ≤ greatest_line → IsWord (decimal line)
 line_is_word line fits = decimal_is_word line (omega arith)
@@ -30,6 +30,7 @@ letters (start line meter) = 21332
 letters (ask line) = 16723
 letters (hear line answer) = 18501
 letters commit = 17231
+letters (office line) = 20294
 letters (poll line meter) = 20559
 letters (search budget) = 21317
 
@@ -40,6 +41,7 @@ letters_are text (start line meter) is = ap letters_of is
 letters_are text (ask line) is = ap letters_of is
 letters_are text (hear line answer) is = ap letters_of is.text_is
 letters_are text commit is = ap letters_of is
+letters_are text (office line) is = ap letters_of is
 letters_are text (poll line meter) is = ap letters_of is
 letters_are text (search budget) is = ap letters_of is
 
@@ -126,6 +128,7 @@ one_line text nothing (start line_2 meter_2) is is_2 = absurd (omega (arith, sam
 one_line text nothing (ask line_2) is is_2 = absurd (omega (arith, same_letters text nothing (ask line_2) is.spells is_2.spells))
 one_line text nothing (hear line_2 answer_2) is is_2 = absurd (omega (arith, same_letters text nothing (hear line_2 answer_2) is.spells is_2.spells))
 one_line text nothing commit is is_2 = absurd (omega (arith, same_letters text nothing commit is.spells is_2.spells))
+one_line text nothing (office line_2) is is_2 = absurd (omega (arith, same_letters text nothing (office line_2) is.spells is_2.spells))
 one_line text nothing (poll line_2 meter_2) is is_2 = absurd (omega (arith, same_letters text nothing (poll line_2 meter_2) is.spells is_2.spells))
 one_line text nothing (search budget_2) is is_2 = absurd (omega (arith, same_letters text nothing (search budget_2) is.spells is_2.spells))
 one_line text (at moment) nothing is is_2 = absurd (omega (arith, same_letters text (at moment) nothing is.spells is_2.spells))
@@ -135,6 +138,7 @@ one_line text (at moment) (start line_2 meter_2) is is_2 = absurd (omega (arith,
 one_line text (at moment) (ask line_2) is is_2 = absurd (omega (arith, same_letters text (at moment) (ask line_2) is.spells is_2.spells))
 one_line text (at moment) (hear line_2 answer_2) is is_2 = absurd (omega (arith, same_letters text (at moment) (hear line_2 answer_2) is.spells is_2.spells))
 one_line text (at moment) commit is is_2 = absurd (omega (arith, same_letters text (at moment) commit is.spells is_2.spells))
+one_line text (at moment) (office line_2) is is_2 = absurd (omega (arith, same_letters text (at moment) (office line_2) is.spells is_2.spells))
 one_line text (at moment) (poll line_2 meter_2) is is_2 = absurd (omega (arith, same_letters text (at moment) (poll line_2 meter_2) is.spells is_2.spells))
 one_line text (at moment) (search budget_2) is is_2 = absurd (omega (arith, same_letters text (at moment) (search budget_2) is.spells is_2.spells))
 one_line text (start line meter) nothing is is_2 = absurd (omega (arith, same_letters text (start line meter) nothing is.spells is_2.spells))
@@ -144,6 +148,7 @@ one_line text (start line meter) (start line_2 meter_2) is is_2 =
 one_line text (start line meter) (ask line_2) is is_2 = absurd (omega (arith, same_letters text (start line meter) (ask line_2) is.spells is_2.spells))
 one_line text (start line meter) (hear line_2 answer_2) is is_2 = absurd (omega (arith, same_letters text (start line meter) (hear line_2 answer_2) is.spells is_2.spells))
 one_line text (start line meter) commit is is_2 = absurd (omega (arith, same_letters text (start line meter) commit is.spells is_2.spells))
+one_line text (start line meter) (office line_2) is is_2 = absurd (omega (arith, same_letters text (start line meter) (office line_2) is.spells is_2.spells))
 one_line text (start line meter) (poll line_2 meter_2) is is_2 = absurd (omega (arith, same_letters text (start line meter) (poll line_2 meter_2) is.spells is_2.spells))
 one_line text (start line meter) (search budget_2) is is_2 = absurd (omega (arith, same_letters text (start line meter) (search budget_2) is.spells is_2.spells))
 one_line text (ask line) nothing is is_2 = absurd (omega (arith, same_letters text (ask line) nothing is.spells is_2.spells))
@@ -153,6 +158,7 @@ one_line text (ask line) (ask line_2) is is_2 =
     ap ask (one_number line line_2 (omega (arith, is.has_bounds)) (omega (arith, is_2.has_bounds)) (ap (drop 4) (sym is.spells ∙ is_2.spells)))
 one_line text (ask line) (hear line_2 answer_2) is is_2 = absurd (omega (arith, same_letters text (ask line) (hear line_2 answer_2) is.spells is_2.spells))
 one_line text (ask line) commit is is_2 = absurd (omega (arith, same_letters text (ask line) commit is.spells is_2.spells))
+one_line text (ask line) (office line_2) is is_2 = absurd (omega (arith, same_letters text (ask line) (office line_2) is.spells is_2.spells))
 one_line text (ask line) (poll line_2 meter_2) is is_2 = absurd (omega (arith, same_letters text (ask line) (poll line_2 meter_2) is.spells is_2.spells))
 one_line text (ask line) (search budget_2) is is_2 = absurd (omega (arith, same_letters text (ask line) (search budget_2) is.spells is_2.spells))
 one_line text (hear line answer) nothing is is_2 = absurd (omega (arith, same_letters text (hear line answer) nothing is.spells is_2.spells))
@@ -161,6 +167,7 @@ one_line text (hear line answer) (start line_2 meter_2) is is_2 = absurd (omega 
 one_line text (hear line answer) (ask line_2) is is_2 = absurd (omega (arith, same_letters text (hear line answer) (ask line_2) is.spells is_2.spells))
 one_line text (hear line answer) (hear line_2 answer_2) is is_2 = one_heard text line answer line_2 answer_2 is is_2
 one_line text (hear line answer) commit is is_2 = absurd (omega (arith, same_letters text (hear line answer) commit is.spells is_2.spells))
+one_line text (hear line answer) (office line_2) is is_2 = absurd (omega (arith, same_letters text (hear line answer) (office line_2) is.spells is_2.spells))
 one_line text (hear line answer) (poll line_2 meter_2) is is_2 = absurd (omega (arith, same_letters text (hear line answer) (poll line_2 meter_2) is.spells is_2.spells))
 one_line text (hear line answer) (search budget_2) is is_2 = absurd (omega (arith, same_letters text (hear line answer) (search budget_2) is.spells is_2.spells))
 one_line text commit nothing is is_2 = absurd (omega (arith, same_letters text commit nothing is.spells is_2.spells))
@@ -169,14 +176,25 @@ one_line text commit (start line_2 meter_2) is is_2 = absurd (omega (arith, same
 one_line text commit (ask line_2) is is_2 = absurd (omega (arith, same_letters text commit (ask line_2) is.spells is_2.spells))
 one_line text commit (hear line_2 answer_2) is is_2 = absurd (omega (arith, same_letters text commit (hear line_2 answer_2) is.spells is_2.spells))
 one_line text commit commit is is_2 = refl
+one_line text commit (office line_2) is is_2 = absurd (omega (arith, same_letters text commit (office line_2) is.spells is_2.spells))
 one_line text commit (poll line_2 meter_2) is is_2 = absurd (omega (arith, same_letters text commit (poll line_2 meter_2) is.spells is_2.spells))
 one_line text commit (search budget_2) is is_2 = absurd (omega (arith, same_letters text commit (search budget_2) is.spells is_2.spells))
+one_line text (office line) nothing is is_2 = absurd (omega (arith, same_letters text (office line) nothing is.spells is_2.spells))
+one_line text (office line) (at moment_2) is is_2 = absurd (omega (arith, same_letters text (office line) (at moment_2) is.spells is_2.spells))
+one_line text (office line) (start line_2 meter_2) is is_2 = absurd (omega (arith, same_letters text (office line) (start line_2 meter_2) is.spells is_2.spells))
+one_line text (office line) (ask line_2) is is_2 = absurd (omega (arith, same_letters text (office line) (ask line_2) is.spells is_2.spells))
+one_line text (office line) (hear line_2 answer_2) is is_2 = absurd (omega (arith, same_letters text (office line) (hear line_2 answer_2) is.spells is_2.spells))
+one_line text (office line) commit is is_2 = absurd (omega (arith, same_letters text (office line) commit is.spells is_2.spells))
+one_line text (office line) (office line_2) is is_2 = ap office (ap (drop 7) (sym is.spells ∙ is_2.spells))
+one_line text (office line) (poll line_2 meter_2) is is_2 = absurd (omega (arith, same_letters text (office line) (poll line_2 meter_2) is.spells is_2.spells))
+one_line text (office line) (search budget_2) is is_2 = absurd (omega (arith, same_letters text (office line) (search budget_2) is.spells is_2.spells))
 one_line text (poll line meter) nothing is is_2 = absurd (omega (arith, same_letters text (poll line meter) nothing is.spells is_2.spells))
 one_line text (poll line meter) (at moment_2) is is_2 = absurd (omega (arith, same_letters text (poll line meter) (at moment_2) is.spells is_2.spells))
 one_line text (poll line meter) (start line_2 meter_2) is is_2 = absurd (omega (arith, same_letters text (poll line meter) (start line_2 meter_2) is.spells is_2.spells))
 one_line text (poll line meter) (ask line_2) is is_2 = absurd (omega (arith, same_letters text (poll line meter) (ask line_2) is.spells is_2.spells))
 one_line text (poll line meter) (hear line_2 answer_2) is is_2 = absurd (omega (arith, same_letters text (poll line meter) (hear line_2 answer_2) is.spells is_2.spells))
 one_line text (poll line meter) commit is is_2 = absurd (omega (arith, same_letters text (poll line meter) commit is.spells is_2.spells))
+one_line text (poll line meter) (office line_2) is is_2 = absurd (omega (arith, same_letters text (poll line meter) (office line_2) is.spells is_2.spells))
 one_line text (poll line meter) (poll line_2 meter_2) is is_2 =
     let same = one_on_line line meter line_2 meter_2 is.has_bounds.0 is.has_bounds.1 is_2.has_bounds.0 is_2.has_bounds.1 (ap (drop 5) (sym is.spells ∙ is_2.spells)) in cc (same.lines, same.meters)
 one_line text (poll line meter) (search budget_2) is is_2 = absurd (omega (arith, same_letters text (poll line meter) (search budget_2) is.spells is_2.spells))
@@ -186,6 +204,7 @@ one_line text (search budget) (start line_2 meter_2) is is_2 = absurd (omega (ar
 one_line text (search budget) (ask line_2) is is_2 = absurd (omega (arith, same_letters text (search budget) (ask line_2) is.spells is_2.spells))
 one_line text (search budget) (hear line_2 answer_2) is is_2 = absurd (omega (arith, same_letters text (search budget) (hear line_2 answer_2) is.spells is_2.spells))
 one_line text (search budget) commit is is_2 = absurd (omega (arith, same_letters text (search budget) commit is.spells is_2.spells))
+one_line text (search budget) (office line_2) is is_2 = absurd (omega (arith, same_letters text (search budget) (office line_2) is.spells is_2.spells))
 one_line text (search budget) (poll line_2 meter_2) is is_2 = absurd (omega (arith, same_letters text (search budget) (poll line_2 meter_2) is.spells is_2.spells))
 one_line text (search budget) (search budget_2) is is_2 =
     ap search (one_number budget budget_2 (omega (arith, is.has_bounds)) (omega (arith, is_2.has_bounds)) (ap (drop 7) (sym is.spells ∙ is_2.spells)))

@@ -1,14 +1,14 @@
 -- What a script does (this product): its lines, up to the first that spells nothing, are events of a concentrator.
 use Rattle.std.specs.Prelude.{◌≡◌, ℕ, ◌+◌, Bool, true, false, List, [], ◌∷◌, ◌++◌, codes, length, map, take, drop}
 use Rattle.dc_changes.specs.State.{State}
-use Rattle.dc_core.specs.Event.{Event, starts, asks, hears, commits}
+use Rattle.dc_core.specs.Event.{Event, starts, asks, hears, commits, offices}
 use Rattle.dc_core.specs.Images.{Machine}
 use Rattle.dc_core.specs.Run.{Ran}
 use Rattle.dc_core.specs.Text.{run_text}
 use Rattle.dc_core.specs.Transcript.{Turn}
 use Rattle.dc_sectors.specs.Disk.{Image, Choices}
 use Rattle.dc_text.specs.Words.{number_word}
-use Rattle.dc_poller.specs.ScriptLine.{LineSeen, nothing, at, start, ask, hear, commit, poll, search, IsLineOf}
+use Rattle.dc_poller.specs.ScriptLine.{LineSeen, nothing, at, start, ask, hear, commit, office, poll, search, IsLineOf}
 
 -- ---- reading
 
@@ -33,6 +33,7 @@ events_at moment (start line meter) = starts line meter ∷ []
 events_at moment (ask line) = asks line ∷ []
 events_at moment (hear line answer) = hears line moment answer ∷ []
 events_at moment commit = commits ∷ []
+events_at moment (office line) = offices line ∷ []
 events_at moment (poll line meter) = []
 events_at moment (search budget) = []
 
@@ -44,6 +45,7 @@ moment_behind moment (start line meter) = moment
 moment_behind moment (ask line) = moment
 moment_behind moment (hear line answer) = moment
 moment_behind moment commit = moment
+moment_behind moment (office line) = moment
 moment_behind moment (poll line meter) = moment
 moment_behind moment (search budget) = moment
 
@@ -62,6 +64,7 @@ own_text (start line meter) = []
 own_text (ask line) = []
 own_text (hear line answer) = []
 own_text commit = []
+own_text (office line) = []
 own_text (poll line meter) = codes "NO GATEWAY\n"
 own_text (search budget) = codes "NO GATEWAY\n"
 

@@ -8,7 +8,7 @@ use Rattle.dc_changes.specs.Line.{IsOfBytes}
 use Rattle.dc_changes.specs.Valid.{last_moment}
 use Rattle.dc_text.specs.Hex.{bytes_of}
 use Rattle.dc_poller.specs.declared.script_line.ScriptLine.{ScriptLine}
-use Rattle.dc_poller.specs.declared.script_line.ScriptLine.TheVariants.{Nothing, At, Start, Ask, Hear, Commit, Poll, Search}
+use Rattle.dc_poller.specs.declared.script_line.ScriptLine.TheVariants.{Nothing, At, Start, Ask, Hear, Commit, Office, Poll, Search}
 
 -- what a line asks for, without where its bytes lie
 pub data LineSeen : Type 0 where
@@ -18,6 +18,7 @@ pub data LineSeen : Type 0 where
   ask : ℕ → LineSeen
   hear : ℕ → List ℕ → LineSeen
   commit : LineSeen
+  office : List ℕ → LineSeen
   poll : ℕ → Identity → LineSeen
   search : ℕ → LineSeen
 
@@ -28,6 +29,7 @@ seen (Start line meter) = start line meter
 seen (Ask line) = ask line
 seen (Hear line answer) = hear line answer.now
 seen Commit = commit
+seen (Office line) = office line.now
 seen (Poll line meter) = poll line meter
 seen (Search budget) = search budget
 
@@ -46,6 +48,7 @@ HasBounds (start line meter) = (line ≤ greatest_line) × IsOfBytes meter
 HasBounds (ask line) = line ≤ greatest_line
 HasBounds (hear line answer) = line ≤ greatest_line
 HasBounds commit = Unit {0}
+HasBounds (office line) = Unit {0}
 HasBounds (poll line meter) = (line ≤ greatest_line) × IsOfBytes meter
 HasBounds (search budget) = budget ≤ greatest_budget
 
@@ -67,6 +70,7 @@ Spells text (start line meter) = text ≡ join_with_byte 32 (codes "START" ∷ d
 Spells text (ask line) = text ≡ join_with_byte 32 (codes "ASK" ∷ decimal line ∷ [])
 Spells text (hear line answer) = SpellsHear text line answer
 Spells text commit = text ≡ codes "COMMIT"
+Spells text (office line) = text ≡ join_with_byte 32 (codes "OFFICE" ∷ line ∷ [])
 Spells text (poll line meter) = text ≡ join_with_byte 32 (codes "POLL" ∷ decimal line ∷ text_of meter ∷ [])
 Spells text (search budget) = text ≡ join_with_byte 32 (codes "SEARCH" ∷ decimal budget ∷ [])
 

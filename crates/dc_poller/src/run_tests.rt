@@ -1,11 +1,6 @@
 // What no clause says: worked scripts byte by byte, the limits of lines, and what fails.
-ghost use Rattle.std.specs.Prelude.{IfOk};
-ghost use Rattle.dc_changes.specs.Valid.{IsChange};
-
 use crate::tests::{Failing, Full, joined};
 use crate::{ProgramFault, run_script};
-use dc_address::{Identity, Primary};
-use dc_changes::{Change, Command, Flat, encode_change};
 use dc_recovery::{OpenFault, Store};
 use dc_sectors::{Disk, MemoryDisk};
 use dc_stream::{Bytes, Sink, Source};
@@ -16,6 +11,7 @@ use std::test::Fail;
 
 // The first telegram of a readout is heard and committed; then the last.
 const FIRST: &[u8] = b"AT 1735689600
+OFFICE 1 FIT 12345678.PAD.01.07 1 1 A1
 START 1 12345678.PAD.01.07
 ASK 1
 HEAR 1 e5
@@ -27,7 +23,8 @@ COMMIT
 COMMIT
 ";
 
-const FIRST_TOLD: &[u8] = b"STARTED
+const FIRST_TOLD: &[u8] = b"OK 1
+STARTED
 SEND 1040014116
 READY
 SEND 107B017C16
@@ -41,14 +38,24 @@ const LAST: &[u8] = b"ASK 1
 HEAR 1
 ASK 1
 HEAR 1 68191968080172785634122440010702000000426C1F3C4C1300503412FB16
-COMMIT
+OFFICE 1 FIT 12345678.PAD.01.07 1 1 A1
+OFFICE WINDOW 1 1
+OFFICE REGISTER
+OFFICE
 ";
 
 const LAST_TOLD: &[u8] = b"SEND 105B015C16
 AGAIN
 SEND 105B015C16
 PART 2 LAST
-COMMITTED 1
+OK 1
+READING 1 12345678.PAD.01.07 A1 2
+PART 1 1735689600 7856341224400107010000000C13785634121F
+PART 2 1735689600 785634122440010702000000426C1F3C4C1300503412
+END 1
+METER 12345678.PAD.01.07 1 1 A1 0
+END 1
+LINE 19 SYNTAX
 ";
 
 // A run with no gateway.
@@ -65,35 +72,6 @@ fn run<D: Disk + Drop, A: Allocator + Copy, R: Source, W: Sink>(
 fn blank(heap: Global) -> Result<MemoryDisk<Global>, Fail> {
     match Store::format(MemoryDisk::new(heap, 131)?) {
         Ok(disk) => Ok(disk),
-        Err((fault, _)) => Err(Fail::from(fault)),
-    }
-}
-
-fn fit() -> Result<Change<'static>, Fail>
-    ensures { IfOk result (λ change. IsChange change) }
-{
-    let meter = Identity::parse_text(b"12345678.PAD.01.07")?;
-    let flat = Flat::new(b"A1").ok_or("flat")?;
-    let command = Command::Fit {
-        meter,
-        line: 1,
-        address: Primary::new(1),
-        flat,
-    };
-    Ok(Change::Command { number: 1, command })
-}
-
-// An image with the one meter.
-fn house(rt: &impl Abort, heap: Global) -> Result<MemoryDisk<Global>, Fail> {
-    let mut bytes = Bytes::new(heap);
-    encode_change(&fit()?, &mut bytes)?;
-    match Store::open(heap, blank(heap)?) {
-        Ok((mut store, _)) => {
-            assert!(rt; !bytes.as_slice().is_empty());
-            assert!(rt; store.fits(bytes.as_slice().len()));
-            store.append(bytes.as_slice())?;
-            Ok(store.close())
-        }
         Err((fault, _)) => Err(Fail::from(fault)),
     }
 }
@@ -124,17 +102,17 @@ fn is_run(
 
 #[test]
 fn a_readout_goes_on_from_what_is_committed(rt: HostRuntime) -> Result<(), Fail> {
-    let disk = house(&rt, rt.alloc())?;
+    let disk = blank(rt.alloc())?;
     let lines = joined(rt.alloc(), FIRST, LAST)?;
     let told = joined(rt.alloc(), FIRST_TOLD, LAST_TOLD)?;
-    let disk = is_run(&rt, disk, lines.as_slice(), told.as_slice(), false)?;
+    let disk = is_run(&rt, disk, lines.as_slice(), told.as_slice(), true)?;
     assert_eq!(rt; found(rt.alloc(), disk)?, (1, 246));
     Ok(())
 }
 
 #[test]
 fn what_waits_at_the_end_is_given_up(rt: HostRuntime) -> Result<(), Fail> {
-    let disk = house(&rt, rt.alloc())?;
+    let disk = blank(rt.alloc())?;
     let lines = FIRST
         .strip_suffix(b"COMMIT\nCOMMIT\n".as_slice())
         .ok_or("lines")?;
@@ -152,8 +130,8 @@ fn refusals_are_told(rt: HostRuntime) -> Result<(), Fail> {
     is_run(
         &rt,
         disk,
-        b"START 1 12345678.PAD.01.07\nSTART 0 12345678.PAD.01.07\nASK 255\nHEAR 8 00\nPOLL 1 12345678.PAD.01.07\nSEARCH 0",
-        b"REFUSED 2 Unknown\nREFUSED 1 NoLine\nNONE\nREFUSED 2 Idle\nNO GATEWAY\nNO GATEWAY\n",
+        b"OFFICE \nOFFICE BAD\nSTART 1 12345678.PAD.01.07\nSTART 0 12345678.PAD.01.07\nASK 255\nHEAR 8 00\nPOLL 1 12345678.PAD.01.07\nSEARCH 0",
+        b"ERR SYNTAX\nERR SYNTAX\nREFUSED 2 Unknown\nREFUSED 1 NoLine\nNONE\nREFUSED 2 Idle\nNO GATEWAY\nNO GATEWAY\n",
         false,
     )?;
     Ok(())
@@ -178,6 +156,7 @@ fn spells_nothing(rt: &(impl Abort + AllocGlobal), line: &[u8]) -> Result<(), Fa
 fn a_line_at_fault_ends_the_script(rt: HostRuntime) -> Result<(), Fail> {
     for line in [
         b"BAD".as_slice(),
+        b"OFFICE",
         b" COMMIT",
         b"COMMIT ",
         b"AT 253402300800",
@@ -237,9 +216,9 @@ fn an_unread_script_opens_nothing(rt: HostRuntime) -> Result<(), Fail> {
 fn a_failed_write_ends_the_script_behind_its_event(rt: HostRuntime) -> Result<(), Fail> {
     let heap = rt.alloc();
     let lines = joined(heap, FIRST, LAST)?;
-    let disk = house(&rt, heap)?;
+    let disk = blank(heap)?;
     let mut held = (0, 0);
-    for puts in 0..100 {
+    for puts in 0..200 {
         let mut reader = Bytes::from_slice(heap, lines.as_slice())?;
         let mut writer = Full {
             puts,
@@ -248,7 +227,7 @@ fn a_failed_write_ends_the_script_behind_its_event(rt: HostRuntime) -> Result<()
         };
         let (disk, outcome) = run(heap, disk.copy()?, &mut reader, &mut writer);
         if outcome.is_ok() {
-            // Where the last commit's answer wasn't written, it is done.
+            // Of what an answer wasn't written to, all is done.
             assert_eq!(rt; held, (1, 246));
             return Ok(());
         }
@@ -279,7 +258,7 @@ fn growing<A: Allocator + Copy>(
 
 #[test]
 fn each_refused_growth_is_told(rt: HostRuntime) -> Result<(), Fail> {
-    let disk = house(&rt, rt.alloc())?;
+    let disk = blank(rt.alloc())?;
     let heap = Refusing::new(rt.alloc());
     let (outcome, written) = growing(&heap, disk.copy()?);
     assert_eq!(rt; outcome, Ok(false));

@@ -88,6 +88,7 @@ fn run_line<D: Disk + Drop, A: Allocator + Copy, W: Sink>(
             run_event(concentrator, &heard, out)
         }
         ScriptLine::Commit => run_event(concentrator, &Event::Commit, out),
+        ScriptLine::Office { text } => run_event(concentrator, &Event::Office { text }, out),
     }
 }
 

@@ -29,6 +29,8 @@ pub enum ScriptLine<'a> {
     Hear { line: u8, answer: &'a [u8] },
     /// `COMMIT`: what waits is written.
     Commit,
+    /// `OFFICE` and a space: what stands behind it is a line of the office.
+    Office { text: &'a [u8] },
     /// `POLL line ident`: a meter is read through the gateway.
     Poll { line: u8, meter: Identity },
     /// `SEARCH budget`: meters are searched for through the gateway.
@@ -38,7 +40,7 @@ pub enum ScriptLine<'a> {
 impl<'a> ScriptLine<'a> {
     /// What a line asks for; none where it spells nothing, or has more than 4,096 bytes. The bytes of an answer are put
     /// into `room`, of at least half as many bytes.
-    pub fn parse(text: &[u8], room: &'a mut [u8]) -> Option<ScriptLine<'a>>
+    pub fn parse(text: &'a [u8], room: &'a mut [u8]) -> Option<ScriptLine<'a>>
         requires { longest_line ≤ 2 * length room.old }
         ensures found { IfSome result (λ read. IsLineOf text.now (seen read)) }
         ensures only { (asked : LineSeen) → IsLineOf text.now asked → MatchOption result ⊥ (λ read. seen read ≡ asked) }
@@ -60,6 +62,9 @@ impl<'a> ScriptLine<'a> {
         }
         if let Some(line) = parse_ask(text) {
             return Some(ScriptLine::Ask { line });
+        }
+        if let Some(line) = behind_office(text) {
+            return Some(ScriptLine::Office { text: line });
         }
         if let Some((line, meter)) = parse_poll(text) {
             return Some(ScriptLine::Poll { line, meter });
@@ -139,6 +144,13 @@ fn behind_hear(text: &[u8]) -> Option<&[u8]>
     ensures only { (words : List ℕ) → text.now ≡ codes "HEAR" ++ 32 ∷ words → IsSome result }
 {
     text.strip_prefix(b"HEAR ".as_slice())
+}
+
+fn behind_office(text: &[u8]) -> Option<&[u8]>
+    ensures found { IfSome result (λ line. text.now ≡ codes "OFFICE" ++ 32 ∷ line.now) }
+    ensures only { (line : List ℕ) → text.now ≡ codes "OFFICE" ++ 32 ∷ line → IsSome result }
+{
+    text.strip_prefix(b"OFFICE ".as_slice())
 }
 
 // ---- words
