@@ -5,12 +5,12 @@ use Rattle.std.specs.List.{AllByRecursion}
 use Rattle.dc_linkframe.specs.Control.{selected}
 use Rattle.dc_linkframe.specs.Frame.{FrameSeen}
 use Rattle.dc_address.specs.declared.identity.Identity.{Identity}
-use Rattle.dc_address.specs.Mask.{mask_of, mask_wire, matches}
+use Rattle.dc_address.specs.Mask.{mask_at, mask_of, mask_wire, matches}
 use Rattle.dc_readout.specs.declared.stage.Stage.{Stage}
 use Rattle.dc_readout.specs.declared.stage.Stage.TheVariants.{Resets, Selects, Requests, Pending, Ended}
 use Rattle.dc_readout.specs.Summary.{link_address, reset_of, selection_of, request_of, asked_at, asked_by}
 use Rattle.dc_readout.proofs.Requests.{selection_is_long}
-use Rattle.dc_lives.specs.Meter.{Meter, Position, hears_at, moved_by, mask_at, at_selection, gone_on, begun_anew, is_own}
+use Rattle.dc_lives.specs.Meter.{Meter, Position, hears_at, moved_by, at_selection, gone_on, begun_anew, is_own}
 use Rattle.dc_lives.specs.declared.event.Outcome.{Outcome}
 use Rattle.dc_lives.specs.declared.event.WorldEvent.{WorldEvent}
 use Rattle.dc_lives.specs.declared.event.WorldEvent.TheVariants.{Start, Exchange, Commit, Stop}

@@ -1,12 +1,10 @@
 -- A meter that follows the standard: EN 13757-2, the frame count bit at the secondary station; EN 13757-3 (2004,
 -- 2013) and EN 13757-7, selection. That its readout begins anew with the reset or the selection is a premise.
-use Rattle.std.specs.Prelude.{ℕ, ◌+◌, ◌-◌, Bool, true, false, not, ◌&&◌, ◌||◌, List, take, drop, map, Option, Some, None, slice_get, slice_index, unwrap_or, ◌==◌, if◌then◌else◌}
-use Rattle.byteorder.specs.Endian.{little_number}
+use Rattle.std.specs.Prelude.{ℕ, ◌+◌, ◌-◌, Bool, true, false, not, ◌&&◌, ◌||◌, List, Option, Some, None, slice_get, unwrap_or, ◌==◌, if◌then◌else◌}
 use Rattle.dc_linkframe.specs.Control.{snd_nke, snd_ud, req_ud2, variable_data, selection, selected}
 use Rattle.dc_linkframe.specs.Frame.{FrameSeen, ack, short, long}
 use Rattle.dc_address.specs.declared.identity.Identity.{Identity}
-use Rattle.dc_address.specs.Digits.{unpacked_digits}
-use Rattle.dc_address.specs.Mask.{MaskParts, matches, value_or_wildcard}
+use Rattle.dc_address.specs.Mask.{mask_at, matches}
 
 -- who the meter is, and the bodies of one readout of it
 pub record Meter : Type 0 where
@@ -25,21 +23,6 @@ first_position = record { place = 0; bit = None; selected = false }
 
 abbrev pub begun_anew : Position → Position
 begun_anew p = record p { place = 0; bit = None }
-
--- the mask that eight bytes send
-abbrev pub digit_or_wildcard : ℕ → Option ℕ
-digit_or_wildcard nibble = if nibble == 15 then None else Some nibble
-
-abbrev pub maker_or_wildcard : ℕ → Option ℕ
-maker_or_wildcard code = if code == 65535 then None else Some code
-
-unfoldable pub mask_at : List ℕ → MaskParts
-mask_at wire = record {
-  digits = map digit_or_wildcard (unpacked_digits (take 4 wire));
-  maker = maker_or_wildcard (little_number 2 (drop 4 wire));
-  version = value_or_wildcard (slice_index wire 6);
-  kind = value_or_wildcard (slice_index wire 7);
-}
 
 -- the frame count bit of REQ_UD2
 abbrev pub frame_count_bit : ℕ → Option Bool

@@ -339,11 +339,11 @@ fn fit_more<A: Allocator + Copy>(
     rt: &impl Abort,
     house: &mut House<A>,
     alloc: A,
-    count: u32,
+    count: u16,
 ) -> Result<(), Fail> {
     for at in 0..count {
         let flat = Flat::new(b"C3").ok_or("flat")?;
-        let text = format!(in alloc; "{:08}.PAD.01.07", at + 2)?;
+        let text = format!(in alloc; "{:08}.PAD.01.07", u32::from(at) + 2)?;
         let meter = Identity::parse_text(text.as_bytes())?;
         let command = Command::Fit {
             meter,
@@ -363,7 +363,7 @@ fn a_swap_without_memory_changes_nothing(rt: HostRuntime) -> Result<(), Fail> {
     let other = b"00000001.PAD.01.07";
     let heap = Refusing::new(rt.alloc());
     let mut refused = false;
-    for count in 0..40u32 {
+    for count in 0..40u16 {
         heap.refuse(0);
         let mut house = House::new(&heap, 15_616);
         apply(&rt, &mut house, &fit(1)?)?;

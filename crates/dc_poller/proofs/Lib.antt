@@ -6,5 +6,4 @@ pub mod Records
 pub mod Solid
 pub mod Spelled
 pub mod Steps
-pub mod Telegrams
 pub mod Turns

@@ -1,38 +1,17 @@
 -- What `fold` writes (this product): an answer to each line, and then the register as the lines left it.
-use Rattle.std.specs.Prelude.{◌≡◌, ℕ, ◌+◌, ◌≤◌, ◌==◌, ◌&&◌, ◌||◌, if◌then◌else◌, Bool, true, false, Option, Some, None, is_none, List, [], ◌∷◌, ◌++◌, codes, length, decimal}
-use Rattle.std.specs.List.{join_with_byte}
-use Rattle.dc_changes.specs.Accepts.{refusal}
+use Rattle.std.specs.Prelude.{◌≡◌, ℕ, ◌&&◌, ◌||◌, if◌then◌else◌, Bool, false, Option, Some, None, is_none, List, [], ◌∷◌, ◌++◌, codes}
+use Rattle.dc_changes.specs.Accepts.{is_next, refusal}
 use Rattle.dc_changes.specs.Apply.{applied}
-use Rattle.dc_changes.specs.Body.{BodyRow}
+use Rattle.dc_changes.specs.ChangeLine.{IsLineOf}
 use Rattle.dc_changes.specs.Fault.{number_of, name_of}
-use Rattle.dc_changes.specs.Line.{line_of, NamesMeters}
 use Rattle.dc_changes.specs.State.{State, Held, empty_state}
-use Rattle.dc_changes.specs.Valid.{IsChange}
 use Rattle.dc_changes.specs.declared.change.Change.{Change}
-use Rattle.dc_changes.specs.declared.change.Change.TheVariants.{Telegram, Command as Numbered}
 use Rattle.dc_changes.specs.declared.fault.ChangeFault.{ChangeFault}
-use Rattle.dc_text.specs.Hex.{bytes_of}
 use Rattle.dc_poller.specs.Lines.{lines_of}
 use Rattle.dc_poller.specs.Register.{register_text}
 use Rattle.dc_text.specs.Words.{fault_line, number_word}
 
 -- ---- lines
-
--- the words `TELEGRAM part moment hex`, the last one being these bytes in hex digits of either case
-pub record SpellsTelegram (line : List ℕ) (part moment : ℕ) (bytes : List ℕ) : Type 0 where
-  pub digits : List ℕ
-  pub bytes_are : bytes_of digits ≡ Some bytes
-  pub line_is : line ≡ join_with_byte 32 (codes "TELEGRAM" ∷ decimal part ∷ decimal moment ∷ digits ∷ [])
-
-abbrev pub Spells : List ℕ → Change → Type 0
-Spells line (Telegram part moment body) = SpellsTelegram line part moment body.bytes
-Spells line (Numbered number command) = NamesMeters command × (line ≡ line_of number command)
-
--- a line of at most 4,096 bytes that spells a change
-pub record IsLineOf (line : List ℕ) (change : Change) : Type 0 where
-  pub fits : length line ≤ 4096
-  pub is_change : IsChange change
-  pub spells : Spells line change
 
 -- A line is read as the change that it spells; None: it spells none.
 abbrev pub IsReadAs : List ℕ → Option Change → Type 0
@@ -48,11 +27,6 @@ AreReadAs (line ∷ lines) (read ∷ reads) = IsReadAs line read × AreReadAs li
 
 -- ---- answers
 
--- a command has the number after the last one's
-abbrev pub is_due : Change → State → Bool
-is_due (Telegram part moment body) s = true
-is_due (Numbered number command) s = number == s.last_number + 1
-
 abbrev pub order_line : State → List ℕ
 order_line s = codes "ORDER" ++ number_word s.last_number ++ codes "\n"
 
@@ -62,10 +36,10 @@ verdict_line (Some fault) = fault_line (codes "REFUSED") (number_of fault) (name
 
 -- what is answered to a change, and the state after it
 unfoldable pub change_answer : ℕ → Change → State → List ℕ
-change_answer budget change s = if is_due change s then verdict_line (refusal budget change s) else order_line s
+change_answer budget change s = if is_next change s then verdict_line (refusal budget change s) else order_line s
 
 unfoldable pub after_change : ℕ → Change → State → State
-after_change budget change s = if is_due change s && is_none (refusal budget change s) then applied change s else s
+after_change budget change s = if is_next change s && is_none (refusal budget change s) then applied change s else s
 
 -- the same of a line, by what it is read as
 abbrev pub line_answer : ℕ → Option Change → State → List ℕ
@@ -114,11 +88,6 @@ pub record IsStep (line : List ℕ) (unread : Bool) (old new : Held) (before tex
   pub unread_is : unread ≡ is_none read
   pub house_is : new ≡ record old { state = after_line old.budget read old.state }
   pub text_is : text ≡ before ++ line_answer old.budget read old.state
-
--- the line tells a telegram, which was answered; or it tells none, and nothing happened
-abbrev pub IsTelegramStep : List ℕ → Bool → Held → Held → List ℕ → List ℕ → Type 0
-IsTelegramStep line true old new before text = IsStep line false old new before text
-IsTelegramStep line false old new before text = ((part moment : ℕ) (body : BodyRow) → ¬ (IsLineOf line (Telegram part moment body))) × (new ≡ old) × (text ≡ before)
 
 pub record AreSteps (lines : List (List ℕ)) (found : Bool) (old new : Held) (before text : List ℕ) : Type 0 where
   pub reads : List (Option Change)

@@ -1,19 +1,19 @@
 //! The engine of `fold`: from a source's telegrams and commands to a sink's text of the register.
 
-ghost use Rattle.std.specs.Prelude.{◌≡◌, ◌≢◌, ◌↔◌, ◌<◌, ◌≤◌, ◌++◌, ℕ, List, length, IfSome, IfOk, IfErr, OnOk, IsOk, IsErrOf};
+ghost use Rattle.std.specs.Prelude.{◌≡◌, ◌≢◌, ◌↔◌, ◌<◌, ◌≤◌, ◌*◌, ◌++◌, ℕ, List, length, IfSome, IfOk, IfErr, OnOk, IsOk, IsErrOf};
 ghost use Rattle.dc_base.specs.Failures.{HasRisen};
+ghost use Rattle.dc_changes.specs.ChangeLine.{longest_change_line};
 ghost use Rattle.dc_changes.specs.Valid.{IsChange};
 ghost use Rattle.dc_stream.specs.Stream.{Puts, Wrote};
-ghost use Rattle.dc_poller.specs.Fold.{IsFolded, IsStep, IsTelegramStep, AreSteps, is_due, change_answer, after_change, order_line};
+ghost use Rattle.dc_poller.specs.Fold.{IsFolded, IsStep, AreSteps, change_answer, after_change, order_line};
 ghost use Rattle.dc_poller.specs.Lines.{lines_of};
 
 use crate::fault::ProgramFault;
 use crate::input::{CHUNK, MOST, read_input};
-use crate::lines::{LONGEST, first_line};
+use crate::lines::first_line;
 use crate::register::put_register;
-use crate::telegram_line::parse_telegram;
 use dc_base::NoMemory;
-use dc_changes::{Body, Change, ChangeFault, Command};
+use dc_changes::{Change, LONGEST_CHANGE_LINE};
 use dc_meters::House;
 use dc_stream::{Bytes, IoFault, Sink, Source, room};
 use dc_text::{put_fault_line, put_number_word};
@@ -21,16 +21,6 @@ use std::alloc::Allocator;
 
 // The bytes within which the register stays: a disk of 131 sectors has room for as many.
 const BUDGET: u32 = 15_616;
-
-// Whether a command has the number after the last one's.
-fn is_due<A: Allocator + Copy>(change: &Change<'_>, house: &House<A>) -> bool
-    ensures { result ≡ is_due change.now house.now.state }
-{
-    match change {
-        Change::Telegram { .. } => true,
-        Change::Command { number, .. } => *number == house.last_number() + 1,
-    }
-}
 
 // A put into memory fails where memory is refused.
 fn kept(put: Result<(), IoFault>) -> Result<(), NoMemory>
@@ -62,7 +52,7 @@ fn answer<A: Allocator + Copy>(
     ensures text { OnOk result (text.new.bytes ≡ text.old.bytes ++ change_answer house.old.budget change.now house.old.state) }
     ensures house { OnOk result (house.new ≡ record house.old { state = after_change house.old.budget change.now house.old.state }) }
 {
-    if !is_due(change, house) {
+    if !house.is_next(change) {
         return kept(put_order(house, text));
     }
     match house.check(change) {
@@ -81,47 +71,19 @@ fn fold_line<A: Allocator + Copy>(
     house: &mut House<A>,
     text: &mut Bytes<A>,
 ) -> Result<bool, NoMemory>
-    requires { 2048 ≤ length bytes.old }
+    requires { longest_change_line ≤ 2 * length bytes.old }
     ensures { IfOk result (λ unread. IsStep line.now unread house.old house.new text.old.bytes text.new.bytes) }
 {
-    if let Some(found) = Command::parse_line(line) {
-        let change = Change::Command {
-            number: found.number,
-            command: found.command,
-        };
-        answer(&change, house, text)?;
-        return Ok(false);
+    match Change::parse_line(line, bytes) {
+        Some(change) => {
+            answer(&change, house, text)?;
+            Ok(false)
+        }
+        None => {
+            kept(text.put(b"SYNTAX\n"))?;
+            Ok(true)
+        }
     }
-    if fold_telegram(line, bytes, house, text)? {
-        return Ok(false);
-    }
-    kept(text.put(b"SYNTAX\n"))?;
-    Ok(true)
-}
-
-// Answers a line that tells a telegram, and says whether it does.
-fn fold_telegram<A: Allocator + Copy>(
-    line: &[u8],
-    bytes: &mut [u8],
-    house: &mut House<A>,
-    text: &mut Bytes<A>,
-) -> Result<bool, NoMemory>
-    requires { 2048 ≤ length bytes.old }
-    ensures { IfOk result (λ told. IsTelegramStep line.now told house.old house.new text.old.bytes text.new.bytes) }
-{
-    if line.len() > LONGEST {
-        return Ok(false);
-    }
-    let Some((part, moment, count)) = parse_telegram(line, bytes) else {
-        return Ok(false);
-    };
-    let (content, _) = bytes.split_at(count);
-    let Some(body) = Body::parse(content) else {
-        return Ok(false);
-    };
-    let change = Change::Telegram { part, moment, body };
-    answer(&change, house, text)?;
-    Ok(true)
 }
 
 // Answers the lines of an input in order, and says whether one spells no change.
@@ -131,7 +93,7 @@ fn fold_all<A: Allocator + Copy>(
     house: &mut House<A>,
     text: &mut Bytes<A>,
 ) -> Result<bool, NoMemory>
-    requires { 2048 ≤ length bytes.old }
+    requires { longest_change_line ≤ 2 * length bytes.old }
     ensures { IfOk result (λ found. AreSteps (lines_of input.now) found house.old house.new text.old.bytes text.new.bytes) }
 {
     let mut found = false;
@@ -151,7 +113,7 @@ fn fold_input<A: Allocator + Copy>(
     input: &[u8],
     bytes: &mut [u8],
 ) -> Result<(Bytes<A>, bool), NoMemory>
-    requires { 2048 ≤ length bytes.old }
+    requires { longest_change_line ≤ 2 * length bytes.old }
     ensures { IfOk result (λ folded. IsFolded input.now folded.0.bytes folded.1) }
 {
     let mut house = House::new(alloc, BUDGET);
@@ -191,7 +153,7 @@ pub fn fold_lines<A: Allocator + Copy, R: Source, W: Sink>(
     // After any fault but a failed write the writer is as it was.
     ensures untouched { IfErr result (λ fault. fault ≢ ProgramFault.Write → writer.new ≡ writer.old) }
 {
-    let mut bytes = room(alloc, LONGEST / 2)?;
+    let mut bytes = room(alloc, LONGEST_CHANGE_LINE / 2)?;
     let mut chunk = room(alloc, CHUNK)?;
     let input = read_input(alloc, reader, chunk.as_mut_slice())?;
     if input.len() > MOST {

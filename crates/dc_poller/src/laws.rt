@@ -9,9 +9,8 @@ ghost use Rattle.dc_poller.specs.Lines.{LacksFeed, lines_of};
 ghost use Rattle.dc_text.specs.Hex.{bytes_of, upper_hex};
 ghost use Rattle.dc_poller.specs.Frames.{frames_of, frame_text, all_shown};
 
-use dc_changes::{a_line_has_one_command, a_text_has_one_first_word};
+use dc_changes::a_line_has_one_change;
 use dc_linkframe::need_agrees_with_parse;
-use dc_records::one_telegram;
 
 /// How an input comes apart into lines.
 pub fn lines_end_at_feeds()
@@ -43,7 +42,5 @@ pub fn an_input_has_one_fold()
     ensures line { (line : List ℕ) (a b : Option Change) → IsReadAs line a → IsReadAs line b → a ≡ b }
     ensures text { (input text other : List ℕ) (found found_2 : Bool) → IsFolded input text found → IsFolded input other found_2 → (text ≡ other) × (found ≡ found_2) }
 {
-    a_text_has_one_first_word();
-    a_line_has_one_command();
-    one_telegram();
+    a_line_has_one_change();
 }

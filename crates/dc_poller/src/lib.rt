@@ -29,7 +29,6 @@ mod register;
 mod seen;
 mod spaces;
 mod telegram;
-mod telegram_line;
 
 pub use decode::decode_lines;
 pub use fault::ProgramFault;

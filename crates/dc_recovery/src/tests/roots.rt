@@ -213,10 +213,12 @@ fn the_last_sequence_is_only_read(rt: HostRuntime) -> Result<(), Fail> {
         half_len: 64,
     };
     for n in 3..5 {
+        assert!(rt; n < disk.count());
         let mut bytes = disk.read(n)?;
         bytes[16..24].copy_from_slice(&[0xFF; 8]);
         disk.write(n, &bytes)?;
     }
+    assert_eq!(rt; disk.count(), 131);
     write_next(&mut disk, &last)?;
     disk.sync()?;
     let mut begun = opened(alloc, disk.copy()?)?.store.close();

@@ -6,6 +6,7 @@ use super::{accept, calls_of_open, compact, confirm, encoded, opened, reads_alik
 use crate::{OpenFault, Store, StoreFault};
 use dc_address::Identity;
 use dc_changes::encode_change;
+use dc_fields::put_u64;
 use dc_roots::choose;
 use dc_sectors::{Disk, MemoryDisk};
 use dc_stream::Bytes;
@@ -149,38 +150,45 @@ fn a_stop_at_any_call_leaves_the_one_meter(rt: HostRuntime) -> Result<(), Fail> 
     Ok(())
 }
 
-/// An upgrade takes two generations and a sequence.
+/// A sector that begins so, but for the number in the eight bytes from a place on.
+fn numbered(front: &[u8], at: usize, number: u64) -> [u8; 512]
+    requires front { length front.now ≤ 512 }
+    requires at { at ≤ 504 }
+{
+    let mut bytes = sector(front);
+    put_u64(&mut bytes, at, number);
+    bytes
+}
+
+/// An upgrade takes two generations.
 #[test]
-fn a_spent_image_of_version_1_is_worn(rt: HostRuntime) -> Result<(), Fail> {
+fn an_image_of_version_1_at_its_last_generations_is_worn(rt: HostRuntime) -> Result<(), Fail> {
     let alloc = rt.alloc();
-    let last = u64::MAX.to_le_bytes();
-    let mut late = sector(FIRST_ROOT);
-    late[8..16].copy_from_slice(&last);
-    late[8] -= 1;
-    let mut generations = of_version_1(&rt, alloc)?;
-    write(&rt, &mut generations, 1, &late)?;
-    let mut earlier = late;
-    earlier[8] -= 1;
+    let mut last = of_version_1(&rt, alloc)?;
+    write(&rt, &mut last, 1, &numbered(FIRST_ROOT, 8, u64::MAX - 1))?;
+    assert!(rt; is_worn(&rt, alloc, last)?);
     let mut one_left = of_version_1(&rt, alloc)?;
-    write(&rt, &mut one_left, 2, &earlier)?;
-
-    let mut sequences = of_version_1(&rt, alloc)?;
-    let mut base = sector(BASE);
-    base[16..24].copy_from_slice(&last);
-    base[16] -= 1;
-    let mut commit = sector(BASE_COMMIT);
-    commit[16..24].copy_from_slice(&base[16..24]);
-    let mut named = sector(ROOT);
-    named[24..32].copy_from_slice(&base[16..24]);
-    write(&rt, &mut sequences, 3, &base)?;
-    write(&rt, &mut sequences, 4, &commit)?;
-    write(&rt, &mut sequences, 1, &named)?;
-
-    assert!(rt; is_worn(&rt, alloc, generations)?);
-    assert!(rt; is_worn(&rt, alloc, sequences)?);
+    write(
+        &rt,
+        &mut one_left,
+        2,
+        &numbered(FIRST_ROOT, 8, u64::MAX - 2),
+    )?;
     let mut life = opened(alloc, one_left)?;
     assert_eq!(rt; compact(&rt, &mut life), Err(StoreFault::Worn));
     assert!(rt; is_worn(&rt, alloc, life.store.close())?);
+    Ok(())
+}
+
+/// An upgrade takes a sequence.
+#[test]
+fn an_image_of_version_1_at_its_last_sequence_is_worn(rt: HostRuntime) -> Result<(), Fail> {
+    let alloc = rt.alloc();
+    let mut disk = of_version_1(&rt, alloc)?;
+    write(&rt, &mut disk, 3, &numbered(BASE, 16, u64::MAX - 1))?;
+    write(&rt, &mut disk, 4, &numbered(BASE_COMMIT, 16, u64::MAX - 1))?;
+    write(&rt, &mut disk, 1, &numbered(ROOT, 24, u64::MAX - 1))?;
+    assert!(rt; is_worn(&rt, alloc, disk)?);
     Ok(())
 }
 
