@@ -389,6 +389,10 @@ holds_along budget state turns chain =
     } in
     along budget state [] nothing_seen (opened state) turns begin chain
 
+-- each accepted change was seen
+pub accepted_counted : (budget : ℕ) (state : State) (turns : List Turn) → IsChain budget (opened state) turns → (seen_from nothing_seen turns).accepted ≡ length (accepted_in (opened state) turns)
+accepted_counted budget state turns chain = (holds_along budget state turns chain).counted
+
 -- no more is promised than was accepted
 pub promised_within : (budget : ℕ) (state : State) (turns : List Turn) → IsChain budget (opened state) turns → (seen_from nothing_seen turns).promised ≤ (seen_from nothing_seen turns).accepted
 promised_within budget state turns chain =

@@ -27,7 +27,7 @@ use Rattle.dc_core.proofs.Followed.{none_is_unknown}
 
 -- ---- a chain with one turn more
 
-leads_push : (core : Core) (turns : List Turn) (t : Turn) → leads core (turns ++ t ∷ []) ≡ next (leads core turns) t.0 t.1
+pub leads_push : (core : Core) (turns : List Turn) (t : Turn) → leads core (turns ++ t ∷ []) ≡ next (leads core turns) t.0 t.1
 leads_push core [] t = refl
 leads_push core (u ∷ turns) t = leads_push (next core u.0 u.1) turns t
 
@@ -41,7 +41,7 @@ accepted_push core (u ∷ turns) t =
     ap (λ (x : List Change). accepted_by core u.0 u.1 ++ x) (accepted_push (next core u.0 u.1) turns t)
     ∙ sym (append_assoc (accepted_by core u.0 u.1) (accepted_in (next core u.0 u.1) turns) (accepted_by (leads (next core u.0 u.1) turns) t.0 t.1))
 
-seen_push : (seen : Seen) (turns : List Turn) (t : Turn) → seen_from seen (turns ++ t ∷ []) ≡ and_seen t.0 t.1 (seen_from seen turns)
+pub seen_push : (seen : Seen) (turns : List Turn) (t : Turn) → seen_from seen (turns ++ t ∷ []) ≡ and_seen t.0 t.1 (seen_from seen turns)
 seen_push seen [] t = refl
 seen_push seen (u ∷ turns) t = seen_push (and_seen u.0 u.1 seen) turns t
 
@@ -86,7 +86,7 @@ still_promised (offices text) (asked answer) seen within = omega arith
 still_promised (offices text) (heard answer) seen within = omega arith
 still_promised (offices text) (committed answer) seen within = omega arith
 
-promised_push : (budget : ℕ) (state : State) (turns : List Turn) (t : Turn) → IsChain budget (opened state) turns → promised_in turns ≤ promised_in (turns ++ t ∷ [])
+pub promised_push : (budget : ℕ) (state : State) (turns : List Turn) (t : Turn) → IsChain budget (opened state) turns → promised_in turns ≤ promised_in (turns ++ t ∷ [])
 promised_push budget state turns t chain =
     subst (λ (s : Seen). promised_in turns ≤ s.promised) (sym (seen_push nothing_seen turns t)) (still_promised t.0 t.1 (seen_from nothing_seen turns) (promised_within budget state turns chain))
 

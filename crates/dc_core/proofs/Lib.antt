@@ -9,3 +9,4 @@ pub mod Followed
 pub mod Going
 pub mod Answering
 pub mod Following
+pub mod Told
