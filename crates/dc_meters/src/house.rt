@@ -164,7 +164,8 @@ impl<A: Allocator + Copy> House<A> {
 
     /// The serials of the readings that have a due-date value for a date, ascending.
     pub fn due(&self, date: Date) -> Serials<'_, Date>
-        ensures { result ≡ due_serials date self.now.state.readings }
+        ensures serials { result ≡ due_serials date self.now.state.readings }
+        ensures is_state { IsState self.now.budget self.now.state }
     {
         self.readings.due(date)
     }
