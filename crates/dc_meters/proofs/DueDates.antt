@@ -10,7 +10,7 @@ use Rattle.std.specs.Cmp.{both_tied, unsigned_ties}
 use Rattle.dc_units.specs.declared.point.Point.{Point}
 use Rattle.dc_units.specs.Date.{Day}
 use Rattle.dc_units.specs.Value.{day_of}
-use Rattle.dc_meters.specs.Due.{is_dating, dating_day, day_for, dated, is_stored, due_day, due_days, is_due, is_on, same_day}
+use Rattle.dc_meters.specs.Due.{is_dating, dating_day, day_for, dated, is_stored, due_day, due_days, is_due, is_on, same_day, day_cmp}
 
 pub or-assoc : (a b c : Option Day) → option_or (option_or a b) c ≡ option_or a (option_or b c)
 or-assoc None b c = refl
@@ -53,10 +53,6 @@ first_kept f xs None rest yields = sym (some_kept f xs ∙ ap not_empty yields.0
 first_kept f xs (Some x) rest yields = sym (some_kept f xs ∙ ap not_empty yields)
 
 -- ---- an index by due date
-
--- the order of dates
-abbrev pub day_cmp : Day → Day → Ordering
-day_cmp a b = ordering_then (nat_cmp a.year b.year) (ordering_then (nat_cmp a.month b.month) (nat_cmp a.day b.day))
 
 pub same_day-is : (a b : Day) → same_day a b ≡ is_eq (day_cmp a b)
 same_day-is a b =

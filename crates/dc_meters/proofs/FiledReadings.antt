@@ -15,16 +15,13 @@ use Rattle.std.proofs.lemmas.List.Elements.{All-head, All-tail}
 use Rattle.std.proofs.lemmas.Map.Keys.{sorted_head}
 use Rattle.dc_changes.specs.State.{ReadingRow}
 use Rattle.dc_meters.specs.declared.filed.Filed.{Filed}
-use Rattle.dc_meters.specs.Orders.{filed_cmp, AreFiled}
-
-abbrev pub found : {K : Type 0} → (K → K → Ordering) → List (Filed K) → Filed K → Bool
-found R fs q = list_any (is_at (filed_cmp R q)) fs
+use Rattle.dc_meters.specs.Orders.{filed_cmp, found, AreFiled, IsUnfiled}
 
 -- the reading is filed so
 abbrev pub is_filed : {K : Type 0} → (K → ReadingRow → Bool) → Filed K → ReadingRow → Bool
 is_filed {K} has q r = has q.key r && is_eq (nat_cmp q.serial r.serial)
 
-any_push : {X : Type 0} (p : X → Bool) (xs : List X) (x : X) → list_any p (xs ++ x ∷ []) ≡ (list_any p xs || p x)
+pub any_push : {X : Type 0} (p : X → Bool) (xs : List X) (x : X) → list_any p (xs ++ x ∷ []) ≡ (list_any p xs || p x)
 any_push p [] x = or_false (p x)
   where
     or_false : (a : Bool) → (a || false) ≡ a
@@ -108,3 +105,19 @@ module _ {K : Type 0} {R : K → K → Ordering} (total : IsTotalOrder R) where
 
   pub one_out : (k q : Filed K) (a : Bool) → cond (is_at (filed_cmp R k) q) false a ≡ (a && not (is_eq (R q.key k.key) && is_eq (nat_cmp q.serial k.serial)))
   one_out k q a = taken_out (is_at (filed_cmp R k) q) a (is_eq (R q.key k.key) && is_eq (nat_cmp q.serial k.serial)) (met_at k q)
+
+  back_at : (o k s : Bool) → (s ≡ true → o ≡ false) → ((o || (k && s)) && not (k && s)) ≡ o
+  back_at true true true new = absurd (let e = new refl in cc)
+  back_at true true false new = refl
+  back_at true false s new = refl
+  back_at false true true new = refl
+  back_at false true false new = refl
+  back_at false false s new = refl
+
+  -- a key that went in and out again
+  pub in_and_out : (old between back : List (Filed K)) (k : Filed K) → IsUnfiled R k.serial old → ((q : Filed K) → found R between q ≡ cond (is_at (filed_cmp R k) q) true (found R old q))
+      → ((q : Filed K) → found R back q ≡ cond (is_at (filed_cmp R k) q) false (found R between q)) → (q : Filed K) → found R back q ≡ found R old q
+  in_and_out old between back k unfiled went_in went_out q =
+      let key : Bool = is_eq (R q.key k.key) in
+      let serial : Bool = is_eq (nat_cmp q.serial k.serial) in
+      went_out q ∙ one_out k q (found R between q) ∙ ap (λ (b : Bool). b && not (key && serial)) (went_in q ∙ one_in k q (found R old q)) ∙ back_at (found R old q) key serial (unfiled q)

@@ -14,5 +14,6 @@ pub mod DueDates
 pub mod SameOrder
 pub mod UnderKeys
 mod FiledReadings
+mod FiledDays
 mod Ordered
 mod FromSerial

@@ -3,7 +3,8 @@
 use Rattle.std.specs.Prelude.{◌≡◌, ℕ, ◌<◌, ◌^◌, Bool, false, not, ◌&&◌, ◌==◌, nat_le, if◌then◌else◌, List, [], ◌∷◌, filter, Option, None, Some}
 use Rattle.std.specs.Option.{option_or}
 use Rattle.std.specs.List.{filter_map, list_any}
-use Rattle.std.specs.Ordering.{nat_cmp}
+use Rattle.std.specs.Ordering.{nat_cmp, ordering_then}
+use Rattle.std.specs.declared.cmp.Ordering.{Ordering}
 use Rattle.std.specs.BTreeMap.{BTreeMap, get}
 use Rattle.dc_units.specs.declared.point.Point.{Point}
 use Rattle.dc_units.specs.Quantity.{is_time_point}
@@ -37,6 +38,10 @@ due_day points p = if is_stored p then dated p.storage points else None
 
 abbrev pub same_day : Day → Day → Bool
 same_day a b = (a.year == b.year) && ((a.month == b.month) && (a.day == b.day))
+
+-- the order of dates
+abbrev pub day_cmp : Day → Day → Ordering
+day_cmp a b = ordering_then (nat_cmp a.year b.year) (ordering_then (nat_cmp a.month b.month) (nat_cmp a.day b.day))
 
 abbrev pub is_on : Day → Option Day → Bool
 is_on date None = false

@@ -183,6 +183,21 @@ impl<'d, 'a, A: Allocator + Copy> Iterator for DueDays<'d, 'a, A> {
     }
 }
 
+/// The days for which a readout with these parts has a due-date value: that of each point of one.
+pub(crate) fn due_days_of<A: Allocator + Copy>(
+    alloc: A,
+    parts: &[Part<A>],
+) -> Result<Vec<Date, A>, NoMemory>
+    ensures { IfOk result (λ days. days.items ≡ due_days (points_of parts.now)) }
+{
+    let dates = StorageDates::of(alloc, parts)?;
+    let mut days = Vec::new(alloc);
+    for day in dates.due_days() {
+        days.push(day)?;
+    }
+    Ok(days)
+}
+
 /// The day by which a point dates its storage number is kept, unless one is already there.
 fn keep_first<A: Allocator + Copy>(
     days: &mut BTreeMap<u64, Date, A>,

@@ -5,7 +5,7 @@ ghost use Rattle.dc_changes.specs.State.{empty_state, row_of};
 ghost use Rattle.dc_changes.specs.Size.{size_of, empty_size};
 ghost use Rattle.dc_changes.specs.Valid.{IsState};
 ghost use Rattle.std.specs.VecDeque.Iter.{deque_iter_rest};
-ghost use Rattle.dc_meters.specs.Orders.{readings_from, reading_of, serials_of};
+ghost use Rattle.dc_meters.specs.Orders.{readings_from, reading_of, serials_of, due_serials};
 
 mod apply;
 mod check;
@@ -16,6 +16,7 @@ mod replay;
 use crate::{Meter, Reading, ReadingList, Serials};
 use dc_address::Identity;
 use dc_changes::CommandLine;
+use dc_units::Date;
 use std::alloc::Allocator;
 use std::collections::btree_map::Iter;
 use std::collections::{BTreeMap, VecDeque, vec_deque};
@@ -159,5 +160,13 @@ impl<A: Allocator + Copy> House<A> {
         ensures { result ≡ serials_of meter.now self.now.state.readings }
     {
         self.readings.serials_of(*meter)
+    }
+
+    /// The serials of the readings that have a due-date value for a date, ascending.
+    pub fn due(&self, date: Date) -> Serials<'_, Date>
+        ensures serials { result ≡ due_serials date self.now.state.readings }
+        ensures is_state { IsState self.now.budget self.now.state }
+    {
+        self.readings.due(date)
     }
 }

@@ -16,6 +16,7 @@ mod due;
 mod filed;
 mod house;
 mod meter;
+mod orders;
 mod part;
 mod parts;
 mod points;

@@ -6,13 +6,17 @@ ghost use Rattle.dc_changes.specs.Accepts.{continues, occupies, same_primary};
 ghost use Rattle.dc_changes.specs.Size.{meter_size, parts_size, reading_size};
 ghost use Rattle.dc_changes.specs.Flat.{IsFlat};
 ghost use Rattle.dc_changes.specs.Valid.{IsMeter, IsPart, IsReading, most_parts};
+ghost use Rattle.dc_meters.specs.Due.{due_days};
+ghost use Rattle.dc_meters.specs.Points.{points_of};
 
+use crate::orders::Ended;
 use crate::part::parts_size;
-use crate::reading_list::{Ended, ReadingList};
+use crate::reading_list::ReadingList;
 use crate::{Part, Reading};
-use dc_address::{Identity, Primary};
+use dc_address::Primary;
 use dc_base::NoMemory;
 use dc_changes::Flat;
+use dc_units::Date;
 use std::alloc::Allocator;
 use std::marker::Model;
 use std::mem::replace;
@@ -188,14 +192,15 @@ impl<A: Allocator> Meter<A> {
     }
 
     /// Takes the parts for a reading, and keeps none.
-    pub(crate) fn close(&mut self, alloc: A, serial: u64, meter: Identity) -> Reading<A>
-        ensures reading { result ≡ record { serial = serial; meter = meter; flat = self.old.flat; parts = self.old.parts } }
+    pub(crate) fn close(&mut self, alloc: A, ended: Ended, days: Vec<Date, A>) -> Reading<A>
+        requires { days.items ≡ due_days (points_of self.old.parts) }
+        ensures reading { result ≡ record { serial = ended.serial; meter = ended.meter; flat = self.old.flat; parts = self.old.parts } }
         ensures after { self.new ≡ record self.old { parts = [] } }
         ensures is_reading { IsReading result }
         ensures is_meter { IsMeter self.new }
     {
         let parts = replace(&mut self.parts, Vec::new(alloc));
-        Reading::new(serial, meter, self.flat, parts)
+        Reading::new(ended.serial, ended.meter, self.flat, parts, days)
     }
 }
 

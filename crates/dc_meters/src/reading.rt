@@ -3,11 +3,14 @@
 ghost use Rattle.std.specs.Prelude.{◌≡◌, ◌≤◌};
 ghost use Rattle.dc_changes.specs.Size.{reading_size};
 ghost use Rattle.dc_changes.specs.Valid.{IsReading};
+ghost use Rattle.dc_meters.specs.Due.{due_days};
+ghost use Rattle.dc_meters.specs.Points.{points_of};
 
 use crate::Part;
 use crate::part::parts_size;
 use dc_address::Identity;
 use dc_changes::Flat;
+use dc_units::Date;
 use std::alloc::Allocator;
 use std::marker::Model;
 
@@ -18,17 +21,19 @@ pub struct Reading<A: Allocator> {
     meter: Identity,
     flat: Flat,
     parts: Vec<Part<A>, A>,
+    days: Vec<Date, A>,
 }
 
 impl<A: Allocator> Model for Reading<A> {
     ghost use Rattle.dc_changes.specs.State.{ReadingRow};
     ghost use Rattle.dc_changes.specs.Valid.{IsReading};
+    ghost use Rattle.dc_meters.specs.Orders.{IsDated};
 
     ghost Value = { ReadingRow };
 
     ghost view = { λ r. record { serial = r.serial; meter = r.meter; flat = r.flat; parts = r.parts.items } };
 
-    ghost invariant = { λ r. IsReading (record { serial = r.serial; meter = r.meter; flat = r.flat; parts = r.parts.items }) };
+    ghost invariant = { λ r. IsDated r.days.items (record { serial = r.serial; meter = r.meter; flat = r.flat; parts = r.parts.items }) };
 }
 
 impl<A: Allocator> Reading<A> {
@@ -37,8 +42,10 @@ impl<A: Allocator> Reading<A> {
         meter: Identity,
         flat: Flat,
         parts: Vec<Part<A>, A>,
+        days: Vec<Date, A>,
     ) -> Reading<A>
-        requires { IsReading (record { serial = serial; meter = meter; flat = flat; parts = parts.items }) }
+        requires reading { IsReading (record { serial = serial; meter = meter; flat = flat; parts = parts.items }) }
+        requires dated { days.items ≡ due_days (points_of parts.items) }
         ensures { result ≡ record { serial = serial; meter = meter; flat = flat; parts = parts.items } }
     {
         Reading {
@@ -46,6 +53,7 @@ impl<A: Allocator> Reading<A> {
             meter,
             flat,
             parts,
+            days,
         }
     }
 
@@ -77,6 +85,13 @@ impl<A: Allocator> Reading<A> {
         ensures is_reading { IsReading self.now }
     {
         &self.parts
+    }
+
+    /// The days for which it has a due-date value: that of each point of one, so a day may come more than once.
+    pub(crate) fn due_days(&self) -> &[Date]
+        ensures { result.now ≡ due_days (points_of self.now.parts) }
+    {
+        &self.days
     }
 
     pub(crate) fn size(&self) -> u32

@@ -1,4 +1,4 @@
-//! The readings that aren't confirmed, and their order by meter.
+//! The readings that aren't confirmed, and their orders.
 
 ghost use Rattle.std.specs.Prelude.{◌≡◌, ◌+◌, ◌-◌, ◌<◌, ◌≤◌, ◌^◌, [], ◌∷◌, ◌++◌, All, OnOk, OnErr, IfOk, IfSome, IfNone, length, slice_get, map, filter, nat_lt, sum_by, option_copied};
 ghost use Rattle.std.specs.List.Sorted.{IsStrictlySortedBy};
@@ -6,28 +6,24 @@ ghost use Rattle.std.specs.Ordering.{nat_cmp};
 ghost use Rattle.std.specs.VecDeque.Iter.{deque_iter_rest};
 ghost use Rattle.dc_changes.specs.Size.{reading_size};
 ghost use Rattle.dc_changes.specs.Valid.{IsReading};
-ghost use Rattle.dc_meters.specs.Orders.{readings_from, reading_of, serials_of};
+ghost use Rattle.dc_meters.specs.Orders.{readings_from, reading_of, serials_of, due_serials};
 
-use crate::{Filed, Meter, Reading, Serials};
+use crate::due::due_days_of;
+use crate::orders::{Ended, Orders};
+use crate::{Meter, Reading, Serials};
 use dc_address::Identity;
 use dc_base::NoMemory;
+use dc_units::Date;
 use std::alloc::Allocator;
+use std::collections::VecDeque;
 use std::collections::vec_deque::Iter;
-use std::collections::{BTreeSet, VecDeque};
 use std::marker::Model;
 
-/// Which reading a readout becomes.
-#[derive(Clone, Copy)]
-pub(crate) struct Ended {
-    pub(crate) meter: Identity,
-    pub(crate) serial: u64,
-}
-
-/// The readings that aren't confirmed, by serial, and their serials by meter.
+/// The readings that aren't confirmed, by serial, and their serials by meter and by due date.
 #[derive(Drop)]
 pub(crate) struct ReadingList<A: Allocator + Copy> {
     items: VecDeque<Reading<A>, A>,
-    by_meter: BTreeSet<Filed<Identity>, A>,
+    orders: Orders<A>,
 }
 
 impl<A: Allocator + Copy> Model for ReadingList<A> {
@@ -37,7 +33,7 @@ impl<A: Allocator + Copy> Model for ReadingList<A> {
 
     ghost view = { λ r. record { items = r.items.items } };
 
-    ghost invariant = { λ r. AreOrdered r.by_meter.keys r.items.items };
+    ghost invariant = { λ r. AreOrdered r.orders.by_meter.keys r.orders.by_day.keys r.items.items };
 }
 
 impl<A: Allocator + Copy> ReadingList<A> {
@@ -47,7 +43,7 @@ impl<A: Allocator + Copy> ReadingList<A> {
     {
         ReadingList {
             items: VecDeque::new(alloc),
-            by_meter: BTreeSet::new(alloc),
+            orders: Orders::new(alloc),
         }
     }
 
@@ -58,10 +54,11 @@ impl<A: Allocator + Copy> ReadingList<A> {
         ensures err { OnErr result (self.new ≡ self.old) }
     {
         self.items.reserve(1)?;
-        self.by_meter.insert(Filed {
-            key: reading.meter(),
+        let ended = Ended {
+            meter: reading.meter(),
             serial: reading.serial(),
-        })?;
+        };
+        self.orders.file(ended, reading.due_days())?;
         self.items.push_back_reserved(reading);
         Ok(())
     }
@@ -83,10 +80,10 @@ impl<A: Allocator + Copy> ReadingList<A> {
         ensures err { OnErr result (self.new ≡ self.old) }
         ensures open { OnErr result (row.new ≡ row.old) }
     {
+        let due_days = due_days_of(alloc, row.parts())?;
         self.items.reserve(1)?;
-        let Ended { meter, serial } = ended;
-        self.by_meter.insert(Filed { key: meter, serial })?;
-        let reading = row.close(alloc, serial, meter);
+        self.orders.file(ended, &due_days)?;
+        let reading = row.close(alloc, ended, due_days);
         let size = reading.size();
         self.items.push_back_reserved(reading);
         Ok(size)
@@ -116,10 +113,11 @@ impl<A: Allocator + Copy> ReadingList<A> {
             return None;
         }
         let reading = self.items.pop_front()?;
-        self.by_meter.remove(&Filed {
-            key: reading.meter(),
+        let ended = Ended {
+            meter: reading.meter(),
             serial: reading.serial(),
-        });
+        };
+        self.orders.unfile(ended, reading.due_days());
         Some(reading)
     }
 
@@ -164,6 +162,13 @@ impl<A: Allocator + Copy> ReadingList<A> {
     pub(crate) fn serials_of(&self, meter: Identity) -> Serials<'_, Identity>
         ensures { result ≡ serials_of meter self.now.items }
     {
-        Serials::under(&self.by_meter, meter)
+        Serials::under(&self.orders.by_meter, meter)
+    }
+
+    /// The serials of the readings that have a due-date value for a date, ascending.
+    pub(crate) fn due(&self, date: Date) -> Serials<'_, Date>
+        ensures { result ≡ due_serials date self.now.items }
+    {
+        Serials::under(&self.orders.by_day, date)
     }
 }

@@ -9,7 +9,6 @@ ghost use Rattle.dc_report.specs.DueTable.{due_readings};
 ghost use Rattle.dc_report.specs.Last.{last_of};
 
 use crate::Place;
-use crate::orders::{due, reading};
 use dc_address::Identity;
 use dc_base::NoMemory;
 use dc_meters::{House, Reading};
@@ -49,10 +48,9 @@ fn last_readings<'a, A: Allocator + Copy>(
     ensures last { IfOk result (λ last. (meter : Identity) → option_map (λ r. r.now) (get identity_cmp last meter) ≡ last_of date meter house.now.state.readings) }
     ensures is_state { IsState house.now.budget house.now.state }
 {
-    let serials = due(alloc, house, date)?;
     let mut last = BTreeMap::new(alloc);
-    for serial in &serials {
-        if let Some(found) = reading(house, *serial) {
+    for serial in house.due(date) {
+        if let Some(found) = house.reading(serial) {
             match last.insert(found.meter(), found) {
                 Ok(_) => {}
                 Err(_) => return Err(NoMemory),

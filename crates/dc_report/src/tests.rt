@@ -219,16 +219,16 @@ fn each_meter_has_its_last_reading_with_the_date(rt: HostRuntime) -> Result<(), 
     Ok(())
 }
 
-// Each request is refused in turn, and the same call then succeeds. The due-date table takes room for the serials, for
-// the days of the readout (twice), for the last readings, for these by flat, for the rows and for the text; the register
-// table for the places and for the text.
+// Each request is refused in turn, and the same call then succeeds. The due-date table takes room for the last
+// readings, for these by flat, for the days of the readout, for the rows and for the text; the register table for the
+// places and for the text.
 #[test]
 fn each_growth_is_refused_in_turn(rt: HostRuntime) -> Result<(), Fail> {
     let date = Date::new(2024, 12, 31).ok_or("date")?;
     let heap = Refusing::new(rt.alloc());
     heap.refuse(0);
     let house = one_reading(&rt, &heap)?;
-    for k in 1..=7u64 {
+    for k in 1..=5u64 {
         heap.refuse(k);
         assert!(rt;
             matches!(due_table(&heap, &house, date), Err(NoMemory)),
@@ -236,7 +236,7 @@ fn each_growth_is_refused_in_turn(rt: HostRuntime) -> Result<(), Fail> {
         );
         assert_eq!(rt; due_table(&heap, &house, date)?.len(), 106);
     }
-    for k in 1..=6u64 {
+    for k in 1..=4u64 {
         heap.refuse(k);
         assert!(rt;
             matches!(due_rows(&heap, &house, date), Err(NoMemory)),
@@ -252,7 +252,7 @@ fn each_growth_is_refused_in_turn(rt: HostRuntime) -> Result<(), Fail> {
         );
         assert_eq!(rt; register_table(&heap, &house)?.len(), 70);
     }
-    heap.refuse(8);
+    heap.refuse(6);
     assert_eq!(rt; due_table(&heap, &house, date)?.len(), 106);
     heap.refuse(3);
     assert_eq!(rt; register_table(&heap, &house)?.len(), 70);

@@ -12,7 +12,7 @@ ghost use Rattle.dc_changes.specs.Valid.{IsChange, IsCommand, IsNumber, IsTelegr
 ghost use Rattle.dc_meters.specs.Steps.{CanBeApplied};
 
 use super::House;
-use crate::reading_list::Ended;
+use crate::orders::Ended;
 use crate::{Meter, Part};
 use dc_address::{Identity, Primary};
 use dc_base::NoMemory;

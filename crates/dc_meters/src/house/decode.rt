@@ -14,6 +14,7 @@ ghost use Rattle.dc_changes.specs.Spelled.{SpellsState};
 ghost use Rattle.dc_changes.specs.Reading.{Gives, Reads, many, listed, count_at, entry_at, reading_at, head_at};
 
 use super::House;
+use crate::due::due_days_of;
 use crate::parts::parts_at;
 use crate::{Meter, Reading, ReadingList};
 use dc_address::Identity;
@@ -90,7 +91,8 @@ fn reading_at<A: Allocator + Copy>(
     let (name, rest) = counted_at(rest)?;
     let flat = flat_of(name)?;
     let (parts, rest) = parts_at(alloc, rest)?;
-    Ok((Reading::new(serial, meter, flat, parts), rest))
+    let due_days = due_days_of(alloc, &parts)?;
+    Ok((Reading::new(serial, meter, flat, parts, due_days), rest))
 }
 
 /// Whether a meter comes behind all of these.

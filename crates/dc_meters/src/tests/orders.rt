@@ -5,9 +5,10 @@ ghost use Rattle.dc_changes.specs.Flat.{IsFlat};
 ghost use Rattle.dc_changes.specs.Valid.{IsCommand};
 
 use super::{apply, heard};
-use crate::House;
+use crate::{House, Reading};
 use dc_address::{Identity, Primary};
 use dc_changes::{Change, Command, END_OF_NUMBERS, Flat};
+use dc_units::Date;
 use refusing_alloc::Refusing;
 use std::alloc::Allocator;
 use std::process::Abort;
@@ -66,8 +67,8 @@ fn try_change<A: Allocator + Copy>(
 ) -> Result<bool, Fail> {
     if kind >= 5 {
         let mut body = *READOUT;
-        let [first, ..] = &mut body;
-        *first = one % METERS;
+        body[0] = one % METERS;
+        body[14] = 30 + two % 2;
         let change = heard(&body)?;
         return Ok(house.check(&change).is_err() || apply(rt, house, &change).is_ok());
     }
@@ -112,6 +113,28 @@ fn meters_agree<A: Allocator + Copy>(rt: &impl Abort, house: &House<A>) -> Resul
     Ok(())
 }
 
+// Whether a reading has a value for a date: a volume of storage 1, dated so.
+fn is_due<A: Allocator>(reading: &Reading<A>, day: u8) -> bool {
+    match reading.parts().first() {
+        Some(part) => part.body().get(14) == Some(&day),
+        None => false,
+    }
+}
+
+// So does the order by due date.
+fn days_agree<A: Allocator + Copy>(rt: &impl Abort, house: &House<A>) -> Result<(), Fail> {
+    for day in 30..32u8 {
+        let mut serials = house.due(Date::new(2024, 12, day).ok_or("date")?);
+        for reading in house.readings() {
+            if is_due(reading, day) {
+                assert_eq!(rt; serials.next(), Some(reading.serial()));
+            }
+        }
+        assert_eq!(rt; serials.next(), None);
+    }
+    Ok(())
+}
+
 // Random changes: each request of each is refused in turn, and then the change succeeds. All calls agree after each.
 #[test]
 fn each_call_is_the_filter(rt: HostRuntime) -> Result<(), Fail> {
@@ -126,6 +149,7 @@ fn each_call_is_the_filter(rt: HostRuntime) -> Result<(), Fail> {
             let done = try_change(&rt, &mut house, kind % 9, one % 32, two)?;
             serials_agree(&rt, &house);
             meters_agree(&rt, &house)?;
+            days_agree(&rt, &house)?;
             if done {
                 break;
             }

@@ -13,6 +13,8 @@ pub invariant_of-self-2 : goal.invariant_of-self-2
 invariant_of-self-2 g c =
     let inside = c.self.inside in
     let r : ReadingRow = c.in_ok-reading.reading in
-    let went_out = rw (c.meter.ensures, c.serial-2.ensures.serial) at c.remove.ensures.updates.0 in
+    let meters = rw (c.meter.ensures, c.serial-2.ensures.serial) at c.unfile.ensures.meters in
+    let days = rw c.serial-2.ensures.serial at c.unfile.ensures.days in
     let items : inside.items.items ≡ r ∷ c.pop_front.new.self.items = c.in_ok-reading.ensures.items in
-    ordered_less inside.by_meter.keys c.remove.new.self.keys r c.pop_front.new.self.items (subst (AreOrdered inside.by_meter.keys) items c.self.invariant) went_out
+    ordered_less inside.orders.by_meter.keys c.unfile.new.self.by_meter.keys inside.orders.by_day.keys c.unfile.new.self.by_day.keys r c.pop_front.new.self.items c.due_days.result.now
+    (subst (AreOrdered inside.orders.by_meter.keys inside.orders.by_day.keys) items c.self.invariant) c.due_days.ensures meters days

@@ -10,5 +10,5 @@ returns g c =
     let inside = c.self.inside in
     let kept = c.self.invariant in
     c.under.ensures.serials
-    ∙ serials_are identity_cmp identities_total is_of c.args.meter inside.by_meter.keys inside.items.items kept.of_meters kept.fit c.under.ensures.ordered kept.ascend
+    ∙ serials_are identity_cmp identities_total is_of c.args.meter inside.orders.by_meter.keys inside.items.items kept.of_meters kept.fit c.under.ensures.ordered kept.ascend
     ∙ ap (λ (r : ReadingRows). serials_of c.args.meter r.items) c.self.view_is
