@@ -1,5 +1,8 @@
 // The office's lines, through the calls and through runs.
 
+ghost use Rattle.std.specs.Prelude.{ℕ};
+ghost use Rattle.dc_sectors.specs.Memory.{IsPickFor};
+
 use super::{
     ACK, FIRST, LAST, Life, METER, MOMENT, REQUEST_0, SILENCE, Step, blank, event_of, image, plays,
 };
@@ -7,7 +10,7 @@ use crate::{Event, HearFault, LineHeard, WriteFault};
 use dc_address::{Identity, Primary};
 use dc_changes::Command;
 use dc_recovery::Store;
-use dc_sectors::MemoryDisk;
+use dc_sectors::{MemoryDisk, Pick};
 use dc_stream::{Bytes, FixedSink, Sink};
 use dc_text::put_number_word;
 use refusing_alloc::Refusing;
@@ -292,6 +295,61 @@ fn a_store_that_failed_takes_no_line(rt: HostRuntime) -> Result<(), Fail> {
     life.runs(&Step::Office(FIT, b"ERR STORE\n"))?;
     assert_eq!(rt; life.text.as_slice(), b"ERR STORE\nERR STORE\n".as_slice());
     Ok(())
+}
+
+/// The disk stops before the sync of the group of `FIT`, and its two sectors read as picked: the command is done then, or
+/// not at all, and it is done when it comes again.
+fn comes_again(
+    rt: &impl Abort,
+    heap: Global,
+    first: Pick,
+    second: Pick,
+    found: &[u8],
+) -> Result<(), Fail>
+    requires first { (n : ℕ) → IsPickFor (n, 1) first }
+    requires second { (n : ℕ) → IsPickFor (n, 1) second }
+{
+    let mut life = failing_from(heap, 2)?;
+    life.calls(rt, &Step::Office(FIT, b"ERR STORE\n"))?;
+    let mut disk = life.concentrator.close();
+    let pending = disk.pending()?;
+    let pending = pending.as_slice();
+    if pending.len() != 2 {
+        return Err(Fail::from("pending"));
+    }
+    let (one, other) = (pending[0].1, pending[1].1);
+    if one != 1 {
+        return Err(Fail::from("pending"));
+    }
+    if other != 1 {
+        return Err(Fail::from("pending"));
+    }
+    disk.stop(&[first, second]);
+    let mut life = Life::open(heap, heap, disk)?;
+    life.calls(rt, &Step::Office(b"REGISTER", found))?;
+    life.calls(rt, &Step::Office(FIT, b"OK 1\n"))?;
+    assert_eq!(rt; life.found(heap)?, (0, 0, 167));
+    Ok(())
+}
+
+#[test]
+fn a_stop_within_a_commit_leaves_the_command_done_or_not(rt: HostRuntime) -> Result<(), Fail> {
+    let heap = rt.alloc();
+    let none = b"END 0\n";
+    let (old, new, lost) = (Pick::Old, Pick::Written(0), Pick::Unreadable);
+    comes_again(&rt, heap, old, old, none)?;
+    comes_again(&rt, heap, old, new, none)?;
+    comes_again(&rt, heap, new, old, none)?;
+    comes_again(&rt, heap, new, lost, none)?;
+    comes_again(&rt, heap, lost, new, none)?;
+    comes_again(&rt, heap, lost, lost, none)?;
+    comes_again(
+        &rt,
+        heap,
+        new,
+        new,
+        b"METER 12345678.PAD.01.07 1 1 A1 0\nEND 1\n",
+    )
 }
 
 /// `number CONFIRM 0`, and its reply.
