@@ -80,6 +80,9 @@ spelled text d is = subst (λ (t : List ℕ). IsDayText t d) (sym is) (of_itself
 month_ends : (y : ℤ) (m : ℕ) → days_in_month y m ≤ 31
 month_ends y m = grind arith
 
+pub day_length : (d : Day) → length (day_text d) ≡ 10
+day_length d = (of_itself d).long
+
 -- the numbers of a day that exists have two digits, but for its year
 pub numbers_are_small : (d : Day) → IsTrue (exists d.year d.month d.day) → (d.year ≤ 9999) × (d.month < 100) × (d.day < 100)
 numbers_are_small d there =

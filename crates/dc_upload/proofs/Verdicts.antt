@@ -17,7 +17,7 @@ use Rattle.dc_upload.specs.Verdict.{code_against, granted, is_repeat, repeats, u
 use Rattle.dc_upload.specs.declared.code.Code.{Code}
 use Rattle.dc_upload.specs.declared.code.Code.TheVariants.{Known, Unknown, Address, Beyond, Full}
 use Rattle.dc_upload.specs.declared.line.OfficeLine.{OfficeLine}
-use Rattle.dc_upload.specs.declared.line.OfficeLine.TheVariants.{Command, Window, Register}
+use Rattle.dc_upload.specs.declared.line.OfficeLine.TheVariants.{Command, Window, Register, Report}
 use Rattle.dc_upload.specs.declared.verdict.Verdict.TheVariants.{Repeat, Do}
 
 -- ---- codes
@@ -58,6 +58,7 @@ repeats_done (Command ordered) change s is =
     subst (λ (c : Change). is_repeat ordered (applied c s) ≡ true) (same_change (Ordered ordered.number ordered.command) change is) (done ordered s)
 repeats_done (Window from count) change s is = absurd cc
 repeats_done Register change s is = absurd cc
+repeats_done (Report date) change s is = absurd cc
 
 pub repeated : (house : Held) (line : OfficeLine) (change : Change) → verdict_of house line ≡ Do change
     → verdict_of (record house { state = applied change house.state }) line ≡ Repeat
