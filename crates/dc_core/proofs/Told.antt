@@ -1,5 +1,5 @@
 -- What the office was told is kept (the law of specs/Told).
-use Rattle.std.proofs.Common.{◌≡◌, ◌≤◌, ◌+◌, ◌-◌, ℕ, List, [], ◌∷◌, ◌++◌, length, take, refl, ap, sym, subst, ◌∙◌, arith, append_assoc, length-append}
+use Rattle.std.proofs.Common.{◌≡◌, ◌≤◌, ◌+◌, ◌-◌, ℕ, List, [], ◌∷◌, ◌++◌, length, take, refl, ap, sym, subst, ◌∙◌, arith, append_assoc}
 use Rattle.std.proofs.lemmas.List.{append-nil, take_all}
 use Rattle.std.proofs.Math.Seq.{take-append-add}
 use Rattle.dc_changes.specs.State.{State}
@@ -7,10 +7,10 @@ use Rattle.dc_changes.specs.declared.change.Change.{Change}
 use Rattle.dc_changes.specs.History.{after}
 use Rattle.dc_changes.proofs.History.{after_of_append}
 use Rattle.dc_core.specs.Core.{Core, opened}
-use Rattle.dc_core.specs.Event.{Event, Answer, Reply, offices, replied, unread, unstored, repeated, refused, shown, out_of_memory, obeyed, uncommitted}
-use Rattle.dc_core.specs.Step.{May, next, MayReply, after_reply}
+use Rattle.dc_core.specs.Event.{Reply, offices, replied, unread, unstored, repeated, refused, shown, out_of_memory, obeyed, uncommitted}
+use Rattle.dc_core.specs.Step.{next, MayReply, after_reply}
 use Rattle.dc_core.specs.Transcript.{Turn, leads, IsChain, accepted_by, accepted_in}
-use Rattle.dc_core.specs.Promised.{Seen, nothing_seen, and_seen, seen_from, promised_in, HoldsFront}
+use Rattle.dc_core.specs.Promised.{Seen, nothing_seen, and_seen, seen_from, promised_in}
 use Rattle.dc_core.specs.Lives.{IsFront}
 use Rattle.dc_core.specs.Told.{Tells, ComesFrom, ToldIsKept}
 use Rattle.dc_core.proofs.Fronts.{promised_is_committed, accepted_counted}
@@ -61,12 +61,12 @@ all_committed budget state turns chain all =
     holds.committed ∙ ap (after state) (take_all holds.count (accepted_in (opened state) turns) count)
 
 -- a state that is found later comes from it
-comes_from : (budget : ℕ) (state : State) (before : List Turn) (text : List ℕ) (reply : Reply) (later : List Turn) (found : State)
+comes_from : (budget : ℕ) (state : State) (before : List Turn) (text : List ℕ) (reply : Reply) (later : List Turn) (more : List Change) (found : State)
     → ((seen : Seen) → (and_seen (offices text) (replied reply) seen).promised ≡ (and_seen (offices text) (replied reply) seen).accepted)
     → IsChain budget (opened state) (before ++ (offices text, replied reply) ∷ later)
-    → IsFront state (promised_in (before ++ (offices text, replied reply) ∷ later)) (accepted_in (opened state) (before ++ (offices text, replied reply) ∷ later)) found
+    → IsFront state (promised_in (before ++ (offices text, replied reply) ∷ later)) (accepted_in (opened state) (before ++ (offices text, replied reply) ∷ later) ++ more) found
     → ComesFrom text reply found
-comes_from budget state before text reply later found promises chain front =
+comes_from budget state before text reply later more found promises chain front =
     let t : Turn = (offices text, replied reply) in
     let now = before ++ t ∷ [] in
     let e : now ++ later ≡ before ++ t ∷ later = append_assoc before (t ∷ []) later in
@@ -75,7 +75,8 @@ comes_from budget state before text reply later found promises chain front =
     let here = (chain_parts budget (opened state) now later whole).0 in
     let core = leads (opened state) before in
     let done = accepted_in (opened state) now in
-    let more = accepted_in (leads (opened state) now) later in
+    let since = accepted_in (leads (opened state) now) later in
+    let behind = since ++ more in
     let seen = seen_push nothing_seen before t in
     let all : promised_in now ≡ length done =
     ap (λ (s : Seen). s.promised) seen ∙ promises (seen_from nothing_seen before) ∙ ap (λ (s : Seen). s.accepted) (sym seen) ∙ accepted_counted budget state now here in
@@ -85,22 +86,24 @@ comes_from budget state before text reply later found promises chain front =
     let least = front.all_promised in
     let rest = front.count - length done in
     let sum : front.count ≡ length done + rest = omega (arith, grown, least, all) in
-    let changes : accepted_in (opened state) (before ++ t ∷ later) ≡ done ++ more = ap (accepted_in (opened state)) (sym e) ∙ accepted_parts (opened state) now later in
-    let cut : take front.count (accepted_in (opened state) (before ++ t ∷ later)) ≡ done ++ take rest more =
-    ap (λ (n : ℕ). take n (accepted_in (opened state) (before ++ t ∷ later))) sum ∙ ap (take (length done + rest)) changes ∙ take-append-add done more rest in
+    let every = accepted_in (opened state) (before ++ t ∷ later) ++ more in
+    let changes : every ≡ done ++ behind =
+    ap (λ (x : List Change). x ++ more) (ap (accepted_in (opened state)) (sym e) ∙ accepted_parts (opened state) now later) ∙ append_assoc done since more in
+    let cut : take front.count every ≡ done ++ take rest behind =
+    ap (λ (n : ℕ). take n every) sum ∙ ap (take (length done + rest)) changes ∙ take-append-add done behind rest in
     record {
       told = after state done;
       tells = subst (Tells text reply) (ap (λ (c : Core). c.committed) (sym (leads_push (opened state) before t)) ∙ told) tells;
-      since = take rest more;
-      found_is = front.found_is ∙ ap (after state) cut ∙ after_of_append state done (take rest more);
+      since = take rest behind;
+      found_is = front.found_is ∙ ap (after state) cut ∙ after_of_append state done (take rest behind);
     }
 
 pub told_is_kept : ToldIsKept
-told_is_kept budget state before text unread later found chain front = record { told = found; tells = tt; since = []; found_is = refl }
-told_is_kept budget state before text (unstored fault) later found chain front = record { told = found; tells = tt; since = []; found_is = refl }
-told_is_kept budget state before text (refused code) later found chain front = record { told = found; tells = tt; since = []; found_is = refl }
-told_is_kept budget state before text out_of_memory later found chain front = record { told = found; tells = tt; since = []; found_is = refl }
-told_is_kept budget state before text (uncommitted change fault) later found chain front = record { told = found; tells = tt; since = []; found_is = refl }
-told_is_kept budget state before text (repeated number) later found chain front = comes_from budget state before text (repeated number) later found (λ seen. refl) chain front
-told_is_kept budget state before text (shown bytes) later found chain front = comes_from budget state before text (shown bytes) later found (λ seen. refl) chain front
-told_is_kept budget state before text (obeyed number change) later found chain front = comes_from budget state before text (obeyed number change) later found (λ seen. refl) chain front
+told_is_kept budget state before text unread later more found chain front = record { told = found; tells = tt; since = []; found_is = refl }
+told_is_kept budget state before text (unstored fault) later more found chain front = record { told = found; tells = tt; since = []; found_is = refl }
+told_is_kept budget state before text (refused code) later more found chain front = record { told = found; tells = tt; since = []; found_is = refl }
+told_is_kept budget state before text out_of_memory later more found chain front = record { told = found; tells = tt; since = []; found_is = refl }
+told_is_kept budget state before text (uncommitted change fault) later more found chain front = record { told = found; tells = tt; since = []; found_is = refl }
+told_is_kept budget state before text (repeated number) later more found chain front = comes_from budget state before text (repeated number) later more found (λ seen. refl) chain front
+told_is_kept budget state before text (shown bytes) later more found chain front = comes_from budget state before text (shown bytes) later more found (λ seen. refl) chain front
+told_is_kept budget state before text (obeyed number change) later more found chain front = comes_from budget state before text (obeyed number change) later more found (λ seen. refl) chain front

@@ -27,9 +27,10 @@ pub record ComesFrom (text : List ℕ) (reply : Reply) (found : State) : Type 0 
   pub found_is : found ≡ after told since
 
 -- WHAT THE OFFICE IS TOLD IS KEPT, in every chain of steps from a concentrator that was just opened: whatever state may be
--- found after it has every command acknowledged and every reading shown, and then what was accepted since.
+-- found after it, or after a stop within the next event, which may accept more, has every command acknowledged and every
+-- reading shown, and then what was accepted since.
 abbrev pub ToldIsKept : Type 0
-ToldIsKept = (budget : ℕ) (state : State) (before : List Turn) (text : List ℕ) (reply : Reply) (later : List Turn) (found : State)
+ToldIsKept = (budget : ℕ) (state : State) (before : List Turn) (text : List ℕ) (reply : Reply) (later : List Turn) (more : List Change) (found : State)
     → IsChain budget (opened state) (before ++ (offices text, replied reply) ∷ later)
-    → IsFront state (promised_in (before ++ (offices text, replied reply) ∷ later)) (accepted_in (opened state) (before ++ (offices text, replied reply) ∷ later)) found
+    → IsFront state (promised_in (before ++ (offices text, replied reply) ∷ later)) (accepted_in (opened state) (before ++ (offices text, replied reply) ∷ later) ++ more) found
     → ComesFrom text reply found

@@ -29,8 +29,8 @@ pub fn an_image_of_a_life_may_be_opened()
     ensures { LivesFollow }
 {}
 
-/// In every such chain, whatever state may be found after it comes from one of which the office was told: with the last
-/// command's number where a line was answered `OK`, and with the readings and meters that it was shown.
+/// Whatever state may be found after every such chain, or after a stop within the next event, comes from one of which the
+/// office was told: with the last command's number where a line was answered `OK`, and with what it was shown.
 pub fn what_the_office_is_told_is_kept()
     ensures { ToldIsKept }
 {}

@@ -1,13 +1,10 @@
 -- Lines of a script, run one after the other.
-use Rattle.std.proofs.Common.{◌≡◌, ◌≤◌, ◌+◌, ◌-◌, ℕ, List, [], ◌∷◌, ◌++◌, Option, length, take, drop, refl, ap, sym, subst, ◌∙◌, arith, append_assoc, length-append}
+use Rattle.std.proofs.Common.{◌≡◌, ◌≤◌, ◌+◌, ℕ, List, [], ◌∷◌, ◌++◌, length, take, drop, refl, ap, sym, subst, ◌∙◌, arith, append_assoc, length-append}
 use Rattle.std.specs.Prelude.{map}
-use Rattle.std.proofs.lemmas.Grind.{flat_map-append}
 use Rattle.std.proofs.lemmas.List.{map-append, append-nil, take-append-le, drop-append-le, length-map, length-drop}
 use Rattle.std.proofs.Math.Seq.{take-length}
 use Rattle.dc_sectors.specs.Disk.{Image, Choices, IsImage, LeavesOnly}
 use Rattle.dc_sectors.proofs.Moments.{followed}
-use Rattle.dc_stream.specs.Stream.{Puts}
-use Rattle.dc_stream.proofs.Pieces.{puts-both}
 use Rattle.dc_changes.specs.State.{State}
 use Rattle.dc_changes.specs.Valid.{last_moment}
 use Rattle.dc_changes.specs.declared.change.Change.{Change}
@@ -19,7 +16,7 @@ use Rattle.dc_core.specs.Transcript.{Turn, leads, IsChain, accepted_by, accepted
 use Rattle.dc_core.specs.Promised.{promised_in, HoldsFront}
 use Rattle.dc_core.specs.Known.{KnowsItsMeters}
 use Rattle.dc_core.specs.Images.{Machine, IsAt, StandsForPromised}
-use Rattle.dc_core.specs.Text.{answer_text, run_text}
+use Rattle.dc_core.specs.Text.{run_text}
 use Rattle.dc_core.specs.Run.{Ran}
 use Rattle.dc_core.proofs.Going.{ran_none}
 use Rattle.dc_poller.specs.Script.{AskFor, LinesRan, events_at, events_from, moment_behind, own_text, count_of, lines_text}

@@ -1,5 +1,5 @@
 -- A line of a script asks for one thing.
-use Rattle.std.proofs.Common.{◌≡◌, ℕ, ◌+◌, ◌*◌, ◌<◌, ◌≤◌, ◌^◌, List, [], ◌∷◌, ◌++◌, Option, None, Some, codes, length, get_or, drop, refl, sym, ap, subst, ◌∙◌, arith}
+use Rattle.std.proofs.Common.{◌≡◌, ℕ, ◌+◌, ◌*◌, ◌<◌, ◌≤◌, ◌^◌, List, [], ◌∷◌, ◌++◌, Some, codes, length, get_or, drop, refl, sym, ap, subst, ◌∙◌, arith}
 use Rattle.std.specs.List.{list_all}
 use Rattle.std.specs.Fmt.{decimal}
 use Rattle.std.proofs.lemmas.Bool.{and_parts}
@@ -13,7 +13,7 @@ use Rattle.dc_changes.specs.Words.{IsWord, is_inside}
 use Rattle.dc_changes.proofs.Decimals.{decimal_is_word}
 use Rattle.dc_changes.proofs.LineSpellings.{one_word}
 use Rattle.dc_text.specs.Hex.{bytes_of}
-use Rattle.dc_poller.specs.ScriptLine.{LineSeen, nothing, at, start, ask, hear, commit, office, poll, search, IsLineOf, HasBounds, Spells, SpellsAnswer, greatest_line}
+use Rattle.dc_poller.specs.ScriptLine.{LineSeen, nothing, at, start, ask, hear, commit, office, poll, search, IsLineOf, Spells, greatest_line}
 
 pub line_is_word : (line : ℕ) → line ≤ greatest_line → IsWord (decimal line)
 line_is_word line fits = decimal_is_word line (omega arith)

@@ -1,5 +1,5 @@
 -- What a script does (this product): its lines, up to the first that spells nothing, are events of a concentrator.
-use Rattle.std.specs.Prelude.{◌≡◌, ℕ, ◌+◌, Bool, true, false, List, [], ◌∷◌, ◌++◌, codes, length, map, take, drop}
+use Rattle.std.specs.Prelude.{◌≡◌, ℕ, ◌+◌, Bool, true, false, List, [], ◌∷◌, ◌++◌, codes, length, take, drop}
 use Rattle.dc_changes.specs.State.{State}
 use Rattle.dc_core.specs.Event.{Event, starts, asks, hears, commits, offices}
 use Rattle.dc_core.specs.Images.{Machine}

@@ -1,11 +1,11 @@
 //! The engine of `run`: a script over an image, from a source's lines to a sink's text.
 
-ghost use Rattle.std.specs.Prelude.{◌≡◌, ◌≢◌, ◌≤◌, ◌<◌, ◌*◌, None, length, vec_len, IfSome, IfOk, IfErr, OnOk, IsErrOf};
+ghost use Rattle.std.specs.Prelude.{◌≡◌, ◌≢◌, ◌≤◌, ◌<◌, ◌*◌, None, length, vec_len, IfSome, IfOk, IfErr, MatchResult, OnOk, IsErrOf};
 ghost use Rattle.dc_base.specs.Failures.{HasRisen};
 ghost use Rattle.dc_recovery.specs.Halves.{half_len_of};
 ghost use Rattle.dc_recovery.specs.Refusal.{IsRefused, TellsOfImage};
 ghost use Rattle.dc_recovery.specs.Stands.{EachStands, StandsForOne};
-ghost use Rattle.dc_recovery.specs.declared.fault.OpenFault.TheVariants.{Device};
+ghost use Rattle.dc_recovery.specs.declared.fault.OpenFault.TheVariants.{NotImage, Worn, Device};
 ghost use Rattle.dc_sectors.specs.Disk.{LeavesOnly};
 ghost use Rattle.dc_stream.specs.Stream.{Puts};
 ghost use Rattle.dc_poller.specs.Fault.{IfOpen, IsOfReading};
@@ -56,8 +56,10 @@ pub fn run_script<
     ensures cut { (D.honest → EachStands (half_len_of (D.sectors disk)) (D.choices disk))
         → IsErrOf result.1 ProgramFault.Write → ImageCut D.honest D.sectors D.reads D.choices D.moment D.images_since (R.left reader.old) disk result.0 }
 
-    // An image that isn't opened is refused as the store refuses it.
+    // An image that isn't opened is refused as the store refuses it; one that stands is refused only as worn.
+    ensures small { D.sectors disk < 131 → MatchResult result.1 (λ faulty. ⊥) (λ fault. IfOpen fault (λ e. (e ≡ NotImage) × (result.0 ≡ disk))) }
     ensures refused { D.honest → 131 ≤ D.sectors disk → IfErr result.1 (λ fault. IfOpen fault (λ e. IsRefused (half_len_of (D.sectors disk)) (D.reads disk) e)) }
+    ensures premise { D.honest → 131 ≤ D.sectors disk → EachStands (half_len_of (D.sectors disk)) (D.choices disk) → IfErr result.1 (λ fault. IfOpen fault (λ e. TellsOfImage e → e ≡ Worn)) }
     ensures unwritten { D.honest → IfErr result.1 (λ fault. IfOpen fault (λ e. TellsOfImage e → D.reads result.0 ≡ D.reads disk)) }
     ensures device { IfErr result.1 (λ fault. IfOpen fault (λ e. e ≡ Device → HasRisen (D.failures disk) (D.failures result.0))) }
     ensures any_moment { D.honest → EachStands (half_len_of (D.sectors disk)) (D.choices disk)

@@ -7,7 +7,7 @@ ghost use Rattle.dc_address.specs.declared.identity.Identity.{Identity};
 ghost use Rattle.dc_changes.specs.Line.{IsOfBytes};
 ghost use Rattle.dc_changes.specs.Valid.{end_of_numbers};
 ghost use Rattle.dc_text.specs.Hex.{bytes_of};
-ghost use Rattle.dc_poller.specs.ScriptLine.{LineSeen, IsLineOf, SpellsAnswer, SpellsHear, at, start, ask, hear, poll, search, seen, Spells, greatest_line, greatest_budget, longest_line};
+ghost use Rattle.dc_poller.specs.ScriptLine.{LineSeen, IsLineOf, at, start, ask, hear, poll, search, seen, greatest_line, longest_line};
 
 use crate::lines::LONGEST;
 use dc_address::Identity;

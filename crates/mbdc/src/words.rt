@@ -74,7 +74,7 @@ fn run_command<'a>(alloc: Global) -> Result<Command<'a>, AllocError> {
         .required(true)
         .help("The image's file");
     let script = Arg::new(alloc, "SCRIPT").required(true).help(
-        "Lines of events: AT, START, ASK, HEAR, COMMIT, POLL, SEARCH",
+        "Lines: AT, START, ASK, HEAR, COMMIT, OFFICE, POLL, SEARCH",
     );
     Command::new(alloc, "run")
         .about("Opens the image, does what the script's lines ask for, and prints the answers")

@@ -56,6 +56,7 @@ impl<D: Disk + Drop, A: Allocator + Copy> Concentrator<D, A> {
         }
     }
 
+    // Reads a line and answers it.
     fn reply<W: Sink>(&mut self, text: &[u8], out: &mut W) -> Result<(), IoFault>
         ensures turned { (core : Core) → IsAt D.honest D.sectors D.reads D.choices self.old core
             → Turned D.honest D.sectors D.failures D.reads D.choices D.moment D.images_since self.old.house.budget core (offices text.now) (Wrote W.written W.put_failures result out.old out.new) self.old self.new }
@@ -143,6 +144,7 @@ impl<D: Disk + Drop, A: Allocator + Copy> Concentrator<D, A> {
             Ok(()) => {}
             Err(_) => return write_refusal(Code::Store, out),
         }
+        // the line is a repeat now
         write_answer(self.alloc, &self.house, line, out)
     }
 

@@ -168,20 +168,36 @@ fn a_removed_meter_isnt_read_any_more(rt: HostRuntime) -> Result<(), Fail> {
     )
 }
 
-/// A meter that moves is read on.
+/// A meter that moves is read on, and its reading is of the flat in which it ends.
 #[test]
 fn another_command_ends_no_session(rt: HostRuntime) -> Result<(), Fail> {
     let heap = rt.alloc();
     let disk = image(&rt, heap, 1, Primary::new(1))?;
-    let steps = [
-        Step::Start(1, Ok(())),
-        Step::Hear(1, ACK, Ok(LineHeard::Ready)),
-        Step::Hear(1, &FIRST, MORE),
-        Step::Office(b"2 MOVE 12345678.PAD.01.07 B2", b"OK 2\n"),
-        Step::Ask(1, Some(REQUEST_0)),
-    ];
-    let text = b"STARTED\nREADY\nPART 1 MORE\nOK 2\nSEND 105B015C16\n";
-    assert_eq!(rt; plays(&rt, heap, &disk, &steps, text)?, (1, 0, 195));
+    let reading: &[u8] =
+        b"READING 1 12345678.PAD.01.07 B2 2\nPART 1 1735689600 7856341224400107010000000C13785634121F\nPART 2 1735689600 785634122440010702000000426C1F3C4C1300503412\nEND 1\n";
+    let mut life = Life::open(heap, heap, disk)?;
+    for step in &READOUT[..3] {
+        life.calls(&rt, step)?;
+    }
+    life.calls(
+        &rt,
+        &Step::Office(b"2 MOVE 12345678.PAD.01.07 B2", b"OK 2\n"),
+    )?;
+    life.calls(&rt, &Step::Ask(1, Some(REQUEST_0)))?;
+    life.calls(&rt, &READOUT[4])?;
+    life.calls(&rt, &Step::Office(b"WINDOW 1 1", reading))?;
+    assert_eq!(rt; life.found(heap)?, (0, 1, 246));
+    Ok(())
+}
+
+/// What was acknowledged is on the disk: nothing waits for a sync.
+#[test]
+fn nothing_waits_for_a_sync_after_ok(rt: HostRuntime) -> Result<(), Fail> {
+    let heap = rt.alloc();
+    let mut life = Life::open(heap, heap, blank(heap)?)?;
+    life.calls(&rt, &Step::Office(FIT, b"OK 1\n"))?;
+    let disk = life.concentrator.close();
+    assert!(rt; disk.pending()?.is_empty());
     Ok(())
 }
 
@@ -207,11 +223,10 @@ fn a_swap_there_and_back(rt: HostRuntime) -> Result<(), Fail> {
     Ok(())
 }
 
-/// The writer has room for so many bytes of `OK 1`; the command stands, and its repeat is told so.
-fn repeats_after<const N: usize>(rt: &impl Abort, heap: Global) -> Result<(), Fail> {
+/// The writer has no room for all of `OK 1`; the command stands, and its repeat is told so.
+fn repeats_after<W: Sink>(rt: &impl Abort, heap: Global, out: &mut W) -> Result<(), Fail> {
     let mut life = Life::open(heap, heap, blank(heap)?)?;
-    let mut out = FixedSink::<N>::new();
-    assert_eq!(rt; life.concentrator.office(FIT, &mut out), Err(WriteFault));
+    assert_eq!(rt; life.concentrator.office(FIT, out), Err(WriteFault));
     life.calls(rt, &Step::Office(FIT, b"OK 1\n"))?;
     life.runs(&Step::Office(FIT, b"OK 1\n"))?;
     assert_eq!(rt; life.text.as_slice(), b"OK 1\n".as_slice());
@@ -222,9 +237,9 @@ fn repeats_after<const N: usize>(rt: &impl Abort, heap: Global) -> Result<(), Fa
 #[test]
 fn a_repeat_answers_after_a_failed_write(rt: HostRuntime) -> Result<(), Fail> {
     let heap = rt.alloc();
-    repeats_after::<0>(&rt, heap)?;
-    repeats_after::<2>(&rt, heap)?;
-    repeats_after::<4>(&rt, heap)
+    repeats_after(&rt, heap, &mut FixedSink::<0>::new())?;
+    repeats_after(&rt, heap, &mut FixedSink::<2>::new())?;
+    repeats_after(&rt, heap, &mut FixedSink::<4>::new())
 }
 
 #[test]

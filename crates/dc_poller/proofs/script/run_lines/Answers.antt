@@ -1,15 +1,14 @@
-use Rattle.std.proofs.Common.{◌≡◌, ◌≤◌, ◌+◌, ◌++◌, ◌∷◌, [], ℕ, List, Result, length, append-nil, eqb-true, refl, ap, sym, subst, ◌∙◌, arith, codes}
+use Rattle.std.proofs.Common.{◌≡◌, ◌≤◌, ◌+◌, ◌++◌, ◌∷◌, [], ℕ, List, append-nil, eqb-true, refl, sym, subst, ◌∙◌, arith, codes}
 use Rattle.std.specs.Prelude.{OnOk}
 use Rattle.dc_stream.specs.Stream.{Puts}
 use Rattle.dc_stream.proofs.Pieces.{puts-both, puts-none}
 use Rattle.dc_text.specs.Words.{number_word}
-use Rattle.dc_changes.specs.State.{State}
 use Rattle.dc_core.specs.Core.{opened}
 use Rattle.dc_core.specs.Run.{Ran}
-use Rattle.dc_core.specs.Transcript.{Turn, IsChain}
+use Rattle.dc_core.specs.Transcript.{IsChain}
 use Rattle.dc_core.proofs.Going.{ran_none}
 use Rattle.dc_poller.specs.Lines.{lines_of}
-use Rattle.dc_poller.specs.Script.{AskFor, events_at, moment_behind, own_text, lines_text, ending}
+use Rattle.dc_poller.specs.Script.{AskFor, events_at, own_text, lines_text}
 use Rattle.dc_poller.specs.ScriptLine.{seen}
 use Rattle.dc_poller.proofs.Inputs.{no_line}
 use Rattle.dc_poller.proofs.LineRuns.{SoFar, one_more, moment_fits}

@@ -1,4 +1,4 @@
-use Rattle.std.proofs.Common.{◌≡◌, ◌≤◌, ◌+◌, ◌*◌, length, ℕ, List}
+use Rattle.std.proofs.Common.{◌≡◌, ◌≤◌, ◌+◌, ◌*◌, length}
 use Rattle.dc_changes.specs.Valid.{last_moment}
 use Rattle.dc_stream.specs.Stream.{Puts}
 use Rattle.dc_poller.specs.Lines.{lines_of}
