@@ -1,4 +1,4 @@
-use Rattle.std.proofs.Common.{◌≡◌, ℕ, ap, subst, sym, ◌∙◌}
+use Rattle.std.proofs.Common.{◌≡◌, ℕ, ap, refl, subst, sym, ◌∙◌}
 use Rattle.dc_sectors.specs.Disk.{Image, settled}
 use Rattle.dc_recovery.specs.Roots.{IsOpenedRoot}
 use Rattle.dc_recovery.specs.Refusal.{IsSpent, IsWorn}
@@ -107,5 +107,5 @@ pub returns-then-is_spent-clause-refused : goal.returns-then-is_spent-clause-ref
 returns-then-is_spent-clause-refused g c h =
     let found = c.in_ok-found.found in
     let read : IsRead c.args.half_len found.root found.place found.last found.house.state (g.D.Disk.reads c.args.disk.now) = subst (λ (i : Image). IsRead c.args.half_len found.root found.place found.last found.house.state i) (c.sync.ensures.reads h) (c.in_ok-found.ensures.all h) in
-    let spent : IsSpent found.root found.last = c.if-is_spent.ensures.0 tt in
+    let spent : IsSpent found.root found.last = c.if-is_spent.ensures.0 refl in
     record { root = found.root; m = read.m; place = found.place; state = found.house.state; by = read.by; spent = subst (λ (n : ℕ). IsSpent found.root n) read.last_is spent }
