@@ -1,21 +1,20 @@
 -- In which state a concentrator is after each call.
-use Rattle.std.proofs.Common.{◌≡◌, ◌≢◌, ⊎_elim, true, ◌≤◌, ◌+◌, ℕ, false, Option, None, Some, Ok, List, [], ◌∷◌, ◌++◌, length, take, refl, ap, sym, subst, arith, ◌∙◌, length-append, append_assoc}
-use Rattle.std.specs.Prelude.{All}
-use Rattle.std.proofs.lemmas.List.{take-append-le, flat_map_more}
+use Rattle.std.proofs.Common.{◌≡◌, ◌≢◌, true, ◌+◌, ℕ, false, Option, Some, Ok, List, [], ◌∷◌, ◌++◌, length, refl, ap, sym, subst, arith, ◌∙◌, length-append}
+use Rattle.std.proofs.lemmas.List.{flat_map_more}
 use Rattle.std.proofs.lemmas.List.Elements.{All-append, All-push}
 use Rattle.dc_sectors.specs.Disk.{Image, Choices, IsImage}
-use Rattle.dc_changes.specs.State.{State, Held}
+use Rattle.dc_changes.specs.State.{Held}
 use Rattle.dc_changes.specs.declared.change.Change.{Change}
 use Rattle.dc_changes.specs.Apply.{applied}
 use Rattle.dc_changes.specs.Accepts.{Accepts}
-use Rattle.dc_changes.specs.History.{after, AcceptsAll}
+use Rattle.dc_changes.specs.History.{AcceptsAll}
 use Rattle.dc_changes.proofs.History.{after_of_push, accepts_all_of_append}
-use Rattle.dc_changes.specs.Encoding.{change_bytes, changes_bytes}
+use Rattle.dc_changes.specs.Encoding.{change_bytes}
 use Rattle.dc_changes.specs.Spelled.{SpellsChanges}
 use Rattle.dc_changes.specs.Valid.{IsChange}
 use Rattle.dc_readout.specs.Summary.{Summary, Verdict, verdict_by}
 use Rattle.dc_recovery.specs.Halves.{half_len_of}
-use Rattle.dc_recovery.specs.Stands.{Stands, StandsForFront}
+use Rattle.dc_recovery.specs.Stands.{StandsForFront}
 use Rattle.dc_recovery.proofs.Fronts.{longer_front}
 use Rattle.dc_recovery.specs.Store.{Keeps}
 use Rattle.dc_recovery.proofs.Life.{kept_stands}
@@ -23,7 +22,7 @@ use Rattle.dc_core.specs.declared.line_heard.LineHeard.{LineHeard}
 use Rattle.dc_waiting.specs.Waiting.{Waiting}
 use Rattle.dc_waiting.specs.Lines.{on_line, put_on, settled_lines, no_sessions}
 use Rattle.dc_core.specs.Core.{Core, present, with_session, opened}
-use Rattle.dc_core.specs.Step.{session_after, and_pending, judged, after_hear, settled_core}
+use Rattle.dc_core.specs.Step.{session_after, and_pending, judged, after_hear, settled_core, removed_by, lines_after, ordered}
 use Rattle.dc_waiting.specs.Taking.{IsTaken}
 use Rattle.dc_core.specs.Images.{Machine, IsAt}
 
@@ -37,6 +36,10 @@ spells_push bytes changes change spells is = record {
 pub settled_is : (core : Core) (pending : List Change) → length pending ≢ 0 → settled_core core pending ≡ record core { committed = present core; pending = []; lines = settled_lines core.lines }
 settled_is core [] some = absurd (some refl)
 settled_is core (change ∷ changes) some = refl
+
+pub nothing_waits : (pending : List Change) → length pending ≡ 0 → pending ≡ []
+nothing_waits [] none = refl
+nothing_waits (change ∷ changes) none = absurd (omega (arith, none))
 
 module _ {D : Type 0} (honest : Type 0) (sectors : D → ℕ) (reads : D → Image) (choices : D → Choices) where
   -- a line changes
@@ -95,6 +98,33 @@ module _ {D : Type 0} (honest : Type 0) (sectors : D → ℕ) (reads : D → Ima
         leaves = λ h image is_image. longer_front (half_len_of (sectors machine.store.disk)) core.committed core.pending (change ∷ []) image (at.leaves h image is_image);
       } in
       rw (there, is, same) (subst (λ (x : Machine D). IsAt honest sectors reads choices x to) (sym e) all)
+
+  -- a command, where nothing waited
+  pub at_ordered : (machine new : Machine D) (core : Core) (change : Change) → IsAt honest sectors reads choices machine core → machine.waiting.count ≡ 0 → IsChange change → Accepts machine.house.budget change machine.house.state
+      → new.store ≡ machine.store → new.house ≡ record machine.house { state = applied change machine.house.state }
+      → new.waiting ≡ record { bytes = machine.waiting.bytes ++ change_bytes change; count = machine.waiting.count + 1 } → new.lines ≡ lines_after (removed_by change) machine.lines
+      → IsAt honest sectors reads choices new (ordered change core)
+  at_ordered machine new core change at empty is_change accepted store house waiting lines =
+      let pending = core.pending ++ change ∷ [] in
+      let none = nothing_waits core.pending (sym at.count_is ∙ empty) in
+      let to : Core = record core { pending = pending; lines = lines_after (removed_by change) core.lines } in
+      let same : to ≡ ordered change core = λ i. record core { pending = ap (λ (p : List Change). p ++ change ∷ []) none i; lines = lines_after (removed_by change) core.lines } in
+      let b : Machine D = record { store = machine.store; house = record machine.house { state = applied change machine.house.state }; waiting = record { bytes = machine.waiting.bytes ++ change_bytes change; count = machine.waiting.count + 1 }; lines = lines_after (removed_by change) machine.lines } in
+      let e : new ≡ b = λ i. record { store = store i; house = house i; waiting = waiting i; lines = lines i } in
+      let count = length-append core.pending (change ∷ []) in
+      let was = at.count_is in
+      let all : IsAt honest sectors reads choices b to = record {
+        house_is = ap (applied change) at.house_is ∙ sym (after_of_push core.committed core.pending change);
+        spells = spells_push machine.waiting.bytes core.pending change at.spells is_change;
+        count_is = omega (arith, count, was);
+        accepted = accepts_all_of_append machine.house.budget core.committed core.pending (change ∷ []) at.accepted (subst (Accepts machine.house.budget change) at.house_is accepted, tt);
+        lines_are = ap (lines_after (removed_by change)) at.lines_are;
+        stopped_is = at.stopped_is;
+        keeps = at.keeps;
+        stands = at.stands;
+        leaves = λ h image is_image. longer_front (half_len_of (sectors machine.store.disk)) core.committed core.pending (change ∷ []) image (at.leaves h image is_image);
+      } in
+      subst (λ (c : Core). IsAt honest sectors reads choices new c) same (subst (λ (x : Machine D). IsAt honest sectors reads choices x to) (sym e) all)
 
   -- a commit that is done
   pub at_committed : (machine new : Machine D) (core : Core) → IsAt honest sectors reads choices machine core → machine.waiting.count ≢ 0 → machine.store.is_stopped ≡ false

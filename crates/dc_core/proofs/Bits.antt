@@ -1,14 +1,14 @@
 -- A settled telegram toggles the frame count bit (the law of specs/Toggled).
-use Rattle.std.proofs.Common.{◌≡◌, ℕ, ◌+◌, Bool, true, false, not, Option, Some, None, cond, arith, refl, sym, subst, ap, ◌∙◌}
+use Rattle.std.proofs.Common.{◌≡◌, ℕ, ◌+◌, Bool, true, false, not, Option, Some, arith, refl, subst, ap, ◌∙◌}
 use Rattle.std.proofs.lemmas.Bool.Decides.{nat_tests}
 use Rattle.dc_linkframe.specs.Frame.{FrameSeen}
 use Rattle.dc_linkframe.specs.Control.{request_to}
 use Rattle.dc_records.specs.Body.{continues}
 use Rattle.dc_records.specs.Telegram.{Parsed}
 use Rattle.dc_readout.specs.declared.stage.Stage.TheVariants.{Requests, Pending}
-use Rattle.dc_readout.specs.Summary.{Summary, new, asked_by, asked_at, verdict_by, heard_by, settled_by, request_bit, request_of, link_address}
-use Rattle.dc_waiting.specs.Lines.{settled_on, settled_at}
-use Rattle.dc_core.specs.Toggled.{HaveOtherBits, TogglesOnce, SettlingToggles}
+use Rattle.dc_readout.specs.Summary.{Summary, new, asked_by, asked_at, heard_by, settled_by, request_bit, request_of, link_address}
+use Rattle.dc_waiting.specs.Lines.{settled_at}
+use Rattle.dc_core.specs.Toggled.{HaveOtherBits, SettlingToggles}
 use Rattle.dc_readout.proofs.Taken.{taken}
 
 -- an even count's bit and the next one's

@@ -1,9 +1,9 @@
 -- In every chain of steps each session follows the register (the law of specs/Known).
-use Rattle.std.proofs.Common.{◌≡◌, ◌≢◌, ◌⊎◌, ⊎_elim, inl, inr, ◌<◌, ◌≤◌, ◌+◌, ◌-◌, ℕ, zero, suc, Bool, true, false, not, cond, eqb, Option, None, Some, Result, Ok, Err, List, [], ◌∷◌, ◌++◌, length, get_or, refl, ap, sym, subst, arith, ◌∙◌, length-append, get_or-set_other, get_or-set_same}
-use Rattle.std.specs.Prelude.{map, replicate, is_some, nat_le, if◌then◌else◌, ◌||◌}
+use Rattle.std.proofs.Common.{◌≡◌, ◌≢◌, ◌⊎◌, ⊎_elim, inl, inr, ◌<◌, ◌≤◌, ◌+◌, ◌-◌, ℕ, zero, suc, Bool, true, false, not, Option, None, Some, Result, Ok, Err, List, [], ◌∷◌, ◌++◌, length, get_or, refl, ap, sym, subst, arith, ◌∙◌, length-append, get_or-set_other, get_or-set_same}
+use Rattle.std.specs.Prelude.{replicate, is_some, nat_le, if◌then◌else◌}
 use Rattle.std.proofs.Math.ListN.{set}
 use Rattle.std.proofs.lemmas.List.{length-set, length-map}
-use Rattle.std.proofs.lemmas.Bool.{cases_eq, eq-eqb, eqb-true}
+use Rattle.std.proofs.lemmas.Bool.{cases_eq, eqb-true}
 use Rattle.std.proofs.lemmas.Bool.Decides.{nat_tests}
 use Rattle.dc_address.specs.declared.identity.Identity.{Identity}
 use Rattle.dc_records.specs.Body.{continues}
@@ -14,33 +14,35 @@ use Rattle.dc_readout.specs.Summary.{Summary, Verdict, again, ready, new, failed
 use Rattle.dc_changes.specs.State.{State, MeterRow, PartRow, row_of}
 use Rattle.dc_changes.specs.Body.{body_of}
 use Rattle.dc_changes.specs.Apply.{heard as told_at}
-use Rattle.dc_changes.specs.Size.{size_of}
 use Rattle.dc_changes.specs.History.{after}
 use Rattle.dc_changes.proofs.History.{after_of_push}
-use Rattle.dc_changes.specs.Accepts.{refusal, continues as is_continued, telegram_stands}
-use Rattle.dc_changes.specs.declared.fault.ChangeFault.{ChangeFault}
-use Rattle.dc_changes.specs.declared.fault.ChangeFault.TheVariants.{Unknown as RegisterUnknown, Full as RegisterFull}
+use Rattle.dc_changes.specs.Accepts.{Accepts, refusal, continues as is_continued, telegram_stands}
+use Rattle.dc_changes.specs.declared.fault.ChangeFault.TheVariants.{Full as RegisterFull}
 use Rattle.dc_changes.specs.declared.change.Change.{Change}
-use Rattle.dc_waiting.specs.declared.fault.TakeFault.{TakeFault}
-use Rattle.dc_waiting.specs.declared.fault.TakeFault.TheVariants.{PendingFull as TakePendingFull, Full as TakeFull, NoMemory as TakeNoMemory}
-use Rattle.dc_waiting.specs.Lines.{is_line, on_line, settled_at, settled_on, settled_lines, no_sessions}
+use Rattle.dc_changes.specs.Apply.{applied}
+use Rattle.dc_waiting.specs.declared.fault.TakeFault.TheVariants.{PendingFull as TakePendingFull, Full as TakeFull}
+use Rattle.dc_waiting.specs.Lines.{is_line, settled_at, settled_on, settled_lines, unless_of}
 use Rattle.dc_waiting.specs.Taking.{change_of, refuses}
 use Rattle.dc_waiting.specs.Waiting.{most_waiting}
 use Rattle.dc_core.specs.declared.fault.StartFault.{StartFault}
 use Rattle.dc_core.specs.declared.fault.StartFault.TheVariants.{NoLine as StartNoLine, Unknown, Busy, Stopped as StartStopped}
 use Rattle.dc_core.specs.declared.line_heard.LineHeard.{LineHeard}
-use Rattle.dc_core.specs.declared.line_heard.LineHeard.TheVariants.{Again, Ready, Accepted, Failed}
+use Rattle.dc_core.specs.declared.line_heard.LineHeard.TheVariants.{Accepted}
 use Rattle.dc_core.specs.declared.fault.HearFault.{HearFault}
-use Rattle.dc_core.specs.declared.fault.HearFault.TheVariants.{NoLine, Idle, Full, NoMemory, PendingFull, Stopped}
+use Rattle.dc_core.specs.declared.fault.HearFault.TheVariants.{NoLine, Idle, Full, PendingFull, Stopped}
+use Rattle.dc_core.specs.declared.fault.CommitFault.{CommitFault}
 use Rattle.dc_core.specs.declared.fault.CommitFault.TheVariants.{Device, Worn, Stopped as CommitStopped}
+use Rattle.dc_upload.proofs.Verdicts.{IsOrder, order_of}
 use Rattle.dc_core.specs.Core.{Core, present, session_of, with_session, opened}
-use Rattle.dc_core.specs.Event.{Event, Answer, starts, asks, hears, commits, started, asked, heard, committed}
-use Rattle.dc_core.specs.Step.{May, next, is_on, address_in, unless_refused, verdict_answer, answer_on, hear_answer, session_after, and_pending, judged, heard_on, settled_core}
+use Rattle.dc_core.specs.Event.{Event, Answer, starts, asks, hears, commits, offices, started, asked, heard, committed, replied}
+use Rattle.dc_core.specs.Event.{Reply, unread, unstored, repeated, refused, shown, out_of_memory, obeyed, uncommitted}
+use Rattle.dc_core.specs.Step.{May, next, is_on, address_in, unless_refused, verdict_answer, answer_on, hear_answer, judged, heard_on, settled_core, settled, held, removed_by, lines_after, ordered, after_commit}
 use Rattle.dc_core.specs.Transcript.{Turn, leads, IsChain}
-use Rattle.dc_core.specs.Known.{IsTelegramFor, IsForWantOfRoom, KnowsItsMeters, NoneIsUnknown}
+use Rattle.dc_core.specs.Known.{IsTelegramFor, NoneIsUnknown}
 use Rattle.dc_readout.specs.Taken.{IsTaken}
 use Rattle.dc_readout.proofs.Taken.{taken}
 use Rattle.dc_core.proofs.Registered.{IsFollowed, FollowsAt, Follows, asks_followed, ready_follows, told_own, told_session}
+use Rattle.dc_core.proofs.Ordered.{left_on, get_left, order_follows, accepted_new}
 
 -- WHAT HOLDS ALONG A CHAIN: there are eight lines, at most four changes wait, and each session follows the register. Places in the
 -- list of lines count from 0, and bus lines from 1.
@@ -208,11 +210,58 @@ settled_keeps core (change ∷ changes) keeps = record {
   each = λ place. subst (λ (x : Option Summary). Follows (place + 1) x (present core)) (sym (get_settled core.lines place)) (settled_follows (place + 1) (present core) (get_or core.lines place None) (keeps.each place));
 }
 
+failed_keeps : (core : Core) (fault : CommitFault) → Keeps core → Keeps (after_commit core (Err fault))
+failed_keeps core Device keeps = record { eight = keeps.eight; few = keeps.few; each = keeps.each }
+failed_keeps core Worn keeps = keeps
+failed_keeps core CommitStopped keeps = keeps
+
 turn_commit : (answer : _) → OneTurn commits (committed answer)
 turn_commit (Ok count) budget core keeps may = settled_keeps core core.pending keeps
-turn_commit (Err Device) budget core keeps may = record { eight = keeps.eight; few = keeps.few; each = keeps.each }
-turn_commit (Err Worn) budget core keeps may = keeps
-turn_commit (Err CommitStopped) budget core keeps may = keeps
+turn_commit (Err fault) budget core keeps may = failed_keeps core fault keeps
+
+-- ---- a line of the office
+
+nothing_left : (core : Core) (pending : List Change) → core.pending ≡ pending → (settled_core core pending).pending ≡ []
+nothing_left core [] none = none
+nothing_left core (change ∷ changes) some = refl
+
+length-lines_after : (removed : Option Identity) (lines : List (Option Summary)) → length (lines_after removed lines) ≡ length lines
+length-lines_after None lines = refl
+length-lines_after (Some meter) lines = length-map lines (unless_of meter)
+
+-- a command waits where nothing waited
+ordered_keeps : (budget : ℕ) (core : Core) (change : Change) → core.pending ≡ [] → IsOrder (held budget core) change → Keeps core → Keeps (ordered change core)
+ordered_keeps budget core change none order keeps =
+    let removed = removed_by change in
+    let number = order.ordered.number in
+    let command = order.ordered.command in
+    let now : present core ≡ core.committed = ap (after core.committed) none in
+    let new = accepted_new budget number command core.committed (subst (λ (c : Change). Accepts budget c core.committed) order.change_is order.accepted) in
+    record {
+      eight = length-lines_after removed core.lines ∙ keeps.eight;
+      few = omega arith;
+      each = λ place.
+          let was = subst (λ (x : State). Follows (place + 1) (get_or core.lines place None) x) now (keeps.each place) in
+          let left = order_follows (place + 1) number command core.committed new (get_or core.lines place None) was in
+          subst (λ (x : Option Summary). Follows (place + 1) x (applied change core.committed)) (sym (get_left removed core.lines place))
+          (subst (λ (c : Change). Follows (place + 1) (left_on (removed_by c) (get_or core.lines place None)) (applied c core.committed)) (sym order.change_is) left);
+    }
+
+turn_office : (text : List ℕ) (reply : Reply) → OneTurn (offices text) (replied reply)
+turn_office text unread budget core keeps may = keeps
+turn_office text (unstored fault) budget core keeps may = failed_keeps core fault keeps
+turn_office text (repeated number) budget core keeps may = settled_keeps core core.pending keeps
+turn_office text (refused code) budget core keeps may = settled_keeps core core.pending keeps
+turn_office text (shown bytes) budget core keeps may = settled_keeps core core.pending keeps
+turn_office text out_of_memory budget core keeps may = settled_keeps core core.pending keeps
+turn_office text (obeyed number change) budget core keeps may =
+    let order = order_of (held budget (settled core)) may.line change may.answer.0 in
+    settled_keeps (ordered change (settled core)) (change ∷ [])
+    (ordered_keeps budget (settled core) change (nothing_left core core.pending refl) order (settled_keeps core core.pending keeps))
+turn_office text (uncommitted change fault) budget core keeps may =
+    let order = order_of (held budget (settled core)) may.line change may.answer.0 in
+    failed_keeps (ordered change (settled core)) fault
+    (ordered_keeps budget (settled core) change (nothing_left core core.pending refl) order (settled_keeps core core.pending keeps))
 
 -- ---- the chain
 
@@ -220,19 +269,28 @@ turn : (event : Event) (answer : Answer) → OneTurn event answer
 turn (starts line meter) (started answer) = turn_start line meter answer
 turn (hears line moment bytes) (heard answer) = turn_hear line moment bytes answer
 turn commits (committed answer) = turn_commit answer
+turn (offices text) (replied reply) = turn_office text reply
 turn (asks line) (asked answer) = λ budget core keeps may. keeps
 turn (starts line meter) (asked answer) = λ budget core keeps may. absurd may
 turn (starts line meter) (heard answer) = λ budget core keeps may. absurd may
 turn (starts line meter) (committed answer) = λ budget core keeps may. absurd may
+turn (starts line meter) (replied reply) = λ budget core keeps may. absurd may
 turn (asks line) (started answer) = λ budget core keeps may. absurd may
 turn (asks line) (heard answer) = λ budget core keeps may. absurd may
 turn (asks line) (committed answer) = λ budget core keeps may. absurd may
+turn (asks line) (replied reply) = λ budget core keeps may. absurd may
 turn (hears line moment bytes) (started answer) = λ budget core keeps may. absurd may
 turn (hears line moment bytes) (asked answer) = λ budget core keeps may. absurd may
 turn (hears line moment bytes) (committed answer) = λ budget core keeps may. absurd may
+turn (hears line moment bytes) (replied reply) = λ budget core keeps may. absurd may
 turn commits (started answer) = λ budget core keeps may. absurd may
 turn commits (asked answer) = λ budget core keeps may. absurd may
 turn commits (heard answer) = λ budget core keeps may. absurd may
+turn commits (replied reply) = λ budget core keeps may. absurd may
+turn (offices text) (started answer) = λ budget core keeps may. absurd may
+turn (offices text) (asked answer) = λ budget core keeps may. absurd may
+turn (offices text) (heard answer) = λ budget core keeps may. absurd may
+turn (offices text) (committed answer) = λ budget core keeps may. absurd may
 
 along : (budget : ℕ) (core : Core) (turns : List Turn) → Keeps core → IsChain budget core turns → Keeps (leads core turns)
 along budget core [] keeps chain = keeps
@@ -274,14 +332,14 @@ record IsRefusal (budget : ℕ) (core : Core) (line moment : ℕ) (answer : List
   part : ℕ
   telegram : Parsed
   is_telegram : IsTelegramFor core line answer part telegram
-  refused : ◌≡◌ {A = Result LineHeard HearFault} (Err fault) (unless_refused (refuses budget (length core.pending) (change_of moment part telegram) (present core)) (Accepted part (continues telegram.ending)))
+  by_core : ◌≡◌ {A = Result LineHeard HearFault} (Err fault) (unless_refused (refuses budget (length core.pending) (change_of moment part telegram) (present core)) (Accepted part (continues telegram.ending)))
 
 module _ (budget : ℕ) (core : Core) (line moment : ℕ) (answer : List ℕ) (fault : HearFault) (idle : ◌≡◌ {A = Result LineHeard HearFault} (Err fault) (Err Idle) → ⊥) where
   by_verdict : (s : Summary) (v : Verdict) → session_of core line ≡ Some s → is_some (asked_by s) ≡ true → verdict_by s answer ≡ v → Err fault ≡ verdict_answer budget core moment v → IsRefusal budget core line moment answer fault
   by_verdict s again who is_asked v e = absurd (cc e)
   by_verdict s ready who is_asked v e = absurd (cc e)
   by_verdict s (failed why) who is_asked v e = absurd (cc e)
-  by_verdict s (new part t) who is_asked v e = record { part = part; telegram = t; is_telegram = record { session = s; on_line = who; is_asked = is_asked; is_new = v }; refused = e }
+  by_verdict s (new part t) who is_asked v e = record { part = part; telegram = t; is_telegram = record { session = s; on_line = who; is_asked = is_asked; is_new = v }; by_core = e }
 
   by_session : (session : Option Summary) → session_of core line ≡ session → Err fault ≡ answer_on budget core moment answer session → IsRefusal budget core line moment answer fault
   by_session None who e = absurd (idle e)
@@ -324,7 +382,7 @@ none_is_unknown budget state turns chain =
       full = λ line moment answer e.
           let r = refusal_of budget core line moment answer Full (λ bad. cc bad) (λ bad. cc bad) (λ bad. cc bad) e in
           let change = change_of moment r.part r.telegram in
-          let some = full_split (nat_le most_waiting (length core.pending)) (is_some (refusal budget change (present core))) (Accepted r.part (continues r.telegram.ending)) r.refused in
+          let some = full_split (nat_le most_waiting (length core.pending)) (is_some (refusal budget change (present core))) (Accepted r.part (continues r.telegram.ending)) r.by_core in
           record {
             part = r.part;
             telegram = r.telegram;
@@ -334,7 +392,7 @@ none_is_unknown budget state turns chain =
       pending_full = λ line moment answer e.
           let r = refusal_of budget core line moment answer PendingFull (λ bad. cc bad) (λ bad. cc bad) (λ bad. cc bad) e in
           let change = change_of moment r.part r.telegram in
-          let yes = pending_split (nat_le most_waiting (length core.pending)) (is_some (refusal budget change (present core))) (Accepted r.part (continues r.telegram.ending)) r.refused in
+          let yes = pending_split (nat_le most_waiting (length core.pending)) (is_some (refusal budget change (present core))) (Accepted r.part (continues r.telegram.ending)) r.by_core in
           let four : most_waiting ≤ length core.pending = grind (arith, nat_tests) in
           omega (arith, four, few);
     }

@@ -1,15 +1,12 @@
 -- One life after another (the law of specs/Lives).
-use Rattle.std.proofs.Common.{◌≡◌, ◌≤◌, ℕ, List, refl, sym, subst, arith}
-use Rattle.dc_sectors.specs.Disk.{Image, Choices, IsImage, settled}
+use Rattle.std.proofs.Common.{ℕ, sym, subst, arith}
+use Rattle.dc_sectors.specs.Disk.{Image}
 use Rattle.dc_sectors.specs.Images.{settled_image}
 use Rattle.dc_changes.specs.State.{State}
-use Rattle.dc_changes.specs.declared.change.Change.{Change}
-use Rattle.dc_changes.specs.History.{after}
 use Rattle.dc_recovery.specs.Halves.{half_len_of}
 use Rattle.dc_recovery.specs.Stands.{Reads, Stands}
 use Rattle.dc_recovery.proofs.Once.{reads_once}
-use Rattle.dc_core.specs.Images.{StandsForPromised}
-use Rattle.dc_core.specs.Lives.{IsFront, MayFollow, LivesFollow}
+use Rattle.dc_core.specs.Lives.{LivesFollow}
 
 stands_reads : (half_len : ℕ) (state : State) (image : Image) → Stands half_len state image → Reads half_len state image
 stands_reads half_len state image stands = record { root = stands.root; m = stands.m; place = stands.place; by = stands.by.reads }

@@ -1,6 +1,6 @@
 -- Of the changes accepted in a chain, what is committed has all that is promised (the law of specs/Promised).
-use Rattle.std.proofs.Common.{◌≡◌, ◌≢◌, ◌⊎◌, ⊎_elim, inl, inr, ◌<◌, ◌≤◌, ◌+◌, ◌-◌, ℕ, zero, suc, Bool, true, false, Option, None, Some, Result, Ok, Err, List, [], ◌∷◌, ◌++◌, length, take, drop, get_or, refl, ap, sym, subst, arith, ◌∙◌, length-append, append_assoc, get_or-set_other, get_or-set_same}
-use Rattle.std.specs.Prelude.{map, replicate, max, is_some, option_map, not, ◌||◌, if◌then◌else◌}
+use Rattle.std.proofs.Common.{◌≡◌, ◌≢◌, ⊎_elim, ◌<◌, ◌≤◌, ◌+◌, ◌-◌, ℕ, zero, suc, Bool, true, false, Option, None, Some, Result, Ok, Err, List, [], ◌∷◌, ◌++◌, length, take, get_or, refl, ap, sym, subst, arith, ◌∙◌, length-append, append_assoc, get_or-set_other, get_or-set_same}
+use Rattle.std.specs.Prelude.{replicate, is_some, option_map, not, ◌||◌, if◌then◌else◌}
 use Rattle.std.proofs.Math.ListN.{set}
 use Rattle.std.proofs.lemmas.List.{append-nil, length-set, length-map}
 use Rattle.std.proofs.lemmas.Bool.{cases_eq}
@@ -9,9 +9,8 @@ use Rattle.dc_changes.specs.State.{State}
 use Rattle.dc_changes.specs.declared.change.Change.{Change}
 use Rattle.dc_changes.specs.History.{after}
 use Rattle.dc_changes.proofs.History.{after_of_append}
-use Rattle.dc_readout.specs.declared.stage.Stage.{Stage}
-use Rattle.dc_readout.specs.declared.stage.Stage.TheVariants.{Resets, Selects, Requests, Pending, Ended}
-use Rattle.dc_readout.specs.Summary.{Summary, Verdict, again, ready, new, failed, asked_by, asked_at, verdict_by, heard_by, begun}
+use Rattle.dc_address.specs.declared.identity.Identity.{Identity}
+use Rattle.dc_readout.specs.Summary.{Summary, Verdict, again, ready, new, failed, asked_by, verdict_by, heard_by, begun}
 use Rattle.dc_linkframe.specs.Frame.{FrameSeen, spelling}
 use Rattle.dc_records.specs.Body.{continues}
 use Rattle.dc_changes.specs.State.{row_of}
@@ -21,15 +20,17 @@ use Rattle.dc_core.specs.declared.fault.HearFault.TheVariants.{NoLine, Idle, Sto
 use Rattle.dc_core.specs.declared.line_heard.LineHeard.{LineHeard}
 use Rattle.dc_core.specs.declared.line_heard.LineHeard.TheVariants.{Again, Ready, Accepted, Failed}
 use Rattle.dc_core.specs.declared.fault.HearFault.{HearFault}
+use Rattle.dc_core.specs.declared.fault.CommitFault.{CommitFault}
 use Rattle.dc_core.specs.declared.fault.CommitFault.TheVariants.{Device, Worn, Stopped}
-use Rattle.dc_waiting.specs.Lines.{is_line, on_line, put_on, settled_on, settled_lines}
+use Rattle.dc_waiting.specs.Lines.{is_line, settled_on, unless_of}
 use Rattle.dc_core.specs.Core.{Core, present, session_of, with_session, opened}
-use Rattle.dc_core.specs.Event.{Event, Answer, starts, asks, hears, commits, started, asked, heard, committed}
+use Rattle.dc_core.specs.Event.{Event, Answer, starts, asks, hears, commits, offices, started, asked, heard, committed, replied}
+use Rattle.dc_core.specs.Event.{Reply, unread, unstored, repeated, refused, shown, out_of_memory, obeyed, uncommitted}
 use Rattle.dc_waiting.specs.declared.fault.TakeFault.{TakeFault}
 use Rattle.dc_waiting.specs.Taking.{change_of}
-use Rattle.dc_core.specs.Step.{May, next, unless_refused, verdict_answer, answer_on, heard_on, session_after, hear_answer, ask_answer, asked_on, settled_core, and_pending, judged, is_on, address_in}
+use Rattle.dc_core.specs.Step.{May, next, unless_refused, verdict_answer, answer_on, heard_on, hear_answer, asked_on, settled_core, settled, removed_by, lines_after, ordered, after_commit, and_pending, judged, is_on, address_in}
 use Rattle.dc_core.specs.Transcript.{Turn, leads, IsChain, accepted_by, accepted_in, taken_from}
-use Rattle.dc_core.specs.Promised.{Seen, nothing_seen, and_seen, and_accepted, seen_from, latest_on, HoldsFront, PromisedIsCommitted}
+use Rattle.dc_core.specs.Promised.{Seen, nothing_seen, and_seen, and_accepted, seen_from, PromisedIsCommitted}
 
 -- whether nobody is asked on a line because a telegram waits
 abbrev waits : Option Summary → Bool
@@ -197,9 +198,9 @@ turn_hear line moment bytes (Ok answer) budget state taken seen core holds may =
     hear_session budget state taken seen core line moment bytes answer holds on.0 (session_of core line) refl on.1
 
 -- all that was accepted is committed
-settled : (state : State) (taken : List Change) (seen : Seen) (core : Core) (pending : List Change) → core.pending ≡ pending → Holds state taken seen core
+and_settled : (state : State) (taken : List Change) (seen : Seen) (core : Core) (pending : List Change) → core.pending ≡ pending → Holds state taken seen core
     → Holds state taken (record seen { promised = seen.accepted }) (settled_core core pending)
-settled state taken seen core [] none holds =
+and_settled state taken seen core [] none holds =
     let parts = holds.parts ∙ ap (λ (p : List Change). holds.done ++ p) none ∙ append-nil holds.done in
     let counted = holds.counted in
     record {
@@ -212,7 +213,7 @@ settled state taken seen core [] none holds =
       latest = holds.latest;
       asked = holds.asked;
     }
-settled state taken seen core (change ∷ changes) some holds =
+and_settled state taken seen core (change ∷ changes) some holds =
     let counted = holds.counted in
     record {
       done = taken;
@@ -225,9 +226,9 @@ settled state taken seen core (change ∷ changes) some holds =
       asked = λ line quiet. let some = holds.latest line in omega (arith, some, counted);
     }
 
-turn_commit : (answer : _) → OneTurn commits (committed answer)
-turn_commit (Ok count) budget state taken seen core holds may = same state taken _ _ (settled state taken seen core core.pending refl holds)
-turn_commit (Err Device) budget state taken seen core holds may = same state taken seen _ (record {
+-- a commit that fails
+and_failed : (state : State) (taken : List Change) (seen : Seen) (core : Core) (fault : CommitFault) → Holds state taken seen core → Holds state taken seen (after_commit core (Err fault))
+and_failed state taken seen core Device holds = record {
   done = holds.done;
   parts = holds.parts;
   committed = holds.committed;
@@ -236,27 +237,124 @@ turn_commit (Err Device) budget state taken seen core holds may = same state tak
   promised = holds.promised;
   latest = holds.latest;
   asked = holds.asked;
-})
-turn_commit (Err Worn) budget state taken seen core holds may = same state taken seen core holds
-turn_commit (Err Stopped) budget state taken seen core holds may = same state taken seen core holds
+}
+and_failed state taken seen core Worn holds = holds
+and_failed state taken seen core Stopped holds = holds
+
+turn_commit : (answer : _) → OneTurn commits (committed answer)
+turn_commit (Ok count) budget state taken seen core holds may = same state taken _ _ (and_settled state taken seen core core.pending refl holds)
+turn_commit (Err fault) budget state taken seen core holds may = same state taken seen _ (and_failed state taken seen core fault holds)
+
+-- ---- a line of the office
+
+-- Nothing waits: all that was accepted is committed.
+record HoldsAll (state : State) (taken : List Change) (seen : Seen) (core : Core) : Type 0 where
+  none : core.pending ≡ []
+  committed : core.committed ≡ after state taken
+  counted : seen.accepted ≡ length taken
+  eight : length core.lines ≡ 8
+  promised : seen.promised ≤ length taken
+  latest : (line : ℕ) → get_or seen.latest line 0 ≤ seen.accepted
+
+settled_all : (state : State) (taken : List Change) (seen : Seen) (core : Core) (pending : List Change) → core.pending ≡ pending → Holds state taken seen core → HoldsAll state taken seen (settled_core core pending)
+settled_all state taken seen core [] none holds =
+    let parts = holds.parts ∙ ap (λ (p : List Change). holds.done ++ p) none ∙ append-nil holds.done in
+    let least = holds.promised in
+    record {
+      none = none;
+      committed = holds.committed ∙ ap (after state) (sym parts);
+      counted = holds.counted;
+      eight = holds.eight;
+      promised = omega (arith, least, ap length parts);
+      latest = holds.latest;
+    }
+settled_all state taken seen core (change ∷ changes) some holds =
+    let least = holds.promised in
+    let parts = ap length holds.parts ∙ length-append holds.done core.pending in
+    record {
+      none = refl;
+      committed = ap (λ (c : State). after c core.pending) holds.committed ∙ sym (after_of_append state holds.done core.pending) ∙ ap (after state) (sym holds.parts);
+      counted = holds.counted;
+      eight = length-map core.lines settled_on ∙ holds.eight;
+      promised = omega (arith, least, parts);
+      latest = holds.latest;
+    }
+
+-- all that was accepted is promised then
+and_answered : (state : State) (taken : List Change) (seen : Seen) (core : Core) → HoldsAll state taken seen core → Holds state taken (record seen { promised = seen.accepted }) core
+and_answered state taken seen core all =
+    let counted = all.counted in
+    record {
+      done = taken;
+      parts = sym (append-nil taken) ∙ ap (λ (p : List Change). taken ++ p) (sym all.none);
+      committed = all.committed;
+      counted = all.counted;
+      eight = all.eight;
+      promised = omega (arith, counted);
+      latest = all.latest;
+      asked = λ line quiet. let some = all.latest line in omega (arith, some, counted);
+    }
+
+length-lines_after : (removed : Option Identity) (lines : List (Option Summary)) → length (lines_after removed lines) ≡ length lines
+length-lines_after None lines = refl
+length-lines_after (Some meter) lines = length-map lines (unless_of meter)
+
+-- a command waits
+and_ordered : (state : State) (taken : List Change) (seen : Seen) (core : Core) (change : Change) → HoldsAll state taken seen core
+    → Holds state (taken ++ change ∷ []) (record seen { accepted = seen.accepted + 1 }) (ordered change core)
+and_ordered state taken seen core change all =
+    let counted = all.counted in
+    record {
+      done = taken;
+      parts = refl;
+      committed = all.committed;
+      counted = omega (arith, counted, length-append taken (change ∷ []));
+      eight = length-lines_after (removed_by change) core.lines ∙ all.eight;
+      promised = all.promised;
+      latest = λ line. let some = all.latest line in omega (arith, some);
+      asked = λ line quiet. let some = all.latest line in omega (arith, some, counted);
+    }
+
+turn_office : (text : List ℕ) (reply : Reply) → OneTurn (offices text) (replied reply)
+turn_office text unread budget state taken seen core holds may = same state taken seen core holds
+turn_office text (unstored fault) budget state taken seen core holds may = same state taken seen _ (and_failed state taken seen core fault holds)
+turn_office text (repeated number) budget state taken seen core holds may = same state taken _ _ (and_answered state taken seen (settled core) (settled_all state taken seen core core.pending refl holds))
+turn_office text (refused code) budget state taken seen core holds may = same state taken _ _ (and_answered state taken seen (settled core) (settled_all state taken seen core core.pending refl holds))
+turn_office text (shown bytes) budget state taken seen core holds may = same state taken _ _ (and_answered state taken seen (settled core) (settled_all state taken seen core core.pending refl holds))
+turn_office text out_of_memory budget state taken seen core holds may = same state taken _ _ (and_answered state taken seen (settled core) (settled_all state taken seen core core.pending refl holds))
+turn_office text (obeyed number change) budget state taken seen core holds may =
+    let waits = and_ordered state taken seen (settled core) change (settled_all state taken seen core core.pending refl holds) in
+    and_settled state (taken ++ change ∷ []) (record seen { accepted = seen.accepted + 1 }) (ordered change (settled core)) (change ∷ []) refl waits
+turn_office text (uncommitted change fault) budget state taken seen core holds may =
+    let waits = and_ordered state taken seen (settled core) change (settled_all state taken seen core core.pending refl holds) in
+    and_failed state (taken ++ change ∷ []) (record seen { accepted = seen.accepted + 1 }) (ordered change (settled core)) fault waits
 
 turn : (event : Event) (answer : Answer) → OneTurn event answer
 turn (starts line meter) (started answer) = turn_start line meter answer
 turn (asks line) (asked answer) = turn_ask line answer
 turn (hears line moment bytes) (heard answer) = turn_hear line moment bytes answer
 turn commits (committed answer) = turn_commit answer
+turn (offices text) (replied reply) = turn_office text reply
 turn (starts line meter) (asked answer) = λ budget state taken seen core holds may. absurd may
 turn (starts line meter) (heard answer) = λ budget state taken seen core holds may. absurd may
 turn (starts line meter) (committed answer) = λ budget state taken seen core holds may. absurd may
+turn (starts line meter) (replied reply) = λ budget state taken seen core holds may. absurd may
 turn (asks line) (started answer) = λ budget state taken seen core holds may. absurd may
 turn (asks line) (heard answer) = λ budget state taken seen core holds may. absurd may
 turn (asks line) (committed answer) = λ budget state taken seen core holds may. absurd may
+turn (asks line) (replied reply) = λ budget state taken seen core holds may. absurd may
 turn (hears line moment bytes) (started answer) = λ budget state taken seen core holds may. absurd may
 turn (hears line moment bytes) (asked answer) = λ budget state taken seen core holds may. absurd may
 turn (hears line moment bytes) (committed answer) = λ budget state taken seen core holds may. absurd may
+turn (hears line moment bytes) (replied reply) = λ budget state taken seen core holds may. absurd may
 turn commits (started answer) = λ budget state taken seen core holds may. absurd may
 turn commits (asked answer) = λ budget state taken seen core holds may. absurd may
 turn commits (heard answer) = λ budget state taken seen core holds may. absurd may
+turn commits (replied reply) = λ budget state taken seen core holds may. absurd may
+turn (offices text) (started answer) = λ budget state taken seen core holds may. absurd may
+turn (offices text) (asked answer) = λ budget state taken seen core holds may. absurd may
+turn (offices text) (heard answer) = λ budget state taken seen core holds may. absurd may
+turn (offices text) (committed answer) = λ budget state taken seen core holds may. absurd may
 
 -- and so along the chain
 along : (budget : ℕ) (state : State) (taken : List Change) (seen : Seen) (core : Core) (turns : List Turn) → Holds state taken seen core → IsChain budget core turns
@@ -290,6 +388,10 @@ holds_along budget state turns chain =
       asked = λ line quiet. let z = zeros line in omega (arith, z);
     } in
     along budget state [] nothing_seen (opened state) turns begin chain
+
+-- each accepted change was seen
+pub accepted_counted : (budget : ℕ) (state : State) (turns : List Turn) → IsChain budget (opened state) turns → (seen_from nothing_seen turns).accepted ≡ length (accepted_in (opened state) turns)
+accepted_counted budget state turns chain = (holds_along budget state turns chain).counted
 
 -- no more is promised than was accepted
 pub promised_within : (budget : ℕ) (state : State) (turns : List Turn) → IsChain budget (opened state) turns → (seen_from nothing_seen turns).promised ≤ (seen_from nothing_seen turns).accepted

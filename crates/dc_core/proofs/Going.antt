@@ -1,6 +1,5 @@
 -- A run goes on by one turn.
-use Rattle.std.proofs.Common.{◌≡◌, ◌≤◌, ◌+◌, ℕ, max, List, [], ◌∷◌, ◌++◌, Option, None, Some, Result, Ok, Err, length, take, refl, ap, sym, subst, ◌∙◌, arith, append_assoc, length-append}
-use Rattle.std.specs.Prelude.{map}
+use Rattle.std.proofs.Common.{◌≡◌, ◌≤◌, ◌+◌, ℕ, List, [], ◌∷◌, ◌++◌, None, Some, Ok, Err, length, take, refl, ap, sym, subst, ◌∙◌, arith, append_assoc, length-append}
 use Rattle.std.proofs.lemmas.List.{map-append, append-nil, take-append-le, length-take-le, flat_map_more}
 use Rattle.std.proofs.Math.Seq.{take-append-add}
 use Rattle.dc_sectors.specs.Disk.{Image, Choices, IsImage, LeavesOnly}
@@ -12,9 +11,11 @@ use Rattle.dc_changes.proofs.History.{after_of_append}
 use Rattle.dc_recovery.specs.Halves.{half_len_of}
 use Rattle.dc_recovery.specs.Stands.{Stands, StandsForFront}
 use Rattle.dc_recovery.specs.Store.{Kept}
+use Rattle.dc_recovery.proofs.Fronts.{longer_front}
 use Rattle.dc_core.specs.declared.line_heard.LineHeard.TheVariants.{Again, Ready, Accepted, Failed}
 use Rattle.dc_core.specs.Core.{Core, opened}
-use Rattle.dc_core.specs.Event.{Event, Answer, starts, asks, hears, commits, started, asked, heard, committed}
+use Rattle.dc_core.specs.Event.{Event, Answer, starts, asks, hears, commits, offices, started, asked, heard, committed, replied}
+use Rattle.dc_core.specs.Event.{unread, unstored, repeated, refused, shown, out_of_memory, obeyed, uncommitted}
 use Rattle.dc_core.specs.Step.{May, next}
 use Rattle.dc_core.specs.Transcript.{Turn, leads, IsChain, accepted_by, accepted_in}
 use Rattle.dc_core.specs.Promised.{Seen, nothing_seen, and_seen, seen_from, promised_in, HoldsFront}
@@ -26,7 +27,7 @@ use Rattle.dc_core.proofs.Followed.{none_is_unknown}
 
 -- ---- a chain with one turn more
 
-leads_push : (core : Core) (turns : List Turn) (t : Turn) → leads core (turns ++ t ∷ []) ≡ next (leads core turns) t.0 t.1
+pub leads_push : (core : Core) (turns : List Turn) (t : Turn) → leads core (turns ++ t ∷ []) ≡ next (leads core turns) t.0 t.1
 leads_push core [] t = refl
 leads_push core (u ∷ turns) t = leads_push (next core u.0 u.1) turns t
 
@@ -40,7 +41,7 @@ accepted_push core (u ∷ turns) t =
     ap (λ (x : List Change). accepted_by core u.0 u.1 ++ x) (accepted_push (next core u.0 u.1) turns t)
     ∙ sym (append_assoc (accepted_by core u.0 u.1) (accepted_in (next core u.0 u.1) turns) (accepted_by (leads (next core u.0 u.1) turns) t.0 t.1))
 
-seen_push : (seen : Seen) (turns : List Turn) (t : Turn) → seen_from seen (turns ++ t ∷ []) ≡ and_seen t.0 t.1 (seen_from seen turns)
+pub seen_push : (seen : Seen) (turns : List Turn) (t : Turn) → seen_from seen (turns ++ t ∷ []) ≡ and_seen t.0 t.1 (seen_from seen turns)
 seen_push seen [] t = refl
 seen_push seen (u ∷ turns) t = seen_push (and_seen u.0 u.1 seen) turns t
 
@@ -55,21 +56,37 @@ still_promised (asks line) (asked (Some request)) seen within = omega arith
 still_promised (asks line) (asked None) seen within = omega arith
 still_promised commits (committed (Ok count)) seen within = within
 still_promised commits (committed (Err fault)) seen within = omega arith
+still_promised (offices text) (replied unread) seen within = omega arith
+still_promised (offices text) (replied (unstored fault)) seen within = omega arith
+still_promised (offices text) (replied (repeated number)) seen within = within
+still_promised (offices text) (replied (refused code)) seen within = within
+still_promised (offices text) (replied (shown bytes)) seen within = within
+still_promised (offices text) (replied out_of_memory) seen within = within
+still_promised (offices text) (replied (obeyed number change)) seen within = omega (arith, within)
+still_promised (offices text) (replied (uncommitted change fault)) seen within = omega arith
 still_promised (starts line meter) (started answer) seen within = omega arith
 still_promised (starts line meter) (asked answer) seen within = omega arith
 still_promised (starts line meter) (heard answer) seen within = omega arith
 still_promised (starts line meter) (committed answer) seen within = omega arith
+still_promised (starts line meter) (replied reply) seen within = omega arith
 still_promised (asks line) (started answer) seen within = omega arith
 still_promised (asks line) (heard answer) seen within = omega arith
 still_promised (asks line) (committed answer) seen within = omega arith
+still_promised (asks line) (replied reply) seen within = omega arith
 still_promised (hears line moment bytes) (started answer) seen within = omega arith
 still_promised (hears line moment bytes) (asked answer) seen within = omega arith
 still_promised (hears line moment bytes) (committed answer) seen within = omega arith
+still_promised (hears line moment bytes) (replied reply) seen within = omega arith
 still_promised commits (started answer) seen within = omega arith
 still_promised commits (asked answer) seen within = omega arith
 still_promised commits (heard answer) seen within = omega arith
+still_promised commits (replied reply) seen within = omega arith
+still_promised (offices text) (started answer) seen within = omega arith
+still_promised (offices text) (asked answer) seen within = omega arith
+still_promised (offices text) (heard answer) seen within = omega arith
+still_promised (offices text) (committed answer) seen within = omega arith
 
-promised_push : (budget : ℕ) (state : State) (turns : List Turn) (t : Turn) → IsChain budget (opened state) turns → promised_in turns ≤ promised_in (turns ++ t ∷ [])
+pub promised_push : (budget : ℕ) (state : State) (turns : List Turn) (t : Turn) → IsChain budget (opened state) turns → promised_in turns ≤ promised_in (turns ++ t ∷ [])
 promised_push budget state turns t chain =
     subst (λ (s : Seen). promised_in turns ≤ s.promised) (sym (seen_push nothing_seen turns t)) (still_promised t.0 t.1 (seen_from nothing_seen turns) (promised_within budget state turns chain))
 
@@ -86,19 +103,20 @@ grown half_len state promised changes more image stands =
 fewer : (half_len : ℕ) (state : State) (few promised : ℕ) (changes : List Change) (image : Image) → few ≤ promised → StandsForPromised half_len state promised changes image → StandsForPromised half_len state few changes image
 fewer half_len state few promised changes image less stands = let all = stands.all_promised in record { front = stands.front; all_promised = omega (arith, less, all) }
 
--- What is committed and a front of what is pending is the first state and a front of what was accepted, with all that is promised.
-from_first : (half_len : ℕ) (state : State) (turns : List Turn) (core : Core) (image : Image) → HoldsFront state turns core → StandsForFront half_len core.committed core.pending image
-    → StandsForPromised half_len state (promised_in turns) (accepted_in (opened state) turns) image
-from_first half_len state turns core image holds stands =
+-- What is committed and a front of what is pending, and of what comes then, is the first state and a front of all that was accepted, with all that is promised.
+from_first : (half_len : ℕ) (state : State) (turns : List Turn) (core : Core) (more : List Change) (image : Image) → HoldsFront state turns core → StandsForFront half_len core.committed (core.pending ++ more) image
+    → StandsForPromised half_len state (promised_in turns) (accepted_in (opened state) turns ++ more) image
+from_first half_len state turns core more image holds stands =
     let all = accepted_in (opened state) turns in
     let done = take holds.count all in
     let within = stands.within in
-    let parts = ap length holds.pending ∙ length-append done core.pending in
+    let whole : all ++ more ≡ done ++ (core.pending ++ more) = ap (λ (x : List Change). x ++ more) holds.pending ∙ append_assoc done core.pending more in
+    let parts = ap length whole ∙ length-append done (core.pending ++ more) in
     let least = holds.promised in
     let counted = length-take-le holds.count all holds.within in
-    let cut : take (length done + stands.count) all ≡ done ++ take stands.count core.pending = ap (take (length done + stands.count)) holds.pending ∙ take-append-add done core.pending stands.count in
-    let e : after core.committed (take stands.count core.pending) ≡ after state (take (length done + stands.count) all) =
-    ap (λ (s : State). after s (take stands.count core.pending)) holds.committed ∙ sym (after_of_append state done (take stands.count core.pending)) ∙ ap (after state) (sym cut) in
+    let cut : take (length done + stands.count) (all ++ more) ≡ done ++ take stands.count (core.pending ++ more) = ap (take (length done + stands.count)) whole ∙ take-append-add done (core.pending ++ more) stands.count in
+    let e : after core.committed (take stands.count (core.pending ++ more)) ≡ after state (take (length done + stands.count) (all ++ more)) =
+    ap (λ (s : State). after s (take stands.count (core.pending ++ more))) holds.committed ∙ sym (after_of_append state done (take stands.count (core.pending ++ more))) ∙ ap (after state) (sym cut) in
     record {
       front = record {
         count = length done + stands.count;
@@ -108,15 +126,23 @@ from_first half_len state turns core image holds stands =
       all_promised = omega (arith, least, counted);
     }
 
+-- where nothing comes
+now_first : (half_len : ℕ) (state : State) (turns : List Turn) (core : Core) (image : Image) → HoldsFront state turns core → StandsForFront half_len core.committed core.pending image
+    → StandsForPromised half_len state (promised_in turns) (accepted_in (opened state) turns) image
+now_first half_len state turns core image holds stands =
+    subst (λ (x : List Change). StandsForPromised half_len state (promised_in turns) x image) (append-nil (accepted_in (opened state) turns))
+    (from_first half_len state turns core [] image holds (subst (λ (x : List Change). StandsForFront half_len core.committed x image) (sym (append-nil core.pending)) stands))
+
 module _ {D : Type 0} (honest : Type 0) (sectors : D → ℕ) (reads : D → Image) (choices : D → Choices) (moment : D → ℕ) (images_since : D → ℕ → Image → Type 0) where
-  -- a call that leaves the store
-  pub at_rest : (machine new : Machine D) (core : Core) → IsAt honest sectors reads choices machine core → honest → new.store ≡ machine.store
+  -- a call that leaves the store, whatever it accepts
+  pub at_rest : (machine new : Machine D) (core : Core) (more : List Change) → IsAt honest sectors reads choices machine core → honest → new.store ≡ machine.store
       → ((image : Image) → images_since machine.store.disk (moment machine.store.disk) image → IsImage (choices machine.store.disk) image)
-      → LeavesOnly moment images_since machine.store.disk new.store.disk (StandsForFront (half_len_of (sectors machine.store.disk)) core.committed core.pending)
-  at_rest machine new core at h same only =
-      let P : Image → Type 0 = StandsForFront (half_len_of (sectors machine.store.disk)) core.committed core.pending in
+      → LeavesOnly moment images_since machine.store.disk new.store.disk (StandsForFront (half_len_of (sectors machine.store.disk)) core.committed (core.pending ++ more))
+  at_rest machine new core more at h same only =
+      let H = half_len_of (sectors machine.store.disk) in
+      let P : Image → Type 0 = StandsForFront H core.committed (core.pending ++ more) in
       subst (λ (s : Kept D). LeavesOnly moment images_since machine.store.disk s.disk P) (sym same)
-      (begun moment images_since machine.store.disk P (λ image left. at.leaves h image (only image left)))
+      (begun moment images_since machine.store.disk P (λ image left. longer_front H core.committed core.pending more image (at.leaves h image (only image left))))
 
   -- no event yet
   pub ran_none : (budget : ℕ) (state : State) (before : List Turn) (wrote : List ℕ → Type 0) (machine : Machine D) → IsChain budget (opened state) before → IsAt honest sectors reads choices machine (leads (opened state) before)
@@ -128,7 +154,7 @@ module _ {D : Type 0} (honest : Type 0) (sectors : D → ℕ) (reads : D → Ima
       let all = accepted_in (opened state) before in
       let core = leads (opened state) before in
       let stands : honest → (image : Image) → IsImage (choices machine.store.disk) image → StandsForPromised H state (promised_in before) all image =
-      λ h image is. from_first H state before core image (promised_is_committed budget state before chain) (at.leaves h image is) in
+      λ h image is. now_first H state before core image (promised_is_committed budget state before chain) (at.leaves h image is) in
       record {
         turns = [];
         events_are = refl;
@@ -145,13 +171,12 @@ module _ {D : Type 0} (honest : Type 0) (sectors : D → ℕ) (reads : D → Ima
       }
 
   -- one event more
-  pub ran_more : (budget : ℕ) (state : State) (before : List Turn) (events : List Event) (event : Event) (wrote piece all_wrote : List ℕ → Type 0) (first old new : Machine D)
+  pub ran_more : (failures : D → ℕ) (budget : ℕ) (state : State) (before : List Turn) (events : List Event) (event : Event) (wrote piece all_wrote : List ℕ → Type 0) (first old new : Machine D)
       → (ran : Ran honest sectors reads choices moment images_since budget state before events wrote first old)
-      → (turned : Turned honest sectors reads choices budget (leads (opened state) (before ++ ran.turns)) event piece new) → sectors new.store.disk ≡ sectors old.store.disk
+      → (turned : Turned honest sectors failures reads choices moment images_since budget (leads (opened state) (before ++ ran.turns)) event piece old new) → sectors new.store.disk ≡ sectors old.store.disk
       → ((text more : List ℕ) → wrote text → piece more → all_wrote (text ++ more))
-      → (honest → LeavesOnly moment images_since old.store.disk new.store.disk (StandsForFront (half_len_of (sectors old.store.disk)) (leads (opened state) (before ++ ran.turns)).committed (leads (opened state) (before ++ ran.turns)).pending))
       → Ran honest sectors reads choices moment images_since budget state before (events ++ event ∷ []) all_wrote first new
-  ran_more budget state before events event wrote piece all_wrote first old new ran turned count joins left =
+  ran_more failures budget state before events event wrote piece all_wrote first old new ran turned count joins =
       let t : Turn = (event, turned.answer) in
       let past = before ++ ran.turns in
       let e : past ++ t ∷ [] ≡ before ++ (ran.turns ++ t ∷ []) = append_assoc before ran.turns (t ∷ []) in
@@ -167,9 +192,10 @@ module _ {D : Type 0} (honest : Type 0) (sectors : D → ℕ) (reads : D → Ima
       let same_size : sectors new.store.disk ≡ sectors first.store.disk = count ∙ ran.count in
       let longer : (image : Image) → StandsForPromised H state (promised_in before) all image → StandsForPromised H state (promised_in before) (accepted_in (opened state) (past ++ t ∷ [])) image =
       λ image stands. subst (λ (x : List Change). StandsForPromised H state (promised_in before) x image) (sym (accepted_push (opened state) past t)) (grown H state (promised_in before) all more image stands) in
-      let within : (image : Image) → StandsForFront (half_len_of (sectors old.store.disk)) core.committed core.pending image → StandsForPromised H state (promised_in before) all image =
-      λ image stands. fewer H state (promised_in before) (promised_in past) all image kept
-      (from_first H state past core image ran.holds (subst (λ (n : ℕ). StandsForFront (half_len_of n) core.committed core.pending image) ran.count stands)) in
+      let within : (image : Image) → StandsForFront (half_len_of (sectors old.store.disk)) core.committed (core.pending ++ more) image → StandsForPromised H state (promised_in before) (accepted_in (opened state) (past ++ t ∷ [])) image =
+      λ image stands. subst (λ (x : List Change). StandsForPromised H state (promised_in before) x image) (sym (accepted_push (opened state) past t))
+      (fewer H state (promised_in before) (promised_in past) (all ++ more) image kept
+      (from_first H state past core more image ran.holds (subst (λ (n : ℕ). StandsForFront (half_len_of n) core.committed (core.pending ++ more) image) ran.count stands))) in
       record {
         turns = ran.turns ++ t ∷ [];
         events_are = map-append (λ (t : Turn). t.0) ran.turns (t ∷ []) ∙ ap (λ (es : List Event). es ++ event ∷ []) ran.events_are;
@@ -182,9 +208,9 @@ module _ {D : Type 0} (honest : Type 0) (sectors : D → ℕ) (reads : D → Ima
         kept = subst (λ (ts : List Turn). promised_in before ≤ promised_in ts) e (omega (arith, kept, now));
         leaves = λ h. subst (λ (ts : List Turn). LeavesOnly moment images_since first.store.disk new.store.disk (StandsForPromised H state (promised_in before) (accepted_in (opened state) ts))) e
             (followed moment images_since first.store.disk old.store.disk new.store.disk
-            (StandsForPromised H state (promised_in before) all) (StandsForFront (half_len_of (sectors old.store.disk)) core.committed core.pending) (StandsForPromised H state (promised_in before) (accepted_in (opened state) (past ++ t ∷ [])))
-            (ran.leaves h) (left h) longer (λ image stands. longer image (within image stands)));
+            (StandsForPromised H state (promised_in before) all) (StandsForFront (half_len_of (sectors old.store.disk)) core.committed (core.pending ++ more)) (StandsForPromised H state (promised_in before) (accepted_in (opened state) (past ++ t ∷ [])))
+            (ran.leaves h) (turned.leaves h) longer within);
         behind = λ h image is. subst (λ (ts : List Turn). StandsForPromised H state (promised_in ts) (accepted_in (opened state) ts) image) e
-            (from_first H state (past ++ t ∷ []) (leads (opened state) (past ++ t ∷ [])) image (promised_is_committed budget state (past ++ t ∷ []) chain)
+            (now_first H state (past ++ t ∷ []) (leads (opened state) (past ++ t ∷ [])) image (promised_is_committed budget state (past ++ t ∷ []) chain)
             (subst (λ (n : ℕ). StandsForFront (half_len_of n) (leads (opened state) (past ++ t ∷ [])).committed (leads (opened state) (past ++ t ∷ [])).pending image) same_size (at.leaves h image is)));
       }

@@ -1,31 +1,17 @@
 -- A telegram that is asked for is of a registered meter, and its readout's next part (the law of specs/Known).
-use Rattle.std.proofs.Common.{◌≡◌, ◌≢◌, ◌⊎◌, ⊎_elim, inl, inr, ◌<◌, ◌≤◌, ◌+◌, ◌-◌, ℕ, zero, suc, Bool, true, false, not, cond, eqb, Option, None, Some, Result, Ok, Err, List, [], ◌∷◌, ◌++◌, length, get_or, refl, ap, sym, subst, arith, ◌∙◌, length-append, get_or-set_other, get_or-set_same}
-use Rattle.std.specs.Prelude.{map, is_some, nat_le, find}
+use Rattle.std.proofs.Common.{◌≡◌, ◌≢◌, ◌⊎◌, ⊎_elim, inr, ◌+◌, ℕ, Bool, true, false, cond, eqb, Option, None, Some, List, [], ◌∷◌, ◌++◌, length, refl, ap, sym, arith, ◌∙◌, length-append}
+use Rattle.std.specs.Prelude.{is_some}
 use Rattle.std.specs.BTreeMap.{is_at}
 use Rattle.std.specs.Map.{lookup, set_value}
-use Rattle.std.proofs.Math.ListN.{set}
-use Rattle.std.proofs.lemmas.List.{length-set, length-map}
-use Rattle.std.proofs.lemmas.Bool.{cases_eq, eq-eqb, eqb-true}
-use Rattle.std.proofs.lemmas.Bool.Decides.{nat_tests}
-use Rattle.dc_linkframe.specs.Frame.{FrameSeen}
+use Rattle.std.proofs.lemmas.Bool.{eq-eqb, eqb-true}
 use Rattle.dc_address.specs.declared.identity.Identity.{Identity}
 use Rattle.dc_address.specs.Identity.{identity_cmp}
-use Rattle.dc_records.specs.Body.{continues}
-use Rattle.dc_records.specs.Telegram.{Parsed}
 use Rattle.dc_readout.specs.declared.stage.Stage.{Stage}
 use Rattle.dc_readout.specs.declared.stage.Stage.TheVariants.{Resets, Selects, Requests, Pending, Ended}
-use Rattle.dc_readout.specs.Summary.{Summary, Verdict, again, ready, new, failed, asked_by, asked_at, verdict_by, heard_by, begun, after_command}
+use Rattle.dc_readout.specs.Summary.{Summary, asked_at, after_command}
 use Rattle.dc_changes.specs.State.{State, MeterRow, PartRow, row_of}
-use Rattle.dc_changes.specs.Body.{BodyRow, body_of}
 use Rattle.dc_changes.specs.Apply.{with_row, joined, heard as told_at}
-use Rattle.dc_changes.specs.Accepts.{refusal, continues as is_continued}
-use Rattle.dc_changes.specs.declared.change.Change.{Change}
 use Rattle.dc_address.proofs.Order.{same_from_tie}
-use Rattle.dc_waiting.specs.Lines.{is_line, on_line, settled_at, settled_on, settled_lines}
-use Rattle.dc_waiting.specs.Waiting.{most_waiting}
-use Rattle.dc_core.specs.Core.{Core, present, session_of, opened}
-use Rattle.dc_readout.specs.Taken.{IsTaken}
-use Rattle.dc_readout.proofs.Taken.{taken}
 
 -- ---- a register in which one row is another
 
@@ -45,10 +31,10 @@ lookup_same {K} {X} g w old (e ∷ es) found = here (g e.0) refl (lookup_same g 
     here true at rest = rw (at, at) refl
     here false at rest = rw (at, at) (rest (rw at at found))
 
-row_of_same : (meter : Identity) (old row : MeterRow) (s : State) → row_of meter s ≡ Some old → row_of meter (with_row meter row s) ≡ Some row
+pub row_of_same : (meter : Identity) (old row : MeterRow) (s : State) → row_of meter s ≡ Some old → row_of meter (with_row meter row s) ≡ Some row
 row_of_same meter old row s found = lookup_same (is_at (identity_cmp meter)) row old s.meters found
 
-row_of_other : (m meter : Identity) (row : MeterRow) (s : State) → is_at (identity_cmp m) meter ≡ false → row_of m (with_row meter row s) ≡ row_of m s
+pub row_of_other : (m meter : Identity) (row : MeterRow) (s : State) → is_at (identity_cmp m) meter ≡ false → row_of m (with_row meter row s) ≡ row_of m s
 row_of_other m meter row s apart =
     lookup_other (is_at (identity_cmp m)) (is_at (identity_cmp meter)) row s.meters (λ k at. ap (is_at (identity_cmp m)) (sym (same_from_tie meter k at)) ∙ apart)
 

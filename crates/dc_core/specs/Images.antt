@@ -3,7 +3,7 @@ use Rattle.std.specs.Prelude.{◌≡◌, ℕ, ◌≤◌, false, List, Option, le
 use Rattle.dc_sectors.specs.Disk.{Image, Choices, IsImage}
 use Rattle.dc_changes.specs.State.{State, Held}
 use Rattle.dc_changes.specs.declared.change.Change.{Change}
-use Rattle.dc_changes.specs.History.{after, AcceptsAll}
+use Rattle.dc_changes.specs.History.{AcceptsAll}
 use Rattle.dc_changes.specs.Spelled.{SpellsChanges}
 use Rattle.dc_readout.specs.Summary.{Summary}
 use Rattle.dc_recovery.specs.Halves.{half_len_of, budget_of}

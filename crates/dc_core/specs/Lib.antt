@@ -9,5 +9,6 @@ pub mod Promised
 pub mod Known
 pub mod Toggled
 pub mod Lives
+pub mod Told
 pub mod Text
 pub mod Run

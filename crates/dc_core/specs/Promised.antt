@@ -7,7 +7,8 @@ use Rattle.dc_waiting.specs.Lines.{line_count}
 use Rattle.dc_core.specs.declared.line_heard.LineHeard.{LineHeard}
 use Rattle.dc_core.specs.declared.line_heard.LineHeard.TheVariants.{Again, Ready, Accepted, Failed}
 use Rattle.dc_core.specs.Core.{Core, opened}
-use Rattle.dc_core.specs.Event.{Event, Answer, asks, hears, commits, asked, heard, committed}
+use Rattle.dc_core.specs.Event.{Event, Answer, asks, hears, commits, offices, asked, heard, committed, replied}
+use Rattle.dc_core.specs.Event.{Reply, unread, unstored, repeated, refused, shown, out_of_memory, obeyed, uncommitted}
 use Rattle.dc_core.specs.Transcript.{Turn, leads, IsChain, accepted_in}
 
 -- What the outside has seen, by events and answers alone: how many changes were accepted, how many of them are
@@ -29,12 +30,25 @@ and_accepted line Again seen = seen
 and_accepted line Ready seen = seen
 and_accepted line (Failed why) seen = seen
 
+-- A line of the office that is answered promises all that was accepted, a command that it did among it. After STORE
+-- nothing more is promised, whether or not a command was applied; nor after SYNTAX.
+abbrev pub and_replied : Reply → Seen → Seen
+and_replied unread seen = seen
+and_replied (unstored fault) seen = seen
+and_replied (repeated number) seen = record seen { promised = seen.accepted }
+and_replied (refused code) seen = record seen { promised = seen.accepted }
+and_replied (shown text) seen = record seen { promised = seen.accepted }
+and_replied out_of_memory seen = record seen { promised = seen.accepted }
+and_replied (obeyed number change) seen = record seen { accepted = seen.accepted + 1; promised = seen.accepted + 1 }
+and_replied (uncommitted change fault) seen = record seen { accepted = seen.accepted + 1 }
+
 -- A request on a line promises the telegram that was accepted there last, and so every change before it. A commit that
--- answers a number promises all that was accepted.
+-- answers a number promises all that was accepted, and so does an answer to the office.
 abbrev pub and_seen : Event → Answer → Seen → Seen
 and_seen (hears line moment bytes) (heard (Ok answer)) seen = and_accepted line answer seen
 and_seen (asks line) (asked (Some request)) seen = record seen { promised = max seen.promised (latest_on line seen) }
 and_seen commits (committed (Ok count)) seen = record seen { promised = seen.accepted }
+and_seen (offices text) (replied reply) seen = and_replied reply seen
 and_seen event answer seen = seen
 
 abbrev pub seen_from : Seen → List Turn → Seen

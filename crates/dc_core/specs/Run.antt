@@ -1,18 +1,24 @@
 -- Events in code, and what a run of them leaves (this product).
-use Rattle.std.specs.Prelude.{◌≡◌, ℕ, ◌≤◌, List, ◌++◌, map}
+use Rattle.std.specs.Prelude.{◌≡◌, ◌⊎◌, ℕ, ◌≤◌, ◌+◌, ◌-◌, ◌^◌, Option, None, Some, Err, List, ◌++◌, map}
+use Rattle.dc_base.specs.Failures.{HasRisen}
 use Rattle.dc_sectors.specs.Disk.{Image, Choices, IsImage, LeavesOnly}
 use Rattle.dc_changes.specs.State.{State}
 use Rattle.dc_changes.specs.Valid.{last_moment}
 use Rattle.dc_recovery.specs.Halves.{half_len_of}
+use Rattle.dc_recovery.specs.Stands.{StandsForFront}
+use Rattle.dc_recovery.specs.Store.{Kept}
+use Rattle.dc_upload.specs.declared.line.OfficeLine.{OfficeLine}
+use Rattle.dc_core.specs.declared.fault.CommitFault.{CommitFault}
+use Rattle.dc_core.specs.declared.fault.CommitFault.TheVariants.{Device, Worn, Stopped}
 use Rattle.dc_core.specs.declared.event.Event as declared
-use Rattle.dc_core.specs.declared.event.Event.TheVariants.{Start, Ask, Hear, Commit}
+use Rattle.dc_core.specs.declared.event.Event.TheVariants.{Start, Ask, Hear, Commit, Office}
 use Rattle.dc_core.specs.Core.{Core, opened}
-use Rattle.dc_core.specs.Event.{Event, Answer, starts, asks, hears, commits}
-use Rattle.dc_core.specs.Step.{May, next}
-use Rattle.dc_core.specs.Transcript.{Turn, leads, IsChain, accepted_in}
+use Rattle.dc_core.specs.Event.{Event, Answer, Reply, starts, asks, hears, commits, offices, committed, replied, unstored, uncommitted}
+use Rattle.dc_core.specs.Step.{MayAnswer, after_answer, May, next}
+use Rattle.dc_core.specs.Transcript.{Turn, leads, IsChain, taken_with, accepted_by, accepted_in}
 use Rattle.dc_core.specs.Promised.{promised_in, HoldsFront}
 use Rattle.dc_core.specs.Known.{KnowsItsMeters}
-use Rattle.dc_core.specs.Text.{answer_text, run_text}
+use Rattle.dc_core.specs.Text.{replied_text, answer_text, run_text}
 use Rattle.dc_core.specs.Images.{Machine, IsAt, StandsForPromised}
 
 abbrev pub event_of : declared.Event → Event
@@ -20,6 +26,7 @@ event_of (Start line meter) = starts line meter
 event_of (Ask line) = asks line
 event_of (Hear line moment answer) = hears line moment answer.now
 event_of Commit = commits
+event_of (Office text) = offices text.now
 
 -- what a call asks of its arguments: a moment is a second up to the year 9999
 abbrev pub IsEvent : declared.Event → Type 0
@@ -27,13 +34,44 @@ IsEvent (Start line meter) = Unit {0}
 IsEvent (Ask line) = Unit {0}
 IsEvent (Hear line moment answer) = moment ≤ last_moment
 IsEvent Commit = Unit {0}
+IsEvent (Office text) = Unit {0}
 
--- One event in a state: an answer that it may have, its text is what was written, and the concentrator is in the next state.
-pub record Turned {D : Type 0} (honest : Type 0) (sectors : D → ℕ) (reads : D → Image) (choices : D → Choices) (budget : ℕ) (core : Core) (event : Event) (wrote : List ℕ → Type 0) (new : Machine D) : Type 0 where
+-- the fault of a commit that an answer tells of
+abbrev pub fault_in : Answer → Option CommitFault
+fault_in (committed (Err fault)) = Some fault
+fault_in (replied (unstored fault)) = Some fault
+fault_in (replied (uncommitted change fault)) = Some fault
+fault_in answer = None
+
+-- there is no next sequence, or no next generation
+abbrev pub IsWornOut : {D : Type 0} → Kept D → Type 0
+IsWornOut store = (2 ^ 64 - 1 ≤ store.last + 1) ⊎ (store.root.generation ≡ 2 ^ 64 - 1)
+
+-- It shows: the disk has counted a failure, or the store is worn out.
+abbrev pub IsShown : {D : Type 0} → (D → ℕ) → Machine D → Machine D → Option CommitFault → Type 0
+IsShown failures old new None = Unit {0}
+IsShown failures old new (Some Device) = HasRisen (failures old.store.disk) (failures new.store.disk)
+IsShown failures old new (Some Worn) = IsWornOut new.store
+IsShown failures old new (Some Stopped) = Unit {0}
+
+-- ONE LINE OF THE OFFICE ANSWERED in a state in which nothing waits.
+pub record Answered {D : Type 0} (honest : Type 0) (sectors failures : D → ℕ) (reads : D → Image) (choices : D → Choices) (moment : D → ℕ) (images_since : D → ℕ → Image → Type 0) (budget : ℕ) (core : Core) (line : OfficeLine) (wrote : List ℕ → Type 0) (old new : Machine D) : Type 0 where
+  pub reply : Reply
+  pub may : MayAnswer budget core line reply
+  pub text : wrote (replied_text reply)
+  pub at : IsAt honest sectors reads choices new (after_answer core reply)
+  pub failed : IsShown failures old new (fault_in (replied reply))
+  pub leaves : honest → LeavesOnly moment images_since old.store.disk new.store.disk (StandsForFront (half_len_of (sectors old.store.disk)) core.committed (taken_with reply))
+
+-- ONE EVENT in a state: an answer that it may have, its text is what was written, and the concentrator is in the next state. A
+-- stop at any moment of it leaves what is committed and a front of what waits and of what it accepted.
+pub record Turned {D : Type 0} (honest : Type 0) (sectors failures : D → ℕ) (reads : D → Image) (choices : D → Choices) (moment : D → ℕ) (images_since : D → ℕ → Image → Type 0) (budget : ℕ) (core : Core) (event : Event) (wrote : List ℕ → Type 0) (old new : Machine D) : Type 0 where
   pub answer : Answer
   pub may : May budget core event answer
   pub text : wrote (answer_text answer)
   pub at : IsAt honest sectors reads choices new (next core event answer)
+  pub failed : IsShown failures old new (fault_in answer)
+  pub leaves : honest → LeavesOnly moment images_since old.store.disk new.store.disk (StandsForFront (half_len_of (sectors old.store.disk)) core.committed (core.pending ++ accepted_by core event answer))
 
 -- A RUN of these events, behind the turns that were before, in a life that began with the state: the turns make a chain of
 -- steps, their text is what was written, and the concentrator is where the chain ends. There what is promised is committed, and

@@ -5,10 +5,18 @@ use Rattle.dc_linkframe.specs.Frame.{spelling}
 use Rattle.dc_address.specs.declared.identity.Identity.{Identity}
 use Rattle.dc_records.specs.Body.{continues}
 use Rattle.dc_readout.specs.Summary.{Summary, Verdict, again, ready, new, failed, asked_by, verdict_by, heard_by, begun}
+use Rattle.dc_changes.specs.Apply.{applied}
 use Rattle.dc_changes.specs.declared.change.Change.{Change}
-use Rattle.dc_changes.specs.State.{State, MeterRow, row_of}
+use Rattle.dc_changes.specs.declared.change.Change.TheVariants.{Telegram, Command as Numbered}
+use Rattle.dc_changes.specs.declared.command.Command.TheVariants.{Fit, Move, Out, Confirm, Swap}
+use Rattle.dc_changes.specs.State.{Held, MeterRow, row_of}
+use Rattle.dc_upload.specs.declared.line.OfficeLine.{OfficeLine}
+use Rattle.dc_upload.specs.declared.verdict.Verdict.TheVariants.{Repeat, Do, Show, Refuse}
+use Rattle.dc_upload.specs.Line.{IsOfficeLine, office_text}
+use Rattle.dc_upload.specs.Verdict.{verdict_of}
+use Rattle.dc_upload.specs.Reply.{shown_text, TakesMemory}
 use Rattle.dc_waiting.specs.declared.fault.TakeFault.{TakeFault}
-use Rattle.dc_waiting.specs.Lines.{is_line, settled_lines}
+use Rattle.dc_waiting.specs.Lines.{is_line, settled_lines, lines_without}
 use Rattle.dc_waiting.specs.Taking.{change_of, refuses}
 use Rattle.dc_core.specs.declared.fault.StartFault.{StartFault}
 use Rattle.dc_core.specs.declared.fault.StartFault.TheVariants.{NoLine as StartNoLine, Unknown, Busy, Stopped as StartStopped}
@@ -20,7 +28,8 @@ use Rattle.dc_core.specs.declared.fault.CommitFault.{CommitFault}
 use Rattle.dc_core.specs.declared.fault.CommitFault.TheVariants.{Device, Worn, Stopped as CommitStopped}
 use Rattle.dc_core.specs.Fault.{hear_fault}
 use Rattle.dc_core.specs.Core.{Core, present, session_of, with_session}
-use Rattle.dc_core.specs.Event.{Event, Answer, starts, asks, hears, commits, started, asked, heard, committed}
+use Rattle.dc_core.specs.Event.{Event, Answer, starts, asks, hears, commits, offices, started, asked, heard, committed, replied}
+use Rattle.dc_core.specs.Event.{Reply, unread, unstored, repeated, refused, shown, out_of_memory, obeyed, uncommitted}
 
 -- ---- a readout begins
 
@@ -134,6 +143,82 @@ MayCommit core (Err Device) = (core.pending ≢ []) × (core.stopped ≡ false)
 MayCommit core (Err Worn) = (core.pending ≢ []) × (core.stopped ≡ false)
 MayCommit core (Err CommitStopped) = (core.pending ≢ []) × (core.stopped ≡ true)
 
+-- ---- a line of the office comes
+
+-- all that waits is committed before the line is judged
+abbrev pub settled : Core → Core
+settled core = settled_core core core.pending
+
+-- what a line is judged on
+abbrev pub held : ℕ → Core → Held
+held budget core = record { state = core.committed; budget = budget }
+
+-- the meter that a command removes
+abbrev pub removed_by : Change → Option Identity
+removed_by (Telegram part moment body) = None
+removed_by (Numbered number (Fit meter line address flat)) = None
+removed_by (Numbered number (Move meter flat)) = None
+removed_by (Numbered number (Out meter)) = Some meter
+removed_by (Numbered number (Confirm serial)) = None
+removed_by (Numbered number (Swap old other address)) = Some old
+
+abbrev pub lines_after : Option Identity → List (Option Summary) → List (Option Summary)
+lines_after None lines = lines
+lines_after (Some meter) lines = lines_without meter lines
+
+-- A command is all that waits, and nobody reads a meter that it removes.
+abbrev pub ordered : Change → Core → Core
+ordered change core = record core { pending = change ∷ []; lines = lines_after (removed_by change) core.lines }
+
+-- where nothing waits
+abbrev pub after_answer : Core → Reply → Core
+after_answer core (obeyed number change) = settled (ordered change core)
+after_answer core (uncommitted change fault) = after_commit (ordered change core) (Err fault)
+after_answer core reply = core
+
+abbrev pub after_reply : Core → Reply → Core
+after_reply core unread = core
+after_reply core (unstored fault) = after_commit core (Err fault)
+after_reply core reply = after_answer (settled core) reply
+
+-- the text spells no line
+abbrev pub SpellsNone : List ℕ → Type 0
+SpellsNone text = (line : OfficeLine) → IsOfficeLine line → text ≢ office_text line
+
+pub record Spells (text : List ℕ) (line : OfficeLine) : Type 0 where
+  pub is_line : IsOfficeLine line
+  pub text_is : text ≡ office_text line
+
+-- why what waits isn't committed: as of a commit, but what has stopped takes no line at all
+abbrev pub IsUnstored : Core → CommitFault → Type 0
+IsUnstored core Device = (core.pending ≢ []) × (core.stopped ≡ false)
+IsUnstored core Worn = (core.pending ≢ []) × (core.stopped ≡ false)
+IsUnstored core CommitStopped = core.stopped ≡ true
+
+-- By the verdict on what is committed. A command is done under its number, which is the last one then. Memory is wanted for
+-- a new command, and for the table of a REPORT.
+abbrev pub MayAnswer : ℕ → Core → OfficeLine → Reply → Type 0
+MayAnswer budget core line unread = ⊥
+MayAnswer budget core line (unstored fault) = ⊥
+MayAnswer budget core line (repeated number) = (verdict_of (held budget core) line ≡ Repeat) × (number ≡ core.committed.last_number)
+MayAnswer budget core line (refused code) = verdict_of (held budget core) line ≡ Refuse code
+MayAnswer budget core line (shown text) = (verdict_of (held budget core) line ≡ Show) × (text ≡ shown_text line core.committed)
+MayAnswer budget core line out_of_memory = ((change : Change) × (verdict_of (held budget core) line ≡ Do change)) ⊎ TakesMemory line
+MayAnswer budget core line (obeyed number change) = (verdict_of (held budget core) line ≡ Do change) × (number ≡ (applied change core.committed).last_number)
+MayAnswer budget core line (uncommitted change fault) = (verdict_of (held budget core) line ≡ Do change) × IsUnstored (ordered change core) fault
+
+-- the line is judged once all that waited is committed
+pub record IsJudged (budget : ℕ) (core : Core) (text : List ℕ) (reply : Reply) : Type 0 where
+  pub line : OfficeLine
+  pub spells : Spells text line
+  pub running : core.stopped ≡ false
+  pub answer : MayAnswer budget (settled core) line reply
+
+abbrev pub MayReply : ℕ → Core → List ℕ → Reply → Type 0
+MayReply budget core text unread = SpellsNone text
+MayReply budget core text (unstored fault) = ((line : OfficeLine) × Spells text line) × IsUnstored core fault
+MayReply budget core text reply = IsJudged budget core text reply
+
 -- ---- THE STEP
 
 -- which answers an event may have
@@ -142,22 +227,32 @@ May budget core (starts line meter) (started answer) = answer ≡ start_answer c
 May budget core (asks line) (asked answer) = answer ≡ ask_answer core line
 May budget core (hears line moment bytes) (heard answer) = MayHear (hear_answer budget core line moment bytes) answer
 May budget core commits (committed answer) = MayCommit core answer
+May budget core (offices text) (replied reply) = MayReply budget core text reply
 May budget core (starts line meter) (asked answer) = ⊥
 May budget core (starts line meter) (heard answer) = ⊥
 May budget core (starts line meter) (committed answer) = ⊥
+May budget core (starts line meter) (replied reply) = ⊥
 May budget core (asks line) (started answer) = ⊥
 May budget core (asks line) (heard answer) = ⊥
 May budget core (asks line) (committed answer) = ⊥
+May budget core (asks line) (replied reply) = ⊥
 May budget core (hears line moment bytes) (started answer) = ⊥
 May budget core (hears line moment bytes) (asked answer) = ⊥
 May budget core (hears line moment bytes) (committed answer) = ⊥
+May budget core (hears line moment bytes) (replied reply) = ⊥
 May budget core commits (started answer) = ⊥
 May budget core commits (asked answer) = ⊥
 May budget core commits (heard answer) = ⊥
+May budget core commits (replied reply) = ⊥
+May budget core (offices text) (started answer) = ⊥
+May budget core (offices text) (asked answer) = ⊥
+May budget core (offices text) (heard answer) = ⊥
+May budget core (offices text) (committed answer) = ⊥
 
 -- the one state after it
 abbrev pub next : Core → Event → Answer → Core
 next core (starts line meter) (started answer) = after_start core line meter answer
 next core (hears line moment bytes) (heard answer) = after_hear core line moment bytes answer
 next core commits (committed answer) = after_commit core answer
+next core (offices text) (replied reply) = after_reply core reply
 next core event answer = core

@@ -1,18 +1,21 @@
 -- The line of text of each answer (this product).
-use Rattle.std.specs.Prelude.{ℕ, Bool, true, false, Option, None, Some, Result, Ok, Err, List, ◌++◌, codes, flat_map, if◌then◌else◌}
+use Rattle.std.specs.Prelude.{ℕ, Bool, Option, None, Some, Result, Ok, Err, List, ◌++◌, codes, flat_map, if◌then◌else◌}
 use Rattle.dc_records.specs.Fault.{number_of as content_number, name_of as content_name}
 use Rattle.dc_readout.specs.declared.why.Why.{Why}
 use Rattle.dc_readout.specs.declared.why.Why.TheVariants.{NoAnswer, WrongFrame, WrongAddress, ApplicationError, Content, Stranger, TooManyParts}
 use Rattle.dc_readout.specs.Why.{number_of as why_number, name_of as why_name}
 use Rattle.dc_text.specs.Words.{number_word, fault_text, fault_line}
 use Rattle.dc_text.specs.Hex.{upper_hex}
+use Rattle.dc_upload.specs.Reply.{done_line, refusal_line}
+use Rattle.dc_upload.specs.declared.code.Code.TheVariants.{Syntax, Store, Memory}
 use Rattle.dc_core.specs.declared.fault.StartFault.{StartFault}
 use Rattle.dc_core.specs.declared.line_heard.LineHeard.{LineHeard}
 use Rattle.dc_core.specs.declared.line_heard.LineHeard.TheVariants.{Again, Ready, Accepted, Failed}
 use Rattle.dc_core.specs.declared.fault.HearFault.{HearFault}
 use Rattle.dc_core.specs.declared.fault.CommitFault.{CommitFault}
 use Rattle.dc_core.specs.Fault.{start_number, start_name, hear_number, hear_name, commit_number, commit_name}
-use Rattle.dc_core.specs.Event.{Answer, started, asked, heard, committed}
+use Rattle.dc_core.specs.Event.{Answer, started, asked, heard, committed, replied}
+use Rattle.dc_core.specs.Event.{Reply, unread, unstored, repeated, refused, shown, out_of_memory, obeyed, uncommitted}
 use Rattle.dc_core.specs.Transcript.{Turn}
 
 -- what was refused, and why
@@ -55,11 +58,23 @@ abbrev pub committed_text : Result ℕ CommitFault → List ℕ
 committed_text (Ok count) = codes "COMMITTED" ++ number_word count ++ codes "\n"
 committed_text (Err fault) = refused_text (commit_number fault) (commit_name fault)
 
+-- the office isn't told which fault of a commit it was
+abbrev pub replied_text : Reply → List ℕ
+replied_text unread = refusal_line Syntax
+replied_text (unstored fault) = refusal_line Store
+replied_text (repeated number) = done_line number
+replied_text (refused code) = refusal_line code
+replied_text (shown text) = text
+replied_text out_of_memory = refusal_line Memory
+replied_text (obeyed number change) = done_line number
+replied_text (uncommitted change fault) = refusal_line Store
+
 abbrev pub answer_text : Answer → List ℕ
 answer_text (started answer) = started_text answer
 answer_text (asked answer) = asked_text answer
 answer_text (heard answer) = heard_text answer
 answer_text (committed answer) = committed_text answer
+answer_text (replied reply) = replied_text reply
 
 -- the text of a run, a line for each turn
 abbrev pub run_text : List Turn → List ℕ

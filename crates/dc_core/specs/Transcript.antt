@@ -3,7 +3,8 @@ use Rattle.std.specs.Prelude.{ℕ, Option, None, Some, Ok, List, [], ◌∷◌, 
 use Rattle.dc_changes.specs.declared.change.Change.{Change}
 use Rattle.dc_readout.specs.Summary.{Summary, verdict_by}
 use Rattle.dc_core.specs.Core.{Core, session_of}
-use Rattle.dc_core.specs.Event.{Event, Answer, hears, heard}
+use Rattle.dc_core.specs.Event.{Event, Answer, hears, offices, heard, replied}
+use Rattle.dc_core.specs.Event.{Reply, obeyed, uncommitted}
 use Rattle.dc_core.specs.Step.{May, next, and_pending}
 
 -- an event and its answer
@@ -28,9 +29,16 @@ abbrev pub taken_from : ℕ → List ℕ → Option Summary → List Change
 taken_from moment bytes None = []
 taken_from moment bytes (Some s) = and_pending moment [] (verdict_by s bytes)
 
--- by one turn: the telegram of an answer that was taken
+-- a command that was applied, whether or not its commit failed
+abbrev pub taken_with : Reply → List Change
+taken_with (obeyed number change) = change ∷ []
+taken_with (uncommitted change fault) = change ∷ []
+taken_with reply = []
+
+-- by one turn: the telegram of an answer that was taken, or a new command
 abbrev pub accepted_by : Core → Event → Answer → List Change
 accepted_by core (hears line moment bytes) (heard (Ok answer)) = taken_from moment bytes (session_of core line)
+accepted_by core (offices text) (replied reply) = taken_with reply
 accepted_by core event answer = []
 
 abbrev pub accepted_in : Core → List Turn → List Change

@@ -4,7 +4,7 @@ ghost use Rattle.std.specs.Prelude.{◌≡◌, ◌≤◌, ◌<◌, ℕ, Err, OnO
 ghost use Rattle.dc_base.specs.Failures.{HasRisen};
 ghost use Rattle.dc_sectors.specs.Disk.{Image, IsImage, LeavesOnly};
 ghost use Rattle.dc_changes.specs.State.{State};
-ghost use Rattle.dc_recovery.specs.Halves.{half_len_of};
+ghost use Rattle.dc_recovery.specs.Halves.{budget_of, half_len_of};
 ghost use Rattle.dc_recovery.specs.Stands.{EachStands, Reads, Stands, StandsForOne};
 ghost use Rattle.dc_recovery.specs.Refusal.{IsRefused, IsWorn, TellsOfImage};
 ghost use Rattle.dc_recovery.specs.declared.fault.OpenFault.TheVariants.{NotImage, Worn, Device};
@@ -15,6 +15,7 @@ ghost use Rattle.dc_core.specs.Images.{IsAt};
 
 mod commit;
 mod hear;
+mod office;
 
 use crate::StartFault;
 use dc_address::Identity;
@@ -31,6 +32,7 @@ use std::marker::Model;
 /// `specs/Images.antt`.
 #[derive(Drop)]
 pub struct Concentrator<D: Disk + Drop, A: Allocator + Copy> {
+    alloc: A,
     store: Store<D>,
     house: House<A>,
     waiting: Waiting,
@@ -72,9 +74,11 @@ impl<D: Disk + Drop, A: Allocator + Copy> Concentrator<D, A> {
         ensures premise { D.honest → 131 ≤ D.sectors disk → EachStands (half_len_of (D.sectors disk)) (D.choices disk)
             → IfErr result (λ e. TellsOfImage e.0 → e.0 ≡ Worn) }
         ensures count { IfOk result (λ c. D.sectors c.store.disk ≡ D.sectors disk) }
+        ensures budget { IfOk result (λ c. c.house.budget ≡ budget_of (half_len_of (D.sectors disk))) }
     {
         let (store, house) = Store::open(alloc, disk)?;
         Ok(Concentrator {
+            alloc,
             store,
             house,
             waiting: Waiting::new(),

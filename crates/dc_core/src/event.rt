@@ -20,4 +20,8 @@ pub enum Event<'a> {
     },
     /// What waits is written.
     Commit,
+    /// A line of the office comes, without its line end.
+    Office {
+        text: &'a [u8],
+    },
 }

@@ -4,6 +4,7 @@ ghost use Rattle.dc_core.specs.Known.{NoneIsUnknown};
 ghost use Rattle.dc_core.specs.Lives.{LivesFollow};
 ghost use Rattle.dc_core.specs.Promised.{PromisedIsCommitted};
 ghost use Rattle.dc_core.specs.Toggled.{SettlingToggles};
+ghost use Rattle.dc_core.specs.Told.{ToldIsKept};
 
 /// In every chain of steps from a concentrator that was just opened, what is committed is the register after a front of
 /// the changes accepted, which has all that is promised; the rest is pending.
@@ -26,4 +27,10 @@ pub fn a_settled_telegram_toggles_the_bit()
 /// other state than those for which it may stand.
 pub fn an_image_of_a_life_may_be_opened()
     ensures { LivesFollow }
+{}
+
+/// Whatever state may be found after every such chain, or after a stop within the next event, comes from one of which the
+/// office was told: with the last command's number where a line was answered `OK`, and with what it was shown.
+pub fn what_the_office_is_told_is_kept()
+    ensures { ToldIsKept }
 {}

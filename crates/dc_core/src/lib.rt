@@ -5,12 +5,17 @@
 //! [`Concentrator`] asks for the next telegram only after the last one is on the disk: what is heard waits, a
 //! [`Concentrator::commit`] writes all that waits with one sync, and only then do its lines go on.
 //!
+//! The billing office is answered by what is on the disk: [`Concentrator::office`] commits what waits before it judges a
+//! line, and a command before it acknowledges it.
+//!
 //! Proved: each call is a step of the definition in `specs/Step.antt`, in each state that the concentrator may be in.
 //! Stopped before or within any call of the disk, what is opened again is the register after a front of what was
-//! accepted, which has every telegram after which another request was asked on its line, and all that was accepted
-//! before a commit that answered a number ([`what_is_promised_is_committed`], [`Concentrator::run`]).
+//! accepted, which has every telegram after which another request was asked on its line, every command acknowledged and
+//! every reading shown to the office, and all that was accepted before a commit that answered a number
+//! ([`what_is_promised_is_committed`], [`what_the_office_is_told_is_kept`], [`Concentrator::run`]).
 //!
-//! Only [`Concentrator::open`] takes memory, and [`Concentrator::hear`] for a new telegram.
+//! Only [`Concentrator::open`] takes memory, [`Concentrator::hear`] for a new telegram, and [`Concentrator::office`] for a
+//! new command.
 #![tactic(auto)]
 
 mod concentrator;
@@ -27,6 +32,7 @@ pub use fault::{CommitFault, HearFault, StartFault, WriteFault};
 pub use laws::{
     a_settled_telegram_toggles_the_bit, an_image_of_a_life_may_be_opened,
     no_telegram_asked_for_is_unknown, what_is_promised_is_committed,
+    what_the_office_is_told_is_kept,
 };
 pub use line_heard::LineHeard;
 

@@ -2,13 +2,10 @@
 
 ghost use Rattle.std.specs.Prelude.{◌≡◌, ◌<◌, ◌+◌, ℕ, List, length, take, map, All, OnOk, OnErr};
 ghost use Rattle.dc_base.specs.Failures.{HasRisen};
-ghost use Rattle.dc_sectors.specs.Disk.{LeavesOnly};
 ghost use Rattle.dc_stream.specs.Stream.{Puts, Wrote};
 ghost use Rattle.dc_changes.specs.State.{State};
-ghost use Rattle.dc_recovery.specs.Halves.{half_len_of};
 ghost use Rattle.dc_core.specs.Core.{Core, opened};
 ghost use Rattle.dc_core.specs.Transcript.{Turn, leads, IsChain};
-ghost use Rattle.dc_recovery.specs.Stands.{StandsForFront};
 ghost use Rattle.dc_core.specs.Images.{IsAt};
 ghost use Rattle.dc_core.specs.Run.{event_of, IsEvent, Turned, Ran};
 
@@ -19,7 +16,7 @@ use dc_stream::{IoFault, Sink};
 use std::alloc::Allocator;
 
 impl<D: Disk + Drop, A: Allocator + Copy> Concentrator<D, A> {
-    /// Does the events in order, and writes the text of each answer, a line each.
+    /// Does the events in order, and writes the text of each answer.
     ///
     /// # Errors
     /// `WriteFault` where the writer failed. The event at which it did is done, and none behind it; how much of the text was
@@ -50,9 +47,7 @@ impl<D: Disk + Drop, A: Allocator + Copy> Concentrator<D, A> {
     fn turn<W: Sink>(&mut self, event: &Event<'_>, out: &mut W) -> Result<(), IoFault>
         requires { IsEvent event.now }
         ensures turned { (core : Core) → IsAt D.honest D.sectors D.reads D.choices self.old core
-            → Turned D.honest D.sectors D.reads D.choices self.old.house.budget core (event_of event.now) (Wrote W.written W.put_failures result out.old out.new) self.new }
-        ensures leaves { D.honest → (core : Core) → IsAt D.honest D.sectors D.reads D.choices self.old core
-            → LeavesOnly D.moment D.images_since self.old.store.disk self.new.store.disk (StandsForFront (half_len_of (D.sectors self.old.store.disk)) core.committed core.pending) }
+            → Turned D.honest D.sectors D.failures D.reads D.choices D.moment D.images_since self.old.house.budget core (event_of event.now) (Wrote W.written W.put_failures result out.old out.new) self.old self.new }
         ensures count { D.sectors self.new.store.disk ≡ D.sectors self.old.store.disk }
         ensures budget { self.new.house.budget ≡ self.old.house.budget }
         ensures fault { OnErr result (HasRisen (W.put_failures out.old) (W.put_failures out.new)) }
@@ -79,6 +74,10 @@ impl<D: Disk + Drop, A: Allocator + Copy> Concentrator<D, A> {
                 let answer = self.commit();
                 put_committed(out, answer)
             }
+            Event::Office { text } => match self.office(text, out) {
+                Ok(()) => Ok(()),
+                Err(WriteFault) => Err(IoFault),
+            },
         }
     }
 }

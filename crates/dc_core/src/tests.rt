@@ -4,6 +4,7 @@ ghost use Rattle.dc_changes.specs.Valid.{IsChange};
 ghost use Rattle.dc_core.specs.Run.{IsEvent};
 
 mod failures;
+mod office;
 mod readouts;
 mod room;
 
@@ -11,12 +12,13 @@ use crate::{
     CommitFault, Concentrator, Event, HearFault, LineHeard, StartFault,
     a_settled_telegram_toggles_the_bit, an_image_of_a_life_may_be_opened,
     no_telegram_asked_for_is_unknown, what_is_promised_is_committed,
+    what_the_office_is_told_is_kept,
 };
 use dc_address::{Identity, Primary};
 use dc_changes::{Change, Command, Flat, encode_change};
 use dc_recovery::Store;
 use dc_sectors::{Disk, MemoryDisk};
-use dc_stream::Bytes;
+use dc_stream::{Bytes, FixedSink};
 use std::alloc::{Allocator, Global};
 use std::process::Abort;
 use std::test::Fail;
@@ -53,6 +55,7 @@ enum Step<'a> {
     Ask(u8, Option<&'a [u8]>),
     Hear(u8, &'a [u8], Result<LineHeard, HearFault>),
     Commit(Result<usize, CommitFault>),
+    Office(&'a [u8], &'a [u8]),
 }
 
 /// The event of a step; a readout is of the one meter.
@@ -71,6 +74,7 @@ fn event_of<'a>(step: &Step<'a>) -> Result<Event<'a>, Fail>
             answer,
         },
         Step::Commit(_) => Event::Commit,
+        Step::Office(text, _) => Event::Office { text },
     })
 }
 
@@ -110,6 +114,11 @@ impl<A: Allocator + Copy> Life<A> {
                 assert_eq!(rt; self.concentrator.hear(line, MOMENT, answer), wanted);
             }
             Step::Commit(wanted) => assert_eq!(rt; self.concentrator.commit(), wanted),
+            Step::Office(line, wanted) => {
+                let mut reply = FixedSink::<256>::new();
+                self.concentrator.office(line, &mut reply)?;
+                assert_eq!(rt; reply.as_slice(), wanted);
+            }
         }
         Ok(())
     }
@@ -228,4 +237,5 @@ fn the_laws_are_there(_rt: HostRuntime) {
     no_telegram_asked_for_is_unknown();
     a_settled_telegram_toggles_the_bit();
     an_image_of_a_life_may_be_opened();
+    what_the_office_is_told_is_kept();
 }

@@ -10,7 +10,7 @@ use Rattle.dc_address.specs.Mask.{mask_of, matches}
 use Rattle.dc_address.proofs.Masks.{matches-mask_of}
 use Rattle.dc_records.specs.Body.{continues}
 use Rattle.dc_records.specs.Telegram.{Parsed, telegram_at}
-use Rattle.dc_records.specs.Laws.Telegrams.{telegram_takes}
+use Rattle.dc_records.proofs.Spellings.Telegrams.{telegram_takes}
 use Rattle.dc_readout.specs.declared.stage.Stage.{Stage}
 use Rattle.dc_readout.specs.declared.stage.Stage.TheVariants.{Resets, Selects, Requests, Pending, Ended}
 use Rattle.dc_readout.specs.Answer.{acknowledged, answered, to_command, to_request}

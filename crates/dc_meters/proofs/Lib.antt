@@ -11,3 +11,8 @@ mod Ascending
 mod Lists
 mod Decoded
 pub mod DueDates
+pub mod SameOrder
+pub mod UnderKeys
+mod FiledReadings
+mod Ordered
+mod FromSerial

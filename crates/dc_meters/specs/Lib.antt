@@ -4,3 +4,4 @@ pub mod Points
 pub mod Due
 pub mod Steps
 pub mod Replay
+pub mod Orders

@@ -4,6 +4,8 @@ ghost use Rattle.std.specs.Prelude.{◌≡◌, ◌≤◌, option_copied};
 ghost use Rattle.dc_changes.specs.State.{empty_state, row_of};
 ghost use Rattle.dc_changes.specs.Size.{size_of, empty_size};
 ghost use Rattle.dc_changes.specs.Valid.{IsState};
+ghost use Rattle.std.specs.VecDeque.Iter.{deque_iter_rest};
+ghost use Rattle.dc_meters.specs.Orders.{readings_from, reading_of, serials_of};
 
 mod apply;
 mod check;
@@ -11,12 +13,12 @@ mod decode;
 mod encode;
 mod replay;
 
-use crate::{Meter, Reading};
+use crate::{Meter, Reading, ReadingList, Serials};
 use dc_address::Identity;
 use dc_changes::CommandLine;
 use std::alloc::Allocator;
-use std::collections::BTreeMap;
 use std::collections::btree_map::Iter;
+use std::collections::{BTreeMap, VecDeque, vec_deque};
 use std::marker::Model;
 
 /// The bytes that a state without meters and readings is counted as.
@@ -27,7 +29,7 @@ const EMPTY_SIZE: u32 = 153;
 pub struct House<A: Allocator + Copy> {
     alloc: A,
     meters: BTreeMap<Identity, Meter<A>, A>,
-    readings: Vec<Reading<A>, A>,
+    readings: ReadingList<A>,
     next_serial: u64,
     confirmed: u64,
     last_number: u64,
@@ -56,7 +58,7 @@ impl<A: Allocator + Copy> House<A> {
         House {
             alloc,
             meters: BTreeMap::new(alloc),
-            readings: Vec::new(alloc),
+            readings: ReadingList::new(alloc),
             next_serial: 1,
             confirmed: 0,
             last_number: 0,
@@ -131,10 +133,31 @@ impl<A: Allocator + Copy> House<A> {
     }
 
     /// The readings that aren't confirmed, by serial.
-    pub fn readings(&self) -> &[Reading<A>]
-        ensures readings { result.now ≡ self.now.state.readings }
+    pub fn readings(&self) -> &VecDeque<Reading<A>, A>
+        ensures readings { result.now.items ≡ self.now.state.readings }
         ensures is_state { IsState self.now.budget self.now.state }
     {
-        &self.readings
+        self.readings.all()
+    }
+
+    /// The readings with at least a serial, by serial. Those before aren't gone over.
+    pub fn from(&self, serial: u64) -> vec_deque::Iter<'_, Reading<A>>
+        ensures { deque_iter_rest result ≡ readings_from serial self.now.state.readings }
+    {
+        self.readings.from(serial)
+    }
+
+    /// The reading with a serial.
+    pub fn reading(&self, serial: u64) -> Option<&Reading<A>>
+        ensures { option_copied result ≡ reading_of serial self.now.state.readings }
+    {
+        self.readings.reading(serial)
+    }
+
+    /// The serials of a meter's readings, ascending, whether it is registered or not.
+    pub fn serials_of(&self, meter: &Identity) -> Serials<'_, Identity>
+        ensures { result ≡ serials_of meter.now self.now.state.readings }
+    {
+        self.readings.serials_of(*meter)
     }
 }

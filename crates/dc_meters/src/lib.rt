@@ -13,18 +13,24 @@
 #![tactic(auto)]
 
 mod due;
+mod filed;
 mod house;
 mod meter;
 mod part;
 mod parts;
 mod points;
 mod reading;
+mod reading_list;
+mod serials;
 #[cfg(test)]
 mod tests;
 
 pub use due::{DueDays, DuePoints, StorageDates};
+pub use filed::Filed;
 pub use house::House;
 pub use meter::Meter;
 pub use part::Part;
 pub use points::Points;
 pub use reading::Reading;
+use reading_list::ReadingList;
+pub use serials::Serials;

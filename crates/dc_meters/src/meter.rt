@@ -1,13 +1,14 @@
 //! A registered meter.
 
-ghost use Rattle.std.specs.Prelude.{◌≡◌, ◌+◌, ◌≤◌, ◌==◌, if◌then◌else◌, length, [], Some, true, OnOk, OnErr, ◌∷◌, ◌++◌};
+ghost use Rattle.std.specs.Prelude.{◌≡◌, ◌+◌, ◌≤◌, ◌==◌, if◌then◌else◌, length, [], Some, true, OnOk, OnErr, IfOk, ◌∷◌, ◌++◌, ◌<◌, ◌^◌, All};
 ghost use Rattle.dc_changes.specs.Apply.{joined};
 ghost use Rattle.dc_changes.specs.Accepts.{continues, occupies, same_primary};
-ghost use Rattle.dc_changes.specs.Size.{meter_size, parts_size};
+ghost use Rattle.dc_changes.specs.Size.{meter_size, parts_size, reading_size};
 ghost use Rattle.dc_changes.specs.Flat.{IsFlat};
 ghost use Rattle.dc_changes.specs.Valid.{IsMeter, IsPart, IsReading, most_parts};
 
 use crate::part::parts_size;
+use crate::reading_list::{Ended, ReadingList};
 use crate::{Part, Reading};
 use dc_address::{Identity, Primary};
 use dc_base::NoMemory;
@@ -195,6 +196,48 @@ impl<A: Allocator> Meter<A> {
     {
         let parts = replace(&mut self.parts, Vec::new(alloc));
         Reading::new(serial, meter, self.flat, parts)
+    }
+}
+
+impl<A: Allocator + Copy> Meter<A> {
+    /// The part ends the readout: with the open ones it becomes a reading, in the flat of today. Gives the bytes that
+    /// the reading is counted as. Where memory is refused, nothing has changed.
+    pub(crate) fn finish(
+        &mut self,
+        alloc: A,
+        number: u8,
+        part: Part<A>,
+        ended: Ended,
+        readings: &mut ReadingList<A>,
+    ) -> Result<u32, NoMemory>
+        requires continues { continues number (Some self.old) ≡ true }
+        requires part_is { IsPart part }
+        requires later { All (λ r. r.serial < ended.serial) readings.old.items }
+        requires fits { ended.serial < 2 ^ 64 }
+        ensures ok { OnOk result (readings.new.items ≡ readings.old.items ++ record { serial = ended.serial; meter = ended.meter; flat = self.old.flat; parts = joined number part self.old.parts } ∷ []) }
+        ensures closed { OnOk result (self.new ≡ record self.old { parts = [] }) }
+        ensures size { IfOk result (λ size. size ≡ reading_size (record { serial = ended.serial; meter = ended.meter; flat = self.old.flat; parts = joined number part self.old.parts })) }
+        ensures err { OnErr result (self.new ≡ self.old) }
+        ensures is_reading { OnOk result (IsReading (record { serial = ended.serial; meter = ended.meter; flat = self.old.flat; parts = joined number part self.old.parts })) }
+        ensures unread { OnErr result (readings.new ≡ readings.old) }
+        ensures is_meter { IsMeter self.new }
+    {
+        if number == 1 {
+            // The open parts are dropped only once the reading is there.
+            let mut anew = Meter::new(alloc, self.line, self.address, self.flat);
+            anew.push(part)?;
+            let size = readings.close(alloc, ended, &mut anew)?;
+            *self = anew;
+            return Ok(size);
+        }
+        self.push(part)?;
+        match readings.close(alloc, ended, self) {
+            Ok(size) => Ok(size),
+            Err(refused) => {
+                self.parts.pop();
+                Err(refused)
+            }
+        }
     }
 }
 

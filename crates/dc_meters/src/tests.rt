@@ -15,6 +15,7 @@ use std::test::Fail;
 
 mod decoding;
 mod due;
+mod orders;
 
 // The meter 12345678.PAD.01.07 tells a volume, and then a date and the volume on it.
 const FIRST: &[u8] =
@@ -176,7 +177,7 @@ fn the_register_changes(rt: HostRuntime) -> Result<(), Fail> {
 #[test]
 fn each_growth_is_refused_in_turn(rt: HostRuntime) -> Result<(), Fail> {
     let heap = Refusing::new(rt.alloc());
-    for (at, wanted) in [(0usize, 1u64), (1, 2), (2, 2)] {
+    for (at, wanted) in [(0usize, 1u64), (1, 2), (2, 3)] {
         let mut refused = 0;
         for k in 1..20u64 {
             heap.refuse(0);

@@ -1,8 +1,10 @@
 pub mod Feeds
 pub mod Cuts
 pub mod Inputs
+pub mod LineRuns
 pub mod Readings
 pub mod Records
+pub mod Scripts
 pub mod Solid
 pub mod Spelled
 pub mod Steps

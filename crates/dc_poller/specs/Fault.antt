@@ -1,16 +1,35 @@
 -- The faults that stop an engine of the program, by number and by name (this product).
 use Rattle.std.specs.Prelude.{ℕ, List, codes}
+use Rattle.dc_recovery.specs.declared.fault.OpenFault.{OpenFault}
 use Rattle.dc_poller.specs.declared.fault.ProgramFault.{ProgramFault}
-use Rattle.dc_poller.specs.declared.fault.ProgramFault.TheVariants.{Read, TooLong, Write, NoMemory}
+use Rattle.dc_poller.specs.declared.fault.ProgramFault.TheVariants.{Read, TooLong, Write, NoMemory, Open}
 
 abbrev pub number_of : ProgramFault → ℕ
 number_of Read = 1
 number_of TooLong = 2
 number_of Write = 3
 number_of NoMemory = 4
+number_of (Open fault) = 5
 
 abbrev pub name_of : ProgramFault → List ℕ
 name_of Read = codes "Read"
 name_of TooLong = codes "TooLong"
 name_of Write = codes "Write"
 name_of NoMemory = codes "NoMemory"
+name_of (Open fault) = codes "Open"
+
+-- what is said of why an image wasn't opened
+abbrev pub IfOpen : ProgramFault → (OpenFault → Type 0) → Type 0
+IfOpen Read said = Unit {0}
+IfOpen TooLong said = Unit {0}
+IfOpen Write said = Unit {0}
+IfOpen NoMemory said = Unit {0}
+IfOpen (Open fault) said = said fault
+
+-- the input wasn't read, or no memory was there for it
+abbrev pub IsOfReading : ProgramFault → Type 0
+IsOfReading Read = Unit {0}
+IsOfReading TooLong = Unit {0}
+IsOfReading Write = ⊥
+IsOfReading NoMemory = Unit {0}
+IsOfReading (Open fault) = ⊥

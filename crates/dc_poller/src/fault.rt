@@ -5,6 +5,7 @@ ghost use Rattle.dc_poller.specs.Fault.{number_of, name_of};
 ghost use Rattle.dc_poller.specs.declared.fault.ProgramFault.TheVariants.{NoMemory};
 
 use dc_base::NoMemory;
+use dc_recovery::OpenFault;
 use thiserror::Error;
 
 /// Why an engine of the program stopped (this product).
@@ -22,10 +23,13 @@ pub enum ProgramFault {
     /// Memory was refused.
     #[error("memory was refused")]
     NoMemory,
+    /// The image wasn't opened.
+    #[error("the image isn't opened: {0}")]
+    Open(OpenFault),
 }
 
 impl ProgramFault {
-    /// 1 to 4.
+    /// 1 to 5.
     pub fn number(&self) -> u8
         ensures { result ≡ number_of self.now }
     {
@@ -34,6 +38,7 @@ impl ProgramFault {
             ProgramFault::TooLong => 2,
             ProgramFault::Write => 3,
             ProgramFault::NoMemory => 4,
+            ProgramFault::Open(_) => 5,
         }
     }
 
@@ -46,6 +51,7 @@ impl ProgramFault {
             ProgramFault::TooLong => "TooLong",
             ProgramFault::Write => "Write",
             ProgramFault::NoMemory => "NoMemory",
+            ProgramFault::Open(_) => "Open",
         }
     }
 }

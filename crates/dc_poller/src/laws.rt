@@ -6,6 +6,7 @@ ghost use Rattle.dc_linkframe.specs.Frame.{FrameSeen, HasRoom, spelling};
 ghost use Rattle.dc_changes.specs.declared.change.Change.{Change};
 ghost use Rattle.dc_poller.specs.Fold.{IsFolded, IsReadAs};
 ghost use Rattle.dc_poller.specs.Lines.{LacksFeed, lines_of};
+ghost use Rattle.dc_poller.specs.ScriptLine.{LineSeen, IsLineOf};
 ghost use Rattle.dc_text.specs.Hex.{bytes_of, upper_hex};
 ghost use Rattle.dc_poller.specs.Frames.{frames_of, frame_text, all_shown};
 
@@ -44,3 +45,9 @@ pub fn an_input_has_one_fold()
 {
     a_line_has_one_change();
 }
+
+/// A line of a script asks for one thing, if any.
+#[tactic(auto, using(crate::proofs::Scripts::one_line))]
+pub fn a_script_line_asks_for_one_thing()
+    ensures { (text : List ℕ) (asked other : LineSeen) → IsLineOf text asked → IsLineOf text other → asked ≡ other }
+{}

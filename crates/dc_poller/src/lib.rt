@@ -9,13 +9,17 @@
 //! writes an answer to each line and then the register. What it writes is the text that `specs/Fold.antt` defines, and
 //! its answer tells whether a line is none of those.
 //!
+//! [`run_script`] reads the lines of a script ([`ScriptLine`]), opens an image and does what they ask for, each line one
+//! event of a concentrator. What it writes, and what it leaves of the image at every moment, is what the run of these
+//! events writes and leaves (`specs/Script.antt`, `specs/ImageRun.antt`).
+//!
 //! Read and write faults are answered only where that end counted a failure, and an input over 1 MiB is never worked
-//! on. The input is read and all memory is taken before anything is written. They put many small pieces: a caller gives
-//! them a sink that gathers these, as [`Buffered`](dc_text::Buffered).
+//! on. The input is read before anything is written; `decode` and `fold` take all their memory before that, too. They put
+//! many small pieces: a caller gives them a sink that gathers these, as [`Buffered`](dc_text::Buffered).
 //!
 //! Laws of these texts: [`lines_end_at_feeds`]; [`hex_is_read_back`]; [`frames_are_told_in_turn`], by which a line's
-//! bytes come apart into texts without loss, and frames that follow one another are told one by one; and
-//! [`an_input_has_one_fold`].
+//! bytes come apart into texts without loss, and frames that follow one another are told one by one;
+//! [`an_input_has_one_fold`]; and [`a_script_line_asks_for_one_thing`].
 #![tactic(auto)]
 
 mod decode;
@@ -26,6 +30,9 @@ mod input;
 mod laws;
 mod lines;
 mod register;
+mod run;
+mod script;
+mod script_line;
 mod seen;
 mod spaces;
 mod telegram;
@@ -34,10 +41,15 @@ pub use decode::decode_lines;
 pub use fault::ProgramFault;
 pub use fold::fold_lines;
 pub use laws::{
-    an_input_has_one_fold, frames_are_told_in_turn, hex_is_read_back, lines_end_at_feeds,
+    a_script_line_asks_for_one_thing, an_input_has_one_fold, frames_are_told_in_turn,
+    hex_is_read_back, lines_end_at_feeds,
 };
+pub use run::run_script;
+pub use script_line::ScriptLine;
 
 #[cfg(test)]
 mod fold_tests;
+#[cfg(test)]
+mod run_tests;
 #[cfg(test)]
 mod tests;

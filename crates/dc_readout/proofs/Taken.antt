@@ -8,7 +8,7 @@ use Rattle.dc_address.proofs.Identities.{same_identity}
 use Rattle.dc_records.specs.declared.fault.BodyFault.{BodyFault}
 use Rattle.dc_records.specs.Body.{continues}
 use Rattle.dc_records.specs.Telegram.{Parsed, telegram_at}
-use Rattle.dc_records.specs.Laws.Telegrams.{telegram_takes}
+use Rattle.dc_records.proofs.Spellings.Telegrams.{telegram_takes}
 use Rattle.dc_readout.specs.declared.why.Why.TheVariants.{Stranger, TooManyParts}
 use Rattle.dc_readout.specs.declared.stage.Stage.{Stage}
 use Rattle.dc_readout.specs.declared.stage.Stage.TheVariants.{Requests}

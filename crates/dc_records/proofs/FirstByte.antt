@@ -9,9 +9,9 @@ use Rattle.std.specs.List.{flat_map, AllByRecursion}
 use Rattle.std.proofs.lemmas.List.Concat.{flat_map-cons}
 use Rattle.dc_records.specs.Body.{Ending, IsEnd, Item, filler, spelled, IsItem, text_of, Front, ends, skips, gives, front_at}
 use Rattle.dc_records.specs.Stops.{GoesOn, IsHead, Stops, reserved, many_difes, many_vifes, extension, text_length, data_length, cut, Fails, IsItemOrEnd, Continues, HasBadByte, IsFirstFault}
-use Rattle.dc_records.specs.Laws.Faults.{any_vib, any_data, spelled_by, goes_high, stops_on, stops_front, spells_front}
-use Rattle.dc_records.specs.Laws.Fields.{ok_is, done}
-use Rattle.dc_records.specs.Laws.Bodies.{end_front, filler_front}
+use Rattle.dc_records.proofs.Spellings.Faults.{any_vib, any_data, spelled_by, goes_high, stops_on, stops_front, spells_front}
+use Rattle.dc_records.proofs.Spellings.Fields.{ok_is, done}
+use Rattle.dc_records.proofs.Spellings.Bodies.{end_front, filler_front}
 
 record Snoc (xs : List ℕ) : Type 0 where
   pub front : List ℕ

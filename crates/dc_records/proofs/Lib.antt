@@ -1,4 +1,5 @@
--- lemmas of this crate alone
+-- lemmas by topic
 pub mod Bounds
 pub mod FirstByte
 pub mod Rows
+pub mod Spellings

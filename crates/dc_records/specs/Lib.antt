@@ -8,4 +8,3 @@ pub mod Seen
 pub mod Header
 pub mod Telegram
 pub mod Records
-pub mod Laws

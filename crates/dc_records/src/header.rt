@@ -45,7 +45,7 @@ impl Header {
     }
 
     // The same by the reading function alone, from which `read` draws its clauses.
-    #[tactic(auto, using(crate::specs::Laws::Headers::at_short))]
+    #[tactic(auto, using(crate::proofs::Spellings::Headers::at_short))]
     fn read_exact(body: &[u8]) -> Result<Header, BodyFault>
         ensures { result ≡ header_at body.now }
     {

@@ -11,7 +11,7 @@ use crate::record::Record;
 const MOST_EXTENSIONS: usize = 10;
 
 // How many bytes follow `last`, each announced by bit 7 of the one before it: at most `room`, else `many`.
-#[tactic(auto, using(crate::specs::Laws::Chain::chain_ends, crate::specs::Laws::Chain::chain_full))]
+#[tactic(auto, using(crate::proofs::Spellings::Chain::chain_ends, crate::proofs::Spellings::Chain::chain_full))]
 fn chain_len(many: BodyFault, room: usize, last: u8, bytes: &[u8]) -> Result<usize, BodyFault>
     ensures exact { result ≡ chain_len many room last bytes.now }
     ensures room { IfOk result (λ n. n ≤ room) }

@@ -44,7 +44,7 @@ impl<'a> Model for Records<'a> {
 }
 
 impl<'a> Records<'a> {
-    #[tactic(auto, using(crate::specs::Laws::Turns::fewer_records))]
+    #[tactic(auto, using(crate::proofs::Spellings::Turns::fewer_records))]
     pub(crate) fn new(left: &'a [u8]) -> Self
         requires { IsOk (content_at left.now) }
         ensures list { result ≡ records_in (content_at left.now) }

@@ -60,7 +60,7 @@ impl<'a> Telegram<'a> {
     }
 
     /// The body, as it was passed to [`Telegram::parse`].
-    #[tactic(auto, unfolding(crate::specs::Telegram::parsed), using(crate::specs::Laws::Telegrams::parsed_again))]
+    #[tactic(auto, unfolding(crate::specs::Telegram::parsed), using(crate::proofs::Spellings::Telegrams::parsed_again))]
     pub fn body(&self) -> &'a [u8]
         ensures value { result.now ≡ (parsed self.now).body }
         // So whoever is handed a telegram knows that it is one.

@@ -63,5 +63,5 @@ fn push_due<A: Allocator + Copy>(
 pub(crate) fn reading<A: Allocator + Copy>(house: &House<A>, serial: u64) -> Option<&Reading<A>>
     ensures { option_copied result ≡ find (λ r. r.serial == serial) house.now.state.readings }
 {
-    house.readings().iter().find(|r| r.serial() == serial)
+    house.reading(serial)
 }

@@ -1,9 +1,9 @@
 -- The codes against a command are its faults, in their order; and a command that was done is a repeat.
-use Rattle.std.proofs.Common.{◌≡◌, ℕ, ◌+◌, Bool, true, false, cond, Option, None, Some, refl, ap, eq-eqb, subst}
+use Rattle.std.proofs.Common.{◌≡◌, ℕ, ◌+◌, Bool, true, false, not, cond, eqb, Option, None, Some, refl, ap, sym, eq-eqb, subst}
 use Rattle.std.proofs.lemmas.Bool.{and_from}
 use Rattle.std.proofs.lemmas.Slice.Eq.{bytes_eq-Decides}
 use Rattle.std.specs.Prelude.{option_map}
-use Rattle.dc_changes.specs.Accepts.{command_refusal, is_known, is_unknown, is_address_taken, is_beyond, is_full}
+use Rattle.dc_changes.specs.Accepts.{Accepts, command_refusal, is_known, is_unknown, is_address_taken, is_beyond, is_full}
 use Rattle.dc_changes.specs.Apply.{applied}
 use Rattle.dc_changes.specs.Line.{line_of}
 use Rattle.dc_changes.specs.State.{State, Held}
@@ -12,10 +12,10 @@ use Rattle.dc_changes.specs.declared.change.Change.TheVariants.{Command as Order
 use Rattle.dc_changes.specs.declared.command.Numbered.{Numbered}
 use Rattle.dc_changes.specs.declared.fault.ChangeFault.TheVariants as fault
 use Rattle.dc_upload.specs.Code.{code_of}
-use Rattle.dc_upload.specs.Reply.{done_line, reply_text}
+use Rattle.dc_upload.specs.Reply.{done_line, reply_text, TakesMemory}
 use Rattle.dc_upload.specs.Verdict.{code_against, granted, is_repeat, repeats, unless, verdict_of}
 use Rattle.dc_upload.specs.declared.code.Code.{Code}
-use Rattle.dc_upload.specs.declared.code.Code.TheVariants.{Known, Unknown, Address, Beyond, Full}
+use Rattle.dc_upload.specs.declared.code.Code.TheVariants.{Order, Known, Unknown, Address, Beyond, Full}
 use Rattle.dc_upload.specs.declared.line.OfficeLine.{OfficeLine}
 use Rattle.dc_upload.specs.declared.line.OfficeLine.TheVariants.{Command, Window, Register, Report}
 use Rattle.dc_upload.specs.declared.verdict.Verdict.TheVariants.{Repeat, Do}
@@ -76,3 +76,58 @@ unfolding reply_text verdict_of
 replied house ordered change is =
     let free = unrefused (repeats (Command ordered) house.state) (code_against house.budget (Command ordered) house.state) (Command ordered) change is in
     rw (repeats_done (Command ordered) change house.state free) (ap done_line (number_kept ordered change house.state free))
+
+-- ---- FOR THE CRATES ABOVE: what is to be done is a command, and accepted
+
+pub record IsOrder (house : Held) (change : Change) : Type 0 where
+  pub ordered : Numbered
+  pub change_is : change ≡ Ordered ordered.number ordered.command
+  pub accepted : Accepts house.budget change house.state
+
+-- nothing stands against a line: its number is the next one, and its command has no fault
+clear : (last : ℕ) (next known unknown address beyond full : Bool)
+    → cond (not next) (Some (Order last)) (cond known (Some Known) (cond unknown (Some Unknown) (cond address (Some Address) (cond beyond (Some Beyond) (cond full (Some Full) None))))) ≡ None
+    → (next ≡ true) × (cond known (Some fault.Known) (cond unknown (Some fault.Unknown) (cond address (Some fault.AddressTaken) (cond beyond (Some fault.Beyond) (cond full (Some fault.Full) None)))) ≡ None)
+clear last false known unknown address beyond full e = absurd cc
+clear last true true unknown address beyond full e = absurd cc
+clear last true false true address beyond full e = absurd cc
+clear last true false false true beyond full e = absurd cc
+clear last true false false false true full e = absurd cc
+clear last true false false false false true e = absurd cc
+clear last true false false false false false e = (refl, refl)
+
+unhindered : (r : Bool) (code : Option Code) (line : OfficeLine) (change : Change) → cond r Repeat (unless code line) ≡ Do change → code ≡ None
+unhindered true code line change is = absurd cc
+unhindered false (Some code) line change is = absurd cc
+unhindered false None line change is = refl
+
+pub order_of : (house : Held) (line : OfficeLine) (change : Change) → verdict_of house line ≡ Do change → IsOrder house change
+unfolding verdict_of
+order_of house (Command ordered) change is =
+    let s = house.state in
+    let command = ordered.command in
+    let line : OfficeLine = Command ordered in
+    let free = unrefused (repeats line s) (code_against house.budget line s) line change is in
+    let none : code_against house.budget line s ≡ None = unhindered (repeats line s) (code_against house.budget line s) line change is in
+    let same = same_change (Ordered ordered.number command) change free in
+    let both_are = clear s.last_number (eqb ordered.number (s.last_number + 1)) (is_known command s) (is_unknown command s) (is_address_taken command s) (is_beyond command s) (is_full house.budget command s) none in
+    record {
+      ordered = ordered;
+      change_is = sym same;
+      accepted = subst (λ (c : Change). Accepts house.budget c s) same (record { next = both_are.0; unrefused = both_are.1 });
+    }
+order_of house (Window from count) change is =
+    absurd (let free = unrefused (repeats (Window from count) house.state) (code_against house.budget (Window from count) house.state) (Window from count) change is in cc)
+order_of house Register change is =
+    absurd (let free = unrefused (repeats Register house.state) (code_against house.budget Register house.state) Register change is in cc)
+order_of house (Report date) change is =
+    absurd (let free = unrefused (repeats (Report date) house.state) (code_against house.budget (Report date) house.state) (Report date) change is in cc)
+
+-- what is done takes no memory for its reply
+pub done_without_memory : (house : Held) (line : OfficeLine) (change : Change) → verdict_of house line ≡ Do change → TakesMemory line → ⊥
+unfolding verdict_of
+done_without_memory house (Command ordered) change is takes = takes
+done_without_memory house (Window from count) change is takes = takes
+done_without_memory house Register change is takes = takes
+done_without_memory house (Report date) change is takes =
+    absurd (let free = unrefused (repeats (Report date) house.state) (code_against house.budget (Report date) house.state) (Report date) change is in cc)

@@ -1,7 +1,8 @@
 -- The readings that the office is shown (this product).
-use Rattle.std.specs.Prelude.{ℕ, ◌+◌, List, [], ◌∷◌, ◌++◌, codes, length, filter, nat_le, take}
+use Rattle.std.specs.Prelude.{ℕ, ◌+◌, List, [], ◌∷◌, ◌++◌, codes, length, take}
 use Rattle.dc_address.specs.Text.{text_of}
 use Rattle.dc_changes.specs.State.{State, PartRow, ReadingRow}
+use Rattle.dc_meters.specs.Orders.{readings_from}
 use Rattle.dc_text.specs.Hex.{upper_hex}
 use Rattle.dc_text.specs.Words.{number_word}
 
@@ -25,10 +26,6 @@ reading_line reading =
 unfoldable pub reading_lines : ReadingRow → List ℕ
 reading_lines reading = reading_line reading ++ part_lines 1 reading.parts
 
--- the readings with at least a serial
-abbrev pub readings_from : ℕ → State → List ReadingRow
-readings_from serial s = filter (λ reading. nat_le serial reading.serial) s.readings
-
--- so many of them at most
+-- the readings with at least a serial, so many of them at most
 abbrev pub window : ℕ → ℕ → State → List ReadingRow
-window from count s = take count (readings_from from s)
+window from count s = take count (readings_from from s.readings)

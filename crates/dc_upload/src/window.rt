@@ -1,9 +1,10 @@
 //! The readings that the office is shown.
 
-ghost use Rattle.std.specs.Prelude.{◌≡◌, ◌≤◌, filter, flat_map, length, nat_le};
+ghost use Rattle.std.specs.Prelude.{flat_map, take};
+ghost use Rattle.std.specs.VecDeque.Iter.{deque_iter_rest};
 ghost use Rattle.dc_stream.specs.Stream.{Wrote};
 ghost use Rattle.dc_upload.specs.Reply.{window_text};
-ghost use Rattle.dc_upload.specs.Window.{part_line, part_lines, reading_line, reading_lines, readings_from};
+ghost use Rattle.dc_upload.specs.Window.{part_line, part_lines, reading_line, reading_lines};
 
 use crate::reply::write_end;
 use crate::words::put_word;
@@ -11,6 +12,7 @@ use dc_meters::{House, Part, Reading};
 use dc_stream::{IoFault, Sink};
 use dc_text::{put_hex, put_number_word};
 use std::alloc::Allocator;
+use std::collections::vec_deque::Iter;
 
 /// Writes the readings from a serial on, at most so many, with their parts, and how many they were. What stands
 /// before that serial isn't gone over.
@@ -23,30 +25,25 @@ pub fn write_window<A: Allocator + Copy, W: Sink>(
 ) -> Result<(), IoFault>
     ensures { Wrote W.written W.put_failures result out.old out.new (window_text from count house.now.state) }
 {
-    let readings = readings_from(house, from);
-    let (shown, _) = readings.split_at(readings.len().min(usize::from(count)));
-    write_readings(shown, out)?;
-    write_end(shown.len(), out)
+    let readings = house.from(from);
+    let shown = readings.len().min(usize::from(count));
+    write_readings(readings, shown, out)?;
+    write_end(shown, out)
 }
 
-// The readings with at least a serial. Serials ascend.
-fn readings_from<A: Allocator + Copy>(house: &House<A>, serial: u64) -> &[Reading<A>]
-    ensures { result.now ≡ readings_from serial house.now.state }
-{
-    let readings = house.readings();
-    let first = readings.partition_point(|reading| reading.serial() < serial);
-    let (_, shown) = readings.split_at(first);
-    shown
-}
-
+// The first of the readings, so many.
 #[tactic(auto, using(dc_stream::proofs::Pieces::written))]
 fn write_readings<A: Allocator, W: Sink>(
-    readings: &[Reading<A>],
+    mut readings: Iter<'_, Reading<A>>,
+    count: usize,
     out: &mut W,
 ) -> Result<(), IoFault>
-    ensures { Wrote W.written W.put_failures result out.old out.new (flat_map reading_lines readings.now) }
+    ensures { Wrote W.written W.put_failures result out.old out.new (flat_map reading_lines (take count (deque_iter_rest readings.entry))) }
 {
-    for reading in readings {
+    for _ in 0..count {
+        let Some(reading) = readings.next() else {
+            break;
+        };
         write_reading(reading, out)?;
     }
     Ok(())

@@ -1,6 +1,8 @@
 -- The eight bus lines: nobody is on a line, or a session is (this product).
-use Rattle.std.specs.Prelude.{ℕ, ◌-◌, Bool, true, false, Option, None, Some, List, map, replicate, nat_le, ◌&&◌, get_or}
+use Rattle.std.specs.Prelude.{ℕ, ◌-◌, Bool, true, false, Option, None, Some, List, map, replicate, nat_le, ◌&&◌, get_or, if◌then◌else◌}
 use Rattle.std.proofs.Math.ListN.{set}
+use Rattle.dc_address.specs.declared.identity.Identity.{Identity}
+use Rattle.dc_readout.specs.Answer.{is_meter}
 use Rattle.dc_readout.specs.declared.stage.Stage.{Stage}
 use Rattle.dc_readout.specs.declared.stage.Stage.TheVariants.{Pending}
 use Rattle.dc_readout.specs.Summary.{Summary, settled_by}
@@ -36,3 +38,11 @@ settled_on (Some s) = settled_at s.stage s
 
 abbrev pub settled_lines : List (Option Summary) → List (Option Summary)
 settled_lines lines = map settled_on lines
+
+-- Nobody reads that meter any more.
+abbrev pub unless_of : Identity → Option Summary → Option Summary
+unless_of meter None = None
+unless_of meter (Some s) = if is_meter meter s.meter then None else Some s
+
+abbrev pub lines_without : Identity → List (Option Summary) → List (Option Summary)
+lines_without meter lines = map (unless_of meter) lines

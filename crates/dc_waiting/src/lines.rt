@@ -2,8 +2,9 @@
 
 ghost use Rattle.std.specs.Prelude.{◌≡◌, true, Option};
 ghost use Rattle.dc_readout.specs.Summary.{Summary};
-ghost use Rattle.dc_waiting.specs.Lines.{is_line, no_sessions, on_line, put_on, settled_on, settled_lines};
+ghost use Rattle.dc_waiting.specs.Lines.{is_line, no_sessions, on_line, put_on, settled_on, settled_lines, unless_of, lines_without};
 
+use dc_address::Identity;
 use dc_readout::Session;
 use std::marker::Model;
 
@@ -52,11 +53,37 @@ impl Lines {
         self.sessions[usize::from(line) - 1] = session;
     }
 
+    /// Ends the session of a meter, if it has one.
+    pub fn end(&mut self, meter: &Identity)
+        ensures { self.new ≡ lines_without meter.now self.old }
+    {
+        end_each(&mut self.sessions, meter);
+    }
+
     /// Settles every telegram that waits. After the last one of a readout nobody is on its line.
     pub fn settle(&mut self)
         ensures { self.new ≡ settled_lines self.old }
     {
         settle_each(&mut self.sessions);
+    }
+}
+
+fn end_each(sessions: &mut [Option<Session>], meter: &Identity)
+    ensures { sessions.new ≡ lines_without meter.now sessions.old }
+{
+    for session in sessions.iter_mut() {
+        *session = unless_of(*session, meter);
+    }
+}
+
+fn unless_of(session: Option<Session>, meter: &Identity) -> Option<Session>
+    ensures { result ≡ unless_of meter.now session }
+{
+    let session = session?;
+    if session.meter() == *meter {
+        None
+    } else {
+        Some(session)
     }
 }
 

@@ -46,6 +46,7 @@ pub fn write_waiting<D: Disk + Drop, A: Allocator + Copy>(
         → AcceptsAll (budget_of (half_len_of (D.sectors store.old.disk))) was changes → house.now.state ≡ after was changes
         → LeavesOnly D.moment D.images_since store.old.disk store.new.disk (StandsForEither (half_len_of (D.sectors store.old.disk)) was (after was changes)) }
     ensures count { D.sectors store.new.disk ≡ D.sectors store.old.disk }
+    ensures failures { D.failures store.old.disk ≤ D.failures store.new.disk }
 {
     let bytes = waiting.as_slice();
     if store.fits(bytes.len()) {

@@ -2,7 +2,7 @@
 
 use clap::Error;
 use clap::error::ErrorKind;
-use dc_recovery::FormatFault;
+use dc_recovery::{FormatFault, OpenFault};
 use std::alloc::{AllocError, Global};
 use std::fmt::Display;
 use std::io;
@@ -27,6 +27,8 @@ pub enum Ending<'a> {
     File(&'a str),
     /// The image wasn't formatted.
     Format(FormatFault),
+    /// The image wasn't opened.
+    Open(OpenFault),
     /// Memory was refused.
     Memory,
 }
@@ -41,6 +43,7 @@ impl Ending<'_> {
             Ending::NotText => told_line(rt, "the words aren't UTF-8 text; try mbdc --help", 2),
             Ending::File(name) => told_file(rt, name),
             Ending::Format(fault) => told_store(rt, "format", fault),
+            Ending::Open(fault) => told_open(rt, fault),
             Ending::Memory => told_line(rt, "memory", 4),
         };
         ExitCode::from(status)
@@ -61,6 +64,15 @@ fn told_file<R: Eprint>(rt: &R, name: &str) -> u8 {
 // The store has refused, or failed.
 fn told_store<R: Eprint, F: Display>(rt: &R, command: &str, fault: &F) -> u8 {
     let _ = eprintln!(rt; "mbdc: {command}: {fault}");
+    3
+}
+
+// A damaged image is told with the sector at which it is.
+fn told_open<R: Eprint>(rt: &R, fault: &OpenFault) -> u8 {
+    let OpenFault::Damaged(sector) = fault else {
+        return told_store(rt, "open", fault);
+    };
+    let _ = eprintln!(rt; "mbdc: open: {fault} {sector}");
     3
 }
 

@@ -4,6 +4,7 @@
 
 mod ending;
 mod format;
+mod script;
 mod tasks;
 mod words;
 

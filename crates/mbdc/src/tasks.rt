@@ -2,18 +2,20 @@
 
 use crate::ending::{Ending, STREAM};
 use crate::format::format_image;
+use crate::script::run_on_image;
 use crate::words::{Engine, Task};
 use dc_poller::{ProgramFault, decode_lines, fold_lines};
 use dc_stream::{ReadSource, Source, WriteSink};
 use dc_text::Buffered;
+use std::alloc::Allocator;
 use std::fs::OpenFile;
-use std::io::Read;
+use std::io::{Read, Write};
 use std::os::unix::fs::FileExt;
 use std::rt::Files;
 use std::{fs, io};
 
-// How many bytes go to standard output at once.
-const ROOM: usize = 65_536;
+/// How many bytes go to standard output at once.
+pub const ROOM: usize = 65_536;
 
 /// Does what the words ask for.
 pub fn run<'a, F, R>(rt: &R, task: Task<'a>) -> Ending<'a>
@@ -30,6 +32,7 @@ where
             ending_of(work(rt, engine, &mut ReadSource::new(rt.reader())), STREAM)
         }
         Task::Format { image, sectors } => format_image(rt, image, sectors),
+        Task::Run { image, script } => run_on_image(rt, image, script),
     }
 }
 
@@ -55,20 +58,29 @@ fn work<R: Print + AllocGlobal, S: Source>(
         Engine::Decode => decode_lines(rt.alloc(), reader, &mut writer)?,
         Engine::Fold => fold_lines(rt.alloc(), reader, &mut writer)?,
     };
+    flushed(writer)?;
+    Ok(found)
+}
+
+/// Writes what the writer holds back.
+pub fn flushed<A: Allocator, W: Write + Drop>(
+    writer: Buffered<WriteSink<W>, A>,
+) -> Result<(), ProgramFault> {
     let (mut output, put) = writer.finish();
     if put.is_err() || output.flush().is_err() {
         return Err(ProgramFault::Write);
     }
-    Ok(found)
+    Ok(())
 }
 
-// How a run over this input ended.
-fn ending_of<'a>(outcome: Result<bool, ProgramFault>, input: &'a str) -> Ending<'a> {
+/// How a run over this input ended.
+pub fn ending_of<'a>(outcome: Result<bool, ProgramFault>, input: &'a str) -> Ending<'a> {
     match outcome {
         Ok(false) => Ending::Clean,
         Ok(true) => Ending::Faulty,
         Err(ProgramFault::Read | ProgramFault::TooLong) => Ending::File(input),
         Err(ProgramFault::Write) => Ending::File(STREAM),
         Err(ProgramFault::NoMemory) => Ending::Memory,
+        Err(ProgramFault::Open(fault)) => Ending::Open(fault),
     }
 }

@@ -30,6 +30,13 @@ pub enum Task<'a> {
         /// How many sectors it has.
         sectors: u32,
     },
+    /// A script over an image, in files.
+    Run {
+        /// The image's file.
+        image: &'a str,
+        /// The script's file.
+        script: &'a str,
+    },
 }
 
 fn decode_command<'a>(alloc: Global) -> Result<Command<'a>, AllocError> {
@@ -62,6 +69,19 @@ fn format_command<'a>(alloc: Global) -> Result<Command<'a>, AllocError> {
         .arg(sectors)
 }
 
+fn run_command<'a>(alloc: Global) -> Result<Command<'a>, AllocError> {
+    let image = Arg::new(alloc, "IMAGE")
+        .required(true)
+        .help("The image's file");
+    let script = Arg::new(alloc, "SCRIPT").required(true).help(
+        "Lines: AT, START, ASK, HEAR, COMMIT, OFFICE, POLL, SEARCH",
+    );
+    Command::new(alloc, "run")
+        .about("Opens the image, does what the script's lines ask for, and prints the answers")
+        .arg(image)?
+        .arg(script)
+}
+
 /// The task that the words name. The first word is the program's name.
 pub fn task_of<'a>(alloc: Global, words: &'a [String]) -> Result<Task<'a>, Error> {
     let command = Command::new(alloc, "mbdc")
@@ -71,12 +91,17 @@ pub fn task_of<'a>(alloc: Global, words: &'a [String]) -> Result<Task<'a>, Error
         )
         .subcommand(decode_command(alloc)?)?
         .subcommand(fold_command(alloc)?)?
-        .subcommand(format_command(alloc)?)?;
+        .subcommand(format_command(alloc)?)?
+        .subcommand(run_command(alloc)?)?;
     let matches = command.try_get_matches_from(words)?;
     match matches.subcommand() {
         Some(("format", inner)) => Ok(Task::Format {
             image: inner.get_str("IMAGE").unwrap_or_default(),
             sectors: inner.get_one("SECTORS").unwrap_or_default(),
+        }),
+        Some(("run", inner)) => Ok(Task::Run {
+            image: inner.get_str("IMAGE").unwrap_or_default(),
+            script: inner.get_str("SCRIPT").unwrap_or_default(),
         }),
         Some(("fold", inner)) => Ok(Task::Lines {
             engine: Engine::Fold,

@@ -1,6 +1,6 @@
 //! The commit of what waits.
 
-ghost use Rattle.std.specs.Prelude.{◌≡◌, ◌⊎◌, ◌≤◌, ◌+◌, ◌-◌, ◌^◌, IsErrOf};
+ghost use Rattle.std.specs.Prelude.{◌≡◌, ◌⊎◌, ◌≤◌, ◌+◌, ◌-◌, ◌^◌, IsErrOf, OnOk};
 ghost use Rattle.dc_base.specs.Failures.{HasRisen};
 ghost use Rattle.dc_sectors.specs.Disk.{LeavesOnly};
 ghost use Rattle.dc_recovery.specs.Halves.{half_len_of};
@@ -37,9 +37,12 @@ impl<D: Disk + Drop, A: Allocator + Copy> Concentrator<D, A> {
             → LeavesOnly D.moment D.images_since self.old.store.disk self.new.store.disk (StandsForFront (half_len_of (D.sectors self.old.store.disk)) core.committed core.pending) }
         ensures device { IsErrOf result Device → HasRisen (D.failures self.old.store.disk) (D.failures self.new.store.disk) }
         ensures worn { IsErrOf result Worn → (2 ^ 64 - 1 ≤ self.old.store.last + 1) ⊎ (self.old.store.root.generation ≡ 2 ^ 64 - 1) }
+        ensures unchanged { IsErrOf result Worn → self.new ≡ self.old }
+        ensures empty { OnOk result (self.new.waiting.count ≡ 0) }
         ensures nothing { self.old.waiting.count ≡ 0 → self.new ≡ self.old }
         ensures house { self.new.house ≡ self.old.house }
         ensures count { D.sectors self.new.store.disk ≡ D.sectors self.old.store.disk }
+        ensures failures { D.failures self.old.store.disk ≤ D.failures self.new.store.disk }
     {
         let count = self.waiting.count();
         if count == 0 {

@@ -3,7 +3,6 @@
 use super::{ACK, Life, Step, appended, blank, fit_of, image};
 use crate::{HearFault, LineHeard};
 use dc_address::{Identity, Primary};
-use dc_changes::{Change, Command};
 use dc_linkframe::{FrameBuf, write_long};
 use std::alloc::Global;
 use std::process::Abort;
@@ -114,13 +113,8 @@ fn a_full_register_takes_a_reading_once_one_is_confirmed(rt: HostRuntime) -> Res
     reads(&rt, &mut life, telegram.as_slice(), Err(HearFault::Full))?;
     life.runs(&Step::Hear(1, telegram.as_slice(), Err(HearFault::Full)))?;
     assert_eq!(rt; life.text.as_slice(), b"REFUSED 3 Full\n".as_slice());
-    let disk = life.concentrator.close();
-    let confirm = Change::Command {
-        number: 2,
-        command: Command::Confirm { serial: 1 },
-    };
-    let mut life = Life::open(heap, heap, appended(&rt, heap, disk, &confirm)?)?;
-    reads(&rt, &mut life, telegram.as_slice(), accepted)?;
+    life.calls(&rt, &Step::Office(b"2 CONFIRM 1", b"OK 2\n"))?;
+    life.calls(&rt, &Step::Hear(1, telegram.as_slice(), accepted))?;
     life.calls(&rt, &Step::Commit(Ok(1)))?;
     assert_eq!(rt; life.found(heap)?, (0, 54, 15341));
     Ok(())

@@ -12,7 +12,8 @@ ghost use Rattle.dc_changes.specs.Valid.{IsChange, IsCommand, IsNumber, IsTelegr
 ghost use Rattle.dc_meters.specs.Steps.{CanBeApplied};
 
 use super::House;
-use crate::{Meter, Part, Reading};
+use crate::reading_list::Ended;
+use crate::{Meter, Part};
 use dc_address::{Identity, Primary};
 use dc_base::NoMemory;
 use dc_changes::{Body, Change, Command, CommandLine, Flat};
@@ -96,15 +97,16 @@ impl<A: Allocator + Copy> House<A> {
         ensures ok { OnOk result (self.new ≡ record self.old { state = heard meter false number part (row_of meter self.old.state) self.old.state }) }
         ensures err { OnErr result (self.new ≡ self.old) }
     {
-        self.readings.reserve(1)?;
         let Some(row) = self.meters.get_mut(&meter) else {
             unreachable!()
         };
         let before = row.size();
-        row.join(self.alloc, number, part)?;
-        let reading = row.close(self.alloc, self.next_serial, meter);
-        self.size = self.size - before + row.size() + reading.size();
-        self.readings.push(reading).unwrap();
+        let ended = Ended {
+            meter,
+            serial: self.next_serial,
+        };
+        let read = row.finish(self.alloc, number, part, ended, &mut self.readings)?;
+        self.size = self.size - before + row.size() + read;
         self.next_serial += 1;
         Ok(())
     }
@@ -217,31 +219,6 @@ impl<A: Allocator + Copy> House<A> {
             return;
         }
         self.confirmed = self.confirmed.max(serial);
-        self.size -= forget(&mut self.readings, serial);
+        self.size -= self.readings.forget(serial);
     }
-}
-
-/// Drops the readings up to a serial, and gives the bytes that they were counted as.
-fn forget<A: Allocator>(readings: &mut Vec<Reading<A>, A>, serial: u64) -> u32
-    requires { sum_by reading_size readings.old.items < 2 ^ 32 }
-    ensures kept { readings.new.items ≡ filter (λ r. nat_lt serial r.serial) readings.old.items }
-    ensures size { result + sum_by reading_size readings.new.items ≡ sum_by reading_size readings.old.items }
-{
-    let gone = size_up_to(readings, serial);
-    readings.retain(|reading| serial < reading.serial());
-    gone
-}
-
-/// The bytes that the readings up to a serial are counted as.
-fn size_up_to<A: Allocator>(readings: &[Reading<A>], serial: u64) -> u32
-    requires { sum_by reading_size readings.now < 2 ^ 32 }
-    ensures { result + sum_by reading_size (filter (λ r. nat_lt serial r.serial) readings.now) ≡ sum_by reading_size readings.now }
-{
-    let mut size = 0;
-    for reading in readings {
-        if reading.serial() <= serial {
-            size += reading.size();
-        }
-    }
-    size
 }

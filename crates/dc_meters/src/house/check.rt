@@ -40,15 +40,15 @@ impl<A: Allocator + Copy> House<A> {
     fn check_telegram(&self, part: u8, body: &Body<'_>) -> Result<(), ChangeFault>
         ensures { (moment : ℕ) → result ≡ refused_by (telegram_refusal self.now.budget part moment body.now self.now.state) }
     {
-        let Some(row) = self.meters.get(&body.meter()) else {
+        let Some(row) = self.meter(&body.meter()) else {
             return Err(ChangeFault::Unknown);
         };
         if part != 1 && usize::from(part) != row.parts().len() + 1 {
             return Err(ChangeFault::Unknown);
         }
         let is_last = !body.more_follows();
-        if self.size_with(row, part, body) > u64::from(self.budget)
-            || (is_last && self.next_serial >= END_OF_NUMBERS)
+        if self.size_with(row, part, body) > u64::from(self.budget())
+            || (is_last && self.next_serial() >= END_OF_NUMBERS)
         {
             return Err(ChangeFault::Full);
         }

@@ -15,7 +15,7 @@ ghost use Rattle.dc_changes.specs.Reading.{Gives, Reads, many, listed, count_at,
 
 use super::House;
 use crate::parts::parts_at;
-use crate::{Meter, Reading};
+use crate::{Meter, Reading, ReadingList};
 use dc_address::Identity;
 use dc_changes::pieces::{
     address_of, byte_at, count_at, counted_at, flat_of, identity_at, line_at, long_at,
@@ -140,10 +140,10 @@ fn meters_at<A: Allocator + Copy>(
 }
 
 /// Whether a reading of this serial comes behind all of these.
-fn is_later<A: Allocator>(readings: &[Reading<A>], serial: u64) -> bool
-    requires { IsStrictlySortedBy nat_cmp (map (λ r. r.serial) readings.now) }
-    ensures yes { result ≡ true → All (λ r. r.serial < serial) readings.now }
-    ensures no { result ≡ false → All (λ r. r.serial < serial) readings.now → ⊥ }
+fn is_later<A: Allocator + Copy>(readings: &ReadingList<A>, serial: u64) -> bool
+    requires { IsStrictlySortedBy nat_cmp (map (λ r. r.serial) readings.now.items) }
+    ensures yes { result ≡ true → All (λ r. r.serial < serial) readings.now.items }
+    ensures no { result ≡ false → All (λ r. r.serial < serial) readings.now.items → ⊥ }
 {
     match readings.last() {
         Some(last) => last.serial() < serial,
@@ -152,15 +152,15 @@ fn is_later<A: Allocator>(readings: &[Reading<A>], serial: u64) -> bool
 }
 
 /// Whether a serial is the next of a state's readings: between the mark and the next serial, behind all of these.
-fn is_next_serial<A: Allocator>(
-    readings: &[Reading<A>],
+fn is_next_serial<A: Allocator + Copy>(
+    readings: &ReadingList<A>,
     confirmed: u64,
     next_serial: u64,
     serial: u64,
 ) -> bool
-    requires { IsStrictlySortedBy nat_cmp (map (λ r. r.serial) readings.now) }
-    ensures yes { result ≡ true → IsNextSerial confirmed next_serial readings.now serial }
-    ensures no { result ≡ false → IsNextSerial confirmed next_serial readings.now serial → ⊥ }
+    requires { IsStrictlySortedBy nat_cmp (map (λ r. r.serial) readings.now.items) }
+    ensures yes { result ≡ true → IsNextSerial confirmed next_serial readings.now.items serial }
+    ensures no { result ≡ false → IsNextSerial confirmed next_serial readings.now.items serial → ⊥ }
 {
     confirmed < serial && serial < next_serial && is_later(readings, serial)
 }
@@ -171,12 +171,12 @@ fn each_reading<A: Allocator + Copy>(
     confirmed: u64,
     next_serial: u64,
     bytes: &[u8],
-) -> Result<(Vec<Reading<A>, A>, &[u8]), DecodeFault>
+) -> Result<(ReadingList<A>, &[u8]), DecodeFault>
     ensures found { IfOk result (λ x. many reading_at count bytes.now ≡ Some (x.0.items, x.1.now)) }
     ensures ascend { IfOk result (λ x. ReadingsAscend confirmed next_serial x.0.items) }
     ensures bad { IsErrOf result DecodeFault.Bad → (readings : List ReadingRow) (rest : List ℕ) → many reading_at count bytes.now ≡ Some (readings, rest) → ReadingsAscend confirmed next_serial readings → ⊥ }
 {
-    let mut readings = Vec::new(alloc);
+    let mut readings = ReadingList::new(alloc);
     let mut rest = bytes;
     for _ in 0..count {
         let (reading, after) = reading_at(alloc, rest)?;
@@ -195,7 +195,7 @@ fn readings_at<A: Allocator + Copy>(
     confirmed: u64,
     next_serial: u64,
     bytes: &[u8],
-) -> Result<(Vec<Reading<A>, A>, &[u8]), DecodeFault>
+) -> Result<(ReadingList<A>, &[u8]), DecodeFault>
     ensures found { IfOk result (λ x. listed count_at reading_at bytes.now ≡ Some (x.0.items, x.1.now)) }
     ensures ascend { IfOk result (λ x. ReadingsAscend confirmed next_serial x.0.items) }
     ensures bad { IsErrOf result DecodeFault.Bad → (readings : List ReadingRow) (rest : List ℕ) → listed count_at reading_at bytes.now ≡ Some (readings, rest) → ReadingsAscend confirmed next_serial readings → ⊥ }

@@ -13,7 +13,7 @@ use dc_changes::address_number;
 use dc_changes::writing::{put_byte, put_count, put_counted, put_identity, put_long};
 use dc_stream::{IoFault, Sink};
 use std::alloc::Allocator;
-use std::collections::BTreeMap;
+use std::collections::{BTreeMap, VecDeque};
 
 impl<A: Allocator + Copy> House<A> {
     /// Writes the state: numbers, the last line, the meters by identity, the readings by serial. A failed put ends
@@ -25,7 +25,7 @@ impl<A: Allocator + Copy> House<A> {
         let _ = self.size(); // for what it says: more meters or readings than a size can count, there are not
         self.put_head(sink)?;
         put_meters(sink, &self.meters)?;
-        put_readings(sink, &self.readings)?;
+        put_readings(sink, self.readings.all())?;
         Ok(())
     }
 
@@ -83,10 +83,13 @@ fn put_meter<S: Sink, A: Allocator>(
     Ok(())
 }
 
-fn put_readings<S: Sink, A: Allocator>(sink: &mut S, readings: &[Reading<A>]) -> Result<(), IoFault>
-    requires { length readings.now < 2 ^ 32 }
-    ensures ok { OnOk result (IsWritten S.written S.put_failures S.puts sink.old sink.new (readings_bytes readings.now)) }
-    ensures err { OnErr result (IsStopped S.written S.put_failures S.puts S.breaks sink.old sink.new (readings_bytes readings.now)) }
+fn put_readings<S: Sink, A: Allocator>(
+    sink: &mut S,
+    readings: &VecDeque<Reading<A>, A>,
+) -> Result<(), IoFault>
+    requires { length readings.now.items < 2 ^ 32 }
+    ensures ok { OnOk result (IsWritten S.written S.put_failures S.puts sink.old sink.new (readings_bytes readings.now.items)) }
+    ensures err { OnErr result (IsStopped S.written S.put_failures S.puts S.breaks sink.old sink.new (readings_bytes readings.now.items)) }
 {
     put_count(sink, readings.len() as u32)?;
     put_each_reading(sink, readings)?;
@@ -95,10 +98,10 @@ fn put_readings<S: Sink, A: Allocator>(sink: &mut S, readings: &[Reading<A>]) ->
 
 fn put_each_reading<S: Sink, A: Allocator>(
     sink: &mut S,
-    readings: &[Reading<A>],
+    readings: &VecDeque<Reading<A>, A>,
 ) -> Result<(), IoFault>
-    ensures ok { OnOk result (IsWritten S.written S.put_failures S.puts sink.old sink.new (flat_map reading_bytes readings.now)) }
-    ensures err { OnErr result (IsStopped S.written S.put_failures S.puts S.breaks sink.old sink.new (flat_map reading_bytes readings.now)) }
+    ensures ok { OnOk result (IsWritten S.written S.put_failures S.puts sink.old sink.new (flat_map reading_bytes readings.now.items)) }
+    ensures err { OnErr result (IsStopped S.written S.put_failures S.puts S.breaks sink.old sink.new (flat_map reading_bytes readings.now.items)) }
 {
     for reading in readings {
         put_reading(sink, reading)?;

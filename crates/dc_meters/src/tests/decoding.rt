@@ -281,7 +281,7 @@ fn each_growth_of_a_reading_back_is_refused_in_turn(rt: HostRuntime) -> Result<(
     }
 
     // A map of meters, a list of parts and a body; a list of readings, a list of parts and two bodies.
-    assert_eq!(rt; refused, 7);
+    assert_eq!(rt; refused, 8);
     Ok(())
 }
 
@@ -306,6 +306,6 @@ fn each_growth_of_a_replay_is_refused_in_turn(rt: HostRuntime) -> Result<(), Fai
 
     // The meter; a body and a list of parts; a body and a list of readings. The parts go on in the room that there
     // is, and so does the meter that is swapped in.
-    assert_eq!(rt; refused, 5);
+    assert_eq!(rt; refused, 6);
     Ok(())
 }

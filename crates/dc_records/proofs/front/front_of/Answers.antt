@@ -1,4 +1,4 @@
-use Rattle.dc_records.specs.Laws.Turns.{reads_given}
+use Rattle.dc_records.proofs.Spellings.Turns.{reads_given}
 use Rattle.dc_records.proofs.front.front_of.Goals as goal
 
 pub returns : goal.returns

@@ -1,4 +1,4 @@
-use Rattle.dc_records.specs.Laws.Telegrams.{one_record}
+use Rattle.dc_records.proofs.Spellings.Telegrams.{one_record}
 use Rattle.dc_records.proofs.laws.one_record.Goals as goal
 
 pub returns : goal.returns

@@ -1,4 +1,4 @@
-use Rattle.dc_records.specs.Laws.Telegrams.{some, one, one_fault, apart}
+use Rattle.dc_records.proofs.Spellings.Telegrams.{some, one, one_fault, apart}
 use Rattle.dc_records.proofs.laws.one_telegram.Goals as goal
 
 pub returns-clause-some : goal.returns-clause-some

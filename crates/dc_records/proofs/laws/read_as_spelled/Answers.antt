@@ -1,4 +1,4 @@
-use Rattle.dc_records.specs.Laws.Telegrams.{telegram_takes, telegram_again, telegram_fails, faults_again}
+use Rattle.dc_records.proofs.Spellings.Telegrams.{telegram_takes, telegram_again, telegram_fails, faults_again}
 use Rattle.dc_records.proofs.laws.read_as_spelled.Goals as goal
 
 pub returns-clause-telegrams : goal.returns-clause-telegrams

@@ -1,7 +1,7 @@
-use Rattle.std.proofs.Common.{◌≡◌, ℕ, ap, subst, sym, ◌∙◌}
+use Rattle.std.proofs.Common.{◌≡◌, ℕ, ap, refl, subst, sym, ◌∙◌}
 use Rattle.dc_sectors.specs.Disk.{Image, settled}
 use Rattle.dc_recovery.specs.Roots.{IsOpenedRoot}
-use Rattle.dc_recovery.specs.Refusal.{IsSpent}
+use Rattle.dc_recovery.specs.Refusal.{IsSpent, IsWorn}
 use Rattle.dc_changes.specs.State.{Held}
 use Rattle.dc_recovery.specs.Stands.{IsRead, IsBegun, ReadsBy, Reads, StandsBy}
 use Rattle.dc_recovery.proofs.Opened.{after_sync, after_reading, after_session, read_stands}
@@ -102,3 +102,10 @@ pub returns-then-is_spent-clause-spares_images : goal.returns-then-is_spent-clau
 returns-then-is_spent-clause-spares_images g c h other =
     let disk = c.args.disk.now in
     synced_read g.D.Disk.moment g.D.Disk.images_since g.D.Disk.choices disk (g.met.D.Disk.only_now h disk) g.D.Disk.reads c.sync.new.self c.read_image.new.disk (g.met.D.Disk.reads_a_choice h disk) (c.sync.ensures.time h) (c.in-Ok.ensures.choices h) (c.read_image.ensures.looked.any_moment h)
+
+pub returns-then-is_spent-clause-refused : goal.returns-then-is_spent-clause-refused
+returns-then-is_spent-clause-refused g c h =
+    let found = c.in_ok-found.found in
+    let read : IsRead c.args.half_len found.root found.place found.last found.house.state (g.D.Disk.reads c.args.disk.now) = subst (λ (i : Image). IsRead c.args.half_len found.root found.place found.last found.house.state i) (c.sync.ensures.reads h) (c.in_ok-found.ensures.all h) in
+    let spent : IsSpent found.root found.last = c.if-is_spent.ensures.0 refl in
+    record { root = found.root; m = read.m; place = found.place; state = found.house.state; by = read.by; spent = subst (λ (n : ℕ). IsSpent found.root n) read.last_is spent }

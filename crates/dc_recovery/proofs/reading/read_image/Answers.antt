@@ -1,6 +1,8 @@
-use Rattle.std.proofs.Common.{◌≡◌, ◌∙◌, ap, sym, subst}
+use Rattle.std.proofs.Common.{◌≡◌, ◌∙◌, ap, sym, subst, Err}
+use Rattle.std.proofs.lemmas.Result.{err_from_is_err_and}
 use Rattle.dc_sectors.specs.Disk.{Image}
 use Rattle.dc_roots.specs.declared.root.Root.{Root}
+use Rattle.dc_recovery.specs.declared.fault.OpenFault.TheVariants.{Device}
 use Rattle.dc_recovery.specs.Halves.{half_end}
 use Rattle.dc_recovery.specs.Stands.{IsCurrent, IsReached, IsRead}
 use Rattle.dc_recovery.proofs.ReadMoments.{looked_on}
@@ -35,3 +37,12 @@ returns-clause-all g c h =
     let at_limit = c.half_end-limit.ensures.exact ∙ ap (λ (r : Root). half_end H r.half) (sym same_root) in
     let now = c.read_groups.new.found in
     subst (λ (i : Image). IsRead H now.root now.place now.last now.house.state i) (based ∙ chosen) (c.in_ok-read_groups.ensures.all h H at_limit c.in_ok-found.ensures.budget reached')
+
+pub returns-in_err-read_groups-clause-passed : goal.returns-in_err-read_groups-clause-passed
+returns-in_err-read_groups-clause-passed g c other =
+    let told = c.from_residual-in_err-read_groups in
+    let p = err_from_is_err_and told.result told.ensures.1 in
+    let same : told.result ≡ Err c.in_err-read_groups.field-0.0 = cc (p.1, p.2) in
+    let fault = c.in_err-read_groups.field-0.0 in
+    let is_device : fault ≡ Device → told.result ≡ Err Device = λ e. same ∙ ap Err e in
+    c.in_err-read_groups.ensures.passed (λ device. other (is_device (cc device))) ∙ (c.in_ok-found.ensures.passed (λ is. cc is) ∙ c.in_ok-root.ensures.passed (λ is. cc is))

@@ -4,7 +4,6 @@ use Rattle.dc_recovery.specs.Halves.{half_len_of}
 use Rattle.dc_recovery.specs.Stands.{Stands}
 use Rattle.dc_recovery.specs.Stands.{Reads}
 use Rattle.dc_recovery.proofs.Life.{close_open}
-use Rattle.dc_changes.specs.State.{State}
 use Rattle.dc_core.proofs.concentrator.Concentrator.close.Goals as goal
 
 pub returns-clause-holds : goal.returns-clause-holds

@@ -1,9 +1,8 @@
-use Rattle.std.proofs.Common.{◌≡◌, ◌≢◌, ⊎_elim, ap, sym, subst, ◌∙◌, refl, arith, false, true, length, ℕ, List}
-use Rattle.dc_sectors.specs.Disk.{Image, IsImage, LeavesOnly}
+use Rattle.std.proofs.Common.{◌≡◌, ⊎_elim, sym, subst, ◌∙◌, refl, arith, false, ℕ}
+use Rattle.dc_sectors.specs.Disk.{IsImage, LeavesOnly}
 use Rattle.dc_sectors.proofs.Moments.{started, weakened, at_end}
 use Rattle.dc_changes.specs.History.{AcceptsAll}
-use Rattle.dc_recovery.specs.Halves.{half_len_of, budget_of}
-use Rattle.dc_core.specs.Core.{Core}
+use Rattle.dc_recovery.specs.Halves.{half_len_of}
 use Rattle.dc_recovery.specs.Stands.{StandsForFront}
 use Rattle.dc_recovery.proofs.Fronts.{either_is_front}
 use Rattle.dc_core.specs.Images.{Machine, IsAt}

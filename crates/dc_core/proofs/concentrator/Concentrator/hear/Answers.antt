@@ -1,15 +1,14 @@
-use Rattle.std.proofs.Common.{◌≡◌, ◌⊎◌, ap, sym, subst, ◌∙◌, refl, arith, ℕ, true, false, length, Option, Some, None, Result, Err, List}
+use Rattle.std.proofs.Common.{◌≡◌, ap, sym, subst, ◌∙◌, refl, arith, ℕ, true, false, length, Option, Some, None, Result, Err}
 use Rattle.std.specs.Prelude.{is_some}
 use Rattle.std.proofs.lemmas.Result.{err_from_is_err_and}
 use Rattle.std.proofs.lemmas.Grind.{common_steps}
 use Rattle.dc_records.specs.Body.{continues}
 use Rattle.dc_core.specs.declared.line_heard.LineHeard.{LineHeard}
 use Rattle.dc_core.specs.declared.fault.HearFault.{HearFault}
-use Rattle.dc_core.specs.declared.fault.HearFault.TheVariants.{NoMemory}
 use Rattle.dc_core.specs.Core.{present, session_of}
 use Rattle.dc_core.proofs.Refused.{answer_is, by_refusal}
 use Rattle.dc_records.specs.Telegram.{parsed}
-use Rattle.dc_readout.specs.Summary.{Summary, again, ready, new, failed, heard_by, verdict_by, asked_by}
+use Rattle.dc_readout.specs.Summary.{Summary, again, ready, new, failed, heard_by, asked_by}
 use Rattle.dc_core.specs.declared.line_heard.LineHeard.TheVariants.{Again, Ready, Accepted, Failed}
 use Rattle.dc_waiting.specs.Lines.{is_line, on_line, put_on}
 use Rattle.dc_core.specs.Step.{hear_answer, unless_refused, MayHear}

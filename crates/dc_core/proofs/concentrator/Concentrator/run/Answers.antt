@@ -37,10 +37,10 @@ loop-event-preserved g c = record {
       let ran = c.loop-event.invariant.ran state before chain at in
       let core = leads (opened state) (before ++ ran.turns) in
       let piece : List ℕ → Type 0 = Wrote g.W.Sink.written g.W.Sink.put_failures done c.loop-event.out c.turn.new.out in
-      let turned = subst (λ (b : ℕ). Turned g.D.Disk.honest g.D.Disk.sectors g.D.Disk.reads g.D.Disk.choices b core (event_of event) piece new) c.loop-event.invariant.budget (c.in-Ok.ensures.turned core ran.at) in
-      let more = ran_more g.D.Disk.honest g.D.Disk.sectors g.D.Disk.reads g.D.Disk.choices g.D.Disk.moment g.D.Disk.images_since c.args.self.now.house.budget state before (map event_of (take i events)) (event_of event)
+      let turned = subst (λ (b : ℕ). Turned g.D.Disk.honest g.D.Disk.sectors g.D.Disk.failures g.D.Disk.reads g.D.Disk.choices g.D.Disk.moment g.D.Disk.images_since b core (event_of event) piece c.loop-event.self new) c.loop-event.invariant.budget (c.in-Ok.ensures.turned core ran.at) in
+      let more = ran_more g.D.Disk.honest g.D.Disk.sectors g.D.Disk.reads g.D.Disk.choices g.D.Disk.moment g.D.Disk.images_since g.D.Disk.failures c.args.self.now.house.budget state before (map event_of (take i events)) (event_of event)
       (Puts (g.W.Sink.written c.args.out.now) (g.W.Sink.written c.loop-event.out)) piece (Puts (g.W.Sink.written c.args.out.now) (g.W.Sink.written c.turn.new.out)) c.args.self.now c.loop-event.self new ran turned c.in-Ok.ensures.count
-      (λ text piece_text front piece. puts-both (g.W.Sink.written c.args.out.now) (g.W.Sink.written c.loop-event.out) (g.W.Sink.written c.turn.new.out) text piece_text front piece.0) (λ h. c.in-Ok.ensures.leaves h core ran.at) in
+      (λ text piece_text front piece. puts-both (g.W.Sink.written c.args.out.now) (g.W.Sink.written c.loop-event.out) (g.W.Sink.written c.turn.new.out) text piece_text front piece.0) in
       let all = subst (λ (es : List Event). Ran g.D.Disk.honest g.D.Disk.sectors g.D.Disk.reads g.D.Disk.choices g.D.Disk.moment g.D.Disk.images_since c.args.self.now.house.budget state before es (Puts (g.W.Sink.written c.args.out.now) (g.W.Sink.written c.turn.new.out)) c.args.self.now new)
       (sym (next_events events i event c.loop-event-test.true c.event-item.is)) more in
       all;
@@ -57,10 +57,10 @@ returns-in-Err-clause-ended g c state before chain at =
     let ran = c.loop-event.invariant.ran state before chain at in
     let core = leads (opened state) (before ++ ran.turns) in
     let piece : List ℕ → Type 0 = Wrote g.W.Sink.written g.W.Sink.put_failures c.turn.result c.loop-event.out c.turn.new.out in
-    let turned = subst (λ (b : ℕ). Turned g.D.Disk.honest g.D.Disk.sectors g.D.Disk.reads g.D.Disk.choices b core (event_of event) piece new) c.loop-event.invariant.budget (c.turn.ensures.turned core ran.at) in
-    let more = ran_more g.D.Disk.honest g.D.Disk.sectors g.D.Disk.reads g.D.Disk.choices g.D.Disk.moment g.D.Disk.images_since c.args.self.now.house.budget state before (map event_of (take i events)) (event_of event)
+    let turned = subst (λ (b : ℕ). Turned g.D.Disk.honest g.D.Disk.sectors g.D.Disk.failures g.D.Disk.reads g.D.Disk.choices g.D.Disk.moment g.D.Disk.images_since b core (event_of event) piece c.loop-event.self new) c.loop-event.invariant.budget (c.turn.ensures.turned core ran.at) in
+    let more = ran_more g.D.Disk.honest g.D.Disk.sectors g.D.Disk.reads g.D.Disk.choices g.D.Disk.moment g.D.Disk.images_since g.D.Disk.failures c.args.self.now.house.budget state before (map event_of (take i events)) (event_of event)
     (Puts (g.W.Sink.written c.args.out.now) (g.W.Sink.written c.loop-event.out)) piece (λ text. Unit {0}) c.args.self.now c.loop-event.self new ran turned c.turn.ensures.count
-    (λ text piece_text front piece. tt) (λ h. c.turn.ensures.leaves h core ran.at) in
+    (λ text piece_text front piece. tt) in
     let all = subst (λ (es : List Event). Ran g.D.Disk.honest g.D.Disk.sectors g.D.Disk.reads g.D.Disk.choices g.D.Disk.moment g.D.Disk.images_since c.args.self.now.house.budget state before es (λ text. Unit {0}) c.args.self.now new)
     (sym (next_events events i event c.loop-event-test.true c.event-item.is)) more in
     (i, c.loop-event-test.true, all)

@@ -1,10 +1,8 @@
-use Rattle.std.proofs.Common.{◌≡◌, ap, sym, subst, ◌∙◌, Option, Some, List}
+use Rattle.std.proofs.Common.{◌≡◌, ap, sym, subst, ◌∙◌, Option, Some}
 use Rattle.dc_changes.specs.State.{MeterRow, Held, row_of}
-use Rattle.dc_recovery.specs.Store.{Kept}
 use Rattle.dc_readout.specs.Summary.{Summary, begun}
-use Rattle.dc_waiting.specs.Waiting.{Waiting}
 use Rattle.dc_waiting.specs.Lines.{put_on}
-use Rattle.dc_core.specs.Core.{Core, present, with_session}
+use Rattle.dc_core.specs.Core.{present, with_session}
 use Rattle.dc_core.specs.Step.{address_in}
 use Rattle.dc_core.specs.Images.{Machine, IsAt}
 use Rattle.dc_core.proofs.At.{at_line}

@@ -7,4 +7,4 @@ pub returns-in-Some-clause-yes : goal.returns-in-Some-clause-yes
 returns-in-Some-clause-yes g c = λ yes.
     let is = c.serial.ensures.serial in
     let below : c.serial.result < c.args.serial = grind (arith, nat_tests) in
-    all_before c.args.readings.now c.in-Some.last.now c.args.serial c.requires (sym c.in-Some.ensures.value) (omega arith)
+    all_before c.args.readings.now.items c.in-Some.last.now c.args.serial c.requires (sym c.in-Some.ensures) (omega arith)

@@ -1,5 +1,5 @@
 use Rattle.std.proofs.Common.{◌∙◌}
-use Rattle.dc_records.specs.Laws.Headers.{is_found, is_refused, header_again, header_faults_again}
+use Rattle.dc_records.proofs.Spellings.Headers.{is_found, is_refused, header_again, header_faults_again}
 use Rattle.dc_records.proofs.header.Header.read.Goals as goal
 
 pub returns-clause-found : goal.returns-clause-found

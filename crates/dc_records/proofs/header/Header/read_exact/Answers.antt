@@ -1,5 +1,5 @@
 use Rattle.std.proofs.Common.{refl, sym}
-use Rattle.dc_records.specs.Laws.Headers.{at_none, at_found}
+use Rattle.dc_records.proofs.Spellings.Headers.{at_none, at_found}
 use Rattle.dc_records.proofs.header.Header.read_exact.Goals as goal
 
 pub returns-in_default-from_wire : goal.returns-in_default-from_wire

@@ -1,4 +1,4 @@
-use Rattle.dc_records.specs.Laws.Telegrams.{is_found, is_only, is_refused, is_fault}
+use Rattle.dc_records.proofs.Spellings.Telegrams.{is_found, is_only, is_refused, is_fault}
 use Rattle.dc_records.proofs.telegram.Telegram.parse.Goals as goal
 
 pub returns-clause-found : goal.returns-clause-found

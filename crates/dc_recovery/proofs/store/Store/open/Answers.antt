@@ -1,7 +1,9 @@
-use Rattle.std.proofs.Common.{◌≡◌, ◌≤◌, ℕ, ap, subst, sym, ◌∙◌, refl}
+use Rattle.std.proofs.Common.{◌≡◌, ◌≤◌, ◌+◌, ℕ, ap, subst, sym, ◌∙◌, refl}
 use Rattle.dc_sectors.specs.Disk.{LeavesOnly}
 use Rattle.dc_recovery.specs.Halves.{half_len_of}
-use Rattle.dc_recovery.specs.Stands.{EachStands, StandsForOne, IsReady}
+use Rattle.dc_roots.specs.declared.root.Root.{Root}
+use Rattle.dc_recovery.specs.Roots.{IsOpenedRoot}
+use Rattle.dc_recovery.specs.Stands.{EachStands, StandsForOne, IsReady, ReadsBy}
 use Rattle.dc_recovery.specs.Refusal.{IsRefused, IsWorn}
 use Rattle.dc_recovery.proofs.Refusals.{stands_or_refused}
 use Rattle.dc_recovery.proofs.store.Store.open.Goals as goal
@@ -46,3 +48,10 @@ returns-in-Err-clause-premise g c h enough each tells =
     let one = each (g.D.Disk.reads disk) (g.met.D.Disk.reads_a_choice h disk) in
     stands_or_refused (half_len_of (g.D.Disk.sectors disk)) (subst (λ (n : ℕ). n ≤ 65536) at c.half_len_of.ensures.most) (g.D.Disk.reads disk) one.0 c.in-Err.fault tells
     (subst (λ (n : ℕ). IsRefused n (g.D.Disk.reads disk) c.in-Err.fault) at (c.in-Err.ensures.refused h)) one.1
+
+pub returns-in-Ok-clause-root : goal.returns-in-Ok-clause-root
+returns-in-Ok-clause-root g c h =
+    let found = c.in-Ok.found in
+    let at : c.half_len_of.result ≡ half_len_of (g.D.Disk.sectors c.args.disk) = c.half_len_of.ensures.exact ∙ ap half_len_of c.count-count.ensures in
+    subst (λ (n : ℕ). (root : Root) × (m : ℕ) × (place : ℕ) × ReadsBy n root m place found.house.state (g.D.Disk.reads c.args.disk) × IsOpenedRoot root (root.base_sequence + m) found.root) at
+    (c.in-Ok.ensures.root h)

@@ -1,0 +1,209 @@
+//! A line of the billing office.
+
+ghost use Rattle.std.specs.Prelude.{◌≡◌, ◌⊎◌, ◌≤◌, [], false, Some, Err, OnOk, OnErr, IfErr};
+ghost use Rattle.dc_base.specs.Failures.{HasRisen};
+ghost use Rattle.dc_sectors.specs.Disk.{LeavesOnly};
+ghost use Rattle.dc_stream.specs.Stream.{Wrote};
+ghost use Rattle.dc_changes.specs.Accepts.{Accepts};
+ghost use Rattle.dc_changes.specs.Apply.{applied};
+ghost use Rattle.dc_changes.specs.Valid.{IsChange};
+ghost use Rattle.dc_recovery.specs.Halves.{half_len_of};
+ghost use Rattle.dc_recovery.specs.Stands.{StandsForFront};
+ghost use Rattle.dc_upload.specs.Line.{IsOfficeLine};
+ghost use Rattle.dc_upload.specs.Reply.{refusal_line, reply_text, TakesMemory};
+ghost use Rattle.dc_upload.specs.Verdict.{verdict_of, IfDo};
+ghost use Rattle.dc_upload.specs.declared.code.Code.TheVariants.{Memory};
+ghost use Rattle.dc_upload.specs.declared.verdict.Verdict.TheVariants.{Do};
+ghost use Rattle.dc_core.specs.Core.{Core};
+ghost use Rattle.dc_core.specs.Event.{offices};
+ghost use Rattle.dc_core.specs.Step.{settled, removed_by, lines_after, ordered, after_commit, IsUnstored};
+ghost use Rattle.dc_core.specs.Images.{IsAt};
+ghost use Rattle.dc_core.specs.Run.{IsShown, Answered, Turned};
+
+use super::Concentrator;
+use crate::{CommitFault, WriteFault};
+use dc_address::Identity;
+use dc_base::NoMemory;
+use dc_changes::{Change, Command};
+use dc_meters::House;
+use dc_sectors::Disk;
+use dc_stream::{IoFault, Sink};
+use dc_upload::{
+    Code, OfficeLine, ReplyFault, Verdict, judge, parse_line, write_refusal, write_reply,
+};
+use dc_waiting::Lines;
+use std::alloc::Allocator;
+
+impl<D: Disk + Drop, A: Allocator + Copy> Concentrator<D, A> {
+    /// Answers a line of the office, which comes without its line end. What waits is committed first, so nothing is judged
+    /// or shown that isn't on the disk; a new command is applied and committed before `OK`. A command that removes a meter
+    /// ends its session. Memory is taken for a new command, and for the table of a REPORT.
+    ///
+    /// # Errors
+    /// `WriteFault` where the writer failed. What the line did stands then, and a command's repeat answers `OK`; how much
+    /// of the reply was written isn't known.
+    pub fn office<W: Sink>(&mut self, line: &[u8], out: &mut W) -> Result<(), WriteFault>
+        ensures turned { (core : Core) → IsAt D.honest D.sectors D.reads D.choices self.old core
+            → Turned D.honest D.sectors D.failures D.reads D.choices D.moment D.images_since self.old.house.budget core (offices line.now) (Wrote W.written W.put_failures result out.old out.new) self.old self.new }
+        ensures count { D.sectors self.new.store.disk ≡ D.sectors self.old.store.disk }
+        ensures budget { self.new.house.budget ≡ self.old.house.budget }
+        ensures fault { OnErr result (HasRisen (W.put_failures out.old) (W.put_failures out.new)) }
+        ensures well { OnOk result (W.put_failures out.new ≡ W.put_failures out.old) }
+    {
+        match self.reply(line, out) {
+            Ok(()) => Ok(()),
+            Err(IoFault) => Err(WriteFault),
+        }
+    }
+
+    // Reads a line and answers it.
+    fn reply<W: Sink>(&mut self, text: &[u8], out: &mut W) -> Result<(), IoFault>
+        ensures turned { (core : Core) → IsAt D.honest D.sectors D.reads D.choices self.old core
+            → Turned D.honest D.sectors D.failures D.reads D.choices D.moment D.images_since self.old.house.budget core (offices text.now) (Wrote W.written W.put_failures result out.old out.new) self.old self.new }
+        ensures count { D.sectors self.new.store.disk ≡ D.sectors self.old.store.disk }
+        ensures budget { self.new.house.budget ≡ self.old.house.budget }
+        ensures fault { OnErr result (HasRisen (W.put_failures out.old) (W.put_failures out.new)) }
+        ensures well { OnOk result (W.put_failures out.new ≡ W.put_failures out.old) }
+    {
+        let Some(line) = parse_line(text) else {
+            return write_refusal(Code::Syntax, out);
+        };
+        match self.settle() {
+            Ok(()) => {}
+            Err(_) => return write_refusal(Code::Store, out),
+        }
+        self.answer(&line, out)
+    }
+
+    // Commits what waits; a store that has stopped takes no line.
+    fn settle(&mut self) -> Result<(), CommitFault>
+        ensures ok { (core : Core) → IsAt D.honest D.sectors D.reads D.choices self.old core
+            → OnOk result ((core.stopped ≡ false) × IsAt D.honest D.sectors D.reads D.choices self.new (settled core)) }
+        ensures err { (core : Core) → IsAt D.honest D.sectors D.reads D.choices self.old core
+            → IfErr result (λ fault. IsUnstored core fault × IsAt D.honest D.sectors D.reads D.choices self.new (after_commit core (Err fault))) }
+        ensures any_moment { D.honest → (core : Core) → IsAt D.honest D.sectors D.reads D.choices self.old core
+            → LeavesOnly D.moment D.images_since self.old.store.disk self.new.store.disk (StandsForFront (half_len_of (D.sectors self.old.store.disk)) core.committed core.pending) }
+        ensures failed { IfErr result (λ fault. IsShown D.failures self.old self.new (Some fault)) }
+        ensures empty { OnOk result (self.new.waiting.count ≡ 0) }
+        ensures house { self.new.house ≡ self.old.house }
+        ensures count { D.sectors self.new.store.disk ≡ D.sectors self.old.store.disk }
+        ensures failures { D.failures self.old.store.disk ≤ D.failures self.new.store.disk }
+    {
+        if self.store.is_stopped() {
+            return Err(CommitFault::Stopped);
+        }
+        match self.commit() {
+            Ok(_) => Ok(()),
+            Err(fault) => Err(fault),
+        }
+    }
+
+    // Answers a line where nothing waits.
+    fn answer<W: Sink>(&mut self, line: &OfficeLine, out: &mut W) -> Result<(), IoFault>
+        requires line { IsOfficeLine line.now }
+        requires empty { self.old.waiting.count ≡ 0 }
+        ensures answered { (core : Core) → IsAt D.honest D.sectors D.reads D.choices self.old core → core.stopped ≡ false
+            → Answered D.honest D.sectors D.failures D.reads D.choices D.moment D.images_since self.old.house.budget core line.now (Wrote W.written W.put_failures result out.old out.new) self.old self.new }
+        ensures count { D.sectors self.new.store.disk ≡ D.sectors self.old.store.disk }
+        ensures budget { self.new.house.budget ≡ self.old.house.budget }
+        ensures fault { OnErr result (HasRisen (W.put_failures out.old) (W.put_failures out.new)) }
+        ensures well { OnOk result (W.put_failures out.new ≡ W.put_failures out.old) }
+    {
+        match judge(&self.house, line) {
+            Verdict::Do(change) => self.obey(&change, line, out),
+            Verdict::Repeat | Verdict::Show | Verdict::Refuse(_) => {
+                write_answer(self.alloc, &self.house, line, out)
+            }
+        }
+    }
+
+    // Does a new command where nothing waits.
+    fn obey<W: Sink>(
+        &mut self,
+        change: &Change<'_>,
+        line: &OfficeLine,
+        out: &mut W,
+    ) -> Result<(), IoFault>
+        requires line { IsOfficeLine line.now }
+        requires empty { self.old.waiting.count ≡ 0 }
+        requires is_change { IsChange change.now }
+        requires accepted { Accepts self.old.house.budget change.now self.old.house.state }
+        requires verdict { verdict_of self.old.house line.now ≡ Do change.now }
+        ensures answered { (core : Core) → IsAt D.honest D.sectors D.reads D.choices self.old core → core.stopped ≡ false
+            → Answered D.honest D.sectors D.failures D.reads D.choices D.moment D.images_since self.old.house.budget core line.now (Wrote W.written W.put_failures result out.old out.new) self.old self.new }
+        ensures count { D.sectors self.new.store.disk ≡ D.sectors self.old.store.disk }
+        ensures budget { self.new.house.budget ≡ self.old.house.budget }
+        ensures fault { OnErr result (HasRisen (W.put_failures out.old) (W.put_failures out.new)) }
+        ensures well { OnOk result (W.put_failures out.new ≡ W.put_failures out.old) }
+    {
+        match self.order(change) {
+            Ok(()) => {}
+            Err(NoMemory) => return write_refusal(Code::Memory, out),
+        }
+        match self.settle() {
+            Ok(()) => {}
+            Err(_) => return write_refusal(Code::Store, out),
+        }
+        // the line is a repeat now
+        write_answer(self.alloc, &self.house, line, out)
+    }
+
+    // Takes a command where nothing waits: the register has it, it waits, and nobody reads a meter that it removes.
+    fn order(&mut self, change: &Change<'_>) -> Result<(), NoMemory>
+        requires empty { self.old.waiting.count ≡ 0 }
+        requires is_change { IsChange change.now }
+        requires accepted { Accepts self.old.house.budget change.now self.old.house.state }
+        ensures at { (core : Core) → IsAt D.honest D.sectors D.reads D.choices self.old core → OnOk result (IsAt D.honest D.sectors D.reads D.choices self.new (ordered change.now core)) }
+        ensures house { OnOk result (self.new.house ≡ record self.old.house { state = applied change.now self.old.house.state }) }
+        ensures err { OnErr result (self.new ≡ self.old) }
+        ensures store { self.new.store ≡ self.old.store }
+    {
+        self.house.apply(change)?;
+        self.waiting.push(change);
+        end_removed(&mut self.lines, change);
+        Ok(())
+    }
+}
+
+// The reply to a line that is no new command, or that memory was refused for it.
+fn write_answer<A: Allocator + Copy, W: Sink>(
+    alloc: A,
+    house: &House<A>,
+    line: &OfficeLine,
+    out: &mut W,
+) -> Result<(), IoFault>
+    requires line { IsOfficeLine line.now }
+    requires answered { IfDo (verdict_of house.now line.now) (λ _. ⊥) }
+    ensures told { Wrote W.written W.put_failures result out.old out.new (reply_text house.now line.now)
+        ⊎ (TakesMemory line.now × Wrote W.written W.put_failures result out.old out.new (refusal_line Memory)) }
+    ensures fault { OnErr result (HasRisen (W.put_failures out.old) (W.put_failures out.new)) }
+    ensures well { OnOk result (W.put_failures out.new ≡ W.put_failures out.old) }
+{
+    match write_reply(alloc, house, line, out) {
+        Ok(()) => Ok(()),
+        Err(ReplyFault::NoMemory) => write_refusal(Code::Memory, out),
+        Err(ReplyFault::Write) => Err(IoFault),
+    }
+}
+
+// Nobody reads a meter that the change removes.
+fn end_removed(lines: &mut Lines, change: &Change<'_>)
+    ensures { lines.new ≡ lines_after (removed_by change.now) lines.old }
+{
+    if let Some(meter) = removed_by(change) {
+        lines.end(&meter);
+    }
+}
+
+fn removed_by(change: &Change<'_>) -> Option<Identity>
+    ensures { result ≡ removed_by change.now }
+{
+    match change {
+        Change::Command { command, .. } => match *command {
+            Command::Out { meter } => Some(meter),
+            Command::Swap { old, .. } => Some(old),
+            _ => None,
+        },
+        Change::Telegram { .. } => None,
+    }
+}

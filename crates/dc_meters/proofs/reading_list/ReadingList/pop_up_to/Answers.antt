@@ -1,0 +1,18 @@
+use Rattle.std.proofs.Common.{◌≡◌, ◌∷◌, List, ap, subst, sym, ◌∙◌}
+use Rattle.dc_changes.specs.State.{ReadingRow}
+use Rattle.dc_meters.specs.Orders.{ReadingRows, AreOrdered}
+use Rattle.dc_meters.proofs.FromSerial.{all_stay}
+use Rattle.dc_meters.proofs.Ordered.{ordered_less}
+use Rattle.dc_meters.proofs.reading_list.ReadingList.pop_up_to.Goals as goal
+
+pub returns-then-serial-clause-stay : goal.returns-then-serial-clause-stay
+returns-then-serial-clause-stay g c =
+    rw (← c.self.view_is) (all_stay c.args.serial c.self.inside.items.items c.in_ok-front.field-0.now c.in_ok-front.ensures.lookup (rw c.serial.ensures.serial at c.if-serial.true) c.self.invariant.ascend)
+
+pub invariant_of-self-2 : goal.invariant_of-self-2
+invariant_of-self-2 g c =
+    let inside = c.self.inside in
+    let r : ReadingRow = c.in_ok-reading.reading in
+    let went_out = rw (c.meter.ensures, c.serial-2.ensures.serial) at c.remove.ensures.updates.0 in
+    let items : inside.items.items ≡ r ∷ c.pop_front.new.self.items = c.in_ok-reading.ensures.items in
+    ordered_less inside.by_meter.keys c.remove.new.self.keys r c.pop_front.new.self.items (subst (AreOrdered inside.by_meter.keys) items c.self.invariant) went_out

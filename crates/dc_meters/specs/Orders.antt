@@ -1,0 +1,55 @@
+-- What is asked of readings that ascend by serial, and the serials that are filed under keys (this product).
+use Rattle.std.specs.Prelude.{◌≡◌, ℕ, ◌<◌, ◌-◌, ◌^◌, ◌==◌, Bool, ◌&&◌, List, map, filter, find, nat_le, All, Option}
+use Rattle.std.specs.List.{list_any}
+use Rattle.std.specs.List.Sorted.{IsStrictlySortedBy}
+use Rattle.std.specs.Ordering.{nat_cmp, ordering_then, is_eq}
+use Rattle.std.specs.declared.cmp.Ordering.{Ordering}
+use Rattle.std.specs.BTreeMap.{is_at}
+use Rattle.std.specs.BTreeMap.Range.{range_contains}
+use Rattle.std.specs.declared.ops.Bound.TheVariants.{Included}
+use Rattle.dc_address.specs.declared.identity.Identity.{Identity}
+use Rattle.dc_address.specs.Identity.{identity_cmp}
+use Rattle.dc_changes.specs.State.{ReadingRow}
+use Rattle.dc_meters.specs.declared.filed.Filed.{Filed}
+
+-- ---- what is asked, each the filter of the readings
+
+-- the readings with at least a serial
+abbrev pub readings_from : ℕ → List ReadingRow → List ReadingRow
+readings_from serial readings = filter (λ r. nat_le serial r.serial) readings
+
+-- the reading with a serial
+abbrev pub reading_of : ℕ → List ReadingRow → Option ReadingRow
+reading_of serial readings = find (λ r. r.serial == serial) readings
+
+abbrev pub is_of : Identity → ReadingRow → Bool
+is_of meter r = is_eq (identity_cmp meter r.meter)
+
+-- the serials of a meter's readings
+abbrev pub serials_of : Identity → List ReadingRow → List ℕ
+serials_of meter readings = map (λ r. r.serial) (filter (is_of meter) readings)
+
+-- ---- serials under keys
+
+-- by key, and under one key by serial
+abbrev pub filed_cmp : {K : Type 0} → (K → K → Ordering) → Filed K → Filed K → Ordering
+filed_cmp R a b = ordering_then (R a.key b.key) (nat_cmp a.serial b.serial)
+
+-- the serials under a key
+abbrev pub serials_under : {K : Type 0} → (K → K → Ordering) → K → List (Filed K) → List ℕ
+serials_under {K} R key filed = map (λ (f : Filed K). f.serial) (filter (range_contains (filed_cmp R) (Included (record { key = key; serial = 0 })) (Included (record { key = key; serial = 2 ^ 64 - 1 }))) filed)
+
+-- under each key stand the serials of the readings that have it
+abbrev pub AreFiled : {K : Type 0} → (K → K → Ordering) → (K → ReadingRow → Bool) → List (Filed K) → List ReadingRow → Type 0
+AreFiled {K} R has filed readings = (q : Filed K) → list_any (is_at (filed_cmp R q)) filed ≡ list_any (λ r. has q.key r && is_eq (nat_cmp q.serial r.serial)) readings
+
+-- ---- readings in memory
+
+pub record ReadingRows : Type 0 where
+  pub items : List ReadingRow
+
+-- readings that ascend, and the serials of each meter's
+pub record AreOrdered (by_meter : List (Filed Identity)) (readings : List ReadingRow) : Type 0 where
+  pub ascend : IsStrictlySortedBy nat_cmp (map (λ (r : ReadingRow). r.serial) readings)
+  pub fit : All (λ (r : ReadingRow). r.serial < 2 ^ 64) readings
+  pub of_meters : AreFiled identity_cmp is_of by_meter readings

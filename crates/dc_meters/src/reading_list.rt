@@ -1,0 +1,169 @@
+//! The readings that aren't confirmed, and their order by meter.
+
+ghost use Rattle.std.specs.Prelude.{◌≡◌, ◌+◌, ◌-◌, ◌<◌, ◌≤◌, ◌^◌, [], ◌∷◌, ◌++◌, All, OnOk, OnErr, IfOk, IfSome, IfNone, length, slice_get, map, filter, nat_lt, sum_by, option_copied};
+ghost use Rattle.std.specs.List.Sorted.{IsStrictlySortedBy};
+ghost use Rattle.std.specs.Ordering.{nat_cmp};
+ghost use Rattle.std.specs.VecDeque.Iter.{deque_iter_rest};
+ghost use Rattle.dc_changes.specs.Size.{reading_size};
+ghost use Rattle.dc_changes.specs.Valid.{IsReading};
+ghost use Rattle.dc_meters.specs.Orders.{readings_from, reading_of, serials_of};
+
+use crate::{Filed, Meter, Reading, Serials};
+use dc_address::Identity;
+use dc_base::NoMemory;
+use std::alloc::Allocator;
+use std::collections::vec_deque::Iter;
+use std::collections::{BTreeSet, VecDeque};
+use std::marker::Model;
+
+/// Which reading a readout becomes.
+#[derive(Clone, Copy)]
+pub(crate) struct Ended {
+    pub(crate) meter: Identity,
+    pub(crate) serial: u64,
+}
+
+/// The readings that aren't confirmed, by serial, and their serials by meter.
+#[derive(Drop)]
+pub(crate) struct ReadingList<A: Allocator + Copy> {
+    items: VecDeque<Reading<A>, A>,
+    by_meter: BTreeSet<Filed<Identity>, A>,
+}
+
+impl<A: Allocator + Copy> Model for ReadingList<A> {
+    ghost use Rattle.dc_meters.specs.Orders.{ReadingRows, AreOrdered};
+
+    ghost Value = { ReadingRows };
+
+    ghost view = { λ r. record { items = r.items.items } };
+
+    ghost invariant = { λ r. AreOrdered r.by_meter.keys r.items.items };
+}
+
+impl<A: Allocator + Copy> ReadingList<A> {
+    /// No reading.
+    pub(crate) fn new(alloc: A) -> ReadingList<A>
+        ensures { result.items ≡ [] }
+    {
+        ReadingList {
+            items: VecDeque::new(alloc),
+            by_meter: BTreeSet::new(alloc),
+        }
+    }
+
+    /// A reading more, behind all others.
+    pub(crate) fn push(&mut self, reading: Reading<A>) -> Result<(), NoMemory>
+        requires later { All (λ r. r.serial < reading.serial) self.old.items }
+        ensures ok { OnOk result (self.new.items ≡ self.old.items ++ reading ∷ []) }
+        ensures err { OnErr result (self.new ≡ self.old) }
+    {
+        self.items.reserve(1)?;
+        self.by_meter.insert(Filed {
+            key: reading.meter(),
+            serial: reading.serial(),
+        })?;
+        self.items.push_back_reserved(reading);
+        Ok(())
+    }
+
+    /// The open parts of a meter become a reading, behind all others; gives the bytes that it is counted as. Where
+    /// memory is refused, the meter keeps its parts.
+    pub(crate) fn close(
+        &mut self,
+        alloc: A,
+        ended: Ended,
+        row: &mut Meter<A>,
+    ) -> Result<u32, NoMemory>
+        requires later { All (λ r. r.serial < ended.serial) self.old.items }
+        requires fits { ended.serial < 2 ^ 64 }
+        ensures ok { OnOk result (self.new.items ≡ self.old.items ++ record { serial = ended.serial; meter = ended.meter; flat = row.old.flat; parts = row.old.parts } ∷ []) }
+        ensures closed { OnOk result (row.new ≡ record row.old { parts = [] }) }
+        ensures size { IfOk result (λ size. size ≡ reading_size (record { serial = ended.serial; meter = ended.meter; flat = row.old.flat; parts = row.old.parts })) }
+        ensures is_reading { OnOk result (IsReading (record { serial = ended.serial; meter = ended.meter; flat = row.old.flat; parts = row.old.parts })) }
+        ensures err { OnErr result (self.new ≡ self.old) }
+        ensures open { OnErr result (row.new ≡ row.old) }
+    {
+        self.items.reserve(1)?;
+        let Ended { meter, serial } = ended;
+        self.by_meter.insert(Filed { key: meter, serial })?;
+        let reading = row.close(alloc, serial, meter);
+        let size = reading.size();
+        self.items.push_back_reserved(reading);
+        Ok(size)
+    }
+
+    /// Drops the readings up to a serial, and gives the bytes that they were counted as. What stays isn't gone over.
+    pub(crate) fn forget(&mut self, serial: u64) -> u32
+        requires { sum_by reading_size self.old.items < 2 ^ 32 }
+        ensures kept { self.new.items ≡ filter (λ r. nat_lt serial r.serial) self.old.items }
+        ensures size { result + sum_by reading_size self.new.items ≡ sum_by reading_size self.old.items }
+    {
+        let mut size = 0;
+        while let Some(reading) = self.pop_up_to(serial) {
+            size += reading.size();
+        }
+        size
+    }
+
+    /// The first reading goes, where it has this serial or a lower one.
+    fn pop_up_to(&mut self, serial: u64) -> Option<Reading<A>>
+        ensures first { IfSome result (λ r. self.old.items ≡ r ∷ self.new.items) }
+        ensures low { IfSome result (λ r. r.serial ≤ serial) }
+        ensures none { IfNone result (self.new ≡ self.old) }
+        ensures stay { IfNone result (filter (λ r. nat_lt serial r.serial) self.old.items ≡ self.old.items) }
+    {
+        if self.items.front()?.serial() > serial {
+            return None;
+        }
+        let reading = self.items.pop_front()?;
+        self.by_meter.remove(&Filed {
+            key: reading.meter(),
+            serial: reading.serial(),
+        });
+        Some(reading)
+    }
+
+    /// The last reading.
+    pub(crate) fn last(&self) -> Option<&Reading<A>>
+        ensures { option_copied result ≡ slice_get self.now.items (length self.now.items - 1) }
+    {
+        self.items.back()
+    }
+
+    /// All of them, by serial.
+    pub(crate) fn all(&self) -> &VecDeque<Reading<A>, A>
+        ensures { result.now.items ≡ self.now.items }
+    {
+        &self.items
+    }
+
+    /// Those with at least a serial. Those before aren't gone over.
+    pub(crate) fn from(&self, serial: u64) -> Iter<'_, Reading<A>>
+        ensures readings { deque_iter_rest result ≡ readings_from serial self.now.items }
+        ensures ascend { IsStrictlySortedBy nat_cmp (map (λ r. r.serial) self.now.items) }
+    {
+        let first = self
+            .items
+            .partition_point(|reading| reading.serial() < serial);
+        self.items.range(first..)
+    }
+
+    /// The reading with a serial.
+    pub(crate) fn reading(&self, serial: u64) -> Option<&Reading<A>>
+        ensures { option_copied result ≡ reading_of serial self.now.items }
+    {
+        let reading = self.from(serial).next()?;
+        if reading.serial() == serial {
+            Some(reading)
+        } else {
+            None
+        }
+    }
+
+    /// The serials of a meter's readings, ascending.
+    pub(crate) fn serials_of(&self, meter: Identity) -> Serials<'_, Identity>
+        ensures { result ≡ serials_of meter self.now.items }
+    {
+        Serials::under(&self.by_meter, meter)
+    }
+}

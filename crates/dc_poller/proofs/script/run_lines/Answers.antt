@@ -1,0 +1,117 @@
+use Rattle.std.proofs.Common.{◌≡◌, ◌≤◌, ◌+◌, ◌++◌, ◌∷◌, [], ℕ, List, append-nil, eqb-true, refl, sym, subst, ◌∙◌, arith, codes}
+use Rattle.std.specs.Prelude.{OnOk}
+use Rattle.dc_stream.specs.Stream.{Puts}
+use Rattle.dc_stream.proofs.Pieces.{puts-both, puts-none}
+use Rattle.dc_text.specs.Words.{number_word}
+use Rattle.dc_core.specs.Core.{opened}
+use Rattle.dc_core.specs.Run.{Ran}
+use Rattle.dc_core.specs.Transcript.{IsChain}
+use Rattle.dc_core.proofs.Going.{ran_none}
+use Rattle.dc_poller.specs.Lines.{lines_of}
+use Rattle.dc_poller.specs.Script.{AskFor, events_at, own_text, lines_text}
+use Rattle.dc_poller.specs.ScriptLine.{seen}
+use Rattle.dc_poller.proofs.Inputs.{no_line}
+use Rattle.dc_poller.proofs.LineRuns.{SoFar, one_more, moment_fits}
+use Rattle.dc_poller.proofs.script.run_lines.Goals as goal
+
+pub lines-init : goal.lines-init
+lines-init g c = record {
+  bytes = c.requires;
+  moment = omega arith;
+  counted = omega arith;
+  budget = refl;
+  well = refl;
+  so_far = record {
+    done = [];
+    are_read = refl;
+    moment_is = refl;
+    count_is = refl;
+    ran = λ state before chain at. record {
+      ran = ran_none g.D.Disk.honest g.D.Disk.sectors g.D.Disk.reads g.D.Disk.choices g.D.Disk.moment g.D.Disk.images_since c.args.concentrator.now.house.budget state before (λ text. Unit {0}) c.args.concentrator.now chain at
+          (λ h image left. g.met.D.Disk.only_now h c.args.concentrator.now.store.disk image left) tt;
+      text = puts-none (g.W.Sink.written c.args.out.now);
+    };
+  };
+}
+
+pub lines-preserved : goal.lines-preserved
+lines-preserved g c =
+    let asked = seen c.in-Some.asked in
+    let w = g.W.Sink.written in
+    let counted = c.lines.invariant.counted in
+    let shorter = c.first_line.ensures.shorter in
+    let so_far = c.lines.invariant.so_far in
+    let b_is = c.lines.invariant.budget in
+    let first = c.args.concentrator.now in
+    let old = c.lines.concentrator in
+    let new = c.run_line.new.concentrator in
+    let piece : List ℕ → Type 0 = λ text. Puts (w c.lines.out) (w c.run_line.new.out) (own_text asked ++ text) in
+    let here = subst (λ (rest : List (List ℕ)). SoFar g.D.Disk.honest g.D.Disk.sectors g.D.Disk.reads g.D.Disk.choices g.D.Disk.moment g.D.Disk.images_since first.house.budget (lines_of c.args.input.now) rest c.lines.moment c.lines.count (Puts (w c.args.out.now) (w c.lines.out)) first old)
+    c.first_line.ensures.lines so_far in
+    let more = one_more g.D.Disk.honest g.D.Disk.sectors g.D.Disk.reads g.D.Disk.choices g.D.Disk.moment g.D.Disk.images_since first.house.budget (lines_of c.args.input.now) c.first_line.result.0.now (lines_of c.first_line.result.1.now) asked c.lines.moment c.lines.count
+    (Puts (w c.args.out.now) (w c.lines.out)) piece (Puts (w c.args.out.now) (w c.run_line.new.out)) first old new here c.in-Some.ensures.found
+    (λ state before chain at. subst (λ (b : ℕ). Ran g.D.Disk.honest g.D.Disk.sectors g.D.Disk.reads g.D.Disk.choices g.D.Disk.moment g.D.Disk.images_since b state before (events_at c.lines.moment asked) piece old new) b_is
+    (c.in_default-run_line.ensures.ran state before (subst (λ (b : ℕ). IsChain b (opened state) before) (sym b_is) chain) at))
+    (λ text more wrote put. puts-both (w c.args.out.now) (w c.lines.out) (w c.run_line.new.out) text (own_text asked ++ more) wrote put) in
+    record {
+      bytes = omega arith;
+      moment = subst (λ (m : ℕ). m ≤ _) (sym c.moment_behind-moment.ensures) (moment_fits c.lines.moment asked c.lines.invariant.moment c.in-Some.ensures.found.has_bounds);
+      counted = omega (arith, counted, shorter);
+      budget = c.run_line.ensures.budget ∙ b_is;
+      well = c.in_default-run_line.ensures.well ∙ c.lines.invariant.well;
+      so_far = subst (λ (m : ℕ). SoFar g.D.Disk.honest g.D.Disk.sectors g.D.Disk.reads g.D.Disk.choices g.D.Disk.moment g.D.Disk.images_since first.house.budget (lines_of c.args.input.now) (lines_of c.first_line.result.1.now) m (c.lines.count + 1) (Puts (w c.args.out.now) (w c.run_line.new.out)) first new)
+          (sym c.moment_behind-moment.ensures) more;
+    }
+
+pub returns-in-Err-clause-cut : goal.returns-in-Err-clause-cut
+returns-in-Err-clause-cut g c state before chain at =
+    let asked = seen c.in-Some.asked in
+    let w = g.W.Sink.written in
+    let b_is = c.lines.invariant.budget in
+    let first = c.args.concentrator.now in
+    let old = c.lines.concentrator in
+    let new = c.run_line.new.concentrator in
+    let piece : List ℕ → Type 0 = λ text. OnOk c.run_line.result (Puts (w c.lines.out) (w c.run_line.new.out) (own_text asked ++ text)) in
+    let here = subst (λ (rest : List (List ℕ)). SoFar g.D.Disk.honest g.D.Disk.sectors g.D.Disk.reads g.D.Disk.choices g.D.Disk.moment g.D.Disk.images_since first.house.budget (lines_of c.args.input.now) rest c.lines.moment c.lines.count (Puts (w c.args.out.now) (w c.lines.out)) first old)
+    c.first_line.ensures.lines c.lines.invariant.so_far in
+    let more = one_more g.D.Disk.honest g.D.Disk.sectors g.D.Disk.reads g.D.Disk.choices g.D.Disk.moment g.D.Disk.images_since first.house.budget (lines_of c.args.input.now) c.first_line.result.0.now (lines_of c.first_line.result.1.now) asked c.lines.moment c.lines.count
+    (Puts (w c.args.out.now) (w c.lines.out)) piece (λ text. Unit {0}) first old new here c.in-Some.ensures.found
+    (λ state before chain at. subst (λ (b : ℕ). Ran g.D.Disk.honest g.D.Disk.sectors g.D.Disk.reads g.D.Disk.choices g.D.Disk.moment g.D.Disk.images_since b state before (events_at c.lines.moment asked) piece old new) b_is
+    (c.run_line.ensures.ran state before (subst (λ (b : ℕ). IsChain b (opened state) before) (sym b_is) chain) at))
+    (λ text more wrote put. tt) in
+    record { asked = more.done; rest = lines_of c.first_line.result.1.now; are_read = more.are_read; done = more.ran state before chain at }
+
+pub returns-in_default-clause-ran : goal.returns-in_default-clause-ran
+returns-in_default-clause-ran g c state before chain at =
+    let so_far = c.lines.invariant.so_far in
+    let ran = so_far.ran state before chain at in
+    let w = g.W.Sink.written in
+    let text = lines_text so_far.done ran.ran.turns in
+    record {
+      asked = so_far.done;
+      rest = c.first_line.result.0.now ∷ lines_of c.first_line.result.1.now;
+      are_read = subst (AskFor (lines_of c.args.input.now) so_far.done) c.first_line.ensures.lines so_far.are_read;
+      ends = (refl, c.in_default.ensures.only);
+      done = record {
+        ran = ran.ran;
+        text = puts-both (w c.args.out.now) (w c.lines.out) (w c.put_syntax.new.out) text _ ran.text
+            (subst (λ (n : ℕ). Puts (w c.lines.out) (w c.put_syntax.new.out) (codes "LINE" ++ number_word (n + 1) ++ codes " SYNTAX\n")) so_far.count_is c.in_ok-put_syntax.ensures.0);
+      };
+    }
+
+pub returns-clause-ran : goal.returns-clause-ran
+returns-clause-ran g c state before chain at =
+    let so_far = c.lines.invariant.so_far in
+    let ran = so_far.ran state before chain at in
+    let w = g.W.Sink.written in
+    let none : lines_of c.lines.rest.now ≡ [] = no_line c.lines.rest.now (eqb-true _ _ (sym c.lines-test.ensures)) in
+    record {
+      asked = so_far.done;
+      rest = [];
+      are_read = subst (AskFor (lines_of c.args.input.now) so_far.done) none so_far.are_read;
+      ends = refl;
+      done = record {
+        ran = ran.ran;
+        text = subst (Puts (w c.args.out.now) (w c.lines.out)) (sym (append-nil (lines_text so_far.done ran.ran.turns))) ran.text;
+      };
+    }

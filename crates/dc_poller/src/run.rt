@@ -1,0 +1,120 @@
+//! The engine of `run`: a script over an image, from a source's lines to a sink's text.
+
+ghost use Rattle.std.specs.Prelude.{◌≡◌, ◌≢◌, ◌≤◌, ◌<◌, ◌*◌, None, length, vec_len, IfSome, IfOk, IfErr, MatchResult, OnOk, IsErrOf};
+ghost use Rattle.dc_base.specs.Failures.{HasRisen};
+ghost use Rattle.dc_recovery.specs.Halves.{half_len_of};
+ghost use Rattle.dc_recovery.specs.Refusal.{IsRefused, TellsOfImage};
+ghost use Rattle.dc_recovery.specs.Stands.{EachStands, StandsForOne};
+ghost use Rattle.dc_recovery.specs.declared.fault.OpenFault.TheVariants.{NotImage, Worn, Device};
+ghost use Rattle.dc_sectors.specs.Disk.{LeavesOnly};
+ghost use Rattle.dc_stream.specs.Stream.{Puts};
+ghost use Rattle.dc_poller.specs.Fault.{IfOpen, IsOfReading};
+ghost use Rattle.dc_poller.specs.ImageRun.{ImageRan, ImageCut};
+ghost use Rattle.dc_poller.specs.ScriptLine.{longest_line};
+
+use crate::fault::ProgramFault;
+use crate::input::{CHUNK, MOST, read_input};
+use crate::lines::LONGEST;
+use crate::script::run_lines;
+use dc_core::Concentrator;
+use dc_sectors::Disk;
+use dc_stream::{IoFault, Sink, Source, room};
+use std::alloc::Allocator;
+
+/// Opens the image, does what the lines of the script ask for that the reader has left, and closes it. What waits for a
+/// commit at the end is given up. Each event's answer is written as [`Concentrator::run`] writes it. The first line that
+/// spells nothing ends the script with `LINE i SYNTAX`, and the answer says whether there is one. The forms of the lines
+/// are those of [`ScriptLine`](crate::ScriptLine).
+///
+/// The whole script is read before the image is opened. There is no gateway yet: `POLL` and `SEARCH` write `NO GATEWAY`.
+/// The disk comes back whatever happens.
+///
+/// # Errors
+/// [`ProgramFault::Read`], [`ProgramFault::TooLong`] over 1 MiB and [`ProgramFault::NoMemory`], with disk and writer as
+/// they were; [`ProgramFault::Open`] where the image wasn't opened, with the writer as it was; [`ProgramFault::Write`]
+/// where the writer failed: the line at which it did is done, and none behind it.
+pub fn run_script<
+    D: Disk + Drop,
+    A: Allocator + Copy,
+    R: Source,
+    W: Sink,
+    GR: Source + Drop,
+    GW: Sink + Drop,
+>(
+    alloc: A,
+    disk: D,
+    reader: &mut R,
+    writer: &mut W,
+    gateway: Option<(GR, GW)>,
+) -> (D, Result<bool, ProgramFault>)
+    requires { gateway ≡ None }
+
+    // Where each image of the disk stands for some state: the run is that of the script's lines, of which exactly the text
+    // is written, and the image is left as that run leaves it.
+    ensures ran { (D.honest → EachStands (half_len_of (D.sectors disk)) (D.choices disk))
+        → IfOk result.1 (λ faulty. ImageRan D.honest D.sectors D.reads D.choices D.moment D.images_since (R.left reader.old) faulty (Puts (W.written writer.old) (W.written writer.new)) disk result.0) }
+    ensures cut { (D.honest → EachStands (half_len_of (D.sectors disk)) (D.choices disk))
+        → IsErrOf result.1 ProgramFault.Write → ImageCut D.honest D.sectors D.reads D.choices D.moment D.images_since (R.left reader.old) disk result.0 }
+
+    // An image that isn't opened is refused as the store refuses it; one that stands is refused only as worn.
+    ensures small { D.sectors disk < 131 → MatchResult result.1 (λ faulty. ⊥) (λ fault. IfOpen fault (λ e. (e ≡ NotImage) × (result.0 ≡ disk))) }
+    ensures refused { D.honest → 131 ≤ D.sectors disk → IfErr result.1 (λ fault. IfOpen fault (λ e. IsRefused (half_len_of (D.sectors disk)) (D.reads disk) e)) }
+    ensures premise { D.honest → 131 ≤ D.sectors disk → EachStands (half_len_of (D.sectors disk)) (D.choices disk) → IfErr result.1 (λ fault. IfOpen fault (λ e. TellsOfImage e → e ≡ Worn)) }
+    ensures unwritten { D.honest → IfErr result.1 (λ fault. IfOpen fault (λ e. TellsOfImage e → D.reads result.0 ≡ D.reads disk)) }
+    ensures device { IfErr result.1 (λ fault. IfOpen fault (λ e. e ≡ Device → HasRisen (D.failures disk) (D.failures result.0))) }
+    ensures any_moment { D.honest → EachStands (half_len_of (D.sectors disk)) (D.choices disk)
+        → IfErr result.1 (λ fault. IfOpen fault (λ e. LeavesOnly D.moment D.images_since disk result.0 (StandsForOne (half_len_of (D.sectors disk)) (D.choices disk)))) }
+
+    // A script over the limit is refused, and no other is refused for its length.
+    ensures fits { OnOk result.1 (IfSome (R.left reader.old) (λ input. length input ≤ 1048576)) }
+    ensures too_long { IsErrOf result.1 ProgramFault.TooLong → IfSome (R.left reader.old) (λ input. 1048576 < length input) }
+
+    // A fault of an end is told only where that end counted a failure.
+    ensures read { IsErrOf result.1 ProgramFault.Read → HasRisen (R.take_failures reader.old) (R.take_failures reader.new) }
+    ensures write { IsErrOf result.1 ProgramFault.Write → HasRisen (W.put_failures writer.old) (W.put_failures writer.new) }
+    ensures ok { OnOk result.1 ((R.take_failures reader.new ≡ R.take_failures reader.old) × (W.put_failures writer.new ≡ W.put_failures writer.old)) }
+
+    // What isn't read touches nothing, and after any fault but a failed write the writer is as it was.
+    ensures unread { IfErr result.1 (λ fault. IsOfReading fault → result.0 ≡ disk) }
+    ensures untouched { IfErr result.1 (λ fault. fault ≢ ProgramFault.Write → writer.new ≡ writer.old) }
+{
+    let (input, mut bytes) = match read_script(alloc, reader) {
+        Ok(read) => read,
+        Err(fault) => return (disk, Err(fault)),
+    };
+    let mut concentrator = match Concentrator::open(alloc, disk) {
+        Ok(concentrator) => concentrator,
+        Err((fault, disk)) => return (disk, Err(ProgramFault::Open(fault))),
+    };
+    match run_lines(
+        &mut concentrator,
+        input.as_slice(),
+        bytes.as_mut_slice(),
+        writer,
+    ) {
+        Ok(faulty) => (concentrator.close(), Ok(faulty)),
+        Err(IoFault) => (concentrator.close(), Err(ProgramFault::Write)),
+    }
+}
+
+// The whole script, and room for an answer's bytes.
+fn read_script<A: Allocator + Copy, R: Source>(
+    alloc: A,
+    reader: &mut R,
+) -> Result<(Vec<u8, A>, Vec<u8, A>), ProgramFault>
+    ensures whole { IfOk result (λ script. IfSome (R.left reader.old) (λ known. script.0.items ≡ known)) }
+    ensures room { IfOk result (λ script. longest_line ≤ 2 * vec_len script.1) }
+    ensures fits { OnOk result (IfSome (R.left reader.old) (λ input. length input ≤ 1048576)) }
+    ensures too_long { IsErrOf result ProgramFault.TooLong → IfSome (R.left reader.old) (λ input. 1048576 < length input) }
+    ensures faults { IfErr result IsOfReading }
+    ensures ok { OnOk result (R.take_failures reader.new ≡ R.take_failures reader.old) }
+    ensures read { IsErrOf result ProgramFault.Read → HasRisen (R.take_failures reader.old) (R.take_failures reader.new) }
+{
+    let bytes = room(alloc, LONGEST / 2)?;
+    let mut chunk = room(alloc, CHUNK)?;
+    let input = read_input(alloc, reader, chunk.as_mut_slice())?;
+    if input.len() > MOST {
+        return Err(ProgramFault::TooLong);
+    }
+    Ok((input, bytes))
+}

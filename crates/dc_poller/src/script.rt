@@ -1,0 +1,132 @@
+//! The lines of a script, one by one through a concentrator.
+
+ghost use Rattle.std.specs.Prelude.{◌≡◌, ◌≤◌, ◌*◌, ◌++◌, ◌∷◌, [], List, codes, length, IfOk, OnOk, OnErr};
+ghost use Rattle.dc_base.specs.Failures.{HasRisen};
+ghost use Rattle.dc_changes.specs.State.{State};
+ghost use Rattle.dc_changes.specs.Valid.{last_moment};
+ghost use Rattle.dc_core.specs.Core.{opened};
+ghost use Rattle.dc_core.specs.Images.{IsAt};
+ghost use Rattle.dc_core.specs.Run.{event_of, IsEvent, Ran};
+ghost use Rattle.dc_core.specs.Transcript.{Turn, leads, IsChain};
+ghost use Rattle.dc_stream.specs.Stream.{Puts, Wrote};
+ghost use Rattle.dc_text.specs.Words.{number_word};
+ghost use Rattle.dc_poller.specs.Lines.{lines_of};
+ghost use Rattle.dc_poller.specs.Script.{ScriptCut, ScriptRan, events_at, moment_behind, own_text};
+ghost use Rattle.dc_poller.specs.ScriptLine.{longest_line, seen};
+
+use crate::lines::first_line;
+use crate::script_line::ScriptLine;
+use dc_core::{Concentrator, Event, WriteFault};
+use dc_sectors::Disk;
+use dc_stream::{IoFault, Sink};
+use dc_text::put_number_word;
+use std::alloc::Allocator;
+
+/// Runs the lines of an input, up to the first that spells nothing, and says whether there is one. `bytes` is room for an
+/// answer.
+pub fn run_lines<D: Disk + Drop, A: Allocator + Copy, W: Sink>(
+    concentrator: &mut Concentrator<D, A>,
+    input: &[u8],
+    bytes: &mut [u8],
+    out: &mut W,
+) -> Result<bool, IoFault>
+    requires { longest_line ≤ 2 * length bytes.old }
+    ensures ran { (state : State) (before : List Turn) → IsChain concentrator.old.house.budget (opened state) before → IsAt D.honest D.sectors D.reads D.choices concentrator.old (leads (opened state) before)
+        → IfOk result (λ faulty. ScriptRan D.honest D.sectors D.reads D.choices D.moment D.images_since concentrator.old.house.budget state before (lines_of input.now) faulty (Puts (W.written out.old) (W.written out.new)) concentrator.old concentrator.new) }
+    ensures cut { (state : State) (before : List Turn) → IsChain concentrator.old.house.budget (opened state) before → IsAt D.honest D.sectors D.reads D.choices concentrator.old (leads (opened state) before)
+        → OnErr result (ScriptCut D.honest D.sectors D.reads D.choices D.moment D.images_since concentrator.old.house.budget state before (lines_of input.now) concentrator.old concentrator.new) }
+    ensures fault { OnErr result (HasRisen (W.put_failures out.old) (W.put_failures out.new)) }
+    ensures well { OnOk result (W.put_failures out.new ≡ W.put_failures out.old) }
+{
+    let mut rest = input;
+    let mut moment = 0;
+    let mut count = 0;
+    'lines: while !rest.is_empty() {
+        let (line, after) = first_line(rest);
+        let Some(asked) = ScriptLine::parse(line, bytes) else {
+            put_syntax(out, count + 1)?;
+            return Ok(true);
+        };
+        if let Err(fault) = run_line(concentrator, &asked, moment, out) {
+            return Err(fault);
+        }
+        moment = moment_behind(&asked, moment);
+        count += 1;
+        rest = after;
+    }
+    Ok(false)
+}
+
+// Does what a line asks for, at a moment.
+fn run_line<D: Disk + Drop, A: Allocator + Copy, W: Sink>(
+    concentrator: &mut Concentrator<D, A>,
+    asked: &ScriptLine<'_>,
+    moment: u64,
+    out: &mut W,
+) -> Result<(), IoFault>
+    requires { moment ≤ last_moment }
+    ensures ran { (state : State) (before : List Turn) → IsChain concentrator.old.house.budget (opened state) before → IsAt D.honest D.sectors D.reads D.choices concentrator.old (leads (opened state) before)
+        → Ran D.honest D.sectors D.reads D.choices D.moment D.images_since concentrator.old.house.budget state before (events_at moment (seen asked.now))
+        (λ text. OnOk result (Puts (W.written out.old) (W.written out.new) (own_text (seen asked.now) ++ text))) concentrator.old concentrator.new }
+    ensures fault { OnErr result (HasRisen (W.put_failures out.old) (W.put_failures out.new)) }
+    ensures well { OnOk result (W.put_failures out.new ≡ W.put_failures out.old) }
+    ensures budget { concentrator.new.house.budget ≡ concentrator.old.house.budget }
+{
+    match *asked {
+        ScriptLine::Nothing | ScriptLine::At { .. } => Ok(()),
+        ScriptLine::Poll { .. } | ScriptLine::Search { .. } => out.put(b"NO GATEWAY\n"),
+        ScriptLine::Start { line, meter } => {
+            run_event(concentrator, &Event::Start { line, meter }, out)
+        }
+        ScriptLine::Ask { line } => run_event(concentrator, &Event::Ask { line }, out),
+        ScriptLine::Hear { line, answer } => {
+            let heard = Event::Hear {
+                line,
+                moment,
+                answer,
+            };
+            run_event(concentrator, &heard, out)
+        }
+        ScriptLine::Commit => run_event(concentrator, &Event::Commit, out),
+        ScriptLine::Office { text } => run_event(concentrator, &Event::Office { text }, out),
+    }
+}
+
+// One event, and the text of its answer.
+fn run_event<D: Disk + Drop, A: Allocator + Copy, W: Sink>(
+    concentrator: &mut Concentrator<D, A>,
+    event: &Event<'_>,
+    out: &mut W,
+) -> Result<(), IoFault>
+    requires { IsEvent event.now }
+    ensures ran { (state : State) (before : List Turn) → IsChain concentrator.old.house.budget (opened state) before → IsAt D.honest D.sectors D.reads D.choices concentrator.old (leads (opened state) before)
+        → Ran D.honest D.sectors D.reads D.choices D.moment D.images_since concentrator.old.house.budget state before (event_of event.now ∷ [])
+        (λ text. OnOk result (Puts (W.written out.old) (W.written out.new) text)) concentrator.old concentrator.new }
+    ensures fault { OnErr result (HasRisen (W.put_failures out.old) (W.put_failures out.new)) }
+    ensures well { OnOk result (W.put_failures out.new ≡ W.put_failures out.old) }
+    ensures budget { concentrator.new.house.budget ≡ concentrator.old.house.budget }
+{
+    match concentrator.run(&[*event], out) {
+        Ok(()) => Ok(()),
+        Err(WriteFault) => Err(IoFault),
+    }
+}
+
+// The moment behind a line.
+fn moment_behind(asked: &ScriptLine<'_>, moment: u64) -> u64
+    ensures { result ≡ moment_behind moment (seen asked.now) }
+{
+    match *asked {
+        ScriptLine::At { moment } => moment,
+        _ => moment,
+    }
+}
+
+#[tactic(auto, using(dc_stream::proofs::Pieces::written))]
+fn put_syntax<W: Sink>(out: &mut W, line: usize) -> Result<(), IoFault>
+    ensures { Wrote W.written W.put_failures result out.old out.new (codes "LINE" ++ number_word line ++ codes " SYNTAX\n") }
+{
+    out.put(b"LINE")?;
+    put_number_word(out, line as u64)?;
+    out.put(b" SYNTAX\n")
+}
