@@ -1,5 +1,5 @@
 -- A line of the office, answered.
-use Rattle.std.proofs.Common.{◌≡◌, ◌⊎◌, ⊎_elim, ◌≤◌, ℕ, false, Some, Result, Ok, Err, List, [], ◌∷◌, ◌++◌, refl, ap, sym, subst, ◌∙◌}
+use Rattle.std.proofs.Common.{◌≡◌, ◌⊎◌, ⊎_elim, inl, inr, ◌≤◌, ℕ, false, Some, Result, Ok, Err, List, [], ◌∷◌, ◌++◌, refl, ap, sym, subst, ◌∙◌}
 use Rattle.std.specs.Prelude.{IsErrOf}
 use Rattle.dc_base.specs.Failures.{HasRisen, has_risen-after}
 use Rattle.dc_sectors.specs.Disk.{Image, Choices, IsImage, LeavesOnly}
@@ -18,7 +18,7 @@ use Rattle.dc_upload.specs.declared.verdict.Verdict.TheVariants.{Repeat, Do, Sho
 use Rattle.dc_upload.specs.declared.code.Code.{Code}
 use Rattle.dc_upload.specs.declared.code.Code.TheVariants.{Syntax, Memory, Store}
 use Rattle.dc_upload.specs.Verdict.{verdict_of, IfDo}
-use Rattle.dc_upload.specs.Reply.{reply_text, text_for, shown_text, done_line, refusal_line}
+use Rattle.dc_upload.specs.Reply.{reply_text, text_for, shown_text, done_line, refusal_line, TakesMemory}
 use Rattle.dc_upload.proofs.Verdicts.{repeated as repeats}
 use Rattle.dc_core.specs.declared.fault.CommitFault.{CommitFault}
 use Rattle.dc_core.specs.declared.fault.CommitFault.TheVariants.{Device, Worn, Stopped}
@@ -109,19 +109,32 @@ module _ {D : Type 0} (honest : Type 0) (sectors failures : D → ℕ) (reads : 
     leaves = still machine core at empty only;
   }
 
-  -- memory is refused
+  -- memory is refused, and nothing has changed
+  refused_memory : (machine : Machine D) (core : Core) (line : OfficeLine) (wrote : List ℕ → Type 0) → IsAt honest sectors reads choices machine core → machine.waiting.count ≡ 0 → OnlyNow machine
+      → MayAnswer machine.house.budget core line out_of_memory → wrote (refusal_line Memory)
+      → Answered honest sectors failures reads choices moment images_since machine.house.budget core line wrote machine machine
+  refused_memory machine core line wrote at empty only may text = record {
+    reply = out_of_memory;
+    may = may;
+    text = text;
+    at = at;
+    failed = tt;
+    leaves = still machine core at empty only;
+  }
+
+  -- for what is to be shown
+  pub answered_untold : (machine : Machine D) (core : Core) (line : OfficeLine) (wrote : List ℕ → Type 0) → IsAt honest sectors reads choices machine core → machine.waiting.count ≡ 0 → OnlyNow machine
+      → TakesMemory line → wrote (refusal_line Memory)
+      → Answered honest sectors failures reads choices moment images_since machine.house.budget core line wrote machine machine
+  answered_untold machine core line wrote at empty only takes text = refused_memory machine core line wrote at empty only (inr takes) text
+
+  -- for a new command
   pub answered_memory : (machine new : Machine D) (core : Core) (line : OfficeLine) (change : Change) (wrote : List ℕ → Type 0) → IsAt honest sectors reads choices machine core → machine.waiting.count ≡ 0 → OnlyNow machine
       → verdict_of machine.house line ≡ Do change → new ≡ machine → wrote (refusal_line Memory)
       → Answered honest sectors failures reads choices moment images_since machine.house.budget core line wrote machine new
   answered_memory machine new core line change wrote at empty only is same text =
-      let all : Answered honest sectors failures reads choices moment images_since machine.house.budget core line wrote machine machine = record {
-        reply = out_of_memory;
-        may = (change, verdict_is machine core line (Do change) at empty is);
-        text = text;
-        at = at;
-        failed = tt;
-        leaves = still machine core at empty only;
-      } in
+      let all : Answered honest sectors failures reads choices moment images_since machine.house.budget core line wrote machine machine =
+      refused_memory machine core line wrote at empty only (inl (change, verdict_is machine core line (Do change) at empty is)) text in
       subst (λ (m : Machine D). Answered honest sectors failures reads choices moment images_since machine.house.budget core line wrote machine m) (sym same) all
 
   -- what a commit of the new command leaves

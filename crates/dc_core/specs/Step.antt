@@ -14,7 +14,7 @@ use Rattle.dc_upload.specs.declared.line.OfficeLine.{OfficeLine}
 use Rattle.dc_upload.specs.declared.verdict.Verdict.TheVariants.{Repeat, Do, Show, Refuse}
 use Rattle.dc_upload.specs.Line.{IsOfficeLine, office_text}
 use Rattle.dc_upload.specs.Verdict.{verdict_of}
-use Rattle.dc_upload.specs.Reply.{shown_text}
+use Rattle.dc_upload.specs.Reply.{shown_text, TakesMemory}
 use Rattle.dc_waiting.specs.declared.fault.TakeFault.{TakeFault}
 use Rattle.dc_waiting.specs.Lines.{is_line, settled_lines, lines_without}
 use Rattle.dc_waiting.specs.Taking.{change_of, refuses}
@@ -195,14 +195,15 @@ IsUnstored core Device = (core.pending ≢ []) × (core.stopped ≡ false)
 IsUnstored core Worn = (core.pending ≢ []) × (core.stopped ≡ false)
 IsUnstored core CommitStopped = core.stopped ≡ true
 
--- By the verdict on what is committed. A command is done under its number, which is the last one then.
+-- By the verdict on what is committed. A command is done under its number, which is the last one then. Memory is wanted for
+-- a new command, and for the table of a REPORT.
 abbrev pub MayAnswer : ℕ → Core → OfficeLine → Reply → Type 0
 MayAnswer budget core line unread = ⊥
 MayAnswer budget core line (unstored fault) = ⊥
 MayAnswer budget core line (repeated number) = (verdict_of (held budget core) line ≡ Repeat) × (number ≡ core.committed.last_number)
 MayAnswer budget core line (refused code) = verdict_of (held budget core) line ≡ Refuse code
 MayAnswer budget core line (shown text) = (verdict_of (held budget core) line ≡ Show) × (text ≡ shown_text line core.committed)
-MayAnswer budget core line out_of_memory = (change : Change) × (verdict_of (held budget core) line ≡ Do change)
+MayAnswer budget core line out_of_memory = ((change : Change) × (verdict_of (held budget core) line ≡ Do change)) ⊎ TakesMemory line
 MayAnswer budget core line (obeyed number change) = (verdict_of (held budget core) line ≡ Do change) × (number ≡ (applied change core.committed).last_number)
 MayAnswer budget core line (uncommitted change fault) = (verdict_of (held budget core) line ≡ Do change) × IsUnstored (ordered change core) fault
 

@@ -12,7 +12,7 @@ use Rattle.dc_core.specs.Transcript.{Turn, IsChain, accepted_in}
 use Rattle.dc_core.specs.Promised.{promised_in}
 use Rattle.dc_core.specs.Lives.{IsFront}
 
--- what a reply tells of a state: `OK n`, that n is the last command's number; readings or meters, that it has those
+-- what a reply tells of a state: `OK n`, that n is the last command's number; readings, meters or due-date values, that it has those
 abbrev pub Tells : List ℕ → Reply → State → Type 0
 Tells text (repeated number) s = s.last_number ≡ number
 Tells text (obeyed number change) s = s.last_number ≡ number

@@ -32,6 +32,7 @@ use std::marker::Model;
 /// `specs/Images.antt`.
 #[derive(Drop)]
 pub struct Concentrator<D: Disk + Drop, A: Allocator + Copy> {
+    alloc: A,
     store: Store<D>,
     house: House<A>,
     waiting: Waiting,
@@ -77,6 +78,7 @@ impl<D: Disk + Drop, A: Allocator + Copy> Concentrator<D, A> {
     {
         let (store, house) = Store::open(alloc, disk)?;
         Ok(Concentrator {
+            alloc,
             store,
             house,
             waiting: Waiting::new(),

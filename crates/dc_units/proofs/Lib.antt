@@ -1,5 +1,6 @@
 pub mod Ascii
 pub mod Bytes
+pub mod DayTexts
 pub mod Digits
 pub mod Exact
 pub mod Fields

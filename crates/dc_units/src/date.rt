@@ -1,12 +1,13 @@
 //! Days of the calendar.
 
-ghost use Rattle.std.specs.Prelude.{◌≡◌, ◌↔◌, ◌≤◌, ◌+◌, length, Some, pos, IsSome};
+ghost use Rattle.std.specs.Prelude.{◌≡◌, ◌↔◌, ◌≤◌, ◌+◌, length, Some, pos, IfSome, IsSome, IsTrue};
 ghost use Rattle.std.specs.Prelude.{ℕ, drop, ◌++◌};
 ghost use Rattle.jiff.specs.Words.{IsDate};
-ghost use Rattle.dc_units.specs.Date.{date_of};
+ghost use Rattle.dc_units.specs.Date.{Day, date_of, exists};
 ghost use Rattle.dc_units.specs.Text.{day_text};
 
 use crate::Value;
+use crate::pairs::pair;
 use crate::room::{put_byte, put_digits};
 use jiff::civil;
 use std::fmt;
@@ -46,6 +47,22 @@ impl Date {
             Ok(_) => Some(Date { year, month, day }),
             Err(_) => None,
         }
+    }
+
+    /// The date that a text spells, as `2024-12-31`; none where it spells none, or the calendar lacks the day. Each date
+    /// has one text.
+    pub fn parse_text(text: &[u8]) -> Option<Date>
+        ensures found { IfSome result (λ date. text.now ≡ day_text date) }
+        ensures only { (date : Day) → IsTrue (exists date.year date.month date.day) → text.now ≡ day_text date → result ≡ Some date }
+    {
+        if text.len() != 10 || text[4] != b'-' || text[7] != b'-' {
+            return None;
+        }
+        let century = pair(text[0], text[1])?;
+        let year = pair(text[2], text[3])?;
+        let month = pair(text[5], text[6])?;
+        let day = pair(text[8], text[9])?;
+        Date::new(100 * u16::from(century) + u16::from(year), month, day)
     }
 
     /// The year, 0 to 9999.

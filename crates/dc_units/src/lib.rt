@@ -18,6 +18,7 @@ mod date;
 mod decimal;
 mod laws;
 mod number;
+mod pairs;
 mod point;
 mod quantity;
 mod room;

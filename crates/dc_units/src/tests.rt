@@ -323,6 +323,19 @@ fn dates_exist_as_in_the_calendar(rt: HostRuntime) {
 }
 
 #[test]
+fn dates_are_read_as_they_print(rt: HostRuntime) {
+    assert_eq!(rt; Date::parse_text(b"2024-12-31"), Date::new(2024, 12, 31));
+    assert_eq!(rt; Date::parse_text(b"0000-02-29"), Date::new(0, 2, 29));
+    assert!(rt; Date::parse_text(b"2024-02-29").is_some());
+    assert!(rt; Date::parse_text(b"2023-02-29").is_none());
+    assert!(rt; Date::parse_text(b"2024-12-32").is_none());
+    assert!(rt; Date::parse_text(b"2024-1-031").is_none());
+    assert!(rt; Date::parse_text(b"2024-12-31 ").is_none());
+    assert!(rt; Date::parse_text(b"+024-12-31").is_none());
+    assert!(rt; Date::parse_text(b"").is_none());
+}
+
+#[test]
 fn readers_and_texts(rt: HostRuntime) -> Result<(), Fail> {
     let date = Date::new(7, 8, 9).ok_or("no date")?;
     assert_eq!(rt; (date.year(), date.month(), date.day()), (7, 8, 9));

@@ -9,14 +9,21 @@ use Rattle.dc_changes.specs.Valid.{IsNumber}
 use Rattle.dc_changes.specs.declared.command.Command.{Command as Order}
 use Rattle.dc_changes.specs.declared.command.Numbered.{Numbered}
 use Rattle.dc_changes.proofs.LineSpellings.{number_is_word, one_line, one_word}
+use Rattle.std.specs.Prelude.{IsTrue}
+use Rattle.dc_units.specs.Date.{Day, exists}
+use Rattle.dc_units.specs.Text.{day_text}
+use Rattle.dc_units.proofs.DayTexts.{one_day}
 use Rattle.dc_upload.specs.Line.{IsCount, IsOfficeLine, office_text}
 use Rattle.dc_upload.specs.declared.line.OfficeLine.{OfficeLine}
-use Rattle.dc_upload.specs.declared.line.OfficeLine.TheVariants.{Command, Window, Register}
+use Rattle.dc_upload.specs.declared.line.OfficeLine.TheVariants.{Command, Window, Register, Report}
 
 -- ---- a command's line begins with a digit, no other line does
 
 abbrev first_of : List ℕ → ℕ
 first_of text = get_or text 0 0
+
+abbrev third_of : List ℕ → ℕ
+third_of text = get_or text 2 0
 
 digit_first : (number : ℕ) (behind : List ℕ) → number < 10 ^ 18 → first_of (decimal number ++ behind) < 58
 digit_first number behind fits =
@@ -38,6 +45,15 @@ pub only_register : (text : List ℕ) (line : OfficeLine) → text ≡ codes "RE
 only_register text (Command ordered) whole is spelled = absurd (not_a_command text ordered is.0 spelled (omega (arith, ap first_of whole)))
 only_register text (Window from count) whole is spelled = absurd (omega (arith, ap first_of whole, ap first_of spelled))
 only_register text Register whole is spelled = refl
+only_register text (Report date) whole is spelled = absurd (omega (arith, ap third_of whole, ap third_of spelled))
+
+pub only_report : (text date : List ℕ) (line : OfficeLine) (read : Option OfficeLine) → text ≡ codes "REPORT" ++ 32 ∷ date
+    → ((day : Day) → IsTrue (exists day.year day.month day.day) → date ≡ day_text day → read ≡ Some (Report day))
+    → IsOfficeLine line → text ≡ office_text line → read ≡ Some line
+only_report text date (Command ordered) read whole reads is spelled = absurd (not_a_command text ordered is.0 spelled (omega (arith, ap first_of whole)))
+only_report text date (Window from count) read whole reads is spelled = absurd (omega (arith, ap first_of whole, ap first_of spelled))
+only_report text date Register read whole reads is spelled = absurd (omega (arith, ap third_of whole, ap third_of spelled))
+only_report text date (Report day) read whole reads is spelled = reads day is (ap (λ (back : List ℕ). drop 7 back) (sym whole ∙ spelled))
 
 pub only_window : (text bounds : List ℕ) (line : OfficeLine) (read : Option OfficeLine) → text ≡ codes "WINDOW" ++ 32 ∷ bounds
     → ((from count : ℕ) → IsNumber from → IsCount count → bounds ≡ decimal from ++ 32 ∷ decimal count → read ≡ Some (Window from count))
@@ -45,13 +61,16 @@ pub only_window : (text bounds : List ℕ) (line : OfficeLine) (read : Option Of
 only_window text bounds (Command ordered) read whole reads is spelled = absurd (not_a_command text ordered is.0 spelled (omega (arith, ap first_of whole)))
 only_window text bounds (Window from count) read whole reads is spelled = reads from count is.0 is.1 (ap (λ (back : List ℕ). drop 7 back) (sym whole ∙ spelled))
 only_window text bounds Register read whole reads is spelled = absurd (omega (arith, ap first_of whole, ap first_of spelled))
+only_window text bounds (Report date) read whole reads is spelled = absurd (omega (arith, ap first_of whole, ap first_of spelled))
 
-pub only_command : (text : List ℕ) (line : OfficeLine) (read : Option OfficeLine) → ¬ (text ≡ codes "REGISTER") → ((bounds : List ℕ) → ¬ (text ≡ codes "WINDOW" ++ 32 ∷ bounds))
+pub only_command : (text : List ℕ) (line : OfficeLine) (read : Option OfficeLine) → ¬ (text ≡ codes "REGISTER")
+    → ((date : List ℕ) → ¬ (text ≡ codes "REPORT" ++ 32 ∷ date)) → ((bounds : List ℕ) → ¬ (text ≡ codes "WINDOW" ++ 32 ∷ bounds))
     → ((ordered : Numbered) → IsOfficeLine (Command ordered) → text ≡ line_of ordered.number ordered.command → read ≡ Some (Command ordered))
     → IsOfficeLine line → text ≡ office_text line → read ≡ Some line
-only_command text (Command ordered) read other apart reads is spelled = reads ordered is spelled
-only_command text (Window from count) read other apart reads is spelled = absurd (apart (decimal from ++ 32 ∷ decimal count) spelled)
-only_command text Register read other apart reads is spelled = absurd (other spelled)
+only_command text (Command ordered) read other reported apart reads is spelled = reads ordered is spelled
+only_command text (Window from count) read other reported apart reads is spelled = absurd (apart (decimal from ++ 32 ∷ decimal count) spelled)
+only_command text Register read other reported apart reads is spelled = absurd (other spelled)
+only_command text (Report date) read other reported apart reads is spelled = absurd (reported (day_text date) spelled)
 
 -- ---- a text spells one line
 
@@ -64,6 +83,7 @@ one_text (Command ordered) (Command other) is is_other same =
     ap (λ (number : ℕ). command number ordered.command) both_are.0 ∙ ap (command other.number) both_are.1
 one_text (Command ordered) (Window from count) is is_other same = absurd (not_a_command _ ordered is.0 (sym same) (omega arith))
 one_text (Command ordered) Register is is_other same = absurd (not_a_command _ ordered is.0 (sym same) (omega arith))
+one_text (Command ordered) (Report date) is is_other same = absurd (not_a_command _ ordered is.0 (sym same) (omega arith))
 one_text (Window from count) (Command other) is is_other same = absurd (not_a_command _ other is_other.0 same (omega arith))
 one_text (Window from count) (Window from_2 count_2) is is_other same =
     let bounds = one_word (decimal from) (decimal from_2) (decimal count) (decimal count_2) (number_is_word from is.0) (number_is_word from_2 is_other.0) (ap (λ (back : List ℕ). drop 7 back) same) in
@@ -71,9 +91,15 @@ one_text (Window from count) (Window from_2 count_2) is is_other same =
     let counts : count ≡ count_2 = decimal_injective count count_2 (omega arith) (omega arith) bounds.1 in
     cc
 one_text (Window from count) Register is is_other same = absurd (omega (arith, ap first_of same))
+one_text (Window from count) (Report date) is is_other same = absurd (omega (arith, ap first_of same))
 one_text Register (Command other) is is_other same = absurd (not_a_command _ other is_other.0 same (omega arith))
 one_text Register (Window from count) is is_other same = absurd (omega (arith, ap first_of same))
 one_text Register Register is is_other same = refl
+one_text Register (Report date) is is_other same = absurd (omega (arith, ap third_of same))
+one_text (Report date) (Command other) is is_other same = absurd (not_a_command _ other is_other.0 same (omega arith))
+one_text (Report date) (Window from count) is is_other same = absurd (omega (arith, ap first_of same))
+one_text (Report date) Register is is_other same = absurd (omega (arith, ap third_of same))
+one_text (Report date) (Report date_2) is is_other same = ap (λ (d : Day). Report d) (one_day date date_2 is is_other (ap (λ (back : List ℕ). drop 7 back) same))
 
 -- ---- lengths
 

@@ -12,12 +12,12 @@ use Rattle.dc_changes.specs.declared.change.Change.TheVariants.{Command as Order
 use Rattle.dc_changes.specs.declared.command.Numbered.{Numbered}
 use Rattle.dc_changes.specs.declared.fault.ChangeFault.TheVariants as fault
 use Rattle.dc_upload.specs.Code.{code_of}
-use Rattle.dc_upload.specs.Reply.{done_line, reply_text}
+use Rattle.dc_upload.specs.Reply.{done_line, reply_text, TakesMemory}
 use Rattle.dc_upload.specs.Verdict.{code_against, granted, is_repeat, repeats, unless, verdict_of}
 use Rattle.dc_upload.specs.declared.code.Code.{Code}
 use Rattle.dc_upload.specs.declared.code.Code.TheVariants.{Order, Known, Unknown, Address, Beyond, Full}
 use Rattle.dc_upload.specs.declared.line.OfficeLine.{OfficeLine}
-use Rattle.dc_upload.specs.declared.line.OfficeLine.TheVariants.{Command, Window, Register}
+use Rattle.dc_upload.specs.declared.line.OfficeLine.TheVariants.{Command, Window, Register, Report}
 use Rattle.dc_upload.specs.declared.verdict.Verdict.TheVariants.{Repeat, Do}
 
 -- ---- codes
@@ -58,6 +58,7 @@ repeats_done (Command ordered) change s is =
     subst (λ (c : Change). is_repeat ordered (applied c s) ≡ true) (same_change (Ordered ordered.number ordered.command) change is) (done ordered s)
 repeats_done (Window from count) change s is = absurd cc
 repeats_done Register change s is = absurd cc
+repeats_done (Report date) change s is = absurd cc
 
 pub repeated : (house : Held) (line : OfficeLine) (change : Change) → verdict_of house line ≡ Do change
     → verdict_of (record house { state = applied change house.state }) line ≡ Repeat
@@ -119,3 +120,14 @@ order_of house (Window from count) change is =
     absurd (let free = unrefused (repeats (Window from count) house.state) (code_against house.budget (Window from count) house.state) (Window from count) change is in cc)
 order_of house Register change is =
     absurd (let free = unrefused (repeats Register house.state) (code_against house.budget Register house.state) Register change is in cc)
+order_of house (Report date) change is =
+    absurd (let free = unrefused (repeats (Report date) house.state) (code_against house.budget (Report date) house.state) (Report date) change is in cc)
+
+-- what is done takes no memory for its reply
+pub done_without_memory : (house : Held) (line : OfficeLine) (change : Change) → verdict_of house line ≡ Do change → TakesMemory line → ⊥
+unfolding verdict_of
+done_without_memory house (Command ordered) change is takes = takes
+done_without_memory house (Window from count) change is takes = takes
+done_without_memory house Register change is takes = takes
+done_without_memory house (Report date) change is takes =
+    absurd (let free = unrefused (repeats (Report date) house.state) (code_against house.budget (Report date) house.state) (Report date) change is in cc)

@@ -1,11 +1,13 @@
 -- What the office sends (this product): words with single spaces.
-use Rattle.std.specs.Prelude.{ℕ, ◌≤◌, List, [], ◌∷◌, codes}
+use Rattle.std.specs.Prelude.{ℕ, ◌≤◌, IsTrue, List, [], ◌∷◌, codes}
 use Rattle.std.specs.List.{join_with_byte}
 use Rattle.std.specs.Fmt.{decimal}
 use Rattle.dc_changes.specs.Line.{line_of, NamesMeters}
 use Rattle.dc_changes.specs.Valid.{IsCommand, IsNumber}
+use Rattle.dc_units.specs.Date.{exists}
+use Rattle.dc_units.specs.Text.{day_text}
 use Rattle.dc_upload.specs.declared.line.OfficeLine.{OfficeLine}
-use Rattle.dc_upload.specs.declared.line.OfficeLine.TheVariants.{Command, Window, Register}
+use Rattle.dc_upload.specs.declared.line.OfficeLine.TheVariants.{Command, Window, Register, Report}
 
 -- how many readings are asked for
 pub record IsCount (count : ℕ) : Type 0 where
@@ -16,9 +18,11 @@ abbrev pub IsOfficeLine : OfficeLine → Type 0
 IsOfficeLine (Command ordered) = IsNumber ordered.number × IsCommand ordered.command × NamesMeters ordered.command
 IsOfficeLine (Window from count) = IsNumber from × IsCount count
 IsOfficeLine Register = Unit {0}
+IsOfficeLine (Report date) = IsTrue (exists date.year date.month date.day)
 
 -- the text that spells a line
 abbrev pub office_text : OfficeLine → List ℕ
 office_text (Command ordered) = line_of ordered.number ordered.command
 office_text (Window from count) = join_with_byte 32 (codes "WINDOW" ∷ decimal from ∷ decimal count ∷ [])
 office_text Register = codes "REGISTER"
+office_text (Report date) = join_with_byte 32 (codes "REPORT" ∷ day_text date ∷ [])

@@ -1,6 +1,9 @@
 -- The replies to the office's lines (this product): words with single spaces, each line ended by LF.
-use Rattle.std.specs.Prelude.{ℕ, List, [], ◌++◌, codes, length, flat_map}
+use Rattle.std.specs.Prelude.{◌≡◌, ℕ, List, [], ◌++◌, codes, length, flat_map}
+use Rattle.dc_base.specs.Failures.{HasRisen}
+use Rattle.dc_units.specs.Date.{Day}
 use Rattle.dc_changes.specs.State.{State, Held}
+use Rattle.dc_report.specs.DueTable.{due_rows, due_text}
 use Rattle.dc_upload.specs.Code.{word_of}
 use Rattle.dc_upload.specs.Register.{meter_lines}
 use Rattle.dc_upload.specs.Verdict.{verdict_of}
@@ -8,8 +11,10 @@ use Rattle.dc_upload.specs.Window.{reading_lines, window}
 use Rattle.dc_text.specs.Words.{number_word}
 use Rattle.dc_upload.specs.declared.code.Code.{Code}
 use Rattle.dc_upload.specs.declared.code.Code.TheVariants.{Syntax, Store, Order, Known, Unknown, Address, Beyond, Gone, Full, Memory}
+use Rattle.dc_upload.specs.declared.fault.ReplyFault.{ReplyFault}
+use Rattle.dc_upload.specs.declared.fault.ReplyFault.TheVariants.{NoMemory, Write}
 use Rattle.dc_upload.specs.declared.line.OfficeLine.{OfficeLine}
-use Rattle.dc_upload.specs.declared.line.OfficeLine.TheVariants.{Command, Window, Register}
+use Rattle.dc_upload.specs.declared.line.OfficeLine.TheVariants.{Command, Window, Register, Report}
 use Rattle.dc_upload.specs.declared.verdict.Verdict.{Verdict}
 use Rattle.dc_upload.specs.declared.verdict.Verdict.TheVariants.{Repeat, Do, Show, Refuse}
 
@@ -46,10 +51,15 @@ window_text from count s = flat_map reading_lines (window from count s) ++ end_l
 unfoldable pub register_text : State → List ℕ
 register_text s = meter_lines s ++ end_line (length s.meters)
 
+-- the due-date table, and how many rows it has, its header not counted
+unfoldable pub report_text : Day → State → List ℕ
+report_text date s = due_text date s ++ end_line (length (due_rows date s))
+
 abbrev pub shown_text : OfficeLine → State → List ℕ
 shown_text (Command ordered) s = []
 shown_text (Window from count) s = window_text from count s
 shown_text Register s = register_text s
+shown_text (Report date) s = report_text date s
 
 -- ---- the reply. A new command has none before it is done: then it is a repeat.
 
@@ -61,3 +71,17 @@ text_for (Refuse code) line s = refusal_line code
 
 unfoldable pub reply_text : Held → OfficeLine → List ℕ
 reply_text house line = text_for (verdict_of house line) line house.state
+
+-- ---- why there is none
+
+-- memory is wanted for a REPORT alone
+abbrev pub TakesMemory : OfficeLine → Type 0
+TakesMemory (Command ordered) = ⊥
+TakesMemory (Window from count) = ⊥
+TakesMemory Register = ⊥
+TakesMemory (Report date) = Unit {0}
+
+-- Where memory was refused, the writer is as it was; else a write failed.
+abbrev pub Tells : {W : Type 0} → (W → ℕ) → OfficeLine → W → W → ReplyFault → Type 0
+Tells failures line old new NoMemory = TakesMemory line × (new ≡ old)
+Tells failures line old new Write = HasRisen (failures old) (failures new)

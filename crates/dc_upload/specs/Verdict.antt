@@ -10,7 +10,7 @@ use Rattle.dc_changes.specs.declared.command.Numbered.{Numbered as Ordered}
 use Rattle.dc_upload.specs.declared.code.Code.{Code}
 use Rattle.dc_upload.specs.declared.code.Code.TheVariants.{Syntax, Store, Order, Known, Unknown, Address, Beyond, Gone, Full, Memory}
 use Rattle.dc_upload.specs.declared.line.OfficeLine.{OfficeLine}
-use Rattle.dc_upload.specs.declared.line.OfficeLine.TheVariants.{Command, Window, Register}
+use Rattle.dc_upload.specs.declared.line.OfficeLine.TheVariants.{Command, Window, Register, Report}
 use Rattle.dc_upload.specs.declared.verdict.Verdict.{Verdict}
 use Rattle.dc_upload.specs.declared.verdict.Verdict.TheVariants.{Repeat, Do, Show, Refuse}
 
@@ -22,6 +22,7 @@ abbrev pub repeats : OfficeLine → State → Bool
 repeats (Command ordered) s = is_repeat ordered s
 repeats (Window from count) s = false
 repeats Register s = false
+repeats (Report date) s = false
 
 -- ---- where a code stands
 
@@ -54,6 +55,7 @@ abbrev pub stands : ℕ → OfficeLine → State → Code → Bool
 stands budget (Command ordered) s code = command_stands budget ordered s code
 stands budget (Window from count) s code = window_stands from s code
 stands budget Register s code = false
+stands budget (Report date) s code = false
 
 -- ---- the first that stands
 
@@ -70,6 +72,7 @@ abbrev pub granted : OfficeLine → Verdict
 granted (Command ordered) = Do (Numbered ordered.number ordered.command)
 granted (Window from count) = Show
 granted Register = Show
+granted (Report date) = Show
 
 abbrev pub unless : Option Code → OfficeLine → Verdict
 unless (Some code) line = Refuse code

@@ -1,6 +1,6 @@
 ghost use Rattle.std.specs.Prelude.{◌≡◌};
 ghost use Rattle.dc_upload.specs.Fault.{name_of, number_of};
-ghost use Rattle.dc_upload.specs.declared.fault.ReplyFault.TheVariants.{Write};
+ghost use Rattle.dc_upload.specs.declared.fault.ReplyFault.TheVariants.{NoMemory, Write};
 
 use dc_stream::IoFault;
 use thiserror::Error;
@@ -8,6 +8,9 @@ use thiserror::Error;
 /// Why a reply wasn't written.
 #[derive(Clone, Copy, Debug, PartialEq, Eq, Error)]
 pub enum ReplyFault {
+    /// Memory was refused for the table of a REPORT; nothing was written.
+    #[error("{} {}", self.number(), self.name())]
+    NoMemory,
     /// A write failed.
     #[error("{} {}", self.number(), self.name())]
     Write,
@@ -19,6 +22,7 @@ impl ReplyFault {
         ensures { result ≡ number_of self.now }
     {
         match self {
+            ReplyFault::NoMemory => 1,
             ReplyFault::Write => 2,
         }
     }
@@ -28,6 +32,7 @@ impl ReplyFault {
         ensures { result.now ≡ name_of self.now }
     {
         match self {
+            ReplyFault::NoMemory => "NoMemory",
             ReplyFault::Write => "Write",
         }
     }
@@ -38,5 +43,13 @@ impl From<IoFault> for ReplyFault {
 
     fn from(_failed: IoFault) -> ReplyFault {
         ReplyFault::Write
+    }
+}
+
+impl From<dc_base::NoMemory> for ReplyFault {
+    ghost from_gives = { λ _ fault. fault ≡ NoMemory };
+
+    fn from(_refused: dc_base::NoMemory) -> ReplyFault {
+        ReplyFault::NoMemory
     }
 }

@@ -1,12 +1,15 @@
 //! What the office sends.
 
-ghost use Rattle.std.specs.Prelude.{◌≡◌, ℕ, ◌≤◌, ◌∷◌, ◌++◌, List, Some, IfSome, IsSome, codes, length};
+ghost use Rattle.std.specs.Prelude.{◌≡◌, ℕ, ◌≤◌, ◌∷◌, ◌++◌, List, Some, IfSome, IsSome, IsTrue, codes, length};
 ghost use Rattle.std.specs.Fmt.{decimal};
 ghost use Rattle.dc_changes.specs.Line.{line_of};
 ghost use Rattle.dc_changes.specs.Valid.{IsNumber};
+ghost use Rattle.dc_units.specs.Date.{Day, exists};
+ghost use Rattle.dc_units.specs.Text.{day_text};
 ghost use Rattle.dc_upload.specs.Line.{IsCount, IsOfficeLine, office_text};
 
 use dc_changes::{Command, Numbered, parse_number, split_word};
+use dc_report::Date;
 
 /// A line of the office.
 #[derive(Clone, Copy)]
@@ -22,6 +25,11 @@ pub enum OfficeLine {
     },
     /// `REGISTER`: the meters.
     Register,
+    /// `REPORT date`: the due-date table.
+    Report {
+        /// The due date, as `2024-12-31`.
+        date: Date,
+    },
 }
 
 /// The line of the office that a text spells; none where it spells none. Each has one text, of at most 120 bytes.
@@ -32,6 +40,9 @@ pub fn parse_line(text: &[u8]) -> Option<OfficeLine>
 {
     if text == b"REGISTER".as_slice() {
         return Some(OfficeLine::Register);
+    }
+    if let Some(date) = behind_report(text) {
+        return parse_report(date);
     }
     match behind_window(text) {
         Some(bounds) => parse_window(bounds),
@@ -70,6 +81,25 @@ fn parse_window(bounds: &[u8]) -> Option<OfficeLine>
         return None;
     }
     Some(OfficeLine::Window { from, count })
+}
+
+// What stands behind `REPORT` and a space.
+fn behind_report(text: &[u8]) -> Option<&[u8]>
+    ensures found { IfSome result (λ date. text.now ≡ codes "REPORT" ++ 32 ∷ date.now) }
+    ensures only { (date : List ℕ) → text.now ≡ codes "REPORT" ++ 32 ∷ date → IsSome result }
+{
+    text.strip_prefix(b"REPORT ".as_slice())
+}
+
+// `date`
+#[tactic(auto, using(dc_units::proofs::DayTexts::day_length))]
+fn parse_report(date: &[u8]) -> Option<OfficeLine>
+    ensures found { IfSome result (λ line. IsOfficeLine line × (codes "REPORT" ++ 32 ∷ date.now ≡ office_text line)) }
+    ensures only { (day : Day) → IsTrue (exists day.year day.month day.day) → date.now ≡ day_text day → result ≡ Some (OfficeLine.Report day) }
+    ensures fits { IfSome result (λ _. length date.now ≤ 10) }
+{
+    let date = Date::parse_text(date)?;
+    Some(OfficeLine::Report { date })
 }
 
 fn parse_count(word: &[u8]) -> Option<u8>

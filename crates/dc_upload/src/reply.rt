@@ -1,67 +1,70 @@
 //! Replies to the office's lines.
 
-ghost use Rattle.std.specs.Prelude.{◌≡◌};
+ghost use Rattle.std.specs.Prelude.{◌≡◌, ◌++◌, IfErr, OnOk};
 ghost use Rattle.dc_changes.specs.Valid.{IsState};
-ghost use Rattle.dc_stream.specs.Stream.{Wrote};
+ghost use Rattle.dc_stream.specs.Stream.{Puts, Wrote};
 ghost use Rattle.dc_upload.specs.Line.{IsOfficeLine};
-ghost use Rattle.dc_upload.specs.Reply.{detail_of, done_line, end_line, refusal_line, register_text, reply_text, shown_text};
+ghost use Rattle.dc_upload.specs.Reply.{detail_of, done_line, end_line, refusal_line, register_text, reply_text, report_text, shown_text, Tells};
 ghost use Rattle.dc_upload.specs.Verdict.{IfDo, verdict_of};
 
 use crate::register::write_meters;
 use crate::window::write_window;
 use crate::{Code, OfficeLine, ReplyFault, Verdict, judge};
 use dc_meters::House;
+use dc_report::{Date, due_rows, due_table};
 use dc_stream::{IoFault, Sink};
 use dc_text::put_number_word;
 use std::alloc::Allocator;
 
-/// Writes the reply to a line that is no new command; one that was just done is a repeat. It takes no memory, and a
-/// WINDOW costs what it shows.
+/// Writes the reply to a line that is no new command; one that was just done is a repeat. A REPORT takes memory for its
+/// table, which is made before anything is written; no other line takes any, and a WINDOW costs what it shows.
 ///
 /// # Errors
-/// Write where a write failed; how much of the reply was written then isn't known.
+/// NoMemory where memory was refused for a REPORT's table; nothing was written. Write where a write failed; how much of
+/// the reply was written then isn't known.
 #[tactic(auto, unfolding(crate::specs::Reply::reply_text))]
 pub fn write_reply<A: Allocator + Copy, W: Sink>(
+    alloc: A,
     house: &House<A>,
     line: &OfficeLine,
     out: &mut W,
 ) -> Result<(), ReplyFault>
     requires line { IsOfficeLine line.now }
     requires answered { IfDo (verdict_of house.now line.now) (λ _. ⊥) }
-    ensures { Wrote W.written W.put_failures result out.old out.new (reply_text house.now line.now) }
+    ensures text { OnOk result (Puts (W.written out.old) (W.written out.new) (reply_text house.now line.now)) }
+    ensures well { OnOk result (W.put_failures out.new ≡ W.put_failures out.old) }
+    ensures fault { IfErr result (λ fault. Tells W.put_failures line.now out.old out.new fault) }
 {
     match judge(house, line) {
-        Verdict::Repeat => write_done(house.last_number(), out),
-        Verdict::Show => write_shown(house, line, out),
-        Verdict::Refuse(code) => write_refusal(code, out),
+        Verdict::Repeat => Ok(write_done(house.last_number(), out)?),
+        Verdict::Show => write_shown(alloc, house, line, out),
+        Verdict::Refuse(code) => Ok(write_refusal(code, out)?),
         Verdict::Do(_) => unreachable!(),
     }
 }
 
 /// Writes `OK number`: the command is done.
 #[tactic(auto, using(dc_stream::proofs::Pieces::written), unfolding(crate::specs::Reply::done_line))]
-fn write_done<W: Sink>(number: u64, out: &mut W) -> Result<(), ReplyFault>
+fn write_done<W: Sink>(number: u64, out: &mut W) -> Result<(), IoFault>
     ensures { Wrote W.written W.put_failures result out.old out.new (done_line number) }
 {
     out.put(b"OK")?;
     put_number_word(out, number)?;
-    out.put(b"\n")?;
-    Ok(())
+    out.put(b"\n")
 }
 
 /// Writes `ERR`, the code's word and its number, if it has one.
 ///
 /// # Errors
-/// Write where a write failed; how much of the line was written then isn't known.
+/// A write failed; how much of the line was written then isn't known.
 #[tactic(auto, using(dc_stream::proofs::Pieces::written), unfolding(crate::specs::Reply::refusal_line))]
-pub fn write_refusal<W: Sink>(code: Code, out: &mut W) -> Result<(), ReplyFault>
+pub fn write_refusal<W: Sink>(code: Code, out: &mut W) -> Result<(), IoFault>
     ensures { Wrote W.written W.put_failures result out.old out.new (refusal_line code) }
 {
     out.put(b"ERR ")?;
     out.put(code.word().as_bytes())?;
     put_detail(out, code)?;
-    out.put(b"\n")?;
-    Ok(())
+    out.put(b"\n")
 }
 
 fn put_detail<W: Sink>(out: &mut W, code: Code) -> Result<(), IoFault>
@@ -75,16 +78,20 @@ fn put_detail<W: Sink>(out: &mut W, code: Code) -> Result<(), IoFault>
 }
 
 fn write_shown<A: Allocator + Copy, W: Sink>(
+    alloc: A,
     house: &House<A>,
     line: &OfficeLine,
     out: &mut W,
 ) -> Result<(), ReplyFault>
-    ensures { Wrote W.written W.put_failures result out.old out.new (shown_text line.now house.now.state) }
+    ensures text { OnOk result (Puts (W.written out.old) (W.written out.new) (shown_text line.now house.now.state)) }
+    ensures well { OnOk result (W.put_failures out.new ≡ W.put_failures out.old) }
+    ensures fault { IfErr result (λ fault. Tells W.put_failures line.now out.old out.new fault) }
 {
     match *line {
         OfficeLine::Command(_) => {}
         OfficeLine::Window { from, count } => write_window(house, from, count, out)?,
         OfficeLine::Register => write_register(house, out)?,
+        OfficeLine::Report { date } => write_report(alloc, house, date, out)?,
     }
     Ok(())
 }
@@ -98,6 +105,31 @@ fn write_register<A: Allocator + Copy, W: Sink>(
 {
     write_meters(house, out)?;
     write_end(house.meters().len(), out)
+}
+
+// The table is there before anything is written.
+#[tactic(auto, unfolding(crate::specs::Reply::report_text))]
+fn write_report<A: Allocator + Copy, W: Sink>(
+    alloc: A,
+    house: &House<A>,
+    date: Date,
+    out: &mut W,
+) -> Result<(), ReplyFault>
+    ensures text { OnOk result (Puts (W.written out.old) (W.written out.new) (report_text date house.now.state)) }
+    ensures well { OnOk result (W.put_failures out.new ≡ W.put_failures out.old) }
+    ensures fault { IfErr result (λ fault. Tells W.put_failures (OfficeLine.Report date) out.old out.new fault) }
+{
+    let table = due_table(alloc, house, date)?;
+    let rows = due_rows(alloc, house, date)?;
+    Ok(put_table(&table, rows, out)?)
+}
+
+#[tactic(auto, using(dc_stream::proofs::Pieces::written))]
+fn put_table<W: Sink>(table: &[u8], rows: usize, out: &mut W) -> Result<(), IoFault>
+    ensures { Wrote W.written W.put_failures result out.old out.new (table.now ++ end_line rows) }
+{
+    out.put(table)?;
+    write_end(rows, out)
 }
 
 /// Writes `END count`.

@@ -10,6 +10,7 @@ use dc_base::one_failure_more;
 use dc_changes::{Body, Change};
 use dc_meters::House;
 use dc_stream::{Bytes, IoFault, Sink};
+use refusing_alloc::Refusing;
 use std::alloc::{Allocator, Global};
 use std::process::Abort;
 use std::test::Fail;
@@ -25,33 +26,42 @@ const FIRST: &[u8] =
 const LAST: &[u8] =
     b"\x78\x56\x34\x12\x24\x40\x01\x07\x02\x00\x00\x00\x42\x6C\x1F\x3C\x4C\x13\x00\x50\x34\x12";
 
+const REPORT: &[u8] = b"REPORT 2024-12-31";
+
+const TABLE: &[u8] = b"flat,meter,serial,storage,function,tariff,subunit,value,unit
+A1,12345678.PAD.01.07,1,1,0,0,0,12345.000,m3
+END 1
+";
+
+fn refuse<W: Sink>(code: Code, out: &mut W) -> Result<(), ReplyFault> {
+    Ok(write_refusal(code, out)?)
+}
+
 // Reads a line, does it if it is new, and replies.
 fn answer<A: Allocator + Copy, W: Sink>(
+    alloc: A,
     house: &mut House<A>,
     text: &[u8],
     out: &mut W,
 ) -> Result<Result<(), ReplyFault>, Fail> {
     let Some(line) = parse_line(text) else {
-        return Ok(write_refusal(Code::Syntax, out));
+        return Ok(refuse(Code::Syntax, out));
     };
-    match judge(house, &line) {
-        Verdict::Do(change) => {
-            house.apply(&change)?;
-            a_done_command_is_repeated();
-            Ok(write_reply(house, &line, out))
-        }
-        Verdict::Repeat | Verdict::Show | Verdict::Refuse(_) => Ok(write_reply(house, &line, out)),
+    if let Verdict::Do(change) = judge(house, &line) {
+        house.apply(&change)?;
+        a_done_command_is_repeated();
     }
+    Ok(write_reply(alloc, house, &line, out))
 }
 
-fn is_answered<A: Allocator + Copy>(
+fn is_answered(
     rt: &(impl Abort + AllocGlobal),
-    house: &mut House<A>,
+    house: &mut House<Global>,
     text: &[u8],
     reply: &[u8],
 ) -> Result<(), Fail> {
     let mut out = Bytes::new(rt.alloc());
-    answer(house, text, &mut out)??;
+    answer(rt.alloc(), house, text, &mut out)??;
     assert_eq!(rt; out.as_slice(), reply);
     Ok(())
 }
@@ -149,6 +159,15 @@ END 1
 }
 
 #[test]
+fn a_due_date_table_is_shown(rt: HostRuntime) -> Result<(), Fail> {
+    is_answered(&rt, &mut read_house(&rt)?, REPORT, TABLE)?;
+    let none = b"flat,meter,serial,storage,function,tariff,subunit,value,unit\nEND 0\n";
+    is_answered(&rt, &mut read_house(&rt)?, b"REPORT 2023-12-31", none)?;
+    let mut empty = House::new(rt.alloc(), BUDGET);
+    is_answered(&rt, &mut empty, REPORT, none)
+}
+
+#[test]
 fn a_meter_is_swapped(rt: HostRuntime) -> Result<(), Fail> {
     let mut house = read_house(&rt)?;
     let swap = b"2 SWAP 12345678.PAD.01.07 00000001.PAD.01.07 2";
@@ -172,7 +191,9 @@ fn long_lines_are_none(rt: HostRuntime) {
     assert!(rt; parse_line(b"WINDOW 1 101").is_none());
     assert!(rt; parse_line(b"WINDOW 1 1 ").is_none());
     assert!(rt; parse_line(b"REGISTER ").is_none());
-    assert!(rt; parse_line(b"REPORT 2024-12-31").is_none());
+    assert!(rt; parse_line(b"REPORT 2024-02-30").is_none());
+    assert!(rt; parse_line(b"REPORT 2024-12-31 ").is_none());
+    assert!(rt; parse_line(b"REPORT ").is_none());
 }
 
 // The put after so many fails, and each behind it.
@@ -206,7 +227,7 @@ fn each_write_fails(
 ) -> Result<(), Fail> {
     for left in 0..100 {
         let mut out = Fails { left, failures: 0 };
-        if answer(house, text, &mut out)?.is_ok() {
+        if answer(rt.alloc(), house, text, &mut out)?.is_ok() {
             assert!(rt; left > 0);
             return Ok(());
         }
@@ -233,5 +254,55 @@ fn a_write_fault_changes_nothing(rt: HostRuntime) -> Result<(), Fail> {
 PART 1 1735689600 785634122440010702000000426C1F3C4C1300503412
 END 1
 ";
-    each_write_fails(&rt, &mut house, b"WINDOW 1 1", shown)
+    each_write_fails(&rt, &mut house, b"WINDOW 1 1", shown)?;
+    each_write_fails(&rt, &mut house, REPORT, TABLE)
+}
+
+// A meter was read in a house whose memory may be refused.
+fn read_on<A: Allocator + Copy>(
+    rt: &(impl Abort + AllocGlobal),
+    alloc: A,
+) -> Result<House<A>, Fail> {
+    let mut house = House::new(alloc, BUDGET);
+    let mut out = Bytes::new(rt.alloc());
+    answer(alloc, &mut house, FIT, &mut out)??;
+    hear(rt, &mut house, 1, FIRST)?;
+    hear(rt, &mut house, 2, LAST)?;
+    Ok(house)
+}
+
+// Each request for memory is refused in turn, with nothing written, and the same line is then answered. At last there is
+// none to be refused.
+#[test]
+fn a_report_that_wants_memory_writes_nothing(rt: HostRuntime) -> Result<(), Fail> {
+    let heap = Refusing::new(rt.alloc());
+    heap.refuse(0);
+    let mut house = read_on(&rt, &heap)?;
+    for k in 1..100u64 {
+        heap.refuse(k);
+        let mut out = Bytes::new(rt.alloc());
+        let refused = answer(&heap, &mut house, REPORT, &mut out)?;
+        if refused.is_ok() {
+            assert!(rt; k > 2);
+            return Ok(());
+        }
+        assert!(rt; matches!(refused, Err(ReplyFault::NoMemory)));
+        assert!(rt; out.as_slice().is_empty());
+        answer(&heap, &mut house, REPORT, &mut out)??;
+        assert_eq!(rt; out.as_slice(), TABLE);
+    }
+    Err(Fail::from("a table of at most 100 requests"))
+}
+
+#[test]
+fn other_lines_take_no_memory(rt: HostRuntime) -> Result<(), Fail> {
+    let heap = Refusing::new(rt.alloc());
+    heap.refuse(0);
+    let mut house = read_on(&rt, &heap)?;
+    heap.refuse(1);
+    for text in [FIT, b"WINDOW 1 1", b"REGISTER", b"WINDOW 0 1"] {
+        let mut out = Bytes::new(rt.alloc());
+        assert!(rt; answer(&heap, &mut house, text, &mut out)?.is_ok());
+    }
+    Ok(())
 }

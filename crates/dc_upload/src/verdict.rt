@@ -37,7 +37,7 @@ pub fn judge<A: Allocator + Copy>(house: &House<A>, line: &OfficeLine) -> Verdic
     match *line {
         OfficeLine::Command(ordered) => judge_command(house, ordered),
         OfficeLine::Window { from, .. } => judge_window(house, from),
-        OfficeLine::Register => Verdict::Show,
+        OfficeLine::Register | OfficeLine::Report { .. } => Verdict::Show,
     }
 }
 

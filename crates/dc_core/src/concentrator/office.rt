@@ -1,6 +1,6 @@
 //! A line of the billing office.
 
-ghost use Rattle.std.specs.Prelude.{◌≡◌, ◌≤◌, [], false, Some, Err, OnOk, OnErr, IfErr};
+ghost use Rattle.std.specs.Prelude.{◌≡◌, ◌⊎◌, ◌≤◌, [], false, Some, Err, OnOk, OnErr, IfErr};
 ghost use Rattle.dc_base.specs.Failures.{HasRisen};
 ghost use Rattle.dc_sectors.specs.Disk.{LeavesOnly};
 ghost use Rattle.dc_stream.specs.Stream.{Wrote};
@@ -10,7 +10,9 @@ ghost use Rattle.dc_changes.specs.Valid.{IsChange};
 ghost use Rattle.dc_recovery.specs.Halves.{half_len_of};
 ghost use Rattle.dc_recovery.specs.Stands.{StandsForFront};
 ghost use Rattle.dc_upload.specs.Line.{IsOfficeLine};
-ghost use Rattle.dc_upload.specs.Verdict.{verdict_of};
+ghost use Rattle.dc_upload.specs.Reply.{refusal_line, reply_text, TakesMemory};
+ghost use Rattle.dc_upload.specs.Verdict.{verdict_of, IfDo};
+ghost use Rattle.dc_upload.specs.declared.code.Code.TheVariants.{Memory};
 ghost use Rattle.dc_upload.specs.declared.verdict.Verdict.TheVariants.{Do};
 ghost use Rattle.dc_core.specs.Core.{Core};
 ghost use Rattle.dc_core.specs.Event.{offices};
@@ -23,8 +25,9 @@ use crate::{CommitFault, WriteFault};
 use dc_address::Identity;
 use dc_base::NoMemory;
 use dc_changes::{Change, Command};
+use dc_meters::House;
 use dc_sectors::Disk;
-use dc_stream::Sink;
+use dc_stream::{IoFault, Sink};
 use dc_upload::{
     Code, OfficeLine, ReplyFault, Verdict, judge, parse_line, write_refusal, write_reply,
 };
@@ -34,7 +37,7 @@ use std::alloc::Allocator;
 impl<D: Disk + Drop, A: Allocator + Copy> Concentrator<D, A> {
     /// Answers a line of the office, which comes without its line end. What waits is committed first, so nothing is judged
     /// or shown that isn't on the disk; a new command is applied and committed before `OK`. A command that removes a meter
-    /// ends its session. Memory is taken for a new command alone.
+    /// ends its session. Memory is taken for a new command, and for the table of a REPORT.
     ///
     /// # Errors
     /// `WriteFault` where the writer failed. What the line did stands then, and a command's repeat answers `OK`; how much
@@ -49,12 +52,12 @@ impl<D: Disk + Drop, A: Allocator + Copy> Concentrator<D, A> {
     {
         match self.reply(line, out) {
             Ok(()) => Ok(()),
-            Err(ReplyFault::Write) => Err(WriteFault),
+            Err(IoFault) => Err(WriteFault),
         }
     }
 
     // Reads a line and answers it.
-    fn reply<W: Sink>(&mut self, text: &[u8], out: &mut W) -> Result<(), ReplyFault>
+    fn reply<W: Sink>(&mut self, text: &[u8], out: &mut W) -> Result<(), IoFault>
         ensures turned { (core : Core) → IsAt D.honest D.sectors D.reads D.choices self.old core
             → Turned D.honest D.sectors D.failures D.reads D.choices D.moment D.images_since self.old.house.budget core (offices text.now) (Wrote W.written W.put_failures result out.old out.new) self.old self.new }
         ensures count { D.sectors self.new.store.disk ≡ D.sectors self.old.store.disk }
@@ -96,7 +99,7 @@ impl<D: Disk + Drop, A: Allocator + Copy> Concentrator<D, A> {
     }
 
     // Answers a line where nothing waits.
-    fn answer<W: Sink>(&mut self, line: &OfficeLine, out: &mut W) -> Result<(), ReplyFault>
+    fn answer<W: Sink>(&mut self, line: &OfficeLine, out: &mut W) -> Result<(), IoFault>
         requires line { IsOfficeLine line.now }
         requires empty { self.old.waiting.count ≡ 0 }
         ensures answered { (core : Core) → IsAt D.honest D.sectors D.reads D.choices self.old core → core.stopped ≡ false
@@ -109,7 +112,7 @@ impl<D: Disk + Drop, A: Allocator + Copy> Concentrator<D, A> {
         match judge(&self.house, line) {
             Verdict::Do(change) => self.obey(&change, line, out),
             Verdict::Repeat | Verdict::Show | Verdict::Refuse(_) => {
-                write_reply(&self.house, line, out)
+                write_answer(self.alloc, &self.house, line, out)
             }
         }
     }
@@ -120,7 +123,7 @@ impl<D: Disk + Drop, A: Allocator + Copy> Concentrator<D, A> {
         change: &Change<'_>,
         line: &OfficeLine,
         out: &mut W,
-    ) -> Result<(), ReplyFault>
+    ) -> Result<(), IoFault>
         requires line { IsOfficeLine line.now }
         requires empty { self.old.waiting.count ≡ 0 }
         requires is_change { IsChange change.now }
@@ -142,7 +145,7 @@ impl<D: Disk + Drop, A: Allocator + Copy> Concentrator<D, A> {
             Err(_) => return write_refusal(Code::Store, out),
         }
         // the line is a repeat now
-        write_reply(&self.house, line, out)
+        write_answer(self.alloc, &self.house, line, out)
     }
 
     // Takes a command where nothing waits: the register has it, it waits, and nobody reads a meter that it removes.
@@ -159,6 +162,27 @@ impl<D: Disk + Drop, A: Allocator + Copy> Concentrator<D, A> {
         self.waiting.push(change);
         end_removed(&mut self.lines, change);
         Ok(())
+    }
+}
+
+// The reply to a line that is no new command, or that memory was refused for it.
+fn write_answer<A: Allocator + Copy, W: Sink>(
+    alloc: A,
+    house: &House<A>,
+    line: &OfficeLine,
+    out: &mut W,
+) -> Result<(), IoFault>
+    requires line { IsOfficeLine line.now }
+    requires answered { IfDo (verdict_of house.now line.now) (λ _. ⊥) }
+    ensures told { Wrote W.written W.put_failures result out.old out.new (reply_text house.now line.now)
+        ⊎ (TakesMemory line.now × Wrote W.written W.put_failures result out.old out.new (refusal_line Memory)) }
+    ensures fault { OnErr result (HasRisen (W.put_failures out.old) (W.put_failures out.new)) }
+    ensures well { OnOk result (W.put_failures out.new ≡ W.put_failures out.old) }
+{
+    match write_reply(alloc, house, line, out) {
+        Ok(()) => Ok(()),
+        Err(ReplyFault::NoMemory) => write_refusal(Code::Memory, out),
+        Err(ReplyFault::Write) => Err(IoFault),
     }
 }
 

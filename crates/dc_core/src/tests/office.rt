@@ -14,7 +14,7 @@ use dc_sectors::{MemoryDisk, Pick};
 use dc_stream::{Bytes, FixedSink, Sink};
 use dc_text::put_number_word;
 use refusing_alloc::Refusing;
-use std::alloc::Global;
+use std::alloc::{Allocator, Global};
 use std::process::Abort;
 use std::test::Fail;
 
@@ -42,6 +42,11 @@ const READOUT: [Step<'static>; 5] = [
 ];
 
 const READOUT_TEXT: &[u8] = b"STARTED\nREADY\nPART 1 MORE\nCOMMITTED 1\nPART 2 LAST\n";
+
+const TABLE: &[u8] = b"flat,meter,serial,storage,function,tariff,subunit,value,unit
+A1,12345678.PAD.01.07,1,1,0,0,0,12345.000,m3
+END 1
+";
 
 /// These lines and their replies, behind other steps with their text.
 fn lines(
@@ -104,14 +109,15 @@ fn a_reading_is_shown_and_confirmed(rt: HostRuntime) -> Result<(), Fail> {
     let disk = image(&rt, heap, 1, Primary::new(1))?;
     let reading: &[u8] =
         b"READING 1 12345678.PAD.01.07 A1 2\nPART 1 1735689600 7856341224400107010000000C13785634121F\nPART 2 1735689600 785634122440010702000000426C1F3C4C1300503412\nEND 1\n";
-    let told: [(&[u8], &[u8]); 5] = [
+    let told: [(&[u8], &[u8]); 6] = [
         (b"WINDOW 1 10", reading),
+        (b"REPORT 2024-12-31", TABLE),
         (b"2 CONFIRM 2", b"ERR BEYOND\n"),
         (b"2 CONFIRM 1", b"OK 2\n"),
         (b"WINDOW 1 10", b"ERR GONE 1\n"),
         (b"WINDOW 2 10", b"END 0\n"),
     ];
-    let found = lines(&rt, heap, &disk, (&READOUT, READOUT_TEXT), &told[..1])?;
+    let found = lines(&rt, heap, &disk, (&READOUT, READOUT_TEXT), &told[..2])?;
     assert_eq!(rt; found, (0, 1, 246));
     let found = lines(&rt, heap, &disk, (&READOUT, READOUT_TEXT), &told)?;
     assert_eq!(rt; found, (0, 0, 167));
@@ -265,6 +271,38 @@ fn each_growth_of_a_command_is_refused_in_turn(rt: HostRuntime) -> Result<(), Fa
     life.calls(&rt, &Step::Office(b"WINDOW 1 1", b"END 0\n"))?;
     assert_eq!(rt; heap.requests(), before);
     assert_eq!(rt; life.found(alloc)?, (0, 0, 167));
+    Ok(())
+}
+
+/// A life with that readout.
+fn read_out<A: Allocator + Copy>(rt: &impl Abort, alloc: A, heap: Global) -> Result<Life<A>, Fail> {
+    let disk = image(rt, heap, 1, Primary::new(1))?;
+    let mut life = Life::open(alloc, heap, disk)?;
+    for step in &READOUT {
+        life.calls(rt, step)?;
+    }
+    Ok(life)
+}
+
+#[test]
+fn each_growth_of_a_report_is_refused_in_turn(rt: HostRuntime) -> Result<(), Fail> {
+    let alloc = rt.alloc();
+    let heap = Refusing::new(alloc);
+    let mut life = read_out(&rt, &heap, alloc)?;
+    let mut refused = 0;
+    for k in 1..100u64 {
+        heap.refuse(k);
+        let mut reply = FixedSink::<200>::new();
+        life.concentrator.office(b"REPORT 2024-12-31", &mut reply)?;
+        if reply.as_slice() == TABLE {
+            break;
+        }
+        assert_eq!(rt; reply.as_slice(), b"ERR MEMORY\n".as_slice());
+        refused = k;
+        life.calls(&rt, &Step::Office(b"REPORT 2024-12-31", TABLE))?;
+    }
+    assert!(rt; refused > 0);
+    assert_eq!(rt; life.found(alloc)?, (0, 1, 246));
     Ok(())
 }
 

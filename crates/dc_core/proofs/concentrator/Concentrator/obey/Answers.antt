@@ -1,4 +1,4 @@
-use Rattle.std.proofs.Common.{◌≡◌, ap, sym, subst, ◌∙◌, List, ℕ}
+use Rattle.std.proofs.Common.{◌≡◌, ⊎_elim, ap, sym, subst, ◌∙◌, List, ℕ}
 use Rattle.dc_stream.specs.Stream.{Wrote}
 use Rattle.dc_changes.specs.State.{Held}
 use Rattle.dc_changes.specs.Apply.{applied}
@@ -6,7 +6,7 @@ use Rattle.dc_upload.specs.declared.verdict.Verdict.{Verdict}
 use Rattle.dc_upload.specs.declared.verdict.Verdict.TheVariants.{Repeat}
 use Rattle.dc_upload.specs.Verdict.{verdict_of, IfDo}
 use Rattle.dc_upload.specs.Reply.{reply_text}
-use Rattle.dc_upload.proofs.Verdicts.{repeated}
+use Rattle.dc_upload.proofs.Verdicts.{done_without_memory, repeated}
 use Rattle.dc_core.specs.Step.{ordered}
 use Rattle.dc_core.specs.Images.{Machine}
 use Rattle.dc_core.proofs.Answering.{answered_memory, answered_obeyed, answered_uncommitted}
@@ -19,8 +19,8 @@ returns-in-Err-clause-answered g c core at running =
     c.args.self.now c.order.new.self core c.args.line.now c.args.change.now wrote at c.requires.empty
     (λ h image left. g.met.D.Disk.only_now h c.args.self.now.store.disk image left) c.requires.verdict c.in-Err.ensures.err c.write_refusal.ensures
 
-pub write_reply-requires-clause-answered : goal.write_reply-requires-clause-answered
-write_reply-requires-clause-answered g c =
+pub write_answer-requires-clause-answered : goal.write_answer-requires-clause-answered
+write_answer-requires-clause-answered g c =
     let house : c.self.inside.house ≡ record c.args.self.now.house { state = applied c.args.change.now c.args.self.now.house.state } =
     ap (λ (b : Machine (g.row.D.Denot)). b.house) c.self.view_is ∙ c.in-Ok-settle.ensures.house ∙ c.in-Ok.ensures.house in
     let is : verdict_of c.self.inside.house c.args.line.now ≡ Repeat =
@@ -29,7 +29,7 @@ write_reply-requires-clause-answered g c =
 
 pub returns-clause-answered : goal.returns-clause-answered
 returns-clause-answered g c core at running =
-    let wrote : List ℕ → Type 0 = Wrote g.W.Sink.written g.W.Sink.put_failures c.write_reply.result c.args.out.now c.write_reply.new.out in
+    let wrote : List ℕ → Type 0 = Wrote g.W.Sink.written g.W.Sink.put_failures c.write_answer.result c.args.out.now c.write_answer.new.out in
     let change = c.args.change.now in
     let at_mid = c.in-Ok.ensures.at core at in
     let done = c.in-Ok-settle.ensures.ok (ordered change core) at_mid in
@@ -37,7 +37,8 @@ returns-clause-answered g c core at running =
     c.args.self.now c.order.new.self c.settle.new.self core c.args.line.now change wrote at c.requires.empty c.requires.verdict c.in-Ok.ensures.store
     (c.in-Ok-settle.ensures.house ∙ c.in-Ok.ensures.house) done.1
     (λ h. c.in-Ok-settle.ensures.any_moment h (ordered change core) at_mid)
-    (subst (λ (b : Machine (g.row.D.Denot)). wrote (reply_text b.house c.args.line.now)) c.self.view_is c.write_reply.ensures)
+    (subst (λ (b : Machine (g.row.D.Denot)). wrote (reply_text b.house c.args.line.now)) c.self.view_is
+    (⊎_elim (λ text. text) (λ memory. absurd (done_without_memory c.args.self.now.house c.args.line.now change c.requires.verdict memory.0)) c.write_answer.ensures.told))
 
 pub returns-in-Err-settle-clause-answered : goal.returns-in-Err-settle-clause-answered
 returns-in-Err-settle-clause-answered g c core at running =

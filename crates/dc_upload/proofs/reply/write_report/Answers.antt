@@ -1,0 +1,14 @@
+use Rattle.std.proofs.Common.{◌≡◌, ℕ, List, ◌++◌, ap, ◌∙◌}
+use Rattle.std.specs.Io.KnownBytes.{append_known}
+use Rattle.dc_report.specs.DueTable.{due_text}
+use Rattle.dc_upload.specs.Reply.{end_line, report_text}
+use Rattle.dc_upload.proofs.reply.write_report.Goals as goal
+
+pub returns-clause-text : goal.returns-clause-text
+unfolding report_text
+returns-clause-text g c =
+    let before = g.W.Sink.written c.args.out.now in
+    let table = due_text c.args.date c.args.house.now.state in
+    c.in_ok-put_table.ensures.0
+    ∙ ap (λ (text : List ℕ). append_known before (text ++ end_line c.in_ok-rows.rows)) (c.deref.ensures.value ∙ c.in_ok-table.ensures)
+    ∙ ap (λ (rows : ℕ). append_known before (table ++ end_line rows)) c.in_ok-rows.ensures
