@@ -17,3 +17,4 @@ mod FiledReadings
 mod FiledDays
 mod Ordered
 mod FromSerial
+mod Unaddressed

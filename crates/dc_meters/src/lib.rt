@@ -8,8 +8,10 @@
 //! ([`House::decode`]); [`House::replay`] does the changes that bytes spell, each accepted in turn. Bytes are refused
 //! exactly where they spell nothing.
 //!
-//! A telegram costs one look-up and one copy of its body, whatever the number of readings held. Whether a primary
-//! address is taken is looked up by going over the meters. Bytes are read in one pass, and a body is copied once.
+//! A telegram costs one look-up and one copy of its body, whatever the number of readings held. A confirmation costs
+//! what it drops. What is asked of the readings costs what it shows, by orders that the house keeps beside the state:
+//! from a serial on, by meter ([`House::serials_of`]) and by due date ([`House::due`]). Whether a primary address is
+//! taken is looked up by going over the meters. Bytes are read in one pass, and a body is copied once.
 #![tactic(auto)]
 
 mod due;
