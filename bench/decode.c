@@ -125,9 +125,39 @@ static int read_number(int field, const byte *data, int width, long long *number
     return 1;
 }
 
-/* What the record's value is, where it is a number; dates and flags aren't in the bench. */
+/* A date of type G, if it exists. */
+static void put_day(const byte *data)
+{
+    static const byte days[13] = {0, 31, 29, 31, 30, 31, 30, 31, 31, 30, 31, 30, 31};
+    int year = data[0] >> 5 | data[1] >> 4 << 3, month = data[1] & 15, day = data[0] & 31;
+    int exists = year <= 99 && month >= 1 && month <= 12 && day >= 1 && day <= days[month];
+    year += year <= 80 ? 2000 : 1900;
+    if (!exists || (month == 2 && day == 29 && (year % 4 || (year % 100 == 0 && year % 400))))
+        fputs(" = none", stdout);
+    else
+        printf(" = %04d-%02d-%02d", year, month, day);
+}
+
+/* Flags, the highest byte first. */
+static void put_flags(const byte *data, int width)
+{
+    fputs(" = ", stdout);
+    for (int i = width; i-- > 0;)
+        put_hex(data + i, 1);
+    fputs(" flags", stdout);
+}
+
+/* What the record's value is: a number, a date, or flags; dates with a time aren't in the bench. */
 static void put_seen(int field, const byte *vib, size_t vib_len, const byte *data, int width)
 {
+    if (vib_len == 1 && vib[0] == 0x6C && field == 2) {
+        put_day(data);
+        return;
+    }
+    if (vib_len == 2 && vib[0] == 0xFD && vib[1] == 0x17 && field >= 1 && field <= 7 && field != 5) {
+        put_flags(data, width);
+        return;
+    }
     int is_number = (field >= 1 && field <= 7 && field != 5) || (field >= 9 && field <= 12) || field == 14;
     if (vib_len == 1 && is_number) {
         for (size_t i = 0; i < sizeof families / sizeof families[0]; i++) {
@@ -217,7 +247,7 @@ static int put_telegram(const byte *body, int n)
     return 1;
 }
 
-/* The frames of a line, printed. The bench has regular ones alone; others end it. */
+/* The frames of a line, printed. Of the faults the bench has a wrong checksum, and a line that is cut; others end it. */
 static void put_frames(const byte *p, long n)
 {
     while (n > 0) {
@@ -230,16 +260,24 @@ static void put_frames(const byte *p, long n)
             len = 5;
         } else {
             byte sum = 0;
-            if (p[0] != 0x68 || n < 9 || p[1] != p[2] || p[1] < 3 || p[3] != 0x68 || n < p[1] + 6)
+            if (p[0] != 0x68 || n < 4 || p[1] != p[2] || p[1] < 3 || p[3] != 0x68)
                 exit(1);
             len = p[1] + 6;
+            if (n < len) {
+                puts("FRAME FAULT 3 Truncated");
+                return;
+            }
             for (int i = 4; i < len - 2; i++)
                 sum += p[i];
-            if (sum != p[len - 2] || p[len - 1] != 0x16)
+            if (p[len - 1] != 0x16)
                 exit(1);
-            printf("LONG %02X %02X %02X %d\n", p[4], p[5], p[6], p[1] - 3);
-            if (p[6] == 0x72 && !put_telegram(p + 7, p[1] - 3))
-                exit(1);
+            if (sum != p[len - 2]) {
+                puts("FRAME FAULT 7 Checksum");
+            } else {
+                printf("LONG %02X %02X %02X %d\n", p[4], p[5], p[6], p[1] - 3);
+                if (p[6] == 0x72 && !put_telegram(p + 7, p[1] - 3))
+                    exit(1);
+            }
         }
         p += len;
         n -= len;
@@ -263,5 +301,5 @@ int main(void)
         else
             put_frames(bytes, n);
     }
-    return fflush(stdout) ? 4 : 0;
+    return fflush(stdout) ? 4 : 0; /* a fault line is no other status here */
 }

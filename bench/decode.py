@@ -1,5 +1,6 @@
 # What `mbdc decode` prints, in plain Python: bench/decode times the program against it. It reads standard input.
 import sys
+from datetime import date
 
 WIDTHS = [0, 1, 2, 3, 4, 4, 6, 8, 0, 1, 2, 3, 4, None, 6, 0]
 
@@ -35,8 +36,21 @@ def number(field, data):
     return sign * int(digits) if digits.isdigit() else None
 
 
-# Dates and flags aren't in the bench.
+def day(data):
+    low, high = data
+    year = low >> 5 | high >> 4 << 3
+    try:
+        return str(date(year + (2000 if year <= 80 else 1900), high & 15, low & 31)) if year <= 99 else "none"
+    except ValueError:
+        return "none"
+
+
+# Dates with a time aren't in the bench.
 def seen(field, vib, data):
+    if vib == b"\x6C" and field == 2:
+        return day(data)
+    if vib == b"\xFD\x17" and field in (1, 2, 3, 4, 6, 7):
+        return f"{data[::-1].hex().upper()} flags"
     if len(vib) == 1 and vib[0] in UNITS and field not in (0, 5, 8, 13):
         exponent, unit = UNITS[vib[0]]
         n = number(field, data)
@@ -102,11 +116,17 @@ def frames(text):
             text = text[5:]
         else:
             end = text[1] + 6
-            assert text[0] == text[3] == 0x68 and text[1] == text[2] and text[end - 1] == 0x16
-            assert sum(text[4:end - 2]) % 256 == text[end - 2]
-            lines.append(f"LONG {text[4]:02X} {text[5]:02X} {text[6]:02X} {end - 9}")
-            if text[6] == 0x72:
-                lines += telegram(text[7:end - 2])
+            assert text[0] == text[3] == 0x68 and text[1] == text[2]
+            if len(text) < end:
+                lines.append("FRAME FAULT 3 Truncated")
+                return lines
+            assert text[end - 1] == 0x16
+            if sum(text[4:end - 2]) % 256 != text[end - 2]:
+                lines.append("FRAME FAULT 7 Checksum")
+            else:
+                lines.append(f"LONG {text[4]:02X} {text[5]:02X} {text[6]:02X} {end - 9}")
+                if text[6] == 0x72:
+                    lines += telegram(text[7:end - 2])
             text = text[end:]
     return lines
 

@@ -1,2 +1,4 @@
 -- the definitions that contracts cite
+
+-- counted failures, of a disk, a reader or a writer
 pub mod Failures

@@ -1,3 +1,5 @@
+//! How failures are counted.
+
 ghost use Rattle.std.specs.Prelude.{◌≡◌, ◌+◌, ◌-◌, ◌^◌, min};
 ghost use Rattle.dc_base.specs.Failures.{HasRisen};
 

@@ -1,3 +1,5 @@
+//! Tests: the count of failures stays at its maximum.
+
 use crate::{NoMemory, one_failure_more};
 use std::alloc::AllocError;
 use std::test::Fail;

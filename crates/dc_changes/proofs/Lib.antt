@@ -1,15 +1,28 @@
 -- what a crate above may cite
+
+-- no space stands in a number
 pub mod Decimals
+-- the first space of a text, and numbers as their digits
 pub mod LineSpellings
+-- the words of a line that tells a telegram, and that a line tells one change
 pub mod TelegramLines
+-- how long a state's spelling is
 pub mod Lengths
+-- readings that take exactly what is spelled
 pub mod Exact
+-- each reading takes exactly its spelling
 pub mod PieceSpellings
+-- a change is read where it is spelled
 pub mod ChangeSpellings
+-- a state is read where it is spelled
 pub mod StateSpellings
+-- changes that are read one after the other, as a loop does
 pub mod Runs
+-- bytes that are written in pieces
 pub mod Writes
+-- lists of changes, part by part
 pub mod History
 -- lemmas of this crate alone
 mod Lines
+-- bytes in front of zeros
 mod Padding

@@ -21,7 +21,7 @@ use Rattle.dc_core.specs.Transcript.{Turn, leads, IsChain, accepted_by, accepted
 use Rattle.dc_core.specs.Promised.{Seen, nothing_seen, and_seen, seen_from, promised_in, HoldsFront}
 use Rattle.dc_core.specs.Images.{Machine, IsAt, StandsForPromised}
 use Rattle.dc_core.specs.Text.{answer_text, run_text}
-use Rattle.dc_core.specs.Run.{Turned, Ran}
+use Rattle.dc_core.specs.Run.{fault_in, IsShown, Turned, Ran}
 use Rattle.dc_core.proofs.Fronts.{promised_is_committed, promised_within}
 use Rattle.dc_core.proofs.Followed.{none_is_unknown}
 
@@ -144,6 +144,20 @@ module _ {D : Type 0} (honest : Type 0) (sectors : D → ℕ) (reads : D → Ima
       subst (λ (s : Kept D). LeavesOnly moment images_since machine.store.disk s.disk P) (sym same)
       (begun moment images_since machine.store.disk P (λ image left. longer_front H core.committed core.pending more image (at.leaves h image (only image left))))
 
+  -- AN EVENT THAT LEAVES THE STORE as it was
+  pub turned_at_rest : (failures : D → ℕ) (budget : ℕ) (machine new : Machine D) (core : Core) (event : Event) (answer : Answer) (wrote : List ℕ → Type 0) → fault_in answer ≡ None
+      → May budget core event answer → wrote (answer_text answer) → IsAt honest sectors reads choices machine core → IsAt honest sectors reads choices new (next core event answer) → new.store ≡ machine.store
+      → (honest → (image : Image) → images_since machine.store.disk (moment machine.store.disk) image → IsImage (choices machine.store.disk) image)
+      → Turned honest sectors failures reads choices moment images_since budget core event wrote machine new
+  turned_at_rest failures budget machine new core event answer wrote none may text at after same only = record {
+    answer = answer;
+    may = may;
+    text = text;
+    at = after;
+    failed = subst (IsShown failures machine new) (sym none) tt;
+    leaves = λ h. at_rest machine new core (accepted_by core event answer) at h same (only h);
+  }
+
   -- no event yet
   pub ran_none : (budget : ℕ) (state : State) (before : List Turn) (wrote : List ℕ → Type 0) (machine : Machine D) → IsChain budget (opened state) before → IsAt honest sectors reads choices machine (leads (opened state) before)
       → (honest → (image : Image) → images_since machine.store.disk (moment machine.store.disk) image → IsImage (choices machine.store.disk) image) → wrote []
@@ -214,3 +228,24 @@ module _ {D : Type 0} (honest : Type 0) (sectors : D → ℕ) (reads : D → Ima
             (now_first H state (past ++ t ∷ []) (leads (opened state) (past ++ t ∷ [])) image (promised_is_committed budget state (past ++ t ∷ []) chain)
             (subst (λ (n : ℕ). StandsForFront (half_len_of n) (leads (opened state) (past ++ t ∷ [])).committed (leads (opened state) (past ++ t ∷ [])).pending image) same_size (at.leaves h image is)));
       }
+
+  -- a run of one event, and which turn it is
+  pub one_turn : (failures : D → ℕ) (budget : ℕ) (state : State) (before : List Turn) (event : Event) (piece : List ℕ → Type 0) (old new : Machine D)
+      → IsChain budget (opened state) before → IsAt honest sectors reads choices old (leads (opened state) before)
+      → (honest → (image : Image) → images_since old.store.disk (moment old.store.disk) image → IsImage (choices old.store.disk) image)
+      → (turned : Turned honest sectors failures reads choices moment images_since budget (leads (opened state) before) event piece old new) → sectors new.store.disk ≡ sectors old.store.disk
+      → (ran : Ran honest sectors reads choices moment images_since budget state before (event ∷ []) (λ text. Unit {0}) old new) × (ran.turns ≡ (event, turned.answer) ∷ [])
+  unfolding ran_none ran_more
+  one_turn failures budget state before event piece old new chain at only turned count =
+      let e = sym (append-nil before) in
+      let answer = turned.answer in
+      let none = ran_none budget state before (λ text. Unit {0}) old chain at only tt in
+      let behind : Turned honest sectors failures reads choices moment images_since budget (leads (opened state) (before ++ [])) event piece old new = record {
+        answer = answer;
+        may = subst (λ (ts : List Turn). May budget (leads (opened state) ts) event answer) e turned.may;
+        text = turned.text;
+        at = subst (λ (ts : List Turn). IsAt honest sectors reads choices new (next (leads (opened state) ts) event answer)) e turned.at;
+        failed = turned.failed;
+        leaves = λ h. subst (λ (ts : List Turn). LeavesOnly moment images_since old.store.disk new.store.disk (StandsForFront (half_len_of (sectors old.store.disk)) (leads (opened state) ts).committed ((leads (opened state) ts).pending ++ accepted_by (leads (opened state) ts) event answer))) e (turned.leaves h);
+      } in
+      (ran_more failures budget state before [] event (λ text. Unit {0}) piece (λ text. Unit {0}) old old new none behind count (λ text more wrote put. tt), refl)

@@ -1,12 +1,25 @@
 -- lemmas by topic
+
+-- in which state a concentrator is after each call
 pub mod At
+-- a telegram that isn't taken
 pub mod Refused
+-- a settled telegram toggles the frame count bit (the law of specs/Toggled)
 pub mod Bits
+-- of the changes accepted in a chain, what is committed has all that is promised (the law of specs/Promised)
 pub mod Fronts
+-- a telegram that is asked for is of a registered meter, and its readout's next part (the law of specs/Known)
 pub mod Registered
+-- a command leaves each session that goes on at its meter's row (for the law of specs/Known)
 pub mod Ordered
+-- in every chain of steps each session follows the register (the law of specs/Known)
 pub mod Followed
+-- a run goes on by one turn
 pub mod Going
+-- a line of the office, answered
 pub mod Answering
+-- one life after another (the law of specs/Lives)
 pub mod Following
+-- what the office was told is kept (the law of specs/Told)
 pub mod Told
+pub mod Requests

@@ -60,6 +60,10 @@ abbrev pub asked_on : Option Summary → Option (List ℕ)
 asked_on None = None
 asked_on (Some s) = option_map spelling (asked_by s)
 
+-- the bytes of the longest request: a selection
+abbrev pub longest_request : ℕ
+longest_request = 17
+
 abbrev pub ask_answer : Core → ℕ → Option (List ℕ)
 ask_answer core line = if not (is_line line) || core.stopped then None else asked_on (session_of core line)
 

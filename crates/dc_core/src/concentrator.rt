@@ -1,16 +1,16 @@
 //! The concentrator: a store, the register that it keeps, what waits for a commit, and the lines.
 
-ghost use Rattle.std.specs.Prelude.{◌≡◌, ◌≤◌, ◌<◌, ℕ, Err, OnOk, IfOk, IfErr, MatchResult, false};
+ghost use Rattle.std.specs.Prelude.{◌≡◌, ◌≤◌, ◌<◌, ℕ, Err, OnOk, IfOk, IfErr, IfSome, MatchResult, false, length};
 ghost use Rattle.dc_base.specs.Failures.{HasRisen};
 ghost use Rattle.dc_sectors.specs.Disk.{Image, IsImage, LeavesOnly};
 ghost use Rattle.dc_changes.specs.State.{State};
-ghost use Rattle.dc_recovery.specs.Halves.{budget_of, half_len_of};
+ghost use Rattle.dc_recovery.specs.Halves.{budget_of, half_len_of, fewest_sectors};
 ghost use Rattle.dc_recovery.specs.Stands.{EachStands, Reads, Stands, StandsForOne};
 ghost use Rattle.dc_recovery.specs.Refusal.{IsRefused, IsWorn, TellsOfImage};
 ghost use Rattle.dc_recovery.specs.declared.fault.OpenFault.TheVariants.{NotImage, Worn, Device};
 ghost use Rattle.dc_core.specs.Core.{Core, opened};
 ghost use Rattle.dc_core.specs.Event.{starts, asks, started, asked};
-ghost use Rattle.dc_core.specs.Step.{May, next};
+ghost use Rattle.dc_core.specs.Step.{May, next, longest_request};
 ghost use Rattle.dc_core.specs.Images.{IsAt};
 
 mod commit;
@@ -55,11 +55,11 @@ impl<D: Disk + Drop, A: Allocator + Copy> Concentrator<D, A> {
     /// # Errors
     /// The first that stands in the order of the steps: [`OpenFault`]. The disk comes back.
     pub fn open(alloc: A, disk: D) -> Result<Concentrator<D, A>, (OpenFault, D)>
-        ensures small { D.sectors disk < 131 → result ≡ Err (NotImage, disk) }
+        ensures small { D.sectors disk < fewest_sectors → result ≡ Err (NotImage, disk) }
 
         // Ok gives exactly the state that the image reads as, and a refusal is a fact of the image.
         ensures reads { D.honest → IfOk result (λ c. Reads (half_len_of (D.sectors disk)) c.house.state (D.reads disk)) }
-        ensures refused { D.honest → 131 ≤ D.sectors disk → IfErr result (λ e. IsRefused (half_len_of (D.sectors disk)) (D.reads disk) e.0) }
+        ensures refused { D.honest → fewest_sectors ≤ D.sectors disk → IfErr result (λ e. IsRefused (half_len_of (D.sectors disk)) (D.reads disk) e.0) }
         ensures unwritten { D.honest → IfErr result (λ e. TellsOfImage e.0 → D.reads e.1 ≡ D.reads disk) }
         ensures not_worn { D.honest → OnOk result (IsWorn (half_len_of (D.sectors disk)) (D.reads disk) → ⊥) }
         ensures device { IfErr result (λ e. e.0 ≡ Device → HasRisen (D.failures disk) (D.failures e.1)) }
@@ -71,7 +71,7 @@ impl<D: Disk + Drop, A: Allocator + Copy> Concentrator<D, A> {
         ensures any_moment { D.honest → EachStands (half_len_of (D.sectors disk)) (D.choices disk)
             → MatchResult result (λ c. LeavesOnly D.moment D.images_since disk c.store.disk (StandsForOne (half_len_of (D.sectors disk)) (D.choices disk)))
             (λ e. LeavesOnly D.moment D.images_since disk e.1 (StandsForOne (half_len_of (D.sectors disk)) (D.choices disk))) }
-        ensures premise { D.honest → 131 ≤ D.sectors disk → EachStands (half_len_of (D.sectors disk)) (D.choices disk)
+        ensures premise { D.honest → fewest_sectors ≤ D.sectors disk → EachStands (half_len_of (D.sectors disk)) (D.choices disk)
             → IfErr result (λ e. TellsOfImage e.0 → e.0 ≡ Worn) }
         ensures count { IfOk result (λ c. D.sectors c.store.disk ≡ D.sectors disk) }
         ensures budget { IfOk result (λ c. c.house.budget ≡ budget_of (half_len_of (D.sectors disk))) }
@@ -116,10 +116,11 @@ impl<D: Disk + Drop, A: Allocator + Copy> Concentrator<D, A> {
     }
 
     /// The request that is asked on a line. None where there is no such line, no session on it, where its telegram waits
-    /// for a commit, and where the disk has stopped the concentrator.
+    /// for a commit, and where the disk has stopped the concentrator. A selection is the longest request, of 17 bytes.
     pub fn ask(&self, line: u8) -> Option<FrameBuf>
-        ensures { (core : Core) → IsAt D.honest D.sectors D.reads D.choices self.now core
+        ensures may { (core : Core) → IsAt D.honest D.sectors D.reads D.choices self.now core
             → May self.now.house.budget core (asks line) (asked result) }
+        ensures short { IfSome result (λ request. length request ≤ longest_request) }
     {
         if !is_line(line) || self.store.is_stopped() {
             return None;

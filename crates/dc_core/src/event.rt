@@ -1,3 +1,5 @@
+//! The events of a concentrator: its calls, with their arguments.
+
 use dc_address::Identity;
 
 /// What happens to a concentrator: a call, with its arguments.

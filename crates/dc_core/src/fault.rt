@@ -1,3 +1,5 @@
+//! The concentrator's refusals, with their numbers and names.
+
 ghost use Rattle.std.specs.Prelude.{◌≡◌};
 ghost use Rattle.dc_waiting.specs.declared.fault.TakeFault.{TakeFault};
 ghost use Rattle.dc_core.specs.Fault.{start_number, start_name, hear_number, hear_name, commit_number, commit_name, hear_fault};

@@ -35,6 +35,7 @@ pub use laws::{
     what_the_office_is_told_is_kept,
 };
 pub use line_heard::LineHeard;
+pub use telling::{put_asked, put_committed, put_heard, put_started};
 
 #[cfg(test)]
 mod tests;

@@ -1,3 +1,5 @@
+//! What an answer on a line was, as the concentrator tells it.
+
 use dc_readout::Why;
 
 /// What an answer on a line was.

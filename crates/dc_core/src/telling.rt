@@ -17,10 +17,8 @@ fn put_refused<W: Sink>(out: &mut W, number: u8, name: &str) -> Result<(), IoFau
     put_fault_line(out, b"REFUSED", number, name)
 }
 
-pub(crate) fn put_started<W: Sink>(
-    out: &mut W,
-    answer: Result<(), StartFault>,
-) -> Result<(), IoFault>
+/// The text of the answer to [`Concentrator::start`](crate::Concentrator::start): a line.
+pub fn put_started<W: Sink>(out: &mut W, answer: Result<(), StartFault>) -> Result<(), IoFault>
     ensures { Wrote W.written W.put_failures result out.old out.new (started_text answer) }
 {
     match answer {
@@ -29,8 +27,9 @@ pub(crate) fn put_started<W: Sink>(
     }
 }
 
+/// The text of the answer to [`Concentrator::ask`](crate::Concentrator::ask): a line.
 #[tactic(auto, using(dc_stream::proofs::Pieces::written))]
-pub(crate) fn put_asked<W: Sink>(out: &mut W, answer: Option<FrameBuf>) -> Result<(), IoFault>
+pub fn put_asked<W: Sink>(out: &mut W, answer: Option<FrameBuf>) -> Result<(), IoFault>
     ensures { Wrote W.written W.put_failures result out.old out.new (asked_text answer) }
 {
     let Some(request) = answer else {
@@ -68,10 +67,8 @@ fn put_part<W: Sink>(out: &mut W, part: u8, more: bool) -> Result<(), IoFault>
     }
 }
 
-pub(crate) fn put_heard<W: Sink>(
-    out: &mut W,
-    answer: Result<LineHeard, HearFault>,
-) -> Result<(), IoFault>
+/// The text of the answer to [`Concentrator::hear`](crate::Concentrator::hear): a line.
+pub fn put_heard<W: Sink>(out: &mut W, answer: Result<LineHeard, HearFault>) -> Result<(), IoFault>
     ensures { Wrote W.written W.put_failures result out.old out.new (heard_text answer) }
 {
     match answer {
@@ -83,8 +80,9 @@ pub(crate) fn put_heard<W: Sink>(
     }
 }
 
+/// The text of the answer to [`Concentrator::commit`](crate::Concentrator::commit): a line.
 #[tactic(auto, using(dc_stream::proofs::Pieces::written))]
-pub(crate) fn put_committed<W: Sink>(
+pub fn put_committed<W: Sink>(
     out: &mut W,
     answer: Result<usize, CommitFault>,
 ) -> Result<(), IoFault>

@@ -1,1 +1,2 @@
+-- numbers in a sector read back
 pub mod Numbers

@@ -1,3 +1,5 @@
+//! Numbers of several bytes at a place of a sector.
+
 ghost use Rattle.std.specs.Prelude.{◌≡◌, ◌≤◌, ◌+◌, ◌++◌, take, drop};
 ghost use Rattle.dc_fields.specs.Fields.{field, number_bytes};
 

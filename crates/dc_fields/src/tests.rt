@@ -1,3 +1,5 @@
+//! Tests: numbers are put and read at their places.
+
 use crate::{put_u16, put_u32, put_u64, u16_at, u32_at, u64_at};
 
 #[test]

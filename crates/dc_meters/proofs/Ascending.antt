@@ -1,11 +1,11 @@
 -- What comes behind all others in an order.
-use Rattle.std.proofs.Common.{◌≡◌, ℕ, ◌-◌, ◌<◌, List, [], ◌∷◌, ◌++◌, length, map, get_or, true, false, Option, Some, refl, ap, subst, ◌∙◌, arith, inl, inr}
+use Rattle.std.proofs.Common.{◌≡◌, ℕ, ◌-◌, ◌<◌, List, [], ◌∷◌, ◌++◌, length, map, get_or, true, false, Option, None, Some, cond, refl, ap, subst, ◌∙◌, arith, inl, inr}
 use Rattle.std.specs.Prelude.{All, slice_get}
 use Rattle.std.specs.List.{AllByRecursion}
-use Rattle.std.specs.Map.{keys_of}
-use Rattle.std.specs.BTreeMap.{insert_entry}
+use Rattle.std.specs.Map.{lookup, keys_of}
+use Rattle.std.specs.BTreeMap.{is_at, insert_entry}
 use Rattle.std.specs.List.Sorted.{IsStrictlySortedBy}
-use Rattle.std.specs.Ordering.{nat_cmp, is_gt, ordering_reverse, match_ordering}
+use Rattle.std.specs.Ordering.{nat_cmp, is_eq, is_gt, ordering_reverse, match_ordering}
 use Rattle.std.specs.declared.cmp.Ordering.{Ordering}
 use Rattle.std.specs.declared.cmp.Ordering.TheVariants.{Less, Greater}
 use Rattle.std.specs.Cmp.{IsTotalOrder, nat_cmp_total}
@@ -18,7 +18,7 @@ use Rattle.std.proofs.lemmas.Map.Keys.{sorted_head, sorted_tail, below_from_sort
 use Rattle.dc_address.specs.declared.identity.Identity.{Identity}
 use Rattle.dc_address.specs.Identity.{identity_cmp}
 use Rattle.dc_changes.specs.State.{MeterRow, ReadingRow}
-use Rattle.dc_meters.proofs.Sizes.{identities_total}
+use Rattle.dc_address.proofs.Order.{identities_total}
 
 module _ {K : Type 0} {R : K → K → Ordering} where
   pub turned : IsTotalOrder R → (a b : K) → R a b ≡ Less → R b a ≡ Greater
@@ -31,6 +31,13 @@ module _ {K : Type 0} {R : K → K → Ordering} where
       let first = turned total e.0 k (All-head (λ q. R q k ≡ Less) e.0 (keys_of es) all) in
       let more = insert_last total es k v (All-tail (λ q. R q k ≡ Less) e.0 (keys_of es) all) in
       rw (first, more) refl
+
+-- a meter behind all others isn't among them
+pub absent_behind : (es : List (Identity × MeterRow)) (meter : Identity) → All (λ q. identity_cmp q meter ≡ Less) (keys_of es) → lookup (is_at (identity_cmp meter)) es ≡ None
+absent_behind [] meter all = refl
+absent_behind (e ∷ es) meter all =
+    let first = turned identities_total e.0 meter (All-head (λ q. identity_cmp q meter ≡ Less) e.0 (keys_of es) all) in
+    ap (λ (o : Ordering). cond (is_eq o) (Some e.1) (lookup (is_at (identity_cmp meter)) es)) first ∙ absent_behind es meter (All-tail (λ q. identity_cmp q meter ≡ Less) e.0 (keys_of es) all)
 
 -- in an ascending list what stands before an element is below it
 at_next : {X K : Type 0} (f : X → K) (P : K → Type 0) (xs : List X) (x : X) (zs : List X) → AllByRecursion P (map f (xs ++ x ∷ zs)) → P (f x)

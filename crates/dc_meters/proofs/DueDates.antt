@@ -1,16 +1,14 @@
 -- What dates the storage numbers of a readout, and the days of its due-date values.
-use Rattle.std.proofs.Common.{◌≡◌, ℕ, Bool, true, false, cond, List, [], ◌∷◌, filter, Option, None, Some, refl, sym, ap, ◌∙◌}
-use Rattle.std.specs.Prelude.{◌||◌, ◌==◌}
+use Rattle.std.proofs.Common.{◌≡◌, Bool, true, false, cond, List, [], ◌∷◌, filter, Option, None, Some, refl, sym, ap, ◌∙◌}
+use Rattle.std.specs.Prelude.{◌||◌}
 use Rattle.std.specs.Option.{option_or, is_some}
 use Rattle.std.specs.List.{list_any, filter_map, cons_option}
 use Rattle.std.specs.Iterator.{YieldsFirst}
 use Rattle.std.specs.Ordering.{nat_cmp, ordering_then, is_eq}
-use Rattle.std.specs.declared.cmp.Ordering.{Ordering}
 use Rattle.std.specs.Cmp.{both_tied, unsigned_ties}
 use Rattle.dc_units.specs.declared.point.Point.{Point}
 use Rattle.dc_units.specs.Date.{Day}
-use Rattle.dc_units.specs.Value.{day_of}
-use Rattle.dc_meters.specs.Due.{is_dating, dating_day, day_for, dated, is_stored, due_day, due_days, is_due, is_on, same_day, day_cmp}
+use Rattle.dc_meters.specs.Due.{due_day, due_days, is_due, is_on, same_day, day_cmp}
 
 pub or-assoc : (a b c : Option Day) → option_or (option_or a b) c ≡ option_or a (option_or b c)
 or-assoc None b c = refl
@@ -36,7 +34,7 @@ skipped {Y = Y} f xs x rest first is = ap (filter_map f) first ∙ ap (λ (o : O
 
 -- ---- whether there is any
 
-abbrev not_empty : {X : Type 0} → List X → Bool
+abbrev pub not_empty : {X : Type 0} → List X → Bool
 not_empty [] = false
 not_empty (x ∷ xs) = true
 
@@ -44,7 +42,7 @@ one_more : {X : Type 0} (here later : Bool) (x : X) (xs : List X) → later ≡ 
 one_more true later x xs is = refl
 one_more false later x xs is = is
 
-some_kept : {X : Type 0} (f : X → Bool) (xs : List X) → list_any f xs ≡ not_empty (filter f xs)
+pub some_kept : {X : Type 0} (f : X → Bool) (xs : List X) → list_any f xs ≡ not_empty (filter f xs)
 some_kept f [] = refl
 some_kept f (x ∷ xs) = one_more (f x) (list_any f xs) x (filter f xs) (some_kept f xs)
 
@@ -71,40 +69,3 @@ among_days date all (p ∷ points) =
 -- the due days are the days for which there is a due-date value
 pub due_days_are : (date : Day) (points : List Point) → list_any (λ day. same_day day date) (due_days points) ≡ list_any (is_due date points) points
 due_days_are date points = among_days date points points
-
--- ---- every due day is told by some point of the readout
-
-or_false : (a b : Bool) → (a || b) ≡ false → (a ≡ false) × (b ≡ false)
-or_false true b e = absurd cc
-or_false false b e = (refl, e)
-
-neither_is : (a b : Bool) → a ≡ false → b ≡ false → (a || b) ≡ false
-neither_is a b no_a no_b = ap (λ (c : Bool). c || b) no_a ∙ no_b
-
-abbrev tells : Day → Point → Bool
-tells date p = is_on date (day_of p.value)
-
-neither : (date : Day) (a b : Option Day) → is_on date a ≡ false → is_on date b ≡ false → is_on date (option_or a b) ≡ false
-neither date None b no_a no_b = no_b
-neither date (Some day) b no_a no_b = no_a
-
-unless : (date : Day) (test : Bool) (o : Option Day) → is_on date o ≡ false → is_on date (cond test o None) ≡ false
-unless date true o away = away
-unless date false o away = refl
-
-not_dated : (date : Day) (storage : ℕ) (points : List Point) → list_any (tells date) points ≡ false → is_on date (dated storage points) ≡ false
-not_dated date storage [] none = refl
-not_dated date storage (p ∷ points) none =
-    let parts = or_false (tells date p) (list_any (tells date) points) none in
-    neither date (day_for storage p) (dated storage points)
-    (unless date (p.storage == storage) (dating_day p) (unless date (is_dating p) (day_of p.value) parts.0))
-    (not_dated date storage points parts.1)
-
-no_due : (date : Day) (all points : List Point) → list_any (tells date) all ≡ false → list_any (is_due date all) points ≡ false
-no_due date all [] none = refl
-no_due date all (p ∷ points) none =
-    neither_is (is_due date all p) (list_any (is_due date all) points) (unless date (is_stored p) (dated p.storage all) (not_dated date p.storage all none)) (no_due date all points none)
-
--- a date that no point tells has no due-date value: so who takes the days of all points out of an index leaves none in
-pub untold_has_none : (date : Day) (points : List Point) → list_any (λ p. is_on date (day_of p.value)) points ≡ false → list_any (is_due date points) points ≡ false
-untold_has_none date points none = no_due date points points none

@@ -16,7 +16,7 @@ use Rattle.dc_changes.specs.Order.{MetersAscend, ReadingsAscend, IsNextSerial}
 use Rattle.dc_changes.specs.Reading.{Reader, many, entry_at, reading_at}
 use Rattle.dc_meters.proofs.Counts.{with_front, begins_with, goes_on, front_of}
 use Rattle.dc_meters.proofs.Ascending.{insert_last, before_next}
-use Rattle.dc_meters.proofs.Sizes.{identities_total}
+use Rattle.dc_address.proofs.Order.{identities_total}
 use Rattle.dc_meters.proofs.Readings.{sorted_of_pushed}
 
 -- what was read and what is still read are all that is read

@@ -1,8 +1,8 @@
 -- Readings and their orders, where one comes and where one goes.
-use Rattle.std.proofs.Common.{◌≡◌, ℕ, ◌<◌, ◌^◌, Bool, true, List, [], ◌∷◌, ◌++◌, refl, sym, ap, ◌∙◌, map}
+use Rattle.std.proofs.Common.{◌≡◌, ℕ, ◌<◌, ◌^◌, Bool, List, [], ◌∷◌, ◌++◌, refl, ap, ◌∙◌, map}
 use Rattle.std.specs.Prelude.{All, ◌&&◌, ◌||◌, not}
 use Rattle.std.specs.List.Sorted.{IsStrictlySortedBy}
-use Rattle.std.specs.Ordering.{nat_cmp, is_eq}
+use Rattle.std.specs.Ordering.{nat_cmp}
 use Rattle.std.proofs.lemmas.List.Elements.{All-nil, All-push, All-tail}
 use Rattle.std.proofs.lemmas.Map.Keys.{sorted_tail}
 use Rattle.dc_address.specs.declared.identity.Identity.{Identity}
@@ -12,7 +12,7 @@ use Rattle.dc_changes.specs.State.{ReadingRow}
 use Rattle.dc_meters.specs.declared.filed.Filed.{Filed}
 use Rattle.dc_meters.specs.Due.{day_cmp, due_days, has_value}
 use Rattle.dc_meters.specs.Points.{points_of}
-use Rattle.dc_meters.specs.Orders.{found, is_of, is_under_meter, is_under_days, IsUnfiled, AreFiled, AreOrdered}
+use Rattle.dc_meters.specs.Orders.{found, is_of, is_under_meter, is_under_days, IsUnfiled, AreOrdered}
 use Rattle.dc_meters.proofs.Readings.{sorted_of_pushed}
 use Rattle.dc_meters.proofs.FiledReadings.{filed_more, filed_less, none_yet}
 use Rattle.dc_meters.proofs.FiledDays.{under_days}

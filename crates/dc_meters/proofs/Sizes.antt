@@ -5,19 +5,15 @@ use Rattle.std.specs.Option.{unwrap_or, option_map}
 use Rattle.std.specs.Map.{keys_of, values_of}
 use Rattle.std.specs.BTreeMap.{is_at}
 use Rattle.std.specs.List.Sorted.{IsStrictlySortedBy}
-use Rattle.std.specs.Cmp.{IsTotalOrder, nat_cmp_total}
-use Rattle.std.proofs.lemmas.Cmp.{on_total, then_total}
 use Rattle.std.proofs.lemmas.List.Sums.{sum_by-append, sum_by-cons}
 use Rattle.std.proofs.lemmas.Map.Entries.{sum_by-set_value, sum_by-insert_entry, sum_by-remove_entry, length-values_of}
 use Rattle.dc_address.specs.declared.identity.Identity.{Identity}
 use Rattle.dc_address.specs.Identity.{identity_cmp}
+use Rattle.dc_address.proofs.Order.{identities_total}
 use Rattle.dc_changes.specs.Body.{BodyRow}
 use Rattle.dc_changes.specs.State.{State, MeterRow, PartRow, ReadingRow, row_of}
 use Rattle.dc_changes.specs.Size.{part_size, parts_size, meter_size, reading_size, size_of}
 use Rattle.dc_changes.specs.Apply.{with_row, joined, heard, told, moved, fitted, taken_out}
-
-pub identities_total : IsTotalOrder identity_cmp
-identities_total = then_total (on_total (λ a. a.number) nat_cmp_total) (then_total (on_total (λ a. a.maker) nat_cmp_total) (then_total (on_total (λ a. a.version) nat_cmp_total) (on_total (λ a. a.kind) nat_cmp_total)))
 
 -- a row written over
 pub size_of-with_row : (meter : Identity) (old new : MeterRow) (s : State) → row_of meter s ≡ Some old

@@ -1,6 +1,6 @@
 -- A meter that is selected by its identity is in no other's way.
-use Rattle.std.proofs.Common.{◌≡◌, ℕ, Bool, true, false, List, [], ◌∷◌, Option, None, Some, refl, ap, ◌∙◌}
-use Rattle.std.specs.Prelude.{◌==◌, ◌||◌, ◌&&◌, not, is_some}
+use Rattle.std.proofs.Common.{◌≡◌, ℕ, Bool, true, false, List, [], ◌∷◌, None, refl, ap, ◌∙◌}
+use Rattle.std.specs.Prelude.{◌==◌, ◌||◌, ◌&&◌}
 use Rattle.std.specs.List.{list_any}
 use Rattle.dc_address.specs.declared.identity.Identity.{Identity}
 use Rattle.dc_changes.specs.State.{MeterRow}
@@ -18,8 +18,3 @@ pub free_of_others : (line : ℕ) (test : Identity → Bool) (entries : List (Id
 free_of_others line test [] = refl
 free_of_others line test (e ∷ entries) =
     ap (λ (b : Bool). b || list_any (λ x. test x.0 && occupies line None x.1) entries) (ap (λ (b : Bool). test e.0 && b) (and_false (e.1.line == line)) ∙ and_false (test e.0)) ∙ free_of_others line test entries
-
-pub none_is : (address : Option ℕ) (b : Bool) → is_some address ≡ not b → b ≡ true → address ≡ None
-none_is None b is e = refl
-none_is (Some n) true is e = cc
-none_is (Some n) false is e = cc

@@ -1,6 +1,6 @@
 -- The due-date value of a reading: the values that a meter stored at a due date, with the date that it sends along
 -- (OMS Volume 2, due-date values; EN 13757-3, storage numbers).
-use Rattle.std.specs.Prelude.{◌≡◌, ℕ, ◌<◌, ◌^◌, Bool, false, not, ◌&&◌, ◌==◌, nat_le, if◌then◌else◌, List, [], ◌∷◌, filter, Option, None, Some}
+use Rattle.std.specs.Prelude.{◌≡◌, ℕ, Bool, false, not, ◌&&◌, ◌==◌, nat_le, if◌then◌else◌, List, [], ◌∷◌, filter, Option, None, Some}
 use Rattle.std.specs.Option.{option_or}
 use Rattle.std.specs.List.{filter_map, list_any}
 use Rattle.std.specs.Ordering.{nat_cmp, ordering_then}

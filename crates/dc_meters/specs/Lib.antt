@@ -5,3 +5,5 @@ pub mod Due
 pub mod Steps
 pub mod Replay
 pub mod Orders
+pub mod Ascending
+pub mod Places

@@ -6,6 +6,7 @@ ghost use Rattle.dc_changes.specs.Size.{size_of, empty_size};
 ghost use Rattle.dc_changes.specs.Valid.{IsState};
 ghost use Rattle.std.specs.VecDeque.Iter.{deque_iter_rest};
 ghost use Rattle.dc_meters.specs.Orders.{readings_from, reading_of, serials_of, due_serials};
+ghost use Rattle.dc_meters.specs.Places.{by_flat};
 
 mod apply;
 mod check;
@@ -13,13 +14,13 @@ mod decode;
 mod encode;
 mod replay;
 
-use crate::{Meter, Reading, ReadingList, Serials};
+use crate::{Meter, MeterMap, Place, Reading, ReadingList, Serials};
 use dc_address::Identity;
 use dc_changes::CommandLine;
 use dc_units::Date;
 use std::alloc::Allocator;
 use std::collections::btree_map::Iter;
-use std::collections::{BTreeMap, VecDeque, vec_deque};
+use std::collections::{VecDeque, btree_set, vec_deque};
 use std::marker::Model;
 
 /// The bytes that a state without meters and readings is counted as.
@@ -29,7 +30,7 @@ const EMPTY_SIZE: u32 = 153;
 #[derive(Drop)]
 pub struct House<A: Allocator + Copy> {
     alloc: A,
-    meters: BTreeMap<Identity, Meter<A>, A>,
+    meters: MeterMap<A>,
     readings: ReadingList<A>,
     next_serial: u64,
     confirmed: u64,
@@ -58,7 +59,7 @@ impl<A: Allocator + Copy> House<A> {
     {
         House {
             alloc,
-            meters: BTreeMap::new(alloc),
+            meters: MeterMap::new(alloc),
             readings: ReadingList::new(alloc),
             next_serial: 1,
             confirmed: 0,
@@ -131,6 +132,14 @@ impl<A: Allocator + Copy> House<A> {
         ensures is_state { IsState self.now.budget self.now.state }
     {
         self.meters.iter()
+    }
+
+    /// The registered meters' places: by flat, byte by byte, and in a flat by identity. It takes no memory.
+    pub fn meters_by_flat(&self) -> btree_set::Iter<'_, Place>
+        ensures places { result ≡ by_flat self.now.state.meters }
+        ensures is_state { IsState self.now.budget self.now.state }
+    {
+        self.meters.by_flat()
     }
 
     /// The readings that aren't confirmed, by serial.

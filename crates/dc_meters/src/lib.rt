@@ -9,18 +9,22 @@
 //! exactly where they spell nothing.
 //!
 //! A telegram costs one look-up and one copy of its body, whatever the number of readings held. A confirmation costs
-//! what it drops. What is asked of the readings costs what it shows, by orders that the house keeps beside the state:
-//! from a serial on, by meter ([`House::serials_of`]) and by due date ([`House::due`]). Whether a primary address is
-//! taken is looked up by going over the meters. Bytes are read in one pass, and a body is copied once.
+//! what it drops. What is asked of the meters and the readings costs what it shows, by orders that the house keeps
+//! beside the state: of the readings from a serial on, by meter ([`House::serials_of`]) and by due date
+//! ([`House::due`]); of the meters by flat ([`House::meters_by_flat`]), and by bus line and primary address, so that
+//! whether an address is taken is one look-up. Bytes are read in one pass, and a body is copied once.
 #![tactic(auto)]
 
 mod due;
 mod filed;
 mod house;
 mod meter;
+mod meter_map;
+mod meter_orders;
 mod orders;
 mod part;
 mod parts;
+mod place;
 mod points;
 mod reading;
 mod reading_list;
@@ -32,7 +36,9 @@ pub use due::{DueDays, DuePoints, StorageDates};
 pub use filed::Filed;
 pub use house::House;
 pub use meter::Meter;
+use meter_map::MeterMap;
 pub use part::Part;
+pub use place::Place;
 pub use points::Points;
 pub use reading::Reading;
 use reading_list::ReadingList;

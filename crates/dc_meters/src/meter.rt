@@ -2,7 +2,7 @@
 
 ghost use Rattle.std.specs.Prelude.{◌≡◌, ◌+◌, ◌≤◌, ◌==◌, if◌then◌else◌, length, [], Some, true, OnOk, OnErr, IfOk, ◌∷◌, ◌++◌, ◌<◌, ◌^◌, All};
 ghost use Rattle.dc_changes.specs.Apply.{joined};
-ghost use Rattle.dc_changes.specs.Accepts.{continues, occupies, same_primary};
+ghost use Rattle.dc_changes.specs.Accepts.{continues};
 ghost use Rattle.dc_changes.specs.Size.{meter_size, parts_size, reading_size};
 ghost use Rattle.dc_changes.specs.Flat.{IsFlat};
 ghost use Rattle.dc_changes.specs.Valid.{IsMeter, IsPart, IsReading, most_parts};
@@ -114,6 +114,15 @@ impl<A: Allocator> Meter<A> {
         12 + u32::from(self.flat.len()) + parts_size(&self.parts)
     }
 
+    /// The bytes that it is counted as once it has no open part.
+    pub(crate) fn closed_size(&self) -> u32
+        ensures size { result ≡ meter_size (record self.now { parts = [] }) }
+        ensures bound { result ≤ 24 }
+        ensures is_meter { IsMeter (record self.now { parts = [] }) }
+    {
+        12 + u32::from(self.flat.len())
+    }
+
     /// The bytes that a part of this number drops: part 1 drops what was open.
     pub(crate) fn dropped_size(&self, number: u8) -> u32
         ensures size { result ≡ (if number == 1 then parts_size self.now.parts else 0) }
@@ -136,13 +145,6 @@ impl<A: Allocator> Meter<A> {
         } else {
             18 + u32::from(self.flat.len())
         }
-    }
-
-    /// Whether it has this primary address on this bus line.
-    pub(crate) fn occupies(&self, line: u8, address: Option<Primary>) -> bool
-        ensures { result ≡ occupies line address self.now }
-    {
-        self.line == line && is_same(address, self.address)
     }
 
     /// It belongs to another flat from now on.
@@ -243,14 +245,5 @@ impl<A: Allocator + Copy> Meter<A> {
                 Err(refused)
             }
         }
-    }
-}
-
-fn is_same(address: Option<Primary>, taken: Option<Primary>) -> bool
-    ensures { result ≡ same_primary address taken }
-{
-    match (address, taken) {
-        (Some(address), Some(taken)) => taken.get() == address.get(),
-        _ => false,
     }
 }

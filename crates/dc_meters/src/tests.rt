@@ -16,6 +16,7 @@ use std::test::Fail;
 mod decoding;
 mod due;
 mod orders;
+mod places;
 
 // The meter 12345678.PAD.01.07 tells a volume, and then a date and the volume on it.
 const FIRST: &[u8] =
@@ -173,12 +174,12 @@ fn the_register_changes(rt: HostRuntime) -> Result<(), Fail> {
 }
 
 // Each request of each change is refused in turn: nothing changes, and the same change then succeeds. A fitted meter
-// takes room in the map; a first part its body and room for parts; the last part its body, the day of its storage
+// takes room in the map and in its two orders; a first part its body and room for parts; the last part its body, the day of its storage
 // number, its due days, and room for the reading and in its two orders.
 #[test]
 fn each_growth_is_refused_in_turn(rt: HostRuntime) -> Result<(), Fail> {
     let heap = Refusing::new(rt.alloc());
-    for (at, wanted) in [(0usize, 1u64), (1, 2), (2, 6)] {
+    for (at, wanted) in [(0usize, 3u64), (1, 2), (2, 6)] {
         let mut refused = 0;
         for k in 1..20u64 {
             heap.refuse(0);

@@ -1,8 +1,9 @@
 -- The page in a group writer's buffer (this product's image format).
 use Rattle.std.specs.Prelude.{◌≡◌, ℕ, ◌-◌, ◌≤◌, List, ◌++◌, length, take, drop, replicate}
+use Rattle.dc_pages.specs.Group.{page_payload, head_len}
 
 -- so many bytes are used behind the head, and those that follow are zero
 pub record IsBuffer (used : ℕ) (page : List ℕ) : Type 0 where
-  pub small : used ≤ 488
+  pub small : used ≤ page_payload
   pub long : length page ≡ 512
-  pub clean : drop 24 page ≡ take used (drop 24 page) ++ replicate (488 - used) 0
+  pub clean : drop head_len page ≡ take used (drop head_len page) ++ replicate (page_payload - used) 0

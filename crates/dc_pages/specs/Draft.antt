@@ -1,5 +1,6 @@
 -- What a group writer holds: this product's image format.
 use Rattle.std.specs.Prelude.{ℕ, ◌+◌, ◌*◌, ◌≤◌, List, length}
+use Rattle.dc_pages.specs.Group.{page_payload}
 
 -- A group that is being written from a place on, in a half that ends before `limit`: its stamp, how
 -- many of its pages are written, and the bytes that wait for the next page to be full.
@@ -15,12 +16,12 @@ pub record Draft : Type 0 where
 
 -- how many bytes went in
 abbrev pub draft_len : Draft → ℕ
-draft_len draft = 488 * draft.pages + length draft.buffer
+draft_len draft = page_payload * draft.pages + length draft.buffer
 
 -- so many bytes more and a commit sector fit
 abbrev pub HasRoom : Draft → ℕ → Type 0
-HasRoom draft more = 488 * draft.place + draft_len draft + more + 488 ≤ 488 * draft.limit
+HasRoom draft more = page_payload * draft.place + draft_len draft + more + page_payload ≤ page_payload * draft.limit
 
 -- so many bytes and a commit sector fit from a place on, in a half that ends before `limit`
 abbrev pub FitsAt : ℕ → ℕ → ℕ → Type 0
-FitsAt place limit len = 488 * place + len + 488 ≤ 488 * limit
+FitsAt place limit len = page_payload * place + len + page_payload ≤ page_payload * limit

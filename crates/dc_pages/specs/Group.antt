@@ -5,6 +5,13 @@ use Rattle.dc_sectors.specs.declared.sector.Sector.TheVariants.{Bytes}
 use Rattle.dc_sectors.specs.Disk.{Image}
 use Rattle.dc_fields.specs.Fields.{field, number_bytes}
 
+-- a page's sector: the bytes of its head, and the bytes of payload behind it
+abbrev pub head_len : ℕ
+head_len = 24
+
+abbrev pub page_payload : ℕ
+page_payload = 488
+
 -- the kinds of sectors: a page of a whole state, a page of changes, and the commit sector of either
 abbrev pub base_kind : ℕ
 base_kind = 0x42
@@ -29,7 +36,7 @@ pub record IsPage (version kind session sequence index : ℕ) (content : List �
   pub bytes : List ℕ
   pub readable : sector ≡ Bytes bytes
   pub head : IsHead kind version (length content) index session sequence bytes
-  pub content_is : take (length content) (drop 24 bytes) ≡ content
+  pub content_is : take (length content) (drop head_len bytes) ≡ content
 
 -- a readable commit sector of a group of so many pages
 pub record IsCommit (version session sequence pages : ℕ) (sector : Sector) : Type 0 where
@@ -37,15 +44,15 @@ pub record IsCommit (version session sequence pages : ℕ) (sector : Sector) : T
   pub readable : sector ≡ Bytes bytes
   pub head : IsHead commit_kind version 0 pages session sequence bytes
 
--- the i-th piece of 488 bytes; the last may be shorter
+-- the i-th piece of a payload, as a page has room for; the last may be shorter
 abbrev pub piece : ℕ → List ℕ → List ℕ
-piece i payload = take 488 (drop (488 * i) payload)
+piece i payload = take page_payload (drop (page_payload * i) payload)
 
 -- A complete group: its pages hold the payload piece by piece, and a commit sector follows. The half
 -- ends before sector `limit`.
 pub record IsGroup (version kind session sequence : ℕ) (payload : List ℕ) (pages place limit : ℕ) (image : Image) : Type 0 where
-  pub some : 488 * (pages - 1) < length payload
-  pub all : length payload ≤ 488 * pages
+  pub some : page_payload * (pages - 1) < length payload
+  pub all : length payload ≤ page_payload * pages
   pub fits : place + pages < limit
   pub page : (i : ℕ) → i < pages → IsPage version kind session sequence i (piece i payload) (image (place + i))
   pub commit : IsCommit version session sequence pages (image (place + pages))
@@ -81,7 +88,7 @@ head_bytes kind version used index session sequence =
 -- the sector that is written for a page, with zeros behind its content
 unfoldable pub page_bytes : (version kind session sequence index : ℕ) → List ℕ → List ℕ
 page_bytes version kind session sequence index content =
-    head_bytes kind version (length content) index session sequence ++ (content ++ replicate (488 - length content) 0)
+    head_bytes kind version (length content) index session sequence ++ (content ++ replicate (page_payload - length content) 0)
 
 -- the sector that is written for the commit of so many pages: it has no content
 abbrev pub commit_bytes : (version session sequence pages : ℕ) → List ℕ

@@ -1,12 +1,12 @@
 -- How far a group stands, and where it is cut off (this product's image format).
 use Rattle.std.specs.Prelude.{◌≡◌, ◌⊎◌, ◌<◌, ℕ, ◌+◌, ◌-◌, ◌*◌, ◌≤◌, List, length}
 use Rattle.dc_sectors.specs.Disk.{Image}
-use Rattle.dc_pages.specs.Group.{IsPage, IsCommit, piece}
+use Rattle.dc_pages.specs.Group.{IsPage, IsCommit, piece, page_payload}
 
 -- the first i sectors are pages of a group and hold this payload
 pub record IsBegun (version kind session sequence : ℕ) (payload : List ℕ) (i place limit : ℕ) (image : Image) : Type 0 where
-  pub some : (i ≡ 0) ⊎ (488 * (i - 1) < length payload)
-  pub all : length payload ≤ 488 * i
+  pub some : (i ≡ 0) ⊎ (page_payload * (i - 1) < length payload)
+  pub all : length payload ≤ page_payload * i
   pub fits : place + i ≤ limit
   pub page : (k : ℕ) → k < i → IsPage version kind session sequence k (piece k payload) (image (place + k))
 
@@ -18,6 +18,6 @@ pub record IsCutAt (version kind sequence place limit n : ℕ) (image : Image) :
   pub i : ℕ
   pub at : n ≡ place + i
   pub begun : IsBegun version kind session sequence payload i place limit image
-  pub no_page : n < limit → length payload ≡ 488 * i → (s : ℕ) (content : List ℕ) → (i ≡ 0) ⊎ (s ≡ session) → 0 < length content → length content ≤ 488
+  pub no_page : n < limit → length payload ≡ page_payload * i → (s : ℕ) (content : List ℕ) → (i ≡ 0) ⊎ (s ≡ session) → 0 < length content → length content ≤ page_payload
       → IsPage version kind s sequence i content (image n) → ⊥
   pub no_commit : n < limit → 0 < i → IsCommit version session sequence i (image n) → ⊥

@@ -4,7 +4,7 @@ use Rattle.dc_sectors.specs.declared.sector.Sector.{Sector}
 use Rattle.dc_sectors.specs.declared.sector.Sector.TheVariants.{Bytes, Unreadable}
 use Rattle.dc_sectors.specs.Disk.{Image, Choices, LeavesOnly}
 use Rattle.dc_pages.specs.Draft.{Draft, draft_len}
-use Rattle.dc_pages.specs.Group.{IsPage, IsGroup, piece, page_bytes, commit_bytes}
+use Rattle.dc_pages.specs.Group.{IsPage, IsGroup, piece, page_bytes, commit_bytes, page_payload}
 
 -- The image is the old one, but each of those sectors may be as written or unreadable instead.
 pub record IsTorn (first count : ℕ) (old written image : Image) : Type 0 where
@@ -43,7 +43,7 @@ pub record IsOnDisk {D : Type 0} (reads : D → Image) (choices : D → Choices)
 pub record IsGoing {D : Type 0} (reads : D → Image) (choices : D → Choices) (moment : D → ℕ) (images_since : D → ℕ → Image → Type 0)
     (start disk : D) (draft : Draft) (payload : List ℕ) : Type 0 where
   pub count : length payload ≡ draft_len draft
-  pub buffered : draft.buffer ≡ drop (488 * draft.pages) payload
+  pub buffered : draft.buffer ≡ drop (page_payload * draft.pages) payload
   pub on_disk : IsOnDisk reads choices moment images_since start disk draft.version draft.kind draft.session draft.sequence draft.place draft.limit draft.pages payload
 
 -- each sector of the group has the bytes that are written for it

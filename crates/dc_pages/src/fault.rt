@@ -1,3 +1,5 @@
+//! The faults of a group, with their numbers and names.
+
 ghost use Rattle.std.specs.Prelude.{◌≡◌};
 ghost use Rattle.dc_pages.specs.Fault.{number_of, name_of};
 

@@ -1,5 +1,7 @@
+//! The head of a sector of a group.
+
 ghost use Rattle.std.specs.Prelude.{◌≡◌, ◌++◌, drop};
-ghost use Rattle.dc_pages.specs.Group.{IsHead, head_bytes};
+ghost use Rattle.dc_pages.specs.Group.{IsHead, head_bytes, head_len};
 
 use crate::Stamp;
 use dc_fields::{put_u16, put_u32, put_u64, u16_at, u32_at, u64_at};
@@ -16,8 +18,8 @@ pub(crate) const COMMIT: u8 = 0x43;
 /// The length of a head: the payload follows.
 pub(crate) const HEAD: usize = 24;
 
-/// The payload of one sector.
-pub(crate) const PAYLOAD: usize = 488;
+/// The bytes of payload that one page has room for.
+pub const PAYLOAD: usize = 488;
 
 /// What the head of a page or commit sector says.
 #[derive(Clone, Copy)]
@@ -47,7 +49,7 @@ pub(crate) fn read_head(sector: &[u8; 512]) -> Head
 
 /// Writes the head, and leaves what follows.
 pub(crate) fn write_head(sector: &mut [u8; 512], head: &Head)
-    ensures { sector.new ≡ head_bytes head.now.kind head.now.version head.now.used head.now.index head.now.stamp.session head.now.stamp.sequence ++ drop 24 sector.old }
+    ensures { sector.new ≡ head_bytes head.now.kind head.now.version head.now.used head.now.index head.now.stamp.session head.now.stamp.sequence ++ drop head_len sector.old }
 {
     sector[0] = head.kind;
     sector[1] = head.version;

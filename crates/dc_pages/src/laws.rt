@@ -1,3 +1,5 @@
+//! The laws of groups, each a function whose contract is the law.
+
 ghost use Rattle.dc_pages.specs.Laws.{CompleteAsWritten, PartIsIncomplete, CutIsIncomplete, OneCut, OneGroup};
 
 /// Stamps alone decide that a group is complete only as it was written.

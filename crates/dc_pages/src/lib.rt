@@ -22,7 +22,7 @@ mod streaming;
 mod writer;
 
 pub use fault::GroupFault;
-pub use head::{BASE, CHANGES};
+pub use head::{BASE, CHANGES, PAYLOAD};
 pub use laws::{
     complete_as_written, cut_is_incomplete, one_cut_at_a_place, one_group_at_a_place,
     part_is_incomplete,

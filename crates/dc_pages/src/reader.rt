@@ -1,7 +1,9 @@
+//! A group is read.
+
 ghost use Rattle.std.specs.Prelude.{◌≡◌, ◌≢◌, ◌⊎◌, ◌<◌, ◌≤◌, ◌↔◌, ◌+◌, ◌-◌, ◌^◌, ◌++◌, if◌then◌else◌, ℕ, IfOk, OnOk, IsErrOf, IsTrue, length, take, drop};
 ghost use Rattle.dc_base.specs.Failures.{HasRisen};
 ghost use Rattle.dc_sectors.specs.Disk.{IsImage, Elapses, LeavesOnly};
-ghost use Rattle.dc_pages.specs.Group.{IsGroup, commit_kind};
+ghost use Rattle.dc_pages.specs.Group.{IsGroup, commit_kind, page_payload, head_len};
 ghost use Rattle.dc_pages.specs.Judging.{Judged, IsStep};
 ghost use Rattle.dc_pages.specs.Reading.{IsBegun, IsCutAt};
 
@@ -31,14 +33,14 @@ struct Wanted {
 impl Wanted {
     /// The head is that of a page of the group, at that index.
     fn is_page(&self, head: &Head, index: u32) -> bool
-        ensures { IsTrue result ↔ ((head.now.kind ≡ self.now.kind) × (head.now.version ≡ self.now.version) × (head.now.stamp.sequence ≡ self.now.sequence) × (head.now.index ≡ index) × (0 < head.now.used) × (head.now.used ≤ 488)) }
+        ensures { IsTrue result ↔ ((head.now.kind ≡ self.now.kind) × (head.now.version ≡ self.now.version) × (head.now.stamp.sequence ≡ self.now.sequence) × (head.now.index ≡ index) × (0 < head.now.used) × (head.now.used ≤ page_payload)) }
     {
         head.kind == self.kind
             && head.version == self.version
             && head.stamp.sequence == self.sequence
             && head.index == index
             && head.used > 0
-            && head.used <= 488
+            && usize::from(head.used) <= PAYLOAD
     }
 
     /// The head is that of the group's commit sector, behind so many pages of that session.
@@ -94,13 +96,13 @@ struct Reading<A: Allocator> {
 impl<A: Allocator> Reading<A> {
     /// Adds what a page holds.
     fn take(&mut self, bytes: &[u8; 512], used: u16, session: u64) -> Result<(), NoMemory>
-        requires used { used ≤ 488 }
+        requires used { used ≤ page_payload }
         requires more { self.old.pages < 2 ^ 32 - 1 }
         ensures long { length bytes.now ≡ 512 }
         ensures wanted { self.new.wanted ≡ self.old.wanted }
         ensures pages { OnOk result (self.new.pages ≡ self.old.pages + 1) }
         ensures session { OnOk result (self.new.session ≡ session) }
-        ensures payload { OnOk result (self.new.payload.items ≡ self.old.payload.items ++ take used (drop 24 bytes.now)) }
+        ensures payload { OnOk result (self.new.payload.items ≡ self.old.payload.items ++ take used (drop head_len bytes.now)) }
     {
         self.payload
             .extend_from_slice(&bytes[HEAD..HEAD + used as usize])?;

@@ -1,3 +1,5 @@
+//! The stamp that the sectors of a group share.
+
 /// What the sectors of one group share.
 #[derive(Clone, Copy, Debug, PartialEq, Eq)]
 pub struct Stamp {

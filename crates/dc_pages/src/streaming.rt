@@ -1,4 +1,6 @@
-ghost use Rattle.std.specs.Prelude.{◌≡◌, ◌≤◌, ◌↔◌, ℕ, None, IsTrue};
+//! A group as a sink of bytes.
+
+ghost use Rattle.std.specs.Prelude.{◌≡◌, ◌≤◌, ◌+◌, ◌↔◌, ℕ, None, IsTrue};
 ghost use Rattle.dc_base.specs.Failures.{HasRisen};
 ghost use Rattle.dc_pages.specs.Draft.{HasRoom};
 ghost use Rattle.dc_pages.specs.Streaming.{GoesInto, BreaksOff};
@@ -18,14 +20,15 @@ pub struct GroupSink<'a, D: Disk> {
     pub disk: &'a mut D,
     /// The group so far.
     pub writer: GroupWriter,
-    /// How many puts failed. At `u64::MAX` it stays.
-    pub failures: u64,
+    /// How many puts the group had no room for. At `u64::MAX` it stays. A call of the disk that failed is counted by the
+    /// disk alone.
+    pub refused: u64,
 }
 
 impl<D: Disk> Sink for GroupSink<'_, D> {
     ghost written = { λ _. None };
 
-    ghost put_failures = { λ sink. sink.failures };
+    ghost put_failures = { λ sink. D.failures sink.disk.now + sink.refused };
 
     ghost puts = { λ old bytes new. GoesInto D.honest D.reads D.choices D.moment D.images_since D.sectors D.failures old.disk.now new.disk.now old.writer new.writer bytes × (new.disk.ghost_name ≡ old.disk.ghost_name) };
 
@@ -33,15 +36,12 @@ impl<D: Disk> Sink for GroupSink<'_, D> {
 
     fn put(&mut self, bytes: &[u8]) -> Result<(), IoFault> {
         if !self.writer.has_room(bytes.len()) || self.writer.limit() > self.disk.count() {
-            self.failures = one_failure_more(self.failures);
+            self.refused = one_failure_more(self.refused);
             return Err(IoFault);
         }
         match self.writer.put(self.disk, bytes) {
             Ok(()) => Ok(()),
-            Err(Failed) => {
-                self.failures = one_failure_more(self.failures);
-                Err(IoFault)
-            }
+            Err(Failed) => Err(IoFault),
         }
     }
 }

@@ -1,3 +1,5 @@
+//! Tests: groups with their bytes, their stops, and failures.
+
 // The bytes of a group's sectors, groups read back, and what a stop leaves.
 ghost use Rattle.std.specs.Prelude.{◌≡◌, ◌<◌, ◌≤◌, ◌+◌, ◌*◌, [], ◌∷◌, length};
 ghost use Rattle.std.specs.List.{AllZip};
@@ -151,12 +153,12 @@ fn a_group_takes_pieces_while_it_has_room(rt: HostRuntime) -> Result<(), Fail> {
     let mut sink = GroupSink {
         disk: &mut disk,
         writer: GroupWriter::begin(9, 12, stamp, CHANGES, 2),
-        failures: 0,
+        refused: 0,
     };
     sink.put(&[3; 400])?;
     sink.put(&[4; 500])?;
     assert_eq!(rt; sink.put(&[5; 77]), Err(IoFault));
-    assert_eq!(rt; sink.failures, 1);
+    assert_eq!(rt; sink.refused, 1);
     sink.put(&[5; 76])?;
     assert!(rt; sink.writer.has_room(0));
     assert!(rt; !sink.writer.has_room(1));

@@ -1,8 +1,10 @@
+//! A group is written, page by page.
+
 ghost use Rattle.std.specs.Prelude.{◌≡◌, ◌⊎◌, ◌<◌, ◌≤◌, ◌+◌, ◌-◌, ◌*◌, ◌++◌, [], List, ℕ, take, length, min, OnOk, OnErr, IfOk, IsTrue, ◌↔◌};
 ghost use Rattle.dc_base.specs.Failures.{HasRisen};
 ghost use Rattle.dc_sectors.specs.Disk.{Image, LeavesOnly};
 ghost use Rattle.dc_pages.specs.Draft.{draft_len, HasRoom};
-ghost use Rattle.dc_pages.specs.Group.{piece};
+ghost use Rattle.dc_pages.specs.Group.{piece, page_payload};
 ghost use Rattle.dc_pages.specs.Writing.{IsPartOf, IsOnDisk, IsGoing, IsClosed};
 
 use crate::Stamp;
@@ -32,8 +34,9 @@ impl Model for GroupWriter {
 
     ghost use Rattle.std.specs.Prelude.{take, drop};
     ghost use Rattle.dc_pages.specs.Buffer.{IsBuffer};
+    ghost use Rattle.dc_pages.specs.Group.{head_len};
 
-    ghost view = { λ w. record { place = w.place; limit = w.limit; version = w.version; kind = w.kind; session = w.stamp.session; sequence = w.stamp.sequence; pages = w.index; buffer = take w.used (drop 24 w.page) } };
+    ghost view = { λ w. record { place = w.place; limit = w.limit; version = w.version; kind = w.kind; session = w.stamp.session; sequence = w.stamp.sequence; pages = w.index; buffer = take w.used (drop head_len w.page) } };
 
     ghost invariant = { λ w. IsBuffer w.used w.page };
 }
@@ -74,7 +77,7 @@ impl GroupWriter {
 
     // Takes as many of the bytes as the page has room for, and answers how many.
     fn fill(&mut self, bytes: &[u8]) -> usize
-        ensures count { result ≡ min (488 - length self.old.buffer) (length bytes.now) }
+        ensures count { result ≡ min (page_payload - length self.old.buffer) (length bytes.now) }
         ensures filled { self.new ≡ record self.old { buffer = self.old.buffer ++ take result bytes.now } }
     {
         let used = self.used as usize;
@@ -97,6 +100,7 @@ impl GroupWriter {
             → LeavesOnly D.moment D.images_since start disk.new (IsPartOf self.old.version self.old.kind self.old.session self.old.sequence self.old.place self.old.limit (D.reads start)) }
         ensures count { D.sectors disk.new ≡ D.sectors disk.old }
         ensures failures { D.failures disk.old ≤ D.failures disk.new }
+        ensures passed { OnOk result (D.failures disk.new ≡ D.failures disk.old) }
         ensures failed { OnErr result (HasRisen (D.failures disk.old) (D.failures disk.new)) }
     {
         let at = self.place + self.index;
@@ -119,7 +123,7 @@ impl GroupWriter {
     fn make_room<D: Disk>(&mut self, disk: &mut D) -> Result<(), Failed>
         requires room { HasRoom self.old 1 }
         requires limit { self.old.limit ≤ D.sectors disk.old }
-        ensures room { OnOk result (length self.new.buffer < 488) }
+        ensures room { OnOk result (length self.new.buffer < page_payload) }
         ensures length { OnOk result (draft_len self.new ≡ draft_len self.old) }
         ensures same { OnOk result (self.new ≡ record self.old { pages = self.new.pages; buffer = self.new.buffer }) }
         ensures going { D.honest → (start : D) (payload : List ℕ) → IsGoing D.reads D.choices D.moment D.images_since start disk.old self.old payload
@@ -128,6 +132,7 @@ impl GroupWriter {
             → LeavesOnly D.moment D.images_since start disk.new (IsPartOf self.old.version self.old.kind self.old.session self.old.sequence self.old.place self.old.limit (D.reads start)) }
         ensures count { D.sectors disk.new ≡ D.sectors disk.old }
         ensures failures { D.failures disk.old ≤ D.failures disk.new }
+        ensures passed { OnOk result (D.failures disk.new ≡ D.failures disk.old) }
         ensures failed { OnErr result (HasRisen (D.failures disk.old) (D.failures disk.new)) }
     {
         if (self.used as usize) < PAYLOAD {
@@ -151,6 +156,7 @@ impl GroupWriter {
             → LeavesOnly D.moment D.images_since start disk.new (IsPartOf self.old.version self.old.kind self.old.session self.old.sequence self.old.place self.old.limit (D.reads start)) }
         ensures count { D.sectors disk.new ≡ D.sectors disk.old }
         ensures failures { D.failures disk.old ≤ D.failures disk.new }
+        ensures passed { OnOk result (D.failures disk.new ≡ D.failures disk.old) }
         ensures failed { OnErr result (HasRisen (D.failures disk.old) (D.failures disk.new)) }
     {
         let mut at = 0;
@@ -177,6 +183,7 @@ impl GroupWriter {
             ⊎ ((written : Image) × IsClosed D.moment D.images_since start disk.new (D.reads start) self.version self.kind self.session self.sequence self.place self.limit (self.pages + 1) payload written)) }
         ensures count { D.sectors disk.new ≡ D.sectors disk.old }
         ensures failures { D.failures disk.old ≤ D.failures disk.new }
+        ensures passed { OnOk result (D.failures disk.new ≡ D.failures disk.old) }
         ensures failed { OnErr result (HasRisen (D.failures disk.old) (D.failures disk.new)) }
     {
         let pages = self.index + 1;

@@ -1,90 +1,28 @@
--- Lines of a script, run one after the other.
-use Rattle.std.proofs.Common.{◌≡◌, ◌≤◌, ◌+◌, ℕ, List, [], ◌∷◌, ◌++◌, length, take, drop, refl, ap, sym, subst, ◌∙◌, arith, append_assoc, length-append}
-use Rattle.std.specs.Prelude.{map}
-use Rattle.std.proofs.lemmas.List.{map-append, append-nil, take-append-le, drop-append-le, length-map, length-drop}
-use Rattle.std.proofs.Math.Seq.{take-length}
-use Rattle.dc_sectors.specs.Disk.{Image, Choices, IsImage, LeavesOnly}
-use Rattle.dc_sectors.proofs.Moments.{followed}
+-- Lines of a script, done one after the other.
+use Rattle.std.proofs.Common.{◌≡◌, ◌≤◌, ◌+◌, ℕ, List, [], ◌∷◌, ◌++◌, length, refl, ap, sym, subst, ◌∙◌, arith, append_assoc, append-nil, length-append, inl}
+use Rattle.std.specs.Prelude.{Bool, true, false, Result, Ok, Err, OnOk, OnErr}
+use Rattle.dc_sectors.specs.Disk.{Image, Choices}
 use Rattle.dc_changes.specs.State.{State}
 use Rattle.dc_changes.specs.Valid.{last_moment}
-use Rattle.dc_changes.specs.declared.change.Change.{Change}
-use Rattle.dc_recovery.specs.Halves.{half_len_of}
-use Rattle.dc_core.specs.Core.{Core, opened}
-use Rattle.dc_core.specs.Event.{Event}
-use Rattle.dc_core.specs.Step.{next}
-use Rattle.dc_core.specs.Transcript.{Turn, leads, IsChain, accepted_by, accepted_in}
-use Rattle.dc_core.specs.Promised.{promised_in, HoldsFront}
-use Rattle.dc_core.specs.Known.{KnowsItsMeters}
-use Rattle.dc_core.specs.Images.{Machine, IsAt, StandsForPromised}
-use Rattle.dc_core.specs.Text.{run_text}
-use Rattle.dc_core.specs.Run.{Ran}
-use Rattle.dc_core.proofs.Going.{ran_none}
-use Rattle.dc_poller.specs.Script.{AskFor, LinesRan, events_at, events_from, moment_behind, own_text, count_of, lines_text}
+use Rattle.dc_core.specs.Core.{opened}
+use Rattle.dc_core.specs.Event.{Event, Answer}
+use Rattle.dc_core.specs.Text.{answer_text}
+use Rattle.dc_core.specs.Transcript.{Turn, leads, IsChain}
+use Rattle.dc_core.specs.Images.{Machine, IsAt}
+use Rattle.dc_address.specs.declared.identity.Identity.{Identity}
+use Rattle.dc_poller.specs.Link.{Link, absent, linked, lost, link_by}
+use Rattle.dc_poller.specs.Poll.{gateway_line, Phase, Happening, IsEnd, to_start, happened_turns, happened_text}
+use Rattle.dc_poller.specs.Way.{Way}
+use Rattle.dc_poller.specs.Script.{AskFor, FailsAt, ScriptCut, LinesRan, LineRan, LineCut, IsThrough, Deed, Does, DoesPart, IsOneTurn, IsTurnOf, AreDone, deeds_turns, deeds_text, link_after, moment_behind, moment_after}
 use Rattle.dc_poller.specs.ScriptLine.{LineSeen, nothing, at, start, ask, hear, commit, office, poll, search, IsLineOf, HasBounds}
-
--- ---- what two runs leave, one after the other
-
-accepted_append : (core : Core) (turns more : List Turn) → accepted_in core (turns ++ more) ≡ accepted_in core turns ++ accepted_in (leads core turns) more
-accepted_append core [] more = refl
-accepted_append core (t ∷ turns) more =
-    ap (λ (x : List Change). accepted_by core t.0 t.1 ++ x) (accepted_append (next core t.0 t.1) turns more)
-    ∙ sym (append_assoc (accepted_by core t.0 t.1) (accepted_in (next core t.0 t.1) turns) (accepted_in (leads (next core t.0 t.1) turns) more))
-
-grown : (half_len : ℕ) (state : State) (promised : ℕ) (changes more : List Change) (image : Image) → StandsForPromised half_len state promised changes image → StandsForPromised half_len state promised (changes ++ more) image
-grown half_len state promised changes more image stands =
-    let within = stands.front.within in
-    record {
-      front = record { count = stands.front.count; within = omega (arith, within, length-append changes more); stands = rw take-append-le stands.front.stands };
-      all_promised = stands.all_promised;
-    }
-
-fewer : (half_len : ℕ) (state : State) (few promised : ℕ) (changes : List Change) (image : Image) → few ≤ promised → StandsForPromised half_len state promised changes image → StandsForPromised half_len state few changes image
-fewer half_len state few promised changes image less stands = let all = stands.all_promised in record { front = stands.front; all_promised = omega (arith, less, all) }
-
-module _ {D : Type 0} (honest : Type 0) (sectors : D → ℕ) (reads : D → Image) (choices : D → Choices) (moment : D → ℕ) (images_since : D → ℕ → Image → Type 0) where
-  -- the same run, and something else of its text
-  pub ran_as : (budget : ℕ) (state : State) (before : List Turn) (events : List Event) (wrote other : List ℕ → Type 0) (first new : Machine D)
-      → ((text : List ℕ) → wrote text → other text) → Ran honest sectors reads choices moment images_since budget state before events wrote first new
-      → Ran honest sectors reads choices moment images_since budget state before events other first new
-  ran_as budget state before events wrote other first new goes ran = record {
-    turns = ran.turns;
-    events_are = ran.events_are;
-    chain = ran.chain;
-    text = goes (run_text ran.turns) ran.text;
-    at = ran.at;
-    holds = ran.holds;
-    knows = ran.knows;
-    count = ran.count;
-    kept = ran.kept;
-    leaves = ran.leaves;
-    behind = ran.behind;
-  }
-
-module _ {D : Type 0} (honest : Type 0) (sectors : D → ℕ) (reads : D → Image) (choices : D → Choices) (moment_of : D → ℕ) (images_since : D → ℕ → Image → Type 0) where
-  -- a line that is no event
-  pub ran_idle : (budget : ℕ) (state : State) (before : List Turn) (moment : ℕ) (asked : LineSeen) (wrote : List ℕ → Type 0) (machine : Machine D) → events_at moment asked ≡ []
-      → IsChain budget (opened state) before → IsAt honest sectors reads choices machine (leads (opened state) before)
-      → (honest → (image : Image) → images_since machine.store.disk (moment_of machine.store.disk) image → IsImage (choices machine.store.disk) image) → wrote []
-      → Ran honest sectors reads choices moment_of images_since budget state before (events_at moment asked) wrote machine machine
-  ran_idle budget state before moment asked wrote machine none chain is_at only text =
-      subst (λ (es : List Event). Ran honest sectors reads choices moment_of images_since budget state before es wrote machine machine) (sym none)
-      (ran_none honest sectors reads choices moment_of images_since budget state before wrote machine chain is_at only text)
+use Rattle.dc_poller.specs.Went.{Went, TurnWent}
+use Rattle.dc_poller.proofs.Wents.{went_both, went_chain, went_at}
 
 -- ---- one line more
-
-abbrev pub moment_after : ℕ → List LineSeen → ℕ
-moment_after moment [] = moment
-moment_after moment (asked ∷ more) = moment_after (moment_behind moment asked) more
 
 moment_push : (moment : ℕ) (done : List LineSeen) (asked : LineSeen) → moment_after moment (done ++ asked ∷ []) ≡ moment_behind (moment_after moment done) asked
 moment_push moment [] asked = refl
 moment_push moment (first ∷ done) asked = moment_push (moment_behind moment first) done asked
-
-events_push : (moment : ℕ) (done : List LineSeen) (asked : LineSeen) → events_from moment (done ++ asked ∷ []) ≡ events_from moment done ++ events_at (moment_after moment done) asked
-events_push moment [] asked = append-nil (events_at moment asked)
-events_push moment (first ∷ done) asked =
-    ap (λ (es : List Event). events_at moment first ++ es) (events_push (moment_behind moment first) done asked)
-    ∙ sym (append_assoc (events_at moment first) (events_from (moment_behind moment first) done) (events_at (moment_after (moment_behind moment first) done) asked))
 
 ask_push : (lines : List (List ℕ)) (done : List LineSeen) (line : List ℕ) (rest : List (List ℕ)) (asked : LineSeen) → AskFor lines done (line ∷ rest) → IsLineOf line asked → AskFor lines (done ++ asked ∷ []) rest
 ask_push lines [] line rest asked before is = subst (λ (ls : List (List ℕ)). AskFor ls (asked ∷ []) rest) before (is, refl)
@@ -103,101 +41,99 @@ moment_fits moment (office line) fits bounds = fits
 moment_fits moment (poll line meter) fits bounds = fits
 moment_fits moment (search budget) fits bounds = fits
 
-count_at : (moment : ℕ) (asked : LineSeen) → length (events_at moment asked) ≡ count_of asked
-count_at moment nothing = refl
-count_at moment (at seconds) = refl
-count_at moment (start line meter) = refl
-count_at moment (ask line) = refl
-count_at moment (hear line answer) = refl
-count_at moment commit = refl
-count_at moment (office line) = refl
-count_at moment (poll line meter) = refl
-count_at moment (search budget) = refl
+done_push : (moment : ℕ) (link : Link) (done : List LineSeen) (deeds : List Deed) (asked : LineSeen) (deed : Deed) → AreDone moment link done deeds
+    → Does (moment_after moment done) asked (link_after link deeds) deed.left deed.turns deed.text → AreDone moment link (done ++ asked ∷ []) (deeds ++ deed ∷ [])
+done_push moment link [] [] asked deed before does = (does, tt)
+done_push moment link [] (d ∷ deeds) asked deed before does = absurd before
+done_push moment link (first ∷ done) [] asked deed before does = absurd before
+done_push moment link (first ∷ done) (d ∷ deeds) asked deed before does = (before.0, done_push (moment_behind moment first) d.left done deeds asked deed before.1 does)
 
-lines_push : (moment : ℕ) (done : List LineSeen) (asked : LineSeen) (turns more : List Turn) → length turns ≡ length (events_from moment done) → length more ≡ count_of asked
-    → lines_text (done ++ asked ∷ []) (turns ++ more) ≡ lines_text done turns ++ (own_text asked ++ run_text more)
-lines_push moment [] asked [] more none few =
-    let whole : take (count_of asked) more ≡ more = ap (λ (n : ℕ). take n more) (sym few) ∙ take-length more in
-    ap (λ (x : List ℕ). own_text asked ++ x) (append-nil (run_text (take (count_of asked) more)) ∙ ap run_text whole)
-lines_push moment [] asked (t ∷ turns) more none few = absurd (omega (arith, none))
-lines_push moment (first ∷ done) asked turns more all few =
-    let n : ℕ = count_of first in
-    let parts = length-append (events_at moment first) (events_from (moment_behind moment first) done) in
-    let here = count_at moment first in
-    let within : n ≤ length turns = omega (arith, all, parts, here) in
-    let left : length (drop n turns) ≡ length (events_from (moment_behind moment first) done) = omega (arith, length-drop n turns, all, parts, here) in
-    let behind = lines_push (moment_behind moment first) done asked (drop n turns) more left few in
-    let front : List ℕ = run_text (take n turns) in
-    let last : List ℕ = own_text asked ++ run_text more in
-    ap (λ (ts : List Turn). own_text first ++ (run_text ts ++ lines_text (done ++ asked ∷ []) (drop n (turns ++ more)))) (take-append-le n turns more within)
-    ∙ ap (λ (ts : List Turn). own_text first ++ (front ++ lines_text (done ++ asked ∷ []) ts)) (drop-append-le n turns more within)
-    ∙ ap (λ (x : List ℕ). own_text first ++ (front ++ x)) behind
-    ∙ ap (λ (x : List ℕ). own_text first ++ x) (sym (append_assoc front (lines_text done (drop n turns)) last))
-    ∙ sym (append_assoc (own_text first) (front ++ lines_text done (drop n turns)) last)
+link_push : (link : Link) (deeds : List Deed) (deed : Deed) → link_after link (deeds ++ deed ∷ []) ≡ deed.left
+link_push link [] deed = refl
+link_push link (d ∷ deeds) deed = link_push d.left deeds deed
+
+pub turns_push : (deeds : List Deed) (deed : Deed) → deeds_turns (deeds ++ deed ∷ []) ≡ deeds_turns deeds ++ deed.turns
+turns_push [] deed = append-nil deed.turns
+turns_push (d ∷ deeds) deed = ap (λ (x : List Turn). d.turns ++ x) (turns_push deeds deed) ∙ sym (append_assoc d.turns (deeds_turns deeds) deed.turns)
+
+text_push : (deeds : List Deed) (deed : Deed) → deeds_text (deeds ++ deed ∷ []) ≡ deeds_text deeds ++ deed.text
+text_push [] deed = append-nil deed.text
+text_push (d ∷ deeds) deed = ap (λ (x : List ℕ). d.text ++ x) (text_push deeds deed) ∙ sym (append_assoc d.text (deeds_text deeds) deed.text)
+
+-- ---- what is said of each result
+
+pub on_ok : {X E : Type 0} (result : Result X E) (A B : Type 0) → (A → B) → OnOk result A → OnOk result B
+on_ok (Ok x) A B f a = f a
+on_ok (Err e) A B f a = tt
+
+pub on_err : {X E : Type 0} (result : Result X E) (B : Type 0) → B → OnErr result B
+on_err (Ok x) B b = tt
+on_err (Err e) B b = b
+
+-- ---- which line a gateway is behind
+
+pub not_through : (link : Link) (line : ℕ) → ¬ (line ≡ gateway_line) → ¬ (IsThrough link line)
+not_through absent line other through = through
+not_through linked line other through = other through
+not_through lost line other through = other through
+
+pub is_through : (was_lost : Bool) (line : ℕ) → line ≡ gateway_line → IsThrough (link_by was_lost) line
+is_through true line is = is
+is_through false line is = is
 
 module _ {D : Type 0} (honest : Type 0) (sectors : D → ℕ) (reads : D → Image) (choices : D → Choices) (moment_of : D → ℕ) (images_since : D → ℕ → Image → Type 0) where
+  -- the lines so far, and how the gateway is behind them
+  pub record LinesSoFar (budget : ℕ) (state : State) (before : List Turn) (link now : Link) (done : List LineSeen) (wrote : List ℕ → Type 0) (first new : Machine D) : Type 0 where
+    pub lines : LinesRan honest sectors reads choices moment_of images_since budget state before link done wrote first new
+    pub link_is : link_after link lines.deeds ≡ now
+
+  -- no line yet
+  pub lines_none : (budget : ℕ) (state : State) (before : List Turn) (link : Link) (wrote : List ℕ → Type 0) (machine : Machine D)
+      → Went honest sectors reads choices moment_of images_since budget state before [] machine machine → wrote []
+      → LinesSoFar budget state before link link [] wrote machine machine
+  lines_none budget state before link wrote machine went text = record {
+    lines = record { deeds = []; done = tt; went = went; text = text };
+    link_is = refl;
+  }
+
   -- some lines, and one more
-  pub lines_more : (budget : ℕ) (state : State) (before : List Turn) (done : List LineSeen) (asked : LineSeen) (moment : ℕ) (wrote piece all : List ℕ → Type 0) (first old new : Machine D)
+  pub lines_more : (budget : ℕ) (state : State) (before : List Turn) (link now left : Link) (done : List LineSeen) (asked : LineSeen) (moment : ℕ) (wrote piece all : List ℕ → Type 0) (first old new : Machine D)
       → moment ≡ moment_after 0 done
-      → (so_far : LinesRan honest sectors reads choices moment_of images_since budget state before done wrote first old)
-      → Ran honest sectors reads choices moment_of images_since budget state (before ++ so_far.ran.turns) (events_at moment asked) piece old new
-      → ((text more : List ℕ) → wrote text → piece more → all (text ++ (own_text asked ++ more)))
-      → LinesRan honest sectors reads choices moment_of images_since budget state before (done ++ asked ∷ []) all first new
-  lines_more budget state before done asked moment wrote piece all first old new is so_far one joins =
-      let a = so_far.ran in
-      let e : (before ++ a.turns) ++ one.turns ≡ before ++ (a.turns ++ one.turns) = append_assoc before a.turns one.turns in
-      let H = half_len_of (sectors first.store.disk) in
-      let past = before ++ a.turns in
-      let accepted = accepted_in (opened state) (past ++ one.turns) in
-      let same_size = a.count in
-      let a_kept = a.kept in
-      let kept = one.kept in
-      let events : events_from 0 done ++ events_at moment asked ≡ events_from 0 (done ++ asked ∷ []) =
-      ap (λ (m : ℕ). events_from 0 done ++ events_at m asked) is ∙ sym (events_push 0 done asked) in
-      let many : length a.turns ≡ length (events_from 0 done) = sym (length-map a.turns (λ (t : Turn). t.0)) ∙ ap length a.events_are in
-      let few : length one.turns ≡ count_of asked = sym (length-map one.turns (λ (t : Turn). t.0)) ∙ ap length one.events_are ∙ count_at moment asked in
+      → (so_far : LinesSoFar budget state before link now done wrote first old)
+      → LineRan honest sectors reads choices moment_of images_since budget state (before ++ deeds_turns so_far.lines.deeds) moment asked now left piece old new
+      → ((text more : List ℕ) → wrote text → piece more → all (text ++ more))
+      → LinesSoFar budget state before link left (done ++ asked ∷ []) all first new
+  lines_more budget state before link now left done asked moment wrote piece all first old new is so_far one joins =
+      let deeds = so_far.lines.deeds in
+      let deed : Deed = record { turns = one.turns; text = one.line; left = left } in
       record {
-        ran = record {
-          turns = a.turns ++ one.turns;
-          events_are = map-append (λ (t : Turn). t.0) a.turns one.turns ∙ ap (λ (es : List Event). es ++ map (λ (t : Turn). t.0) one.turns) a.events_are
-              ∙ ap (λ (es : List Event). events_from 0 done ++ es) one.events_are ∙ events;
-          chain = subst (IsChain budget (opened state)) e one.chain;
-          text = tt;
-          at = subst (λ (ts : List Turn). IsAt honest sectors reads choices new (leads (opened state) ts)) e one.at;
-          holds = subst (λ (ts : List Turn). HoldsFront state ts (leads (opened state) ts)) e one.holds;
-          knows = subst (λ (ts : List Turn). KnowsItsMeters budget (leads (opened state) ts)) e one.knows;
-          count = one.count ∙ a.count;
-          kept = subst (λ (ts : List Turn). promised_in before ≤ promised_in ts) e (omega (arith, a_kept, kept));
-          leaves = λ h. subst (λ (ts : List Turn). LeavesOnly moment_of images_since first.store.disk new.store.disk (StandsForPromised H state (promised_in before) (accepted_in (opened state) ts))) e
-              (followed moment_of images_since first.store.disk old.store.disk new.store.disk
-              (StandsForPromised H state (promised_in before) (accepted_in (opened state) past)) (StandsForPromised (half_len_of (sectors old.store.disk)) state (promised_in past) accepted) (StandsForPromised H state (promised_in before) accepted)
-              (a.leaves h) (one.leaves h)
-              (λ image stands. subst (λ (x : List Change). StandsForPromised H state (promised_in before) x image) (sym (accepted_append (opened state) past one.turns))
-              (grown H state (promised_in before) (accepted_in (opened state) past) (accepted_in (leads (opened state) past) one.turns) image stands))
-              (λ image stands. fewer H state (promised_in before) (promised_in past) accepted image a_kept
-              (subst (λ (n : ℕ). StandsForPromised (half_len_of n) state (promised_in past) accepted image) same_size stands)));
-          behind = λ h image is. subst (λ (ts : List Turn). StandsForPromised H state (promised_in ts) (accepted_in (opened state) ts) image) e
-              (subst (λ (n : ℕ). StandsForPromised (half_len_of n) state (promised_in (past ++ one.turns)) accepted image) same_size (one.behind h image is));
+        lines = record {
+          deeds = deeds ++ deed ∷ [];
+          done = done_push 0 link done deeds asked deed so_far.lines.done
+              (subst (λ (l : Link). Does (moment_after 0 done) asked l left one.turns one.line) (sym so_far.link_is) (subst (λ (m : ℕ). Does m asked now left one.turns one.line) is one.does));
+          went = subst (λ (ts : List Turn). Went honest sectors reads choices moment_of images_since budget state before ts first new) (sym (turns_push deeds deed))
+              (went_both honest sectors reads choices moment_of images_since budget state before (deeds_turns deeds) one.turns first old new so_far.lines.went one.went);
+          text = subst all (sym (text_push deeds deed)) (joins (deeds_text deeds) one.line so_far.lines.text one.text);
         };
-        text = subst all (sym (lines_push 0 done asked a.turns one.turns many few)) (joins (lines_text done a.turns) (run_text one.turns) so_far.text one.text);
+        link_is = link_push link deeds deed;
       }
 
-  -- so far: the first lines are run, and the rest of the input is before them
-  pub record SoFar (budget : ℕ) (input rest : List (List ℕ)) (moment count : ℕ) (wrote : List ℕ → Type 0) (first now : Machine D) : Type 0 where
+  -- so far: the first lines are done, and the rest of the input is before them
+  pub record SoFar (budget : ℕ) (link now : Link) (input rest : List (List ℕ)) (moment count : ℕ) (wrote : List ℕ → Type 0) (first new : Machine D) : Type 0 where
     pub done : List LineSeen
     pub are_read : AskFor input done rest
     pub moment_is : moment ≡ moment_after 0 done
     pub count_is : count ≡ length done
     pub ran : (state : State) (before : List Turn) → IsChain budget (opened state) before → IsAt honest sectors reads choices first (leads (opened state) before)
-        → LinesRan honest sectors reads choices moment_of images_since budget state before done wrote first now
+        → LinesSoFar budget state before link now done wrote first new
 
-  pub one_more : (budget : ℕ) (input : List (List ℕ)) (line : List ℕ) (rest : List (List ℕ)) (asked : LineSeen) (moment count : ℕ) (wrote piece all : List ℕ → Type 0) (first old new : Machine D)
-      → SoFar budget input (line ∷ rest) moment count wrote first old → IsLineOf line asked
+  pub one_more : (budget : ℕ) (link now left : Link) (input : List (List ℕ)) (line : List ℕ) (rest : List (List ℕ)) (asked : LineSeen) (moment count : ℕ) (wrote piece all : List ℕ → Type 0) (first old new : Machine D)
+      → SoFar budget link now input (line ∷ rest) moment count wrote first old → IsLineOf line asked
       → ((state : State) (before : List Turn) → IsChain budget (opened state) before → IsAt honest sectors reads choices old (leads (opened state) before)
-      → Ran honest sectors reads choices moment_of images_since budget state before (events_at moment asked) piece old new)
-      → ((text more : List ℕ) → wrote text → piece more → all (text ++ (own_text asked ++ more)))
-      → SoFar budget input rest (moment_behind moment asked) (count + 1) all first new
-  one_more budget input line rest asked moment count wrote piece all first old new so_far is one joins =
+      → LineRan honest sectors reads choices moment_of images_since budget state before moment asked now left piece old new)
+      → ((text more : List ℕ) → wrote text → piece more → all (text ++ more))
+      → SoFar budget link left input rest (moment_behind moment asked) (count + 1) all first new
+  one_more budget link now left input line rest asked moment count wrote piece all first old new so_far is one joins =
       let counted = so_far.count_is in
       record {
         done = so_far.done ++ asked ∷ [];
@@ -206,6 +142,86 @@ module _ {D : Type 0} (honest : Type 0) (sectors : D → ℕ) (reads : D → Ima
         count_is = omega (arith, counted, length-append so_far.done (asked ∷ []));
         ran = λ state before chain at.
             let ran = so_far.ran state before chain at in
-            lines_more budget state before so_far.done asked moment wrote piece all first old new so_far.moment_is ran
-            (one state (before ++ ran.ran.turns) ran.ran.chain ran.ran.at) joins;
+            let turns = deeds_turns ran.lines.deeds in
+            lines_more budget state before link now left so_far.done asked moment wrote piece all first old new so_far.moment_is ran
+            (one state (before ++ turns) (went_chain honest sectors reads choices moment_of images_since budget state before turns first old ran.lines.went) (went_at honest sectors reads choices moment_of images_since budget state before turns first old ran.lines.went)) joins;
       }
+
+  -- a write failed at the next line
+  pub cut_here : (budget : ℕ) (link now : Link) (input : List (List ℕ)) (line : List ℕ) (rest : List (List ℕ)) (moment count : ℕ) (wrote : List ℕ → Type 0) (part : List Turn) (first old new : Machine D)
+      → (so_far : SoFar budget link now input (line ∷ rest) moment count wrote first old)
+      → (state : State) (before : List Turn) (chain : IsChain budget (opened state) before) (is_at : IsAt honest sectors reads choices first (leads (opened state) before))
+      → FailsAt moment now (line ∷ rest) part
+      → Went honest sectors reads choices moment_of images_since budget state (before ++ deeds_turns (so_far.ran state before chain is_at).lines.deeds) part old new
+      → ScriptCut honest sectors reads choices moment_of images_since budget state before link input first new
+  cut_here budget link now input line rest moment count wrote part first old new so_far state before chain is_at fails went =
+      let ran = so_far.ran state before chain is_at in
+      record {
+        asked = so_far.done;
+        rest = line ∷ rest;
+        are_read = so_far.are_read;
+        deeds = ran.lines.deeds;
+        done = ran.lines.done;
+        part = part;
+        fails = subst (λ (l : Link). FailsAt (moment_after 0 so_far.done) l (line ∷ rest) part) (sym ran.link_is) (subst (λ (m : ℕ). FailsAt m now (line ∷ rest) part) so_far.moment_is fails);
+        went = went_both honest sectors reads choices moment_of images_since budget state before (deeds_turns ran.lines.deeds) part first old new ran.lines.went went;
+      }
+
+  -- ---- one line
+
+  -- a line that is one event
+  pub event_ran : {X E : Type 0} (budget : ℕ) (state : State) (before : List Turn) (event : Event) (moment : ℕ) (asked : LineSeen) (link : Link) (wrote : List ℕ → Type 0) (first new : Machine D) (result : Result X E)
+      → TurnWent honest sectors reads choices moment_of images_since budget state before event (λ answer. OnOk result (wrote (answer_text answer))) first new
+      → ((turns : List Turn) (text : List ℕ) → IsOneTurn event turns text → Does moment asked link link turns text)
+      → OnOk result (LineRan honest sectors reads choices moment_of images_since budget state before moment asked link link wrote first new)
+  event_ran budget state before event moment asked link wrote first new result one does =
+      on_ok result (wrote (answer_text one.answer)) (LineRan honest sectors reads choices moment_of images_since budget state before moment asked link link wrote first new)
+      (λ text. record {
+        turns = (event, one.answer) ∷ [];
+        line = answer_text one.answer;
+        does = does ((event, one.answer) ∷ []) (answer_text one.answer) (record { answer = one.answer; turns_are = refl; text_is = refl });
+        went = one.went;
+        text = text;
+      }) one.is_such
+
+  pub event_cut : {X E : Type 0} (budget : ℕ) (state : State) (before : List Turn) (event : Event) (moment : ℕ) (asked : LineSeen) (link : Link) (such : Answer → Type 0) (first new : Machine D) (result : Result X E)
+      → TurnWent honest sectors reads choices moment_of images_since budget state before event such first new
+      → ((turns : List Turn) → IsTurnOf event turns → DoesPart moment asked link turns)
+      → OnErr result (LineCut honest sectors reads choices moment_of images_since budget state before moment asked link first new)
+  event_cut budget state before event moment asked link such first new result one does =
+      on_err result (LineCut honest sectors reads choices moment_of images_since budget state before moment asked link first new)
+      (record { turns = (event, one.answer) ∷ []; does = does ((event, one.answer) ∷ []) (one.answer, refl); went = one.went })
+
+  -- a line that is no event, and what it writes
+  pub said_ran : {X E : Type 0} (budget : ℕ) (state : State) (before : List Turn) (moment : ℕ) (asked : LineSeen) (link left : Link) (said : List ℕ) (wrote : List ℕ → Type 0) (machine : Machine D) (result : Result X E)
+      → Does moment asked link left [] said → Went honest sectors reads choices moment_of images_since budget state before [] machine machine → OnOk result (wrote said)
+      → OnOk result (LineRan honest sectors reads choices moment_of images_since budget state before moment asked link left wrote machine machine)
+  said_ran budget state before moment asked link left said wrote machine result does went text =
+      on_ok result (wrote said) (LineRan honest sectors reads choices moment_of images_since budget state before moment asked link left wrote machine machine)
+      (λ text. record { turns = []; line = said; does = does; went = went; text = text }) text
+
+  pub said_cut : {X E : Type 0} (budget : ℕ) (state : State) (before : List Turn) (moment : ℕ) (asked : LineSeen) (link : Link) (machine : Machine D) (result : Result X E)
+      → DoesPart moment asked link [] → Went honest sectors reads choices moment_of images_since budget state before [] machine machine
+      → OnErr result (LineCut honest sectors reads choices moment_of images_since budget state before moment asked link machine machine)
+  said_cut budget state before moment asked link machine result does went =
+      on_err result (LineCut honest sectors reads choices moment_of images_since budget state before moment asked link machine machine) (record { turns = []; does = does; went = went })
+
+  -- a poll through the gateway
+  pub polled_ran : {X E : Type 0} (budget : ℕ) (state : State) (before : List Turn) (moment line : ℕ) (meter : Identity) (link left : Link) (wrote : List ℕ → Type 0) (first new : Machine D) (result : Result X E) → IsThrough link line
+      → Way honest sectors reads choices moment_of images_since budget state before moment meter (record { due = to_start; link = link }) (λ happened last. OnOk result (IsEnd happened last.due × (last.link ≡ left))) (λ text. OnOk result (wrote text)) first new
+      → OnOk result (LineRan honest sectors reads choices moment_of images_since budget state before moment (poll line meter) link left wrote first new)
+  polled_ran budget state before moment line meter link left wrote first new (Ok x) through way = record {
+    turns = happened_turns way.happened;
+    line = happened_text way.happened;
+    does = inl (through, record { happened = way.happened; last = way.last; way = way.way; ends = way.ends_so.0; left_is = sym way.ends_so.1; turns_are = refl; text_is = refl });
+    went = way.went;
+    text = way.text;
+  }
+  polled_ran budget state before moment line meter link left wrote first new (Err e) through way = tt
+
+  pub polled_cut : {X E : Type 0} (budget : ℕ) (state : State) (before : List Turn) (moment line : ℕ) (meter : Identity) (link : Link) (ends : List Happening → Phase → Type 0) (wrote : List ℕ → Type 0) (first new : Machine D) (result : Result X E) → IsThrough link line
+      → Way honest sectors reads choices moment_of images_since budget state before moment meter (record { due = to_start; link = link }) ends wrote first new
+      → OnErr result (LineCut honest sectors reads choices moment_of images_since budget state before moment (poll line meter) link first new)
+  polled_cut budget state before moment line meter link ends wrote first new result through way =
+      on_err result (LineCut honest sectors reads choices moment_of images_since budget state before moment (poll line meter) link first new)
+      (record { turns = happened_turns way.happened; does = inl (through, record { happened = way.happened; last = way.last; way = way.way; turns_are = refl }); went = way.went })

@@ -33,3 +33,11 @@ IsOfReading TooLong = Unit {0}
 IsOfReading Write = ⊥
 IsOfReading NoMemory = Unit {0}
 IsOfReading (Open fault) = ⊥
+
+-- the image wasn't opened, its table wasn't made, or it wasn't written
+abbrev pub IsOfImage : ProgramFault → Type 0
+IsOfImage Read = ⊥
+IsOfImage TooLong = ⊥
+IsOfImage Write = Unit {0}
+IsOfImage NoMemory = Unit {0}
+IsOfImage (Open fault) = Unit {0}

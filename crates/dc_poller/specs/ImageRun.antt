@@ -7,6 +7,7 @@ use Rattle.dc_recovery.specs.Halves.{budget_of, half_len_of}
 use Rattle.dc_recovery.specs.Stands.{Reads, StandsForOne}
 use Rattle.dc_sectors.specs.Disk.{Image, Choices, LeavesOnly}
 use Rattle.dc_poller.specs.Lines.{lines_of}
+use Rattle.dc_poller.specs.Link.{Link}
 use Rattle.dc_poller.specs.Script.{ScriptRan, ScriptCut}
 
 -- The concentrator that was opened on the disk has the state that the image reads as. A stop within the opening leaves
@@ -18,24 +19,24 @@ pub record IsOpened {D : Type 0} (honest : Type 0) (sectors : D → ℕ) (reads 
   pub reads_as : honest → Reads (half_len_of (sectors disk)) state (reads disk)
   pub leaves : honest → LeavesOnly moment images_since disk first.store.disk (StandsForOne (half_len_of (sectors disk)) (choices disk))
 
--- A whole run, from the disk to the disk: `left` is what the reader had left, where it tells that.
-pub record ImageRan {D : Type 0} (honest : Type 0) (sectors : D → ℕ) (reads : D → Image) (choices : D → Choices) (moment : D → ℕ) (images_since : D → ℕ → Image → Type 0) (left : Option (List ℕ)) (faulty : Bool) (wrote : List ℕ → Type 0) (disk new : D) : Type 0 where
+-- A whole run, from the disk to the disk: the gateway is found like this, and `left` is what the reader had left, where it tells that.
+pub record ImageRan {D : Type 0} (honest : Type 0) (sectors : D → ℕ) (reads : D → Image) (choices : D → Choices) (moment : D → ℕ) (images_since : D → ℕ → Image → Type 0) (link : Link) (left : Option (List ℕ)) (faulty : Bool) (wrote : List ℕ → Type 0) (disk new : D) : Type 0 where
   pub input : List ℕ
   pub input_is : IfSome left (λ known. input ≡ known)
   pub state : State
   pub first : Machine D
   pub last : Machine D
   pub opening : IsOpened honest sectors reads choices moment images_since disk state first
-  pub script : ScriptRan honest sectors reads choices moment images_since first.house.budget state [] (lines_of input) faulty wrote first last
+  pub script : ScriptRan honest sectors reads choices moment images_since first.house.budget state [] link (lines_of input) faulty wrote first last
   pub disk_is : new ≡ last.store.disk
 
 -- A run that a failed write ended.
-pub record ImageCut {D : Type 0} (honest : Type 0) (sectors : D → ℕ) (reads : D → Image) (choices : D → Choices) (moment : D → ℕ) (images_since : D → ℕ → Image → Type 0) (left : Option (List ℕ)) (disk new : D) : Type 0 where
+pub record ImageCut {D : Type 0} (honest : Type 0) (sectors : D → ℕ) (reads : D → Image) (choices : D → Choices) (moment : D → ℕ) (images_since : D → ℕ → Image → Type 0) (link : Link) (left : Option (List ℕ)) (disk new : D) : Type 0 where
   pub input : List ℕ
   pub input_is : IfSome left (λ known. input ≡ known)
   pub state : State
   pub first : Machine D
   pub last : Machine D
   pub opening : IsOpened honest sectors reads choices moment images_since disk state first
-  pub script : ScriptCut honest sectors reads choices moment images_since first.house.budget state [] (lines_of input) first last
+  pub script : ScriptCut honest sectors reads choices moment images_since first.house.budget state [] link (lines_of input) first last
   pub disk_is : new ≡ last.store.disk

@@ -9,9 +9,12 @@
 //! writes an answer to each line and then the register. What it writes is the text that `specs/Fold.antt` defines, and
 //! its answer tells whether a line is none of those.
 //!
-//! [`run_script`] reads the lines of a script ([`ScriptLine`]), opens an image and does what they ask for, each line one
-//! event of a concentrator. What it writes, and what it leaves of the image at every moment, is what the run of these
-//! events writes and leaves (`specs/Script.antt`, `specs/ImageRun.antt`).
+//! [`run_script`] reads the lines of a script ([`ScriptLine`]), opens an image and does what they ask for: a line is one
+//! event of a concentrator, or the poll of a meter through a gateway. What it writes, and what it leaves of the image at
+//! every moment, is what the run of these events writes and leaves (`specs/Script.antt`, `specs/Poll.antt`,
+//! `specs/ImageRun.antt`).
+//!
+//! [`report_on`] opens an image and writes a table of what it holds ([`Report`]), made whole before it is written.
 //!
 //! Read and write faults are answered only where that end counted a failure, and an input over 1 MiB is never worked
 //! on. The input is read before anything is written; `decode` and `fold` take all their memory before that, too. They put
@@ -29,13 +32,16 @@ mod frames;
 mod input;
 mod laws;
 mod lines;
+mod poll;
 mod register;
+mod report;
 mod run;
 mod script;
 mod script_line;
 mod seen;
 mod spaces;
 mod telegram;
+mod told;
 
 pub use decode::decode_lines;
 pub use fault::ProgramFault;
@@ -44,11 +50,14 @@ pub use laws::{
     a_script_line_asks_for_one_thing, an_input_has_one_fold, frames_are_told_in_turn,
     hex_is_read_back, lines_end_at_feeds,
 };
+pub use report::{Report, report_on};
 pub use run::run_script;
 pub use script_line::ScriptLine;
 
 #[cfg(test)]
 mod fold_tests;
+#[cfg(test)]
+mod poll_tests;
 #[cfg(test)]
 mod run_tests;
 #[cfg(test)]

@@ -1,6 +1,6 @@
 //! The engine of `run`: a script over an image, from a source's lines to a sink's text.
 
-ghost use Rattle.std.specs.Prelude.{◌≡◌, ◌≢◌, ◌≤◌, ◌<◌, ◌*◌, None, length, vec_len, IfSome, IfOk, IfErr, MatchResult, OnOk, IsErrOf};
+ghost use Rattle.std.specs.Prelude.{◌≡◌, ◌≢◌, ◌≤◌, ◌<◌, ◌*◌, length, vec_len, IfSome, IfOk, IfErr, MatchResult, OnOk, IsErrOf};
 ghost use Rattle.dc_base.specs.Failures.{HasRisen};
 ghost use Rattle.dc_recovery.specs.Halves.{half_len_of};
 ghost use Rattle.dc_recovery.specs.Refusal.{IsRefused, TellsOfImage};
@@ -10,6 +10,7 @@ ghost use Rattle.dc_sectors.specs.Disk.{LeavesOnly};
 ghost use Rattle.dc_stream.specs.Stream.{Puts};
 ghost use Rattle.dc_poller.specs.Fault.{IfOpen, IsOfReading};
 ghost use Rattle.dc_poller.specs.ImageRun.{ImageRan, ImageCut};
+ghost use Rattle.dc_poller.specs.Link.{link_at_first, link_of};
 ghost use Rattle.dc_poller.specs.ScriptLine.{longest_line};
 
 use crate::fault::ProgramFault;
@@ -17,6 +18,7 @@ use crate::input::{CHUNK, MOST, read_input};
 use crate::lines::LONGEST;
 use crate::script::run_lines;
 use dc_core::Concentrator;
+use dc_gateway::Gateway;
 use dc_sectors::Disk;
 use dc_stream::{IoFault, Sink, Source, room};
 use std::alloc::Allocator;
@@ -26,8 +28,13 @@ use std::alloc::Allocator;
 /// spells nothing ends the script with `LINE i SYNTAX`, and the answer says whether there is one. The forms of the lines
 /// are those of [`ScriptLine`](crate::ScriptLine).
 ///
-/// The whole script is read before the image is opened. There is no gateway yet: `POLL` and `SEARCH` write `NO GATEWAY`.
-/// The disk comes back whatever happens.
+/// Behind bus line 1 may be a gateway: the ends that its blocks are put to and taken from (their form is dc_gateway's).
+/// `POLL 1` reads a meter through it: each request goes out, its answer is heard at the script's moment, and each part that
+/// is accepted is committed; these events' answers are written like any other's. Where the gateway is lost, `GATEWAY LOST`
+/// is written once, and all is silence from then on. Without a gateway, and for another bus line, `POLL` writes `NO
+/// GATEWAY`. `SEARCH` writes that always: it isn't built yet.
+///
+/// The whole script is read before the image is opened. The disk comes back whatever happens; the gateway's ends don't.
 ///
 /// # Errors
 /// [`ProgramFault::Read`], [`ProgramFault::TooLong`] over 1 MiB and [`ProgramFault::NoMemory`], with disk and writer as
@@ -47,14 +54,12 @@ pub fn run_script<
     writer: &mut W,
     gateway: Option<(GR, GW)>,
 ) -> (D, Result<bool, ProgramFault>)
-    requires { gateway ≡ None }
-
     // Where each image of the disk stands for some state: the run is that of the script's lines, of which exactly the text
     // is written, and the image is left as that run leaves it.
     ensures ran { (D.honest → EachStands (half_len_of (D.sectors disk)) (D.choices disk))
-        → IfOk result.1 (λ faulty. ImageRan D.honest D.sectors D.reads D.choices D.moment D.images_since (R.left reader.old) faulty (Puts (W.written writer.old) (W.written writer.new)) disk result.0) }
+        → IfOk result.1 (λ faulty. ImageRan D.honest D.sectors D.reads D.choices D.moment D.images_since (link_at_first gateway) (R.left reader.old) faulty (Puts (W.written writer.old) (W.written writer.new)) disk result.0) }
     ensures cut { (D.honest → EachStands (half_len_of (D.sectors disk)) (D.choices disk))
-        → IsErrOf result.1 ProgramFault.Write → ImageCut D.honest D.sectors D.reads D.choices D.moment D.images_since (R.left reader.old) disk result.0 }
+        → IsErrOf result.1 ProgramFault.Write → ImageCut D.honest D.sectors D.reads D.choices D.moment D.images_since (link_at_first gateway) (R.left reader.old) disk result.0 }
 
     // An image that isn't opened is refused as the store refuses it; one that stands is refused only as worn.
     ensures small { D.sectors disk < 131 → MatchResult result.1 (λ faulty. ⊥) (λ fault. IfOpen fault (λ e. (e ≡ NotImage) × (result.0 ≡ disk))) }
@@ -86,8 +91,10 @@ pub fn run_script<
         Ok(concentrator) => concentrator,
         Err((fault, disk)) => return (disk, Err(ProgramFault::Open(fault))),
     };
+    let mut gateway = joined(gateway);
     match run_lines(
         &mut concentrator,
+        &mut gateway,
         input.as_slice(),
         bytes.as_mut_slice(),
         writer,
@@ -117,4 +124,14 @@ fn read_script<A: Allocator + Copy, R: Source>(
         return Err(ProgramFault::TooLong);
     }
     Ok((input, bytes))
+}
+
+// A gateway of these ends.
+fn joined<GR: Source + Drop, GW: Sink + Drop>(gateway: Option<(GR, GW)>) -> Option<Gateway<GR, GW>>
+    ensures { link_of result ≡ link_at_first gateway }
+{
+    match gateway {
+        Some((reader, writer)) => Some(Gateway::new(reader, writer)),
+        None => None,
+    }
 }

@@ -1,40 +1,46 @@
 //! The lines of a script, one by one through a concentrator.
 
-ghost use Rattle.std.specs.Prelude.{◌≡◌, ◌≤◌, ◌*◌, ◌++◌, ◌∷◌, [], List, codes, length, IfOk, OnOk, OnErr};
+ghost use Rattle.std.specs.Prelude.{◌≡◌, ◌≤◌, ◌*◌, ◌++◌, List, codes, length, IfOk, OnOk, OnErr};
 ghost use Rattle.dc_base.specs.Failures.{HasRisen};
 ghost use Rattle.dc_changes.specs.State.{State};
 ghost use Rattle.dc_changes.specs.Valid.{last_moment};
 ghost use Rattle.dc_core.specs.Core.{opened};
 ghost use Rattle.dc_core.specs.Images.{IsAt};
-ghost use Rattle.dc_core.specs.Run.{event_of, IsEvent, Ran};
+ghost use Rattle.dc_core.specs.Run.{event_of, IsEvent};
+ghost use Rattle.dc_core.specs.Text.{answer_text};
 ghost use Rattle.dc_core.specs.Transcript.{Turn, leads, IsChain};
 ghost use Rattle.dc_stream.specs.Stream.{Puts, Wrote};
 ghost use Rattle.dc_text.specs.Words.{number_word};
 ghost use Rattle.dc_poller.specs.Lines.{lines_of};
-ghost use Rattle.dc_poller.specs.Script.{ScriptCut, ScriptRan, events_at, moment_behind, own_text};
+ghost use Rattle.dc_poller.specs.Link.{link_of};
+ghost use Rattle.dc_poller.specs.Script.{ScriptCut, ScriptRan, LineCut, LineRan, moment_behind};
 ghost use Rattle.dc_poller.specs.ScriptLine.{longest_line, seen};
+ghost use Rattle.dc_poller.specs.Went.{TurnWent};
 
 use crate::lines::first_line;
+use crate::poll::{GATEWAY_LINE, poll};
 use crate::script_line::ScriptLine;
 use dc_core::{Concentrator, Event, WriteFault};
+use dc_gateway::Gateway;
 use dc_sectors::Disk;
-use dc_stream::{IoFault, Sink};
+use dc_stream::{IoFault, Sink, Source};
 use dc_text::put_number_word;
 use std::alloc::Allocator;
 
 /// Runs the lines of an input, up to the first that spells nothing, and says whether there is one. `bytes` is room for an
 /// answer.
-pub fn run_lines<D: Disk + Drop, A: Allocator + Copy, W: Sink>(
+pub fn run_lines<D: Disk + Drop, A: Allocator + Copy, GR: Source + Drop, GW: Sink + Drop, W: Sink>(
     concentrator: &mut Concentrator<D, A>,
+    gateway: &mut Option<Gateway<GR, GW>>,
     input: &[u8],
     bytes: &mut [u8],
     out: &mut W,
 ) -> Result<bool, IoFault>
     requires { longest_line ≤ 2 * length bytes.old }
     ensures ran { (state : State) (before : List Turn) → IsChain concentrator.old.house.budget (opened state) before → IsAt D.honest D.sectors D.reads D.choices concentrator.old (leads (opened state) before)
-        → IfOk result (λ faulty. ScriptRan D.honest D.sectors D.reads D.choices D.moment D.images_since concentrator.old.house.budget state before (lines_of input.now) faulty (Puts (W.written out.old) (W.written out.new)) concentrator.old concentrator.new) }
+        → IfOk result (λ faulty. ScriptRan D.honest D.sectors D.reads D.choices D.moment D.images_since concentrator.old.house.budget state before (link_of gateway.old) (lines_of input.now) faulty (Puts (W.written out.old) (W.written out.new)) concentrator.old concentrator.new) }
     ensures cut { (state : State) (before : List Turn) → IsChain concentrator.old.house.budget (opened state) before → IsAt D.honest D.sectors D.reads D.choices concentrator.old (leads (opened state) before)
-        → OnErr result (ScriptCut D.honest D.sectors D.reads D.choices D.moment D.images_since concentrator.old.house.budget state before (lines_of input.now) concentrator.old concentrator.new) }
+        → OnErr result (ScriptCut D.honest D.sectors D.reads D.choices D.moment D.images_since concentrator.old.house.budget state before (link_of gateway.old) (lines_of input.now) concentrator.old concentrator.new) }
     ensures fault { OnErr result (HasRisen (W.put_failures out.old) (W.put_failures out.new)) }
     ensures well { OnOk result (W.put_failures out.new ≡ W.put_failures out.old) }
 {
@@ -47,7 +53,7 @@ pub fn run_lines<D: Disk + Drop, A: Allocator + Copy, W: Sink>(
             put_syntax(out, count + 1)?;
             return Ok(true);
         };
-        if let Err(fault) = run_line(concentrator, &asked, moment, out) {
+        if let Err(fault) = run_line(concentrator, gateway, &asked, moment, out) {
             return Err(fault);
         }
         moment = moment_behind(&asked, moment);
@@ -58,23 +64,35 @@ pub fn run_lines<D: Disk + Drop, A: Allocator + Copy, W: Sink>(
 }
 
 // Does what a line asks for, at a moment.
-fn run_line<D: Disk + Drop, A: Allocator + Copy, W: Sink>(
+
+fn run_line<D: Disk + Drop, A: Allocator + Copy, GR: Source + Drop, GW: Sink + Drop, W: Sink>(
     concentrator: &mut Concentrator<D, A>,
+    gateway: &mut Option<Gateway<GR, GW>>,
     asked: &ScriptLine<'_>,
     moment: u64,
     out: &mut W,
 ) -> Result<(), IoFault>
     requires { moment ≤ last_moment }
     ensures ran { (state : State) (before : List Turn) → IsChain concentrator.old.house.budget (opened state) before → IsAt D.honest D.sectors D.reads D.choices concentrator.old (leads (opened state) before)
-        → Ran D.honest D.sectors D.reads D.choices D.moment D.images_since concentrator.old.house.budget state before (events_at moment (seen asked.now))
-        (λ text. OnOk result (Puts (W.written out.old) (W.written out.new) (own_text (seen asked.now) ++ text))) concentrator.old concentrator.new }
+        → OnOk result (LineRan D.honest D.sectors D.reads D.choices D.moment D.images_since concentrator.old.house.budget state before moment (seen asked.now) (link_of gateway.old) (link_of gateway.new) (Puts (W.written out.old) (W.written out.new)) concentrator.old concentrator.new) }
+    ensures cut { (state : State) (before : List Turn) → IsChain concentrator.old.house.budget (opened state) before → IsAt D.honest D.sectors D.reads D.choices concentrator.old (leads (opened state) before)
+        → OnErr result (LineCut D.honest D.sectors D.reads D.choices D.moment D.images_since concentrator.old.house.budget state before moment (seen asked.now) (link_of gateway.old) concentrator.old concentrator.new) }
     ensures fault { OnErr result (HasRisen (W.put_failures out.old) (W.put_failures out.new)) }
     ensures well { OnOk result (W.put_failures out.new ≡ W.put_failures out.old) }
     ensures budget { concentrator.new.house.budget ≡ concentrator.old.house.budget }
 {
     match *asked {
         ScriptLine::Nothing | ScriptLine::At { .. } => Ok(()),
-        ScriptLine::Poll { .. } | ScriptLine::Search { .. } => out.put(b"NO GATEWAY\n"),
+        ScriptLine::Poll { line, meter } => {
+            if line != GATEWAY_LINE {
+                return out.put(b"NO GATEWAY\n");
+            }
+            match gateway {
+                Some(gateway) => poll(concentrator, gateway, &meter, moment, out),
+                None => out.put(b"NO GATEWAY\n"),
+            }
+        }
+        ScriptLine::Search { .. } => out.put(b"NO GATEWAY\n"),
         ScriptLine::Start { line, meter } => {
             run_event(concentrator, &Event::Start { line, meter }, out)
         }
@@ -99,9 +117,9 @@ fn run_event<D: Disk + Drop, A: Allocator + Copy, W: Sink>(
     out: &mut W,
 ) -> Result<(), IoFault>
     requires { IsEvent event.now }
-    ensures ran { (state : State) (before : List Turn) → IsChain concentrator.old.house.budget (opened state) before → IsAt D.honest D.sectors D.reads D.choices concentrator.old (leads (opened state) before)
-        → Ran D.honest D.sectors D.reads D.choices D.moment D.images_since concentrator.old.house.budget state before (event_of event.now ∷ [])
-        (λ text. OnOk result (Puts (W.written out.old) (W.written out.new) text)) concentrator.old concentrator.new }
+    ensures went { (state : State) (before : List Turn) → IsChain concentrator.old.house.budget (opened state) before → IsAt D.honest D.sectors D.reads D.choices concentrator.old (leads (opened state) before)
+        → TurnWent D.honest D.sectors D.reads D.choices D.moment D.images_since concentrator.old.house.budget state before (event_of event.now)
+        (λ answer. OnOk result (Puts (W.written out.old) (W.written out.new) (answer_text answer))) concentrator.old concentrator.new }
     ensures fault { OnErr result (HasRisen (W.put_failures out.old) (W.put_failures out.new)) }
     ensures well { OnOk result (W.put_failures out.new ≡ W.put_failures out.old) }
     ensures budget { concentrator.new.house.budget ≡ concentrator.old.house.budget }

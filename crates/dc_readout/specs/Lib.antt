@@ -1,8 +1,16 @@
 -- the definitions that contracts cite
+
+-- the number and the name of each reason for which a readout fails
 pub mod Why
+-- what an answer is to the request that waits for it
 pub mod Answer
+-- what a session knows of its past, what it asks next and how an answer changes it
 pub mod Summary
+-- what a session's past says of it
 pub mod Session
+-- the words in which the protocol's rules are said of whole pasts
 pub mod Protocol
+-- what code answers, without where a telegram lies in memory
 pub mod Seen
+-- what a telegram is that a session takes
 pub mod Taken

@@ -1,3 +1,5 @@
+//! Tests: telegrams and records with their bytes.
+
 ghost use Rattle.std.specs.Prelude.{◌≡◌, ◌==◌, count_by, length};
 ghost use Rattle.dc_records.specs.Telegram.{parsed};
 

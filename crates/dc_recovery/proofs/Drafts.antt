@@ -1,5 +1,5 @@
 -- A group writer's draft, from its first byte to its commit sector.
-use Rattle.std.proofs.Common.{◌≡◌, inl, inr, ⊎_elim, ℕ, ◌+◌, ◌*◌, List, [], length, arith, ap, sym, subst, ◌∙◌, refl}
+use Rattle.std.proofs.Common.{◌≡◌, ◌⊎◌, inl, inr, ⊎_elim, ℕ, ◌+◌, ◌*◌, List, [], length, arith, ap, sym, subst, ◌∙◌, refl}
 use Rattle.std.specs.Prelude.{Contains}
 use Rattle.std.proofs.lemmas.List.{drop_all}
 use Rattle.dc_sectors.specs.Disk.{Image, Choices, IsImage, LeavesOnly, settled}
@@ -10,19 +10,19 @@ use Rattle.dc_pages.specs.Writing.{IsPartOf, IsGoing, IsClosed}
 use Rattle.dc_recovery.specs.Writing.{IsAttempt, IsWritten}
 
 -- drafts of one group
-pub record IsSameGroup (old new : Draft) : Type 0 where
-  pub version : new.version ≡ old.version
-  pub kind : new.kind ≡ old.kind
-  pub session : new.session ≡ old.session
-  pub sequence : new.sequence ≡ old.sequence
-  pub place : new.place ≡ old.place
-  pub limit : new.limit ≡ old.limit
+record IsSameGroup (old new : Draft) : Type 0 where
+  version : new.version ≡ old.version
+  kind : new.kind ≡ old.kind
+  session : new.session ≡ old.session
+  sequence : new.sequence ≡ old.sequence
+  place : new.place ≡ old.place
+  limit : new.limit ≡ old.limit
 
 part_of_itself : (version kind session sequence place limit : ℕ) (old : Image) → IsPartOf version kind session sequence place limit old old
 part_of_itself version kind session sequence place limit old = record { inside = λ i lt. inl (inl refl); outside = λ k out. refl }
 
 -- before the first byte
-pub begun : {D : Type 0} (reads : D → Image) (choices : D → Choices) (moment : D → ℕ) (images_since : D → ℕ → Image → Type 0) (disk : D) (draft : Draft)
+begun : {D : Type 0} (reads : D → Image) (choices : D → Choices) (moment : D → ℕ) (images_since : D → ℕ → Image → Type 0) (disk : D) (draft : Draft)
     → ((image : Image) → images_since disk (moment disk) image → IsImage (choices disk) image) → choices disk ≡ settled (reads disk)
     → draft.pages ≡ 0 → draft.buffer ≡ [] → IsGoing reads choices moment images_since disk disk draft []
 begun reads choices moment images_since disk draft only_now is_settled no_page no_byte = record {
@@ -37,7 +37,7 @@ begun reads choices moment images_since disk draft only_now is_settled no_page n
   };
 }
 
-pub same_as : (a w : Draft) → w ≡ a → IsSameGroup a w
+same_as : (a w : Draft) → w ≡ a → IsSameGroup a w
 same_as a w e = record {
   version = ap (λ (x : Draft). x.version) e;
   kind = ap (λ (x : Draft). x.kind) e;
@@ -47,7 +47,7 @@ same_as a w e = record {
   limit = ap (λ (x : Draft). x.limit) e;
 }
 
-pub same_put : (a b w : Draft) → IsSameGroup a b → w ≡ record b { pages = w.pages; buffer = w.buffer } → IsSameGroup a w
+same_put : (a b w : Draft) → IsSameGroup a b → w ≡ record b { pages = w.pages; buffer = w.buffer } → IsSameGroup a w
 same_put a b w one e = record {
   version = ap (λ (x : Draft). x.version) e ∙ one.version;
   kind = ap (λ (x : Draft). x.kind) e ∙ one.kind;
@@ -58,7 +58,7 @@ same_put a b w one e = record {
 }
 
 -- what is said of a group by its fields
-pub at_same : (P : ℕ → ℕ → ℕ → ℕ → ℕ → ℕ → Type 0) (a w : Draft) → IsSameGroup a w → P w.version w.kind w.session w.sequence w.place w.limit → P a.version a.kind a.session a.sequence a.place a.limit
+at_same : (P : ℕ → ℕ → ℕ → ℕ → ℕ → ℕ → Type 0) (a w : Draft) → IsSameGroup a w → P w.version w.kind w.session w.sequence w.place w.limit → P a.version a.kind a.session a.sequence a.place a.limit
 at_same P a w same is =
     subst (λ (x : ℕ). P x a.kind a.session a.sequence a.place a.limit) same.version
     (subst (λ (x : ℕ). P w.version x a.session a.sequence a.place a.limit) same.kind
@@ -69,20 +69,70 @@ at_same P a w same is =
 
 module _ {D : Type 0} (moment : D → ℕ) (images_since : D → ℕ → Image → Type 0) (start new : D) (old : Image) (version kind session sequence place limit : ℕ) (payload : List ℕ) where
   -- with pages alone
-  pub attempt_part : LeavesOnly moment images_since start new (IsPartOf version kind session sequence place limit old)
+  attempt_part : LeavesOnly moment images_since start new (IsPartOf version kind session sequence place limit old)
       → LeavesOnly moment images_since start new (IsAttempt version kind session sequence payload place limit old)
   attempt_part run = weakened moment images_since start new _ _ run (λ image part. inl part)
 
   -- with the commit sector too
-  pub attempt_closed : (pages : ℕ) (written : Image) → IsClosed moment images_since start new old version kind session sequence place limit pages payload written
+  attempt_closed : (pages : ℕ) (written : Image) → IsClosed moment images_since start new old version kind session sequence place limit pages payload written
       → LeavesOnly moment images_since start new (IsAttempt version kind session sequence payload place limit old)
   attempt_closed pages written closed = weakened moment images_since start new _ _ closed.any_moment
       (λ image either. ⊎_elim (λ part. inl part) (λ torn. inr (record { pages = pages; written = written; group = closed.group; torn = torn })) either)
 
-  pub written_closed : (pages count : ℕ) (image : Image) → count ≡ pages + 1 → IsClosed moment images_since start new old version kind session sequence place limit pages payload image
+  written_closed : (pages count : ℕ) (image : Image) → count ≡ pages + 1 → IsClosed moment images_since start new old version kind session sequence place limit pages payload image
       → IsWritten version kind session sequence payload place limit count old image
   written_closed pages count image at closed = record { pages = pages; count_is = at; group = closed.group; outside = closed.outside }
 
 -- a group before its first byte
-abbrev pub first_draft : (place limit version kind session sequence : ℕ) → Draft
+abbrev first_draft : (place limit version kind session sequence : ℕ) → Draft
 first_draft place limit version kind session sequence = record { place = place; limit = limit; version = version; kind = kind; session = session; sequence = sequence; pages = 0; buffer = [] }
+
+-- WHAT THE WRITING OF A GROUP BEGINS WITH: a settled disk and a draft without a byte. The last premise is the trait's only_now.
+pub record Begins {D : Type 0} (reads : D → Image) (choices : D → Choices) (moment : D → ℕ) (images_since : D → ℕ → Image → Type 0) (disk : D) (first : Draft)
+    (place limit version kind session sequence : ℕ) : Type 0 where
+  pub draft_is : first ≡ first_draft place limit version kind session sequence
+  pub is_settled : choices disk ≡ settled (reads disk)
+  pub only_now : (image : Image) → images_since disk (moment disk) image → IsImage (choices disk) image
+
+module _ {D : Type 0} {reads : D → Image} {choices : D → Choices} {moment : D → ℕ} {images_since : D → ℕ → Image → Type 0} {disk : D} {first : Draft}
+    {place limit version kind session sequence : ℕ} (begins : Begins reads choices moment images_since disk first place limit version kind session sequence) where
+  pub first_going : IsGoing reads choices moment images_since disk disk first []
+  first_going = begun reads choices moment images_since disk first begins.only_now begins.is_settled (ap (λ (d : Draft). d.pages) begins.draft_is) (ap (λ (d : Draft). d.buffer) begins.draft_is)
+
+  same_first : IsSameGroup (first_draft place limit version kind session sequence) first
+  same_first = same_as (first_draft place limit version kind session sequence) first begins.draft_is
+
+  module _ (payload : List ℕ) (new : D) where
+    -- the payload couldn't be put
+    pub put_failed : LeavesOnly moment images_since disk new (IsPartOf first.version first.kind first.session first.sequence first.place first.limit (reads disk))
+        → LeavesOnly moment images_since disk new (IsAttempt version kind session sequence payload place limit (reads disk))
+    put_failed run = attempt_part moment images_since disk new (reads disk) version kind session sequence place limit payload
+        (at_same (λ v k s q p l. LeavesOnly moment images_since disk new (IsPartOf v k s q p l (reads disk))) (first_draft place limit version kind session sequence) first same_first run)
+
+    -- `full` is the draft with the whole payload
+    module _ (full : Draft) (same : full ≡ record first { pages = full.pages; buffer = full.buffer }) where
+      same_full : IsSameGroup (first_draft place limit version kind session sequence) full
+      same_full = same_put (first_draft place limit version kind session sequence) first full same_first same
+
+      closed_here : (written : Image) → IsClosed moment images_since disk new (reads disk) full.version full.kind full.session full.sequence full.place full.limit (full.pages + 1) payload written
+          → IsClosed moment images_since disk new (reads disk) version kind session sequence place limit (full.pages + 1) payload written
+      closed_here written closed =
+          at_same (λ v k s q p l. IsClosed moment images_since disk new (reads disk) v k s q p l (full.pages + 1) payload written) (first_draft place limit version kind session sequence) full same_full closed
+
+      -- the group couldn't be finished
+      pub finish_failed : LeavesOnly moment images_since disk new (IsPartOf full.version full.kind full.session full.sequence full.place full.limit (reads disk))
+          ⊎ ((written : Image) × IsClosed moment images_since disk new (reads disk) full.version full.kind full.session full.sequence full.place full.limit (full.pages + 1) payload written)
+          → LeavesOnly moment images_since disk new (IsAttempt version kind session sequence payload place limit (reads disk))
+      finish_failed left = ⊎_elim
+          (λ part. attempt_part moment images_since disk new (reads disk) version kind session sequence place limit payload
+          (at_same (λ v k s q p l. LeavesOnly moment images_since disk new (IsPartOf v k s q p l (reads disk))) (first_draft place limit version kind session sequence) full same_full part))
+          (λ closed. attempt_closed moment images_since disk new (reads disk) version kind session sequence place limit payload (full.pages + 1) closed.0 (closed_here closed.0 closed.1))
+          left
+
+      module _ (closed : IsClosed moment images_since disk new (reads disk) full.version full.kind full.session full.sequence full.place full.limit (full.pages + 1) payload (reads new)) where
+        pub finish_leaves : LeavesOnly moment images_since disk new (IsAttempt version kind session sequence payload place limit (reads disk))
+        finish_leaves = attempt_closed moment images_since disk new (reads disk) version kind session sequence place limit payload (full.pages + 1) (reads new) (closed_here (reads new) closed)
+
+        pub finish_written : (count : ℕ) → count ≡ full.pages + 2 → IsWritten version kind session sequence payload place limit count (reads disk) (reads new)
+        finish_written count at =
+            written_closed moment images_since disk new (reads disk) version kind session sequence place limit payload (full.pages + 1) count (reads new) (omega (arith, at)) (closed_here (reads new) closed)

@@ -1,19 +1,40 @@
+-- lemmas by topic
+
+-- what an image stands for when a group of changes is written
 pub mod Append
+-- what an image stands for while a group of changes is written, and then
 pub mod Appended
+-- what an image stands for while it is compacted, and then
 pub mod Compacted
+-- a group writer's draft, from its first byte to its commit sector
 pub mod Drafts
+-- what the puts of an encoder do to a group's sink, all together
 pub mod Encoded
+-- what an image stands for when it is formatted: a root of generation 1, a base group, and zeros
 pub mod Formatted
+-- for the crates above: images that stand for the state after a front of some changes
 pub mod Fronts
+-- an image reads as one state
 pub mod Once
+-- what a store that keeps a state leaves, and keeps
 pub mod Life
+-- what an image stands for when the next root is written, and while a base group goes into the other half
 pub mod NextRoot
+-- what opening may leave at any moment, and on Ok
 pub mod Opened
+-- picks for pending sectors, one more at a time
 pub mod Picks
+-- what calls that only read may leave at any moment: an image of the disk as it was
 pub mod ReadMoments
+-- the refusals of an image exclude each other, and an image that reads as a state is refused only as worn
 pub mod Refusals
+-- what a write of a root to a disk that is settled may leave
 pub mod RootWrite
+-- what opening's root leaves: the state that the image stood for
 pub mod Session
+-- the bytes that formatting writes spell the empty register
 pub mod Spellings
+-- one step of reading an image, and why it stops
 pub mod Steps
+-- what a stop may leave while a disk without a valid root is formatted
 pub mod Wiped

@@ -1,11 +1,11 @@
 -- What a stop may leave while a disk without a valid root is formatted.
-use Rattle.std.proofs.Common.{◌≡◌, ◌⊎◌, inl, inr, ⊎_elim, ℕ, zero, ◌<◌, ◌≤◌, ◌+◌, ◌*◌, List, [], ◌∷◌, arith, ap, sym, subst, ◌∙◌}
+use Rattle.std.proofs.Common.{◌≡◌, ◌⊎◌, inl, inr, ⊎_elim, ℕ, zero, ◌<◌, ◌≤◌, ◌+◌, ◌*◌, List, [], ◌∷◌, arith, ap, sym, subst, refl, ◌∙◌}
 use Rattle.std.specs.Prelude.{Contains}
 use Rattle.std.proofs.lemmas.Bool.{cases_eq}
 use Rattle.std.proofs.lemmas.List.Elements.{Contains-append_cases, Contains-push_cases}
 use Rattle.dc_sectors.specs.declared.sector.Sector.{Sector}
 use Rattle.dc_sectors.specs.declared.sector.Sector.TheVariants.{Bytes, Unreadable}
-use Rattle.dc_sectors.specs.Disk.{Image, Choices, IsImage, Elapses, LeavesOnly, added, settled}
+use Rattle.dc_sectors.specs.Disk.{Image, Choices, LeavesOnly, added, settled}
 use Rattle.dc_sectors.specs.Images.{added_here, added_elsewhere, only_one}
 use Rattle.dc_sectors.proofs.Moments.{weakened, followed}
 use Rattle.dc_roots.specs.declared.root.Root.{Root}
@@ -14,10 +14,10 @@ use Rattle.dc_roots.specs.Choice.{IsRootWrite}
 use Rattle.dc_roots.proofs.Choices.{slot_range}
 use Rattle.dc_pages.specs.Group.{base_kind}
 use Rattle.dc_recovery.specs.Halves.{half_start, half_end, budget_of}
-use Rattle.dc_recovery.specs.Language.{State, SpellsState}
-use Rattle.dc_recovery.specs.Stands.{blank, image_version, WipedAt, IsWiped, IsUnformatted, IsBlankOrEmpty, Stands}
+use Rattle.dc_recovery.specs.Language.{State, SpellsState, empty_state}
+use Rattle.dc_recovery.specs.Roots.{IsRootDone}
+use Rattle.dc_recovery.specs.Stands.{blank, image_version, WipedAt, IsWiped, IsUnformatted, IsBlankOrEmpty, IsReady, Stands}
 use Rattle.dc_recovery.specs.Writing.{IsAttempt, IsWritten}
-use Rattle.dc_recovery.proofs.ReadMoments.{synced_behind}
 use Rattle.dc_recovery.proofs.Formatted.{formatted, blank_is_no_root}
 
 -- the same of each choice
@@ -64,58 +64,65 @@ pub attempt_unformatted : (version kind session sequence place limit : ℕ) (pay
 attempt_unformatted version kind session sequence place limit payload zeros image from blanks attempt =
     blank_unformatted image (λ k low up. inl (⊎_elim (λ part. part.outside k (inl (omega arith))) (λ torn. torn.torn.outside k (inl (omega arith))) attempt ∙ blanks k low up))
 
--- THE FIRST ROOT, WRITTEN OR NOT
-pub first_root_step : (half_len count : ℕ) (zero_root : Root) (payload : List ℕ) (state : State) (zeros grouped image : Image)
-    → ((k : ℕ) → 1 ≤ k → k < 3 + 2 * half_len → zeros k ≡ blank)
-    → IsWritten image_version base_kind 1 1 payload (half_start half_len 0) (half_end half_len 0) count zeros grouped
-    → SpellsState (budget_of half_len) payload state
-    → zero_root ≡ record { version = image_version; half = 0; generation = 0; session = 1; base_sequence = 1; half_len = half_len }
-    → IsRootWrite (next_of zero_root) grouped image → IsUnformatted image ⊎ Stands half_len state image
-first_root_step half_len count zero_root payload state zeros grouped image blanks written spells is write = ⊎_elim
-    (λ either. inl (blank_unformatted image (λ k low up. ⊎_elim
-    (λ (here : k ≡ slot next.generation). ⊎_elim
-    (λ same. inl (subst (λ (j : ℕ). image j ≡ blank) (sym here) (same ∙ ap grouped (sym here) ∙ before k low up)))
-    (λ lost. inr (subst (λ (j : ℕ). image j ≡ Unreadable) (sym here) lost))
-    either)
-    (λ not. inl (write.elsewhere k not ∙ before k low up))
-    (cases_eq k (slot next.generation)))))
-    (λ root_is. inr (record {
-      root = next;
-      m = zero;
-      place = half_start half_len 0 + count;
-      by = (formatted half_len count zero_root payload state zeros grouped image blanks written spells is (record { elsewhere = write.elsewhere; here = root_is })).stands;
-    }))
-    write.here
-  where
-    next : Root
-    next = next_of zero_root
+-- ZEROS WERE WRITTEN: the disk is settled, and blank behind sector 0.
+pub record IsBlanked {D : Type 0} (reads : D → Image) (choices : D → Choices) (half_len : ℕ) (disk : D) : Type 0 where
+  pub still : choices disk ≡ settled (reads disk)
+  pub blanks : (k : ℕ) → 1 ≤ k → k < 3 + 2 * half_len → reads disk k ≡ blank
 
-    before : (k : ℕ) → 1 ≤ k → k ≤ 2 → grouped k ≡ blank
-    before k low up = let fits = written.group.fits in written.outside k (inl (omega arith)) ∙ blanks k low (omega arith)
+-- THE BASE GROUP WAS WRITTEN, of the state's bytes, to a disk of zeros: it is settled again.
+pub record IsBased {D : Type 0} (reads : D → Image) (choices : D → Choices) (half_len count : ℕ) (payload : List ℕ) (state : State) (zeros disk : D) : Type 0 where
+  pub still : choices disk ≡ settled (reads disk)
+  pub blanks : (k : ℕ) → 1 ≤ k → k < 3 + 2 * half_len → reads zeros k ≡ blank
+  pub written : IsWritten image_version base_kind 1 1 payload (half_start half_len 0) (half_end half_len 0) count (reads zeros) (reads disk)
+  pub spells : SpellsState (budget_of half_len) payload state
 
--- THE CALLS OF A FORMAT, one after another: zeros, a sync, the base group, a sync, and the first root
-module _ {D : Type 0} (moment : D → ℕ) (images_since : D → ℕ → Image → Type 0) (choices : D → Choices) (reads : D → Image) (half_len : ℕ) (start wiped : D) (none : IsUnformatted (reads start))
-    (counts : (disk : D) (t : ℕ) (image : Image) → t ≤ moment disk → IsImage (choices disk) image → images_since disk t image)
-    (wiping : LeavesOnly moment images_since start wiped (IsWiped (reads start))) where
-  pub zeros_written : LeavesOnly moment images_since start wiped (IsBlankOrEmpty half_len)
-  zeros_written = weakened moment images_since start wiped (IsWiped (reads start)) (IsBlankOrEmpty half_len) wiping (λ image left. inl (wiped_unformatted (reads start) image none left))
+-- the root before the first one
+abbrev pub zero_root : ℕ → Root
+zero_root half_len = record { version = image_version; half = 0; generation = 0; session = 1; base_sequence = 1; half_len = half_len }
 
-  module _ (synced : D) (time : Elapses (moment wiped) (moment synced) (images_since wiped) (images_since synced) (IsImage (choices wiped))) where
-    pub zeros_synced : LeavesOnly moment images_since start synced (IsBlankOrEmpty half_len)
-    zeros_synced = synced_behind moment images_since choices start wiped synced (IsBlankOrEmpty half_len) (counts wiped) zeros_written time
+module _ {D : Type 0} {reads : D → Image} {choices : D → Choices} {half_len count : ℕ} {payload : List ℕ} {state : State} {zeros disk : D} (based : IsBased reads choices half_len count payload state zeros disk) where
+  slots_blank : (k : ℕ) → 1 ≤ k → k ≤ 2 → reads disk k ≡ blank
+  slots_blank k low up = let fits = based.written.group.fits in based.written.outside k (inl (omega arith)) ∙ based.blanks k low (omega arith)
 
-    module _ (grouped : D) (place limit : ℕ) (payload : List ℕ) (from : 3 ≤ place) (blanks : (k : ℕ) → 1 ≤ k → k ≤ 2 → reads synced k ≡ blank)
-        (grouping : LeavesOnly moment images_since synced grouped (IsAttempt image_version base_kind 1 1 payload place limit (reads synced))) where
-      pub group_written : LeavesOnly moment images_since start grouped (IsBlankOrEmpty half_len)
-      group_written =
-          followed moment images_since start synced grouped (IsBlankOrEmpty half_len) (IsAttempt image_version base_kind 1 1 payload place limit (reads synced)) (IsBlankOrEmpty half_len) zeros_synced grouping
-          (λ image left. left) (λ image attempt. inl (attempt_unformatted image_version base_kind 1 1 place limit payload (reads synced) image from blanks attempt))
+  -- once the first root is in force
+  pub first_root_done : (image : Image) → IsRootDone (next_of (zero_root half_len)) (reads disk) image → IsReady half_len (next_of (zero_root half_len)) zero (half_start half_len 0 + count) state image
+  first_root_done image done = formatted half_len count (zero_root half_len) payload state (reads zeros) (reads disk) image based.blanks based.written based.spells refl done
 
-      module _ (again : D) (later : Elapses (moment grouped) (moment again) (images_since grouped) (images_since again) (IsImage (choices grouped))) where
-        pub group_synced : LeavesOnly moment images_since start again (IsBlankOrEmpty half_len)
-        group_synced = synced_behind moment images_since choices start grouped again (IsBlankOrEmpty half_len) (counts grouped) group_written later
+  -- THE FIRST ROOT, WRITTEN OR NOT
+  pub first_root_step : (image : Image) → IsRootWrite (next_of (zero_root half_len)) (reads disk) image → IsUnformatted image ⊎ Stands half_len state image
+  first_root_step image write = ⊎_elim
+      (λ either. inl (blank_unformatted image (λ k low up. ⊎_elim
+      (λ (here : k ≡ slot next.generation). ⊎_elim
+      (λ same. inl (subst (λ (j : ℕ). image j ≡ blank) (sym here) (same ∙ ap (reads disk) (sym here) ∙ slots_blank k low up)))
+      (λ lost. inr (subst (λ (j : ℕ). image j ≡ Unreadable) (sym here) lost))
+      either)
+      (λ not. inl (write.elsewhere k not ∙ slots_blank k low up))
+      (cases_eq k (slot next.generation)))))
+      (λ root_is. inr (record {
+        root = next;
+        m = zero;
+        place = half_start half_len 0 + count;
+        by = (first_root_done image (record { elsewhere = write.elsewhere; here = root_is })).stands;
+      }))
+      write.here
+    where
+      next : Root
+      next = next_of (zero_root half_len)
 
-        pub root_written : (next : Root) (rooted : D) → ((image : Image) → IsRootWrite next (reads again) image → IsBlankOrEmpty half_len image)
-            → LeavesOnly moment images_since again rooted (IsRootWrite next (reads again)) → LeavesOnly moment images_since start rooted (IsBlankOrEmpty half_len)
-        root_written next rooted step rooting =
-            followed moment images_since start again rooted (IsBlankOrEmpty half_len) (IsRootWrite next (reads again)) (IsBlankOrEmpty half_len) group_synced rooting (λ image left. left) step
+-- THE CALLS OF A FORMAT, one after another, with a sync behind each: zeros, the base group, and the first root
+module _ {D : Type 0} (moment : D → ℕ) (images_since : D → ℕ → Image → Type 0) (reads : D → Image) (half_len : ℕ) (start : D) where
+  pub zeros_written : (wiped : D) → IsUnformatted (reads start) → LeavesOnly moment images_since start wiped (IsWiped (reads start)) → LeavesOnly moment images_since start wiped (IsBlankOrEmpty half_len)
+  zeros_written wiped none wiping = weakened moment images_since start wiped (IsWiped (reads start)) (IsBlankOrEmpty half_len) wiping (λ image left. inl (wiped_unformatted (reads start) image none left))
+
+  pub group_written : (choices : D → Choices) (blanked grouped : D) (place limit : ℕ) (payload : List ℕ) → IsBlanked reads choices half_len blanked → 3 ≤ place
+      → LeavesOnly moment images_since start blanked (IsBlankOrEmpty half_len) → LeavesOnly moment images_since blanked grouped (IsAttempt image_version base_kind 1 1 payload place limit (reads blanked))
+      → LeavesOnly moment images_since start grouped (IsBlankOrEmpty half_len)
+  group_written choices blanked grouped place limit payload blank from so_far grouping =
+      followed moment images_since start blanked grouped (IsBlankOrEmpty half_len) (IsAttempt image_version base_kind 1 1 payload place limit (reads blanked)) (IsBlankOrEmpty half_len) so_far grouping
+      (λ image left. left) (λ image attempt. inl (attempt_unformatted image_version base_kind 1 1 place limit payload (reads blanked) image from (λ k low up. blank.blanks k low (omega arith)) attempt))
+
+  pub root_written : (choices : D → Choices) (count : ℕ) (payload : List ℕ) (zeros based rooted : D) → IsBased reads choices half_len count payload empty_state zeros based
+      → LeavesOnly moment images_since start based (IsBlankOrEmpty half_len) → LeavesOnly moment images_since based rooted (IsRootWrite (next_of (zero_root half_len)) (reads based))
+      → LeavesOnly moment images_since start rooted (IsBlankOrEmpty half_len)
+  root_written choices count payload zeros based rooted is so_far rooting =
+      followed moment images_since start based rooted (IsBlankOrEmpty half_len) (IsRootWrite (next_of (zero_root half_len)) (reads based)) (IsBlankOrEmpty half_len) so_far rooting (λ image left. left) (first_root_step is)

@@ -1,9 +1,20 @@
 -- Where the two halves of an image lie, and what a half can hold: this product's image format.
 use Rattle.std.specs.Prelude.{ℕ, ◌+◌, ◌-◌, ◌*◌, ◌/◌, min}
+use Rattle.dc_pages.specs.Group.{page_payload}
+
+-- the fewest sectors that an image has, and how many a half has, at least and at most
+abbrev pub fewest_sectors : ℕ
+fewest_sectors = 131
+
+abbrev pub shortest_half : ℕ
+shortest_half = 64
+
+abbrev pub longest_half : ℕ
+longest_half = 65536
 
 -- How many sectors a half has. Sector 0 isn't used, and sectors 1 and 2 are the root slots.
 abbrev pub half_len_of : ℕ → ℕ
-half_len_of sectors = min 65536 ((sectors - 3) / 2)
+half_len_of sectors = min longest_half ((sectors - 3) / 2)
 
 -- the first sector of a half, and the number behind its last one
 abbrev pub half_start : ℕ → ℕ → ℕ
@@ -14,4 +25,4 @@ half_end half_len half = 3 + half_len * half + half_len
 
 -- the greatest size of a state: the payload of half of the half's sectors
 abbrev pub budget_of : ℕ → ℕ
-budget_of half_len = 488 * (half_len / 2)
+budget_of half_len = page_payload * (half_len / 2)

@@ -9,7 +9,7 @@ use Rattle.dc_pages.specs.Group.{base_kind, change_kind, IsKnown, IsGroup}
 use Rattle.dc_pages.specs.Reading.{IsCutAt}
 use Rattle.dc_recovery.specs.declared.fault.OpenFault.{OpenFault}
 use Rattle.dc_recovery.specs.declared.fault.OpenFault.TheVariants.{NotImage, Damaged, Version, Worn, Device, NoMemory}
-use Rattle.dc_recovery.specs.Halves.{half_start, half_end, budget_of}
+use Rattle.dc_recovery.specs.Halves.{half_start, half_end, budget_of, longest_half}
 use Rattle.dc_recovery.specs.Language.{State, Change, SpellsState, SpellsChanges, AcceptsAll}
 use Rattle.dc_recovery.specs.Stands.{image_version, IsSequence, IsCurrent, Holds, ReadsBy, Reads}
 
@@ -102,8 +102,8 @@ TellsOfImage NoMemory = ⊥
 
 -- An image has one refusal: where a fault's fact stands, no other's does (one_refusal).
 abbrev pub OneRefusal : Type 0
-OneRefusal = (half_len : ℕ) → half_len ≤ 65536 → (image : Image) (f g : OpenFault) → TellsOfImage f → TellsOfImage g → IsRefused half_len image f → IsRefused half_len image g → f ≡ g
+OneRefusal = (half_len : ℕ) → half_len ≤ longest_half → (image : Image) (f g : OpenFault) → TellsOfImage f → TellsOfImage g → IsRefused half_len image f → IsRefused half_len image g → f ≡ g
 
 -- An image that reads as a state is refused only as worn (read_or_refused).
 abbrev pub RefusedIsNotRead : Type 0
-RefusedIsNotRead = (half_len : ℕ) → half_len ≤ 65536 → (image : Image) (state : State) (f : OpenFault) → TellsOfImage f → IsRefused half_len image f → Reads half_len state image → f ≡ Worn
+RefusedIsNotRead = (half_len : ℕ) → half_len ≤ longest_half → (image : Image) (state : State) (f : OpenFault) → TellsOfImage f → IsRefused half_len image f → Reads half_len state image → f ≡ Worn

@@ -6,7 +6,7 @@ use Rattle.dc_sectors.specs.declared.sector.Sector.TheVariants.{Bytes, Unreadabl
 use Rattle.dc_roots.specs.declared.root.Root.{Root}
 use Rattle.dc_roots.specs.Choice.{HasRoot, IsChosen}
 use Rattle.dc_pages.specs.Group.{base_kind, change_kind, IsKnown, IsGroup, IsComplete, Carries}
-use Rattle.dc_recovery.specs.Halves.{half_start, half_end, budget_of}
+use Rattle.dc_recovery.specs.Halves.{half_start, half_end, budget_of, longest_half}
 use Rattle.dc_recovery.specs.Language.{State, Change, SpellsState, SpellsChanges, AcceptsAll, after, empty_state}
 
 -- the version of the images that are written; those of version 1 are read too
@@ -174,4 +174,4 @@ IsFormatting half_len choices image = IsImage choices image ⊎ IsBlankOrEmpty h
 
 -- AN IMAGE READS AS ONE STATE
 abbrev pub ReadsOnce : Type 0
-ReadsOnce = (half_len : ℕ) → half_len ≤ 65536 → (image : Image) (state other : State) → Reads half_len state image → Reads half_len other image → state ≡ other
+ReadsOnce = (half_len : ℕ) → half_len ≤ longest_half → (image : Image) (state other : State) → Reads half_len state image → Reads half_len other image → state ≡ other

@@ -3,7 +3,7 @@ use Rattle.std.specs.Prelude.{◌≡◌, ◌≤◌, ◌+◌, ℕ, Bool, false}
 use Rattle.dc_sectors.specs.Disk.{Image, Choices, settled}
 use Rattle.dc_roots.specs.declared.root.Root.{Root}
 use Rattle.dc_pages.specs.Draft.{FitsAt}
-use Rattle.dc_recovery.specs.Halves.{half_len_of, half_end}
+use Rattle.dc_recovery.specs.Halves.{half_len_of, half_end, fewest_sectors}
 use Rattle.dc_recovery.specs.Language.{State}
 use Rattle.dc_recovery.specs.Stands.{image_version, IsReady}
 
@@ -17,7 +17,7 @@ pub record Kept (D : Type 0) : Type 0 where
 
 -- the place lies in the half in use, and the halves on the disk
 pub record IsLaidOut (sectors : ℕ) (root : Root) (place : ℕ) : Type 0 where
-  pub enough : 131 ≤ sectors
+  pub enough : fewest_sectors ≤ sectors
   pub half : root.half ≤ 1
   pub within : place ≤ half_end (half_len_of sectors) root.half
 

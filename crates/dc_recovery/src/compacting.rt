@@ -3,7 +3,7 @@
 ghost use Rattle.std.specs.Prelude.{◌≡◌, ◌<◌, ◌≤◌, ◌+◌, ◌-◌, ◌*◌, ◌^◌, ℕ, zero, suc, IfOk, OnOk, OnErr};
 ghost use Rattle.dc_base.specs.Failures.{HasRisen};
 ghost use Rattle.dc_sectors.specs.Disk.{LeavesOnly, settled};
-ghost use Rattle.dc_recovery.specs.Halves.{half_end, budget_of};
+ghost use Rattle.dc_recovery.specs.Halves.{half_end, budget_of, shortest_half, longest_half};
 ghost use Rattle.dc_recovery.specs.Roots.{compacted};
 ghost use Rattle.dc_recovery.specs.Stands.{IsReady, StandsForEither};
 ghost use Rattle.dc_recovery.specs.Language.{State};
@@ -28,8 +28,8 @@ pub(crate) fn compact_into_other_half<A: Allocator + Copy, D: Disk>(
     house: &House<A>,
 ) -> Result<(Root, u32), Failed>
     requires half { root.now.half ≤ 1 }
-    requires some { 64 ≤ half_len }
-    requires most { half_len ≤ 65536 }
+    requires some { shortest_half ≤ half_len }
+    requires most { half_len ≤ longest_half }
     requires fits { 3 + 2 * half_len ≤ D.sectors disk.old }
     requires generation { root.now.generation < 2 ^ 64 - 1 }
     requires budget { house.now.budget ≤ budget_of half_len }

@@ -1,3 +1,5 @@
+//! The store's faults, with their numbers and names.
+
 ghost use Rattle.std.specs.Prelude.{◌≡◌};
 ghost use Rattle.dc_recovery.specs.Fault.{open_number, open_name, format_number, format_name, store_number, store_name};
 

@@ -6,7 +6,7 @@ ghost use Rattle.dc_sectors.specs.Disk.{Image, IsImage, LeavesOnly, settled};
 ghost use Rattle.dc_roots.specs.declared.root.Root.{Root};
 ghost use Rattle.dc_roots.specs.Choice.{HasRoot};
 ghost use Rattle.dc_recovery.specs.declared.fault.FormatFault.TheVariants.{TooSmall, AlreadyFormatted, Device};
-ghost use Rattle.dc_recovery.specs.Halves.{half_len_of};
+ghost use Rattle.dc_recovery.specs.Halves.{half_len_of, shortest_half, longest_half, fewest_sectors};
 ghost use Rattle.dc_recovery.specs.Language.{empty_state};
 ghost use Rattle.dc_recovery.specs.Roots.{first_root};
 ghost use Rattle.dc_recovery.specs.Stands.{IsReadyFor, IsUnformatted, IsBlankOrEmpty, IsFormatting, IsWiped, blank};
@@ -47,8 +47,8 @@ fn blank_sectors<D: Disk>(disk: &mut D, end: u32) -> Result<(), Failed>
 
 /// Lays out an image of the empty register: zeros, the base group, and then the root.
 fn lay_out<D: Disk>(disk: &mut D, half_len: u32) -> Result<(), Failed>
-    requires some { 64 ≤ half_len }
-    requires most { half_len ≤ 65536 }
+    requires some { shortest_half ≤ half_len }
+    requires most { half_len ≤ longest_half }
     requires fits { 3 + 2 * half_len ≤ D.sectors disk.old }
     ensures ready { D.honest → OnOk result (IsReadyFor half_len (first_root half_len) empty_state (D.reads disk.new)) }
     ensures durable { D.honest → OnOk result (D.choices disk.new ≡ settled (D.reads disk.new)) }
@@ -88,7 +88,7 @@ fn lay_out<D: Disk>(disk: &mut D, half_len: u32) -> Result<(), Failed>
 
 /// Formats a lent disk.
 pub(crate) fn format_on<D: Disk>(disk: &mut D) -> Result<(), FormatFault>
-    ensures too_small { IsErrOf result TooSmall ↔ (D.sectors disk.old < 131) }
+    ensures too_small { IsErrOf result TooSmall ↔ (D.sectors disk.old < fewest_sectors) }
     ensures untouched { IsErrOf result TooSmall → disk.new ≡ disk.old }
     ensures already { D.honest → IsErrOf result AlreadyFormatted → (root : Root) × HasRoot root (D.reads disk.old) }
     ensures passed { IsErrOf result AlreadyFormatted → D.failures disk.new ≡ D.failures disk.old }

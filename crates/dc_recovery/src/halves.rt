@@ -1,26 +1,31 @@
 //! Where the halves of an image lie.
 
 ghost use Rattle.std.specs.Prelude.{◌≡◌, ◌<◌, ◌≤◌, ◌^◌, ◌+◌, ◌*◌};
-ghost use Rattle.dc_recovery.specs.Halves.{half_len_of, half_start, half_end, budget_of};
+ghost use Rattle.dc_recovery.specs.Halves.{half_len_of, half_start, half_end, budget_of, shortest_half, longest_half, fewest_sectors};
+
+use dc_pages::PAYLOAD;
 
 /// The fewest sectors that an image has: halves of 64.
 pub(crate) const FEWEST_SECTORS: u32 = 131;
 
+/// The most sectors that a half has.
+const LONGEST_HALF: u32 = 65536;
+
 /// The number of sectors of a half, on a disk of so many.
 pub(crate) fn half_len_of(sectors: u32) -> u32
-    requires { 131 ≤ sectors }
+    requires { fewest_sectors ≤ sectors }
     ensures exact { result ≡ half_len_of sectors }
-    ensures some { 64 ≤ result }
-    ensures most { result ≤ 65536 }
+    ensures some { shortest_half ≤ result }
+    ensures most { result ≤ longest_half }
     ensures fits { 3 + 2 * result ≤ sectors }
 {
-    ((sectors - 3) / 2).min(65536)
+    ((sectors - 3) / 2).min(LONGEST_HALF)
 }
 
 /// The first sector of a half.
 pub(crate) fn half_start(half_len: u32, half: u8) -> u32
     requires small { half ≤ 1 }
-    requires most { half_len ≤ 65536 }
+    requires most { half_len ≤ longest_half }
     ensures exact { result ≡ half_start half_len half }
 {
     if half == 0 { 3 } else { 3 + half_len }
@@ -29,7 +34,7 @@ pub(crate) fn half_start(half_len: u32, half: u8) -> u32
 /// The number behind a half's last sector.
 pub(crate) fn half_end(half_len: u32, half: u8) -> u32
     requires small { half ≤ 1 }
-    requires most { half_len ≤ 65536 }
+    requires most { half_len ≤ longest_half }
     ensures exact { result ≡ half_end half_len half }
     ensures within { result ≤ 3 + 2 * half_len }
     ensures room { half_start half_len half + half_len ≡ result }
@@ -39,8 +44,8 @@ pub(crate) fn half_end(half_len: u32, half: u8) -> u32
 
 /// The greatest size of a state, in bytes.
 pub(crate) fn budget_of(half_len: u32) -> u32
-    requires { half_len ≤ 65536 }
+    requires { half_len ≤ longest_half }
     ensures { result ≡ budget_of half_len }
 {
-    488 * (half_len / 2)
+    PAYLOAD as u32 * (half_len / 2)
 }

@@ -4,7 +4,7 @@ ghost use Rattle.std.specs.Prelude.{◌≡◌, ◌≢◌, ◌⊎◌, ◌<◌, �
 ghost use Rattle.dc_base.specs.Failures.{HasRisen};
 ghost use Rattle.dc_sectors.specs.Disk.{Image, IsImage, LeavesOnly, settled};
 ghost use Rattle.dc_recovery.specs.declared.fault.OpenFault.TheVariants.{Device};
-ghost use Rattle.dc_recovery.specs.Halves.{half_end, budget_of};
+ghost use Rattle.dc_recovery.specs.Halves.{half_end, budget_of, shortest_half, longest_half};
 ghost use Rattle.dc_recovery.specs.Language.{State};
 ghost use Rattle.dc_recovery.specs.Roots.{opened, IsOpenedRoot};
 ghost use Rattle.dc_recovery.specs.Stands.{image_version, IsRead, IsReady, IsBegun, StandsBy, Stands, ReadsBy, Reads, EachStands, StandsForOne};
@@ -63,8 +63,8 @@ fn begin<A: Allocator + Copy, D: Disk>(
     half_len: u32,
 ) -> Result<(), OpenFault>
     requires half { found.old.root.half ≤ 1 }
-    requires some { 64 ≤ half_len }
-    requires most { half_len ≤ 65536 }
+    requires some { shortest_half ≤ half_len }
+    requires most { half_len ≤ longest_half }
     requires fits { 3 + 2 * half_len ≤ D.sectors disk.old }
     requires budget { found.old.house.budget ≡ budget_of half_len }
     requires within { found.old.place ≤ half_end half_len found.old.root.half }
@@ -107,8 +107,8 @@ pub(crate) fn open_on<A: Allocator + Copy, D: Disk>(
     disk: &mut D,
     half_len: u32,
 ) -> Result<Found<A>, OpenFault>
-    requires some { 64 ≤ half_len }
-    requires most { half_len ≤ 65536 }
+    requires some { shortest_half ≤ half_len }
+    requires most { half_len ≤ longest_half }
     requires fits { 3 + 2 * half_len ≤ D.sectors disk.old }
     ensures reads { D.honest → IfOk result (λ found. Reads half_len found.house.state (D.reads disk.old)) }
     ensures refused { D.honest → IfErr result (λ fault. IsRefused half_len (D.reads disk.old) fault) }

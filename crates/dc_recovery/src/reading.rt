@@ -6,7 +6,7 @@ ghost use Rattle.dc_recovery.specs.Looked.{OnlyLooked};
 ghost use Rattle.dc_roots.specs.declared.root.Root.{Root};
 ghost use Rattle.dc_recovery.specs.declared.fault.OpenFault.{OpenFault};
 ghost use Rattle.dc_recovery.specs.declared.fault.OpenFault.TheVariants.{Device};
-ghost use Rattle.dc_recovery.specs.Halves.{half_end, budget_of};
+ghost use Rattle.dc_recovery.specs.Halves.{half_end, budget_of, longest_half};
 ghost use Rattle.dc_recovery.specs.Language.{State};
 ghost use Rattle.dc_recovery.specs.Stands.{IsSequence, IsCurrent, IsReached, IsRead, Holds, ReadsBy, Reads};
 ghost use Rattle.dc_pages.specs.Group.{change_kind, IsKnown, IsComplete};
@@ -71,7 +71,7 @@ fn read_base<A: Allocator + Copy, D: Disk>(
     half_len: u32,
 ) -> Result<Found<A>, OpenFault>
     requires half { root.half ≤ 1 }
-    requires most { half_len ≤ 65536 }
+    requires most { half_len ≤ longest_half }
     requires fits { 3 + 2 * half_len ≤ D.sectors disk.old }
     ensures reached { D.honest → IsCurrent half_len root (D.reads disk.old) → IfOk result (λ found. IsReached half_len root found.place found.last found.house.state (D.reads disk.old)) }
     ensures root { IfOk result (λ found. found.root ≡ root) }
@@ -193,7 +193,7 @@ pub(crate) fn read_image<A: Allocator + Copy, D: Disk>(
     disk: &mut D,
     half_len: u32,
 ) -> Result<Found<A>, OpenFault>
-    requires most { half_len ≤ 65536 }
+    requires most { half_len ≤ longest_half }
     requires fits { 3 + 2 * half_len ≤ D.sectors disk.old }
     ensures all { D.honest → IfOk result (λ found. IsRead half_len found.root found.place found.last found.house.state (D.reads disk.old)) }
     ensures refused { D.honest → IfErr result (λ fault. IsRefused half_len (D.reads disk.old) fault) }

@@ -9,7 +9,7 @@ ghost use Rattle.dc_recovery.specs.Refusal.{IsRefused, IsWorn, TellsOfImage};
 ghost use Rattle.dc_recovery.specs.declared.fault.OpenFault.TheVariants.{NotImage, Worn as OpenWorn, Device as OpenDevice};
 ghost use Rattle.dc_recovery.specs.declared.fault.FormatFault.TheVariants.{TooSmall, AlreadyFormatted, Device as FormatDevice};
 ghost use Rattle.dc_recovery.specs.declared.fault.StoreFault.TheVariants.{Device as StoreDevice, Worn as StoreWorn, Stopped};
-ghost use Rattle.dc_recovery.specs.Halves.{half_len_of, half_end, budget_of};
+ghost use Rattle.dc_recovery.specs.Halves.{half_len_of, half_end, budget_of, fewest_sectors};
 ghost use Rattle.dc_recovery.specs.Roots.{first_root, compacted, IsOpenedRoot};
 ghost use Rattle.dc_recovery.specs.Language.{State, Change, SpellsChanges, AcceptsAll, after, empty_state};
 ghost use Rattle.dc_recovery.specs.Stands.{EachStands, StandsForOne, StandsForEither, Stands, ReadsBy, Reads, IsFormatting, image_version};
@@ -22,6 +22,7 @@ use crate::opening::open_on;
 use crate::reading::Found;
 use crate::{FormatFault, OpenFault, StoreFault};
 use dc_meters::House;
+use dc_pages::PAYLOAD;
 use dc_roots::Root;
 use dc_sectors::{Disk, Failed};
 use std::alloc::Allocator;
@@ -60,8 +61,8 @@ impl<D: Disk + Drop> Store<D> {
     /// `TooSmall` under 131 sectors; `AlreadyFormatted` where no call failed and a slot has a valid root. Both
     /// write nothing. `Device` where a call failed: nothing was written where a slot had a valid root.
     pub fn format(mut disk: D) -> Result<D, (FormatFault, D)>
-        ensures small { D.sectors disk < 131 → result ≡ Err (TooSmall, disk) }
-        ensures too_small { IfErr result (λ e. e.0 ≡ TooSmall → D.sectors disk < 131) }
+        ensures small { D.sectors disk < fewest_sectors → result ≡ Err (TooSmall, disk) }
+        ensures too_small { IfErr result (λ e. e.0 ≡ TooSmall → D.sectors disk < fewest_sectors) }
         ensures already { D.honest → IfErr result (λ e. e.0 ≡ AlreadyFormatted → (root : Root) × HasRoot root (D.reads disk)) }
         ensures never_over { D.honest → (root : Root) → HasRoot root (D.reads disk) → OnOk result ⊥ }
         ensures device { IfErr result (λ e. e.0 ≡ FormatDevice → HasRisen (D.failures disk) (D.failures e.1)) }
@@ -100,11 +101,11 @@ impl<D: Disk + Drop> Store<D> {
         alloc: A,
         mut disk: D,
     ) -> Result<(Store<D>, House<A>), (OpenFault, D)>
-        ensures small { D.sectors disk < 131 → result ≡ Err (NotImage, disk) }
+        ensures small { D.sectors disk < fewest_sectors → result ≡ Err (NotImage, disk) }
 
         // Ok gives exactly the state that the image reads as, and a refusal is a fact of the image.
         ensures reads { D.honest → IfOk result (λ o. Reads (half_len_of (D.sectors disk)) o.1.state (D.reads disk)) }
-        ensures refused { D.honest → 131 ≤ D.sectors disk → IfErr result (λ e. IsRefused (half_len_of (D.sectors disk)) (D.reads disk) e.0) }
+        ensures refused { D.honest → fewest_sectors ≤ D.sectors disk → IfErr result (λ e. IsRefused (half_len_of (D.sectors disk)) (D.reads disk) e.0) }
         ensures version { IfOk result (λ o. o.0.root.version ≡ image_version) }
         ensures root { D.honest → IfOk result (λ o. (root : Root) × (m : ℕ) × (place : ℕ) × ReadsBy (half_len_of (D.sectors disk)) root m place o.1.state (D.reads disk)
             × IsOpenedRoot root (root.base_sequence + m) o.0.root) }
@@ -124,7 +125,7 @@ impl<D: Disk + Drop> Store<D> {
             (λ e. LeavesOnly D.moment D.images_since disk e.1 (StandsForOne (half_len_of (D.sectors disk)) (D.choices disk))) }
 
         // And such an image is refused only as worn.
-        ensures premise { D.honest → 131 ≤ D.sectors disk → EachStands (half_len_of (D.sectors disk)) (D.choices disk)
+        ensures premise { D.honest → fewest_sectors ≤ D.sectors disk → EachStands (half_len_of (D.sectors disk)) (D.choices disk)
             → IfErr result (λ e. TellsOfImage e.0 → e.0 ≡ OpenWorn) }
         ensures durable { D.honest → IfOk result (λ o. D.choices o.0.disk ≡ settled (D.reads o.0.disk)) }
         ensures running { IfOk result (λ o. o.0.is_stopped ≡ false) }
@@ -175,7 +176,7 @@ impl<D: Disk + Drop> Store<D> {
         ensures { IsTrue result ↔ Fits (D.sectors self.now.disk) self.now len }
     {
         let limit = half_end(half_len_of(self.disk.count()), self.root.half);
-        let pages = len.div_ceil(488);
+        let pages = len.div_ceil(PAYLOAD);
         pages < (limit - self.place) as usize
     }
 

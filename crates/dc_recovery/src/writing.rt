@@ -80,7 +80,7 @@ pub(crate) fn write_state<A: Allocator + Copy, D: Disk>(
     let mut sink = GroupSink {
         disk,
         writer: GroupWriter::begin(to.at, to.limit, to.stamp, to.kind, to.version),
-        failures: 0,
+        refused: 0,
     };
     encode_into(&mut sink, house)?;
     let GroupSink { disk, writer, .. } = sink;

@@ -13,20 +13,19 @@ use Rattle.std.specs.Cmp.Lexicographic.{slice_cmp}
 use Rattle.std.specs.FinMap.{find}
 use Rattle.std.proofs.lemmas.Bool.{lt-ltb, le-ltb, eq-eqb, ne_eqb}
 use Rattle.std.specs.Cmp.{ranked, eq_by_cmp_equiv}
-use Rattle.dc_meters.proofs.Sizes.{identities_total}
+use Rattle.dc_address.proofs.Order.{identities_total, same_from_tie}
 use Rattle.std.proofs.lemmas.List.{drop_more}
 use Rattle.dc_address.specs.declared.identity.Identity.{Identity}
 use Rattle.dc_address.specs.Identity.{identity_cmp}
 use Rattle.dc_units.specs.Date.{Day}
 use Rattle.dc_changes.specs.State.{ReadingRow}
 use Rattle.dc_meters.specs.Due.{has_value}
-use Rattle.dc_meters.proofs.Identities.{same_from_is_at}
-use Rattle.dc_report.specs.declared.place.Place.{Place}
+use Rattle.dc_meters.specs.declared.place.Place.{Place}
 use Rattle.dc_report.specs.Ascending.{at_key}
-use Rattle.dc_report.specs.Places.{place_cmp}
+use Rattle.dc_meters.specs.Places.{place_cmp}
 use Rattle.dc_report.specs.DueTable.{is_later, is_last, last_readings, reading_place}
 use Rattle.dc_report.specs.Last.{last_of}
-use Rattle.dc_report.proofs.PlaceOrder.{place_ties, places_total}
+use Rattle.dc_meters.proofs.PlaceOrder.{place_ties, places_total}
 
 abbrev pub serials_of : List ReadingRow → List ℕ
 serials_of rs = map (λ r. r.serial) rs
@@ -165,7 +164,7 @@ module _ (q : Place) where
       ∙ ap (λ (b : Bool). cond (has && not b) (cond (eq_by_cmp place_cmp q (reading_place r)) (Some r) (placed kept)) (placed kept)) agrees.0
       ∙ ap (λ (b : Bool). cond (has && not (is_some own)) (cond b (Some r) (placed kept)) (placed kept)) (place_ties q (reading_place r))
       ∙ ap (λ (o : Option ReadingRow). cond (has && not (is_some own)) (cond (stands r && same) (Some r) o) o) (found_last date all rs agrees.1)
-      ∙ step r has same (stands r) last own refl (λ e. ap (λ (m : Identity). last_of date m rs) (same_from_is_at q.meter r.meter e))
+      ∙ step r has same (stands r) last own refl (λ e. ap (λ (m : Identity). last_of date m rs) (same_from_tie q.meter r.meter e))
 
 -- the last reading of a place's meter, if it is of that flat, is what the definition's readings have at the place
 pub last_at : (date : Day) (q : Place) (all : List ReadingRow) → IsStrictlySortedBy nat_cmp (serials_of all) → find place_cmp q (map (at_key reading_place) (last_readings date all)) ≡ if_at (at_flat q.flat) (last_of date q.meter all)
@@ -217,7 +216,7 @@ entry_found q [] sorted = refl
 entry_found q (e ∷ es) sorted =
     let rest : Option (Bor ReadingRow) = lookup (is_at (identity_cmp q.meter)) es in
     let alone : is_eq (identity_cmp q.meter e.0) ≡ true → rest ≡ None =
-    λ same. ap (λ (m : Identity). lookup (is_at (identity_cmp m)) es) (same_from_is_at q.meter e.0 same) ∙ not_behind e.0 es sorted.0 in
+    λ same. ap (λ (m : Identity). lookup (is_at (identity_cmp m)) es) (same_from_tie q.meter e.0 same) ∙ not_behind e.0 es sorted.0 in
     ap (λ (o : Option ReadingRow). option_or o (cond (is_eq (place_cmp q (entry_place e))) (Some e.1.now) None)) (entry_found q es sorted.1)
     ∙ ap (λ (b : Bool). option_or (if_at (at_flat q.flat) (seen rest)) (cond b (Some e.1.now) None)) (place_ties q (entry_place e))
     ∙ entry_step (at_flat q.flat) e.1 (is_eq (identity_cmp q.meter e.0)) (at_flat q.flat e.1.now) rest refl alone

@@ -1,4 +1,3 @@
 mod PlainFields
-mod InOrder
-mod PlaceOrder
+mod Viewed
 mod LastReadings

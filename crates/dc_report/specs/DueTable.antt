@@ -13,10 +13,10 @@ use Rattle.dc_units.specs.Text.{value_text}
 use Rattle.dc_changes.specs.State.{State, ReadingRow}
 use Rattle.dc_meters.specs.Points.{points_of}
 use Rattle.dc_meters.specs.Due.{due_value, has_value}
-use Rattle.dc_report.specs.declared.place.Place.{Place}
+use Rattle.dc_meters.specs.declared.place.Place.{Place}
 use Rattle.dc_report.specs.declared.row.Row.{Row}
 use Rattle.dc_report.specs.Ascending.{sorted_by}
-use Rattle.dc_report.specs.Places.{place_cmp}
+use Rattle.dc_meters.specs.Places.{place_cmp}
 use Rattle.dc_report.specs.Line.{line_text}
 
 -- ---- which readings

@@ -2,7 +2,6 @@
 pub mod Line
 pub mod Medium
 pub mod Ascending
-pub mod Places
 pub mod RegisterTable
 pub mod DueTable
 pub mod Last

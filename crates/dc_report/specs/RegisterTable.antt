@@ -6,8 +6,8 @@ use Rattle.dc_address.specs.declared.identity.Identity.{Identity}
 use Rattle.dc_address.specs.Text.{text_of}
 use Rattle.dc_changes.specs.State.{State, MeterRow, row_of}
 use Rattle.dc_changes.specs.Line.{address_word}
-use Rattle.dc_report.specs.declared.place.Place.{Place}
-use Rattle.dc_report.specs.Places.{by_flat}
+use Rattle.dc_meters.specs.declared.place.Place.{Place}
+use Rattle.dc_meters.specs.Places.{by_flat}
 use Rattle.dc_report.specs.Line.{line_text}
 use Rattle.dc_report.specs.Medium.{medium_text}
 

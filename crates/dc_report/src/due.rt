@@ -5,9 +5,9 @@ ghost use Rattle.std.specs.List.{flat_map};
 ghost use Rattle.dc_report.specs.DueTable.{due_line, due_rows, due_text, reading_rows};
 ghost use Rattle.dc_report.specs.Written.{so_far, IsAtLine};
 
-use crate::Row;
 use crate::last::due_readings;
 use crate::line::{finish, new_table, put_line};
+use crate::{Row, Table};
 use csv::Writer;
 use dc_base::NoMemory;
 use dc_meters::{House, Reading, StorageDates};
@@ -25,6 +25,19 @@ pub fn due_table<A: Allocator + Copy>(
 ) -> Result<Vec<u8, A>, NoMemory>
     ensures { IfOk result (λ table. table.items ≡ due_text date house.now.state) }
 {
+    let Table { bytes, .. } = counted_due_table(alloc, house, date)?;
+    Ok(bytes)
+}
+
+/// The due-date table for a date with the number of its rows, which are found once. The only error is want of memory.
+pub fn counted_due_table<A: Allocator + Copy>(
+    alloc: A,
+    house: &House<A>,
+    date: Date,
+) -> Result<Table<A>, NoMemory>
+    ensures text { IfOk result (λ table. table.bytes.items ≡ due_text date house.now.state) }
+    ensures count { IfOk result (λ table. table.rows ≡ length (due_rows date house.now.state)) }
+{
     let rows = rows(alloc, house, date)?;
     let mut table = new_table(alloc);
     let header: [&[u8]; 9] = [
@@ -40,7 +53,10 @@ pub fn due_table<A: Allocator + Copy>(
     ];
     put_line(&mut table, &header)?;
     put_rows(&mut table, &rows)?;
-    finish(table)
+    Ok(Table {
+        bytes: finish(table)?,
+        rows: rows.len(),
+    })
 }
 
 /// The rows of the due-date table for a date, its header not counted. The only error is want of memory.

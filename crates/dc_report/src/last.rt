@@ -8,10 +8,9 @@ ghost use Rattle.dc_changes.specs.Valid.{IsState};
 ghost use Rattle.dc_report.specs.DueTable.{due_readings};
 ghost use Rattle.dc_report.specs.Last.{last_of};
 
-use crate::Place;
 use dc_address::Identity;
 use dc_base::NoMemory;
-use dc_meters::{House, Reading};
+use dc_meters::{House, Place, Reading};
 use dc_units::Date;
 use std::alloc::Allocator;
 use std::collections::BTreeMap;

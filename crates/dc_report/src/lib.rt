@@ -16,16 +16,15 @@ mod due;
 mod last;
 mod line;
 mod medium;
-mod orders;
-mod place;
 mod register;
 mod row;
+mod table;
 
 pub use dc_units::Date;
-pub use due::{due_rows, due_table};
-pub use place::Place;
+pub use due::{counted_due_table, due_rows, due_table};
 pub use register::{register_rows, register_table};
 pub use row::Row;
+pub use table::Table;
 
 #[cfg(test)]
 mod tests;

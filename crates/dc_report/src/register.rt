@@ -4,21 +4,18 @@ ghost use Rattle.std.specs.Prelude.{◌≡◌, ◌++◌, length, OnOk, IfOk};
 ghost use Rattle.std.specs.List.{flat_map};
 ghost use Rattle.dc_changes.specs.Line.{address_word};
 ghost use Rattle.dc_report.specs.Line.{line_text};
-ghost use Rattle.dc_report.specs.Places.{by_flat};
+ghost use Rattle.dc_meters.specs.Places.{by_flat};
 ghost use Rattle.dc_report.specs.RegisterTable.{line_at, meter_fields, register_text};
 ghost use Rattle.dc_report.specs.Written.{so_far, IsAtLine};
 
-use crate::Place;
 use crate::line::{finish, new_table, put_line};
 use crate::medium::medium;
-use crate::orders::places_by_flat;
 use csv::Writer;
 use dc_address::{Identity, Primary};
 use dc_base::NoMemory;
 use dc_meters::{House, Meter};
 use itoa::Buffer;
 use std::alloc::Allocator;
-use std::collections::BTreeSet;
 
 /// The register table: a header, and a line for each registered meter, by flat and then by identity. The only error is
 /// want of memory.
@@ -28,11 +25,10 @@ pub fn register_table<A: Allocator + Copy>(
 ) -> Result<Vec<u8, A>, NoMemory>
     ensures { IfOk result (λ table. table.items ≡ register_text house.now.state) }
 {
-    let places = places_by_flat(alloc, house)?;
     let mut table = new_table(alloc);
     let header: [&[u8]; 6] = [b"flat", b"meter", b"medium", b"line", b"address", b"open"];
     put_line(&mut table, &header)?;
-    put_meters(&mut table, house, &places)?;
+    put_meters(&mut table, house)?;
     finish(table)
 }
 
@@ -46,13 +42,12 @@ pub fn register_rows<A: Allocator + Copy>(house: &House<A>) -> usize
 fn put_meters<A: Allocator + Copy>(
     table: &mut Writer<Vec<u8, A>>,
     house: &House<A>,
-    places: &BTreeSet<Place, A>,
 ) -> Result<(), NoMemory>
     requires { IsAtLine table.old }
     ensures ready { OnOk result (IsAtLine table.new) }
-    ensures text { OnOk result (so_far (λ v. v.items) table.new ≡ so_far (λ v. v.items) table.old ++ flat_map (line_at house.now.state) places.now.keys) }
+    ensures text { OnOk result (so_far (λ v. v.items) table.new ≡ so_far (λ v. v.items) table.old ++ flat_map (line_at house.now.state) (by_flat house.now.state.meters)) }
 {
-    for place in places {
+    for place in house.meters_by_flat() {
         if let Some(row) = house.meter(&place.meter) {
             put_meter(table, &place.meter, row)?;
         }

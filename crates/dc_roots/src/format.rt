@@ -1,3 +1,5 @@
+//! The bytes of a root sector, both ways.
+
 ghost use Rattle.std.specs.Prelude.{◌≡◌, MatchOption};
 ghost use Rattle.dc_sectors.specs.declared.sector.Sector.TheVariants.{Bytes};
 ghost use Rattle.dc_roots.specs.declared.root.Root.{Root};

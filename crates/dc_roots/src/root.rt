@@ -1,3 +1,5 @@
+//! What a root says.
+
 ghost use Rattle.std.specs.Prelude.{◌≡◌};
 
 /// What a root sector says.

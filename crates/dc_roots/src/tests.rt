@@ -1,3 +1,5 @@
+//! Tests: roots with their bytes, their choice, and failures.
+
 // The bytes of a root sector, and the choice after a stop within a root's write.
 ghost use Rattle.std.specs.Prelude.{◌<◌};
 ghost use Rattle.dc_sectors.specs.Memory.{IsPickFor};

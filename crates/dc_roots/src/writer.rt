@@ -1,3 +1,5 @@
+//! The next root is written.
+
 ghost use Rattle.std.specs.Prelude.{◌≡◌, ◌≢◌, ◌<◌, ◌≤◌, ◌-◌, ◌^◌, ◌↔◌, ℕ, Option, IfOk, OnOk, IsErrOf};
 ghost use Rattle.dc_base.specs.Failures.{HasRisen};
 ghost use Rattle.dc_sectors.specs.declared.sector.Sector.TheVariants.{Bytes};

@@ -23,13 +23,17 @@ const NOISE: u8 = 0x00;
 
 /// Which meters match a mask.
 #[derive(Clone, Copy)]
-pub(crate) enum Matching {
+pub enum Matching {
+    /// None.
     Nobody,
+    /// This one alone.
     One(Identity),
+    /// Two or more.
     More,
 }
 
-pub(crate) fn matches_on(bus: &[Identity], mask: &Mask) -> Matching
+/// Which meters on a bus match a mask.
+pub fn matches_on(bus: &[Identity], mask: &Mask) -> Matching
     ensures { IsMatching result (filter (matches mask.now) bus.now) }
 {
     let mut only = None;
@@ -56,8 +60,8 @@ fn body_of(meter: &Identity) -> [u8; 12]
     body
 }
 
-/// What a meter answers to a request for data.
-pub(crate) fn telegram_of(meter: &Identity) -> FrameBuf
+/// What a meter answers to a request for data: a telegram with a header and no record.
+pub fn telegram_of(meter: &Identity) -> FrameBuf
     ensures { answer_of result ≡ Some meter.now }
 {
     let mut frame = FrameBuf::new();

@@ -15,7 +15,7 @@
 
 mod answer;
 mod branch;
-mod bus;
+pub mod bus;
 mod fault;
 mod laws;
 mod search;

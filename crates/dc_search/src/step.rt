@@ -1,6 +1,6 @@
 //! What a search is to do next, and what it sends for it.
 
-ghost use Rattle.std.specs.Prelude.{◌≡◌, option_map};
+ghost use Rattle.std.specs.Prelude.{◌≡◌, ◌≤◌, IfSome, length, option_map};
 ghost use Rattle.dc_linkframe.specs.Frame.{spelling};
 ghost use Rattle.dc_search.specs.Request.{request_by};
 
@@ -25,7 +25,8 @@ impl Step {
     /// The frame that is sent for it: the selection by the mask, or the request for data with frame count
     /// bit 1. At the end there is none.
     pub fn request(&self) -> Option<FrameBuf>
-        ensures { result ≡ option_map spelling (request_by self.now) }
+        ensures exact { result ≡ option_map spelling (request_by self.now) }
+        ensures short { IfSome result (λ request. length request ≤ 17) }
     {
         let mut buf = FrameBuf::new();
         match self {

@@ -1,8 +1,14 @@
 -- for callers: what runs of calls leave, and the text of a sector
+
+-- lemmas for callers
 pub mod Moments
+-- the text of a sector
 pub mod Texts
 -- of this crate alone
 mod Kept
+-- the pending sectors, one sector more
 mod Pending
+-- a record read event by event
 mod Scanning
+-- what a stop leaves
 mod Stops

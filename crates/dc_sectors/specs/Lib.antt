@@ -1,10 +1,16 @@
 -- the disk rule, and lemmas on choices
+
+-- the disk rule, of this product
 pub mod Disk
+-- lemmas on the images that choices allow, for callers
 pub mod Images
--- a disk in memory
+-- the calls of a disk in memory, and those that are to fail
 pub mod Calls
+-- a disk in memory, as contracts see it
 pub mod Memory
+-- what a record of writes and syncs says
 pub mod Record
+-- what is known of one sector on the way over a record
 pub mod Scan
 -- a disk over a file
 pub mod File

@@ -1,3 +1,5 @@
+//! The calls of a disk in memory, counted, and those that are to fail.
+
 ghost use Rattle.std.specs.Prelude.{◌≡◌};
 
 use crate::Failed;

@@ -1,3 +1,5 @@
+//! The record that a disk in memory keeps.
+
 /// What a disk in memory has recorded.
 #[derive(Clone, Copy)]
 pub enum Event {

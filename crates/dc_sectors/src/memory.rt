@@ -1,3 +1,5 @@
+//! A disk in memory, which can be stopped.
+
 ghost use Rattle.std.specs.Prelude.{◌≡◌, ◌≢◌, ◌⊎◌, ◌<◌, ◌≤◌, ℕ, Some, None, IfOk, OnOk, OnErr, IsErrOf, [], length};
 ghost use Rattle.std.specs.List.{AllZip};
 ghost use Rattle.dc_base.specs.Failures.{HasRisen};

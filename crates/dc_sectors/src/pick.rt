@@ -1,3 +1,5 @@
+//! What a stop leaves of one sector.
+
 /// What a stop leaves of a sector that was written since the sync.
 #[derive(Clone, Copy, Debug, PartialEq, Eq)]
 pub enum Pick {

@@ -1,3 +1,5 @@
+//! What a record of writes and syncs says of one sector.
+
 ghost use Rattle.std.specs.Prelude.{◌≡◌, ◌≤◌, ◌<◌, ◌+◌, ℕ, List, [], ◌∷◌};
 ghost use Rattle.dc_sectors.specs.declared.sector.Sector.{Sector};
 ghost use Rattle.dc_sectors.specs.Memory.{picked};

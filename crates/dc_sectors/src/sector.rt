@@ -1,3 +1,5 @@
+//! What a sector reads, and the failures of a device.
+
 use thiserror::Error;
 
 /// What a sector of 512 bytes reads.

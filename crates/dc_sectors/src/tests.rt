@@ -1,3 +1,5 @@
+//! Tests: reads, failures and stops of the disk in memory, and disks over files.
+
 // What no clause says: that calls succeed where there is memory, and what a real file does.
 ghost use Rattle.dc_sectors.specs.Memory.{IsPickFor};
 

@@ -1,3 +1,5 @@
+//! The words in which a line of the office is refused.
+
 ghost use Rattle.std.specs.Prelude.{◌≡◌};
 ghost use Rattle.dc_upload.specs.Code.{code_of, word_of};
 

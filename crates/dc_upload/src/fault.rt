@@ -1,3 +1,5 @@
+//! Why a reply is not written, with the numbers and names of the faults.
+
 ghost use Rattle.std.specs.Prelude.{◌≡◌};
 ghost use Rattle.dc_upload.specs.Fault.{name_of, number_of};
 ghost use Rattle.dc_upload.specs.declared.fault.ReplyFault.TheVariants.{NoMemory, Write};

@@ -11,7 +11,7 @@ use crate::register::write_meters;
 use crate::window::write_window;
 use crate::{Code, OfficeLine, ReplyFault, Verdict, judge};
 use dc_meters::House;
-use dc_report::{Date, due_rows, due_table};
+use dc_report::{Date, counted_due_table};
 use dc_stream::{IoFault, Sink};
 use dc_text::put_number_word;
 use std::alloc::Allocator;
@@ -119,9 +119,8 @@ fn write_report<A: Allocator + Copy, W: Sink>(
     ensures well { OnOk result (W.put_failures out.new ≡ W.put_failures out.old) }
     ensures fault { IfErr result (λ fault. Tells W.put_failures (OfficeLine.Report date) out.old out.new fault) }
 {
-    let table = due_table(alloc, house, date)?;
-    let rows = due_rows(alloc, house, date)?;
-    Ok(put_table(&table, rows, out)?)
+    let table = counted_due_table(alloc, house, date)?;
+    Ok(put_table(&table.bytes, table.rows, out)?)
 }
 
 #[tactic(auto, using(dc_stream::proofs::Pieces::written))]

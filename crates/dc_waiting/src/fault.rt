@@ -1,3 +1,5 @@
+//! Why a telegram is not taken, with the numbers and names of the faults.
+
 use thiserror::Error;
 
 /// Why a telegram wasn't taken. The first that stands is answered.

@@ -4,11 +4,16 @@
 
 mod ending;
 mod format;
+mod gateway;
+mod help;
+mod image;
+mod report;
 mod script;
 mod tasks;
 mod words;
 
-use ending::Ending;
+use dc_ending::Ending;
+use ending::{told, told_words};
 use std::io::ErrorKind;
 use std::process::ExitCode;
 use std::rt::Env;
@@ -26,13 +31,15 @@ fn main(rt: HostRuntime) -> ExitCode {
     let words = match words_of(&rt) {
         Ok(words) => words,
         Err(error) if error.kind() == ErrorKind::OutOfMemory => {
-            return Ending::Memory.told(&rt);
+            return told(&rt, &Ending::Memory);
         }
-        Err(_) => return Ending::NotText.told(&rt),
+        Err(_) => return told(
+            &rt,
+            &Ending::Words("the words aren't UTF-8 text; try mbdc --help"),
+        ),
     };
-    let ending = match words::task_of(rt.alloc(), words.as_slice()) {
-        Ok(task) => tasks::run(&rt, task),
-        Err(error) => Ending::Words(error),
-    };
-    ending.told(&rt)
+    match words::task_of(rt.alloc(), words.as_slice()) {
+        Ok(task) => told(&rt, &tasks::run(&rt, task)),
+        Err(error) => told_words(&rt, &error),
+    }
 }

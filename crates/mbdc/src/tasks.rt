@@ -1,16 +1,17 @@
 //! What each command does: an engine of `dc_poller` between the ends that the words name.
 
-use crate::ending::{Ending, STREAM};
 use crate::format::format_image;
+use crate::report::report_on_image;
 use crate::script::run_on_image;
 use crate::words::{Engine, Task};
+use dc_ending::{Ending, STREAM, ending_of};
 use dc_poller::{ProgramFault, decode_lines, fold_lines};
 use dc_stream::{ReadSource, Source, WriteSink};
 use dc_text::Buffered;
 use std::alloc::Allocator;
-use std::fs::OpenFile;
-use std::io::{Read, Write};
-use std::os::unix::fs::FileExt;
+use std::fs::File;
+use std::io::Write;
+use std::net::{Net, TcpStream};
 use std::rt::Files;
 use std::{fs, io};
 
@@ -18,10 +19,9 @@ use std::{fs, io};
 pub const ROOM: usize = 65_536;
 
 /// Does what the words ask for.
-pub fn run<'a, F, R>(rt: &R, task: Task<'a>) -> Ending<'a>
+pub fn run<'a, R>(rt: &R, task: Task<'a>) -> Ending<'a>
 where
-    F: Read + FileExt + OpenFile + Drop,
-    R: Files<File = F> + Input + Print + AllocGlobal,
+    R: Files<File = File> + Net<Stream = TcpStream> + Input + Print + AllocGlobal,
 {
     match task {
         Task::Lines {
@@ -32,7 +32,12 @@ where
             ending_of(work(rt, engine, &mut ReadSource::new(rt.reader())), STREAM)
         }
         Task::Format { image, sectors } => format_image(rt, image, sectors),
-        Task::Run { image, script } => run_on_image(rt, image, script),
+        Task::Run {
+            image,
+            script,
+            gateway,
+        } => run_on_image(rt, image, script, gateway),
+        Task::Report { image, table } => report_on_image(rt, image, table),
     }
 }
 
@@ -71,16 +76,4 @@ pub fn flushed<A: Allocator, W: Write + Drop>(
         return Err(ProgramFault::Write);
     }
     Ok(())
-}
-
-/// How a run over this input ended.
-pub fn ending_of<'a>(outcome: Result<bool, ProgramFault>, input: &'a str) -> Ending<'a> {
-    match outcome {
-        Ok(false) => Ending::Clean,
-        Ok(true) => Ending::Faulty,
-        Err(ProgramFault::Read | ProgramFault::TooLong) => Ending::File(input),
-        Err(ProgramFault::Write) => Ending::File(STREAM),
-        Err(ProgramFault::NoMemory) => Ending::Memory,
-        Err(ProgramFault::Open(fault)) => Ending::Open(fault),
-    }
 }

@@ -1,6 +1,7 @@
 //! The program's words, read with `clap`.
 
 use crate::format::SECTORS;
+use crate::help;
 use clap::{Arg, Command, Error, value_parser};
 use std::alloc::{AllocError, Global};
 
@@ -36,6 +37,15 @@ pub enum Task<'a> {
         image: &'a str,
         /// The script's file.
         script: &'a str,
+        /// Where the gateway is, as `HOST:PORT`.
+        gateway: Option<&'a str>,
+    },
+    /// A table of what an image holds.
+    Report {
+        /// The image's file.
+        image: &'a str,
+        /// The word for the table.
+        table: &'a str,
     },
 }
 
@@ -43,15 +53,17 @@ fn decode_command<'a>(alloc: Global) -> Result<Command<'a>, AllocError> {
     let file = Arg::new(alloc, "FILE").help("Lines of hex digits [default: standard input]");
     Command::new(alloc, "decode")
         .about("Prints what each M-Bus frame says: link fields, meter, records, end")
+        .after_help(help::DECODE)
         .arg(file)
 }
 
 fn fold_command<'a>(alloc: Global) -> Result<Command<'a>, AllocError> {
-    let file = Arg::new(alloc, "FILE").help(
-        "Lines of telegrams and commands [default: standard input]",
-    );
+    let file = Arg::new(alloc, "FILE")
+        .required(true)
+        .help("Lines of telegrams and commands");
     Command::new(alloc, "fold")
         .about("Applies telegrams and commands to an empty register, and prints it")
+        .after_help(help::FOLD)
         .arg(file)
 }
 
@@ -65,6 +77,7 @@ fn format_command<'a>(alloc: Global) -> Result<Command<'a>, AllocError> {
         .help("How many sectors of 512 bytes it has, from 131 to 131075");
     Command::new(alloc, "format")
         .about("Makes an image that holds an empty register")
+        .after_help(help::FORMAT)
         .arg(image)?
         .arg(sectors)
 }
@@ -76,23 +89,47 @@ fn run_command<'a>(alloc: Global) -> Result<Command<'a>, AllocError> {
     let script = Arg::new(alloc, "SCRIPT").required(true).help(
         "Lines: AT, START, ASK, HEAR, COMMIT, OFFICE, POLL, SEARCH",
     );
+    let gateway = Arg::new(alloc, "GATEWAY")
+        .long("gateway")
+        .value_name("HOST:PORT")
+        .help("The gateway behind bus line 1, a TCP stream of blocks");
     Command::new(alloc, "run")
         .about("Opens the image, does what the script's lines ask for, and prints the answers")
+        .after_help(help::RUN)
         .arg(image)?
-        .arg(script)
+        .arg(script)?
+        .arg(gateway)
+}
+
+fn report_command<'a>(alloc: Global) -> Result<Command<'a>, AllocError> {
+    let image = Arg::new(alloc, "IMAGE")
+        .required(true)
+        .help("The image's file");
+    let table = Arg::new(alloc, "TABLE")
+        .required(true)
+        .help("register, or a date, as 2024-12-31");
+    Command::new(alloc, "report")
+        .about(
+            "Prints a table of what an image holds: its register, or the due-date values for a date",
+        )
+        .after_help(help::REPORT)
+        .arg(image)?
+        .arg(table)
 }
 
 /// The task that the words name. The first word is the program's name.
 pub fn task_of<'a>(alloc: Global, words: &'a [String]) -> Result<Task<'a>, Error> {
     let command = Command::new(alloc, "mbdc")
-        .version("0.1.0")
+        .version(help::VERSION)
         .about(
             "Data concentrator of wired M-Bus submeters; without a command it decodes standard input",
         )
+        .after_help(help::STATUSES)
         .subcommand(decode_command(alloc)?)?
         .subcommand(fold_command(alloc)?)?
         .subcommand(format_command(alloc)?)?
-        .subcommand(run_command(alloc)?)?;
+        .subcommand(run_command(alloc)?)?
+        .subcommand(report_command(alloc)?)?;
     let matches = command.try_get_matches_from(words)?;
     match matches.subcommand() {
         Some(("format", inner)) => Ok(Task::Format {
@@ -102,6 +139,11 @@ pub fn task_of<'a>(alloc: Global, words: &'a [String]) -> Result<Task<'a>, Error
         Some(("run", inner)) => Ok(Task::Run {
             image: inner.get_str("IMAGE").unwrap_or_default(),
             script: inner.get_str("SCRIPT").unwrap_or_default(),
+            gateway: inner.get_str("GATEWAY"),
+        }),
+        Some(("report", inner)) => Ok(Task::Report {
+            image: inner.get_str("IMAGE").unwrap_or_default(),
+            table: inner.get_str("TABLE").unwrap_or_default(),
         }),
         Some(("fold", inner)) => Ok(Task::Lines {
             engine: Engine::Fold,

@@ -1,3 +1,5 @@
+//! The allocator that refuses one request.
+
 use crate::requests::Requests;
 use std::alloc::{AllocError, Allocator};
 

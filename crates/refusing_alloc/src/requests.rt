@@ -1,3 +1,5 @@
+//! The requests of an allocator, counted.
+
 use std::cell::Cell;
 
 /// How many requests were made, and how many are left up to the one that is refused.

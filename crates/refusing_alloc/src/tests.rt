@@ -1,3 +1,5 @@
+//! Tests: which request is refused.
+
 use crate::Refusing;
 use std::test::Fail;
 

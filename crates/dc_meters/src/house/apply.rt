@@ -48,16 +48,19 @@ impl<A: Allocator + Copy> House<A> {
     }
 
     /// A meter belongs to another flat.
-    pub(super) fn move_to(&mut self, meter: Identity, flat: Flat)
+    pub(super) fn move_to(&mut self, meter: Identity, flat: Flat) -> Result<(), NoMemory>
         requires is_flat { IsFlat flat }
         requires room { size_of (moved meter flat (row_of meter self.old.state) self.old.state) ≤ self.old.budget }
-        ensures { self.new ≡ record self.old { state = moved meter flat (row_of meter self.old.state) self.old.state } }
+        ensures ok { OnOk result (self.new ≡ record self.old { state = moved meter flat (row_of meter self.old.state) self.old.state }) }
+        ensures err { OnErr result (self.new ≡ self.old) }
     {
-        if let Some(row) = self.meters.get_mut(&meter) {
-            let before = row.size();
-            row.set_flat(flat);
-            self.size = self.size - before + row.size();
-        }
+        let Some(row) = self.meters.get(&meter) else {
+            return Ok(());
+        };
+        let before = u32::from(row.flat().len());
+        self.meters.move_to(meter, flat)?;
+        self.size = self.size - before + u32::from(flat.len());
+        Ok(())
     }
 
     /// A meter less, and its open parts.
@@ -70,7 +73,6 @@ impl<A: Allocator + Copy> House<A> {
     }
 
     /// A part that more follow: it stays open.
-    #[tactic(auto, using(std::proofs::lemmas::Map::Steps::set_value_same))]
     fn keep_open(&mut self, meter: Identity, number: u8, part: Part<A>) -> Result<(), NoMemory>
         requires continues { continues number (row_of meter self.old.state) ≡ true }
         requires part_is { IsPart part }
@@ -78,17 +80,16 @@ impl<A: Allocator + Copy> House<A> {
         ensures ok { OnOk result (self.new ≡ record self.old { state = heard meter true number part (row_of meter self.old.state) self.old.state }) }
         ensures err { OnErr result (self.new ≡ self.old) }
     {
-        let Some(row) = self.meters.get_mut(&meter) else {
+        let Some(row) = self.meters.get(&meter) else {
             unreachable!()
         };
         let before = row.size();
-        row.join(self.alloc, number, part)?;
-        self.size = self.size - before + row.size();
+        let after = self.meters.join(self.alloc, &meter, number, part)?;
+        self.size = self.size - before + after;
         Ok(())
     }
 
     /// The part that ends a readout: a reading more, in the flat of today.
-    #[tactic(auto, using(std::proofs::lemmas::Map::Steps::set_value_same))]
     fn finish(&mut self, meter: Identity, number: u8, part: Part<A>) -> Result<(), NoMemory>
         requires continues { continues number (row_of meter self.old.state) ≡ true }
         requires part_is { IsPart part }
@@ -97,16 +98,18 @@ impl<A: Allocator + Copy> House<A> {
         ensures ok { OnOk result (self.new ≡ record self.old { state = heard meter false number part (row_of meter self.old.state) self.old.state }) }
         ensures err { OnErr result (self.new ≡ self.old) }
     {
-        let Some(row) = self.meters.get_mut(&meter) else {
+        let Some(row) = self.meters.get(&meter) else {
             unreachable!()
         };
-        let before = row.size();
+        let (before, after) = (row.size(), row.closed_size());
         let ended = Ended {
             meter,
             serial: self.next_serial,
         };
-        let read = row.finish(self.alloc, number, part, ended, &mut self.readings)?;
-        self.size = self.size - before + row.size() + read;
+        let read = self
+            .meters
+            .finish(self.alloc, number, part, ended, &mut self.readings)?;
+        self.size = self.size - before + after + read;
         self.next_serial += 1;
         Ok(())
     }
@@ -169,10 +172,7 @@ impl<A: Allocator + Copy> House<A> {
                 let row = Meter::new(self.alloc, line, address, flat);
                 self.fit(meter, row)
             }
-            Command::Move { meter, flat } => {
-                self.move_to(meter, flat);
-                Ok(())
-            }
+            Command::Move { meter, flat } => self.move_to(meter, flat),
             Command::Out { meter } => {
                 self.take_out(meter);
                 Ok(())

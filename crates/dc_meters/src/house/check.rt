@@ -165,19 +165,19 @@ impl<A: Allocator + Copy> House<A> {
     fn is_taken(&self, line: u8, address: Option<Primary>) -> bool
         ensures { result ≡ is_taken line address self.now.state }
     {
-        // A meter that is selected by its identity is in no other's way.
-        if address.is_none() {
-            return false;
+        match address {
+            Some(address) => self.meters.is_taken(line, address),
+            // A meter that is selected by its identity is in no other's way.
+            None => false,
         }
-        self.meters.values().any(|row| row.occupies(line, address))
     }
 
     fn is_taken_by_other(&self, old: &Identity, line: u8, address: Option<Primary>) -> bool
         ensures { result ≡ list_any (λ e. not (is_at (identity_cmp old.now) e.0) && occupies line address e.1) self.now.state.meters }
     {
-        if address.is_none() {
-            return false;
+        match address {
+            Some(address) => self.meters.is_taken_by_other(old, line, address),
+            None => false,
         }
-        self.meters.iter().any(|(meter, row)| old.cmp(meter).is_ne() && row.occupies(line, address))
     }
 }

@@ -16,14 +16,13 @@ ghost use Rattle.dc_changes.specs.Reading.{Gives, Reads, many, listed, count_at,
 use super::House;
 use crate::due::due_days_of;
 use crate::parts::parts_at;
-use crate::{Meter, Reading, ReadingList};
+use crate::{Meter, MeterMap, Reading, ReadingList};
 use dc_address::Identity;
 use dc_changes::pieces::{
     address_of, byte_at, count_at, counted_at, flat_of, identity_at, line_at, long_at,
 };
 use dc_changes::{CommandLine, DecodeFault, END_OF_NUMBERS, LONGEST_LINE};
 use std::alloc::Allocator;
-use std::collections::BTreeMap;
 
 /// What stands before the meters.
 #[derive(Clone, Copy)]
@@ -96,11 +95,11 @@ fn reading_at<A: Allocator + Copy>(
 }
 
 /// Whether a meter comes behind all of these.
-fn is_behind<A: Allocator>(meters: &BTreeMap<Identity, Meter<A>, A>, meter: &Identity) -> bool
+fn is_behind<A: Allocator + Copy>(meters: &MeterMap<A>, meter: &Identity) -> bool
     ensures yes { result ≡ true → All (λ other. identity_cmp other meter.now ≡ Less) (keys_of meters.now.entries) }
     ensures no { result ≡ false → All (λ other. identity_cmp other meter.now ≡ Less) (keys_of meters.now.entries) → ⊥ }
 {
-    match meters.last_key_value() {
+    match meters.rows().last_key_value() {
         Some((last, _)) => meter.cmp(last).is_gt(),
         None => true,
     }
@@ -110,12 +109,12 @@ fn each_meter<A: Allocator + Copy>(
     alloc: A,
     count: u32,
     bytes: &[u8],
-) -> Result<(BTreeMap<Identity, Meter<A>, A>, &[u8]), DecodeFault>
+) -> Result<(MeterMap<A>, &[u8]), DecodeFault>
     ensures found { IfOk result (λ x. many entry_at count bytes.now ≡ Some (x.0.entries, x.1.now)) }
     ensures ascend { IfOk result (λ x. MetersAscend x.0.entries) }
     ensures bad { IsErrOf result DecodeFault.Bad → (meters : List (Identity × MeterRow)) (rest : List ℕ) → many entry_at count bytes.now ≡ Some (meters, rest) → MetersAscend meters → ⊥ }
 {
-    let mut meters = BTreeMap::new(alloc);
+    let mut meters = MeterMap::new(alloc);
     let mut rest = bytes;
     for _ in 0..count {
         let (meter, row, after) = entry_at(alloc, rest)?;
@@ -132,7 +131,7 @@ fn each_meter<A: Allocator + Copy>(
 fn meters_at<A: Allocator + Copy>(
     alloc: A,
     bytes: &[u8],
-) -> Result<(BTreeMap<Identity, Meter<A>, A>, &[u8]), DecodeFault>
+) -> Result<(MeterMap<A>, &[u8]), DecodeFault>
     ensures found { IfOk result (λ x. listed count_at entry_at bytes.now ≡ Some (x.0.entries, x.1.now)) }
     ensures ascend { IfOk result (λ x. MetersAscend x.0.entries) }
     ensures bad { IsErrOf result DecodeFault.Bad → (meters : List (Identity × MeterRow)) (rest : List ℕ) → listed count_at entry_at bytes.now ≡ Some (meters, rest) → MetersAscend meters → ⊥ }

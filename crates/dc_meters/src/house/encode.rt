@@ -24,7 +24,7 @@ impl<A: Allocator + Copy> House<A> {
     {
         let _ = self.size(); // for what it says: more meters or readings than a size can count, there are not
         self.put_head(sink)?;
-        put_meters(sink, &self.meters)?;
+        put_meters(sink, self.meters.rows())?;
         put_readings(sink, self.readings.all())?;
         Ok(())
     }

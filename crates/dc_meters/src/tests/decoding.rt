@@ -280,9 +280,9 @@ fn each_growth_of_a_reading_back_is_refused_in_turn(rt: HostRuntime) -> Result<(
         refused = k;
     }
 
-    // A map of meters, a list of parts and a body; a list of readings, a list of parts and two bodies;
+    // A map of meters and their two orders, a list of parts and a body; a list of readings, a list of parts and two bodies;
     // the day of a storage number, the due days, and the orders by meter and by due date.
-    assert_eq!(rt; refused, 11);
+    assert_eq!(rt; refused, 13);
     Ok(())
 }
 
@@ -305,9 +305,9 @@ fn each_growth_of_a_replay_is_refused_in_turn(rt: HostRuntime) -> Result<(), Fai
         refused = k;
     }
 
-    // The meter; a body and a list of parts; a body, the day of a storage number, the due days, a list of readings and
+    // The meter and its two places; a body and a list of parts; a body, the day of a storage number, the due days, a list of readings and
     // the orders by meter and by due date. The parts go on in the room that there is, and so does the meter that is
     // swapped in.
-    assert_eq!(rt; refused, 9);
+    assert_eq!(rt; refused, 11);
     Ok(())
 }

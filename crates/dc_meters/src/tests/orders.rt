@@ -4,6 +4,7 @@ ghost use Rattle.std.specs.Prelude.{IfOk};
 ghost use Rattle.dc_changes.specs.Flat.{IsFlat};
 ghost use Rattle.dc_changes.specs.Valid.{IsCommand};
 
+use super::places::{addresses_agree, flats_agree};
 use super::{apply, heard};
 use crate::{House, Reading};
 use dc_address::{Identity, Primary};
@@ -41,7 +42,7 @@ fn some_command(kind: u8, one: u8, two: u8) -> Result<Command, Fail>
         0 => Command::Fit {
             meter,
             line: 1,
-            address: Primary::new(two),
+            address: Primary::new(two % 6),
             flat,
         },
         1 => Command::Move { meter, flat },
@@ -52,7 +53,7 @@ fn some_command(kind: u8, one: u8, two: u8) -> Result<Command, Fail>
         _ => Command::Swap {
             old: meter,
             new: other,
-            address: None,
+            address: Primary::new(two % 5),
         },
     })
 }
@@ -150,6 +151,8 @@ fn each_call_is_the_filter(rt: HostRuntime) -> Result<(), Fail> {
             serials_agree(&rt, &house);
             meters_agree(&rt, &house)?;
             days_agree(&rt, &house)?;
+            flats_agree(&rt, &house);
+            addresses_agree(&rt, &house)?;
             if done {
                 break;
             }

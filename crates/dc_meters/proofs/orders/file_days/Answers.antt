@@ -1,4 +1,4 @@
-use Rattle.std.proofs.Common.{◌≡◌, List, sym, ap, ◌∙◌, arith}
+use Rattle.std.proofs.Common.{List, ap, ◌∙◌, arith}
 use Rattle.dc_meters.specs.Due.{day_cmp}
 use Rattle.dc_meters.specs.Orders.{found}
 use Rattle.dc_units.specs.Date.{Day}

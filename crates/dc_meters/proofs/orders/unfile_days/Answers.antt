@@ -1,5 +1,4 @@
 use Rattle.std.proofs.Common.{arith}
-use Rattle.std.proofs.lemmas.List.{take_more}
 use Rattle.dc_meters.proofs.FiledDays.{unfiled_day, taken_more}
 use Rattle.dc_meters.proofs.orders.unfile_days.Goals as goal
 

@@ -19,7 +19,7 @@ returns-in-Ok-run_lines-clause-ran g c premise =
         reads_as = λ h. c.in-Ok-open.ensures.reads h;
         leaves = λ h. c.in-Ok-open.ensures.any_moment h (premise h);
       };
-      script = c.in-Ok-run_lines.ensures.ran first.house.state [] tt at;
+      script = rw (sym c.joined-gateway.ensures) (c.in-Ok-run_lines.ensures.ran first.house.state [] tt at);
       disk_is = c.close.ensures.disk;
     }
 
@@ -40,6 +40,6 @@ returns-clause-cut g c premise write =
         reads_as = λ h. c.in-Ok-open.ensures.reads h;
         leaves = λ h. c.in-Ok-open.ensures.any_moment h (premise h);
       };
-      script = c.in-Err-run_lines.ensures.cut first.house.state [] tt at;
+      script = rw (sym c.joined-gateway.ensures) (c.in-Err-run_lines.ensures.cut first.house.state [] tt at);
       disk_is = c.close-in-Err-run_lines.ensures.disk;
     }

@@ -1,17 +1,16 @@
-use Rattle.std.proofs.Common.{◌≡◌, ◌≤◌, ◌+◌, ◌++◌, ◌∷◌, [], ℕ, List, append-nil, eqb-true, refl, sym, subst, ◌∙◌, arith, codes}
-use Rattle.std.specs.Prelude.{OnOk}
+use Rattle.std.proofs.Common.{◌≡◌, ◌≤◌, ◌+◌, ◌++◌, ◌∷◌, [], ℕ, List, inl, inr, append-nil, eqb-true, refl, sym, subst, ◌∙◌, arith, codes}
 use Rattle.dc_stream.specs.Stream.{Puts}
 use Rattle.dc_stream.proofs.Pieces.{puts-both, puts-none}
 use Rattle.dc_text.specs.Words.{number_word}
 use Rattle.dc_core.specs.Core.{opened}
-use Rattle.dc_core.specs.Run.{Ran}
 use Rattle.dc_core.specs.Transcript.{IsChain}
-use Rattle.dc_core.proofs.Going.{ran_none}
 use Rattle.dc_poller.specs.Lines.{lines_of}
-use Rattle.dc_poller.specs.Script.{AskFor, events_at, own_text, lines_text}
+use Rattle.dc_poller.specs.Link.{link_of}
+use Rattle.dc_poller.specs.Script.{AskFor, LineRan, LineCut, deeds_turns, deeds_text}
 use Rattle.dc_poller.specs.ScriptLine.{seen}
 use Rattle.dc_poller.proofs.Inputs.{no_line}
-use Rattle.dc_poller.proofs.LineRuns.{SoFar, one_more, moment_fits}
+use Rattle.dc_poller.proofs.LineRuns.{SoFar, one_more, cut_here, on_err, lines_none, moment_fits}
+use Rattle.dc_poller.proofs.Wents.{went_none, went_chain, went_at}
 use Rattle.dc_poller.proofs.script.run_lines.Goals as goal
 
 pub lines-init : goal.lines-init
@@ -26,11 +25,9 @@ lines-init g c = record {
     are_read = refl;
     moment_is = refl;
     count_is = refl;
-    ran = λ state before chain at. record {
-      ran = ran_none g.D.Disk.honest g.D.Disk.sectors g.D.Disk.reads g.D.Disk.choices g.D.Disk.moment g.D.Disk.images_since c.args.concentrator.now.house.budget state before (λ text. Unit {0}) c.args.concentrator.now chain at
-          (λ h image left. g.met.D.Disk.only_now h c.args.concentrator.now.store.disk image left) tt;
-      text = puts-none (g.W.Sink.written c.args.out.now);
-    };
+    ran = λ state before chain at. lines_none g.D.Disk.honest g.D.Disk.sectors g.D.Disk.reads g.D.Disk.choices g.D.Disk.moment g.D.Disk.images_since c.args.concentrator.now.house.budget state before (link_of c.args.gateway.now) (Puts (g.W.Sink.written c.args.out.now) (g.W.Sink.written c.args.out.now)) c.args.concentrator.now
+        (went_none g.D.Disk.honest g.D.Disk.sectors g.D.Disk.reads g.D.Disk.choices g.D.Disk.moment g.D.Disk.images_since c.args.concentrator.now.house.budget state before c.args.concentrator.now chain at (λ h image left. g.met.D.Disk.only_now h c.args.concentrator.now.store.disk image left))
+        (puts-none (g.W.Sink.written c.args.out.now));
   };
 }
 
@@ -45,21 +42,21 @@ lines-preserved g c =
     let first = c.args.concentrator.now in
     let old = c.lines.concentrator in
     let new = c.run_line.new.concentrator in
-    let piece : List ℕ → Type 0 = λ text. Puts (w c.lines.out) (w c.run_line.new.out) (own_text asked ++ text) in
-    let here = subst (λ (rest : List (List ℕ)). SoFar g.D.Disk.honest g.D.Disk.sectors g.D.Disk.reads g.D.Disk.choices g.D.Disk.moment g.D.Disk.images_since first.house.budget (lines_of c.args.input.now) rest c.lines.moment c.lines.count (Puts (w c.args.out.now) (w c.lines.out)) first old)
+    let piece : List ℕ → Type 0 = Puts (w c.lines.out) (w c.run_line.new.out) in
+    let here = subst (λ (rest : List (List ℕ)). SoFar g.D.Disk.honest g.D.Disk.sectors g.D.Disk.reads g.D.Disk.choices g.D.Disk.moment g.D.Disk.images_since first.house.budget (link_of c.args.gateway.now) (link_of c.lines.gateway) (lines_of c.args.input.now) rest c.lines.moment c.lines.count (Puts (w c.args.out.now) (w c.lines.out)) first old)
     c.first_line.ensures.lines so_far in
-    let more = one_more g.D.Disk.honest g.D.Disk.sectors g.D.Disk.reads g.D.Disk.choices g.D.Disk.moment g.D.Disk.images_since first.house.budget (lines_of c.args.input.now) c.first_line.result.0.now (lines_of c.first_line.result.1.now) asked c.lines.moment c.lines.count
+    let more = one_more g.D.Disk.honest g.D.Disk.sectors g.D.Disk.reads g.D.Disk.choices g.D.Disk.moment g.D.Disk.images_since first.house.budget (link_of c.args.gateway.now) (link_of c.lines.gateway) (link_of c.run_line.new.gateway) (lines_of c.args.input.now) c.first_line.result.0.now (lines_of c.first_line.result.1.now) asked c.lines.moment c.lines.count
     (Puts (w c.args.out.now) (w c.lines.out)) piece (Puts (w c.args.out.now) (w c.run_line.new.out)) first old new here c.in-Some.ensures.found
-    (λ state before chain at. subst (λ (b : ℕ). Ran g.D.Disk.honest g.D.Disk.sectors g.D.Disk.reads g.D.Disk.choices g.D.Disk.moment g.D.Disk.images_since b state before (events_at c.lines.moment asked) piece old new) b_is
+    (λ state before chain at. subst (λ (b : ℕ). LineRan g.D.Disk.honest g.D.Disk.sectors g.D.Disk.reads g.D.Disk.choices g.D.Disk.moment g.D.Disk.images_since b state before c.lines.moment asked (link_of c.lines.gateway) (link_of c.run_line.new.gateway) piece old new) b_is
     (c.in_default-run_line.ensures.ran state before (subst (λ (b : ℕ). IsChain b (opened state) before) (sym b_is) chain) at))
-    (λ text more wrote put. puts-both (w c.args.out.now) (w c.lines.out) (w c.run_line.new.out) text (own_text asked ++ more) wrote put) in
+    (λ text more wrote put. puts-both (w c.args.out.now) (w c.lines.out) (w c.run_line.new.out) text more wrote put) in
     record {
       bytes = omega arith;
       moment = subst (λ (m : ℕ). m ≤ _) (sym c.moment_behind-moment.ensures) (moment_fits c.lines.moment asked c.lines.invariant.moment c.in-Some.ensures.found.has_bounds);
       counted = omega (arith, counted, shorter);
       budget = c.run_line.ensures.budget ∙ b_is;
       well = c.in_default-run_line.ensures.well ∙ c.lines.invariant.well;
-      so_far = subst (λ (m : ℕ). SoFar g.D.Disk.honest g.D.Disk.sectors g.D.Disk.reads g.D.Disk.choices g.D.Disk.moment g.D.Disk.images_since first.house.budget (lines_of c.args.input.now) (lines_of c.first_line.result.1.now) m (c.lines.count + 1) (Puts (w c.args.out.now) (w c.run_line.new.out)) first new)
+      so_far = subst (λ (m : ℕ). SoFar g.D.Disk.honest g.D.Disk.sectors g.D.Disk.reads g.D.Disk.choices g.D.Disk.moment g.D.Disk.images_since first.house.budget (link_of c.args.gateway.now) (link_of c.run_line.new.gateway) (lines_of c.args.input.now) (lines_of c.first_line.result.1.now) m (c.lines.count + 1) (Puts (w c.args.out.now) (w c.run_line.new.out)) first new)
           (sym c.moment_behind-moment.ensures) more;
     }
 
@@ -71,39 +68,58 @@ returns-in-Err-clause-cut g c state before chain at =
     let first = c.args.concentrator.now in
     let old = c.lines.concentrator in
     let new = c.run_line.new.concentrator in
-    let piece : List ℕ → Type 0 = λ text. OnOk c.run_line.result (Puts (w c.lines.out) (w c.run_line.new.out) (own_text asked ++ text)) in
-    let here = subst (λ (rest : List (List ℕ)). SoFar g.D.Disk.honest g.D.Disk.sectors g.D.Disk.reads g.D.Disk.choices g.D.Disk.moment g.D.Disk.images_since first.house.budget (lines_of c.args.input.now) rest c.lines.moment c.lines.count (Puts (w c.args.out.now) (w c.lines.out)) first old)
+    let line = c.first_line.result.0.now in
+    let rest = lines_of c.first_line.result.1.now in
+    let here = subst (λ (rest : List (List ℕ)). SoFar g.D.Disk.honest g.D.Disk.sectors g.D.Disk.reads g.D.Disk.choices g.D.Disk.moment g.D.Disk.images_since first.house.budget (link_of c.args.gateway.now) (link_of c.lines.gateway) (lines_of c.args.input.now) rest c.lines.moment c.lines.count (Puts (w c.args.out.now) (w c.lines.out)) first old)
     c.first_line.ensures.lines c.lines.invariant.so_far in
-    let more = one_more g.D.Disk.honest g.D.Disk.sectors g.D.Disk.reads g.D.Disk.choices g.D.Disk.moment g.D.Disk.images_since first.house.budget (lines_of c.args.input.now) c.first_line.result.0.now (lines_of c.first_line.result.1.now) asked c.lines.moment c.lines.count
-    (Puts (w c.args.out.now) (w c.lines.out)) piece (λ text. Unit {0}) first old new here c.in-Some.ensures.found
-    (λ state before chain at. subst (λ (b : ℕ). Ran g.D.Disk.honest g.D.Disk.sectors g.D.Disk.reads g.D.Disk.choices g.D.Disk.moment g.D.Disk.images_since b state before (events_at c.lines.moment asked) piece old new) b_is
-    (c.run_line.ensures.ran state before (subst (λ (b : ℕ). IsChain b (opened state) before) (sym b_is) chain) at))
-    (λ text more wrote put. tt) in
-    record { asked = more.done; rest = lines_of c.first_line.result.1.now; are_read = more.are_read; done = more.ran state before chain at }
+    let ran = here.ran state before chain at in
+    let turns = deeds_turns ran.lines.deeds in
+    let cut = subst (λ (b : ℕ). LineCut g.D.Disk.honest g.D.Disk.sectors g.D.Disk.reads g.D.Disk.choices g.D.Disk.moment g.D.Disk.images_since b state (before ++ turns) c.lines.moment asked (link_of c.lines.gateway) old new) b_is
+    (c.in-Err.ensures.cut state (before ++ turns)
+    (subst (λ (b : ℕ). IsChain b (opened state) (before ++ turns)) (sym b_is) (went_chain g.D.Disk.honest g.D.Disk.sectors g.D.Disk.reads g.D.Disk.choices g.D.Disk.moment g.D.Disk.images_since first.house.budget state before turns first old ran.lines.went))
+    (went_at g.D.Disk.honest g.D.Disk.sectors g.D.Disk.reads g.D.Disk.choices g.D.Disk.moment g.D.Disk.images_since first.house.budget state before turns first old ran.lines.went)) in
+    cut_here g.D.Disk.honest g.D.Disk.sectors g.D.Disk.reads g.D.Disk.choices g.D.Disk.moment g.D.Disk.images_since first.house.budget (link_of c.args.gateway.now) (link_of c.lines.gateway) (lines_of c.args.input.now) line rest c.lines.moment c.lines.count (Puts (w c.args.out.now) (w c.lines.out)) cut.turns first old new here state before chain at
+    (inl (asked, c.in-Some.ensures.found, cut.does)) cut.went
 
 pub returns-in_default-clause-ran : goal.returns-in_default-clause-ran
 returns-in_default-clause-ran g c state before chain at =
     let so_far = c.lines.invariant.so_far in
-    let ran = so_far.ran state before chain at in
+    let ran = (so_far.ran state before chain at).lines in
     let w = g.W.Sink.written in
-    let text = lines_text so_far.done ran.ran.turns in
     record {
       asked = so_far.done;
       rest = c.first_line.result.0.now ∷ lines_of c.first_line.result.1.now;
       are_read = subst (AskFor (lines_of c.args.input.now) so_far.done) c.first_line.ensures.lines so_far.are_read;
       ends = (refl, c.in_default.ensures.only);
       done = record {
-        ran = ran.ran;
-        text = puts-both (w c.args.out.now) (w c.lines.out) (w c.put_syntax.new.out) text _ ran.text
+        deeds = ran.deeds;
+        done = ran.done;
+        went = ran.went;
+        text = puts-both (w c.args.out.now) (w c.lines.out) (w c.put_syntax.new.out) (deeds_text ran.deeds) _ ran.text
             (subst (λ (n : ℕ). Puts (w c.lines.out) (w c.put_syntax.new.out) (codes "LINE" ++ number_word (n + 1) ++ codes " SYNTAX\n")) so_far.count_is c.in_ok-put_syntax.ensures.0);
       };
     }
 
+pub returns-in_err-put_syntax-clause-cut : goal.returns-in_err-put_syntax-clause-cut
+returns-in_err-put_syntax-clause-cut g c state before chain at =
+    let w = g.W.Sink.written in
+    let first = c.args.concentrator.now in
+    let old = c.lines.concentrator in
+    let line = c.first_line.result.0.now in
+    let rest = lines_of c.first_line.result.1.now in
+    let here = subst (λ (rest : List (List ℕ)). SoFar g.D.Disk.honest g.D.Disk.sectors g.D.Disk.reads g.D.Disk.choices g.D.Disk.moment g.D.Disk.images_since first.house.budget (link_of c.args.gateway.now) (link_of c.lines.gateway) (lines_of c.args.input.now) rest c.lines.moment c.lines.count (Puts (w c.args.out.now) (w c.lines.out)) first old)
+    c.first_line.ensures.lines c.lines.invariant.so_far in
+    let ran = here.ran state before chain at in
+    let turns = deeds_turns ran.lines.deeds in
+    on_err c.from_residual.result _ (cut_here g.D.Disk.honest g.D.Disk.sectors g.D.Disk.reads g.D.Disk.choices g.D.Disk.moment g.D.Disk.images_since first.house.budget (link_of c.args.gateway.now) (link_of c.lines.gateway) (lines_of c.args.input.now) line rest c.lines.moment c.lines.count (Puts (w c.args.out.now) (w c.lines.out)) [] first old old here state before chain at
+    (inr (c.in_default.ensures.only, refl))
+    (went_none g.D.Disk.honest g.D.Disk.sectors g.D.Disk.reads g.D.Disk.choices g.D.Disk.moment g.D.Disk.images_since first.house.budget state (before ++ turns) old (went_chain g.D.Disk.honest g.D.Disk.sectors g.D.Disk.reads g.D.Disk.choices g.D.Disk.moment g.D.Disk.images_since first.house.budget state before turns first old ran.lines.went) (went_at g.D.Disk.honest g.D.Disk.sectors g.D.Disk.reads g.D.Disk.choices g.D.Disk.moment g.D.Disk.images_since first.house.budget state before turns first old ran.lines.went)
+    (λ h image left. g.met.D.Disk.only_now h old.store.disk image left)))
+
 pub returns-clause-ran : goal.returns-clause-ran
 returns-clause-ran g c state before chain at =
     let so_far = c.lines.invariant.so_far in
-    let ran = so_far.ran state before chain at in
-    let w = g.W.Sink.written in
+    let ran = (so_far.ran state before chain at).lines in
     let none : lines_of c.lines.rest.now ≡ [] = no_line c.lines.rest.now (eqb-true _ _ (sym c.lines-test.ensures)) in
     record {
       asked = so_far.done;
@@ -111,7 +127,9 @@ returns-clause-ran g c state before chain at =
       are_read = subst (AskFor (lines_of c.args.input.now) so_far.done) none so_far.are_read;
       ends = refl;
       done = record {
-        ran = ran.ran;
-        text = subst (Puts (w c.args.out.now) (w c.lines.out)) (sym (append-nil (lines_text so_far.done ran.ran.turns))) ran.text;
+        deeds = ran.deeds;
+        done = ran.done;
+        went = ran.went;
+        text = subst (Puts (g.W.Sink.written c.args.out.now) (g.W.Sink.written c.lines.out)) (sym (append-nil (deeds_text ran.deeds))) ran.text;
       };
     }

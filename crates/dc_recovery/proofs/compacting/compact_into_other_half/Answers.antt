@@ -1,14 +1,15 @@
-use Rattle.std.proofs.Common.{◌≡◌, ◌+◌, zero, inl, arith, ap, subst, sym, ◌∙◌, refl}
-use Rattle.dc_sectors.specs.Disk.{Image, settled}
-use Rattle.dc_sectors.proofs.Moments.{weakened, goes_on, at_end, followed}
+use Rattle.std.proofs.Common.{◌≡◌, ◌+◌, ℕ, zero, arith, ap, refl, subst, sym, ◌∙◌}
+use Rattle.dc_sectors.specs.Disk.{LeavesOnly, settled}
+use Rattle.dc_pages.specs.Group.{base_kind}
 use Rattle.dc_changes.proofs.Lengths.{state_some, state_fits}
 use Rattle.dc_roots.specs.declared.root.Root.{Root}
-use Rattle.dc_roots.specs.Choice.{IsRootWrite}
 use Rattle.dc_recovery.specs.Halves.{budget_of}
-use Rattle.dc_recovery.specs.Language.{SpellsState, state_bytes}
-use Rattle.dc_recovery.specs.Roots.{IsRootDone, compacted}
-use Rattle.dc_recovery.specs.Stands.{IsReady, StandsForEither}
-use Rattle.dc_recovery.proofs.Compacted.{wider, base_attempt, compacting_step, compacting_done}
+use Rattle.dc_recovery.specs.Language.{State, SpellsState, state_bytes}
+use Rattle.dc_recovery.specs.Stands.{image_version, IsReady, StandsForEither}
+use Rattle.dc_recovery.specs.Writing.{IsWritten}
+use Rattle.dc_recovery.proofs.Compacted.{IsCompactable, wider, compacting_done, base_written, base_synced, root_put}
+use Rattle.dc_recovery.proofs.compacting.compact_into_other_half.Given.{Over}
+use Rattle.dc_recovery.proofs.compacting.compact_into_other_half.Goals.{After-put_root}
 use Rattle.dc_recovery.proofs.compacting.compact_into_other_half.Goals as goal
 
 pub write_state-requires-clause-some : goal.write_state-requires-clause-some
@@ -24,87 +25,54 @@ write_state-requires-clause-room g c =
 
 pub returns-in_err-count-clause-any_moment : goal.returns-in_err-count-clause-any_moment
 returns-in_err-count-clause-any_moment g c h is_settled m place was ready at =
-    let disk = c.args.disk.now in
-    let root = c.args.root.now in
-    let H = c.args.half_len in
-    let house = c.args.house.now in
-    let old = g.D.Disk.reads disk in
-    let bytes = state_bytes house.state in
-    let attempt = base_attempt H root m place was c.args.sequence old ready c.requires.half at c.half_start.result c.half_end.result c.half_start.ensures.exact c.half_end.ensures.exact bytes in
-    let wrote = weakened g.D.Disk.moment g.D.Disk.images_since disk c.write_state.new.disk _ (StandsForEither H was house.state) (c.write_state.ensures.any_moment h is_settled) (λ i wrote. inl (attempt i wrote)) in
-    wrote
+    base_written g.D.Disk.moment g.D.Disk.images_since g.D.Disk.choices g.D.Disk.reads (g.met.D.Disk.counts_now h) c.args.disk.now c.write_state.new.disk
+    (record { ready = ready; small = c.requires.half; at_sequence = at }) (record { at_first = c.half_start.ensures.exact; at_end = c.half_end.ensures.exact }) c.args.house.now.state (c.write_state.ensures.any_moment h is_settled)
 
 pub returns-in_err-sync-clause-any_moment : goal.returns-in_err-sync-clause-any_moment
 returns-in_err-sync-clause-any_moment g c h is_settled m place was ready at =
-    let disk = c.args.disk.now in
-    let root = c.args.root.now in
+    base_synced g.D.Disk.moment g.D.Disk.images_since g.D.Disk.choices g.D.Disk.reads (g.met.D.Disk.counts_now h) c.args.disk.now c.write_state.new.disk
+    (record { ready = ready; small = c.requires.half; at_sequence = at }) (record { at_first = c.half_start.ensures.exact; at_end = c.half_end.ensures.exact }) c.args.house.now.state (c.write_state.ensures.any_moment h is_settled)
+    c.sync.new.self (c.sync.ensures.time h)
+
+-- WHEN THE ROOT IS PUT: the disk is settled, and has the base group of the whole state.
+record HasBase (g : Over) (c : After-put_root g) : Type 0 where
+  still : g.D.Disk.choices c.sync.new.self ≡ settled (g.D.Disk.reads c.sync.new.self)
+  done : IsWritten image_version base_kind c.args.root.now.session c.args.sequence (state_bytes c.args.house.now.state) c.half_start.result c.half_end.result c.in_ok-count.count (g.D.Disk.reads c.args.disk.now) (g.D.Disk.reads c.sync.new.self)
+  spells : SpellsState (budget_of c.args.half_len) (state_bytes c.args.house.now.state) c.args.house.now.state
+
+has_base : (g : Over) (c : After-put_root g) → g.D.Disk.honest → g.D.Disk.choices c.args.disk.now ≡ settled (g.D.Disk.reads c.args.disk.now) → HasBase g c
+has_base g c h is_settled =
     let H = c.args.half_len in
     let house = c.args.house.now in
-    let old = g.D.Disk.reads disk in
-    let bytes = state_bytes house.state in
-    let attempt = base_attempt H root m place was c.args.sequence old ready c.requires.half at c.half_start.result c.half_end.result c.half_start.ensures.exact c.half_end.ensures.exact bytes in
-    let wrote = weakened g.D.Disk.moment g.D.Disk.images_since disk c.write_state.new.disk _ (StandsForEither H was house.state) (c.write_state.ensures.any_moment h is_settled) (λ i wrote. inl (attempt i wrote)) in
-    let synced = goes_on g.D.Disk.moment g.D.Disk.images_since disk c.write_state.new.disk c.sync.new.self _ _ wrote (c.sync.ensures.time h)
-    (at_end g.D.Disk.moment g.D.Disk.images_since disk c.write_state.new.disk _ _ wrote (g.met.D.Disk.counts_now h c.write_state.new.disk)) in
-    synced
+    let same : g.D.Disk.reads c.sync.new.self ≡ g.D.Disk.reads c.write_state.new.disk = c.sync.ensures.reads h in
+    record {
+      still = c.in_ok-sync.ensures.choices h ∙ ap settled (sym same);
+      done = subst (IsWritten image_version base_kind c.args.root.now.session c.args.sequence (state_bytes house.state) c.half_start.result c.half_end.result c.in_ok-count.count (g.D.Disk.reads c.args.disk.now)) (sym same) (c.in_ok-count.ensures.written h is_settled);
+      spells = record { spelled = refl; is_state = wider house.budget (budget_of H) house.state c.requires.budget c.size-size.ensures.is_state };
+    }
+
+-- until it is in force, or can't be put
+put : (g : Over) (c : After-put_root g) → g.D.Disk.honest → g.D.Disk.choices c.args.disk.now ≡ settled (g.D.Disk.reads c.args.disk.now) → {m place : ℕ} {was : State}
+    → IsCompactable c.args.half_len c.args.root.now m place c.args.sequence was (g.D.Disk.reads c.args.disk.now)
+    → LeavesOnly g.D.Disk.moment g.D.Disk.images_since c.args.disk.now c.put_root.new.disk (StandsForEither c.args.half_len was c.args.house.now.state)
+put g c h is_settled may =
+    let based = has_base g c h is_settled in
+    root_put g.D.Disk.moment g.D.Disk.images_since g.D.Disk.choices g.D.Disk.reads (g.met.D.Disk.counts_now h) c.args.disk.now c.write_state.new.disk
+    may (record { at_first = c.half_start.ensures.exact; at_end = c.half_end.ensures.exact }) c.args.house.now.state (c.write_state.ensures.any_moment h is_settled)
+    c.sync.new.self (c.sync.ensures.time h) c.put_root.new.disk c.in_ok-count.count based.done based.spells (c.put_root.ensures.any_moment h based.still)
 
 pub returns-in-Ok-clause-any_moment : goal.returns-in-Ok-clause-any_moment
 returns-in-Ok-clause-any_moment g c h is_settled m place was ready at =
-    let disk = c.args.disk.now in
-    let root = c.args.root.now in
-    let H = c.args.half_len in
-    let house = c.args.house.now in
-    let old = g.D.Disk.reads disk in
-    let bytes = state_bytes house.state in
-    let attempt = base_attempt H root m place was c.args.sequence old ready c.requires.half at c.half_start.result c.half_end.result c.half_start.ensures.exact c.half_end.ensures.exact bytes in
-    let wrote = weakened g.D.Disk.moment g.D.Disk.images_since disk c.write_state.new.disk _ (StandsForEither H was house.state) (c.write_state.ensures.any_moment h is_settled) (λ i wrote. inl (attempt i wrote)) in
-    let synced = goes_on g.D.Disk.moment g.D.Disk.images_since disk c.write_state.new.disk c.sync.new.self _ _ wrote (c.sync.ensures.time h)
-    (at_end g.D.Disk.moment g.D.Disk.images_since disk c.write_state.new.disk _ _ wrote (g.met.D.Disk.counts_now h c.write_state.new.disk)) in
-    let budget : SpellsState (budget_of H) bytes house.state = record { spelled = refl; is_state = wider house.budget (budget_of H) house.state c.requires.budget c.size-size.ensures.is_state } in
-    let done = c.in_ok-count.ensures.written h is_settled in
-    let image = g.D.Disk.reads c.write_state.new.disk in
-    let same : g.D.Disk.reads c.sync.new.self ≡ image = c.sync.ensures.reads h in
-    let still : g.D.Disk.choices c.sync.new.self ≡ settled (g.D.Disk.reads c.sync.new.self) = c.in_ok-sync.ensures.choices h ∙ ap settled (sym same) in
-    let step = compacting_step H root m place was c.args.sequence old ready c.requires.half at c.half_start.result c.half_end.result c.half_start.ensures.exact c.half_end.ensures.exact house.state c.in_ok-count.count image done budget in
-    let put = weakened g.D.Disk.moment g.D.Disk.images_since c.sync.new.self c.put_root.new.disk _ _ (c.put_root.ensures.any_moment h still)
-    (λ i write. step i (subst (λ (o : Image). IsRootWrite (compacted root c.args.sequence) o i) same write)) in
-    followed g.D.Disk.moment g.D.Disk.images_since disk c.sync.new.self c.put_root.new.disk _ _ _ synced put (λ i is. is) (λ i is. is)
+    put g (goal.at.returns-in-Ok-clause-any_moment g c).After-put_root h is_settled (record { ready = ready; small = c.requires.half; at_sequence = at })
 
 pub returns-in-Err-clause-any_moment : goal.returns-in-Err-clause-any_moment
 returns-in-Err-clause-any_moment g c h is_settled m place was ready at =
-    let disk = c.args.disk.now in
-    let root = c.args.root.now in
-    let H = c.args.half_len in
-    let house = c.args.house.now in
-    let old = g.D.Disk.reads disk in
-    let bytes = state_bytes house.state in
-    let attempt = base_attempt H root m place was c.args.sequence old ready c.requires.half at c.half_start.result c.half_end.result c.half_start.ensures.exact c.half_end.ensures.exact bytes in
-    let wrote = weakened g.D.Disk.moment g.D.Disk.images_since disk c.write_state.new.disk _ (StandsForEither H was house.state) (c.write_state.ensures.any_moment h is_settled) (λ i wrote. inl (attempt i wrote)) in
-    let synced = goes_on g.D.Disk.moment g.D.Disk.images_since disk c.write_state.new.disk c.sync.new.self _ _ wrote (c.sync.ensures.time h)
-    (at_end g.D.Disk.moment g.D.Disk.images_since disk c.write_state.new.disk _ _ wrote (g.met.D.Disk.counts_now h c.write_state.new.disk)) in
-    let budget : SpellsState (budget_of H) bytes house.state = record { spelled = refl; is_state = wider house.budget (budget_of H) house.state c.requires.budget c.size-size.ensures.is_state } in
-    let done = c.in_ok-count.ensures.written h is_settled in
-    let image = g.D.Disk.reads c.write_state.new.disk in
-    let same : g.D.Disk.reads c.sync.new.self ≡ image = c.sync.ensures.reads h in
-    let still : g.D.Disk.choices c.sync.new.self ≡ settled (g.D.Disk.reads c.sync.new.self) = c.in_ok-sync.ensures.choices h ∙ ap settled (sym same) in
-    let step = compacting_step H root m place was c.args.sequence old ready c.requires.half at c.half_start.result c.half_end.result c.half_start.ensures.exact c.half_end.ensures.exact house.state c.in_ok-count.count image done budget in
-    let put = weakened g.D.Disk.moment g.D.Disk.images_since c.sync.new.self c.put_root.new.disk _ _ (c.put_root.ensures.any_moment h still)
-    (λ i write. step i (subst (λ (o : Image). IsRootWrite (compacted root c.args.sequence) o i) same write)) in
-    followed g.D.Disk.moment g.D.Disk.images_since disk c.sync.new.self c.put_root.new.disk _ _ _ synced put (λ i is. is) (λ i is. is)
+    put g (goal.at.returns-in-Err-clause-any_moment g c).After-put_root h is_settled (record { ready = ready; small = c.requires.half; at_sequence = at })
 
 pub returns-in-Ok-clause-ready : goal.returns-in-Ok-clause-ready
 returns-in-Ok-clause-ready g c h is_settled m place was ready at =
-    let disk = c.args.disk.now in
-    let root = c.args.root.now in
-    let H = c.args.half_len in
-    let house = c.args.house.now in
-    let old = g.D.Disk.reads disk in
-    let bytes = state_bytes house.state in
-    let budget : SpellsState (budget_of H) bytes house.state = record { spelled = refl; is_state = wider house.budget (budget_of H) house.state c.requires.budget c.size-size.ensures.is_state } in
-    let done = c.in_ok-count.ensures.written h is_settled in
-    let image = g.D.Disk.reads c.write_state.new.disk in
-    let same : g.D.Disk.reads c.sync.new.self ≡ image = c.sync.ensures.reads h in
-    let still : g.D.Disk.choices c.sync.new.self ≡ settled (g.D.Disk.reads c.sync.new.self) = c.in_ok-sync.ensures.choices h ∙ ap settled (sym same) in
-    let finished = compacting_done H root m place was c.args.sequence old ready c.requires.half at c.half_start.result c.half_end.result c.half_start.ensures.exact c.half_end.ensures.exact house.state c.in_ok-count.count image done budget
-    (g.D.Disk.reads c.put_root.new.disk) (subst (λ (o : Image). IsRootDone (compacted root c.args.sequence) o (g.D.Disk.reads c.put_root.new.disk)) same (c.in-Ok.ensures.done h still)) in
-    subst (λ (r : Root). IsReady H r zero (c.half_start.result + c.in_ok-count.count) house.state (g.D.Disk.reads c.put_root.new.disk)) (sym c.in-Ok.ensures.next) finished
+    let based = has_base g (goal.at.returns-in-Ok-clause-ready g c).After-put_root h is_settled in
+    let image = g.D.Disk.reads c.put_root.new.disk in
+    subst (λ (r : Root). IsReady c.args.half_len r zero (c.half_start.result + c.in_ok-count.count) c.args.house.now.state image) (sym c.in-Ok.ensures.next)
+    (compacting_done (record { ready = ready; small = c.requires.half; at_sequence = at }) (record { at_first = c.half_start.ensures.exact; at_end = c.half_end.ensures.exact })
+    c.args.house.now.state c.in_ok-count.count (g.D.Disk.reads c.sync.new.self) based.done based.spells image (c.in-Ok.ensures.done h based.still))

@@ -1,93 +1,97 @@
-use Rattle.std.proofs.Common.{◌≡◌, ◌<◌, ◌≤◌, ◌+◌, ◌*◌, ℕ, zero, arith, ap, subst, sym, ◌∙◌, refl}
-use Rattle.dc_sectors.specs.Disk.{Image, settled}
-use Rattle.dc_roots.specs.declared.root.Root.{Root}
-use Rattle.dc_roots.specs.Root.{next_of}
-use Rattle.dc_roots.specs.Choice.{IsRootWrite}
+use Rattle.std.proofs.Common.{◌≡◌, ◌+◌, ℕ, zero, arith, ap, subst, sym, ◌∙◌}
+use Rattle.dc_sectors.specs.Disk.{Image, LeavesOnly, settled}
+use Rattle.dc_pages.specs.Group.{base_kind}
 use Rattle.dc_recovery.specs.Halves.{half_start, half_end, budget_of}
 use Rattle.dc_recovery.specs.Language.{empty_state}
-use Rattle.dc_recovery.specs.Roots.{IsRootDone}
-use Rattle.dc_recovery.specs.Stands.{blank}
+use Rattle.dc_recovery.specs.Stands.{image_version, IsUnformatted, IsBlankOrEmpty}
 use Rattle.dc_recovery.specs.Writing.{IsWritten}
-use Rattle.dc_recovery.proofs.Formatted.{formatted}
-use Rattle.dc_recovery.proofs.Wiped.{first_root_step, zeros_written, zeros_synced, group_written, group_synced, root_written}
+use Rattle.dc_recovery.proofs.ReadMoments.{synced_behind}
 use Rattle.dc_recovery.proofs.Spellings.{empty_bytes, empty_spelled}
+use Rattle.dc_recovery.proofs.Wiped.{IsBlanked, IsBased, first_root_done, zeros_written, group_written, root_written}
+use Rattle.dc_recovery.proofs.formatting.lay_out.Given.{Over}
+use Rattle.dc_recovery.proofs.formatting.lay_out.Goals.{After-sync, After-write_group, After-put_root}
 use Rattle.dc_recovery.proofs.formatting.lay_out.Goals as goal
+
+-- the zeros and their sync, whatever that answers
+zeros_synced : (g : Over) (c : After-sync g) → g.D.Disk.honest → g.D.Disk.choices c.args.disk.now ≡ settled (g.D.Disk.reads c.args.disk.now) → IsUnformatted (g.D.Disk.reads c.args.disk.now)
+    → LeavesOnly g.D.Disk.moment g.D.Disk.images_since c.args.disk.now c.sync.new.self (IsBlankOrEmpty c.args.half_len)
+zeros_synced g c h is_settled none =
+    synced_behind g.D.Disk.moment g.D.Disk.images_since g.D.Disk.choices c.args.disk.now c.blank_sectors.new.disk c.sync.new.self _ (g.met.D.Disk.counts_now h c.blank_sectors.new.disk)
+    (zeros_written g.D.Disk.moment g.D.Disk.images_since g.D.Disk.reads c.args.half_len c.args.disk.now c.blank_sectors.new.disk none (c.blank_sectors.ensures.any_moment h is_settled)) (c.sync.ensures.time h)
+
+blanked : (g : Over) (c : After-write_group g) → g.D.Disk.honest → IsBlanked g.D.Disk.reads g.D.Disk.choices c.args.half_len c.sync.new.self
+blanked g c h = record {
+  still = c.in_ok-sync.ensures.choices h ∙ ap settled (sym (c.sync.ensures.reads h));
+  blanks = λ k low up. ap (λ (i : Image). i k) (c.sync.ensures.reads h) ∙ c.in_ok-blank_sectors.ensures.blank h k low (omega (arith, c.half_end.ensures.exact));
+}
+
+-- and then the base group
+grouped : (g : Over) (c : After-write_group g) → g.D.Disk.honest → LeavesOnly g.D.Disk.moment g.D.Disk.images_since c.args.disk.now c.sync.new.self (IsBlankOrEmpty c.args.half_len)
+    → LeavesOnly g.D.Disk.moment g.D.Disk.images_since c.args.disk.now c.write_group.new.disk (IsBlankOrEmpty c.args.half_len)
+grouped g c h so_far =
+    let blank = blanked g c h in
+    group_written g.D.Disk.moment g.D.Disk.images_since g.D.Disk.reads c.args.half_len c.args.disk.now g.D.Disk.choices c.sync.new.self c.write_group.new.disk c.half_start.result c.half_end-2.result empty_bytes
+    blank (omega (arith, c.half_start.ensures.exact)) so_far (c.write_group.ensures.any_moment h blank.still)
+
+based : (g : Over) (c : After-put_root g) → g.D.Disk.honest → IsBlanked g.D.Disk.reads g.D.Disk.choices c.args.half_len c.sync.new.self
+    → IsBased g.D.Disk.reads g.D.Disk.choices c.args.half_len c.in_ok-write_group.field-0 empty_bytes empty_state c.sync.new.self c.sync-2.new.self
+based g c h blank =
+    let H = c.args.half_len in
+    let count = c.in_ok-write_group.field-0 in
+    let zeros = g.D.Disk.reads c.sync.new.self in
+    record {
+      still = c.in_ok-sync-2.ensures.choices h ∙ ap settled (sym (c.sync-2.ensures.reads h));
+      blanks = blank.blanks;
+      written = subst (IsWritten image_version base_kind 1 1 empty_bytes (half_start H 0) (half_end H 0) count zeros) (sym (c.sync-2.ensures.reads h))
+          (subst (λ (p : ℕ). IsWritten image_version base_kind 1 1 empty_bytes p (half_end H 0) count zeros (g.D.Disk.reads c.write_group.new.disk)) c.half_start.ensures.exact
+          (subst (λ (l : ℕ). IsWritten image_version base_kind 1 1 empty_bytes c.half_start.result l count zeros (g.D.Disk.reads c.write_group.new.disk)) c.half_end-2.ensures.exact (c.in_ok-write_group.ensures.written h blank.still)));
+      spells = empty_spelled (budget_of H) (omega (arith, c.requires.some));
+    }
+
+-- and then its sync and the first root, whatever that answers
+rooted : (g : Over) (c : After-put_root g) → g.D.Disk.honest → IsBlanked g.D.Disk.reads g.D.Disk.choices c.args.half_len c.sync.new.self
+    → LeavesOnly g.D.Disk.moment g.D.Disk.images_since c.args.disk.now c.write_group.new.disk (IsBlankOrEmpty c.args.half_len)
+    → LeavesOnly g.D.Disk.moment g.D.Disk.images_since c.args.disk.now c.put_root.new.disk (IsBlankOrEmpty c.args.half_len)
+rooted g c h blank so_far =
+    let is = based g c h blank in
+    root_written g.D.Disk.moment g.D.Disk.images_since g.D.Disk.reads c.args.half_len c.args.disk.now g.D.Disk.choices c.in_ok-write_group.field-0 empty_bytes c.sync.new.self c.sync-2.new.self c.put_root.new.disk is
+    (synced_behind g.D.Disk.moment g.D.Disk.images_since g.D.Disk.choices c.args.disk.now c.write_group.new.disk c.sync-2.new.self _ (g.met.D.Disk.counts_now h c.write_group.new.disk) so_far (c.sync-2.ensures.time h))
+    (c.put_root.ensures.any_moment h is.still)
 
 pub returns-in_err-blank_sectors-clause-any_moment : goal.returns-in_err-blank_sectors-clause-any_moment
 returns-in_err-blank_sectors-clause-any_moment g c h is_settled none =
-    zeros_written g.D.Disk.moment g.D.Disk.images_since g.D.Disk.choices g.D.Disk.reads c.args.half_len c.args.disk.now c.blank_sectors.new.disk none (g.met.D.Disk.counts_now h) (c.blank_sectors.ensures.any_moment h is_settled)
+    zeros_written g.D.Disk.moment g.D.Disk.images_since g.D.Disk.reads c.args.half_len c.args.disk.now c.blank_sectors.new.disk none (c.blank_sectors.ensures.any_moment h is_settled)
 
 pub returns-in_err-sync-clause-any_moment : goal.returns-in_err-sync-clause-any_moment
-returns-in_err-sync-clause-any_moment g c h is_settled none =
-    zeros_synced g.D.Disk.moment g.D.Disk.images_since g.D.Disk.choices g.D.Disk.reads c.args.half_len c.args.disk.now c.blank_sectors.new.disk none (g.met.D.Disk.counts_now h) (c.blank_sectors.ensures.any_moment h is_settled) c.sync.new.self (c.sync.ensures.time h)
+returns-in_err-sync-clause-any_moment g c h is_settled none = zeros_synced g (goal.at.returns-in_err-sync-clause-any_moment g c).After-sync h is_settled none
 
 pub returns-in_err-write_group-clause-any_moment : goal.returns-in_err-write_group-clause-any_moment
 returns-in_err-write_group-clause-any_moment g c h is_settled none =
-    let zeros = g.D.Disk.reads c.sync.new.self in
-    let blanks : (k : ℕ) → 1 ≤ k → k < 3 + 2 * c.args.half_len → zeros k ≡ blank = λ k low up.
-    ap (λ (i : Image). i k) (c.sync.ensures.reads h) ∙ c.in_ok-blank_sectors.ensures.blank h k low (omega (arith, c.half_end.ensures.exact)) in
-    let still : g.D.Disk.choices c.sync.new.self ≡ settled zeros = c.in_ok-sync.ensures.choices h ∙ ap settled (sym (c.sync.ensures.reads h)) in
-    group_written g.D.Disk.moment g.D.Disk.images_since g.D.Disk.choices g.D.Disk.reads c.args.half_len c.args.disk.now c.blank_sectors.new.disk none (g.met.D.Disk.counts_now h) (c.blank_sectors.ensures.any_moment h is_settled) c.sync.new.self (c.sync.ensures.time h) c.write_group.new.disk c.half_start.result c.half_end-2.result empty_bytes (omega (arith, c.half_start.ensures.exact)) (λ k low up. blanks k low (omega (arith, c.requires.some))) (c.write_group.ensures.any_moment h still)
+    let at = goal.at.returns-in_err-write_group-clause-any_moment g c in
+    grouped g at.After-write_group h (zeros_synced g at.After-sync h is_settled none)
 
 pub returns-in_err-sync-2-clause-any_moment : goal.returns-in_err-sync-2-clause-any_moment
 returns-in_err-sync-2-clause-any_moment g c h is_settled none =
-    let zeros = g.D.Disk.reads c.sync.new.self in
-    let blanks : (k : ℕ) → 1 ≤ k → k < 3 + 2 * c.args.half_len → zeros k ≡ blank = λ k low up.
-    ap (λ (i : Image). i k) (c.sync.ensures.reads h) ∙ c.in_ok-blank_sectors.ensures.blank h k low (omega (arith, c.half_end.ensures.exact)) in
-    let still : g.D.Disk.choices c.sync.new.self ≡ settled zeros = c.in_ok-sync.ensures.choices h ∙ ap settled (sym (c.sync.ensures.reads h)) in
-    group_synced g.D.Disk.moment g.D.Disk.images_since g.D.Disk.choices g.D.Disk.reads c.args.half_len c.args.disk.now c.blank_sectors.new.disk none (g.met.D.Disk.counts_now h) (c.blank_sectors.ensures.any_moment h is_settled) c.sync.new.self (c.sync.ensures.time h) c.write_group.new.disk c.half_start.result c.half_end-2.result empty_bytes (omega (arith, c.half_start.ensures.exact)) (λ k low up. blanks k low (omega (arith, c.requires.some))) (c.write_group.ensures.any_moment h still) c.sync-2.new.self (c.sync-2.ensures.time h)
+    let at = goal.at.returns-in_err-sync-2-clause-any_moment g c in
+    synced_behind g.D.Disk.moment g.D.Disk.images_since g.D.Disk.choices c.args.disk.now c.write_group.new.disk c.sync-2.new.self _ (g.met.D.Disk.counts_now h c.write_group.new.disk)
+    (grouped g at.After-write_group h (zeros_synced g at.After-sync h is_settled none)) (c.sync-2.ensures.time h)
 
 pub returns-in-Ok-clause-any_moment : goal.returns-in-Ok-clause-any_moment
 returns-in-Ok-clause-any_moment g c h is_settled none =
-    let zeros = g.D.Disk.reads c.sync.new.self in
-    let blanks : (k : ℕ) → 1 ≤ k → k < 3 + 2 * c.args.half_len → zeros k ≡ blank = λ k low up.
-    ap (λ (i : Image). i k) (c.sync.ensures.reads h) ∙ c.in_ok-blank_sectors.ensures.blank h k low (omega (arith, c.half_end.ensures.exact)) in
-    let still : g.D.Disk.choices c.sync.new.self ≡ settled zeros = c.in_ok-sync.ensures.choices h ∙ ap settled (sym (c.sync.ensures.reads h)) in
-    let H = c.args.half_len in
-    let root : Root = record { version = 2; half = 0; generation = 0; session = 1; base_sequence = 1; half_len = H } in
-    let grouped = g.D.Disk.reads c.write_group.new.disk in
-    let wrote = c.in_ok-write_group.ensures.written h still in
-    let wrote' = subst (λ (l : ℕ). IsWritten 2 66 1 1 empty_bytes c.half_start.result l c.in_ok-write_group.field-0 zeros grouped) c.half_end-2.ensures.exact wrote in
-    let written = subst (λ (p : ℕ). IsWritten 2 66 1 1 empty_bytes p (half_end H 0) c.in_ok-write_group.field-0 zeros grouped) c.half_start.ensures.exact wrote' in
-    let again : g.D.Disk.choices c.sync-2.new.self ≡ settled (g.D.Disk.reads c.sync-2.new.self) = c.in_ok-sync-2.ensures.choices h ∙ ap settled (sym (c.sync-2.ensures.reads h)) in
-    root_written g.D.Disk.moment g.D.Disk.images_since g.D.Disk.choices g.D.Disk.reads c.args.half_len c.args.disk.now c.blank_sectors.new.disk none (g.met.D.Disk.counts_now h) (c.blank_sectors.ensures.any_moment h is_settled) c.sync.new.self (c.sync.ensures.time h) c.write_group.new.disk c.half_start.result c.half_end-2.result empty_bytes (omega (arith, c.half_start.ensures.exact)) (λ k low up. blanks k low (omega (arith, c.requires.some))) (c.write_group.ensures.any_moment h still) c.sync-2.new.self (c.sync-2.ensures.time h) (next_of root) c.put_root.new.disk
-    (λ image write. first_root_step H c.in_ok-write_group.field-0 root empty_bytes empty_state zeros grouped image blanks written (empty_spelled (budget_of H) (omega (arith, c.requires.some))) refl
-    (subst (λ (i : Image). IsRootWrite (next_of root) i image) (c.sync-2.ensures.reads h) write)) (c.put_root.ensures.any_moment h again)
+    let at = goal.at.returns-in-Ok-clause-any_moment g c in
+    rooted g at.After-put_root h (blanked g at.After-write_group h) (grouped g at.After-write_group h (zeros_synced g at.After-sync h is_settled none))
 
 pub returns-in-Err-clause-any_moment : goal.returns-in-Err-clause-any_moment
 returns-in-Err-clause-any_moment g c h is_settled none =
-    let zeros = g.D.Disk.reads c.sync.new.self in
-    let blanks : (k : ℕ) → 1 ≤ k → k < 3 + 2 * c.args.half_len → zeros k ≡ blank = λ k low up.
-    ap (λ (i : Image). i k) (c.sync.ensures.reads h) ∙ c.in_ok-blank_sectors.ensures.blank h k low (omega (arith, c.half_end.ensures.exact)) in
-    let still : g.D.Disk.choices c.sync.new.self ≡ settled zeros = c.in_ok-sync.ensures.choices h ∙ ap settled (sym (c.sync.ensures.reads h)) in
-    let H = c.args.half_len in
-    let root : Root = record { version = 2; half = 0; generation = 0; session = 1; base_sequence = 1; half_len = H } in
-    let grouped = g.D.Disk.reads c.write_group.new.disk in
-    let wrote = c.in_ok-write_group.ensures.written h still in
-    let wrote' = subst (λ (l : ℕ). IsWritten 2 66 1 1 empty_bytes c.half_start.result l c.in_ok-write_group.field-0 zeros grouped) c.half_end-2.ensures.exact wrote in
-    let written = subst (λ (p : ℕ). IsWritten 2 66 1 1 empty_bytes p (half_end H 0) c.in_ok-write_group.field-0 zeros grouped) c.half_start.ensures.exact wrote' in
-    let again : g.D.Disk.choices c.sync-2.new.self ≡ settled (g.D.Disk.reads c.sync-2.new.self) = c.in_ok-sync-2.ensures.choices h ∙ ap settled (sym (c.sync-2.ensures.reads h)) in
-    root_written g.D.Disk.moment g.D.Disk.images_since g.D.Disk.choices g.D.Disk.reads c.args.half_len c.args.disk.now c.blank_sectors.new.disk none (g.met.D.Disk.counts_now h) (c.blank_sectors.ensures.any_moment h is_settled) c.sync.new.self (c.sync.ensures.time h) c.write_group.new.disk c.half_start.result c.half_end-2.result empty_bytes (omega (arith, c.half_start.ensures.exact)) (λ k low up. blanks k low (omega (arith, c.requires.some))) (c.write_group.ensures.any_moment h still) c.sync-2.new.self (c.sync-2.ensures.time h) (next_of root) c.put_root.new.disk
-    (λ image write. first_root_step H c.in_ok-write_group.field-0 root empty_bytes empty_state zeros grouped image blanks written (empty_spelled (budget_of H) (omega (arith, c.requires.some))) refl
-    (subst (λ (i : Image). IsRootWrite (next_of root) i image) (c.sync-2.ensures.reads h) write)) (c.put_root.ensures.any_moment h again)
+    let at = goal.at.returns-in-Err-clause-any_moment g c in
+    rooted g at.After-put_root h (blanked g at.After-write_group h) (grouped g at.After-write_group h (zeros_synced g at.After-sync h is_settled none))
 
 pub returns-in-Ok-clause-ready : goal.returns-in-Ok-clause-ready
 returns-in-Ok-clause-ready g c h =
-    let H = c.args.half_len in
-    let root : Root = record { version = 2; half = 0; generation = 0; session = 1; base_sequence = 1; half_len = H } in
-    let zeros = g.D.Disk.reads c.sync.new.self in
-    let grouped = g.D.Disk.reads c.write_group.new.disk in
-    let image = g.D.Disk.reads c.put_root.new.disk in
-    let blanks : (k : ℕ) → 1 ≤ k → k < 3 + 2 * H → zeros k ≡ blank = λ k low up.
-    ap (λ (i : Image). i k) (c.sync.ensures.reads h) ∙ c.in_ok-blank_sectors.ensures.blank h k low (omega (arith, c.half_end.ensures.exact)) in
-    let still : g.D.Disk.choices c.sync.new.self ≡ settled zeros = c.in_ok-sync.ensures.choices h ∙ ap settled (sym (c.sync.ensures.reads h)) in
-    let wrote = c.in_ok-write_group.ensures.written h still in
-    let wrote' = subst (λ (l : ℕ). IsWritten 2 66 1 1 empty_bytes c.half_start.result l c.in_ok-write_group.field-0 zeros grouped) c.half_end-2.ensures.exact wrote in
-    let written = subst (λ (p : ℕ). IsWritten 2 66 1 1 empty_bytes p (half_end H 0) c.in_ok-write_group.field-0 zeros grouped) c.half_start.ensures.exact wrote' in
-    let again : g.D.Disk.choices c.sync-2.new.self ≡ settled (g.D.Disk.reads c.sync-2.new.self) = c.in_ok-sync-2.ensures.choices h ∙ ap settled (sym (c.sync-2.ensures.reads h)) in
-    let done = subst (λ (i : Image). IsRootDone (next_of root) i image) (c.sync-2.ensures.reads h) (c.in-Ok.ensures.done h again) in
+    let at = goal.at.returns-in-Ok-clause-ready g c in
+    let is = based g at.After-put_root h (blanked g at.After-write_group h) in
     record {
       m = zero;
-      place = half_start H 0 + c.in_ok-write_group.field-0;
-      ready = formatted H c.in_ok-write_group.field-0 root empty_bytes empty_state zeros grouped image blanks written (empty_spelled (budget_of H) (omega (arith, c.requires.some))) refl done;
+      place = half_start c.args.half_len 0 + c.in_ok-write_group.field-0;
+      ready = first_root_done is (g.D.Disk.reads c.put_root.new.disk) (c.in-Ok.ensures.done h is.still);
     }

@@ -4,6 +4,7 @@ use Rattle.dc_sectors.specs.Disk.{Image}
 use Rattle.dc_roots.specs.declared.root.Root.{Root}
 use Rattle.dc_recovery.specs.declared.fault.OpenFault.TheVariants.{Device}
 use Rattle.dc_recovery.specs.Halves.{half_end}
+use Rattle.dc_recovery.specs.Refusal.{IsRefused}
 use Rattle.dc_recovery.specs.Stands.{IsCurrent, IsReached, IsRead}
 use Rattle.dc_recovery.proofs.ReadMoments.{looked_on}
 use Rattle.dc_recovery.proofs.reading.read_image.Goals as goal
@@ -46,3 +47,22 @@ returns-in_err-read_groups-clause-passed g c other =
     let fault = c.in_err-read_groups.field-0.0 in
     let is_device : fault ≡ Device → told.result ≡ Err Device = λ e. same ∙ ap Err e in
     c.in_err-read_groups.ensures.passed (λ device. other (is_device (cc device))) ∙ (c.in_ok-found.ensures.passed (λ is. cc is) ∙ c.in_ok-root.ensures.passed (λ is. cc is))
+
+pub returns-in_err-read_groups-clause-refused : goal.returns-in_err-read_groups-clause-refused
+returns-in_err-read_groups-clause-refused g c h =
+    let H = c.args.half_len in
+    let old = g.D.Disk.reads c.args.disk.now in
+    let chosen : g.D.Disk.reads c.current_root.new.disk ≡ old = c.current_root.ensures.looked.reads_same h in
+    let based : g.D.Disk.reads c.read_base.new.disk ≡ g.D.Disk.reads c.current_root.new.disk = c.read_base.ensures.looked.reads_same h in
+    let root = c.in_ok-root.root in
+    let found = c.in_ok-found.found in
+    let same_root : found.root ≡ root = c.in_ok-found.ensures.root in
+    let current = subst (λ (i : Image). IsCurrent H root i) (sym chosen) (c.in_ok-root.ensures.current h) in
+    let reached = subst (λ (i : Image). IsReached H root found.place found.last found.house.state i) (sym based) (c.in_ok-found.ensures.reached h current) in
+    let reached' = subst (λ (r : Root). IsReached H r found.place found.last found.house.state (g.D.Disk.reads c.read_base.new.disk)) (sym same_root) reached in
+    let at_limit = c.half_end-limit.ensures.exact ∙ ap (λ (r : Root). half_end H r.half) (sym same_root) in
+    let told = c.from_residual-in_err-read_groups in
+    let p = err_from_is_err_and told.result told.ensures.1 in
+    let fault = c.in_err-read_groups.field-0.0 in
+    let same : told.result ≡ Err fault = cc (p.1, p.2) in
+    rw same (subst (λ (i : Image). IsRefused H i fault) (based ∙ chosen) (c.in_err-read_groups.ensures.refused h H at_limit c.in_ok-found.ensures.budget reached'))

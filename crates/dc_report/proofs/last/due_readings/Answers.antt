@@ -7,12 +7,13 @@ use Rattle.std.specs.FinMap.{find}
 use Rattle.dc_address.specs.declared.identity.Identity.{Identity}
 use Rattle.dc_address.specs.Identity.{identity_cmp}
 use Rattle.dc_changes.specs.State.{ReadingRow}
-use Rattle.dc_report.specs.declared.place.Place.{Place}
+use Rattle.dc_meters.specs.declared.place.Place.{Place}
 use Rattle.dc_report.specs.Ascending.{at_key}
-use Rattle.dc_report.specs.Places.{place_cmp}
+use Rattle.dc_meters.specs.Places.{place_cmp}
 use Rattle.dc_report.specs.DueTable.{last_readings, reading_place}
-use Rattle.dc_report.proofs.InOrder.{entries_in_order, found_at, keys_viewed, keys_of, seconds_viewed, viewed}
-use Rattle.dc_report.proofs.PlaceOrder.{places_total, places_same}
+use Rattle.dc_meters.proofs.InOrder.{entries_in_order, keys_of}
+use Rattle.dc_report.proofs.Viewed.{found_at, keys_viewed, seconds_viewed, viewed}
+use Rattle.dc_meters.proofs.PlaceOrder.{places_total, places_same}
 use Rattle.dc_report.proofs.LastReadings.{entry_at, entry_found, entry_more, if_at, at_flat, last_at, seen}
 use Rattle.dc_report.proofs.last.due_readings.Goals as goal
 

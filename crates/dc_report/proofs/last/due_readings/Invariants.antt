@@ -3,8 +3,8 @@ use Rattle.std.specs.Prelude.{option_map}
 use Rattle.std.specs.Option.{option_or}
 use Rattle.std.specs.List.Sorted.{IsStrictlySortedBy}
 use Rattle.std.specs.BTreeMap.{get, keys}
-use Rattle.dc_report.specs.declared.place.Place.{Place}
-use Rattle.dc_report.specs.Places.{place_cmp}
+use Rattle.dc_meters.specs.declared.place.Place.{Place}
+use Rattle.dc_meters.specs.Places.{place_cmp}
 use Rattle.dc_report.proofs.LastReadings.{entry_at}
 use Rattle.dc_report.proofs.last.due_readings.Given as goal
 

@@ -10,5 +10,5 @@ returns-clause-text g c =
     let before = g.W.Sink.written c.args.out.now in
     let table = due_text c.args.date c.args.house.now.state in
     c.in_ok-put_table.ensures.0
-    ∙ ap (λ (text : List ℕ). append_known before (text ++ end_line c.in_ok-rows.rows)) (c.deref.ensures.value ∙ c.in_ok-table.ensures)
-    ∙ ap (λ (rows : ℕ). append_known before (table ++ end_line rows)) c.in_ok-rows.ensures
+    ∙ ap (λ (text : List ℕ). append_known before (text ++ end_line c.in_ok-table.table.rows)) (c.deref.ensures.value ∙ c.in_ok-table.ensures.text)
+    ∙ ap (λ (rows : ℕ). append_known before (table ++ end_line rows)) c.in_ok-table.ensures.count

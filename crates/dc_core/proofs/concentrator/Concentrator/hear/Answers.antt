@@ -19,10 +19,32 @@ use Rattle.dc_waiting.specs.Waiting.{Waiting}
 use Rattle.dc_changes.specs.State.{Held, State}
 use Rattle.dc_core.specs.Images.{Machine}
 use Rattle.dc_core.proofs.At.{at_heard, at_taken}
+use Rattle.dc_recovery.specs.Store.{Kept}
+use Rattle.dc_core.proofs.concentrator.Concentrator.hear.Given.{Over}
+use Rattle.dc_core.proofs.concentrator.Concentrator.hear.Goals.{After-hear}
 use Rattle.dc_core.proofs.concentrator.Concentrator.hear.Goals as goal
 
 pub take-requires-clause-fits : goal.take-requires-clause-fits
 take-requires-clause-fits g c = c.in-New.ensures.fits c.in-New.part (parsed c.in-New.telegram) refl
+
+-- THE LINE HAS A SESSION, and so far the call has changed nothing else: what the concentrator's parts are, and whose answer it was.
+record IsHeard (g : Over) (c : After-hear g) : Type 0 where
+  store : c.self.inside.store ≡ c.args.self.now.store
+  house : c.self.inside.house ≡ c.args.self.now.house
+  waiting : c.self.inside.waiting ≡ c.args.self.now.waiting
+  lines : c.self.inside.lines ≡ c.args.self.now.lines
+  who : on_line c.args.line c.args.self.now.lines ≡ Some c.in-Some.session
+
+is_heard : (g : Over) (c : After-hear g) → IsHeard g c
+is_heard g c =
+    let lines : c.self.inside.lines ≡ c.args.self.now.lines = ap (λ (b : Machine (g.row.D.Denot)). b.lines) c.self.view_is in
+    record {
+      store = ap (λ (b : Machine (g.row.D.Denot)). b.store) c.self.view_is;
+      house = ap (λ (b : Machine (g.row.D.Denot)). b.house) c.self.view_is;
+      waiting = ap (λ (b : Machine (g.row.D.Denot)). b.waiting) c.self.view_is;
+      lines = lines;
+      who = ap (on_line c.args.line) (sym lines) ∙ sym c.in-Some.ensures;
+    }
 
 pub returns-in_err-take-in-New-clause-may : goal.returns-in_err-take-in-New-clause-may
 returns-in_err-take-in-New-clause-may g c core at =
@@ -32,18 +54,15 @@ returns-in_err-take-in-New-clause-may g c core at =
     let s = c.in-Some.session in
     let t = parsed c.in-New.telegram in
     let change = change_of c.args.moment c.in-New.part t in
-    let house : inside.house ≡ machine.house = ap (λ (b : Machine (g.row.D.Denot)). b.house) c.self.view_is in
-    let waiting : inside.waiting ≡ machine.waiting = ap (λ (b : Machine (g.row.D.Denot)). b.waiting) c.self.view_is in
-    let lines : inside.lines ≡ machine.lines = ap (λ (b : Machine (g.row.D.Denot)). b.lines) c.self.view_is in
-    let stopped : inside.store.is_stopped ≡ machine.store.is_stopped = ap (λ (b : Machine (g.row.D.Denot)). b.store.is_stopped) c.self.view_is in
-    let who : session_of core line ≡ Some s = ap (on_line line) (sym (lines ∙ at.lines_are)) ∙ sym c.in-Some.ensures in
+    let is = is_heard g (goal.at.returns-in_err-take-in-New-clause-may g c).After-hear in
+    let who : session_of core line ≡ Some s = ap (on_line line) (sym at.lines_are) ∙ is.who in
     let yes : is_line line ≡ true = grind (arith, common_steps) in
-    let running : core.stopped ≡ false = sym at.stopped_is ∙ sym stopped ∙ sym c.is_stopped.ensures ∙ c.if-is_stopped.false in
+    let running : core.stopped ≡ false = sym at.stopped_is ∙ sym (ap (λ (k : Kept (g.row.D.Denot)). k.is_stopped) is.store) ∙ sym c.is_stopped.ensures ∙ c.if-is_stopped.false in
     let asks : is_some (asked_by s) ≡ true = c.if-not-is_asking.ensures.0 refl in
     let r = refuses inside.house.budget inside.waiting.count change inside.house.state in
     let same : r ≡ refuses machine.house.budget (length core.pending) change (present core) =
-    ap (λ (h : Held). refuses h.budget inside.waiting.count change h.state) house
-    ∙ ap (λ (n : ℕ). refuses machine.house.budget n change machine.house.state) (ap (λ (w : Waiting). w.count) waiting ∙ at.count_is)
+    ap (λ (h : Held). refuses h.budget inside.waiting.count change h.state) is.house
+    ∙ ap (λ (n : ℕ). refuses machine.house.budget n change machine.house.state) (ap (λ (w : Waiting). w.count) is.waiting ∙ at.count_is)
     ∙ ap (λ (x : State). refuses machine.house.budget (length core.pending) change x) at.house_is in
     let accepted = Accepted c.in-New.part (continues t.ending) in
     let whole : hear_answer machine.house.budget core line c.args.moment c.args.answer.now ≡ unless_refused r accepted =
@@ -57,68 +76,36 @@ returns-in_err-take-in-New-clause-may g c core at =
 
 pub returns-in-Again-clause-at : goal.returns-in-Again-clause-at
 returns-in-Again-clause-at g c core at =
-    let machine = c.args.self.now in
-    let inside = c.self.inside in
-    let line = c.args.line in
+    let is = is_heard g (goal.at.returns-in-Again-clause-at g c).After-hear in
     let s = c.in-Some.session in
-    let store : inside.store ≡ machine.store = ap (λ (b : Machine (g.row.D.Denot)). b.store) c.self.view_is in
-    let house : inside.house ≡ machine.house = ap (λ (b : Machine (g.row.D.Denot)). b.house) c.self.view_is in
-    let waiting : inside.waiting ≡ machine.waiting = ap (λ (b : Machine (g.row.D.Denot)). b.waiting) c.self.view_is in
-    let lines : inside.lines ≡ machine.lines = ap (λ (b : Machine (g.row.D.Denot)). b.lines) c.self.view_is in
-    let who : on_line line machine.lines ≡ Some s = ap (on_line line) (sym lines) ∙ sym c.in-Some.ensures in
-    let new : Machine (g.row.D.Denot) = record { store = inside.store; house = inside.house; waiting = inside.waiting; lines = c.put.new.self } in
-    let there : c.put.new.self ≡ put_on line (Some (heard_by s again)) machine.lines =
-    c.put.ensures ∙ ap (λ (x : Summary). put_on line (Some x) inside.lines) c.in-Again.ensures.after ∙ ap (put_on line (Some (heard_by s again))) lines in
-    at_heard g.D.Disk.honest g.D.Disk.sectors g.D.Disk.reads g.D.Disk.choices machine new core line c.args.moment c.args.answer.now s again Again at who (sym c.in-Again.ensures.exact) refl store house waiting there
+    let new : Machine (g.row.D.Denot) = record { store = c.self.inside.store; house = c.self.inside.house; waiting = c.self.inside.waiting; lines = c.put.new.self } in
+    let there = c.put.ensures ∙ ap (λ (x : Summary). put_on c.args.line (Some x) c.self.inside.lines) c.in-Again.ensures.after ∙ ap (put_on c.args.line (Some (heard_by s again))) is.lines in
+    at_heard g.D.Disk.honest g.D.Disk.sectors g.D.Disk.reads g.D.Disk.choices c.args.self.now new core c.args.line c.args.moment c.args.answer.now s again Again at is.who (sym c.in-Again.ensures.exact) refl is.store is.house is.waiting there
 
 pub returns-in-Ready-clause-at : goal.returns-in-Ready-clause-at
 returns-in-Ready-clause-at g c core at =
-    let machine = c.args.self.now in
-    let inside = c.self.inside in
-    let line = c.args.line in
+    let is = is_heard g (goal.at.returns-in-Ready-clause-at g c).After-hear in
     let s = c.in-Some.session in
-    let store : inside.store ≡ machine.store = ap (λ (b : Machine (g.row.D.Denot)). b.store) c.self.view_is in
-    let house : inside.house ≡ machine.house = ap (λ (b : Machine (g.row.D.Denot)). b.house) c.self.view_is in
-    let waiting : inside.waiting ≡ machine.waiting = ap (λ (b : Machine (g.row.D.Denot)). b.waiting) c.self.view_is in
-    let lines : inside.lines ≡ machine.lines = ap (λ (b : Machine (g.row.D.Denot)). b.lines) c.self.view_is in
-    let who : on_line line machine.lines ≡ Some s = ap (on_line line) (sym lines) ∙ sym c.in-Some.ensures in
-    let new : Machine (g.row.D.Denot) = record { store = inside.store; house = inside.house; waiting = inside.waiting; lines = c.put-in-Ready.new.self } in
-    let there : c.put-in-Ready.new.self ≡ put_on line (Some (heard_by s ready)) machine.lines =
-    c.put-in-Ready.ensures ∙ ap (λ (x : Summary). put_on line (Some x) inside.lines) c.in-Ready.ensures.after ∙ ap (put_on line (Some (heard_by s ready))) lines in
-    at_heard g.D.Disk.honest g.D.Disk.sectors g.D.Disk.reads g.D.Disk.choices machine new core line c.args.moment c.args.answer.now s ready Ready at who (sym c.in-Ready.ensures.exact) refl store house waiting there
+    let new : Machine (g.row.D.Denot) = record { store = c.self.inside.store; house = c.self.inside.house; waiting = c.self.inside.waiting; lines = c.put-in-Ready.new.self } in
+    let there = c.put-in-Ready.ensures ∙ ap (λ (x : Summary). put_on c.args.line (Some x) c.self.inside.lines) c.in-Ready.ensures.after ∙ ap (put_on c.args.line (Some (heard_by s ready))) is.lines in
+    at_heard g.D.Disk.honest g.D.Disk.sectors g.D.Disk.reads g.D.Disk.choices c.args.self.now new core c.args.line c.args.moment c.args.answer.now s ready Ready at is.who (sym c.in-Ready.ensures.exact) refl is.store is.house is.waiting there
 
 pub returns-in-Failed-clause-at : goal.returns-in-Failed-clause-at
 returns-in-Failed-clause-at g c core at =
-    let machine = c.args.self.now in
-    let inside = c.self.inside in
-    let line = c.args.line in
-    let s = c.in-Some.session in
-    let store : inside.store ≡ machine.store = ap (λ (b : Machine (g.row.D.Denot)). b.store) c.self.view_is in
-    let house : inside.house ≡ machine.house = ap (λ (b : Machine (g.row.D.Denot)). b.house) c.self.view_is in
-    let waiting : inside.waiting ≡ machine.waiting = ap (λ (b : Machine (g.row.D.Denot)). b.waiting) c.self.view_is in
-    let lines : inside.lines ≡ machine.lines = ap (λ (b : Machine (g.row.D.Denot)). b.lines) c.self.view_is in
-    let who : on_line line machine.lines ≡ Some s = ap (on_line line) (sym lines) ∙ sym c.in-Some.ensures in
-    let new : Machine (g.row.D.Denot) = record { store = inside.store; house = inside.house; waiting = inside.waiting; lines = c.put-in-Failed.new.self } in
-    let there : c.put-in-Failed.new.self ≡ put_on line None machine.lines = c.put-in-Failed.ensures ∙ ap (put_on line None) lines in
-    at_heard g.D.Disk.honest g.D.Disk.sectors g.D.Disk.reads g.D.Disk.choices machine new core line c.args.moment c.args.answer.now s (failed c.in-Failed.why) (Failed c.in-Failed.why) at who (sym c.in-Failed.ensures.exact) refl store house waiting there
+    let is = is_heard g (goal.at.returns-in-Failed-clause-at g c).After-hear in
+    let new : Machine (g.row.D.Denot) = record { store = c.self.inside.store; house = c.self.inside.house; waiting = c.self.inside.waiting; lines = c.put-in-Failed.new.self } in
+    at_heard g.D.Disk.honest g.D.Disk.sectors g.D.Disk.reads g.D.Disk.choices c.args.self.now new core c.args.line c.args.moment c.args.answer.now c.in-Some.session (failed c.in-Failed.why) (Failed c.in-Failed.why) at is.who (sym c.in-Failed.ensures.exact) refl is.store is.house is.waiting
+    (c.put-in-Failed.ensures ∙ ap (put_on c.args.line None) is.lines)
 
 pub returns-in_ok-take-in-New-clause-at : goal.returns-in_ok-take-in-New-clause-at
 returns-in_ok-take-in-New-clause-at g c core at =
-    let machine = c.args.self.now in
-    let inside = c.self.inside in
-    let line = c.args.line in
+    let is = is_heard g (goal.at.returns-in_ok-take-in-New-clause-at g c).After-hear in
     let s = c.in-Some.session in
-    let store : inside.store ≡ machine.store = ap (λ (b : Machine (g.row.D.Denot)). b.store) c.self.view_is in
-    let house : inside.house ≡ machine.house = ap (λ (b : Machine (g.row.D.Denot)). b.house) c.self.view_is in
-    let waiting : inside.waiting ≡ machine.waiting = ap (λ (b : Machine (g.row.D.Denot)). b.waiting) c.self.view_is in
-    let lines : inside.lines ≡ machine.lines = ap (λ (b : Machine (g.row.D.Denot)). b.lines) c.self.view_is in
-    let who : on_line line machine.lines ≡ Some s = ap (on_line line) (sym lines) ∙ sym c.in-Some.ensures in
     let t = parsed c.in-New.telegram in
     let v = new c.in-New.part t in
-    let now : Machine (g.row.D.Denot) = record { store = inside.store; house = c.take.new.house; waiting = c.take.new.waiting; lines = c.put-in-New.new.self } in
-    let there : c.put-in-New.new.self ≡ put_on line (Some (heard_by s v)) machine.lines =
-    c.put-in-New.ensures ∙ ap (λ (x : Summary). put_on line (Some x) inside.lines) c.in-New.ensures.after ∙ ap (put_on line (Some (heard_by s v))) lines in
-    let taken' = c.in_ok-take-in-New.ensures.ok in
-    let taken = subst (λ (w : Waiting). IsTaken machine.house now.house w now.waiting (change_of c.args.moment c.in-New.part t)) waiting
-    (subst (λ (h : Held). IsTaken h now.house inside.waiting now.waiting (change_of c.args.moment c.in-New.part t)) house taken') in
-    at_taken g.D.Disk.honest g.D.Disk.sectors g.D.Disk.reads g.D.Disk.choices machine now core line c.args.moment c.args.answer.now s v (change_of c.args.moment c.in-New.part t) (Accepted c.in-New.part c.more_follows-more.result) at who (sym c.in-New.ensures.exact) refl store taken there
+    let change = change_of c.args.moment c.in-New.part t in
+    let now : Machine (g.row.D.Denot) = record { store = c.self.inside.store; house = c.take.new.house; waiting = c.take.new.waiting; lines = c.put-in-New.new.self } in
+    let there = c.put-in-New.ensures ∙ ap (λ (x : Summary). put_on c.args.line (Some x) c.self.inside.lines) c.in-New.ensures.after ∙ ap (put_on c.args.line (Some (heard_by s v))) is.lines in
+    let taken = subst (λ (w : Waiting). IsTaken c.args.self.now.house now.house w now.waiting change) is.waiting
+    (subst (λ (h : Held). IsTaken h now.house c.self.inside.waiting now.waiting change) is.house c.in_ok-take-in-New.ensures.ok) in
+    at_taken g.D.Disk.honest g.D.Disk.sectors g.D.Disk.reads g.D.Disk.choices c.args.self.now now core c.args.line c.args.moment c.args.answer.now s v change (Accepted c.in-New.part c.more_follows-more.result) at is.who (sym c.in-New.ensures.exact) refl is.store taken there

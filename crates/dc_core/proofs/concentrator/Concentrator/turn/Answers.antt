@@ -4,52 +4,33 @@ use Rattle.dc_recovery.specs.Halves.{half_len_of}
 use Rattle.dc_recovery.specs.Stands.{StandsForFront}
 use Rattle.dc_recovery.proofs.Fronts.{longer_front}
 use Rattle.dc_core.specs.Event.{starts, asks, hears, started, asked, heard, committed}
-use Rattle.dc_core.specs.Transcript.{accepted_by}
-use Rattle.dc_core.proofs.Going.{at_rest}
+use Rattle.dc_core.proofs.Going.{turned_at_rest}
 use Rattle.dc_core.proofs.Answering.{commit_shown}
 use Rattle.dc_core.proofs.concentrator.Concentrator.turn.Goals as goal
 
 pub returns-in-Start-clause-turned : goal.returns-in-Start-clause-turned
 returns-in-Start-clause-turned g c core at =
     let machine = c.args.self.now in
-    let answer = started c.start-answer.result in
-    rw c.in-Start.is (record {
-      answer = answer;
-      may = c.start-answer.ensures.may core at;
-      text = c.put_started.ensures;
-      at = c.start-answer.ensures.at core at;
-      failed = tt;
-      leaves = λ h. at_rest g.D.Disk.honest g.D.Disk.sectors g.D.Disk.reads g.D.Disk.choices g.D.Disk.moment g.D.Disk.images_since
-          machine c.start-answer.new.self core (accepted_by core (starts c.in-Start.line c.in-Start.meter) answer) at h c.start-answer.ensures.store (λ image left. g.met.D.Disk.only_now h machine.store.disk image left);
-    })
+    rw c.in-Start.is
+    (turned_at_rest g.D.Disk.honest g.D.Disk.sectors g.D.Disk.reads g.D.Disk.choices g.D.Disk.moment g.D.Disk.images_since g.D.Disk.failures machine.house.budget
+    machine c.start-answer.new.self core (starts c.in-Start.line c.in-Start.meter) (started c.start-answer.result) _ refl
+    (c.start-answer.ensures.may core at) c.put_started.ensures at (c.start-answer.ensures.at core at) c.start-answer.ensures.store (λ h. g.met.D.Disk.only_now h machine.store.disk))
 
 pub returns-in-Ask-clause-turned : goal.returns-in-Ask-clause-turned
 returns-in-Ask-clause-turned g c core at =
     let machine = c.args.self.now in
-    let answer = asked c.ask-answer.result in
-    rw c.in-Ask.is (record {
-      answer = answer;
-      may = c.ask-answer.ensures core at;
-      text = c.put_asked.ensures;
-      at = at;
-      failed = tt;
-      leaves = λ h. at_rest g.D.Disk.honest g.D.Disk.sectors g.D.Disk.reads g.D.Disk.choices g.D.Disk.moment g.D.Disk.images_since
-          machine machine core (accepted_by core (asks c.in-Ask.line) answer) at h refl (λ image left. g.met.D.Disk.only_now h machine.store.disk image left);
-    })
+    rw c.in-Ask.is
+    (turned_at_rest g.D.Disk.honest g.D.Disk.sectors g.D.Disk.reads g.D.Disk.choices g.D.Disk.moment g.D.Disk.images_since g.D.Disk.failures machine.house.budget
+    machine machine core (asks c.in-Ask.line) (asked c.ask-answer.result) _ refl
+    (c.ask-answer.ensures.may core at) c.put_asked.ensures at at refl (λ h. g.met.D.Disk.only_now h machine.store.disk))
 
 pub returns-in-Hear-clause-turned : goal.returns-in-Hear-clause-turned
 returns-in-Hear-clause-turned g c core at =
     let machine = c.args.self.now in
-    let answer = heard c.hear-answer.result in
-    rw c.in-Hear.is (record {
-      answer = answer;
-      may = c.hear-answer.ensures.may core at;
-      text = c.put_heard.ensures;
-      at = c.hear-answer.ensures.at core at;
-      failed = tt;
-      leaves = λ h. at_rest g.D.Disk.honest g.D.Disk.sectors g.D.Disk.reads g.D.Disk.choices g.D.Disk.moment g.D.Disk.images_since
-          machine c.hear-answer.new.self core (accepted_by core (hears c.in-Hear.line c.in-Hear.moment c.in-Hear.bytes.now) answer) at h c.hear-answer.ensures.store (λ image left. g.met.D.Disk.only_now h machine.store.disk image left);
-    })
+    rw c.in-Hear.is
+    (turned_at_rest g.D.Disk.honest g.D.Disk.sectors g.D.Disk.reads g.D.Disk.choices g.D.Disk.moment g.D.Disk.images_since g.D.Disk.failures machine.house.budget
+    machine c.hear-answer.new.self core (hears c.in-Hear.line c.in-Hear.moment c.in-Hear.bytes.now) (heard c.hear-answer.result) _ refl
+    (c.hear-answer.ensures.may core at) c.put_heard.ensures at (c.hear-answer.ensures.at core at) c.hear-answer.ensures.store (λ h. g.met.D.Disk.only_now h machine.store.disk))
 
 pub returns-in-Commit-clause-turned : goal.returns-in-Commit-clause-turned
 returns-in-Commit-clause-turned g c core at =

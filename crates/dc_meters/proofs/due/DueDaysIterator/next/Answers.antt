@@ -1,5 +1,4 @@
-use Rattle.std.proofs.Common.{rules, ◌≡◌, ◌∷◌, None, Some, sym, ◌∙◌}
-use Rattle.std.specs.List.{filter_map}
+use Rattle.std.proofs.Common.{sym, ◌∙◌}
 use Rattle.dc_meters.specs.Points.{points_of}
 use Rattle.dc_meters.specs.Due.{due_day}
 use Rattle.dc_meters.proofs.DueDates.{mapped, skipped}

@@ -1,4 +1,4 @@
-use Rattle.std.proofs.Common.{rules, ◌≡◌, ◌∷◌, true, false, filter, sym, ◌∙◌}
+use Rattle.std.proofs.Common.{sym, ◌∙◌}
 use Rattle.dc_meters.specs.Points.{points_of}
 use Rattle.dc_meters.specs.Due.{is_due}
 use Rattle.dc_meters.proofs.DueDates.{kept, passed}

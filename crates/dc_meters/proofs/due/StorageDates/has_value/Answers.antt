@@ -1,4 +1,4 @@
-use Rattle.std.proofs.Common.{◌≡◌, sym, ap, subst, ◌∙◌}
+use Rattle.std.proofs.Common.{◌∙◌}
 use Rattle.dc_meters.specs.Points.{points_of}
 use Rattle.dc_meters.specs.Due.{is_due}
 use Rattle.dc_meters.proofs.DueDates.{first_kept}

@@ -1,9 +1,8 @@
-use Rattle.std.proofs.Common.{rules, ◌≡◌, ℕ, List, ◌∷◌, [], sym, ap, ◌∙◌}
+use Rattle.std.proofs.Common.{rules, ◌≡◌, List, ◌∷◌, [], sym, ap, ◌∙◌}
 use Rattle.std.specs.Option.{option_or}
 use Rattle.std.specs.Ordering.{nat_cmp}
 use Rattle.std.specs.BTreeMap.{get}
 use Rattle.dc_units.specs.declared.point.Point.{Point}
-use Rattle.dc_units.specs.Date.{Day}
 use Rattle.dc_meters.specs.Due.{dated, day_for}
 use Rattle.dc_meters.proofs.DueDates.{or-assoc, or-none}
 use Rattle.dc_meters.proofs.due.StorageDates.of.Goals as goal

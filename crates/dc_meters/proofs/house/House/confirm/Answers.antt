@@ -1,4 +1,4 @@
-use Rattle.std.proofs.Common.{◌≡◌, ℕ, ◌+◌, ◌-◌, ◌<◌, List, ap, subst, sym, arith, sum_by, filter, nat_lt}
+use Rattle.std.proofs.Common.{◌≡◌, ◌+◌, ◌-◌, ◌<◌, List, ap, subst, sym, arith, sum_by, filter, nat_lt}
 use Rattle.dc_changes.specs.State.{State, Held, ReadingRow}
 use Rattle.dc_changes.specs.Size.{reading_size}
 use Rattle.dc_changes.specs.Apply.{confirmed_up_to}

@@ -10,6 +10,9 @@ use Rattle.dc_meters.proofs.Sizes.{size_of-fitted}
 use Rattle.dc_meters.proofs.Keeps.{IsKept-fitted}
 use Rattle.dc_meters.proofs.house.House.fit.Goals as goal
 
+pub insert-requires : goal.insert-requires
+insert-requires g c = record { absent = ap (λ (x : Held). row_of c.args.meter x.state) c.self.view_is ∙ c.requires.absent }
+
 -- the new meter's bytes come on top
 pub overflow_add-self : goal.overflow_add-self
 overflow_add-self g c =

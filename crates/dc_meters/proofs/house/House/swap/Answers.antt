@@ -13,6 +13,9 @@ use Rattle.dc_meters.proofs.Sizes.{meter_size-le}
 use Rattle.dc_meters.proofs.Keeps.{IsKept-swapped}
 use Rattle.dc_meters.proofs.house.House.swap.Goals as goal
 
+pub insert-requires : goal.insert-requires
+insert-requires g c = record { absent = ap (λ (x : Held). row_of c.args.new x.state) c.self.view_is ∙ c.requires.absent }
+
 pub overflow_sub-self : goal.overflow_sub-self
 overflow_sub-self g c =
     let h = c.self.inside in
@@ -23,7 +26,7 @@ overflow_sub-self g c =
     let found : row_of c.args.old s ≡ Some row = sym c.in-Some.ensures.value in
     let absent : row_of c.args.new s ≡ None = ap (λ (x : Held). row_of c.args.new x.state) c.self.view_is ∙ c.requires.absent in
     let entries = c.in_ok-insert.ensures.entries in
-    let stays = c.in_ok-insert.ensures.updates.2 c.args.old (apart_from_rows c.args.new c.args.old row s absent found) ∙ found in
+    let stays = c.in_ok-insert.ensures.others c.args.old (apart_from_rows c.args.new c.args.old row s absent found) ∙ found in
     let after : row_of c.args.old (fitted c.args.new hung s) ≡ Some row = ap (λ (es : List (Identity × MeterRow)). lookup (is_at (identity_cmp c.args.old)) es) (sym entries) ∙ stays in
     let both_gone : Some gone ≡ Some row = sym c.unwrap-gone.ensures ∙ c.remove.ensures.value ∙ stays in
     let is_gone : gone ≡ row = cc in
@@ -46,7 +49,7 @@ overflow_add-self g c =
     let found : row_of c.args.old s ≡ Some row = sym c.in-Some.ensures.value in
     let absent : row_of c.args.new s ≡ None = ap (λ (x : Held). row_of c.args.new x.state) c.self.view_is ∙ c.requires.absent in
     let entries = c.in_ok-insert.ensures.entries in
-    let stays = c.in_ok-insert.ensures.updates.2 c.args.old (apart_from_rows c.args.new c.args.old row s absent found) ∙ found in
+    let stays = c.in_ok-insert.ensures.others c.args.old (apart_from_rows c.args.new c.args.old row s absent found) ∙ found in
     let after : row_of c.args.old (fitted c.args.new hung s) ≡ Some row = ap (λ (es : List (Identity × MeterRow)). lookup (is_at (identity_cmp c.args.old)) es) (sym entries) ∙ stays in
     let both_gone : Some gone ≡ Some row = sym c.unwrap-gone.ensures ∙ c.remove.ensures.value ∙ stays in
     let is_gone : gone ≡ row = cc in
@@ -69,7 +72,7 @@ invariant_of-self-2 g c =
     let found : row_of c.args.old s ≡ Some row = sym c.in-Some.ensures.value in
     let absent : row_of c.args.new s ≡ None = ap (λ (x : Held). row_of c.args.new x.state) c.self.view_is ∙ c.requires.absent in
     let entries = c.in_ok-insert.ensures.entries in
-    let stays = c.in_ok-insert.ensures.updates.2 c.args.old (apart_from_rows c.args.new c.args.old row s absent found) ∙ found in
+    let stays = c.in_ok-insert.ensures.others c.args.old (apart_from_rows c.args.new c.args.old row s absent found) ∙ found in
     let after : row_of c.args.old (fitted c.args.new hung s) ≡ Some row = ap (λ (es : List (Identity × MeterRow)). lookup (is_at (identity_cmp c.args.old)) es) (sym entries) ∙ stays in
     let both_gone : Some gone ≡ Some row = sym c.unwrap-gone.ensures ∙ c.remove.ensures.value ∙ stays in
     let is_gone : gone ≡ row = cc in

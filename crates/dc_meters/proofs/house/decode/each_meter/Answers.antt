@@ -1,3 +1,4 @@
+use Rattle.dc_meters.proofs.Ascending.{absent_behind}
 use Rattle.dc_meters.proofs.Lists.{meter_refused, meter_kept}
 use Rattle.dc_meters.proofs.house.decode.each_meter.Goals as goal
 
@@ -5,6 +6,9 @@ pub returns-then-not-is_behind-clause-bad : goal.returns-then-not-is_behind-clau
 returns-then-not-is_behind-clause-bad g c = λ bad all end whole ascend.
     meter_refused c.args.count c.args.bytes.now c.loop.meters.entries c.loop.counter c.loop.rest.now c.in_ok-meter.meter c.in_ok-meter.row c.in_ok-meter.after.now all end
     c.loop.invariant c.loop-test.true c.in_ok-meter.ensures (c.is_behind.ensures.no c.if-not-is_behind.true) whole ascend
+
+pub insert-requires : goal.insert-requires
+insert-requires g c = record { absent = absent_behind c.loop.meters.entries c.in_ok-meter.meter (c.is_behind.ensures.yes c.if-not-is_behind.false) }
 
 pub loop-preserved : goal.loop-preserved
 loop-preserved g c =

@@ -1,7 +1,7 @@
 use Rattle.std.proofs.Common.{◌∙◌}
 use Rattle.dc_address.specs.Identity.{identity_cmp}
 use Rattle.dc_meters.specs.Orders.{found}
-use Rattle.dc_meters.proofs.Sizes.{identities_total}
+use Rattle.dc_address.proofs.Order.{identities_total}
 use Rattle.dc_meters.proofs.FiledReadings.{one_out}
 use Rattle.dc_meters.proofs.orders.Orders.unfile.Goals as goal
 

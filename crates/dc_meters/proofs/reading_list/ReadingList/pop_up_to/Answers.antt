@@ -1,6 +1,6 @@
-use Rattle.std.proofs.Common.{◌≡◌, ◌∷◌, List, ap, subst, sym, ◌∙◌}
+use Rattle.std.proofs.Common.{◌≡◌, ◌∷◌, subst}
 use Rattle.dc_changes.specs.State.{ReadingRow}
-use Rattle.dc_meters.specs.Orders.{ReadingRows, AreOrdered}
+use Rattle.dc_meters.specs.Orders.{AreOrdered}
 use Rattle.dc_meters.proofs.FromSerial.{all_stay}
 use Rattle.dc_meters.proofs.Ordered.{ordered_less}
 use Rattle.dc_meters.proofs.reading_list.ReadingList.pop_up_to.Goals as goal

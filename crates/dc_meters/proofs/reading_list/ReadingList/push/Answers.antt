@@ -1,4 +1,4 @@
-use Rattle.std.proofs.Common.{◌≡◌, ◌<◌, ap, subst, sym, ◌∙◌}
+use Rattle.std.proofs.Common.{◌<◌, subst, sym}
 use Rattle.std.specs.Prelude.{All}
 use Rattle.dc_changes.specs.State.{ReadingRow}
 use Rattle.dc_meters.specs.Orders.{ReadingRows}

@@ -1,7 +1,7 @@
 use Rattle.std.proofs.Common.{ap, ◌∙◌}
 use Rattle.dc_address.specs.Identity.{identity_cmp}
 use Rattle.dc_meters.specs.Orders.{ReadingRows, is_of, serials_of}
-use Rattle.dc_meters.proofs.Sizes.{identities_total}
+use Rattle.dc_address.proofs.Order.{identities_total}
 use Rattle.dc_meters.proofs.UnderKeys.{serials_are}
 use Rattle.dc_meters.proofs.reading_list.ReadingList.serials_of.Goals as goal
 

@@ -1,7 +1,11 @@
-use Rattle.std.proofs.Common.{◌≡◌, ◌<◌, ◌+◌, take, drop, arith, refl, sym, subst}
+use Rattle.std.proofs.Common.{◌<◌, ◌+◌, take, drop, arith, refl, sym, subst}
+use Rattle.dc_sectors.specs.declared.sector.Sector.TheVariants.{Bytes}
 use Rattle.dc_pages.specs.Draft.{Draft}
+use Rattle.dc_pages.specs.Writing.{IsPageWritten}
 use Rattle.dc_pages.proofs.Buffers.{headed_buffer}
 use Rattle.dc_pages.proofs.Flushing.{LeavesPart, Flushes, page_written, leaves_part, flushes}
+use Rattle.dc_pages.proofs.writer.GroupWriter.flush_page.Given.{Over}
+use Rattle.dc_pages.proofs.writer.GroupWriter.flush_page.Goals.{After-write}
 use Rattle.dc_pages.proofs.writer.GroupWriter.flush_page.Goals as goal
 
 pub invariant_of-self : goal.invariant_of-self
@@ -9,35 +13,45 @@ invariant_of-self g c =
     let inside = c.self.inside in
     headed_buffer inside.kind inside.version inside.index inside.stamp.session inside.stamp.sequence inside.used inside.page c.write_head.new.sector c.self.invariant c.write_head.array_long c.write_head.ensures
 
-pub returns-in_err-write-clause-any_moment : goal.returns-in_err-write-clause-any_moment
-returns-in_err-write-clause-any_moment g c h =
+-- the draft by the writer's fields
+abbrev draft_of : (g : Over) → After-write g → Draft
+draft_of g c = record {
+  place = c.self.inside.place;
+  limit = c.self.inside.limit;
+  version = c.self.inside.version;
+  kind = c.self.inside.kind;
+  session = c.self.inside.stamp.session;
+  sequence = c.self.inside.stamp.sequence;
+  pages = c.self.inside.index;
+  buffer = take c.self.inside.used (drop 24 c.self.inside.page);
+}
+
+fits : (g : Over) (c : After-write g) → (draft_of g c).place + (draft_of g c).pages < (draft_of g c).limit
+fits g c =
+    let room : (draft_of g c).place + (draft_of g c).pages + 1 < (draft_of g c).limit = subst (λ (d : Draft). d.place + d.pages + 1 < d.limit) (sym c.self.view_is) c.requires.room in
+    omega arith
+
+-- what is written is the draft's next page
+page : (g : Over) (c : After-write g) → IsPageWritten c.self.inside.version c.self.inside.kind c.self.inside.stamp.session c.self.inside.stamp.sequence c.self.inside.index (draft_of g c).buffer (Bytes c.write_head.new.sector)
+page g c =
     let inside = c.self.inside in
-    let draft : Draft = record { place = inside.place; limit = inside.limit; version = inside.version; kind = inside.kind; session = inside.stamp.session; sequence = inside.stamp.sequence; pages = inside.index; buffer = take inside.used (drop 24 inside.page) } in
-    let is : draft ≡ c.args.self.now = c.self.view_is in
-    let room : draft.place + draft.pages + 1 < draft.limit = subst (λ (d : Draft). d.place + d.pages + 1 < d.limit) (sym is) c.requires.room in
-    subst (LeavesPart g.D.Disk.reads g.D.Disk.choices g.D.Disk.moment g.D.Disk.images_since c.args.disk.now c.write.new.self) is
-    (leaves_part g.D.Disk.reads g.D.Disk.choices g.D.Disk.moment g.D.Disk.images_since c.args.disk.now c.write.new.self draft c.write_head.new.sector (omega arith)
-    (page_written inside.version inside.kind inside.stamp.session inside.stamp.sequence inside.index inside.used inside.page c.write_head.new.sector _ c.self.invariant c.write_head.ensures (omega arith) (omega arith) (omega arith) refl)
-    (c.write.ensures.time h))
+    page_written inside.version inside.kind inside.stamp.session inside.stamp.sequence inside.index inside.used inside.page c.write_head.new.sector _ c.self.invariant c.write_head.ensures (omega arith) (omega arith) (omega arith) refl
+
+-- whatever the write answers
+leaves : (g : Over) (c : After-write g) → g.D.Disk.honest → LeavesPart g.D.Disk.reads g.D.Disk.choices g.D.Disk.moment g.D.Disk.images_since c.args.disk.now c.write.new.self c.args.self.now
+leaves g c h =
+    subst (LeavesPart g.D.Disk.reads g.D.Disk.choices g.D.Disk.moment g.D.Disk.images_since c.args.disk.now c.write.new.self) c.self.view_is
+    (leaves_part g.D.Disk.reads g.D.Disk.choices g.D.Disk.moment g.D.Disk.images_since c.args.disk.now c.write.new.self (draft_of g c) c.write_head.new.sector (fits g c) (page g c) (c.write.ensures.time h))
+
+pub returns-in_err-write-clause-any_moment : goal.returns-in_err-write-clause-any_moment
+returns-in_err-write-clause-any_moment g c h = leaves g (goal.at.returns-in_err-write-clause-any_moment g c).After-write h
 
 pub returns-clause-any_moment : goal.returns-clause-any_moment
-returns-clause-any_moment g c h =
-    let inside = c.self.inside in
-    let draft : Draft = record { place = inside.place; limit = inside.limit; version = inside.version; kind = inside.kind; session = inside.stamp.session; sequence = inside.stamp.sequence; pages = inside.index; buffer = take inside.used (drop 24 inside.page) } in
-    let is : draft ≡ c.args.self.now = c.self.view_is in
-    let room : draft.place + draft.pages + 1 < draft.limit = subst (λ (d : Draft). d.place + d.pages + 1 < d.limit) (sym is) c.requires.room in
-    subst (LeavesPart g.D.Disk.reads g.D.Disk.choices g.D.Disk.moment g.D.Disk.images_since c.args.disk.now c.write.new.self) is
-    (leaves_part g.D.Disk.reads g.D.Disk.choices g.D.Disk.moment g.D.Disk.images_since c.args.disk.now c.write.new.self draft c.write_head.new.sector (omega arith)
-    (page_written inside.version inside.kind inside.stamp.session inside.stamp.sequence inside.index inside.used inside.page c.write_head.new.sector _ c.self.invariant c.write_head.ensures (omega arith) (omega arith) (omega arith) refl)
-    (c.write.ensures.time h))
+returns-clause-any_moment g c h = leaves g (goal.at.returns-clause-any_moment g c).After-write h
 
 pub returns-clause-on_disk : goal.returns-clause-on_disk
 returns-clause-on_disk g c h =
-    let inside = c.self.inside in
-    let draft : Draft = record { place = inside.place; limit = inside.limit; version = inside.version; kind = inside.kind; session = inside.stamp.session; sequence = inside.stamp.sequence; pages = inside.index; buffer = take inside.used (drop 24 inside.page) } in
-    let is : draft ≡ c.args.self.now = c.self.view_is in
-    let room : draft.place + draft.pages + 1 < draft.limit = subst (λ (d : Draft). d.place + d.pages + 1 < d.limit) (sym is) c.requires.room in
-    subst (Flushes g.D.Disk.reads g.D.Disk.choices g.D.Disk.moment g.D.Disk.images_since c.args.disk.now c.write.new.self) is
-    (flushes g.D.Disk.reads g.D.Disk.choices g.D.Disk.moment g.D.Disk.images_since c.args.disk.now c.write.new.self draft c.write_head.new.sector (omega arith)
-    (page_written inside.version inside.kind inside.stamp.session inside.stamp.sequence inside.index inside.used inside.page c.write_head.new.sector _ c.self.invariant c.write_head.ensures (omega arith) (omega arith) (omega arith) refl)
+    let c' = (goal.at.returns-clause-on_disk g c).After-write in
+    subst (Flushes g.D.Disk.reads g.D.Disk.choices g.D.Disk.moment g.D.Disk.images_since c.args.disk.now c.write.new.self) c.self.view_is
+    (flushes g.D.Disk.reads g.D.Disk.choices g.D.Disk.moment g.D.Disk.images_since c.args.disk.now c.write.new.self (draft_of g c') c.write_head.new.sector (fits g c') (page g c')
     (c.write.ensures.time h) (c.in_ok-write.ensures.reads h) (c.in_ok-write.ensures.choices h))

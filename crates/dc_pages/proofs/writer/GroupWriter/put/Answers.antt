@@ -55,5 +55,5 @@ loop-at-preserved g c =
           (going_filled g.D.Disk.reads g.D.Disk.choices g.D.Disk.moment g.D.Disk.images_since start c.make_room.new.disk roomy (payload ++ take at bytes) (take count (drop at bytes))
           (room.going h start (payload ++ take at bytes) (so_far.going h start payload is))));
       count = c.in_ok-make_room.ensures.count ∙ so_far.count;
-      failures = omega arith;
+      failures = c.in_ok-make_room.ensures.passed ∙ so_far.failures;
     }

@@ -12,7 +12,7 @@ invariant-loop-at g l = record {
   going : g.D.Disk.honest → (start : g.row.D.Denot) (payload : List ℕ) → IsGoing g.D.Disk.reads g.D.Disk.choices g.D.Disk.moment g.D.Disk.images_since start l.fn.disk l.fn.self payload
       → IsGoing g.D.Disk.reads g.D.Disk.choices g.D.Disk.moment g.D.Disk.images_since start l.disk l.self (payload ++ take l.at l.bytes);
   count : g.D.Disk.sectors l.disk ≡ g.D.Disk.sectors l.fn.disk;
-  failures : g.D.Disk.failures l.fn.disk ≤ g.D.Disk.failures l.disk;
+  failures : g.D.Disk.failures l.disk ≡ g.D.Disk.failures l.fn.disk;
 }
 
 abbrev pub decreases-loop-at : goal.decreases-loop-at

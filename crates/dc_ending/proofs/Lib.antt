@@ -1,0 +1,2 @@
+-- what is escaped so far, and one character more
+mod Escapes

@@ -1,0 +1,31 @@
+-- What an engine's answer makes of a run (this product).
+use Rattle.std.specs.Prelude.{◌≡◌, ℕ, Bool, true, false, List, codes, Result, Ok, Err}
+use Rattle.dc_poller.specs.declared.fault.ProgramFault.{ProgramFault}
+use Rattle.dc_poller.specs.declared.fault.ProgramFault.TheVariants.{Read, TooLong, Write, NoMemory, Open as NotOpened}
+use Rattle.dc_ending.specs.declared.ending.Ending.{Ending}
+use Rattle.dc_ending.specs.declared.ending.Ending.TheVariants.{Clean, Faulty, Words, Format, Open, File, Gateway, Memory}
+
+-- the run ended by a fault of the file with that name
+abbrev pub IsOfFile : Ending → List ℕ → Type 0
+IsOfFile Clean wanted = ⊥
+IsOfFile Faulty wanted = ⊥
+IsOfFile (Words what) wanted = ⊥
+IsOfFile (Format fault) wanted = ⊥
+IsOfFile (Open fault) wanted = ⊥
+IsOfFile (File name) wanted = name.now ≡ wanted
+IsOfFile Gateway wanted = ⊥
+IsOfFile Memory wanted = ⊥
+
+-- a fault of reading is one of the input, a fault of writing one of the output
+abbrev pub StopsAs : ProgramFault → List ℕ → Ending → Type 0
+StopsAs Read input ending = IsOfFile ending input
+StopsAs TooLong input ending = IsOfFile ending input
+StopsAs Write input ending = IsOfFile ending (codes "-")
+StopsAs NoMemory input ending = ending ≡ Memory
+StopsAs (NotOpened fault) input ending = ending ≡ Open fault
+
+-- an engine answers whether a line was at fault, or what stopped it
+abbrev pub EndsAs : Result Bool ProgramFault → List ℕ → Ending → Type 0
+EndsAs (Ok false) input ending = ending ≡ Clean
+EndsAs (Ok true) input ending = ending ≡ Faulty
+EndsAs (Err fault) input ending = StopsAs fault input ending

@@ -1,0 +1,138 @@
+//! The ways in which a run ends.
+
+ghost use Rattle.std.specs.Prelude.{◌≡◌};
+ghost use Rattle.dc_stream.specs.Stream.{Wrote};
+ghost use Rattle.dc_ending.specs.Ending.{damaged_at, fault_line, line_of, named_line, sector_word, status_of};
+ghost use Rattle.dc_ending.specs.Outcome.{EndsAs};
+
+use crate::escape::put_escaped;
+use dc_poller::ProgramFault;
+use dc_recovery::{FormatFault, OpenFault};
+use dc_stream::{IoFault, Sink};
+use dc_text::{put_fault, put_number_word};
+
+/// What stands for standard input or output in `mbdc: file: NAME`.
+pub const STREAM: &str = "-";
+
+/// How a run ended (this product).
+#[derive(Clone, Copy)]
+pub enum Ending<'a> {
+    /// All was told, or done; help and the version were shown.
+    Clean,
+    /// A line of the input was at fault, as the output says.
+    Faulty,
+    /// The words aren't a command, and this is wrong with them.
+    Words(&'a str),
+    /// The image wasn't formatted.
+    Format(FormatFault),
+    /// The image wasn't opened.
+    Open(OpenFault),
+    /// The file of that name, or a stream, failed or had too much.
+    File(&'a str),
+    /// The gateway wasn't reached.
+    Gateway,
+    /// Memory was refused.
+    Memory,
+}
+
+impl Ending<'_> {
+    /// The status: 0, 1 for a fault in an input line, 2 for the words, 3 for an image or its disk, 4 for a file, a socket
+    /// or memory.
+    pub fn status(&self) -> u8
+        ensures { result ≡ status_of self.now }
+    {
+        match self {
+            Ending::Clean => 0,
+            Ending::Faulty => 1,
+            Ending::Words(_) => 2,
+            Ending::Format(_) | Ending::Open(_) => 3,
+            Ending::File(_) | Ending::Gateway | Ending::Memory => 4,
+        }
+    }
+
+    /// Puts the line, with its line feed: `mbdc: ` and what happened. Where the status is 0 or 1 there is none, and
+    /// nothing is put. No memory.
+    ///
+    /// # Errors
+    /// A put failed; how much of the line was written then isn't known.
+    pub fn put_line<W: Sink>(&self, out: &mut W) -> Result<(), IoFault>
+        ensures { Wrote W.written W.put_failures result out.old out.new (line_of self.now) }
+    {
+        match *self {
+            Ending::Clean | Ending::Faulty => Ok(()),
+            Ending::Words(what) => put_named(out, b"mbdc: ", what),
+            Ending::Format(fault) => {
+                put_store(out, b"mbdc: format: ", fault.number(), fault.name(), None)
+            }
+            Ending::Open(fault) => put_store(
+                out,
+                b"mbdc: open: ",
+                fault.number(),
+                fault.name(),
+                sector_of(fault),
+            ),
+            Ending::File(name) => put_named(out, b"mbdc: file: ", name),
+            Ending::Gateway => out.put(b"mbdc: gateway\n"),
+            Ending::Memory => out.put(b"mbdc: memory\n"),
+        }
+    }
+}
+
+#[tactic(auto, using(dc_stream::proofs::Pieces::written), unfolding(crate::specs::Ending::named_line))]
+fn put_named<W: Sink>(out: &mut W, what: &[u8], name: &str) -> Result<(), IoFault>
+    ensures { Wrote W.written W.put_failures result out.old out.new (named_line what.now name.now) }
+{
+    out.put(what)?;
+    put_escaped(out, name)?;
+    out.put(b"\n")
+}
+
+// A fault's number and name, and the sector at which it is.
+#[tactic(auto, using(dc_stream::proofs::Pieces::written), unfolding(crate::specs::Ending::fault_line))]
+fn put_store<W: Sink>(
+    out: &mut W,
+    what: &[u8],
+    number: u8,
+    name: &str,
+    sector: Option<u32>,
+) -> Result<(), IoFault>
+    ensures { Wrote W.written W.put_failures result out.old out.new (fault_line what.now number name.now sector) }
+{
+    out.put(what)?;
+    put_fault(out, number, name)?;
+    put_sector(out, sector)?;
+    out.put(b"\n")
+}
+
+fn put_sector<W: Sink>(out: &mut W, sector: Option<u32>) -> Result<(), IoFault>
+    ensures { Wrote W.written W.put_failures result out.old out.new (sector_word sector) }
+{
+    match sector {
+        Some(sector) => put_number_word(out, u64::from(sector)),
+        None => Ok(()),
+    }
+}
+
+// A damaged image has a sector at which it is.
+fn sector_of(fault: OpenFault) -> Option<u32>
+    ensures { result ≡ damaged_at fault }
+{
+    match fault {
+        OpenFault::Damaged(sector) => Some(sector),
+        _ => None,
+    }
+}
+
+/// How a run over this input ended, by what its engine answered.
+pub fn ending_of<'a>(outcome: Result<bool, ProgramFault>, input: &'a str) -> Ending<'a>
+    ensures { EndsAs outcome input.now result }
+{
+    match outcome {
+        Ok(false) => Ending::Clean,
+        Ok(true) => Ending::Faulty,
+        Err(ProgramFault::Read | ProgramFault::TooLong) => Ending::File(input),
+        Err(ProgramFault::Write) => Ending::File(STREAM),
+        Err(ProgramFault::NoMemory) => Ending::Memory,
+        Err(ProgramFault::Open(fault)) => Ending::Open(fault),
+    }
+}

@@ -1,0 +1,18 @@
+-- how the first bytes of an answer are kept
+
+-- the first bytes of what came in pieces
+pub mod Keeping
+-- bytes that are taken one after the other
+pub mod Taking
+-- an answer block by block
+pub mod Reading
+-- where no answer stands
+pub mod Missing
+-- the masks of a walk are masks
+pub mod Digits
+-- a search on a bus that tells its meters
+pub mod Searching
+-- a search within its budget
+pub mod Budgets
+-- masks as they are sent
+pub mod Orders

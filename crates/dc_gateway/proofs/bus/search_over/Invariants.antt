@@ -1,0 +1,16 @@
+use Rattle.std.proofs.Common.{◌≡◌}
+use Rattle.std.specs.Prelude.{IfSome}
+use Rattle.dc_search.specs.State.{rounds_left}
+use Rattle.dc_gateway.proofs.Budgets.{IsWithin}
+use Rattle.dc_gateway.proofs.Searching.{Searching}
+use Rattle.dc_gateway.proofs.bus.search_over.Given as goal
+
+abbrev pub invariant-steps : goal.invariant-steps
+invariant-steps g l = record {
+  meters : g.B.Bus.meters l.bus ≡ g.B.Bus.meters l.initial.bus;
+  within : IsWithin l.fn.budget l.search;
+  walk : IfSome (g.B.Bus.meters l.initial.bus) (λ told. Searching told l.fn.budget l.search (g.B.Bus.selected l.bus));
+}
+
+abbrev pub decreases-steps : goal.decreases-steps
+decreases-steps g l = rounds_left l.search

@@ -1,0 +1,56 @@
+-- A bus as the list of its meters, by what is heard on it (EN 13757-3, selection with wildcards; EN 13757-2, REQ_UD2).
+-- The meters that match a selection acknowledge it at once, and answer the request that follows together.
+use Rattle.std.specs.Prelude.{◌≡◌, ℕ, ◌≤◌, true, List, [], ◌∷◌, Option, Some, None, filter, length, min, take, if◌then◌else◌, nat_le}
+use Rattle.dc_address.specs.Mask.{IsMask, MaskParts, mask_wire, matches}
+use Rattle.dc_address.specs.declared.identity.Identity.{Identity}
+use Rattle.dc_linkframe.specs.Control.{request_to, selected, selection_by}
+use Rattle.dc_linkframe.specs.Frame.{ack, spelling}
+use Rattle.dc_search.specs.Answer.{answer_of}
+use Rattle.dc_search.specs.State.{SearchState, step_of}
+use Rattle.dc_search.specs.Walk.{FindsAll, found_of, shared_of, walk_of}
+use Rattle.dc_search.specs.declared.step.Step.TheVariants.{Done, Budget}
+
+-- what is heard where these meters are selected: silence, or acknowledgements that are one
+abbrev pub Acknowledge : List Identity → List ℕ → Type 0
+Acknowledge [] answer = answer ≡ []
+Acknowledge (meter ∷ more) answer = answer ≡ spelling ack
+
+-- what is heard where these are asked for their data: silence, the telegram of the one, or no telegram where answers collide
+abbrev pub Respond : List Identity → List ℕ → Type 0
+Respond [] answer = answer ≡ []
+Respond (meter ∷ []) answer = answer_of answer ≡ Some meter
+Respond (meter ∷ other ∷ more) answer = answer_of answer ≡ None
+
+-- What a bus of these meters answers to a search's requests, of which the first ones were selected before it and the
+-- others are after it.
+pub record IsHeard (meters before after : List Identity) (request answer : List ℕ) : Type 0 where
+  pub selects : (mask : MaskParts) → IsMask mask → request ≡ spelling (selection_by (mask_wire mask)) → after ≡ filter (matches mask) meters
+  pub acknowledges : (mask : MaskParts) → IsMask mask → request ≡ spelling (selection_by (mask_wire mask)) → Acknowledge after answer
+  pub keeps : request ≡ spelling (request_to true selected) → after ≡ before
+  pub responds : request ≡ spelling (request_to true selected) → Respond before answer
+
+-- ---- a bus in memory
+
+-- its meters, and what was selected last
+pub record Listed : Type 0 where
+  pub meters : List Identity
+  pub mask : Option MaskParts
+
+abbrev pub matched_by : Option MaskParts → List Identity → List Identity
+matched_by None meters = []
+matched_by (Some mask) meters = filter (matches mask) meters
+
+-- the meters that the last selection matched
+abbrev pub chosen : Listed → List Identity
+chosen bus = matched_by bus.mask bus.meters
+
+-- ---- a search
+
+-- A search over these meters made the selections of the walk, as far as the budget went.
+pub record IsSearched (meters : List Identity) (budget : ℕ) (search : SearchState) : Type 0 where
+  pub found : search.found ≡ found_of (take budget (walk_of meters))
+  pub shared : search.shared ≡ shared_of (take budget (walk_of meters))
+  pub selections : search.selections ≡ min budget (length (walk_of meters))
+  pub step : step_of search ≡ (if nat_le (length (walk_of meters)) budget then Done else Budget)
+  -- a whole walk finds every meter
+  pub whole : length (walk_of meters) ≤ budget → FindsAll meters search.found search.shared

@@ -1,0 +1,8 @@
+-- what a request and an answer are on the wire
+
+-- blocks, as a gateway speaks them (this product)
+pub mod Blocks
+-- what an exchange may give, and what it leaves
+pub mod Talk
+-- a bus of meters, by what is heard on it
+pub mod Bus

@@ -1,0 +1,29 @@
+//! An answer, block by block.
+
+ghost use Rattle.std.specs.Prelude.{◌≡◌, ◌⊎◌, IfOk, OnOk, OnErr};
+ghost use Rattle.dc_base.specs.Failures.{HasRisen};
+ghost use Rattle.dc_gateway.specs.Talk.{HasNoAnswer, TakesAnswer, TakesFront};
+
+use crate::answer_buf::AnswerBuf;
+use crate::block::{MOST_BLOCKS, take_content, take_length};
+use dc_stream::{IoFault, Source};
+
+/// Takes an answer, up to its block of length 0.
+pub(crate) fn take_answer<R: Source>(reader: &mut R) -> Result<AnswerBuf, IoFault>
+    ensures answer { IfOk result (λ answer. TakesAnswer (R.left reader.old) (R.left reader.new) answer) }
+    ensures well { OnOk result (R.take_failures reader.new ≡ R.take_failures reader.old) }
+    ensures lost { OnErr result (HasRisen (R.take_failures reader.old) (R.take_failures reader.new) ⊎ HasNoAnswer (R.left reader.old)) }
+    ensures read { OnErr result (TakesFront (R.left reader.old) (R.left reader.new)) }
+{
+    let mut answer = AnswerBuf::new();
+    for number in 0..MOST_BLOCKS {
+        let count = take_length(reader)?;
+        if count == 0 {
+            return Ok(answer);
+        }
+        take_content(reader, count, &mut answer)?;
+    }
+    // Behind so many blocks only the one of length 0 is an answer.
+    let count = take_length(reader)?;
+    if count == 0 { Ok(answer) } else { Err(IoFault) }
+}

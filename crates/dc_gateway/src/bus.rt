@@ -1,0 +1,71 @@
+//! A bus of meters, whatever it is reached over, and a search on it.
+
+ghost use Rattle.std.specs.Prelude.{◌≡◌, ◌≤◌, ℕ, List, Option, IfSome, IfOk, IsTrue, length};
+ghost use Rattle.dc_address.specs.declared.identity.Identity.{Identity as Meter};
+ghost use Rattle.dc_gateway.specs.Blocks.{most_block};
+ghost use Rattle.dc_gateway.specs.Bus.{IsHeard, IsSearched};
+ghost use Rattle.dc_search.specs.State.{is_idle, step_of};
+
+use crate::answer_buf::AnswerBuf;
+use crate::gateway::Gateway;
+use dc_base::NoMemory;
+use dc_linkframe::FrameBuf;
+use dc_search::Search;
+use dc_stream::{Sink, Source};
+use std::alloc::Allocator;
+
+/// Meters that are asked by frames.
+pub trait Bus {
+    // The meters on it, or `None` where the bus doesn't tell them.
+    ghost meters: { Self → Option (List Meter) };
+
+    // Those that are selected.
+    ghost selected: { Self → List Meter };
+
+    /// Sends a request, and gives what is heard of it; no byte is silence.
+    fn ask(&mut self, request: &FrameBuf) -> AnswerBuf
+        requires { length request.now ≤ most_block }
+        ensures meters { meters self.new ≡ meters self.old }
+        ensures heard { IfSome (meters self.old) (λ told. IsHeard told (selected self.old) (selected self.new) request.now result) };
+}
+
+impl<R: Source + Drop, W: Sink + Drop> Bus for Gateway<R, W> {
+    ghost use Rattle.std.specs.Prelude.{None, []};
+
+    // Whom a gateway leads to isn't told.
+    ghost meters = { λ _. None };
+
+    ghost selected = { λ _. [] };
+
+    fn ask(&mut self, request: &FrameBuf) -> AnswerBuf {
+        Gateway::ask(self, request)
+    }
+}
+
+/// Searches a bus with at most `budget` selections: each step's request is sent, and what is heard of it goes into the
+/// search. It ends whatever the bus answers.
+///
+/// # Errors
+/// Where memory is refused.
+pub fn search_over<A: Allocator + Copy, B: Bus>(
+    alloc: A,
+    budget: u32,
+    bus: &mut B,
+) -> Result<Search<A>, NoMemory>
+    // Nothing is left to be done, or the budget is spent.
+    ensures ended { IfOk result (λ search. IsTrue (is_idle (step_of search))) }
+    ensures within { IfOk result (λ search. search.selections ≤ budget) }
+
+    // Where the bus tells its meters, it follows their walk.
+    ensures walk { IfOk result (λ search. IfSome (B.meters bus.old) (λ told. IsSearched told budget search)) }
+    ensures meters { B.meters bus.new ≡ B.meters bus.old }
+{
+    let mut search = Search::new(alloc, budget);
+    'steps: while let Some(request) = search.next().request() {
+        let answer = bus.ask(&request);
+        if search.heard(answer.as_slice()).is_err() {
+            return Err(NoMemory);
+        }
+    }
+    Ok(search)
+}

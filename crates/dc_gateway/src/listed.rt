@@ -1,0 +1,99 @@
+//! A bus in memory: a list of meters, each with one telegram.
+
+ghost use Rattle.std.specs.Prelude.{◌≡◌, None, Some};
+ghost use Rattle.dc_gateway.specs.Bus.{Acknowledge, Respond, chosen};
+ghost use Rattle.dc_search.specs.Bus.{IsMatching};
+
+use crate::answer_buf::AnswerBuf;
+use crate::bus::Bus;
+use crate::order::{Order, order_of};
+use dc_address::{Identity, Mask};
+use dc_linkframe::{ACK, FrameBuf};
+use dc_search::bus::{Matching, matches_on, telegram_of};
+use std::marker::Model;
+
+// A byte that is no frame, as colliding answers make it.
+const NOISE: u8 = 0x00;
+
+/// Meters that each answer with one telegram: what a search over any bus is promised to find, it finds here.
+#[derive(Drop)]
+pub struct ListedBus<'a> {
+    meters: &'a [Identity],
+    mask: Option<Mask>,
+}
+
+impl<'a> Model for ListedBus<'a> {
+    ghost use Rattle.dc_gateway.specs.Bus.{Listed};
+
+    ghost Value = { Listed };
+
+    ghost view = { λ bus. record { meters = bus.meters.now; mask = bus.mask } };
+}
+
+impl<'a> ListedBus<'a> {
+    /// These meters, none of them selected.
+    pub fn new(meters: &'a [Identity]) -> ListedBus<'a>
+        ensures { result ≡ record { meters = meters.now; mask = None } }
+    {
+        ListedBus { meters, mask: None }
+    }
+
+    // Which meters are selected.
+    fn matching(&self) -> Matching
+        ensures { IsMatching result (chosen self.now) }
+    {
+        match &self.mask {
+            Some(mask) => matches_on(self.meters, mask),
+            None => Matching::Nobody,
+        }
+    }
+
+    fn select(&mut self, mask: Mask)
+        ensures { self.new ≡ record self.old { mask = Some mask } }
+    {
+        self.mask = Some(mask);
+    }
+
+    // What is heard of a selection.
+    fn acknowledge(&self) -> AnswerBuf
+        ensures { Acknowledge (chosen self.now) result }
+    {
+        let mut answer = AnswerBuf::new();
+        if !matches!(self.matching(), Matching::Nobody) {
+            answer.append(&[ACK]);
+        }
+        answer
+    }
+
+    // What is heard of the request that follows.
+    fn respond(&self) -> AnswerBuf
+        ensures { Respond (chosen self.now) result }
+    {
+        let mut answer = AnswerBuf::new();
+        match self.matching() {
+            Matching::Nobody => {}
+            Matching::One(meter) => answer.append(telegram_of(&meter).as_slice()),
+            Matching::More => answer.append(&[NOISE]),
+        }
+        answer
+    }
+}
+
+impl<'a> Bus for ListedBus<'a> {
+    ghost use Rattle.std.specs.Prelude.{Some};
+
+    ghost meters = { λ bus. Some bus.meters };
+
+    ghost selected = { chosen };
+
+    fn ask(&mut self, request: &FrameBuf) -> AnswerBuf {
+        match order_of(request.as_slice()) {
+            Order::Select(mask) => {
+                self.select(mask);
+                self.acknowledge()
+            }
+            Order::Data => self.respond(),
+            Order::Other => AnswerBuf::new(),
+        }
+    }
+}

@@ -1,0 +1,197 @@
+-- What happens in a poll, one thing after the other.
+use Rattle.std.proofs.Common.{◌≡◌, ◌+◌, ℕ, List, [], ◌∷◌, ◌++◌, refl, ap, sym, subst, ◌∙◌, arith, append_assoc, append-nil, inl, inr, ⊎_elim}
+use Rattle.std.specs.Prelude.{Bool, true, false, Result, Ok, Err, IfOk, OnOk}
+use Rattle.dc_address.specs.declared.identity.Identity.{Identity}
+use Rattle.dc_sectors.specs.Disk.{Image, Choices}
+use Rattle.dc_changes.specs.State.{State}
+use Rattle.dc_core.specs.Core.{opened}
+use Rattle.dc_core.specs.Event.{Event, Answer}
+use Rattle.dc_core.specs.Images.{Machine, IsAt}
+use Rattle.dc_core.specs.Transcript.{Turn, leads, IsChain}
+use Rattle.dc_core.specs.declared.fault.HearFault.{HearFault}
+use Rattle.dc_core.specs.declared.fault.HearFault.TheVariants.{NoLine, Idle, Full, NoMemory, PendingFull, Stopped}
+use Rattle.dc_core.specs.declared.line_heard.LineHeard.{LineHeard}
+use Rattle.dc_poller.specs.Link.{Link, linked, lost, gateway_lost, link_by, loss_text}
+use Rattle.dc_poller.specs.Poll.{Happening, does, loses, Due, to_hear, Phase, IsDueEvent, IsWay, behind, behind_turn, turns_of, told_text, happening_text, happened_turns, happened_text, rounds_in, count_of, IsEnd, behind_first_heard, is_over}
+use Rattle.dc_poller.specs.Way.{Way, IsRound}
+use Rattle.dc_poller.specs.Went.{Went, TurnWent}
+use Rattle.dc_poller.proofs.Wents.{went_both, went_chain, went_at}
+
+way_append : (moment : ℕ) (meter : Identity) (phase mid last : Phase) (one more : List Happening) → IsWay moment meter phase one mid → IsWay moment meter mid more last → IsWay moment meter phase (one ++ more) last
+way_append moment meter phase mid last [] more front back = subst (λ (p : Phase). IsWay moment meter p more last) front back
+way_append moment meter phase mid last (h ∷ one) more front back = (front.0, way_append moment meter (behind phase h) mid last one more front.1 back)
+
+turns_append : (one more : List Happening) → happened_turns (one ++ more) ≡ happened_turns one ++ happened_turns more
+turns_append [] more = refl
+turns_append (h ∷ one) more = ap (λ (x : List Turn). turns_of h ++ x) (turns_append one more) ∙ sym (append_assoc (turns_of h) (happened_turns one) (happened_turns more))
+
+text_append : (one more : List Happening) → happened_text (one ++ more) ≡ happened_text one ++ happened_text more
+text_append [] more = refl
+text_append (h ∷ one) more = ap (λ (x : List ℕ). happening_text h ++ x) (text_append one more) ∙ sym (append_assoc (happening_text h) (happened_text one) (happened_text more))
+
+pub rounds_append : (one more : List Happening) → rounds_in (one ++ more) ≡ rounds_in one + rounds_in more
+rounds_append [] more = omega arith
+rounds_append (h ∷ one) more = let rest = rounds_append one more in omega (arith, rest)
+
+-- ---- what is due
+
+pub is_full : (answer : Result LineHeard HearFault) (fault : HearFault) → answer ≡ Err fault → fault ≡ PendingFull → answer ≡ Err PendingFull
+is_full answer fault is full = is ∙ ap (λ (f : HearFault). Err f) full
+
+-- after another fault nothing is due
+pub behind_other : (bytes : List ℕ) (fault : HearFault) → ¬ (fault ≡ PendingFull) → behind_first_heard bytes (Err fault) ≡ is_over
+behind_other bytes NoLine other = refl
+behind_other bytes Idle other = refl
+behind_other bytes Full other = refl
+behind_other bytes NoMemory other = refl
+behind_other bytes PendingFull other = absurd (other refl)
+behind_other bytes Stopped other = refl
+
+-- ---- rounds
+
+pub end_grows : {X E : Type 0} (result : Result X E) (link : Link) (h : Happening) (happened : List Happening) (last : Phase) → count_of h ≡ 0
+    → OnOk result (IsEnd happened last.due × (last.link ≡ link)) → OnOk result (IsEnd (h ∷ happened) last.due × (last.link ≡ link))
+end_grows (Ok x) link h happened last none ends = (⊎_elim (λ over. inl over) (λ full. inr (omega (arith, none, full))) ends.0, ends.1)
+end_grows (Err e) link h happened last none ends = tt
+
+is_false : Bool → Type 0
+is_false true = ⊥
+is_false false = Unit {0}
+
+absurd_bool : {A : Type 0} → false ≡ true → A
+unfolding is_false
+absurd_bool e = absurd (subst is_false e tt)
+
+round_grows : (more : Bool) (link : Link) (few rounds : ℕ) (h : Happening) (happened : List Happening) (last : Phase) → count_of h + few ≡ rounds → IsRound more link few happened last → IsRound more link rounds (h ∷ happened) last
+round_grows more link few rounds h happened last is round = let r = round.rounds_are in record { last_is = round.last_is; rounds_are = omega (arith, is, r) }
+
+-- a round of which more has happened before
+pub if_round_grows : {E : Type 0} (result : Result Bool E) (link : Link) (few rounds : ℕ) (h : Happening) (happened : List Happening) (last : Phase) → count_of h + few ≡ rounds
+    → IfOk result (λ more. IsRound more link few happened last) → IfOk result (λ more. IsRound more link rounds (h ∷ happened) last)
+if_round_grows (Ok more) link few rounds h happened last is round = round_grows more link few rounds h happened last is round
+if_round_grows (Err fault) link few rounds h happened last is round = tt
+
+-- which is nothing asked for
+pub if_round_after : {E : Type 0} (result : Result Bool E) (link : Link) (rounds : ℕ) (front happened : List Happening) (last : Phase) → rounds_in front ≡ 0
+    → IfOk result (λ more. IsRound more link rounds happened last) → IfOk result (λ more. IsRound more link rounds (front ++ happened) last)
+if_round_after (Ok more) link rounds front happened last is round = let r = round.rounds_are in record { last_is = round.last_is; rounds_are = omega (arith, is, r, rounds_append front happened) }
+if_round_after (Err fault) link rounds front happened last is round = tt
+
+module _ {D : Type 0} (honest : Type 0) (sectors : D → ℕ) (reads : D → Image) (choices : D → Choices) (moment_of : D → ℕ) (images_since : D → ℕ → Image → Type 0) where
+  pub way_chain : (budget : ℕ) (state : State) (before : List Turn) (moment : ℕ) (meter : Identity) (phase : Phase) (ends : List Happening → Phase → Type 0) (wrote : List ℕ → Type 0) (first new : Machine D)
+      → (way : Way honest sectors reads choices moment_of images_since budget state before moment meter phase ends wrote first new) → IsChain budget (opened state) (before ++ happened_turns way.happened)
+  way_chain budget state before moment meter phase ends wrote first new way = went_chain honest sectors reads choices moment_of images_since budget state before (happened_turns way.happened) first new way.went
+
+  pub way_at : (budget : ℕ) (state : State) (before : List Turn) (moment : ℕ) (meter : Identity) (phase : Phase) (ends : List Happening → Phase → Type 0) (wrote : List ℕ → Type 0) (first new : Machine D)
+      → (way : Way honest sectors reads choices moment_of images_since budget state before moment meter phase ends wrote first new) → IsAt honest sectors reads choices new (leads (opened state) (before ++ happened_turns way.happened))
+  way_at budget state before moment meter phase ends wrote first new way = went_at honest sectors reads choices moment_of images_since budget state before (happened_turns way.happened) first new way.went
+
+  -- nothing happens
+  pub way_none : (budget : ℕ) (state : State) (before : List Turn) (moment : ℕ) (meter : Identity) (phase : Phase) (ends : List Happening → Phase → Type 0) (wrote : List ℕ → Type 0) (machine : Machine D)
+      → Went honest sectors reads choices moment_of images_since budget state before [] machine machine → ends [] phase → wrote []
+      → Way honest sectors reads choices moment_of images_since budget state before moment meter phase ends wrote machine machine
+  way_none budget state before moment meter phase ends wrote machine went ends_so text = record { happened = []; last = phase; way = refl; ends_so = ends_so; went = went; text = text }
+
+  -- the gateway is lost
+  pub way_lost : (budget : ℕ) (state : State) (before : List Turn) (moment : ℕ) (meter : Identity) (ends : List Happening → Phase → Type 0) (wrote : List ℕ → Type 0) (machine : Machine D)
+      → Went honest sectors reads choices moment_of images_since budget state before [] machine machine → ends (loses ∷ []) (record { due = to_hear; link = lost }) → wrote gateway_lost
+      → Way honest sectors reads choices moment_of images_since budget state before moment meter (record { due = to_hear; link = linked }) ends wrote machine machine
+  way_lost budget state before moment meter ends wrote machine went ends_so text =
+      record { happened = loses ∷ []; last = record { due = to_hear; link = lost }; way = ((refl, refl), refl); ends_so = ends_so; went = went; text = text }
+
+  -- one turn
+  pub way_turn : (budget : ℕ) (state : State) (before : List Turn) (moment : ℕ) (meter : Identity) (due : Due) (link : Link) (event : Event) (such : Answer → Type 0) (ends : List Happening → Phase → Type 0) (wrote : List ℕ → Type 0) (first new : Machine D)
+      → IsDueEvent moment meter link due event
+      → (one : TurnWent honest sectors reads choices moment_of images_since budget state before event such first new)
+      → ((answer : Answer) → such answer → ends (does (event, answer) ∷ []) (record { due = behind_turn due event answer; link = link }))
+      → ((answer : Answer) → such answer → wrote (told_text answer))
+      → Way honest sectors reads choices moment_of images_since budget state before moment meter (record { due = due; link = link }) ends wrote first new
+  way_turn budget state before moment meter due link event such ends wrote first new is_due one ends_so text =
+      record {
+        happened = does (event, one.answer) ∷ [];
+        last = record { due = behind_turn due event one.answer; link = link };
+        way = (is_due, refl);
+        ends_so = ends_so one.answer one.is_such;
+        went = one.went;
+        text = subst wrote (sym (append-nil (told_text one.answer))) (text one.answer one.is_such);
+      }
+
+  -- and then more
+  pub way_both : (budget : ℕ) (state : State) (before : List Turn) (moment : ℕ) (meter : Identity) (phase : Phase) (mid : Phase) (ends then_ends all_ends : List Happening → Phase → Type 0) (wrote then_wrote all : List ℕ → Type 0) (first old new : Machine D)
+      → (one : Way honest sectors reads choices moment_of images_since budget state before moment meter phase ends wrote first old) → one.last ≡ mid
+      → Way honest sectors reads choices moment_of images_since budget state (before ++ happened_turns one.happened) moment meter mid then_ends then_wrote old new
+      → ((more : List Happening) (last : Phase) → then_ends more last → all_ends (one.happened ++ more) last)
+      → ((text more : List ℕ) → wrote text → then_wrote more → all (text ++ more))
+      → Way honest sectors reads choices moment_of images_since budget state before moment meter phase all_ends all first new
+  way_both budget state before moment meter phase mid ends then_ends all_ends wrote then_wrote all first old new one is more ends_so joins =
+      record {
+        happened = one.happened ++ more.happened;
+        last = more.last;
+        way = way_append moment meter phase one.last more.last one.happened more.happened one.way (subst (λ (p : Phase). IsWay moment meter p more.happened more.last) (sym is) more.way);
+        ends_so = ends_so more.happened more.last more.ends_so;
+        went = subst (λ (ts : List Turn). Went honest sectors reads choices moment_of images_since budget state before ts first new) (sym (turns_append one.happened more.happened))
+            (went_both honest sectors reads choices moment_of images_since budget state before (happened_turns one.happened) (happened_turns more.happened) first old new one.went more.went);
+        text = subst all (sym (text_append one.happened more.happened)) (joins (happened_text one.happened) (happened_text more.happened) one.text more.text);
+      }
+
+  -- the same, and less is said of it
+  pub way_as : (budget : ℕ) (state : State) (before : List Turn) (moment : ℕ) (meter : Identity) (phase : Phase) (ends other_ends : List Happening → Phase → Type 0) (wrote other : List ℕ → Type 0) (first new : Machine D)
+      → Way honest sectors reads choices moment_of images_since budget state before moment meter phase ends wrote first new
+      → ((happened : List Happening) (last : Phase) → ends happened last → other_ends happened last)
+      → ((text : List ℕ) → wrote text → other text)
+      → Way honest sectors reads choices moment_of images_since budget state before moment meter phase other_ends other first new
+  way_as budget state before moment meter phase ends other_ends wrote other first new way ends_so goes =
+      record { happened = way.happened; last = way.last; way = way.way; ends_so = ends_so way.happened way.last way.ends_so; went = way.went; text = goes (happened_text way.happened) way.text }
+
+  -- and then what a call does
+  pub way_then : (budget : ℕ) (state : State) (before : List Turn) (moment : ℕ) (meter : Identity) (phase mid : Phase) (ends then_ends all_ends : List Happening → Phase → Type 0) (wrote then_wrote all : List ℕ → Type 0) (first old new : Machine D)
+      → (one : Way honest sectors reads choices moment_of images_since budget state before moment meter phase ends wrote first old) → one.last ≡ mid → old.house.budget ≡ budget
+      → ((behind : List Turn) → IsChain old.house.budget (opened state) behind → IsAt honest sectors reads choices old (leads (opened state) behind) → Way honest sectors reads choices moment_of images_since old.house.budget state behind moment meter mid then_ends then_wrote old new)
+      → ((more : List Happening) (last : Phase) → then_ends more last → all_ends (one.happened ++ more) last)
+      → ((text more : List ℕ) → wrote text → then_wrote more → all (text ++ more))
+      → Way honest sectors reads choices moment_of images_since budget state before moment meter phase all_ends all first new
+  way_then budget state before moment meter phase mid ends then_ends all_ends wrote then_wrote all first old new one is same next_way ends_so joins =
+      let turns = happened_turns one.happened in
+      way_both budget state before moment meter phase mid ends then_ends all_ends wrote then_wrote all first old new one is
+      (subst (λ (b : ℕ). Way honest sectors reads choices moment_of images_since b state (before ++ turns) moment meter mid then_ends then_wrote old new) same
+      (next_way (before ++ turns) (subst (λ (b : ℕ). IsChain b (opened state) (before ++ turns)) (sym same) (way_chain budget state before moment meter phase ends wrote first old one))
+      (way_at budget state before moment meter phase ends wrote first old one)))
+      ends_so joins
+
+  -- a turn, and then what a call does
+  pub turn_then : (budget : ℕ) (state : State) (before : List Turn) (moment : ℕ) (meter : Identity) (due : Due) (link : Link) (event : Event) (such : Answer → Type 0) (told : Answer) (then_ends ends : List Happening → Phase → Type 0) (then_wrote wrote : List ℕ → Type 0) (first old new : Machine D)
+      → IsDueEvent moment meter link due event
+      → TurnWent honest sectors reads choices moment_of images_since budget state before event such first old → ((answer : Answer) → such answer → answer ≡ told) → old.house.budget ≡ budget
+      → ((behind : List Turn) → IsChain old.house.budget (opened state) behind → IsAt honest sectors reads choices old (leads (opened state) behind)
+      → Way honest sectors reads choices moment_of images_since old.house.budget state behind moment meter (record { due = behind_turn due event told; link = link }) then_ends then_wrote old new)
+      → ((more : List Happening) (last : Phase) → then_ends more last → ends (does (event, told) ∷ more) last)
+      → ((more : List ℕ) → then_wrote more → wrote (told_text told ++ more))
+      → Way honest sectors reads choices moment_of images_since budget state before moment meter (record { due = due; link = link }) ends wrote first new
+  turn_then budget state before moment meter due link event such told then_ends ends then_wrote wrote first old new is_due turn is same next_way ends_so joins =
+      let mid : Phase = record { due = behind_turn due event told; link = link } in
+      let one = way_turn budget state before moment meter due link event such (λ happened last. (happened ≡ does (event, told) ∷ []) × (last ≡ mid)) (λ text. text ≡ told_text told) first old is_due turn
+      (λ answer s. (ap (λ (a : Answer). does (event, a) ∷ []) (is answer s), ap (λ (a : Answer). record { due = behind_turn due event a; link = link }) (is answer s)))
+      (λ answer s. ap told_text (is answer s)) in
+      way_then budget state before moment meter (record { due = due; link = link }) mid _ then_ends ends (λ text. text ≡ told_text told) then_wrote wrote first old new one one.ends_so.1 same next_way
+      (λ more last e. subst (λ (h : List Happening). ends (h ++ more) last) (sym one.ends_so.0) (ends_so more last e))
+      (λ text more t m. subst (λ (x : List ℕ). wrote (x ++ more)) (sym t) (joins more m))
+
+  -- the gateway may be lost
+  pub way_loss : (budget : ℕ) (state : State) (before : List Turn) (moment : ℕ) (meter : Identity) (was is : Bool) (wrote : List ℕ → Type 0) (machine : Machine D)
+      → Went honest sectors reads choices moment_of images_since budget state before [] machine machine → (was ≡ true → is ≡ true) → wrote (loss_text (link_by was) (link_by is))
+      → Way honest sectors reads choices moment_of images_since budget state before moment meter (record { due = to_hear; link = link_by was }) (λ happened last. (rounds_in happened ≡ 0) × (last ≡ record { due = to_hear; link = link_by is })) wrote machine machine
+  way_loss budget state before moment meter false false wrote machine went stays text = way_none budget state before moment meter _ _ wrote machine went (refl, refl) text
+  way_loss budget state before moment meter true true wrote machine went stays text = way_none budget state before moment meter _ _ wrote machine went (refl, refl) text
+  way_loss budget state before moment meter false true wrote machine went stays text = way_lost budget state before moment meter _ wrote machine went (refl, refl) text
+  way_loss budget state before moment meter true false wrote machine went stays text = absurd_bool (stays refl)
+
+  -- a turn, and no more
+  pub turn_last : (budget : ℕ) (state : State) (before : List Turn) (moment : ℕ) (meter : Identity) (due : Due) (link : Link) (event : Event) (such : Answer → Type 0) (told : Answer) (ends : List Happening → Phase → Type 0) (wrote : List ℕ → Type 0) (first new : Machine D)
+      → IsDueEvent moment meter link due event
+      → TurnWent honest sectors reads choices moment_of images_since budget state before event such first new → ((answer : Answer) → such answer → answer ≡ told)
+      → ends (does (event, told) ∷ []) (record { due = behind_turn due event told; link = link }) → wrote (told_text told)
+      → Way honest sectors reads choices moment_of images_since budget state before moment meter (record { due = due; link = link }) ends wrote first new
+  turn_last budget state before moment meter due link event such told ends wrote first new is_due turn is ends_so text =
+      way_turn budget state before moment meter due link event such ends wrote first new is_due turn
+      (λ answer s. subst (λ (a : Answer). ends (does (event, a) ∷ []) (record { due = behind_turn due event a; link = link })) (sym (is answer s)) ends_so)
+      (λ answer s. subst (λ (a : Answer). wrote (told_text a)) (sym (is answer s)) text)

@@ -1,0 +1,155 @@
+-- The readout of a meter through the gateway (this product): each thing that happens is due by the one before it.
+use Rattle.std.specs.Prelude.{◌≡◌, ◌⊎◌, ℕ, ◌+◌, ◌≤◌, None, Some, Result, Ok, Err, List, [], ◌∷◌, length, flat_map}
+use Rattle.dc_address.specs.declared.identity.Identity.{Identity}
+use Rattle.dc_core.specs.Event.{Event, Answer, starts, asks, hears, commits, started, asked, heard, committed, replied}
+use Rattle.dc_core.specs.Text.{answer_text}
+use Rattle.dc_core.specs.Transcript.{Turn}
+use Rattle.dc_core.specs.declared.fault.HearFault.{HearFault}
+use Rattle.dc_core.specs.declared.fault.HearFault.TheVariants.{PendingFull}
+use Rattle.dc_core.specs.declared.line_heard.LineHeard.{LineHeard}
+use Rattle.dc_core.specs.declared.line_heard.LineHeard.TheVariants.{Again, Ready, Accepted, Failed}
+use Rattle.dc_gateway.specs.Blocks.{most_answer}
+use Rattle.dc_poller.specs.Link.{Link, linked, lost, IsHeardOver, gateway_lost}
+
+-- the bus line behind the gateway
+abbrev pub gateway_line : ℕ
+gateway_line = 1
+
+-- no readout asks more often: three tries at a reset, a selection and each of 32 parts, and once more where nothing is to be asked
+abbrev pub most_rounds : ℕ
+most_rounds = 103
+
+-- a turn of the concentrator, or the gateway is lost
+pub data Happening : Type 0 where
+  does : Turn → Happening
+  loses : Happening
+
+-- what is to be done next
+pub data Due : Type 0 where
+  to_start : Due
+  to_ask : Due
+  to_hear : Due
+  to_commit : Due
+  -- too much waits for what was heard: it is committed, and then that is heard once more
+  to_make_room : List ℕ → Due
+  to_hear_again : List ℕ → Due
+  is_over : Due
+
+-- and how the gateway is found
+pub record Phase : Type 0 where
+  pub due : Due
+  pub link : Link
+
+-- ---- which event is due
+
+-- what is heard is the gateway's answer, and silence from a lost one
+abbrev pub IsDueEvent : ℕ → Identity → Link → Due → Event → Type 0
+IsDueEvent moment meter link to_start event = event ≡ starts gateway_line meter
+IsDueEvent moment meter link to_ask event = event ≡ asks gateway_line
+IsDueEvent moment meter link to_hear event = (bytes : List ℕ) × (length bytes ≤ most_answer) × IsHeardOver link bytes × (event ≡ hears gateway_line moment bytes)
+IsDueEvent moment meter link to_commit event = event ≡ commits
+IsDueEvent moment meter link (to_make_room bytes) event = event ≡ commits
+IsDueEvent moment meter link (to_hear_again bytes) event = event ≡ hears gateway_line moment bytes
+IsDueEvent moment meter link is_over event = ⊥
+
+-- the gateway is lost at most once, where its answer is due
+abbrev pub IsDue : ℕ → Identity → Phase → Happening → Type 0
+IsDue moment meter phase (does turn) = IsDueEvent moment meter phase.link phase.due turn.0
+IsDue moment meter phase loses = (phase.link ≡ linked) × (phase.due ≡ to_hear)
+
+-- ---- what is due behind it
+
+-- a part is committed, and then comes the next request; a failure or a refusal is the end
+abbrev pub behind_heard : Result LineHeard HearFault → Due
+behind_heard (Ok Again) = to_ask
+behind_heard (Ok Ready) = to_ask
+behind_heard (Ok (Accepted part more)) = to_commit
+behind_heard (Ok (Failed why)) = is_over
+behind_heard (Err fault) = is_over
+
+-- but where too much waits, there is a way to go on
+abbrev pub behind_first_heard : List ℕ → Result LineHeard HearFault → Due
+behind_first_heard bytes (Ok answer) = behind_heard (Ok answer)
+behind_first_heard bytes (Err PendingFull) = to_make_room bytes
+behind_first_heard bytes (Err fault) = is_over
+
+abbrev pub bytes_in : Event → List ℕ
+bytes_in (hears line moment bytes) = bytes
+bytes_in event = []
+
+abbrev pub behind_turn : Due → Event → Answer → Due
+behind_turn to_start event (started (Ok done)) = to_ask
+behind_turn to_ask event (asked (Some request)) = to_hear
+behind_turn to_hear event (heard answer) = behind_first_heard (bytes_in event) answer
+behind_turn to_commit event (committed (Ok count)) = to_ask
+behind_turn (to_make_room bytes) event (committed (Ok count)) = to_hear_again bytes
+behind_turn (to_hear_again bytes) event (heard answer) = behind_heard answer
+behind_turn due event answer = is_over
+
+abbrev pub behind : Phase → Happening → Phase
+behind phase (does turn) = record { due = behind_turn phase.due turn.0 turn.1; link = phase.link }
+behind phase loses = record { due = phase.due; link = lost }
+
+-- ---- all that happens
+
+-- each thing is due behind those before it, and this is the phase behind all
+abbrev pub IsWay : ℕ → Identity → Phase → List Happening → Phase → Type 0
+IsWay moment meter phase [] last = last ≡ phase
+IsWay moment meter phase (happening ∷ more) last = IsDue moment meter phase happening × IsWay moment meter (behind phase happening) more last
+
+abbrev pub turns_of : Happening → List Turn
+turns_of (does turn) = turn ∷ []
+turns_of loses = []
+
+abbrev pub happened_turns : List Happening → List Turn
+happened_turns happened = flat_map turns_of happened
+
+-- the text of an answer: that nothing is to be asked isn't told
+abbrev pub told_text : Answer → List ℕ
+told_text (started answer) = answer_text (started answer)
+told_text (asked None) = []
+told_text (asked (Some request)) = answer_text (asked (Some request))
+told_text (heard answer) = answer_text (heard answer)
+told_text (committed answer) = answer_text (committed answer)
+told_text (replied reply) = answer_text (replied reply)
+
+abbrev pub happening_text : Happening → List ℕ
+happening_text (does turn) = told_text turn.1
+happening_text loses = gateway_lost
+
+abbrev pub happened_text : List Happening → List ℕ
+happened_text happened = flat_map happening_text happened
+
+-- how often a request was asked for
+abbrev pub asks_by : Event → ℕ
+asks_by (asks line) = 1
+asks_by event = 0
+
+abbrev pub count_of : Happening → ℕ
+count_of (does turn) = asks_by turn.0
+count_of loses = 0
+
+abbrev pub rounds_in : List Happening → ℕ
+rounds_in [] = 0
+rounds_in (happening ∷ more) = count_of happening + rounds_in more
+
+-- it is over, or has gone on for as many rounds as no readout has
+abbrev pub IsEnd : List Happening → Due → Type 0
+IsEnd happened due = (due ≡ is_over) ⊎ (rounds_in happened ≡ most_rounds)
+
+-- A POLL, from its start to its end: these turns and this text.
+pub record Polls (moment : ℕ) (meter : Identity) (link left : Link) (turns : List Turn) (text : List ℕ) : Type 0 where
+  pub happened : List Happening
+  pub last : Phase
+  pub way : IsWay moment meter (record { due = to_start; link = link }) happened last
+  pub ends : IsEnd happened last.due
+  pub left_is : left ≡ last.link
+  pub turns_are : turns ≡ happened_turns happened
+  pub text_is : text ≡ happened_text happened
+
+-- some first turns of a poll
+pub record PollsPart (moment : ℕ) (meter : Identity) (link : Link) (turns : List Turn) : Type 0 where
+  pub happened : List Happening
+  pub last : Phase
+  pub way : IsWay moment meter (record { due = to_start; link = link }) happened last
+  pub turns_are : turns ≡ happened_turns happened

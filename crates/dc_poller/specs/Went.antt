@@ -1,0 +1,19 @@
+-- Turns of a concentrator that were run (this product).
+use Rattle.std.specs.Prelude.{◌≡◌, ℕ, List, [], ◌∷◌, map}
+use Rattle.dc_changes.specs.State.{State}
+use Rattle.dc_core.specs.Event.{Event, Answer}
+use Rattle.dc_core.specs.Images.{Machine}
+use Rattle.dc_core.specs.Run.{Ran}
+use Rattle.dc_core.specs.Transcript.{Turn}
+use Rattle.dc_sectors.specs.Disk.{Image, Choices}
+
+-- THESE TURNS ARE RUN, behind the turns that were before: they are those of a run of their events.
+pub record Went {D : Type 0} (honest : Type 0) (sectors : D → ℕ) (reads : D → Image) (choices : D → Choices) (moment : D → ℕ) (images_since : D → ℕ → Image → Type 0) (budget : ℕ) (state : State) (before turns : List Turn) (first new : Machine D) : Type 0 where
+  pub ran : Ran honest sectors reads choices moment images_since budget state before (map (λ (t : Turn). t.0) turns) (λ text. Unit {0}) first new
+  pub turns_are : ran.turns ≡ turns
+
+-- One event is run, and its answer is such a one.
+pub record TurnWent {D : Type 0} (honest : Type 0) (sectors : D → ℕ) (reads : D → Image) (choices : D → Choices) (moment : D → ℕ) (images_since : D → ℕ → Image → Type 0) (budget : ℕ) (state : State) (before : List Turn) (event : Event) (such : Answer → Type 0) (first new : Machine D) : Type 0 where
+  pub answer : Answer
+  pub is_such : such answer
+  pub went : Went honest sectors reads choices moment images_since budget state before ((event, answer) ∷ []) first new

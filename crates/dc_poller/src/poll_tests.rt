@@ -1,0 +1,106 @@
+//! What no clause says: worked polls byte by byte, over gateways in memory.
+use crate::run_script;
+use crate::tests::joined;
+use dc_recovery::Store;
+use dc_sectors::MemoryDisk;
+use dc_stream::Bytes;
+use std::alloc::Global;
+use std::process::Abort;
+use std::test::Fail;
+
+const FIT: &[u8] = b"AT 1735689600\nOFFICE 1 FIT 12345678.PAD.01.07 1 1 A1\n";
+
+const POLL: &[u8] = b"POLL 1 12345678.PAD.01.07\n";
+
+// An acknowledgement, a telegram that says that more follow, and the last one: blocks, each answer with that of length 0
+// behind it.
+const ANSWERS: &[u8] = &[
+    1, 0xE5, 0, 28, 0x68, 0x16, 0x16, 0x68, 0x08, 0x01, 0x72, 0x78, 0x56, 0x34, 0x12, 0x24, 0x40,
+    0x01, 0x07, 0x01, 0x00, 0x00, 0x00, 0x0C, 0x13, 0x78, 0x56, 0x34, 0x12, 0x1F, 0x4E, 0x16, 0,
+    31, 0x68, 0x19, 0x19, 0x68, 0x08, 0x01, 0x72, 0x78, 0x56, 0x34, 0x12, 0x24, 0x40, 0x01, 0x07,
+    0x02, 0x00, 0x00, 0x00, 0x42, 0x6C, 0x1F, 0x3C, 0x4C, 0x13, 0x00, 0x50, 0x34, 0x12, 0xFB, 0x16,
+    0,
+];
+
+fn blank(heap: Global) -> Result<MemoryDisk<Global>, Fail> {
+    match Store::format(MemoryDisk::new(heap, 131)?) {
+        Ok(disk) => Ok(disk),
+        Err((fault, _)) => Err(Fail::from(fault)),
+    }
+}
+
+// The script writes this text over a gateway that gives these blocks.
+fn is_polled(
+    rt: &(impl Abort + AllocGlobal),
+    answers: &[u8],
+    lines: &[u8],
+    text: &[u8],
+) -> Result<(), Fail> {
+    let heap = rt.alloc();
+    let lines = joined(heap, FIT, lines)?;
+    let mut reader = Bytes::from_slice(heap, lines.as_slice())?;
+    let mut writer = Bytes::new(heap);
+    let gateway = Some((Bytes::from_slice(heap, answers)?, Bytes::new(heap)));
+    let (_, outcome) = run_script(heap, blank(heap)?, &mut reader, &mut writer, gateway);
+    assert_eq!(rt; outcome, Ok(false));
+    assert_eq!(rt; writer.as_slice(), text);
+    Ok(())
+}
+
+#[test]
+fn a_meter_is_polled(rt: HostRuntime) -> Result<(), Fail> {
+    is_polled(
+        &rt,
+        ANSWERS,
+        POLL,
+        b"OK 1
+STARTED
+SEND 1040014116
+READY
+SEND 107B017C16
+PART 1 MORE
+COMMITTED 1
+SEND 105B015C16
+PART 2 LAST
+COMMITTED 1
+",
+    )
+}
+
+#[test]
+fn no_gateway_is_behind_another_line(rt: HostRuntime) -> Result<(), Fail> {
+    is_polled(
+        &rt,
+        ANSWERS,
+        b"POLL 2 12345678.PAD.01.07\nPOLL 1 00000000.PAD.01.07\n",
+        b"OK 1\nNO GATEWAY\nREFUSED 2 Unknown\n",
+    )
+}
+
+// The gateway ends within its second answer. The poll goes on in silence, and so does the next.
+const LOST: &[u8] = b"OK 1
+STARTED
+SEND 1040014116
+READY
+SEND 107B017C16
+GATEWAY LOST
+AGAIN
+SEND 107B017C16
+AGAIN
+SEND 107B017C16
+FAILED 1 NoAnswer
+STARTED
+SEND 1040014116
+AGAIN
+SEND 1040014116
+AGAIN
+SEND 1040014116
+FAILED 1 NoAnswer
+";
+
+#[test]
+fn a_gateway_is_lost_once(rt: HostRuntime) -> Result<(), Fail> {
+    let lines = joined(rt.alloc(), POLL, POLL)?;
+    let answers = ANSWERS.get(..9).ok_or("answers")?;
+    is_polled(&rt, answers, lines.as_slice(), LOST)
+}

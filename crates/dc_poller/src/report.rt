@@ -1,0 +1,108 @@
+//! The engine of `report`: a table of what an image holds.
+
+ghost use Rattle.std.specs.Prelude.{◌≡◌, ◌≢◌, ◌≤◌, ◌<◌, ◌⊎◌, IsTrue, Some, Err, codes, IfSome, IfOk, IfErr, OnOk, OnErr, IsErrOf};
+ghost use Rattle.dc_base.specs.Failures.{HasRisen};
+ghost use Rattle.dc_recovery.specs.Halves.{fewest_sectors, half_len_of};
+ghost use Rattle.dc_recovery.specs.Refusal.{IsRefused, TellsOfImage};
+ghost use Rattle.dc_recovery.specs.Stands.{EachStands, StandsForOne};
+ghost use Rattle.dc_recovery.specs.declared.fault.OpenFault.TheVariants.{NotImage, Worn, Device};
+ghost use Rattle.dc_sectors.specs.Disk.{LeavesOnly};
+ghost use Rattle.dc_stream.specs.Stream.{Puts};
+ghost use Rattle.dc_units.specs.Date.{Day, exists};
+ghost use Rattle.dc_units.specs.Text.{day_text};
+ghost use Rattle.dc_poller.specs.Fault.{IfOpen, IsOfImage};
+ghost use Rattle.dc_poller.specs.Report.{IsTold, report_word, table_text};
+
+use crate::fault::ProgramFault;
+use dc_base::NoMemory;
+use dc_meters::House;
+use dc_recovery::Store;
+use dc_report::{due_table, register_table};
+use dc_sectors::Disk;
+use dc_stream::{IoFault, Sink};
+use dc_units::Date;
+use std::alloc::Allocator;
+
+/// A table of what an image holds.
+#[derive(Clone, Copy)]
+pub enum Report {
+    /// The registered meters, by flat.
+    Register,
+    /// The due-date values for a date, by flat.
+    Due(Date),
+}
+
+impl Report {
+    /// The table that a word asks for: `register`, or a date that exists, as `2024-12-31`.
+    pub fn parse(word: &[u8]) -> Option<Report>
+        ensures found { IfSome result (λ report. word.now ≡ report_word report) }
+        ensures register { word.now ≡ codes "register" → result ≡ Some Report.Register }
+        ensures due { (date : Day) → IsTrue (exists date.year date.month date.day) → word.now ≡ day_text date → result ≡ Some (Report.Due date) }
+    {
+        if word == b"register".as_slice() {
+            return Some(Report::Register);
+        }
+        let date = Date::parse_text(word)?;
+        Some(Report::Due(date))
+    }
+}
+
+/// Opens the image, writes a table of what it holds, with one put, and closes it. The table is made whole before anything
+/// is written. Opening begins a session, so the image's next root is written; nothing else is. The disk comes back whatever
+/// happens.
+///
+/// # Errors
+/// [`ProgramFault::Open`] where the image wasn't opened, and [`ProgramFault::NoMemory`] where memory was refused for the
+/// table, both with the writer as it was; [`ProgramFault::Write`] where the writer failed.
+pub fn report_on<D: Disk + Drop, A: Allocator + Copy, W: Sink>(
+    alloc: A,
+    disk: D,
+    report: Report,
+    writer: &mut W,
+) -> (D, Result<(), ProgramFault>)
+    // The table is that of the state which the image reads as.
+    ensures told { D.honest → OnOk result.1 (IsTold (half_len_of (D.sectors disk)) report (D.reads disk) (Puts (W.written writer.old) (W.written writer.new))) }
+    ensures well { OnOk result.1 (W.put_failures writer.new ≡ W.put_failures writer.old) }
+
+    // An image that isn't opened is refused as the store refuses it; one that stands is refused only as worn.
+    ensures small { D.sectors disk < fewest_sectors → result.1 ≡ Err (ProgramFault.Open NotImage) }
+    ensures refused { D.honest → fewest_sectors ≤ D.sectors disk → IfErr result.1 (λ fault. IfOpen fault (λ e. IsRefused (half_len_of (D.sectors disk)) (D.reads disk) e)) }
+    ensures premise { D.honest → fewest_sectors ≤ D.sectors disk → EachStands (half_len_of (D.sectors disk)) (D.choices disk) → IfErr result.1 (λ fault. IfOpen fault (λ e. TellsOfImage e → e ≡ Worn)) }
+    ensures device { IfErr result.1 (λ fault. IfOpen fault (λ e. e ≡ Device → HasRisen (D.failures disk) (D.failures result.0))) }
+
+    // Whatever happens, a stop leaves an image that stands for a state that one of the disk's images stood for.
+    ensures any_moment { D.honest → EachStands (half_len_of (D.sectors disk)) (D.choices disk)
+        → LeavesOnly D.moment D.images_since disk result.0 (StandsForOne (half_len_of (D.sectors disk)) (D.choices disk)) }
+
+    // Nothing is read but the image, and only a failed write touches the writer.
+    ensures faults { IfErr result.1 IsOfImage }
+    ensures write { IsErrOf result.1 ProgramFault.Write → HasRisen (W.put_failures writer.old) (W.put_failures writer.new) }
+    ensures untouched { IfErr result.1 (λ fault. fault ≢ ProgramFault.Write → writer.new ≡ writer.old) }
+{
+    let (store, house) = match Store::open(alloc, disk) {
+        Ok((store, house)) => (store, house),
+        Err((fault, disk)) => return (disk, Err(ProgramFault::Open(fault))),
+    };
+    let table = match table_of(alloc, house, report) {
+        Ok(table) => table,
+        Err(NoMemory) => return (store.close(), Err(ProgramFault::NoMemory)),
+    };
+    match writer.put(table.as_slice()) {
+        Ok(()) => (store.close(), Ok(())),
+        Err(IoFault) => (store.close(), Err(ProgramFault::Write)),
+    }
+}
+
+// The table of a house that isn't wanted any more.
+fn table_of<A: Allocator + Copy>(
+    alloc: A,
+    house: House<A>,
+    report: Report,
+) -> Result<Vec<u8, A>, NoMemory>
+    ensures { IfOk result (λ table. table.items ≡ table_text report house.state) }
+{
+    match report {
+        Report::Register => register_table(alloc, &house),
+        Report::Due(date) => due_table(alloc, &house, date),
+    }
+}

@@ -1,0 +1,17 @@
+//! Simulated meters behind a simulated gateway, for the demo and for tests: nothing that is promised rests on them.
+//!
+//! A [`SimulatedMeter`] follows the standard: the frame count bit (EN 13757-2), selection with wildcards (EN 13757-3), and
+//! several telegrams in one readout. A [`SimulatedBus`] has several of them, whose answers collide; [`serve`] is a gateway's
+//! end of one exchange with it.
+#![tactic(auto)]
+
+mod line;
+mod meter;
+mod serving;
+
+pub use line::SimulatedBus;
+pub use meter::{Reply, SimulatedMeter};
+pub use serving::serve;
+
+#[cfg(test)]
+mod tests;

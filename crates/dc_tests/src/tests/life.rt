@@ -1,0 +1,111 @@
+//! A life: the image that it begins with, its steps, and the changes that are accepted in it.
+
+ghost use Rattle.std.specs.Prelude.{IfOk};
+ghost use Rattle.dc_core.specs.Run.{IsEvent};
+
+use super::images::rested;
+use dc_address::Identity;
+use dc_changes::Change;
+use dc_core::Event;
+use dc_meters::House;
+use dc_recovery::Store;
+use dc_sectors::{Disk, MemoryDisk};
+use dc_stream::Bytes;
+use std::alloc::{Allocator, Global};
+use std::test::Fail;
+
+/// The second at which everything is heard.
+pub const MOMENT: u64 = 1_735_689_600;
+
+/// What is done in a step. Everything is heard on bus line 1, from the one meter.
+#[derive(Clone, Copy)]
+pub enum Deed<'a> {
+    Start,
+    Hear(&'a [u8]),
+    Commit,
+    Office(&'a [u8]),
+}
+
+/// One step of a life: what is done, the text that a run writes for it, and then how many changes are accepted behind it,
+/// and how many of them are promised.
+#[derive(Clone, Copy)]
+pub struct Step<'a>(pub Deed<'a>, pub &'a [u8], pub usize, pub usize);
+
+/// A life. The changes stand as their lines.
+#[derive(Drop)]
+pub struct Life<'a> {
+    pub disk: MemoryDisk<Global>,
+    pub steps: &'a [Step<'a>],
+    pub changes: &'a [&'a [u8]],
+}
+
+/// The event of a deed.
+pub fn event_of<'a>(deed: &Deed<'a>) -> Result<Event<'a>, Fail>
+    ensures { IfOk result (λ event. IsEvent event) }
+{
+    Ok(match *deed {
+        Deed::Start => Event::Start {
+            line: 1,
+            meter: Identity::parse_text(b"12345678.PAD.01.07")?,
+        },
+        Deed::Hear(answer) => Event::Hear {
+            line: 1,
+            moment: MOMENT,
+            answer,
+        },
+        Deed::Commit => Event::Commit,
+        Deed::Office(text) => Event::Office { text },
+    })
+}
+
+/// A blank image of 131 sectors, formatted.
+pub fn blank(heap: Global) -> Result<MemoryDisk<Global>, Fail> {
+    blank_on(heap, heap)
+}
+
+/// A blank image of 131 sectors, formatted, which keeps its record in this memory.
+pub fn blank_on<A: Allocator + Copy>(heap: Global, alloc: A) -> Result<MemoryDisk<A>, Fail> {
+    match Store::format(MemoryDisk::new(alloc, 131)?) {
+        Ok(disk) => Ok(rested(heap, &disk)?),
+        Err((fault, _)) => Err(Fail::from(fault)),
+    }
+}
+
+/// The bytes of the state that an image is opened as.
+pub fn state_of<D: Disk + Drop>(heap: Global, disk: D) -> Result<Bytes<Global>, Fail> {
+    match Store::open(heap, disk) {
+        Ok((_, house)) => encoded(heap, &house),
+        Err((fault, _)) => Err(Fail::from(fault)),
+    }
+}
+
+/// The states before the changes and behind each of them, by a house that replays them.
+pub fn states_of(heap: Global, life: &Life<'_>) -> Result<Vec<Bytes<Global>, Global>, Fail> {
+    let mut house = match Store::open(heap, life.disk.copy()?) {
+        Ok((_, house)) => house,
+        Err((fault, _)) => return Err(Fail::from(fault)),
+    };
+    let mut states = Vec::new(heap);
+    states.push(encoded(heap, &house)?)?;
+    for line in life.changes {
+        replay(heap, &mut house, line)?;
+        states.push(encoded(heap, &house)?)?;
+    }
+    Ok(states)
+}
+
+/// The house after the change that the line spells.
+fn replay(heap: Global, house: &mut House<Global>, line: &[u8]) -> Result<(), Fail> {
+    let mut room = [0; 2048];
+    let change = Change::parse_line(line, &mut room).ok_or("no change")?;
+    let mut bytes = Bytes::new(heap);
+    dc_changes::encode_change(&change, &mut bytes)?;
+    house.replay(bytes.as_slice())?;
+    Ok(())
+}
+
+fn encoded(heap: Global, house: &House<Global>) -> Result<Bytes<Global>, Fail> {
+    let mut bytes = Bytes::new(heap);
+    house.encode(&mut bytes)?;
+    Ok(bytes)
+}
