@@ -79,75 +79,128 @@ fn is_table<A: Allocator + Copy>(alloc: A, table: &[u8], lines: &[&[u8]]) -> Res
 }
 
 // One meter and one readout of it, in two parts.
-fn one_reading<A: Allocator + Copy>(rt: &impl Abort, alloc: A) -> Result<House<A>, Fail> {
-    let mut house = House::new(alloc, 15_616);
-    order(rt, &mut house, b"1 FIT 12345678.PAD.01.07 1 1 A1")?;
-    hear(
+fn one_reading<A: Allocator + Copy>(
+    rt: &impl Abort,
+    alloc: A,
+    house: &mut House<A>,
+) -> Result<(), Fail> {
+    order(rt, house, b"1 FIT 12345678.PAD.01.07 1 1 A1")?;
+    hear(rt, house, alloc, 1, &[ONE, b"\x0C\x13\x78\x56\x34\x12\x1F"])?;
+    hear(rt, house, alloc, 2, &[ONE, DATED, VOLUME])?;
+    Ok(())
+}
+
+fn shows_due<A: Allocator + Copy>(
+    rt: &impl Abort,
+    alloc: A,
+    house: &House<A>,
+    date: Date,
+    lines: &[&[u8]],
+) -> Result<(), Fail> {
+    let due = due_table(alloc, house, date)?;
+    assert!(rt; is_table(alloc, &due, lines)?);
+    Ok(())
+}
+
+fn shows_register<A: Allocator + Copy>(
+    rt: &impl Abort,
+    alloc: A,
+    house: &House<A>,
+    lines: &[&[u8]],
+) -> Result<(), Fail> {
+    let register = register_table(alloc, house)?;
+    assert!(rt; is_table(alloc, &register, lines)?);
+    Ok(())
+}
+
+fn counts<A: Allocator + Copy>(
+    rt: &impl Abort,
+    alloc: A,
+    house: &House<A>,
+    date: Date,
+    rows: usize,
+) -> Result<(), Fail> {
+    assert_eq!(rt; due_rows(alloc, house, date)?, rows);
+    assert_eq!(rt; counted_due_table(alloc, house, date)?.rows, rows);
+    Ok(())
+}
+
+fn readout_has_its_rows<A: Allocator + Copy>(
+    rt: &impl Abort,
+    alloc: A,
+    house: &mut House<A>,
+) -> Result<(), Fail> {
+    one_reading(rt, alloc, house)?;
+    shows_register(
         rt,
-        &mut house,
         alloc,
-        1,
-        &[ONE, b"\x0C\x13\x78\x56\x34\x12\x1F"],
+        house,
+        &[REGISTER, b"A1,12345678.PAD.01.07,water,1,1,0\n"],
     )?;
-    hear(rt, &mut house, alloc, 2, &[ONE, DATED, VOLUME])?;
-    Ok(house)
+    assert_eq!(rt; register_rows(house), 1);
+    let date = Date::new(2024, 12, 31).ok_or("date")?;
+    let row = b"A1,12345678.PAD.01.07,1,1,0,0,0,12345.000,m3\n";
+    shows_due(rt, alloc, house, date, &[DUE, row])?;
+    counts(rt, alloc, house, date, 1)?;
+    // Of another date there is the header alone.
+    let date = Date::new(2023, 12, 31).ok_or("date")?;
+    shows_due(rt, alloc, house, date, &[DUE])?;
+    counts(rt, alloc, house, date, 0)
 }
 
 #[test]
 fn a_readout_has_its_rows(rt: HostRuntime) -> Result<(), Fail> {
-    let date = Date::new(2024, 12, 31).ok_or("date")?;
-    let house = one_reading(&rt, rt.alloc())?;
-    let register = register_table(rt.alloc(), &house)?;
-    assert!(rt;
-        is_table(
-            rt.alloc(),
-            &register,
-            &[REGISTER, b"A1,12345678.PAD.01.07,water,1,1,0\n"]
-        )?
-    );
-    assert_eq!(rt; register_rows(&house), 1);
-    let due = due_table(rt.alloc(), &house, date)?;
-    assert!(rt;
-        is_table(
-            rt.alloc(),
-            &due,
-            &[DUE, b"A1,12345678.PAD.01.07,1,1,0,0,0,12345.000,m3\n"]
-        )?
-    );
-    assert_eq!(rt; due_rows(rt.alloc(), &house, date)?, 1);
-    let counted = counted_due_table(rt.alloc(), &house, date)?;
-    assert_eq!(rt; counted.rows, 1);
-    assert_eq!(rt; counted.bytes.as_slice(), due.as_slice());
+    let mut house = House::new(rt.alloc(), 15_616);
+    readout_has_its_rows(&rt, rt.alloc(), &mut house)
+}
 
-    // Of another date there is the header alone.
-    let date = Date::new(2023, 12, 31).ok_or("date")?;
-    let due = due_table(rt.alloc(), &house, date)?;
-    assert_eq!(rt; due.as_slice(), DUE);
-    assert_eq!(rt; due_rows(rt.alloc(), &house, date)?, 0);
-    Ok(())
+fn flags_have_their_texts<A: Allocator + Copy>(
+    rt: &impl Abort,
+    alloc: A,
+    house: &mut House<A>,
+) -> Result<(), Fail> {
+    order(rt, house, b"1 FIT 12345678.PAD.01.07 1 S A1")?;
+    let flags: &[u8] = b"\x42\xFD\x17\x04\x01";
+    let least: &[u8] = b"\xD4\x50\x13\0\0\0\x80";
+    hear(rt, house, alloc, 1, &[ONE, DATED, flags, least])?;
+    let date = Date::new(2024, 12, 31).ok_or("date")?;
+    let told = b"A1,12345678.PAD.01.07,1,1,0,0,0,0104,flags\n";
+    let none = b"A1,12345678.PAD.01.07,1,1,1,1,1,none,m3\n";
+    shows_due(rt, alloc, house, date, &[DUE, told, none])?;
+    counts(rt, alloc, house, date, 2)
 }
 
 #[test]
 fn flags_and_none_have_their_texts(rt: HostRuntime) -> Result<(), Fail> {
-    let date = Date::new(2024, 12, 31).ok_or("date")?;
     let mut house = House::new(rt.alloc(), 15_616);
-    order(&rt, &mut house, b"1 FIT 12345678.PAD.01.07 1 S A1")?;
-    let flags: &[u8] = b"\x42\xFD\x17\x04\x01";
-    let least: &[u8] = b"\xD4\x50\x13\0\0\0\x80";
-    hear(&rt, &mut house, rt.alloc(), 1, &[ONE, DATED, flags, least])?;
-    let due = due_table(rt.alloc(), &house, date)?;
-    assert!(rt;
-        is_table(
-            rt.alloc(),
-            &due,
-            &[
-                DUE,
-                b"A1,12345678.PAD.01.07,1,1,0,0,0,0104,flags\n",
-                b"A1,12345678.PAD.01.07,1,1,1,1,1,none,m3\n",
-            ]
-        )?
-    );
-    assert_eq!(rt; due_rows(rt.alloc(), &house, date)?, 2);
+    flags_have_their_texts(&rt, rt.alloc(), &mut house)
+}
+
+fn flats_are_in_order<A: Allocator + Copy>(
+    rt: &impl Abort,
+    alloc: A,
+    house: &mut House<A>,
+) -> Result<(), Fail> {
+    order(rt, house, b"1 FIT 12345678.PAD.01.07 1 1 a1")?;
+    order(rt, house, b"2 FIT 00000002.PAD.01.99 2 S B10")?;
+    order(rt, house, b"3 FIT 00000003.PAD.01.02 2 250 B2")?;
+    order(rt, house, b"4 FIT 00000004.PAD.01.08 8 2 B")?;
+    order(rt, house, b"5 FIT 00000001.PAD.01.0C 8 1 B2")?;
+    hear(rt, house, alloc, 1, &[ONE, b"\x1F"])?;
+    shows_register(
+        rt,
+        alloc,
+        house,
+        &[
+            REGISTER,
+            b"B,00000004.PAD.01.08,heat-cost-allocator,8,2,0\n",
+            b"B10,00000002.PAD.01.99,99,2,S,0\n",
+            b"B2,00000001.PAD.01.0C,heat-inlet,8,1,0\n",
+            b"B2,00000003.PAD.01.02,electricity,2,250,0\n",
+            b"a1,12345678.PAD.01.07,water,1,1,1\n",
+        ],
+    )?;
+    assert_eq!(rt; register_rows(house), 5);
     Ok(())
 }
 
@@ -155,71 +208,91 @@ fn flags_and_none_have_their_texts(rt: HostRuntime) -> Result<(), Fail> {
 #[test]
 fn rows_are_in_order_of_flats(rt: HostRuntime) -> Result<(), Fail> {
     let mut house = House::new(rt.alloc(), 15_616);
-    order(&rt, &mut house, b"1 FIT 12345678.PAD.01.07 1 1 a1")?;
-    order(&rt, &mut house, b"2 FIT 00000002.PAD.01.99 2 S B10")?;
-    order(&rt, &mut house, b"3 FIT 00000003.PAD.01.02 2 250 B2")?;
-    order(&rt, &mut house, b"4 FIT 00000004.PAD.01.08 8 2 B")?;
-    order(&rt, &mut house, b"5 FIT 00000001.PAD.01.0C 8 1 B2")?;
-    hear(&rt, &mut house, rt.alloc(), 1, &[ONE, b"\x1F"])?;
-    let register = register_table(rt.alloc(), &house)?;
-    assert!(rt;
-        is_table(
-            rt.alloc(),
-            &register,
-            &[
-                REGISTER,
-                b"B,00000004.PAD.01.08,heat-cost-allocator,8,2,0\n",
-                b"B10,00000002.PAD.01.99,99,2,S,0\n",
-                b"B2,00000001.PAD.01.0C,heat-inlet,8,1,0\n",
-                b"B2,00000003.PAD.01.02,electricity,2,250,0\n",
-                b"a1,12345678.PAD.01.07,water,1,1,1\n",
-            ]
-        )?
-    );
-    assert_eq!(rt; register_rows(&house), 5);
-    Ok(())
+    flats_are_in_order(&rt, rt.alloc(), &mut house)
+}
+
+fn two_meters_are_read<A: Allocator + Copy>(
+    rt: &impl Abort,
+    alloc: A,
+    house: &mut House<A>,
+) -> Result<(), Fail> {
+    order(rt, house, b"1 FIT 12345678.PAD.01.07 1 1 C3")?;
+    order(rt, house, b"2 FIT 00000002.PAD.01.99 2 S B2")?;
+    hear(rt, house, alloc, 1, &[ONE, DATED, VOLUME])?;
+    hear(rt, house, alloc, 1, &[TWO, DATED, VOLUME])?;
+    order(rt, house, b"3 MOVE 12345678.PAD.01.07 A1")?;
+    hear(rt, house, alloc, 1, &[ONE, DATED, OTHER_VOLUME])?;
+    hear(rt, house, alloc, 1, &[ONE, VOLUME])
+}
+
+fn last_readings_count<A: Allocator + Copy>(
+    rt: &impl Abort,
+    alloc: A,
+    house: &mut House<A>,
+) -> Result<(), Fail> {
+    two_meters_are_read(rt, alloc, house)?;
+    let swap = b"4 SWAP 12345678.PAD.01.07 00000009.PAD.01.07 1";
+    order(rt, house, swap)?;
+    order(rt, house, b"5 OUT 00000002.PAD.01.99")?;
+    let date = Date::new(2024, 12, 31).ok_or("date")?;
+    let moved = b"A1,12345678.PAD.01.07,3,1,0,0,0,200.000,m3\n";
+    let gone = b"B2,00000002.PAD.01.99,2,1,0,0,0,12345.000,m3\n";
+    shows_due(rt, alloc, house, date, &[DUE, moved, gone])?;
+    counts(rt, alloc, house, date, 2)?;
+    let new = b"A1,00000009.PAD.01.07,water,1,1,0\n";
+    shows_register(rt, alloc, house, &[REGISTER, new])
 }
 
 // The last reading that has the date counts, in the flat of then, also of meters that were swapped or taken out.
 #[test]
 fn each_meter_has_its_last_reading_with_the_date(rt: HostRuntime) -> Result<(), Fail> {
-    let date = Date::new(2024, 12, 31).ok_or("date")?;
     let mut house = House::new(rt.alloc(), 15_616);
-    order(&rt, &mut house, b"1 FIT 12345678.PAD.01.07 1 1 C3")?;
-    order(&rt, &mut house, b"2 FIT 00000002.PAD.01.99 2 S B2")?;
-    hear(&rt, &mut house, rt.alloc(), 1, &[ONE, DATED, VOLUME])?;
-    hear(&rt, &mut house, rt.alloc(), 1, &[TWO, DATED, VOLUME])?;
-    order(&rt, &mut house, b"3 MOVE 12345678.PAD.01.07 A1")?;
-    hear(&rt, &mut house, rt.alloc(), 1, &[ONE, DATED, OTHER_VOLUME])?;
-    hear(&rt, &mut house, rt.alloc(), 1, &[ONE, VOLUME])?;
-    order(
-        &rt,
-        &mut house,
-        b"4 SWAP 12345678.PAD.01.07 00000009.PAD.01.07 1",
-    )?;
-    order(&rt, &mut house, b"5 OUT 00000002.PAD.01.99")?;
-    let due = due_table(rt.alloc(), &house, date)?;
-    assert!(rt;
-        is_table(
-            rt.alloc(),
-            &due,
-            &[
-                DUE,
-                b"A1,12345678.PAD.01.07,3,1,0,0,0,200.000,m3\n",
-                b"B2,00000002.PAD.01.99,2,1,0,0,0,12345.000,m3\n",
-            ]
-        )?
-    );
-    assert_eq!(rt; due_rows(rt.alloc(), &house, date)?, 2);
-    let register = register_table(rt.alloc(), &house)?;
-    assert!(rt;
-        is_table(
-            rt.alloc(),
-            &register,
-            &[REGISTER, b"A1,00000009.PAD.01.07,water,1,1,0\n"]
-        )?
-    );
+    last_readings_count(&rt, rt.alloc(), &mut house)
+}
+
+fn due_growths<'a, A: Allocator>(
+    rt: &impl Abort,
+    heap: &'a Refusing<A>,
+    house: &House<&'a Refusing<A>>,
+    date: Date,
+) -> Result<(), Fail> {
+    for k in 1..=5u64 {
+        heap.refuse(k);
+        assert!(rt; due_table(heap, house, date).is_err(), "at {k}");
+        assert_eq!(rt; due_table(heap, house, date)?.len(), 106);
+    }
+    for k in 1..=4u64 {
+        heap.refuse(k);
+        assert!(rt; due_rows(heap, house, date).is_err(), "at {k}");
+        assert_eq!(rt; due_rows(heap, house, date)?, 1);
+    }
+    heap.refuse(6);
+    assert_eq!(rt; due_table(heap, house, date)?.len(), 106);
     Ok(())
+}
+
+fn register_growths<'a, A: Allocator>(
+    rt: &impl Abort,
+    heap: &'a Refusing<A>,
+    house: &House<&'a Refusing<A>>,
+) -> Result<(), Fail> {
+    heap.refuse(1);
+    assert!(rt; register_table(heap, house).is_err());
+    assert_eq!(rt; register_table(heap, house)?.len(), 70);
+    heap.refuse(2);
+    assert_eq!(rt; register_table(heap, house)?.len(), 70);
+    Ok(())
+}
+
+fn growths<'a, A: Allocator>(
+    rt: &impl Abort,
+    heap: &'a Refusing<A>,
+    house: &mut House<&'a Refusing<A>>,
+) -> Result<(), Fail> {
+    one_reading(rt, heap, house)?;
+    let date = Date::new(2024, 12, 31).ok_or("date")?;
+    due_growths(rt, heap, house, date)?;
+    register_growths(rt, heap, house)
 }
 
 // Each request is refused in turn, and the same call then succeeds. The due-date table takes room for the last
@@ -227,32 +300,8 @@ fn each_meter_has_its_last_reading_with_the_date(rt: HostRuntime) -> Result<(), 
 // its text.
 #[test]
 fn each_growth_is_refused_in_turn(rt: HostRuntime) -> Result<(), Fail> {
-    let date = Date::new(2024, 12, 31).ok_or("date")?;
     let heap = Refusing::new(rt.alloc());
     heap.refuse(0);
-    let house = one_reading(&rt, &heap)?;
-    for k in 1..=5u64 {
-        heap.refuse(k);
-        assert!(rt;
-            matches!(due_table(&heap, &house, date), Err(NoMemory)),
-            "at {k}"
-        );
-        assert_eq!(rt; due_table(&heap, &house, date)?.len(), 106);
-    }
-    for k in 1..=4u64 {
-        heap.refuse(k);
-        assert!(rt;
-            matches!(due_rows(&heap, &house, date), Err(NoMemory)),
-            "at {k}"
-        );
-        assert_eq!(rt; due_rows(&heap, &house, date)?, 1);
-    }
-    heap.refuse(1);
-    assert!(rt; matches!(register_table(&heap, &house), Err(NoMemory)));
-    assert_eq!(rt; register_table(&heap, &house)?.len(), 70);
-    heap.refuse(6);
-    assert_eq!(rt; due_table(&heap, &house, date)?.len(), 106);
-    heap.refuse(2);
-    assert_eq!(rt; register_table(&heap, &house)?.len(), 70);
-    Ok(())
+    let mut house = House::new(&heap, 15_616);
+    growths(&rt, &heap, &mut house)
 }
