@@ -82,105 +82,97 @@ fn hear<A: Allocator + Copy>(
     Ok(())
 }
 
-// A house in which one meter was read.
-fn read_house(rt: &(impl Abort + AllocGlobal)) -> Result<House<Global>, Fail> {
-    let mut house = House::new(rt.alloc(), BUDGET);
-    is_answered(rt, &mut house, FIT, b"OK 1\n")?;
-    hear(rt, &mut house, 1, FIRST)?;
-    hear(rt, &mut house, 2, LAST)?;
-    Ok(house)
+// One meter is fitted and read.
+fn read_out(rt: &(impl Abort + AllocGlobal), house: &mut House<Global>) -> Result<(), Fail> {
+    is_answered(rt, house, FIT, b"OK 1\n")?;
+    hear(rt, house, 1, FIRST)?;
+    hear(rt, house, 2, LAST)
+}
+
+fn are_done_once(rt: &(impl Abort + AllocGlobal), house: &mut House<Global>) -> Result<(), Fail> {
+    is_answered(rt, house, FIT, b"OK 1\n")?;
+    is_answered(rt, house, FIT, b"OK 1\n")?;
+    let other = b"1 FIT 12345678.PAD.01.07 1 1 A2";
+    is_answered(rt, house, other, b"ERR ORDER 1\n")?;
+    let later = b"3 OUT 12345678.PAD.01.07";
+    is_answered(rt, house, later, b"ERR ORDER 1\n")?;
+    let known = b"2 FIT 12345678.PAD.01.07 1 2 A1";
+    is_answered(rt, house, known, b"ERR KNOWN\n")?;
+    let taken = b"2 FIT 00000001.PAD.01.07 1 1 A1";
+    is_answered(rt, house, taken, b"ERR ADDRESS\n")?;
+    let unknown = b"2 OUT 00000001.PAD.01.07";
+    is_answered(rt, house, unknown, b"ERR UNKNOWN\n")?;
+    let zero = b"02 OUT 12345678.PAD.01.07";
+    is_answered(rt, house, zero, b"ERR SYNTAX\n")
 }
 
 #[test]
 fn commands_are_done_once(rt: HostRuntime) -> Result<(), Fail> {
     let mut house = House::new(rt.alloc(), BUDGET);
-    is_answered(&rt, &mut house, FIT, b"OK 1\n")?;
-    is_answered(&rt, &mut house, FIT, b"OK 1\n")?;
-    is_answered(
-        &rt,
-        &mut house,
-        b"1 FIT 12345678.PAD.01.07 1 1 A2",
-        b"ERR ORDER 1\n",
-    )?;
-    is_answered(
-        &rt,
-        &mut house,
-        b"3 OUT 12345678.PAD.01.07",
-        b"ERR ORDER 1\n",
-    )?;
-    is_answered(
-        &rt,
-        &mut house,
-        b"2 FIT 12345678.PAD.01.07 1 2 A1",
-        b"ERR KNOWN\n",
-    )?;
-    is_answered(
-        &rt,
-        &mut house,
-        b"2 FIT 00000001.PAD.01.07 1 1 A1",
-        b"ERR ADDRESS\n",
-    )?;
-    is_answered(
-        &rt,
-        &mut house,
-        b"2 OUT 00000001.PAD.01.07",
-        b"ERR UNKNOWN\n",
-    )?;
-    is_answered(
-        &rt,
-        &mut house,
-        b"02 OUT 12345678.PAD.01.07",
-        b"ERR SYNTAX\n",
-    )?;
+    are_done_once(&rt, &mut house)
+}
+
+#[test]
+fn a_meter_that_doesnt_fit_is_refused(rt: HostRuntime) -> Result<(), Fail> {
     let mut small = House::new(rt.alloc(), 166);
     is_answered(&rt, &mut small, FIT, b"ERR FULL\n")
 }
 
-#[test]
-fn confirmed_readings_are_gone(rt: HostRuntime) -> Result<(), Fail> {
-    let mut house = read_house(&rt)?;
-    is_answered(&rt, &mut house, b"2 CONFIRM 2", b"ERR BEYOND\n")?;
-    is_answered(&rt, &mut house, b"2 CONFIRM 1", b"OK 2\n")?;
-    is_answered(&rt, &mut house, b"WINDOW 1 10", b"ERR GONE 1\n")?;
-    is_answered(&rt, &mut house, b"WINDOW 2 10", b"END 0\n")?;
-    let mut empty = House::new(rt.alloc(), BUDGET);
-    is_answered(&rt, &mut empty, b"WINDOW 1 100", b"END 0\n")?;
-    is_answered(&rt, &mut empty, b"REGISTER", b"END 0\n")
+fn are_gone(rt: &(impl Abort + AllocGlobal), house: &mut House<Global>) -> Result<(), Fail> {
+    is_answered(rt, house, b"WINDOW 1 100", b"END 0\n")?;
+    is_answered(rt, house, b"REGISTER", b"END 0\n")?;
+    read_out(rt, house)?;
+    is_answered(rt, house, b"2 CONFIRM 2", b"ERR BEYOND\n")?;
+    is_answered(rt, house, b"2 CONFIRM 1", b"OK 2\n")?;
+    is_answered(rt, house, b"WINDOW 1 10", b"ERR GONE 1\n")?;
+    is_answered(rt, house, b"WINDOW 2 10", b"END 0\n")
 }
 
 #[test]
-fn a_reading_is_shown(rt: HostRuntime) -> Result<(), Fail> {
+fn confirmed_readings_are_gone(rt: HostRuntime) -> Result<(), Fail> {
+    let mut house = House::new(rt.alloc(), BUDGET);
+    are_gone(&rt, &mut house)
+}
+
+fn is_shown(rt: &(impl Abort + AllocGlobal), house: &mut House<Global>) -> Result<(), Fail> {
+    let none = b"flat,meter,serial,storage,function,tariff,subunit,value,unit\nEND 0\n";
+    is_answered(rt, house, REPORT, none)?;
+    read_out(rt, house)?;
     let shown = b"READING 1 12345678.PAD.01.07 A1 2
 PART 1 1735689600 7856341224400107010000000C13785634121F
 PART 2 1735689600 785634122440010702000000426C1F3C4C1300503412
 END 1
 ";
-    is_answered(&rt, &mut read_house(&rt)?, b"WINDOW 1 1", shown)
+    is_answered(rt, house, b"WINDOW 1 1", shown)?;
+    is_answered(rt, house, REPORT, TABLE)?;
+    is_answered(rt, house, b"REPORT 2023-12-31", none)
 }
 
 #[test]
-fn a_due_date_table_is_shown(rt: HostRuntime) -> Result<(), Fail> {
-    is_answered(&rt, &mut read_house(&rt)?, REPORT, TABLE)?;
-    let none = b"flat,meter,serial,storage,function,tariff,subunit,value,unit\nEND 0\n";
-    is_answered(&rt, &mut read_house(&rt)?, b"REPORT 2023-12-31", none)?;
-    let mut empty = House::new(rt.alloc(), BUDGET);
-    is_answered(&rt, &mut empty, REPORT, none)
+fn a_reading_and_its_table_are_shown(rt: HostRuntime) -> Result<(), Fail> {
+    let mut house = House::new(rt.alloc(), BUDGET);
+    is_shown(&rt, &mut house)
+}
+
+fn is_swapped(rt: &(impl Abort + AllocGlobal), house: &mut House<Global>) -> Result<(), Fail> {
+    read_out(rt, house)?;
+    let swap = b"2 SWAP 12345678.PAD.01.07 00000001.PAD.01.07 2";
+    is_answered(rt, house, swap, b"OK 2\n")?;
+    assert_eq!(rt; house.size(), 246);
+    let meters = b"METER 00000001.PAD.01.07 1 2 A1 0\nEND 1\n";
+    is_answered(rt, house, b"REGISTER", meters)?;
+    let itself = b"3 SWAP 00000001.PAD.01.07 00000001.PAD.01.07 2";
+    is_answered(rt, house, itself, b"ERR KNOWN\n")?;
+    let gone = b"3 SWAP 12345678.PAD.01.07 12345678.PAD.01.07 2";
+    is_answered(rt, house, gone, b"ERR UNKNOWN\n")?;
+    let back = b"3 SWAP 00000001.PAD.01.07 12345678.PAD.01.07 2";
+    is_answered(rt, house, back, b"OK 3\n")
 }
 
 #[test]
 fn a_meter_is_swapped(rt: HostRuntime) -> Result<(), Fail> {
-    let mut house = read_house(&rt)?;
-    let swap = b"2 SWAP 12345678.PAD.01.07 00000001.PAD.01.07 2";
-    is_answered(&rt, &mut house, swap, b"OK 2\n")?;
-    assert_eq!(rt; house.size(), 246);
-    let meters = b"METER 00000001.PAD.01.07 1 2 A1 0\nEND 1\n";
-    is_answered(&rt, &mut house, b"REGISTER", meters)?;
-    let itself = b"3 SWAP 00000001.PAD.01.07 00000001.PAD.01.07 2";
-    is_answered(&rt, &mut house, itself, b"ERR KNOWN\n")?;
-    let gone = b"3 SWAP 12345678.PAD.01.07 12345678.PAD.01.07 2";
-    is_answered(&rt, &mut house, gone, b"ERR UNKNOWN\n")?;
-    let back = b"3 SWAP 00000001.PAD.01.07 12345678.PAD.01.07 2";
-    is_answered(&rt, &mut house, back, b"OK 3\n")
+    let mut house = House::new(rt.alloc(), BUDGET);
+    is_swapped(&rt, &mut house)
 }
 
 #[test]
@@ -237,72 +229,102 @@ fn each_write_fails(
     Err(Fail::from("a reply of at most 100 writes"))
 }
 
-#[test]
-fn a_write_fault_changes_nothing(rt: HostRuntime) -> Result<(), Fail> {
-    let mut house = House::new(rt.alloc(), BUDGET);
-    each_write_fails(&rt, &mut house, FIT, b"OK 1\n")?;
-    each_write_fails(
-        &rt,
-        &mut house,
-        b"1 OUT 12345678.PAD.01.07",
-        b"ERR ORDER 1\n",
-    )?;
+fn writes_fail(rt: &(impl Abort + AllocGlobal), house: &mut House<Global>) -> Result<(), Fail> {
+    each_write_fails(rt, house, FIT, b"OK 1\n")?;
+    let refused = b"1 OUT 12345678.PAD.01.07";
+    each_write_fails(rt, house, refused, b"ERR ORDER 1\n")?;
     let meters = b"METER 12345678.PAD.01.07 1 1 A1 0\nEND 1\n";
-    each_write_fails(&rt, &mut house, b"REGISTER", meters)?;
-    hear(&rt, &mut house, 1, LAST)?;
+    each_write_fails(rt, house, b"REGISTER", meters)?;
+    hear(rt, house, 1, LAST)?;
     let shown = b"READING 1 12345678.PAD.01.07 A1 1
 PART 1 1735689600 785634122440010702000000426C1F3C4C1300503412
 END 1
 ";
-    each_write_fails(&rt, &mut house, b"WINDOW 1 1", shown)?;
-    each_write_fails(&rt, &mut house, REPORT, TABLE)
+    each_write_fails(rt, house, b"WINDOW 1 1", shown)?;
+    each_write_fails(rt, house, REPORT, TABLE)
 }
 
-// A meter was read in a house whose memory may be refused.
+#[test]
+fn a_write_fault_changes_nothing(rt: HostRuntime) -> Result<(), Fail> {
+    let mut house = House::new(rt.alloc(), BUDGET);
+    writes_fail(&rt, &mut house)
+}
+
+// A meter is read in a house whose memory may be refused.
 fn read_on<A: Allocator + Copy>(
     rt: &(impl Abort + AllocGlobal),
     alloc: A,
-) -> Result<House<A>, Fail> {
-    let mut house = House::new(alloc, BUDGET);
+    house: &mut House<A>,
+) -> Result<(), Fail> {
     let mut out = Bytes::new(rt.alloc());
-    answer(alloc, &mut house, FIT, &mut out)??;
-    hear(rt, &mut house, 1, FIRST)?;
-    hear(rt, &mut house, 2, LAST)?;
-    Ok(house)
+    answer(alloc, house, FIT, &mut out)??;
+    hear(rt, house, 1, FIRST)?;
+    hear(rt, house, 2, LAST)
 }
 
-// Each request for memory is refused in turn, with nothing written, and the same line is then answered. At last there is
-// none to be refused.
+// Whether the table is made with the k-th request refused; where it isn't, it is want of memory, with nothing written,
+// and the same line is then answered.
+fn is_made<'a, A: Allocator>(
+    rt: &(impl Abort + AllocGlobal),
+    heap: &'a Refusing<A>,
+    house: &mut House<&'a Refusing<A>>,
+    k: u64,
+) -> Result<bool, Fail> {
+    heap.refuse(k);
+    let mut out = Bytes::new(rt.alloc());
+    let refused = answer(heap, house, REPORT, &mut out)?;
+    if refused.is_ok() {
+        return Ok(true);
+    }
+    assert!(rt; matches!(refused, Err(ReplyFault::NoMemory)));
+    assert!(rt; out.as_slice().is_empty());
+    answer(heap, house, REPORT, &mut out)??;
+    assert_eq!(rt; out.as_slice(), TABLE);
+    Ok(false)
+}
+
+fn tables_want_memory<'a, A: Allocator>(
+    rt: &(impl Abort + AllocGlobal),
+    heap: &'a Refusing<A>,
+    house: &mut House<&'a Refusing<A>>,
+) -> Result<(), Fail> {
+    read_on(rt, heap, house)?;
+    for k in 1..100u64 {
+        if is_made(rt, heap, house, k)? {
+            assert!(rt; k > 2);
+            return Ok(());
+        }
+    }
+    Err(Fail::from("a table of at most 100 requests"))
+}
+
+// Each request for memory is refused in turn. At last there is none to be refused.
 #[test]
 fn a_report_that_wants_memory_writes_nothing(rt: HostRuntime) -> Result<(), Fail> {
     let heap = Refusing::new(rt.alloc());
     heap.refuse(0);
-    let mut house = read_on(&rt, &heap)?;
-    for k in 1..100u64 {
-        heap.refuse(k);
+    let mut house = House::new(&heap, BUDGET);
+    tables_want_memory(&rt, &heap, &mut house)
+}
+
+fn others_take_none<'a, A: Allocator>(
+    rt: &(impl Abort + AllocGlobal),
+    heap: &'a Refusing<A>,
+    house: &mut House<&'a Refusing<A>>,
+) -> Result<(), Fail> {
+    read_on(rt, heap, house)?;
+    heap.refuse(1);
+    for text in [FIT, b"WINDOW 1 1", b"REGISTER", b"WINDOW 0 1"] {
         let mut out = Bytes::new(rt.alloc());
-        let refused = answer(&heap, &mut house, REPORT, &mut out)?;
-        if refused.is_ok() {
-            assert!(rt; k > 2);
-            return Ok(());
-        }
-        assert!(rt; matches!(refused, Err(ReplyFault::NoMemory)));
-        assert!(rt; out.as_slice().is_empty());
-        answer(&heap, &mut house, REPORT, &mut out)??;
-        assert_eq!(rt; out.as_slice(), TABLE);
+        assert!(rt; answer(heap, house, text, &mut out)?.is_ok());
     }
-    Err(Fail::from("a table of at most 100 requests"))
+    Ok(())
 }
 
 #[test]
 fn other_lines_take_no_memory(rt: HostRuntime) -> Result<(), Fail> {
     let heap = Refusing::new(rt.alloc());
     heap.refuse(0);
-    let mut house = read_on(&rt, &heap)?;
-    heap.refuse(1);
-    for text in [FIT, b"WINDOW 1 1", b"REGISTER", b"WINDOW 0 1"] {
-        let mut out = Bytes::new(rt.alloc());
-        assert!(rt; answer(&heap, &mut house, text, &mut out)?.is_ok());
-    }
-    Ok(())
+    let mut house = House::new(&heap, BUDGET);
+    others_take_none(&rt, &heap, &mut house)
 }
