@@ -3,8 +3,8 @@ use Rattle.std.specs.List.{AllZip}
 use Rattle.std.proofs.lemmas.List.{take_all}
 use Rattle.dc_sectors.specs.declared.pick.Pick.{Pick}
 use Rattle.dc_sectors.specs.Memory.{IsPickFor}
-use Rattle.dc_recovery.proofs.Picks.{zip_more}
-use Rattle.dc_recovery.proofs.tests.picks_of.Goals as goal
+use Rattle.dc_store_tests.proofs.Picks.{zip_more}
+use Rattle.dc_store_tests.proofs.tests.images.picks_of.Goals as goal
 
 pub loop-writes-init : goal.loop-writes-init
 loop-writes-init c = rw c.new-picks.ensures.items tt
