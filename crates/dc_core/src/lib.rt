@@ -36,6 +36,3 @@ pub use laws::{
 };
 pub use line_heard::LineHeard;
 pub use telling::{put_asked, put_committed, put_heard, put_started};
-
-#[cfg(test)]
-mod tests;

@@ -29,8 +29,6 @@ mod points;
 mod reading;
 mod reading_list;
 mod serials;
-#[cfg(test)]
-mod tests;
 
 pub use due::{DueDays, DuePoints, StorageDates};
 pub use filed::Filed;

@@ -22,8 +22,6 @@ pub mod Life
 pub mod NextRoot
 -- what opening may leave at any moment, and on Ok
 pub mod Opened
--- picks for pending sectors, one more at a time
-pub mod Picks
 -- what calls that only read may leave at any moment: an image of the disk as it was
 pub mod ReadMoments
 -- the refusals of an image exclude each other, and an image that reads as a state is refused only as worn

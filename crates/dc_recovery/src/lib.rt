@@ -32,6 +32,3 @@ mod writing;
 pub use fault::{FormatFault, OpenFault, StoreFault};
 pub use laws::{a_refused_image_is_not_read, one_refusal, reads_as_one_state};
 pub use store::Store;
-
-#[cfg(test)]
-mod tests;

@@ -1,0 +1,196 @@
+//! Steps, and the text that each answers.
+
+ghost use Rattle.std.specs.Prelude.{IfOk};
+ghost use Rattle.dc_core.specs.Run.{IsEvent};
+
+use dc_address::Identity;
+use dc_core::{Concentrator, Event, WriteFault, put_asked, put_committed, put_heard, put_started};
+use dc_recovery::{OpenFault, Store};
+use dc_sectors::MemoryDisk;
+use dc_stream::{Bytes, IoFault};
+use std::alloc::{Allocator, Global};
+use std::process::Abort;
+use std::test::Fail;
+
+/// A concentrator over a disk in memory.
+pub type OnDisk<A> = Concentrator<MemoryDisk<Global>, A>;
+
+pub const METER: &[u8] = b"12345678.PAD.01.07";
+
+pub const FIT: &[u8] = b"1 FIT 12345678.PAD.01.07 1 1 A1";
+
+/// The second at which everything is heard.
+pub const MOMENT: u64 = 1_735_689_600;
+
+pub const ACK: &[u8] = b"\xE5";
+
+pub const SILENCE: &[u8] = b"";
+
+// Two telegrams of the meter at primary address 1: the first says that more follow.
+pub const FIRST: &[u8] = b"\x68\x16\x16\x68\x08\x01\x72\x78\x56\x34\x12\x24\x40\x01\x07\x01\
+    \x00\x00\x00\x0C\x13\x78\x56\x34\x12\x1F\x4E\x16";
+
+pub const LAST: &[u8] = b"\x68\x19\x19\x68\x08\x01\x72\x78\x56\x34\x12\x24\x40\x01\x07\x02\
+    \x00\x00\x00\x42\x6C\x1F\x3C\x4C\x13\x00\x50\x34\x12\xFB\x16";
+
+/// What is done in a step: on a line, by a meter, or for the office.
+#[derive(Clone, Copy)]
+pub enum Deed<'a> {
+    Start(u8, &'a [u8]),
+    Ask(u8),
+    Hear(u8, &'a [u8]),
+    Commit,
+    Office(&'a [u8]),
+}
+
+/// A step, and the text that a run writes for it.
+#[derive(Clone, Copy)]
+pub struct Step<'a>(pub Deed<'a>, pub &'a [u8]);
+
+/// How a step is done: by its call, or by a run of its one event.
+#[derive(Clone, Copy)]
+pub enum Way {
+    Call,
+    Run,
+}
+
+pub fn event_of<'a>(deed: &Deed<'a>) -> Result<Event<'a>, Fail>
+    ensures { IfOk result (λ event. IsEvent event) }
+{
+    Ok(match *deed {
+        Deed::Start(line, meter) => Event::Start {
+            line,
+            meter: Identity::parse_text(meter)?,
+        },
+        Deed::Ask(line) => Event::Ask { line },
+        Deed::Hear(line, answer) => Event::Hear {
+            line,
+            moment: MOMENT,
+            answer,
+        },
+        Deed::Commit => Event::Commit,
+        Deed::Office(text) => Event::Office { text },
+    })
+}
+
+/// The event by its call, and the text of what it answers.
+fn call<A: Allocator + Copy>(
+    core: &mut OnDisk<A>,
+    event: &Event<'_>,
+    out: &mut Bytes<Global>,
+) -> Result<(), IoFault>
+    requires { IsEvent event.now }
+{
+    match *event {
+        Event::Start { line, meter } => put_started(out, core.start(line, &meter)),
+        Event::Ask { line } => put_asked(out, core.ask(line)),
+        Event::Hear {
+            line,
+            moment,
+            answer,
+        } => put_heard(out, core.hear(line, moment, answer)),
+        Event::Commit => put_committed(out, core.commit()),
+        Event::Office { text } => match core.office(text, out) {
+            Ok(()) => Ok(()),
+            Err(WriteFault) => Err(IoFault),
+        },
+    }
+}
+
+/// Does a step, which answers its text.
+pub fn turn<A: Allocator + Copy>(
+    rt: &impl Abort,
+    heap: Global,
+    core: &mut OnDisk<A>,
+    way: Way,
+    step: &Step<'_>,
+) -> Result<(), Fail> {
+    let Step(deed, text) = *step;
+    let event = event_of(&deed)?;
+    let mut out = Bytes::new(heap);
+    match way {
+        Way::Call => call(core, &event, &mut out)?,
+        Way::Run => core.run(&[event], &mut out)?,
+    }
+    assert_eq!(rt; out.as_slice(), text);
+    Ok(())
+}
+
+/// Does the steps, one after the other.
+pub fn go<A: Allocator + Copy>(
+    rt: &impl Abort,
+    heap: Global,
+    core: &mut OnDisk<A>,
+    way: Way,
+    steps: &[Step<'_>],
+) -> Result<(), Fail> {
+    for step in steps {
+        turn(rt, heap, core, way, step)?;
+    }
+    Ok(())
+}
+
+pub fn opened<A: Allocator + Copy>(
+    alloc: A,
+    disk: MemoryDisk<Global>,
+) -> Result<OnDisk<A>, OpenFault> {
+    match Concentrator::open(alloc, disk) {
+        Ok(core) => Ok(core),
+        Err((fault, _)) => Err(fault),
+    }
+}
+
+/// An image of 131 sectors with the empty register.
+pub fn blank(heap: Global) -> Result<MemoryDisk<Global>, Fail> {
+    match Store::format(MemoryDisk::new(heap, 131)?) {
+        Ok(disk) => Ok(disk),
+        Err((fault, _)) => Err(Fail::from(fault)),
+    }
+}
+
+/// An image of 131 sectors behind these commands.
+pub fn image(
+    rt: &impl Abort,
+    heap: Global,
+    commands: &[Step<'_>],
+) -> Result<MemoryDisk<Global>, Fail> {
+    let mut core = opened(heap, blank(heap)?)?;
+    go(rt, heap, &mut core, Way::Call, commands)?;
+    Ok(core.close())
+}
+
+/// An image with the one meter in flat A1, on line 1, at primary address 1.
+pub fn fitted(rt: &impl Abort, heap: Global) -> Result<MemoryDisk<Global>, Fail> {
+    image(rt, heap, &[Step(Deed::Office(FIT), b"OK 1\n")])
+}
+
+/// What the image is opened as: how many parts of the meter are open, how many readings there are, and the size.
+pub fn found(heap: Global, disk: MemoryDisk<Global>) -> Result<(usize, usize, u32), Fail> {
+    let meter = Identity::parse_text(METER)?;
+    match Store::open(heap, disk) {
+        Ok((_, house)) => {
+            let open = match house.meter(&meter) {
+                Some(row) => row.parts().len(),
+                None => 0,
+            };
+            Ok((open, house.readings().len(), house.size()))
+        }
+        Err((fault, _)) => Err(Fail::from(fault)),
+    }
+}
+
+/// Does the steps on a copy of the image, by calls, and again by runs; it is opened as this then.
+pub fn plays(
+    rt: &impl Abort,
+    heap: Global,
+    disk: &MemoryDisk<Global>,
+    steps: &[Step<'_>],
+    wanted: (usize, usize, u32),
+) -> Result<(), Fail> {
+    for way in [Way::Call, Way::Run] {
+        let mut core = opened(heap, disk.copy()?)?;
+        go(rt, heap, &mut core, way, steps)?;
+        assert_eq!(rt; found(heap, core.close())?, wanted);
+    }
+    Ok(())
+}

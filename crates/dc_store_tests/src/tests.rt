@@ -1,0 +1,10 @@
+//! What is tried on the store, by topic.
+
+mod bytes;
+mod faults;
+mod images;
+mod leftovers;
+mod life;
+mod roots;
+mod sectors;
+mod upgrades;

@@ -1,0 +1,51 @@
+//! The images that a stop may leave, by their numbers.
+ghost use Rattle.std.specs.Prelude.{ℕ, IfOk};
+ghost use Rattle.std.specs.List.{AllZip};
+ghost use Rattle.dc_sectors.specs.Memory.{IsPickFor};
+
+use dc_base::NoMemory;
+use dc_sectors::{MemoryDisk, Pick};
+use std::alloc::Global;
+
+/// What becomes of a sector that was written so often: it is as before, unreadable, or as one of its writes left it.
+fn pick_of(way: usize, writes: usize) -> Pick
+    ensures { (n : ℕ) → IsPickFor (n, writes) result }
+{
+    if way == 0 {
+        return Pick::Old;
+    }
+    if way == 1 {
+        return Pick::Unreadable;
+    }
+    if way - 2 < writes {
+        Pick::Written(way - 2)
+    } else {
+        Pick::Old
+    }
+}
+
+/// The picks of the image of that number, whose digits are what becomes of the sectors.
+fn picks_of(
+    heap: Global,
+    pending: &[(u32, usize)],
+    number: usize,
+) -> Result<Vec<Pick, Global>, NoMemory>
+    ensures { IfOk result (λ picks. AllZip IsPickFor pending.now picks.items) }
+{
+    let mut rest = number;
+    let mut picks = Vec::new(heap);
+    for &(_, writes) in pending {
+        let ways = writes.saturating_add(2);
+        picks.push(pick_of(rest % ways, writes))?;
+        rest /= ways;
+    }
+    Ok(picks)
+}
+
+/// Stops the disk with the image of that number.
+pub fn stop_at(heap: Global, disk: &mut MemoryDisk<Global>, number: usize) -> Result<(), NoMemory> {
+    let pending = disk.pending()?;
+    let picks = picks_of(heap, pending.as_slice(), number)?;
+    disk.stop(picks.as_slice());
+    Ok(())
+}

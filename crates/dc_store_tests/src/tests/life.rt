@@ -1,0 +1,161 @@
+//! A store that is open, and the house beside it.
+
+ghost use Rattle.dc_changes.specs.Valid.{IsChange};
+
+use dc_changes::{Change, encode_change};
+use dc_meters::House;
+use dc_recovery::{OpenFault, Store, StoreFault};
+use dc_sectors::MemoryDisk;
+use dc_stream::Bytes;
+use std::alloc::Global;
+use std::process::Abort;
+use std::test::Fail;
+
+pub const FIT: &[u8] = b"1 FIT 12345678.PAD.01.07 1 1 A1";
+
+/// A store that is open, and the house beside it.
+#[derive(Drop)]
+pub struct Life {
+    pub store: Store<MemoryDisk<Global>>,
+    pub house: House<Global>,
+}
+
+/// What an image is opened as: the number of the last command, and how many meters and readings there are.
+#[derive(Clone, Copy, Debug, PartialEq, Eq)]
+pub struct Found {
+    pub number: u64,
+    pub meters: usize,
+    pub readings: usize,
+}
+
+/// A disk of so many sectors, formatted.
+pub fn formatted(heap: Global, sectors: u32) -> Result<MemoryDisk<Global>, Fail> {
+    match Store::format(MemoryDisk::new(heap, sectors)?) {
+        Ok(disk) => Ok(disk),
+        Err((fault, _)) => Err(Fail::from(fault)),
+    }
+}
+
+pub fn opened(heap: Global, disk: MemoryDisk<Global>) -> Result<Life, OpenFault> {
+    match Store::open(heap, disk) {
+        Ok((store, house)) => Ok(Life { store, house }),
+        Err((fault, _)) => Err(fault),
+    }
+}
+
+pub fn closed(life: Life) -> MemoryDisk<Global> {
+    life.store.close()
+}
+
+/// Opens the image and closes it.
+pub fn reopened(heap: Global, disk: MemoryDisk<Global>) -> Result<MemoryDisk<Global>, OpenFault> {
+    Ok(closed(opened(heap, disk)?))
+}
+
+/// What the image is opened as.
+pub fn read_as(heap: Global, disk: MemoryDisk<Global>) -> Result<Found, OpenFault> {
+    Ok(shown(&opened(heap, disk)?.house))
+}
+
+fn shown(house: &House<Global>) -> Found {
+    Found {
+        number: house.last_number(),
+        meters: house.meters().len(),
+        readings: house.readings().len(),
+    }
+}
+
+/// The bytes of the state that an image is opened as.
+pub fn state_of(heap: Global, disk: MemoryDisk<Global>) -> Result<Bytes<Global>, Fail> {
+    encoded(heap, &opened(heap, disk)?.house)
+}
+
+pub fn encoded(heap: Global, house: &House<Global>) -> Result<Bytes<Global>, Fail> {
+    let mut bytes = Bytes::new(heap);
+    house.encode(&mut bytes)?;
+    Ok(bytes)
+}
+
+/// How many calls of the disk an open of this image makes.
+pub fn calls_of_open(heap: Global, disk: &MemoryDisk<Global>) -> Result<u64, Fail> {
+    let before = disk.calls();
+    let after = reopened(heap, disk.copy()?)?.calls();
+    Ok(after.saturating_sub(before))
+}
+
+/// Does the change that the line spells in the house, and writes it: as a group, or with the whole state where it doesn't
+/// fit.
+pub fn accept(
+    rt: &impl Abort,
+    heap: Global,
+    life: &mut Life,
+    line: &[u8],
+) -> Result<Result<(), StoreFault>, Fail> {
+    let mut room = [0; 2048];
+    let change = Change::parse_line(line, &mut room).ok_or("no change")?;
+    apply(rt, &mut life.house, &change)?;
+    let mut bytes = Bytes::new(heap);
+    encode_change(&change, &mut bytes)?;
+    Ok(write(rt, life, bytes.as_slice()))
+}
+
+fn apply(rt: &impl Abort, house: &mut House<Global>, change: &Change<'_>) -> Result<(), Fail>
+    requires { IsChange change.now }
+{
+    assert!(rt; house.is_next(change));
+    assert!(rt; house.check(change).is_ok());
+    Ok(house.apply(change)?)
+}
+
+fn write(rt: &impl Abort, life: &mut Life, bytes: &[u8]) -> Result<(), StoreFault> {
+    assert!(rt; !bytes.is_empty());
+    if life.store.fits(bytes.len()) {
+        return life.store.append(bytes);
+    }
+    compact(rt, life)
+}
+
+/// Writes the whole state.
+pub fn compact(rt: &impl Abort, life: &mut Life) -> Result<(), StoreFault> {
+    assert!(rt; life.house.budget() <= life.store.budget());
+    life.store.compact(&life.house)
+}
+
+/// Accepts the changes that these lines spell.
+pub fn accept_all(
+    rt: &impl Abort,
+    heap: Global,
+    life: &mut Life,
+    lines: &[&[u8]],
+) -> Result<(), Fail> {
+    for line in lines {
+        assert_eq!(rt; accept(rt, heap, life, line)?, Ok(()));
+    }
+    Ok(())
+}
+
+/// Accepts `number CONFIRM 0` of each number up to that one.
+pub fn confirm_up_to(
+    rt: &impl Abort,
+    heap: Global,
+    life: &mut Life,
+    last: u64,
+) -> Result<(), Fail> {
+    for number in life.house.last_number().saturating_add(1)..=last {
+        let line = format!(in heap; "{number} CONFIRM 0")?;
+        assert_eq!(rt; accept(rt, heap, life, line.as_bytes())?, Ok(()));
+    }
+    Ok(())
+}
+
+/// Opens the image, accepts these changes and closes it.
+pub fn written(
+    rt: &impl Abort,
+    heap: Global,
+    disk: MemoryDisk<Global>,
+    lines: &[&[u8]],
+) -> Result<MemoryDisk<Global>, Fail> {
+    let mut life = opened(heap, disk)?;
+    accept_all(rt, heap, &mut life, lines)?;
+    Ok(closed(life))
+}

@@ -1,0 +1,196 @@
+//! Roots: damaged ones, other versions, and the last of each number.
+
+use super::images::stop_at;
+use super::life::{FIT, accept, closed, compact, formatted, opened, read_as, reopened, written};
+use super::sectors::{put, read, reads_alike};
+use dc_recovery::{OpenFault, Store, StoreFault};
+use dc_roots::{Root, write_next};
+use dc_sectors::{Disk, MemoryDisk};
+use std::alloc::Global;
+use std::process::Abort;
+use std::test::Fail;
+
+/// The root of a formatted image.
+const FIRST_ROOT: Root = Root {
+    version: 2,
+    half: 0,
+    generation: 1,
+    session: 1,
+    base_sequence: 1,
+    half_len: 64,
+};
+
+/// Writes the root behind this one.
+fn put_next(rt: &impl Abort, disk: &mut MemoryDisk<Global>, root: &Root) -> Result<(), Fail> {
+    assert!(rt; disk.count() == 131);
+    assert!(rt; root.half == 0);
+    write_next(disk, root)?;
+    Ok(disk.sync()?)
+}
+
+/// A formatted image with a next root.
+fn with_root(rt: &impl Abort, heap: Global, root: &Root) -> Result<MemoryDisk<Global>, Fail> {
+    let mut disk = formatted(heap, 131)?;
+    put_next(rt, &mut disk, root)?;
+    Ok(disk)
+}
+
+/// Both slots are written, and a stop leaves neither to be read; then a group's commit sector is missing.
+#[test]
+fn an_image_that_cannot_be_read_on_is_damaged(rt: HostRuntime) -> Result<(), Fail> {
+    let heap = rt.alloc();
+    let mut disk = formatted(heap, 131)?;
+    put(&rt, &mut disk, &[(1, [0; 512]), (2, [0; 512])])?;
+    stop_at(heap, &mut disk, 1 + 3)?;
+    assert_eq!(rt; read_as(heap, disk), Err(OpenFault::Damaged(1)));
+    let mut disk = formatted(heap, 131)?;
+    put(&rt, &mut disk, &[(4, [0; 512])])?;
+    assert_eq!(rt; read_as(heap, disk), Err(OpenFault::Damaged(4)));
+    Ok(())
+}
+
+/// The image with a byte of a sector changed.
+fn changed(
+    rt: &impl Abort,
+    mut disk: MemoryDisk<Global>,
+    n: u32,
+    at: usize,
+    byte: u8,
+) -> Result<MemoryDisk<Global>, Fail> {
+    let mut bytes = read(rt, &mut disk, n)?;
+    assert!(rt; at < 512);
+    bytes[at] = byte;
+    put(rt, &mut disk, &[(n, bytes)])?;
+    Ok(disk)
+}
+
+/// A commit sector has no used bytes.
+#[test]
+fn a_commit_sector_with_used_bytes_ends_no_group(rt: HostRuntime) -> Result<(), Fail> {
+    let heap = rt.alloc();
+    let base = changed(&rt, formatted(heap, 131)?, 4, 2, 1)?;
+    assert_eq!(rt; read_as(heap, base), Err(OpenFault::Damaged(4)));
+    let group = written(&rt, heap, formatted(heap, 131)?, &[FIT])?;
+    let cut = changed(&rt, group, 6, 3, 1)?;
+    assert_eq!(rt; read_as(heap, cut)?.number, 0);
+    Ok(())
+}
+
+#[test]
+fn another_version_is_named_first(rt: HostRuntime) -> Result<(), Fail> {
+    let heap = rt.alloc();
+    let unknown = Root {
+        version: 3,
+        half_len: 63,
+        ..FIRST_ROOT
+    };
+    let mut disk = with_root(&rt, heap, &unknown)?;
+    assert_eq!(rt; read_as(heap, disk.copy()?), Err(OpenFault::Version));
+    let other_length = Root {
+        version: 2,
+        generation: 2,
+        ..unknown
+    };
+    put_next(&rt, &mut disk, &other_length)?;
+    assert_eq!(rt; read_as(heap, disk), Err(OpenFault::Damaged(2)));
+    Ok(())
+}
+
+/// Why the image isn't opened, and its disk.
+fn refusal(
+    heap: Global,
+    disk: MemoryDisk<Global>,
+) -> Result<(OpenFault, MemoryDisk<Global>), Fail> {
+    match Store::open(heap, disk) {
+        Err(refused) => Ok(refused),
+        Ok(_) => Err(Fail::from("it was opened")),
+    }
+}
+
+/// Whether the image is refused as worn; no sector reads otherwise then, and nothing waits for a sync.
+pub fn is_worn(rt: &impl Abort, heap: Global, disk: MemoryDisk<Global>) -> Result<bool, Fail> {
+    let mut before = disk.copy()?;
+    let (fault, mut after) = refusal(heap, disk)?;
+    assert_eq!(rt; after.pending()?.len(), 0);
+    assert!(rt; reads_alike(rt, &mut after, &mut before));
+    Ok(fault == OpenFault::Worn)
+}
+
+#[test]
+fn the_last_session_is_opened_once(rt: HostRuntime) -> Result<(), Fail> {
+    let heap = rt.alloc();
+    let worn = Root {
+        session: u64::MAX,
+        ..FIRST_ROOT
+    };
+    assert!(rt; is_worn(&rt, heap, with_root(&rt, heap, &worn)?)?);
+    let last = Root {
+        session: u64::MAX - 1,
+        ..FIRST_ROOT
+    };
+    let mut disk = reopened(heap, with_root(&rt, heap, &last)?)?;
+    assert!(rt; read(&rt, &mut disk, 2)?[16..24] == [0xFF; 8]);
+    assert!(rt; is_worn(&rt, heap, disk)?);
+    Ok(())
+}
+
+/// Whether a compaction of what is opened is refused as worn, and no call of the disk was made for it.
+pub fn compacts_no_more(
+    rt: &impl Abort,
+    heap: Global,
+    disk: MemoryDisk<Global>,
+) -> Result<bool, Fail> {
+    let calls = reopened(heap, disk.copy()?)?.calls();
+    let mut life = opened(heap, disk)?;
+    let end = compact(rt, &mut life);
+    Ok(end == Err(StoreFault::Worn) && closed(life).calls() == calls)
+}
+
+#[test]
+fn the_last_generation_appends_and_does_not_compact(rt: HostRuntime) -> Result<(), Fail> {
+    let heap = rt.alloc();
+    let last = Root {
+        generation: u64::MAX - 2,
+        ..FIRST_ROOT
+    };
+    let disk = with_root(&rt, heap, &last)?;
+    assert!(rt; compacts_no_more(&rt, heap, disk.copy()?)?);
+    let mut disk = written(&rt, heap, disk, &[FIT])?;
+    assert!(rt; read(&rt, &mut disk, 2)?[8..16] == [0xFF; 8]);
+    assert!(rt; is_worn(&rt, heap, disk)?);
+    Ok(())
+}
+
+/// A formatted image whose base group has the last sequence.
+fn at_the_last_sequence(rt: &impl Abort, heap: Global) -> Result<MemoryDisk<Global>, Fail> {
+    let mut disk = formatted(heap, 131)?;
+    for n in 3..5 {
+        let mut bytes = read(rt, &mut disk, n)?;
+        bytes[16..24].copy_from_slice(&[0xFF; 8]);
+        put(rt, &mut disk, &[(n, bytes)])?;
+    }
+    let last = Root {
+        base_sequence: u64::MAX,
+        ..FIRST_ROOT
+    };
+    put_next(rt, &mut disk, &last)?;
+    Ok(disk)
+}
+
+/// Whether a change is refused as worn, and no call of the disk was made for it.
+fn appends_no_more(rt: &impl Abort, heap: Global, disk: MemoryDisk<Global>) -> Result<bool, Fail> {
+    let calls = reopened(heap, disk.copy()?)?.calls();
+    let mut life = opened(heap, disk)?;
+    let end = accept(rt, heap, &mut life, FIT)?;
+    Ok(end == Err(StoreFault::Worn) && closed(life).calls() == calls)
+}
+
+/// Behind a base group of the last sequence there is no next one.
+#[test]
+fn the_last_sequence_is_only_read(rt: HostRuntime) -> Result<(), Fail> {
+    let heap = rt.alloc();
+    let disk = at_the_last_sequence(&rt, heap)?;
+    assert!(rt; compacts_no_more(&rt, heap, disk.copy()?)?);
+    assert!(rt; appends_no_more(&rt, heap, disk)?);
+    Ok(())
+}
