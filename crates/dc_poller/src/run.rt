@@ -14,8 +14,7 @@ ghost use Rattle.dc_poller.specs.Link.{link_at_first, link_of};
 ghost use Rattle.dc_poller.specs.ScriptLine.{longest_line};
 
 use crate::fault::ProgramFault;
-use crate::input::{CHUNK, MOST, read_input};
-use crate::lines::LONGEST;
+use dc_teller::{CHUNK, LONGEST, MOST, read_input};
 use crate::script::run_lines;
 use dc_core::Concentrator;
 use dc_gateway::Gateway;

@@ -1,5 +1,5 @@
 // What no clause says: worked scripts byte by byte, the limits of lines, and what fails.
-use crate::tests::{Failing, Full, joined};
+use crate::tests::{Failing, Full, blank, joined};
 use crate::{ProgramFault, run_script};
 use dc_recovery::{OpenFault, Store};
 use dc_sectors::{Disk, MemoryDisk};
@@ -67,13 +67,6 @@ fn run<D: Disk + Drop, A: Allocator + Copy, R: Source, W: Sink>(
 ) -> (D, Result<bool, ProgramFault>) {
     let gateway: Option<(Bytes<A>, Bytes<A>)> = None;
     run_script(alloc, disk, reader, writer, gateway)
-}
-
-fn blank(heap: Global) -> Result<MemoryDisk<Global>, Fail> {
-    match Store::format(MemoryDisk::new(heap, 131)?) {
-        Ok(disk) => Ok(disk),
-        Err((fault, _)) => Err(Fail::from(fault)),
-    }
 }
 
 // How many readings the image has, and how many bytes its register.
