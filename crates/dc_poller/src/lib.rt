@@ -32,6 +32,8 @@ pub use script_line::ScriptLine;
 #[cfg(test)]
 mod poll_tests;
 #[cfg(test)]
+mod report_tests;
+#[cfg(test)]
 mod run_tests;
 #[cfg(test)]
 mod tests;

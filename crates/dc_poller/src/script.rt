@@ -17,13 +17,13 @@ ghost use Rattle.dc_poller.specs.Script.{ScriptCut, ScriptRan, LineCut, LineRan,
 ghost use Rattle.dc_poller.specs.ScriptLine.{longest_line, seen};
 ghost use Rattle.dc_poller.specs.Went.{TurnWent};
 
-use dc_teller::first_line;
 use crate::poll::{GATEWAY_LINE, poll};
 use crate::script_line::ScriptLine;
 use dc_core::{Concentrator, Event, WriteFault};
 use dc_gateway::Gateway;
 use dc_sectors::Disk;
 use dc_stream::{IoFault, Sink, Source};
+use dc_teller::first_line;
 use dc_text::put_number_word;
 use std::alloc::Allocator;
 
