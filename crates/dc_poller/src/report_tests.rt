@@ -113,10 +113,8 @@ fn a_failed_write_of_a_table_is_told(rt: HostRuntime) -> Result<(), Fail> {
 }
 
 fn is_want(outcome: Result<(), ProgramFault>) -> bool {
-    matches!(
-        outcome,
-        Err(ProgramFault::NoMemory | ProgramFault::Open(OpenFault::NoMemory))
-    )
+    outcome == Err(ProgramFault::NoMemory)
+        || outcome == Err(ProgramFault::Open(OpenFault::NoMemory))
 }
 
 // Each growth is refused in turn, of the opening first and of the table at last.
