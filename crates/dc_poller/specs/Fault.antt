@@ -3,6 +3,8 @@ use Rattle.std.specs.Prelude.{ℕ, List, codes}
 use Rattle.dc_recovery.specs.declared.fault.OpenFault.{OpenFault}
 use Rattle.dc_poller.specs.declared.fault.ProgramFault.{ProgramFault}
 use Rattle.dc_poller.specs.declared.fault.ProgramFault.TheVariants.{Read, TooLong, Write, NoMemory, Open}
+use Rattle.dc_teller.specs.declared.fault.TellFault.{TellFault}
+use Rattle.dc_teller.specs.declared.fault.TellFault.TheVariants.{Read as NotRead, TooLong as TooMuch, Write as NotWritten, NoMemory as Refused}
 
 abbrev pub number_of : ProgramFault → ℕ
 number_of Read = 1
@@ -17,6 +19,13 @@ name_of TooLong = codes "TooLong"
 name_of Write = codes "Write"
 name_of NoMemory = codes "NoMemory"
 name_of (Open fault) = codes "Open"
+
+-- what stops the telling of an input stops the program
+abbrev pub stopped_by : TellFault → ProgramFault
+stopped_by NotRead = Read
+stopped_by TooMuch = TooLong
+stopped_by NotWritten = Write
+stopped_by Refused = NoMemory
 
 -- what is said of why an image wasn't opened
 abbrev pub IfOpen : ProgramFault → (OpenFault → Type 0) → Type 0

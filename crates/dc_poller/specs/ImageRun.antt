@@ -6,7 +6,7 @@ use Rattle.dc_core.specs.Images.{Machine, IsAt}
 use Rattle.dc_recovery.specs.Halves.{budget_of, half_len_of}
 use Rattle.dc_recovery.specs.Stands.{Reads, StandsForOne}
 use Rattle.dc_sectors.specs.Disk.{Image, Choices, LeavesOnly}
-use Rattle.dc_poller.specs.Lines.{lines_of}
+use Rattle.dc_teller.specs.Lines.{lines_of}
 use Rattle.dc_poller.specs.Link.{Link}
 use Rattle.dc_poller.specs.Script.{ScriptRan, ScriptCut}
 

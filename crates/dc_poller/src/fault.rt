@@ -1,11 +1,12 @@
 //! What stops an engine of the program.
 
 ghost use Rattle.std.specs.Prelude.{◌≡◌};
-ghost use Rattle.dc_poller.specs.Fault.{number_of, name_of};
+ghost use Rattle.dc_poller.specs.Fault.{number_of, name_of, stopped_by};
 ghost use Rattle.dc_poller.specs.declared.fault.ProgramFault.TheVariants.{NoMemory};
 
 use dc_base::NoMemory;
 use dc_recovery::OpenFault;
+use dc_teller::TellFault;
 use thiserror::Error;
 
 /// Why an engine of the program stopped (this product).
@@ -61,5 +62,18 @@ impl From<NoMemory> for ProgramFault {
 
     fn from(_refused: NoMemory) -> ProgramFault {
         ProgramFault::NoMemory
+    }
+}
+
+impl From<TellFault> for ProgramFault {
+    ghost from_gives = { λ fault made. made ≡ stopped_by fault };
+
+    fn from(fault: TellFault) -> ProgramFault {
+        match fault {
+            TellFault::Read => ProgramFault::Read,
+            TellFault::TooLong => ProgramFault::TooLong,
+            TellFault::Write => ProgramFault::Write,
+            TellFault::NoMemory => ProgramFault::NoMemory,
+        }
     }
 }

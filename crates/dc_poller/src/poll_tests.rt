@@ -1,10 +1,7 @@
 //! What no clause says: worked polls byte by byte, over gateways in memory.
 use crate::run_script;
-use crate::tests::joined;
-use dc_recovery::Store;
-use dc_sectors::MemoryDisk;
+use crate::tests::{blank, joined};
 use dc_stream::Bytes;
-use std::alloc::Global;
 use std::process::Abort;
 use std::test::Fail;
 
@@ -21,13 +18,6 @@ const ANSWERS: &[u8] = &[
     0x02, 0x00, 0x00, 0x00, 0x42, 0x6C, 0x1F, 0x3C, 0x4C, 0x13, 0x00, 0x50, 0x34, 0x12, 0xFB, 0x16,
     0,
 ];
-
-fn blank(heap: Global) -> Result<MemoryDisk<Global>, Fail> {
-    match Store::format(MemoryDisk::new(heap, 131)?) {
-        Ok(disk) => Ok(disk),
-        Err((fault, _)) => Err(Fail::from(fault)),
-    }
-}
 
 // The script writes this text over a gateway that gives these blocks.
 fn is_polled(

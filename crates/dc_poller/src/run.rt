@@ -14,13 +14,12 @@ ghost use Rattle.dc_poller.specs.Link.{link_at_first, link_of};
 ghost use Rattle.dc_poller.specs.ScriptLine.{longest_line};
 
 use crate::fault::ProgramFault;
-use crate::input::{CHUNK, MOST, read_input};
-use crate::lines::LONGEST;
 use crate::script::run_lines;
 use dc_core::Concentrator;
 use dc_gateway::Gateway;
 use dc_sectors::Disk;
 use dc_stream::{IoFault, Sink, Source, room};
+use dc_teller::{CHUNK, LONGEST, MOST, read_input};
 use std::alloc::Allocator;
 
 /// Opens the image, does what the lines of the script ask for that the reader has left, and closes it. What waits for a

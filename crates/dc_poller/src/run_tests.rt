@@ -1,5 +1,5 @@
-// What no clause says: worked scripts byte by byte, the limits of lines, and what fails.
-use crate::tests::{Failing, Full, joined};
+//! What no clause says: worked scripts byte by byte, the limits of lines, and what fails.
+use crate::tests::{Failing, Full, blank, joined};
 use crate::{ProgramFault, run_script};
 use dc_recovery::{OpenFault, Store};
 use dc_sectors::{Disk, MemoryDisk};
@@ -10,7 +10,7 @@ use std::process::Abort;
 use std::test::Fail;
 
 // The first telegram of a readout is heard and committed; then the last.
-const FIRST: &[u8] = b"AT 1735689600
+pub const FIRST: &[u8] = b"AT 1735689600
 OFFICE 1 FIT 12345678.PAD.01.07 1 1 A1
 START 1 12345678.PAD.01.07
 ASK 1
@@ -34,7 +34,7 @@ COMMITTED 1
 COMMITTED 0
 ";
 
-const LAST: &[u8] = b"ASK 1
+pub const LAST: &[u8] = b"ASK 1
 HEAR 1
 ASK 1
 HEAR 1 68191968080172785634122440010702000000426C1F3C4C1300503412FB16
@@ -59,7 +59,7 @@ LINE 19 SYNTAX
 ";
 
 // A run with no gateway.
-fn run<D: Disk + Drop, A: Allocator + Copy, R: Source, W: Sink>(
+pub fn run<D: Disk + Drop, A: Allocator + Copy, R: Source, W: Sink>(
     alloc: A,
     disk: D,
     reader: &mut R,
@@ -67,13 +67,6 @@ fn run<D: Disk + Drop, A: Allocator + Copy, R: Source, W: Sink>(
 ) -> (D, Result<bool, ProgramFault>) {
     let gateway: Option<(Bytes<A>, Bytes<A>)> = None;
     run_script(alloc, disk, reader, writer, gateway)
-}
-
-fn blank(heap: Global) -> Result<MemoryDisk<Global>, Fail> {
-    match Store::format(MemoryDisk::new(heap, 131)?) {
-        Ok(disk) => Ok(disk),
-        Err((fault, _)) => Err(Fail::from(fault)),
-    }
 }
 
 // How many readings the image has, and how many bytes its register.

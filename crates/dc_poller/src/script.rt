@@ -11,19 +11,19 @@ ghost use Rattle.dc_core.specs.Text.{answer_text};
 ghost use Rattle.dc_core.specs.Transcript.{Turn, leads, IsChain};
 ghost use Rattle.dc_stream.specs.Stream.{Puts, Wrote};
 ghost use Rattle.dc_text.specs.Words.{number_word};
-ghost use Rattle.dc_poller.specs.Lines.{lines_of};
+ghost use Rattle.dc_teller.specs.Lines.{lines_of};
 ghost use Rattle.dc_poller.specs.Link.{link_of};
 ghost use Rattle.dc_poller.specs.Script.{ScriptCut, ScriptRan, LineCut, LineRan, moment_behind};
 ghost use Rattle.dc_poller.specs.ScriptLine.{longest_line, seen};
 ghost use Rattle.dc_poller.specs.Went.{TurnWent};
 
-use crate::lines::first_line;
 use crate::poll::{GATEWAY_LINE, poll};
 use crate::script_line::ScriptLine;
 use dc_core::{Concentrator, Event, WriteFault};
 use dc_gateway::Gateway;
 use dc_sectors::Disk;
 use dc_stream::{IoFault, Sink, Source};
+use dc_teller::first_line;
 use dc_text::put_number_word;
 use std::alloc::Allocator;
 

@@ -9,9 +9,9 @@ ghost use Rattle.dc_changes.specs.Valid.{end_of_numbers};
 ghost use Rattle.dc_text.specs.Hex.{bytes_of};
 ghost use Rattle.dc_poller.specs.ScriptLine.{LineSeen, IsLineOf, at, start, ask, hear, poll, search, seen, greatest_line, longest_line};
 
-use crate::lines::LONGEST;
 use dc_address::Identity;
 use dc_changes::{LAST_MOMENT, parse_number, split_word};
+use dc_teller::LONGEST;
 use dc_text::decode_hex;
 
 /// What a line of a script asks for.

@@ -1,5 +1,5 @@
 //! `mbdc`, the data concentrator of an apartment house's wired M-Bus submeters: words, files, statuses and the one
-//! line on standard error. What a command does is a call of `dc_poller`.
+//! line on standard error. What a command does is a call of `dc_teller` or `dc_poller`.
 #![tactic(auto)]
 
 mod ending;

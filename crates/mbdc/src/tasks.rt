@@ -1,12 +1,13 @@
-//! What each command does: an engine of `dc_poller` between the ends that the words name.
+//! What each command does: an engine of `dc_teller` or `dc_poller` between the ends that the words name.
 
 use crate::format::format_image;
 use crate::report::report_on_image;
 use crate::script::run_on_image;
 use crate::words::{Engine, Task};
 use dc_ending::{Ending, STREAM, ending_of};
-use dc_poller::{ProgramFault, decode_lines, fold_lines};
+use dc_poller::ProgramFault;
 use dc_stream::{ReadSource, Source, WriteSink};
+use dc_teller::{decode_lines, fold_lines};
 use dc_text::Buffered;
 use std::alloc::Allocator;
 use std::fs::File;

@@ -5,7 +5,7 @@ use crate::help;
 use clap::{Arg, Command, Error, value_parser};
 use std::alloc::{AllocError, Global};
 
-/// An engine of `dc_poller` over lines.
+/// An engine of `dc_teller` over lines.
 #[derive(Clone, Copy)]
 pub enum Engine {
     /// The text of each frame.

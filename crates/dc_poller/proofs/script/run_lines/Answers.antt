@@ -4,11 +4,11 @@ use Rattle.dc_stream.proofs.Pieces.{puts-both, puts-none}
 use Rattle.dc_text.specs.Words.{number_word}
 use Rattle.dc_core.specs.Core.{opened}
 use Rattle.dc_core.specs.Transcript.{IsChain}
-use Rattle.dc_poller.specs.Lines.{lines_of}
+use Rattle.dc_teller.specs.Lines.{lines_of}
 use Rattle.dc_poller.specs.Link.{link_of}
 use Rattle.dc_poller.specs.Script.{AskFor, LineRan, LineCut, deeds_turns, deeds_text}
 use Rattle.dc_poller.specs.ScriptLine.{seen}
-use Rattle.dc_poller.proofs.Inputs.{no_line}
+use Rattle.dc_teller.proofs.Inputs.{no_line}
 use Rattle.dc_poller.proofs.LineRuns.{SoFar, one_more, cut_here, on_err, lines_none, moment_fits}
 use Rattle.dc_poller.proofs.Wents.{went_none, went_chain, went_at}
 use Rattle.dc_poller.proofs.script.run_lines.Goals as goal

@@ -1,5 +1,0 @@
-use Rattle.dc_text.proofs.Digits.{read_back}
-use Rattle.dc_poller.proofs.laws.hex_is_read_back.Goals as goal
-
-pub returns : goal.returns
-returns c = read_back

@@ -1,0 +1,128 @@
+//! The engine of `decode`: from a source's lines of hex digits to a sink's text.
+
+ghost use Rattle.std.specs.Prelude.{◌≡◌, ◌≢◌, ◌<◌, ◌≤◌, [], length, take, Some, None, MatchOption, IfSome, IfOk, IfErr, OnOk, OnErr, IsErrOf};
+ghost use Rattle.dc_base.specs.Failures.{HasRisen};
+ghost use Rattle.dc_stream.specs.Stream.{Puts, Wrote};
+ghost use Rattle.dc_teller.specs.Text.{decoded, line_text, is_bad_line, text_of, has_fault};
+
+use crate::fault::TellFault;
+use crate::frames::put_frames;
+use crate::input::{CHUNK, MOST, read_input};
+use crate::lines::{LONGEST, first_line};
+use crate::spaces::{lacks_space, squeeze_into};
+use dc_stream::{IoFault, Sink, Source, room};
+use dc_text::decode_hex;
+use std::alloc::Allocator;
+
+// The bytes of a line's digits, and how many. `digits` is room for the line without its spaces.
+#[tactic(auto, unfolding(crate::specs::Text::decoded))]
+fn decode_line(line: &[u8], digits: &mut [u8], bytes: &mut [u8]) -> Option<usize>
+    requires digits { 4096 ≤ length digits.old }
+    requires bytes { 2048 ≤ length bytes.old }
+    ensures count { IfSome result (λ n. n ≤ 2048) }
+    ensures value { MatchOption result (decoded line.now ≡ None) (λ n. decoded line.now ≡ Some (take n bytes.new)) }
+{
+    if line.len() > LONGEST {
+        return None;
+    }
+    if lacks_space(line) {
+        return decode_hex(line, bytes);
+    }
+    let count = squeeze_into(line, digits);
+    decode_hex(&digits[..count], bytes)
+}
+
+// Writes what a line has, and says whether a fault is among it.
+#[tactic(auto, using(dc_stream::proofs::Pieces::written), unfolding(crate::specs::Text::line_text, crate::specs::Text::is_bad_line))]
+fn put_line<W: Sink>(
+    line: &[u8],
+    digits: &mut [u8],
+    bytes: &mut [u8],
+    out: &mut W,
+) -> Result<bool, IoFault>
+    requires digits { 4096 ≤ length digits.old }
+    requires bytes { 2048 ≤ length bytes.old }
+    ensures wrote { Wrote W.written W.put_failures result out.old out.new (line_text line.now) }
+    ensures fault { IfOk result (λ bad. bad ≡ is_bad_line line.now) }
+{
+    match decode_line(line, digits, bytes) {
+        Some(count) => put_frames(&bytes[..count], out),
+        None => {
+            out.put(b"HEX FAULT\n")?;
+            Ok(true)
+        }
+    }
+}
+
+// Writes what the lines of an input have, and says whether a fault is among it.
+#[tactic(auto, using(dc_stream::proofs::Pieces::written, crate::proofs::Inputs::lines))]
+fn put_lines<W: Sink>(
+    input: &[u8],
+    digits: &mut [u8],
+    bytes: &mut [u8],
+    out: &mut W,
+) -> Result<bool, IoFault>
+    requires digits { 4096 ≤ length digits.old }
+    requires bytes { 2048 ≤ length bytes.old }
+    ensures wrote { Wrote W.written W.put_failures result out.old out.new (text_of input.now) }
+    ensures fault { IfOk result (λ bad. bad ≡ has_fault input.now) }
+{
+    let mut found = false;
+    let mut rest = input;
+    'lines: while !rest.is_empty() {
+        let (line, after) = first_line(rest);
+        let bad = put_line(line, digits, bytes, out)?;
+        found |= bad;
+        rest = after;
+    }
+    Ok(found)
+}
+
+/// Writes what the lines of hex digits that the reader has left stand for: the frames in each, and the telegram of
+/// a frame with CI 72h. The answer says whether a fault of a line, a frame or a body is among it.
+///
+/// The whole input is read, and all memory taken, before anything is written. The text is defined by
+/// `specs/Text.antt`, over the frames of EN 13757-2 and the telegrams of EN 13757-3.
+///
+/// # Errors
+/// [`TellFault::Read`] and [`TellFault::Write`] where that end failed, [`TellFault::TooLong`] over 1 MiB,
+/// [`TellFault::NoMemory`] where memory was refused. Only after `Write` may something have been written.
+pub fn decode_lines<A: Allocator + Copy, R: Source, W: Sink>(
+    alloc: A,
+    reader: &mut R,
+    writer: &mut W,
+) -> Result<bool, TellFault>
+    // What is written is the text for the input, byte for byte.
+    ensures text { OnOk result (IfSome (R.left reader.old) (λ input. Puts (W.written writer.old) (W.written writer.new) (text_of input))) }
+    // The answer says whether a fault is among it.
+    ensures fault { IfOk result (λ found. IfSome (R.left reader.old) (λ input. found ≡ has_fault input)) }
+
+    // An input over the limit is refused, and no other is refused for its length.
+    ensures fits { OnOk result (IfSome (R.left reader.old) (λ input. length input ≤ 1048576)) }
+    ensures too_long { IsErrOf result TellFault.TooLong → IfSome (R.left reader.old) (λ input. 1048576 < length input) }
+
+    // A fault of an end is told only where that end counted a failure.
+    ensures read { IsErrOf result TellFault.Read → HasRisen (R.take_failures reader.old) (R.take_failures reader.new) }
+    ensures write { IsErrOf result TellFault.Write → HasRisen (W.put_failures writer.old) (W.put_failures writer.new) }
+    ensures ok { OnOk result ((R.take_failures reader.new ≡ R.take_failures reader.old) × (W.put_failures writer.new ≡ W.put_failures writer.old)) }
+
+    // After any fault but a failed write the writer is as it was.
+    ensures untouched { IfErr result (λ fault. fault ≢ TellFault.Write → writer.new ≡ writer.old) }
+{
+    let mut digits = room(alloc, LONGEST)?;
+    let mut bytes = room(alloc, LONGEST / 2)?;
+    let mut chunk = room(alloc, CHUNK)?;
+    let input = read_input(alloc, reader, chunk.as_mut_slice())?;
+    if input.len() > MOST {
+        return Err(TellFault::TooLong);
+    }
+    match put_lines(
+        input.as_slice(),
+        digits.as_mut_slice(),
+        bytes.as_mut_slice(),
+        writer,
+    ) {
+        Ok(found) => Ok(found),
+        Err(_) => Err(TellFault::Write),
+    }
+}

@@ -1,0 +1,152 @@
+//! The frames of a line and their text.
+
+ghost use Rattle.std.specs.Prelude.{◌≡◌, ◌<◌, ◌∷◌, length, Ok, Err, MatchResult, IfOk, OnOk, OnErr};
+ghost use Rattle.dc_linkframe.specs.Frame.{seen};
+ghost use Rattle.dc_stream.specs.Stream.{Wrote};
+ghost use Rattle.dc_teller.specs.Frames.{front_len, frames_of, read_as, content_text, is_bad_content, short_line, long_line, frame_text, is_bad_frame, shown, is_bad, all_shown, any_bad};
+
+use crate::telegram::put_telegram;
+use dc_linkframe::{Frame, FrameFault, Need, need, parse};
+use dc_records::Telegram;
+use dc_stream::{IoFault, Sink};
+use dc_text::{put_byte_word, put_fault_line, put_number_word};
+
+/// The CI field of a variable data structure (EN 13757-3).
+const VARIABLE_DATA: u8 = 0x72;
+
+// How many bytes the text at the front has.
+fn front_len(bytes: &[u8]) -> usize
+    ensures { result ≡ front_len bytes.now }
+{
+    match need(bytes) {
+        Need::Whole(len) => len,
+        Need::More(_) | Need::Bad => bytes.len(),
+    }
+}
+
+// The text at the front of bytes, and what follows it.
+#[tactic(auto, using(crate::proofs::Cuts::cuts))]
+fn first_frame(bytes: &[u8]) -> (&[u8], &[u8])
+    requires { 0 < length bytes.now }
+    ensures frames { frames_of bytes.now ≡ result.0.now ∷ frames_of result.1.now }
+    ensures shorter { length result.1.now < length bytes.now }
+{
+    bytes.split_at(front_len(bytes))
+}
+
+// The frame that the text spells, or its fault.
+fn read(text: &[u8]) -> Result<Frame<'_>, FrameFault>
+    ensures { MatchResult result (λ frame. read_as text.now ≡ Ok (seen frame)) (λ fault. read_as text.now ≡ Err fault) }
+{
+    parse(text)
+}
+
+// Writes what a body has, where the CI field says that it is a telegram, and says whether it is none.
+#[tactic(auto, using(dc_stream::proofs::Pieces::written), unfolding(crate::specs::Frames::content_text, crate::specs::Frames::is_bad_content))]
+fn put_content<W: Sink>(ci: u8, body: &[u8], out: &mut W) -> Result<bool, IoFault>
+    ensures wrote { Wrote W.written W.put_failures result out.old out.new (content_text ci body.now) }
+    ensures fault { IfOk result (λ bad. bad ≡ is_bad_content ci body.now) }
+{
+    if ci != VARIABLE_DATA {
+        return Ok(false);
+    }
+    match Telegram::parse(body) {
+        Ok(telegram) => {
+            put_telegram(&telegram, out)?;
+            Ok(false)
+        }
+        Err(fault) => {
+            put_fault_line(out, b"BODY FAULT", fault.number(), fault.name())?;
+            Ok(true)
+        }
+    }
+}
+
+// Writes the line of a short frame.
+#[tactic(auto, using(dc_stream::proofs::Pieces::written), unfolding(crate::specs::Frames::short_line))]
+fn put_short<W: Sink>(control: u8, address: u8, out: &mut W) -> Result<(), IoFault>
+    ensures wrote { Wrote W.written W.put_failures result out.old out.new (short_line control address) }
+{
+    out.put(b"SHORT")?;
+    put_byte_word(out, control)?;
+    put_byte_word(out, address)?;
+    out.put(b"\n")
+}
+
+// Writes the line of a long frame.
+#[tactic(auto, using(dc_stream::proofs::Pieces::written), unfolding(crate::specs::Frames::long_line))]
+fn put_long<W: Sink>(
+    control: u8,
+    address: u8,
+    ci: u8,
+    body: &[u8],
+    out: &mut W,
+) -> Result<(), IoFault>
+    ensures wrote { Wrote W.written W.put_failures result out.old out.new (long_line control address ci body.now) }
+{
+    out.put(b"LONG")?;
+    put_byte_word(out, control)?;
+    put_byte_word(out, address)?;
+    put_byte_word(out, ci)?;
+    put_number_word(out, body.len() as u64)?;
+    out.put(b"\n")
+}
+
+// Writes what a frame has, and says whether its body is at fault.
+#[tactic(auto, using(dc_stream::proofs::Pieces::written))]
+fn put_frame<W: Sink>(frame: Frame<'_>, out: &mut W) -> Result<bool, IoFault>
+    ensures wrote { Wrote W.written W.put_failures result out.old out.new (frame_text (seen frame.entry)) }
+    ensures fault { IfOk result (λ bad. bad ≡ is_bad_frame (seen frame.entry)) }
+{
+    match frame {
+        Frame::Ack => {
+            out.put(b"ACK\n")?;
+            Ok(false)
+        }
+        Frame::Short { control, address } => {
+            put_short(control, address, out)?;
+            Ok(false)
+        }
+        Frame::Long {
+            control,
+            address,
+            ci,
+            body,
+        } => {
+            put_long(control, address, ci, body, out)?;
+            put_content(ci, body, out)
+        }
+    }
+}
+
+// Writes what stands for a text, and says whether a fault is among it.
+#[tactic(auto, using(dc_stream::proofs::Pieces::written), unfolding(crate::specs::Frames::shown, crate::specs::Frames::is_bad))]
+fn put_shown<W: Sink>(text: &[u8], out: &mut W) -> Result<bool, IoFault>
+    ensures wrote { Wrote W.written W.put_failures result out.old out.new (shown text.now) }
+    ensures fault { IfOk result (λ bad. bad ≡ is_bad text.now) }
+{
+    match read(text) {
+        Ok(frame) => put_frame(frame, out),
+        Err(fault) => {
+            put_fault_line(out, b"FRAME FAULT", fault.number(), fault.name())?;
+            Ok(true)
+        }
+    }
+}
+
+/// Writes what stands for the frames of a line's bytes, and says whether a fault is among it.
+#[tactic(auto, using(dc_stream::proofs::Pieces::written, crate::proofs::Cuts::shows))]
+pub fn put_frames<W: Sink>(bytes: &[u8], out: &mut W) -> Result<bool, IoFault>
+    ensures wrote { Wrote W.written W.put_failures result out.old out.new (all_shown (frames_of bytes.now)) }
+    ensures fault { IfOk result (λ bad. bad ≡ any_bad (frames_of bytes.now)) }
+{
+    let mut found = false;
+    let mut rest = bytes;
+    'frames: while !rest.is_empty() {
+        let (text, after) = first_frame(rest);
+        let bad = put_shown(text, out)?;
+        found |= bad;
+        rest = after;
+    }
+    Ok(found)
+}

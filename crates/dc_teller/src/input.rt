@@ -1,0 +1,47 @@
+//! The whole input, read before anything is written.
+
+ghost use Rattle.std.specs.Prelude.{◌≡◌, ◌⊎◌, ◌<◌, ◌≤◌, length, vec_len, IfOk, IfErr, OnOk, IsErrOf};
+ghost use Rattle.dc_base.specs.Failures.{HasRisen};
+ghost use Rattle.dc_stream.specs.Stream.{Takes, IsAtEnd};
+
+use crate::fault::TellFault;
+use dc_stream::Source;
+use std::alloc::Allocator;
+
+/// How many bytes one read asks for.
+pub const CHUNK: usize = 65_536;
+
+/// The most bytes that an input may have.
+pub const MOST: usize = 1_048_576;
+
+/// Reads until the source is at its end or gave more than an input may have. `chunk` is room for one read.
+pub fn read_input<A: Allocator, R: Source>(
+    alloc: A,
+    reader: &mut R,
+    chunk: &mut [u8],
+) -> Result<Vec<u8, A>, TellFault>
+    requires { 0 < length chunk.old }
+    ensures bytes { IfOk result (λ input. Takes (R.left reader.old) (R.left reader.new) input.items) }
+    ensures end { IfOk result (λ input. vec_len input ≤ 1048576 → IsAtEnd (R.left reader.new)) }
+    ensures faults { IfErr result (λ fault. (fault ≡ TellFault.Read) ⊎ (fault ≡ TellFault.NoMemory)) }
+    ensures ok { OnOk result (R.take_failures reader.new ≡ R.take_failures reader.old) }
+    ensures read { IsErrOf result TellFault.Read → HasRisen (R.take_failures reader.old) (R.take_failures reader.new) }
+{
+    // So that no growth follows: a read that begins at the limit still fits.
+    let Ok(mut input) = Vec::with_capacity(alloc, MOST + CHUNK) else {
+        return Err(TellFault::NoMemory);
+    };
+    'takes: while input.len() <= MOST {
+        let Ok(count) = reader.take(chunk) else {
+            return Err(TellFault::Read);
+        };
+        if count == 0 {
+            return Ok(input);
+        }
+        let (given, _) = chunk.split_at(count);
+        if input.extend_from_slice(given).is_err() {
+            return Err(TellFault::NoMemory);
+        }
+    }
+    Ok(input)
+}
