@@ -1,4 +1,4 @@
-use Rattle.std.proofs.Common.{◌≡◌, ◌<◌, ℕ, Bool, false, List, Option, Some, None, Result, Ok, Err, ap, sym, ◌∙◌, subst, refl}
+use Rattle.std.proofs.Common.{◌≡◌, ◌<◌, ℕ, Bool, true, false, List, [], Option, Some, None, Result, Ok, Err, ap, sym, ◌∙◌, subst, refl}
 use Rattle.std.specs.Prelude.{IfSome, option_map}
 use Rattle.std.specs.Result.{OnOk, is_err}
 use Rattle.dc_address.specs.declared.identity.Identity.{Identity}
@@ -32,6 +32,10 @@ each_told : (P R : List Identity → Type 0) (m : Option (List Identity)) → ((
 each_told P R None step p = tt
 each_told P R (Some x) step p = step x p
 
+-- a bus without meters is silent
+nobody_heard : (request : List ℕ) → IsHeard [] [] [] request []
+nobody_heard request = record { selects = λ mask is asks. refl; acknowledges = λ mask is asks. refl; keeps = λ asks. refl; responds = λ asks. refl }
+
 pub steps-smaller : goal.steps-smaller
 steps-smaller g c =
     let s : SearchState = c.steps.search in
@@ -55,7 +59,18 @@ steps-preserved g c =
           (g.B.Bus.meters c.args.bus.now) (g.B.Bus.meters c.steps.bus) c.steps.invariant.meters
           (λ told searching heard. searching_step told budget s next old new c.in-Some.request c.ask-answer.result asks searching heard by)
           c.steps.invariant.walk c.ask-answer.ensures.heard;
+      silent = λ is.
+          let old_is = c.steps.invariant.silent is in
+          let still = ap g.B.Bus.lost old_is.0 ∙ is in
+          (c.ask-answer.ensures.untouched still ∙ old_is.0,
+          searching_step [] budget s next [] [] c.in-Some.request [] asks old_is.1 (nobody_heard c.in-Some.request) (by ∙ ap (λ (bytes : List ℕ). after bytes s) (c.ask-answer.ensures.silence still)));
     }
+
+pub returns-clause-nobody : goal.returns-clause-nobody
+returns-clause-nobody g c is =
+    let s : SearchState = c.steps.search in
+    let none = sym (ap (λ (t : Step). option_map spelling (request_by t)) c.next.ensures) ∙ sym c.request.ensures.exact ∙ none_of c.request.result c.in_default.not-Some in
+    searched [] c.args.budget s [] none (c.steps.invariant.silent is).1
 
 pub returns-clause-walk : goal.returns-clause-walk
 returns-clause-walk g c =
