@@ -3,7 +3,7 @@
 ghost use Rattle.std.specs.Prelude.{◌≡◌, ◌≤◌, ℕ, Bool, true, List, [], Option, IfSome, IfOk, IsTrue, length};
 ghost use Rattle.dc_address.specs.declared.identity.Identity.{Identity as Meter};
 ghost use Rattle.dc_gateway.specs.Blocks.{most_block};
-ghost use Rattle.dc_gateway.specs.Bus.{IsHeard, IsSearched};
+ghost use Rattle.dc_gateway.specs.Bus.{HasHeard, IsHeard, IsSearched};
 ghost use Rattle.dc_search.specs.State.{is_idle, step_of};
 
 use crate::answer_buf::AnswerBuf;
@@ -70,6 +70,8 @@ pub fn search_over<A: Allocator + Copy, B: Bus>(
     ensures ended { IfOk result (λ search. IsTrue (is_idle (step_of search))) }
     ensures within { IfOk result (λ search. search.selections ≤ budget) }
 
+    // It is what the answers that were heard lead to.
+    ensures heard { IfOk result (λ search. HasHeard budget search) }
     // Where the bus tells its meters, it follows their walk.
     ensures walk { IfOk result (λ search. IfSome (B.meters bus.old) (λ told. IsSearched told budget search)) }
     ensures meters { B.meters bus.new ≡ B.meters bus.old }
