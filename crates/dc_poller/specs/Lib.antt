@@ -5,6 +5,8 @@ pub mod Fault
 pub mod Fold
 -- how a line comes apart into frames, and their text
 pub mod Frames
+-- what ends a script before its end
+pub mod Halt
 -- what `run` does to an image
 pub mod ImageRun
 -- how an input comes apart into lines
@@ -21,8 +23,12 @@ pub mod Report
 pub mod Script
 -- what a line of a script asks for
 pub mod ScriptLine
+-- a search for meters through the gateway
+pub mod Search
 -- what a line of `fold` is read as
 pub mod Seen
+-- a script that a search without memory ended
+pub mod Starved
 -- a telegram, as text
 pub mod Telegram
 -- what `decode` writes for an input
