@@ -45,6 +45,7 @@ impl<R: Source + Drop, W: Sink + Drop> Bus for Gateway<R, W> {
     ghost meters = { λ _. None };
 
     ghost selected = { λ _. [] };
+
     ghost lost = { λ gateway. gateway.lost };
 
     fn is_lost(&self) -> bool {

@@ -65,4 +65,6 @@ mod poll_tests;
 #[cfg(test)]
 mod run_tests;
 #[cfg(test)]
+mod search_tests;
+#[cfg(test)]
 mod tests;

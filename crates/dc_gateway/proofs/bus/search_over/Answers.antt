@@ -70,9 +70,10 @@ steps-preserved g c =
       };
       silent = λ is.
           let old_is = c.steps.invariant.silent is in
-          let still = ap g.B.Bus.lost old_is.0 ∙ is in
-          (c.ask-answer.ensures.untouched still ∙ old_is.0,
-          searching_step [] budget s next [] [] c.in-Some.request [] asks old_is.1 (nobody_heard c.in-Some.request) (by ∙ ap (λ (bytes : List ℕ). after bytes s) (c.ask-answer.ensures.silence still)));
+          let still = ap g.B.Bus.lost old_is.0 ∙ is in (
+            c.ask-answer.ensures.untouched still ∙ old_is.0,
+            searching_step [] budget s next [] [] c.in-Some.request [] asks old_is.1 (nobody_heard c.in-Some.request) (by ∙ ap (λ (bytes : List ℕ). after bytes s) (c.ask-answer.ensures.silence still)),
+          );
     }
 
 pub returns-clause-nobody : goal.returns-clause-nobody
