@@ -6,7 +6,7 @@ use Rattle.dc_address.specs.declared.identity.Identity.{Identity}
 use Rattle.dc_linkframe.specs.Control.{request_to, selected, selection_by}
 use Rattle.dc_linkframe.specs.Frame.{ack, spelling}
 use Rattle.dc_search.specs.Answer.{answer_of}
-use Rattle.dc_search.specs.State.{SearchState, step_of}
+use Rattle.dc_search.specs.State.{SearchState, after, new_search, step_of}
 use Rattle.dc_search.specs.Walk.{FindsAll, found_of, shared_of, walk_of}
 use Rattle.dc_search.specs.declared.step.Step.TheVariants.{Done, Budget}
 
@@ -45,6 +45,16 @@ abbrev pub chosen : Listed → List Identity
 chosen bus = matched_by bus.mask bus.meters
 
 -- ---- a search
+
+-- these answers are heard, one after the other
+abbrev pub heard_all : List (List ℕ) → SearchState → SearchState
+heard_all [] search = search
+heard_all (answer ∷ more) search = heard_all more (after answer search)
+
+-- A search with this budget that heard some answers, whoever gave them.
+pub record HasHeard (budget : ℕ) (search : SearchState) : Type 0 where
+  pub answers : List (List ℕ)
+  pub state : search ≡ heard_all answers (new_search budget)
 
 -- A search over these meters made the selections of the walk, as far as the budget went.
 pub record IsSearched (meters : List Identity) (budget : ℕ) (search : SearchState) : Type 0 where

@@ -1,9 +1,9 @@
 //! A bus of meters, whatever it is reached over, and a search on it.
 
-ghost use Rattle.std.specs.Prelude.{◌≡◌, ◌≤◌, ℕ, List, Option, IfSome, IfOk, IsTrue, length};
+ghost use Rattle.std.specs.Prelude.{◌≡◌, ◌≤◌, ℕ, Bool, true, List, [], Option, IfSome, IfOk, IsTrue, length};
 ghost use Rattle.dc_address.specs.declared.identity.Identity.{Identity as Meter};
 ghost use Rattle.dc_gateway.specs.Blocks.{most_block};
-ghost use Rattle.dc_gateway.specs.Bus.{IsHeard, IsSearched};
+ghost use Rattle.dc_gateway.specs.Bus.{HasHeard, IsHeard, IsSearched};
 ghost use Rattle.dc_search.specs.State.{is_idle, step_of};
 
 use crate::answer_buf::AnswerBuf;
@@ -21,12 +21,21 @@ pub trait Bus {
 
     // Those that are selected.
     ghost selected: { Self → List Meter };
+    // Whether all is silence from here on.
+    ghost lost: { Self → Bool };
+
+    /// Whether the bus is lost, and all is silence from here on.
+    fn is_lost(&self) -> bool
+        ensures { result ≡ lost self.now };
 
     /// Sends a request, and gives what is heard of it; no byte is silence.
     fn ask(&mut self, request: &FrameBuf) -> AnswerBuf
         requires { length request.now ≤ most_block }
         ensures meters { meters self.new ≡ meters self.old }
-        ensures heard { IfSome (meters self.old) (λ told. IsHeard told (selected self.old) (selected self.new) request.now result) };
+        ensures heard { IfSome (meters self.old) (λ told. IsHeard told (selected self.old) (selected self.new) request.now result) }
+        // A lost bus is silent and untouched.
+        ensures silence { lost self.old ≡ true → result ≡ [] }
+        ensures untouched { lost self.old ≡ true → self.new ≡ self.old };
 }
 
 impl<R: Source + Drop, W: Sink + Drop> Bus for Gateway<R, W> {
@@ -36,6 +45,12 @@ impl<R: Source + Drop, W: Sink + Drop> Bus for Gateway<R, W> {
     ghost meters = { λ _. None };
 
     ghost selected = { λ _. [] };
+
+    ghost lost = { λ gateway. gateway.lost };
+
+    fn is_lost(&self) -> bool {
+        Gateway::is_lost(self)
+    }
 
     fn ask(&mut self, request: &FrameBuf) -> AnswerBuf {
         Gateway::ask(self, request)
@@ -56,9 +71,14 @@ pub fn search_over<A: Allocator + Copy, B: Bus>(
     ensures ended { IfOk result (λ search. IsTrue (is_idle (step_of search))) }
     ensures within { IfOk result (λ search. search.selections ≤ budget) }
 
+    // It is what the answers that were heard lead to.
+    ensures heard { IfOk result (λ search. HasHeard budget search) }
     // Where the bus tells its meters, it follows their walk.
     ensures walk { IfOk result (λ search. IfSome (B.meters bus.old) (λ told. IsSearched told budget search)) }
     ensures meters { B.meters bus.new ≡ B.meters bus.old }
+    // Over a lost bus nobody is found, and it is left as it was.
+    ensures nobody { B.lost bus.old ≡ true → IfOk result (λ search. IsSearched [] budget search) }
+    ensures untouched { B.lost bus.old ≡ true → bus.new ≡ bus.old }
 {
     let mut search = Search::new(alloc, budget);
     'steps: while let Some(request) = search.next().request() {

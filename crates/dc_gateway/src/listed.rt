@@ -80,11 +80,18 @@ impl<'a> ListedBus<'a> {
 }
 
 impl<'a> Bus for ListedBus<'a> {
-    ghost use Rattle.std.specs.Prelude.{Some};
+    ghost use Rattle.std.specs.Prelude.{Some, false};
 
     ghost meters = { λ bus. Some bus.meters };
 
     ghost selected = { chosen };
+
+    // It is never lost.
+    ghost lost = { λ _. false };
+
+    fn is_lost(&self) -> bool {
+        false
+    }
 
     fn ask(&mut self, request: &FrameBuf) -> AnswerBuf {
         match order_of(request.as_slice()) {

@@ -10,3 +10,11 @@ pub mod Wents
 pub mod Ways
 -- single events, by the calls that they are
 pub mod Tolds
+-- what ends a script, by what a put gave
+pub mod Halts
+-- two pieces of what a search found
+pub mod Founds
+-- a search, by the calls that it makes
+pub mod Searches
+-- lines of a script up to a search that found no memory
+pub mod Starvings

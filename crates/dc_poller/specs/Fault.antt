@@ -1,6 +1,7 @@
 -- The faults that stop an engine of the program, by number and by name (this product).
-use Rattle.std.specs.Prelude.{ℕ, List, codes}
+use Rattle.std.specs.Prelude.{◌≡◌, ◌≢◌, ℕ, List, codes}
 use Rattle.dc_recovery.specs.declared.fault.OpenFault.{OpenFault}
+use Rattle.dc_poller.specs.Link.{Link, absent}
 use Rattle.dc_poller.specs.declared.fault.ProgramFault.{ProgramFault}
 use Rattle.dc_poller.specs.declared.fault.ProgramFault.TheVariants.{Read, TooLong, Write, NoMemory, Open}
 use Rattle.dc_teller.specs.declared.fault.TellFault.{TellFault}
@@ -50,3 +51,7 @@ IsOfImage TooLong = ⊥
 IsOfImage Write = Unit {0}
 IsOfImage NoMemory = Unit {0}
 IsOfImage (Open fault) = Unit {0}
+
+-- memory was refused to a search, which goes through a gateway
+abbrev pub IsOfSearch : Link → ProgramFault → Type 0
+IsOfSearch link fault = (fault ≡ NoMemory) × (link ≢ absent)

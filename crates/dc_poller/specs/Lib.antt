@@ -1,6 +1,8 @@
 -- the definitions that contracts cite
 -- which faults are of reading, and how they are numbered and named
 pub mod Fault
+-- what ends a script before its end
+pub mod Halt
 -- what `run` does to an image
 pub mod ImageRun
 -- how a script finds the gateway
@@ -13,6 +15,10 @@ pub mod Report
 pub mod Script
 -- what a line of a script asks for
 pub mod ScriptLine
+-- a search for meters through the gateway
+pub mod Search
+-- a script that a search without memory ended
+pub mod Starved
 -- what is known of a poll between two of its calls
 pub mod Way
 -- turns of a concentrator that were run

@@ -1,5 +1,5 @@
 -- What a script does (this product): its lines, up to the first that spells nothing, are done one after the other.
-use Rattle.std.specs.Prelude.{◌≡◌, ◌⊎◌, ℕ, ◌+◌, Bool, true, false, List, [], ◌∷◌, ◌++◌, codes, length, flat_map}
+use Rattle.std.specs.Prelude.{◌≡◌, ◌⊎◌, ℕ, ◌+◌, Bool, true, false, None, List, [], ◌∷◌, ◌++◌, codes, length, flat_map}
 use Rattle.dc_changes.specs.State.{State}
 use Rattle.dc_core.specs.Event.{Event, Answer, starts, asks, hears, commits, offices}
 use Rattle.dc_core.specs.Images.{Machine}
@@ -9,6 +9,7 @@ use Rattle.dc_sectors.specs.Disk.{Image, Choices}
 use Rattle.dc_text.specs.Words.{number_word}
 use Rattle.dc_poller.specs.Link.{Link, absent, linked, lost}
 use Rattle.dc_poller.specs.Poll.{gateway_line, Polls, PollsPart}
+use Rattle.dc_poller.specs.Search.{Searches, SearchesPart}
 use Rattle.dc_poller.specs.Went.{Went}
 use Rattle.dc_poller.specs.ScriptLine.{LineSeen, nothing, at, start, ask, hear, commit, office, poll, search, IsLineOf}
 
@@ -81,7 +82,8 @@ Does moment commit link left turns text = IsOneTurn commits turns text × (left 
 Does moment (office line) link left turns text = IsOneTurn (offices line) turns text × (left ≡ link)
 Does moment (poll line meter) link left turns text =
     (IsThrough link line × Polls moment meter link left turns text) ⊎ (¬ (IsThrough link line) × SaysOnly no_gateway turns text × (left ≡ link))
-Does moment (search budget) link left turns text = SaysOnly no_gateway turns text × (left ≡ link)
+Does moment (search budget) link left turns text =
+    (IsThrough link gateway_line × Searches None budget link left turns text) ⊎ (¬ (IsThrough link gateway_line) × SaysOnly no_gateway turns text × (left ≡ link))
 
 -- what was done for a line
 pub record Deed : Type 0 where
@@ -130,8 +132,8 @@ pub record ScriptRan {D : Type 0} (honest : Type 0) (sectors : D → ℕ) (reads
 
 -- ---- a write failed
 
--- The turns that were done of a line on which a write failed: a line that is one event has had it, a poll some of its turns. One that asks for
--- nothing writes nothing.
+-- The turns that were done of a line on which a write failed: a line that is one event has had it, a poll some of its turns, a search all of
+-- its own. One that asks for nothing writes nothing.
 abbrev pub DoesPart : ℕ → LineSeen → Link → List Turn → Type 0
 DoesPart moment nothing link turns = ⊥
 DoesPart moment (at seconds) link turns = ⊥
@@ -141,7 +143,7 @@ DoesPart moment (hear line answer) link turns = IsTurnOf (hears line moment answ
 DoesPart moment commit link turns = IsTurnOf commits turns
 DoesPart moment (office line) link turns = IsTurnOf (offices line) turns
 DoesPart moment (poll line meter) link turns = (IsThrough link line × PollsPart moment meter link turns) ⊎ (¬ (IsThrough link line) × (turns ≡ []))
-DoesPart moment (search budget) link turns = turns ≡ []
+DoesPart moment (search budget) link turns = (IsThrough link gateway_line × SearchesPart turns) ⊎ (¬ (IsThrough link gateway_line) × (turns ≡ []))
 
 -- It failed at the first of these lines: the line asks for this, or it spells nothing, and was to be told.
 abbrev pub FailsAt : ℕ → Link → List (List ℕ) → List Turn → Type 0

@@ -33,6 +33,18 @@ seen (Office line) = office line.now
 seen (Poll line meter) = poll line meter
 seen (Search budget) = search budget
 
+-- it is no search
+abbrev pub IsPlain : LineSeen → Type 0
+IsPlain nothing = Unit {0}
+IsPlain (at moment) = Unit {0}
+IsPlain (start line meter) = Unit {0}
+IsPlain (ask line) = Unit {0}
+IsPlain (hear line answer) = Unit {0}
+IsPlain commit = Unit {0}
+IsPlain (office line) = Unit {0}
+IsPlain (poll line meter) = Unit {0}
+IsPlain (search budget) = ⊥
+
 -- the greatest numbers of a bus line and of a budget
 abbrev pub greatest_line : ℕ
 greatest_line = 255

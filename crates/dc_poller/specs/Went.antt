@@ -17,3 +17,9 @@ pub record TurnWent {D : Type 0} (honest : Type 0) (sectors : D → ℕ) (reads 
   pub answer : Answer
   pub is_such : such answer
   pub went : Went honest sectors reads choices moment images_since budget state before ((event, answer) ∷ []) first new
+
+-- Some turns are run, and they are such.
+pub record TurnsWent {D : Type 0} (honest : Type 0) (sectors : D → ℕ) (reads : D → Image) (choices : D → Choices) (moment : D → ℕ) (images_since : D → ℕ → Image → Type 0) (budget : ℕ) (state : State) (before : List Turn) (such : List Turn → Type 0) (first new : Machine D) : Type 0 where
+  pub turns : List Turn
+  pub are_such : such turns
+  pub went : Went honest sectors reads choices moment images_since budget state before turns first new

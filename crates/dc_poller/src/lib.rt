@@ -15,12 +15,16 @@
 #![tactic(auto)]
 
 mod fault;
+mod found;
+mod halt;
 mod laws;
 mod poll;
+mod quiet;
 mod report;
 mod run;
 mod script;
 mod script_line;
+mod search;
 mod told;
 
 pub use fault::ProgramFault;
@@ -35,5 +39,7 @@ mod poll_tests;
 mod report_tests;
 #[cfg(test)]
 mod run_tests;
+#[cfg(test)]
+mod search_tests;
 #[cfg(test)]
 mod tests;

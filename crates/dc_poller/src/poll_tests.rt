@@ -94,3 +94,62 @@ fn a_gateway_is_lost_once(rt: HostRuntime) -> Result<(), Fail> {
     let answers = ANSWERS.get(..9).ok_or("answers")?;
     is_polled(&rt, answers, lines.as_slice(), LOST)
 }
+
+// Four parts are to wait, each of another line.
+const WAITING: &[u8] = b"OFFICE 2 FIT 12345679.PAD.01.07 2 1 A1
+OFFICE 3 FIT 12345680.PAD.01.07 3 1 A1
+OFFICE 4 FIT 12345681.PAD.01.07 4 1 A1
+OFFICE 5 FIT 12345682.PAD.01.07 5 1 A1
+START 2 12345679.PAD.01.07
+HEAR 2 e5
+HEAR 2 681616680801727956341224400107010000000C13785634121F4F16
+START 3 12345680.PAD.01.07
+HEAR 3 e5
+HEAR 3 681616680801728056341224400107010000000C13785634121F5616
+START 4 12345681.PAD.01.07
+HEAR 4 e5
+HEAR 4 681616680801728156341224400107010000000C13785634121F5716
+START 5 12345682.PAD.01.07
+HEAR 5 e5
+HEAR 5 681616680801728256341224400107010000000C13785634121F5816
+";
+
+// There is room for the part only behind a commit; the same bytes are heard again then.
+#[test]
+fn a_poll_commits_where_too_much_waits(rt: HostRuntime) -> Result<(), Fail> {
+    let lines = joined(rt.alloc(), WAITING, POLL)?;
+    is_polled(
+        &rt,
+        ANSWERS,
+        lines.as_slice(),
+        b"OK 1
+OK 2
+OK 3
+OK 4
+OK 5
+STARTED
+READY
+PART 1 MORE
+STARTED
+READY
+PART 1 MORE
+STARTED
+READY
+PART 1 MORE
+STARTED
+READY
+PART 1 MORE
+STARTED
+SEND 1040014116
+READY
+SEND 107B017C16
+REFUSED 5 PendingFull
+COMMITTED 4
+PART 1 MORE
+COMMITTED 1
+SEND 105B015C16
+PART 2 LAST
+COMMITTED 1
+",
+    )
+}

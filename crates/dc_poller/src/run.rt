@@ -1,6 +1,6 @@
 //! The engine of `run`: a script over an image, from a source's lines to a sink's text.
 
-ghost use Rattle.std.specs.Prelude.{◌≡◌, ◌≢◌, ◌≤◌, ◌<◌, ◌*◌, length, vec_len, IfSome, IfOk, IfErr, MatchResult, OnOk, IsErrOf};
+ghost use Rattle.std.specs.Prelude.{◌≡◌, ◌≢◌, ◌⊎◌, ◌≤◌, ◌<◌, ◌*◌, length, vec_len, IfSome, IfOk, IfErr, MatchResult, OnOk, IsErrOf};
 ghost use Rattle.dc_base.specs.Failures.{HasRisen};
 ghost use Rattle.dc_recovery.specs.Halves.{half_len_of};
 ghost use Rattle.dc_recovery.specs.Refusal.{IsRefused, TellsOfImage};
@@ -8,17 +8,19 @@ ghost use Rattle.dc_recovery.specs.Stands.{EachStands, StandsForOne};
 ghost use Rattle.dc_recovery.specs.declared.fault.OpenFault.TheVariants.{NotImage, Worn, Device};
 ghost use Rattle.dc_sectors.specs.Disk.{LeavesOnly};
 ghost use Rattle.dc_stream.specs.Stream.{Puts};
-ghost use Rattle.dc_poller.specs.Fault.{IfOpen, IsOfReading};
+ghost use Rattle.dc_poller.specs.Fault.{IfOpen, IsOfReading, IsOfSearch};
 ghost use Rattle.dc_poller.specs.ImageRun.{ImageRan, ImageCut};
 ghost use Rattle.dc_poller.specs.Link.{link_at_first, link_of};
 ghost use Rattle.dc_poller.specs.ScriptLine.{longest_line};
+ghost use Rattle.dc_poller.specs.Starved.{ImageStarved};
 
 use crate::fault::ProgramFault;
+use crate::halt::Halt;
 use crate::script::run_lines;
 use dc_core::Concentrator;
 use dc_gateway::Gateway;
 use dc_sectors::Disk;
-use dc_stream::{IoFault, Sink, Source, room};
+use dc_stream::{Sink, Source, room};
 use dc_teller::{CHUNK, LONGEST, MOST, read_input};
 use std::alloc::Allocator;
 
@@ -31,13 +33,20 @@ use std::alloc::Allocator;
 /// `POLL 1` reads a meter through it: each request goes out, its answer is heard at the script's moment, and each part that
 /// is accepted is committed; these events' answers are written like any other's. Where the gateway is lost, `GATEWAY LOST`
 /// is written once, and all is silence from then on. Without a gateway, and for another bus line, `POLL` writes `NO
-/// GATEWAY`. `SEARCH` writes that always: it isn't built yet.
+/// GATEWAY`.
+///
+/// `SEARCH` searches for meters through the gateway, with at most so many selections. What waits is committed first; where
+/// that is refused, the refusal is written. Where a request of line 1 waits, `REFUSED 3 Busy` is written, as a selection
+/// would begin that readout anew. Else each meter found is written, each number that more than one meter has, whether the
+/// budget was spent, and how many selections were made. A meter whose answer is lost isn't found. Without a gateway
+/// `SEARCH` writes `NO GATEWAY`.
 ///
 /// The whole script is read before the image is opened. The disk comes back whatever happens; the gateway's ends don't.
 ///
 /// # Errors
 /// [`ProgramFault::Read`], [`ProgramFault::TooLong`] over 1 MiB and [`ProgramFault::NoMemory`], with disk and writer as
-/// they were; [`ProgramFault::Open`] where the image wasn't opened, with the writer as it was; [`ProgramFault::Write`]
+/// they were; [`ProgramFault::NoMemory`] also where memory is refused to a search: the lines before it are done, what waited
+/// for a commit is committed, and of the search nothing but the gateway's loss is written; [`ProgramFault::Open`] where the image wasn't opened, with the writer as it was; [`ProgramFault::Write`]
 /// where the writer failed: the line at which it did is done, and none behind it.
 pub fn run_script<
     D: Disk + Drop,
@@ -59,6 +68,11 @@ pub fn run_script<
         → IfOk result.1 (λ faulty. ImageRan D.honest D.sectors D.reads D.choices D.moment D.images_since (link_at_first gateway) (R.left reader.old) faulty (Puts (W.written writer.old) (W.written writer.new)) disk result.0) }
     ensures cut { (D.honest → EachStands (half_len_of (D.sectors disk)) (D.choices disk))
         → IsErrOf result.1 ProgramFault.Write → ImageCut D.honest D.sectors D.reads D.choices D.moment D.images_since (link_at_first gateway) (R.left reader.old) disk result.0 }
+    // Memory is refused before the image is opened, or to a search: then what is left of the image and the text are those of
+    // the run up to it.
+    ensures starved { (D.honest → EachStands (half_len_of (D.sectors disk)) (D.choices disk))
+        → IsErrOf result.1 ProgramFault.NoMemory → ((result.0 ≡ disk) × (writer.new ≡ writer.old))
+        ⊎ ImageStarved D.honest D.sectors D.reads D.choices D.moment D.images_since (link_at_first gateway) (R.left reader.old) (Puts (W.written writer.old) (W.written writer.new)) disk result.0 }
 
     // An image that isn't opened is refused as the store refuses it; one that stands is refused only as worn.
     ensures small { D.sectors disk < 131 → MatchResult result.1 (λ faulty. ⊥) (λ fault. IfOpen fault (λ e. (e ≡ NotImage) × (result.0 ≡ disk))) }
@@ -78,9 +92,11 @@ pub fn run_script<
     ensures write { IsErrOf result.1 ProgramFault.Write → HasRisen (W.put_failures writer.old) (W.put_failures writer.new) }
     ensures ok { OnOk result.1 ((R.take_failures reader.new ≡ R.take_failures reader.old) × (W.put_failures writer.new ≡ W.put_failures writer.old)) }
 
-    // What isn't read touches nothing, and after any fault but a failed write the writer is as it was.
-    ensures unread { IfErr result.1 (λ fault. IsOfReading fault → result.0 ≡ disk) }
-    ensures untouched { IfErr result.1 (λ fault. fault ≢ ProgramFault.Write → writer.new ≡ writer.old) }
+    // What isn't read touches nothing, and after any fault but a failed write the writer is as it was; but for a search
+    // through a gateway, to which memory was refused.
+    ensures unread { IfErr result.1 (λ fault. IsOfReading fault → (result.0 ≡ disk) ⊎ IsOfSearch (link_at_first gateway) fault) }
+    ensures untouched { IfErr result.1 (λ fault. fault ≢ ProgramFault.Write → (writer.new ≡ writer.old) ⊎ IsOfSearch (link_at_first gateway) fault) }
+    ensures spared { IsErrOf result.1 ProgramFault.NoMemory → W.put_failures writer.new ≡ W.put_failures writer.old }
 {
     let (input, mut bytes) = match read_script(alloc, reader) {
         Ok(read) => read,
@@ -92,6 +108,7 @@ pub fn run_script<
     };
     let mut gateway = joined(gateway);
     match run_lines(
+        alloc,
         &mut concentrator,
         &mut gateway,
         input.as_slice(),
@@ -99,7 +116,10 @@ pub fn run_script<
         writer,
     ) {
         Ok(faulty) => (concentrator.close(), Ok(faulty)),
-        Err(IoFault) => (concentrator.close(), Err(ProgramFault::Write)),
+        Err(halt) => match halt {
+            Halt::Write => (concentrator.close(), Err(ProgramFault::Write)),
+            Halt::NoMemory => (concentrator.close(), Err(ProgramFault::NoMemory)),
+        },
     }
 }
 

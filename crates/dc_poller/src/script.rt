@@ -1,6 +1,6 @@
 //! The lines of a script, one by one through a concentrator.
 
-ghost use Rattle.std.specs.Prelude.{◌≡◌, ◌≤◌, ◌*◌, ◌++◌, List, codes, length, IfOk, OnOk, OnErr};
+ghost use Rattle.std.specs.Prelude.{◌≡◌, ◌≢◌, ◌≤◌, ◌*◌, ◌++◌, List, codes, length, IfOk, OnOk, OnErr};
 ghost use Rattle.dc_base.specs.Failures.{HasRisen};
 ghost use Rattle.dc_changes.specs.State.{State};
 ghost use Rattle.dc_changes.specs.Valid.{last_moment};
@@ -12,13 +12,17 @@ ghost use Rattle.dc_core.specs.Transcript.{Turn, leads, IsChain};
 ghost use Rattle.dc_stream.specs.Stream.{Puts, Wrote};
 ghost use Rattle.dc_text.specs.Words.{number_word};
 ghost use Rattle.dc_teller.specs.Lines.{lines_of};
-ghost use Rattle.dc_poller.specs.Link.{link_of};
+ghost use Rattle.dc_poller.specs.Halt.{IsCounted, OnNoMemory, OnWrite};
+ghost use Rattle.dc_poller.specs.Link.{absent, link_of};
 ghost use Rattle.dc_poller.specs.Script.{ScriptCut, ScriptRan, LineCut, LineRan, moment_behind};
-ghost use Rattle.dc_poller.specs.ScriptLine.{longest_line, seen};
+ghost use Rattle.dc_poller.specs.ScriptLine.{IsPlain, longest_line, seen};
+ghost use Rattle.dc_poller.specs.Starved.{LineStarved, ScriptStarved};
 ghost use Rattle.dc_poller.specs.Went.{TurnWent};
 
+use crate::halt::{Halt, written};
 use crate::poll::{GATEWAY_LINE, poll};
 use crate::script_line::ScriptLine;
+use crate::search::search;
 use dc_core::{Concentrator, Event, WriteFault};
 use dc_gateway::Gateway;
 use dc_sectors::Disk;
@@ -30,19 +34,23 @@ use std::alloc::Allocator;
 /// Runs the lines of an input, up to the first that spells nothing, and says whether there is one. `bytes` is room for an
 /// answer.
 pub fn run_lines<D: Disk + Drop, A: Allocator + Copy, GR: Source + Drop, GW: Sink + Drop, W: Sink>(
+    alloc: A,
     concentrator: &mut Concentrator<D, A>,
     gateway: &mut Option<Gateway<GR, GW>>,
     input: &[u8],
     bytes: &mut [u8],
     out: &mut W,
-) -> Result<bool, IoFault>
+) -> Result<bool, Halt>
     requires { longest_line ≤ 2 * length bytes.old }
     ensures ran { (state : State) (before : List Turn) → IsChain concentrator.old.house.budget (opened state) before → IsAt D.honest D.sectors D.reads D.choices concentrator.old (leads (opened state) before)
         → IfOk result (λ faulty. ScriptRan D.honest D.sectors D.reads D.choices D.moment D.images_since concentrator.old.house.budget state before (link_of gateway.old) (lines_of input.now) faulty (Puts (W.written out.old) (W.written out.new)) concentrator.old concentrator.new) }
     ensures cut { (state : State) (before : List Turn) → IsChain concentrator.old.house.budget (opened state) before → IsAt D.honest D.sectors D.reads D.choices concentrator.old (leads (opened state) before)
-        → OnErr result (ScriptCut D.honest D.sectors D.reads D.choices D.moment D.images_since concentrator.old.house.budget state before (link_of gateway.old) (lines_of input.now) concentrator.old concentrator.new) }
-    ensures fault { OnErr result (HasRisen (W.put_failures out.old) (W.put_failures out.new)) }
-    ensures well { OnOk result (W.put_failures out.new ≡ W.put_failures out.old) }
+        → OnWrite result (ScriptCut D.honest D.sectors D.reads D.choices D.moment D.images_since concentrator.old.house.budget state before (link_of gateway.old) (lines_of input.now) concentrator.old concentrator.new) }
+    ensures starved { (state : State) (before : List Turn) → IsChain concentrator.old.house.budget (opened state) before → IsAt D.honest D.sectors D.reads D.choices concentrator.old (leads (opened state) before)
+        → OnNoMemory result (ScriptStarved D.honest D.sectors D.reads D.choices D.moment D.images_since concentrator.old.house.budget state before (link_of gateway.old) (lines_of input.now) (Puts (W.written out.old) (W.written out.new)) concentrator.old concentrator.new) }
+    // Memory is refused to a search alone, which needs a gateway.
+    ensures through { OnNoMemory result (link_of gateway.old ≢ absent) }
+    ensures counted { IsCounted result (W.put_failures out.old) (W.put_failures out.new) }
 {
     let mut rest = input;
     let mut moment = 0;
@@ -50,11 +58,13 @@ pub fn run_lines<D: Disk + Drop, A: Allocator + Copy, GR: Source + Drop, GW: Sin
     'lines: while !rest.is_empty() {
         let (line, after) = first_line(rest);
         let Some(asked) = ScriptLine::parse(line, bytes) else {
-            put_syntax(out, count + 1)?;
-            return Ok(true);
+            return match put_syntax(out, count + 1) {
+                Ok(()) => Ok(true),
+                Err(IoFault) => Err(Halt::Write),
+            };
         };
-        if let Err(fault) = run_line(concentrator, gateway, &asked, moment, out) {
-            return Err(fault);
+        if let Err(halt) = run_line(alloc, concentrator, gateway, &asked, moment, out) {
+            return Err(halt);
         }
         moment = moment_behind(&asked, moment);
         count += 1;
@@ -64,25 +74,56 @@ pub fn run_lines<D: Disk + Drop, A: Allocator + Copy, GR: Source + Drop, GW: Sin
 }
 
 // Does what a line asks for, at a moment.
-
 fn run_line<D: Disk + Drop, A: Allocator + Copy, GR: Source + Drop, GW: Sink + Drop, W: Sink>(
+    alloc: A,
+    concentrator: &mut Concentrator<D, A>,
+    gateway: &mut Option<Gateway<GR, GW>>,
+    asked: &ScriptLine<'_>,
+    moment: u64,
+    out: &mut W,
+) -> Result<(), Halt>
+    requires { moment ≤ last_moment }
+    ensures ran { (state : State) (before : List Turn) → IsChain concentrator.old.house.budget (opened state) before → IsAt D.honest D.sectors D.reads D.choices concentrator.old (leads (opened state) before)
+        → OnOk result (LineRan D.honest D.sectors D.reads D.choices D.moment D.images_since concentrator.old.house.budget state before moment (seen asked.now) (link_of gateway.old) (link_of gateway.new) (Puts (W.written out.old) (W.written out.new)) concentrator.old concentrator.new) }
+    ensures cut { (state : State) (before : List Turn) → IsChain concentrator.old.house.budget (opened state) before → IsAt D.honest D.sectors D.reads D.choices concentrator.old (leads (opened state) before)
+        → OnWrite result (LineCut D.honest D.sectors D.reads D.choices D.moment D.images_since concentrator.old.house.budget state before moment (seen asked.now) (link_of gateway.old) concentrator.old concentrator.new) }
+    ensures starved { (state : State) (before : List Turn) → IsChain concentrator.old.house.budget (opened state) before → IsAt D.honest D.sectors D.reads D.choices concentrator.old (leads (opened state) before)
+        → OnNoMemory result (LineStarved D.honest D.sectors D.reads D.choices D.moment D.images_since concentrator.old.house.budget state before (seen asked.now) (link_of gateway.old) (Puts (W.written out.old) (W.written out.new)) concentrator.old concentrator.new) }
+    ensures through { OnNoMemory result (link_of gateway.old ≢ absent) }
+    ensures absent { link_of gateway.old ≡ absent → link_of gateway.new ≡ absent }
+    ensures counted { IsCounted result (W.put_failures out.old) (W.put_failures out.new) }
+    ensures budget { concentrator.new.house.budget ≡ concentrator.old.house.budget }
+{
+    match *asked {
+        ScriptLine::Search { budget } => match gateway {
+            Some(gateway) => search(alloc, concentrator, gateway, budget, out),
+            None => written(out.put(b"NO GATEWAY\n")),
+        },
+        _ => written(run_plain(concentrator, gateway, asked, moment, out)),
+    }
+}
+
+// Does what a line asks for that is no search, at a moment.
+fn run_plain<D: Disk + Drop, A: Allocator + Copy, GR: Source + Drop, GW: Sink + Drop, W: Sink>(
     concentrator: &mut Concentrator<D, A>,
     gateway: &mut Option<Gateway<GR, GW>>,
     asked: &ScriptLine<'_>,
     moment: u64,
     out: &mut W,
 ) -> Result<(), IoFault>
-    requires { moment ≤ last_moment }
+    requires moment { moment ≤ last_moment }
+    requires plain { IsPlain (seen asked.now) }
     ensures ran { (state : State) (before : List Turn) → IsChain concentrator.old.house.budget (opened state) before → IsAt D.honest D.sectors D.reads D.choices concentrator.old (leads (opened state) before)
         → OnOk result (LineRan D.honest D.sectors D.reads D.choices D.moment D.images_since concentrator.old.house.budget state before moment (seen asked.now) (link_of gateway.old) (link_of gateway.new) (Puts (W.written out.old) (W.written out.new)) concentrator.old concentrator.new) }
     ensures cut { (state : State) (before : List Turn) → IsChain concentrator.old.house.budget (opened state) before → IsAt D.honest D.sectors D.reads D.choices concentrator.old (leads (opened state) before)
         → OnErr result (LineCut D.honest D.sectors D.reads D.choices D.moment D.images_since concentrator.old.house.budget state before moment (seen asked.now) (link_of gateway.old) concentrator.old concentrator.new) }
     ensures fault { OnErr result (HasRisen (W.put_failures out.old) (W.put_failures out.new)) }
     ensures well { OnOk result (W.put_failures out.new ≡ W.put_failures out.old) }
+    ensures absent { link_of gateway.old ≡ absent → link_of gateway.new ≡ absent }
     ensures budget { concentrator.new.house.budget ≡ concentrator.old.house.budget }
 {
     match *asked {
-        ScriptLine::Nothing | ScriptLine::At { .. } => Ok(()),
+        ScriptLine::Nothing | ScriptLine::At { .. } | ScriptLine::Search { .. } => Ok(()),
         ScriptLine::Poll { line, meter } => {
             if line != GATEWAY_LINE {
                 return out.put(b"NO GATEWAY\n");
@@ -92,7 +133,6 @@ fn run_line<D: Disk + Drop, A: Allocator + Copy, GR: Source + Drop, GW: Sink + D
                 None => out.put(b"NO GATEWAY\n"),
             }
         }
-        ScriptLine::Search { .. } => out.put(b"NO GATEWAY\n"),
         ScriptLine::Start { line, meter } => {
             run_event(concentrator, &Event::Start { line, meter }, out)
         }

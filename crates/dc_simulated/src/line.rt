@@ -59,12 +59,19 @@ impl<A: Allocator> SimulatedBus<A> {
 }
 
 impl<A: Allocator> Bus for SimulatedBus<A> {
-    ghost use Rattle.std.specs.Prelude.{None, []};
+    ghost use Rattle.std.specs.Prelude.{None, [], false};
 
     // Its meters aren't told: they may have several telegrams, and bodies that are none.
     ghost meters = { λ _. None };
 
     ghost selected = { λ _. [] };
+
+    // It is never lost.
+    ghost lost = { λ _. false };
+
+    fn is_lost(&self) -> bool {
+        false
+    }
 
     fn ask(&mut self, request: &FrameBuf) -> AnswerBuf {
         self.hear(request.as_slice())

@@ -1,4 +1,4 @@
-use Rattle.std.proofs.Common.{◌≡◌, ◌≤◌, ◌+◌, ◌++◌, ◌∷◌, [], ℕ, List, inl, inr, append-nil, eqb-true, refl, sym, subst, ◌∙◌, arith, codes}
+use Rattle.std.proofs.Common.{Bool, ◌≡◌, ◌≤◌, ◌+◌, ◌++◌, ◌∷◌, [], ℕ, List, inl, inr, append-nil, eqb-true, refl, sym, subst, ◌∙◌, arith, codes}
 use Rattle.dc_stream.specs.Stream.{Puts}
 use Rattle.dc_stream.proofs.Pieces.{puts-both, puts-none}
 use Rattle.dc_text.specs.Words.{number_word}
@@ -6,10 +6,13 @@ use Rattle.dc_core.specs.Core.{opened}
 use Rattle.dc_core.specs.Transcript.{IsChain}
 use Rattle.dc_teller.specs.Lines.{lines_of}
 use Rattle.dc_poller.specs.Link.{link_of}
-use Rattle.dc_poller.specs.Script.{AskFor, LineRan, LineCut, deeds_turns, deeds_text}
+use Rattle.dc_poller.specs.Script.{AskFor, LineRan, LineCut, ScriptCut, deeds_turns, deeds_text}
 use Rattle.dc_poller.specs.ScriptLine.{seen}
+use Rattle.dc_poller.specs.Starved.{LineStarved, ScriptStarved}
+use Rattle.dc_poller.proofs.Halts.{on_write, on_no_memory}
 use Rattle.dc_teller.proofs.Inputs.{no_line}
-use Rattle.dc_poller.proofs.LineRuns.{SoFar, one_more, cut_here, on_err, lines_none, moment_fits}
+use Rattle.dc_poller.proofs.LineRuns.{SoFar, one_more, cut_here, lines_none, moment_fits}
+use Rattle.dc_poller.proofs.Starvings.{starved_here}
 use Rattle.dc_poller.proofs.Wents.{went_none, went_chain, went_at}
 use Rattle.dc_poller.proofs.script.run_lines.Goals as goal
 
@@ -20,6 +23,7 @@ lines-init g c = record {
   counted = omega arith;
   budget = refl;
   well = refl;
+  absent = λ is. is;
   so_far = record {
     done = [];
     are_read = refl;
@@ -55,34 +59,62 @@ lines-preserved g c =
       moment = subst (λ (m : ℕ). m ≤ _) (sym c.moment_behind-moment.ensures) (moment_fits c.lines.moment asked c.lines.invariant.moment c.in-Some.ensures.found.has_bounds);
       counted = omega (arith, counted, shorter);
       budget = c.run_line.ensures.budget ∙ b_is;
-      well = c.in_default-run_line.ensures.well ∙ c.lines.invariant.well;
+      well = c.in_default-run_line.ensures.counted ∙ c.lines.invariant.well;
+      absent = λ is. c.run_line.ensures.absent (c.lines.invariant.absent is);
       so_far = subst (λ (m : ℕ). SoFar g.D.Disk.honest g.D.Disk.sectors g.D.Disk.reads g.D.Disk.choices g.D.Disk.moment g.D.Disk.images_since first.house.budget (link_of c.args.gateway.now) (link_of c.run_line.new.gateway) (lines_of c.args.input.now) (lines_of c.first_line.result.1.now) m (c.lines.count + 1) (Puts (w c.args.out.now) (w c.run_line.new.out)) first new)
           (sym c.moment_behind-moment.ensures) more;
     }
 
-pub returns-in-Err-clause-cut : goal.returns-in-Err-clause-cut
-returns-in-Err-clause-cut g c state before chain at =
+pub returns-in-Err-run_line-clause-cut : goal.returns-in-Err-run_line-clause-cut
+returns-in-Err-run_line-clause-cut g c state before chain at =
     let asked = seen c.in-Some.asked in
+    let new = c.run_line.new.concentrator in
     let w = g.W.Sink.written in
     let b_is = c.lines.invariant.budget in
     let first = c.args.concentrator.now in
     let old = c.lines.concentrator in
-    let new = c.run_line.new.concentrator in
     let line = c.first_line.result.0.now in
     let rest = lines_of c.first_line.result.1.now in
     let here = subst (λ (rest : List (List ℕ)). SoFar g.D.Disk.honest g.D.Disk.sectors g.D.Disk.reads g.D.Disk.choices g.D.Disk.moment g.D.Disk.images_since first.house.budget (link_of c.args.gateway.now) (link_of c.lines.gateway) (lines_of c.args.input.now) rest c.lines.moment c.lines.count (Puts (w c.args.out.now) (w c.lines.out)) first old)
     c.first_line.ensures.lines c.lines.invariant.so_far in
     let ran = here.ran state before chain at in
     let turns = deeds_turns ran.lines.deeds in
-    let cut = subst (λ (b : ℕ). LineCut g.D.Disk.honest g.D.Disk.sectors g.D.Disk.reads g.D.Disk.choices g.D.Disk.moment g.D.Disk.images_since b state (before ++ turns) c.lines.moment asked (link_of c.lines.gateway) old new) b_is
-    (c.in-Err.ensures.cut state (before ++ turns)
-    (subst (λ (b : ℕ). IsChain b (opened state) (before ++ turns)) (sym b_is) (went_chain g.D.Disk.honest g.D.Disk.sectors g.D.Disk.reads g.D.Disk.choices g.D.Disk.moment g.D.Disk.images_since first.house.budget state before turns first old ran.lines.went))
-    (went_at g.D.Disk.honest g.D.Disk.sectors g.D.Disk.reads g.D.Disk.choices g.D.Disk.moment g.D.Disk.images_since first.house.budget state before turns first old ran.lines.went)) in
+    on_write (Unit {0}) Bool c.in-Err-run_line.halt (LineCut g.D.Disk.honest g.D.Disk.sectors g.D.Disk.reads g.D.Disk.choices g.D.Disk.moment g.D.Disk.images_since old.house.budget state (before ++ turns) c.lines.moment asked (link_of c.lines.gateway) old new)
+    (ScriptCut g.D.Disk.honest g.D.Disk.sectors g.D.Disk.reads g.D.Disk.choices g.D.Disk.moment g.D.Disk.images_since first.house.budget state before (link_of c.args.gateway.now) (lines_of c.args.input.now) first new)
+    (λ here_cut.
+    let cut = subst (λ (b : ℕ). LineCut g.D.Disk.honest g.D.Disk.sectors g.D.Disk.reads g.D.Disk.choices g.D.Disk.moment g.D.Disk.images_since b state (before ++ turns) c.lines.moment asked (link_of c.lines.gateway) old new) b_is here_cut in
     cut_here g.D.Disk.honest g.D.Disk.sectors g.D.Disk.reads g.D.Disk.choices g.D.Disk.moment g.D.Disk.images_since first.house.budget (link_of c.args.gateway.now) (link_of c.lines.gateway) (lines_of c.args.input.now) line rest c.lines.moment c.lines.count (Puts (w c.args.out.now) (w c.lines.out)) cut.turns first old new here state before chain at
-    (inl (asked, c.in-Some.ensures.found, cut.does)) cut.went
+    (inl (asked, c.in-Some.ensures.found, cut.does)) cut.went)
+    (c.in-Err-run_line.ensures.cut state (before ++ turns)
+    (subst (λ (b : ℕ). IsChain b (opened state) (before ++ turns)) (sym b_is) (went_chain g.D.Disk.honest g.D.Disk.sectors g.D.Disk.reads g.D.Disk.choices g.D.Disk.moment g.D.Disk.images_since first.house.budget state before turns first old ran.lines.went))
+    (went_at g.D.Disk.honest g.D.Disk.sectors g.D.Disk.reads g.D.Disk.choices g.D.Disk.moment g.D.Disk.images_since first.house.budget state before turns first old ran.lines.went))
 
-pub returns-in_default-clause-ran : goal.returns-in_default-clause-ran
-returns-in_default-clause-ran g c state before chain at =
+pub returns-in-Err-run_line-clause-starved : goal.returns-in-Err-run_line-clause-starved
+returns-in-Err-run_line-clause-starved g c state before chain at =
+    let asked = seen c.in-Some.asked in
+    let new = c.run_line.new.concentrator in
+    let w = g.W.Sink.written in
+    let b_is = c.lines.invariant.budget in
+    let first = c.args.concentrator.now in
+    let old = c.lines.concentrator in
+    let line = c.first_line.result.0.now in
+    let rest = lines_of c.first_line.result.1.now in
+    let here = subst (λ (rest : List (List ℕ)). SoFar g.D.Disk.honest g.D.Disk.sectors g.D.Disk.reads g.D.Disk.choices g.D.Disk.moment g.D.Disk.images_since first.house.budget (link_of c.args.gateway.now) (link_of c.lines.gateway) (lines_of c.args.input.now) rest c.lines.moment c.lines.count (Puts (w c.args.out.now) (w c.lines.out)) first old)
+    c.first_line.ensures.lines c.lines.invariant.so_far in
+    let ran = here.ran state before chain at in
+    let turns = deeds_turns ran.lines.deeds in
+    let piece : List ℕ → Type 0 = Puts (w c.lines.out) (w c.run_line.new.out) in
+    on_no_memory (Unit {0}) Bool c.in-Err-run_line.halt (LineStarved g.D.Disk.honest g.D.Disk.sectors g.D.Disk.reads g.D.Disk.choices g.D.Disk.moment g.D.Disk.images_since old.house.budget state (before ++ turns) asked (link_of c.lines.gateway) piece old new)
+    (ScriptStarved g.D.Disk.honest g.D.Disk.sectors g.D.Disk.reads g.D.Disk.choices g.D.Disk.moment g.D.Disk.images_since first.house.budget state before (link_of c.args.gateway.now) (lines_of c.args.input.now) (Puts (w c.args.out.now) (w c.run_line.new.out)) first new)
+    (λ starved. starved_here g.D.Disk.honest g.D.Disk.sectors g.D.Disk.reads g.D.Disk.choices g.D.Disk.moment g.D.Disk.images_since first.house.budget (link_of c.args.gateway.now) (link_of c.lines.gateway) (lines_of c.args.input.now) line rest asked c.lines.moment c.lines.count
+    (Puts (w c.args.out.now) (w c.lines.out)) piece (Puts (w c.args.out.now) (w c.run_line.new.out)) first old new here c.in-Some.ensures.found b_is
+    (λ text more wrote put. puts-both (w c.args.out.now) (w c.lines.out) (w c.run_line.new.out) text more wrote put) state before chain at starved)
+    (c.in-Err-run_line.ensures.starved state (before ++ turns)
+    (subst (λ (b : ℕ). IsChain b (opened state) (before ++ turns)) (sym b_is) (went_chain g.D.Disk.honest g.D.Disk.sectors g.D.Disk.reads g.D.Disk.choices g.D.Disk.moment g.D.Disk.images_since first.house.budget state before turns first old ran.lines.went))
+    (went_at g.D.Disk.honest g.D.Disk.sectors g.D.Disk.reads g.D.Disk.choices g.D.Disk.moment g.D.Disk.images_since first.house.budget state before turns first old ran.lines.went))
+
+pub returns-in-Ok-clause-ran : goal.returns-in-Ok-clause-ran
+returns-in-Ok-clause-ran g c state before chain at =
     let so_far = c.lines.invariant.so_far in
     let ran = (so_far.ran state before chain at).lines in
     let w = g.W.Sink.written in
@@ -96,12 +128,12 @@ returns-in_default-clause-ran g c state before chain at =
         done = ran.done;
         went = ran.went;
         text = puts-both (w c.args.out.now) (w c.lines.out) (w c.put_syntax.new.out) (deeds_text ran.deeds) _ ran.text
-            (subst (λ (n : ℕ). Puts (w c.lines.out) (w c.put_syntax.new.out) (codes "LINE" ++ number_word (n + 1) ++ codes " SYNTAX\n")) so_far.count_is c.in_ok-put_syntax.ensures.0);
+            (subst (λ (n : ℕ). Puts (w c.lines.out) (w c.put_syntax.new.out) (codes "LINE" ++ number_word (n + 1) ++ codes " SYNTAX\n")) so_far.count_is c.in-Ok.ensures.0);
       };
     }
 
-pub returns-in_err-put_syntax-clause-cut : goal.returns-in_err-put_syntax-clause-cut
-returns-in_err-put_syntax-clause-cut g c state before chain at =
+pub returns-in-Err-clause-cut : goal.returns-in-Err-clause-cut
+returns-in-Err-clause-cut g c state before chain at =
     let w = g.W.Sink.written in
     let first = c.args.concentrator.now in
     let old = c.lines.concentrator in
@@ -111,10 +143,10 @@ returns-in_err-put_syntax-clause-cut g c state before chain at =
     c.first_line.ensures.lines c.lines.invariant.so_far in
     let ran = here.ran state before chain at in
     let turns = deeds_turns ran.lines.deeds in
-    on_err c.from_residual.result _ (cut_here g.D.Disk.honest g.D.Disk.sectors g.D.Disk.reads g.D.Disk.choices g.D.Disk.moment g.D.Disk.images_since first.house.budget (link_of c.args.gateway.now) (link_of c.lines.gateway) (lines_of c.args.input.now) line rest c.lines.moment c.lines.count (Puts (w c.args.out.now) (w c.lines.out)) [] first old old here state before chain at
+    cut_here g.D.Disk.honest g.D.Disk.sectors g.D.Disk.reads g.D.Disk.choices g.D.Disk.moment g.D.Disk.images_since first.house.budget (link_of c.args.gateway.now) (link_of c.lines.gateway) (lines_of c.args.input.now) line rest c.lines.moment c.lines.count (Puts (w c.args.out.now) (w c.lines.out)) [] first old old here state before chain at
     (inr (c.in_default.ensures.only, refl))
     (went_none g.D.Disk.honest g.D.Disk.sectors g.D.Disk.reads g.D.Disk.choices g.D.Disk.moment g.D.Disk.images_since first.house.budget state (before ++ turns) old (went_chain g.D.Disk.honest g.D.Disk.sectors g.D.Disk.reads g.D.Disk.choices g.D.Disk.moment g.D.Disk.images_since first.house.budget state before turns first old ran.lines.went) (went_at g.D.Disk.honest g.D.Disk.sectors g.D.Disk.reads g.D.Disk.choices g.D.Disk.moment g.D.Disk.images_since first.house.budget state before turns first old ran.lines.went)
-    (λ h image left. g.met.D.Disk.only_now h old.store.disk image left)))
+    (λ h image left. g.met.D.Disk.only_now h old.store.disk image left))
 
 pub returns-clause-ran : goal.returns-clause-ran
 returns-clause-ran g c state before chain at =

@@ -1,0 +1,28 @@
+-- What ends a script before its end (this product).
+use Rattle.std.specs.Prelude.{◌≡◌, ℕ, Result, Ok, Err}
+use Rattle.dc_base.specs.Failures.{HasRisen}
+use Rattle.dc_stream.specs.declared.stream.IoFault.{IoFault}
+use Rattle.dc_poller.specs.declared.halt.Halt.{Halt}
+use Rattle.dc_poller.specs.declared.halt.Halt.TheVariants.{Write, NoMemory}
+
+-- a failed write does
+abbrev pub halted_by : {X : Type 0} → Result X IoFault → Result X Halt
+halted_by (Ok x) = Ok x
+halted_by (Err fault) = Err Write
+
+-- what is said where it ended so or so
+abbrev pub OnWrite : {X : Type 0} → Result X Halt → Type 0 → Type 0
+OnWrite (Ok x) P = Unit {0}
+OnWrite (Err Write) P = P
+OnWrite (Err NoMemory) P = Unit {0}
+
+abbrev pub OnNoMemory : {X : Type 0} → Result X Halt → Type 0 → Type 0
+OnNoMemory (Ok x) P = Unit {0}
+OnNoMemory (Err Write) P = Unit {0}
+OnNoMemory (Err NoMemory) P = P
+
+-- a failed write is counted, and where it went well or memory was refused none is
+abbrev pub IsCounted : {X : Type 0} → Result X Halt → ℕ → ℕ → Type 0
+IsCounted (Ok x) before after = after ≡ before
+IsCounted (Err Write) before after = HasRisen before after
+IsCounted (Err NoMemory) before after = after ≡ before

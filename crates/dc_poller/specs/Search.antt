@@ -1,0 +1,122 @@
+-- A search for meters through the gateway (this product): what waits is committed first, and nothing is selected while a readout of that line waits.
+use Rattle.std.specs.Prelude.{◌≡◌, ◌⊎◌, ℕ, ◌≤◌, IsTrue, Option, None, Some, IfSome, Result, Ok, Err, List, [], ◌∷◌, ◌++◌, codes, flat_map, map}
+use Rattle.dc_address.specs.Digits.{decimal_digits}
+use Rattle.dc_address.specs.Text.{decimal_code, text_of}
+use Rattle.dc_address.specs.declared.identity.Identity.{Identity}
+use Rattle.dc_core.specs.Event.{asks, commits, started, asked, committed}
+use Rattle.dc_core.specs.Text.{answer_text}
+use Rattle.dc_core.specs.Transcript.{Turn}
+use Rattle.dc_core.specs.declared.fault.CommitFault.{CommitFault}
+use Rattle.dc_core.specs.declared.fault.StartFault.TheVariants.{Busy}
+use Rattle.dc_gateway.specs.Bus.{HasHeard, IsSearched}
+use Rattle.dc_search.specs.State.{SearchState, is_idle, step_of}
+use Rattle.dc_search.specs.declared.step.Step.{Step}
+use Rattle.dc_search.specs.declared.step.Step.TheVariants.{Select, Request, Done, Budget}
+use Rattle.dc_text.specs.Words.{number_word}
+use Rattle.dc_poller.specs.declared.halt.Halt.{Halt}
+use Rattle.dc_poller.specs.declared.halt.Halt.TheVariants.{Write, NoMemory}
+use Rattle.dc_poller.specs.Link.{Link, absent, linked, lost, loss_text}
+use Rattle.dc_poller.specs.Poll.{gateway_line}
+
+-- ---- its text
+
+abbrev pub found_line : Identity → List ℕ
+found_line meter = codes "FOUND " ++ text_of meter ++ codes "\n"
+
+-- a number that more than one meter has, in eight digits
+abbrev pub shared_line : ℕ → List ℕ
+shared_line number = codes "SHARED " ++ map decimal_code (decimal_digits 8 number) ++ codes "\n"
+
+-- a selection was due, and the budget was spent
+abbrev pub budget_line : Step → List ℕ
+budget_line (Select mask) = []
+budget_line Request = []
+budget_line Done = []
+budget_line Budget = codes "BUDGET\n"
+
+abbrev pub selections_line : ℕ → List ℕ
+selections_line count = codes "SELECTIONS" ++ number_word count ++ codes "\n"
+
+abbrev pub search_text : SearchState → List ℕ
+search_text search = flat_map found_line search.found ++ (flat_map shared_line search.shared ++ (budget_line (step_of search) ++ selections_line search.selections))
+
+-- ---- what was searched
+
+-- A search that is over, within its budget: it is what the answers that were heard lead to. Where the bus tells its meters, it follows their
+-- walk, and over a lost one that of none.
+pub record IsOver (meters : Option (List Identity)) (budget : ℕ) (link : Link) (search : SearchState) : Type 0 where
+  pub ended : IsTrue (is_idle (step_of search))
+  pub within : search.selections ≤ budget
+  pub heard : HasHeard budget search
+  pub walk : IfSome meters (λ told. IsSearched told budget search)
+  pub nobody : link ≡ lost → IsSearched [] budget search
+
+-- what may become of the gateway meanwhile
+abbrev pub IsLeft : Link → Link → Type 0
+IsLeft absent left = left ≡ absent
+IsLeft linked left = (left ≡ linked) ⊎ (left ≡ lost)
+IsLeft lost left = left ≡ lost
+
+-- ---- its turns and its text
+
+-- the commit is refused
+abbrev pub refused_turns : CommitFault → List Turn
+refused_turns fault = (commits, committed (Err fault)) ∷ []
+
+-- it isn't, and so it is looked whether a request waits
+abbrev pub looked_turns : ℕ → Option (List ℕ) → List Turn
+looked_turns count request = (commits, committed (Ok count)) ∷ (asks gateway_line, asked request) ∷ []
+
+pub record IsRefused (link left : Link) (turns : List Turn) (text : List ℕ) : Type 0 where
+  pub fault : CommitFault
+  pub turns_are : turns ≡ refused_turns fault
+  pub text_is : text ≡ answer_text (committed (Err fault))
+  pub left_is : left ≡ link
+
+-- a readout of the line waits, which a selection would begin anew
+pub record IsBusy (link left : Link) (turns : List Turn) (text : List ℕ) : Type 0 where
+  pub count : ℕ
+  pub request : List ℕ
+  pub turns_are : turns ≡ looked_turns count (Some request)
+  pub text_is : text ≡ answer_text (started (Err Busy))
+  pub left_is : left ≡ link
+
+-- none does: that the gateway was lost is told first
+pub record Finds (meters : Option (List Identity)) (budget : ℕ) (link left : Link) (turns : List Turn) (text : List ℕ) : Type 0 where
+  pub count : ℕ
+  pub search : SearchState
+  pub turns_are : turns ≡ looked_turns count None
+  pub over : IsOver meters budget link search
+  pub text_is : text ≡ loss_text link left ++ search_text search
+  pub left_is : IsLeft link left
+
+-- A SEARCH, over a bus that tells these meters or none.
+abbrev pub Searches : Option (List Identity) → ℕ → Link → Link → List Turn → List ℕ → Type 0
+Searches meters budget link left turns text = IsRefused link left turns text ⊎ (IsBusy link left turns text ⊎ Finds meters budget link left turns text)
+
+-- ---- where it ends the script
+
+-- A write failed: all its turns are done, as it writes behind them.
+abbrev pub SearchesPart : List Turn → Type 0
+SearchesPart turns = ((fault : CommitFault) × (turns ≡ refused_turns fault)) ⊎ ((count : ℕ) × (request : Option (List ℕ)) × (turns ≡ looked_turns count request))
+
+-- Memory was refused to it: nothing that it found is told.
+pub record Starves (link left : Link) (turns : List Turn) (text : List ℕ) : Type 0 where
+  pub count : ℕ
+  pub turns_are : turns ≡ looked_turns count None
+  pub text_is : text ≡ loss_text link left
+  pub left_is : IsLeft link left
+
+-- ---- what a call of it comes to
+
+-- over the bus, which is left like that
+abbrev pub Talked : Option (List Identity) → ℕ → Link → Link → (List ℕ → Type 0) → Result (Unit {0}) Halt → Type 0
+Talked meters budget link left wrote (Ok done) = (search : SearchState) × IsOver meters budget link search × IsLeft link left × wrote (loss_text link left ++ search_text search)
+Talked meters budget link left wrote (Err Write) = Unit {0}
+Talked meters budget link left wrote (Err NoMemory) = IsLeft link left × wrote (loss_text link left)
+
+-- with its turns
+abbrev pub Comes : Option (List Identity) → ℕ → Link → Link → (List ℕ → Type 0) → Result (Unit {0}) Halt → List Turn → Type 0
+Comes meters budget link left wrote (Ok done) turns = (text : List ℕ) × Searches meters budget link left turns text × wrote text
+Comes meters budget link left wrote (Err Write) turns = SearchesPart turns
+Comes meters budget link left wrote (Err NoMemory) turns = (text : List ℕ) × Starves link left turns text × wrote text

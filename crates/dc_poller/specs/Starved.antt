@@ -1,0 +1,56 @@
+-- A script that ended at a search to which memory was refused (this product).
+use Rattle.std.specs.Prelude.{◌≡◌, ℕ, List, [], ◌∷◌, ◌++◌, Option, IfSome}
+use Rattle.dc_changes.specs.State.{State}
+use Rattle.dc_core.specs.Images.{Machine}
+use Rattle.dc_core.specs.Transcript.{Turn}
+use Rattle.dc_sectors.specs.Disk.{Image, Choices}
+use Rattle.dc_poller.specs.ImageRun.{IsOpened}
+use Rattle.dc_teller.specs.Lines.{lines_of}
+use Rattle.dc_poller.specs.Link.{Link}
+use Rattle.dc_poller.specs.Poll.{gateway_line}
+use Rattle.dc_poller.specs.Script.{AskFor, AreDone, Deed, IsThrough, deeds_text, deeds_turns, link_after}
+use Rattle.dc_poller.specs.ScriptLine.{LineSeen, search, IsLineOf}
+use Rattle.dc_poller.specs.Search.{Starves}
+use Rattle.dc_poller.specs.Went.{Went}
+
+-- the line is a search through the gateway, of which this was done
+pub record SearchStarves (asked : LineSeen) (link : Link) (deed : Deed) : Type 0 where
+  pub budget : ℕ
+  pub asked_is : asked ≡ search budget
+  pub through : IsThrough link gateway_line
+  pub starves : Starves link deed.left deed.turns deed.text
+
+-- it is the first of these lines
+abbrev pub StarvesAt : Link → List (List ℕ) → Deed → Type 0
+StarvesAt link [] deed = ⊥
+StarvesAt link (line ∷ rest) deed = (asked : LineSeen) × IsLineOf line asked × SearchStarves asked link deed
+
+-- The lines before it are done, and what was written is their text and what it told.
+pub record ScriptStarved {D : Type 0} (honest : Type 0) (sectors : D → ℕ) (reads : D → Image) (choices : D → Choices) (moment : D → ℕ) (images_since : D → ℕ → Image → Type 0) (budget : ℕ) (state : State) (before : List Turn) (link : Link) (lines : List (List ℕ)) (wrote : List ℕ → Type 0) (first new : Machine D) : Type 0 where
+  pub asked : List LineSeen
+  pub rest : List (List ℕ)
+  pub are_read : AskFor lines asked rest
+  pub deeds : List Deed
+  pub done : AreDone 0 link asked deeds
+  pub last : Deed
+  pub starves : StarvesAt (link_after link deeds) rest last
+  pub went : Went honest sectors reads choices moment images_since budget state before (deeds_turns deeds ++ last.turns) first new
+  pub text : wrote (deeds_text deeds ++ last.text)
+
+-- one line, with what it wrote
+pub record LineStarved {D : Type 0} (honest : Type 0) (sectors : D → ℕ) (reads : D → Image) (choices : D → Choices) (moment : D → ℕ) (images_since : D → ℕ → Image → Type 0) (budget : ℕ) (state : State) (before : List Turn) (asked : LineSeen) (link : Link) (wrote : List ℕ → Type 0) (first new : Machine D) : Type 0 where
+  pub last : Deed
+  pub starves : SearchStarves asked link last
+  pub went : Went honest sectors reads choices moment images_since budget state before last.turns first new
+  pub text : wrote last.text
+
+-- A run from the disk to the disk that ended so.
+pub record ImageStarved {D : Type 0} (honest : Type 0) (sectors : D → ℕ) (reads : D → Image) (choices : D → Choices) (moment : D → ℕ) (images_since : D → ℕ → Image → Type 0) (link : Link) (left : Option (List ℕ)) (wrote : List ℕ → Type 0) (disk new : D) : Type 0 where
+  pub input : List ℕ
+  pub input_is : IfSome left (λ known. input ≡ known)
+  pub state : State
+  pub first : Machine D
+  pub last : Machine D
+  pub opening : IsOpened honest sectors reads choices moment images_since disk state first
+  pub script : ScriptStarved honest sectors reads choices moment images_since first.house.budget state [] link (lines_of input) wrote first last
+  pub disk_is : new ≡ last.store.disk
