@@ -1,8 +1,8 @@
 //! The concentrator: a store, the register that it keeps, what waits for a commit, and the lines.
 
-ghost use Rattle.std.specs.Prelude.{◌≡◌, ◌≤◌, ◌<◌, ℕ, Err, OnOk, IfOk, IfErr, IfSome, MatchResult, false, length};
+ghost use Rattle.std.specs.Prelude.{◌≡◌, ◌≢◌, ◌≤◌, ◌<◌, ℕ, Err, OnOk, IfOk, IfErr, IfSome, MatchResult, false, length};
 ghost use Rattle.dc_base.specs.Failures.{HasRisen};
-ghost use Rattle.dc_sectors.specs.Disk.{Image, IsImage, LeavesOnly};
+ghost use Rattle.dc_sectors.specs.Disk.{Image, IsImage, LeavesOnly, settled};
 ghost use Rattle.dc_changes.specs.State.{State};
 ghost use Rattle.dc_recovery.specs.Halves.{budget_of, half_len_of, fewest_sectors};
 ghost use Rattle.dc_recovery.specs.Stands.{EachStands, Reads, Stands, StandsForOne};
@@ -60,9 +60,15 @@ impl<D: Disk + Drop, A: Allocator + Copy> Concentrator<D, A> {
         // Ok gives exactly the state that the image reads as, and a refusal is a fact of the image.
         ensures reads { D.honest → IfOk result (λ c. Reads (half_len_of (D.sectors disk)) c.house.state (D.reads disk)) }
         ensures refused { D.honest → fewest_sectors ≤ D.sectors disk → IfErr result (λ e. IsRefused (half_len_of (D.sectors disk)) (D.reads disk) e.0) }
-        ensures unwritten { D.honest → IfErr result (λ e. TellsOfImage e.0 → D.reads e.1 ≡ D.reads disk) }
+
+        // Unless the device failed, a refusal wrote nothing: the disk reads as before, and so does each image of every moment.
+        ensures unwritten { D.honest → IfErr result (λ e. e.0 ≢ Device → D.reads e.1 ≡ D.reads disk) }
+        ensures spares_images { D.honest → IfErr result (λ e. e.0 ≢ Device → LeavesOnly D.moment D.images_since disk e.1 (IsImage (D.choices disk))) }
         ensures not_worn { D.honest → OnOk result (IsWorn (half_len_of (D.sectors disk)) (D.reads disk) → ⊥) }
         ensures device { IfErr result (λ e. e.0 ≡ Device → HasRisen (D.failures disk) (D.failures e.1)) }
+        ensures passed { IfErr result (λ e. e.0 ≢ Device → D.failures e.1 ≡ D.failures disk) }
+        ensures failures { MatchResult result (λ c. D.failures disk ≤ D.failures c.store.disk) (λ e. D.failures disk ≤ D.failures e.1) }
+        ensures durable { D.honest → IfOk result (λ c. D.choices c.store.disk ≡ settled (D.reads c.store.disk)) }
 
         // Where each image stands for some state, the concentrator is in the opened state, and a stop leaves an image that
         // stands for a state that one of them stood for.
@@ -73,7 +79,8 @@ impl<D: Disk + Drop, A: Allocator + Copy> Concentrator<D, A> {
             (λ e. LeavesOnly D.moment D.images_since disk e.1 (StandsForOne (half_len_of (D.sectors disk)) (D.choices disk))) }
         ensures premise { D.honest → fewest_sectors ≤ D.sectors disk → EachStands (half_len_of (D.sectors disk)) (D.choices disk)
             → IfErr result (λ e. TellsOfImage e.0 → e.0 ≡ Worn) }
-        ensures count { IfOk result (λ c. D.sectors c.store.disk ≡ D.sectors disk) }
+        ensures count { MatchResult result (λ c. D.sectors c.store.disk ≡ D.sectors disk) (λ e. D.sectors e.1 ≡ D.sectors disk) }
+        ensures running { IfOk result (λ c. c.store.is_stopped ≡ false) }
         ensures budget { IfOk result (λ c. c.house.budget ≡ budget_of (half_len_of (D.sectors disk))) }
     {
         let (store, house) = Store::open(alloc, disk)?;

@@ -48,3 +48,10 @@ flat,meter,serial,storage,function,tariff,subunit,value,unit\n\
 The image is opened as by run, so its next session is written.\n\
 Faults: mbdc: open: 1 NotImage, 2 Damaged sector, 3 Version, 4 Worn, 5 Device, 6 NoMemory; mbdc: file: IMAGE where the\n  \
 file can't be opened or is open in another mbdc; mbdc: memory";
+
+/// Of `demo`.
+pub const DEMO: &str =
+    "Nothing is left behind: the image is in memory, and the gateway is a socket of this process to itself on 127.0.0.1.\n\
+Printed is what run prints: a meter is fitted and read out, each part committed before the next is asked for, and the\n  \
+value at its due date reported.\n\
+Faults: mbdc: gateway where no such socket is given; mbdc: memory";

@@ -2,6 +2,7 @@
 //! line on standard error. What a command does is a call of `dc_teller` or `dc_poller`.
 #![tactic(auto)]
 
+mod demo;
 mod ending;
 mod format;
 mod gateway;

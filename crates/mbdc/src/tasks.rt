@@ -1,5 +1,6 @@
 //! What each command does: an engine of `dc_teller` or `dc_poller` between the ends that the words name.
 
+use crate::demo;
 use crate::format::format_image;
 use crate::report::report_on_image;
 use crate::script::run_on_image;
@@ -12,7 +13,7 @@ use dc_text::Buffered;
 use std::alloc::Allocator;
 use std::fs::File;
 use std::io::Write;
-use std::net::{Net, TcpStream};
+use std::net::{Net, TcpListener, TcpStream};
 use std::rt::Files;
 use std::{fs, io};
 
@@ -22,7 +23,11 @@ pub const ROOM: usize = 65_536;
 /// Does what the words ask for.
 pub fn run<'a, R>(rt: &R, task: Task<'a>) -> Ending<'a>
 where
-    R: Files<File = File> + Net<Stream = TcpStream> + Input + Print + AllocGlobal,
+    R: Files<File = File>
+        + Net<Stream = TcpStream, Listener = TcpListener>
+        + Input
+        + Print
+        + AllocGlobal,
 {
     match task {
         Task::Lines {
@@ -39,6 +44,7 @@ where
             gateway,
         } => run_on_image(rt, image, script, gateway),
         Task::Report { image, table } => report_on_image(rt, image, table),
+        Task::Demo => demo::play(rt),
     }
 }
 

@@ -47,6 +47,8 @@ pub enum Task<'a> {
         /// The word for the table.
         table: &'a str,
     },
+    /// A house of one simulated meter, in memory.
+    Demo,
 }
 
 fn decode_command<'a>(alloc: Global) -> Result<Command<'a>, AllocError> {
@@ -117,6 +119,13 @@ fn report_command<'a>(alloc: Global) -> Result<Command<'a>, AllocError> {
         .arg(table)
 }
 
+fn demo_command<'a>(alloc: Global) -> Result<Command<'a>, AllocError> {
+    let command = Command::new(alloc, "demo")
+        .about("Reads a simulated meter through a gateway in this process, and reports its value")
+        .after_help(help::DEMO);
+    Ok(command)
+}
+
 /// The task that the words name. The first word is the program's name.
 pub fn task_of<'a>(alloc: Global, words: &'a [String]) -> Result<Task<'a>, Error> {
     let command = Command::new(alloc, "mbdc")
@@ -129,7 +138,8 @@ pub fn task_of<'a>(alloc: Global, words: &'a [String]) -> Result<Task<'a>, Error
         .subcommand(fold_command(alloc)?)?
         .subcommand(format_command(alloc)?)?
         .subcommand(run_command(alloc)?)?
-        .subcommand(report_command(alloc)?)?;
+        .subcommand(report_command(alloc)?)?
+        .subcommand(demo_command(alloc)?)?;
     let matches = command.try_get_matches_from(words)?;
     match matches.subcommand() {
         Some(("format", inner)) => Ok(Task::Format {
@@ -145,6 +155,7 @@ pub fn task_of<'a>(alloc: Global, words: &'a [String]) -> Result<Task<'a>, Error
             image: inner.get_str("IMAGE").unwrap_or_default(),
             table: inner.get_str("TABLE").unwrap_or_default(),
         }),
+        Some(("demo", _)) => Ok(Task::Demo),
         Some(("fold", inner)) => Ok(Task::Lines {
             engine: Engine::Fold,
             file: inner.get_str("FILE"),

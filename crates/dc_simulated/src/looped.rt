@@ -1,0 +1,63 @@
+//! A stream whose gateway is served by the one who reads it: both ends in one thread.
+
+ghost use Rattle.std.specs.Prelude.{◌≡◌, ◌≤◌, None, IfOk, length};
+
+use crate::line::SimulatedBus;
+use crate::serving::serve;
+use dc_base::one_failure_more;
+use dc_stream::{IoFault, Sink, Source};
+use std::alloc::Allocator;
+
+/// What is read from a gateway that waits for its turn. Where nothing is left of an answer, the request that was sent
+/// meanwhile is taken at the gateway's end and answered there, and then the answer is read.
+#[derive(Drop)]
+pub struct Looped<S: Source + Drop, R: Source + Drop, W: Sink + Drop, A: Allocator> {
+    answers: S,
+    requests: R,
+    replies: W,
+    bus: SimulatedBus<A>,
+    left: usize,
+    failures: u64,
+}
+
+impl<S: Source + Drop, R: Source + Drop, W: Sink + Drop, A: Allocator> Looped<S, R, W, A> {
+    /// Reads from `answers` what the bus replies to `requests` through `replies`.
+    pub fn new(answers: S, requests: R, replies: W, bus: SimulatedBus<A>) -> Self {
+        Looped {
+            answers,
+            requests,
+            replies,
+            bus,
+            left: 0,
+            failures: 0,
+        }
+    }
+
+    // Some bytes of an answer.
+    fn read(&mut self, room: &mut [u8]) -> Result<usize, IoFault>
+        ensures count { IfOk result (λ n. n ≤ length room.old) }
+        ensures failures { self.new.failures ≡ self.old.failures }
+    {
+        if self.left == 0 {
+            self.left = serve(&mut self.requests, &mut self.replies, &mut self.bus)?;
+        }
+        let count = self.answers.take(room)?;
+        self.left = self.left.saturating_sub(count);
+        Ok(count)
+    }
+}
+
+impl<S: Source + Drop, R: Source + Drop, W: Sink + Drop, A: Allocator> Source
+    for Looped<S, R, W, A> {
+    ghost left = { λ _. None };
+
+    ghost take_failures = { λ s. s.failures };
+
+    fn take(&mut self, room: &mut [u8]) -> Result<usize, IoFault> {
+        let taken = self.read(room);
+        if taken.is_err() {
+            self.failures = one_failure_more(self.failures);
+        }
+        taken
+    }
+}

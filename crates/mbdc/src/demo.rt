@@ -1,0 +1,104 @@
+//! The command `demo`: a gateway, a meter and the concentrator in one process, over a loopback socket to itself.
+
+use crate::tasks::{ROOM, flushed};
+use dc_address::{Identity, Primary};
+use dc_base::NoMemory;
+use dc_ending::{Ending, STREAM, ending_of};
+use dc_lives::{Bodies, Body, MeterScript};
+use dc_poller::{ProgramFault, run_script};
+use dc_recovery::Store;
+use dc_sectors::MemoryDisk;
+use dc_simulated::{Looped, SimulatedBus, SimulatedMeter};
+use dc_stream::{Bytes, ReadSource, WriteSink};
+use dc_text::Buffered;
+use std::alloc::Global;
+use std::io;
+use std::net::{Net, TcpListener, TcpStream};
+
+// A port that the system chooses, on this machine alone.
+const LOOPBACK: &str = "127.0.0.1:0";
+
+// The sectors of the disk in memory: the fewest.
+const SECTORS: u32 = 131;
+
+// The meter is fitted, read out, and its value at the due date reported.
+const SCRIPT: &[u8] = b"AT 1735689600
+OFFICE 1 FIT 12345678.PAD.01.07 1 1 A1
+POLL 1 12345678.PAD.01.07
+OFFICE REPORT 2024-12-31
+";
+
+// The bodies of its two telegrams: a volume; a date and the volume at that date.
+const FIRST: &[u8] = b"\x78\x56\x34\x12\x24\x40\x01\x07\x01\0\0\0\x0C\x13\x78\x56\x34\x12\x1F";
+
+const LAST: &[u8] =
+    b"\x78\x56\x34\x12\x24\x40\x01\x07\x02\0\0\0\x42\x6C\x1F\x3C\x4C\x13\x00\x50\x34\x12";
+
+// The stream that the concentrator reads, whose gateway is served on the way, and the one that it writes.
+type Ends = (
+    Looped<ReadSource<TcpStream>, ReadSource<TcpStream>, WriteSink<TcpStream>, Global>,
+    WriteSink<TcpStream>,
+);
+
+/// Plays the demo, and prints what `run` prints of its script.
+pub fn play<R>(rt: &R) -> Ending<'static>
+where
+    R: Net<Stream = TcpStream, Listener = TcpListener> + Print + AllocGlobal,
+{
+    let Ok(bus) = one_meter(rt.alloc()) else {
+        return Ending::Memory;
+    };
+    let Ok(ends) = join(rt, bus) else {
+        return Ending::Gateway;
+    };
+    let Ok(disk) = MemoryDisk::new(rt.alloc(), SECTORS) else {
+        return Ending::Memory;
+    };
+    match Store::format(disk) {
+        Ok(disk) => ending_of(work(rt, disk, ends), STREAM),
+        Err((fault, _)) => Ending::Format(fault),
+    }
+}
+
+// A bus with the meter of the script on it.
+fn one_meter(alloc: Global) -> Result<SimulatedBus<Global>, NoMemory> {
+    let mut bodies = Bodies::new(alloc);
+    bodies.push(Body::copied(alloc, FIRST)?)?;
+    bodies.push(Body::copied(alloc, LAST)?)?;
+    let mut bus = SimulatedBus::new(alloc);
+    if let Ok(identity) = Identity::parse_text(b"12345678.PAD.01.07") {
+        bus.add(SimulatedMeter::new(MeterScript {
+            identity,
+            address: Primary::new(1),
+            bodies,
+        }))?;
+    }
+    Ok(bus)
+}
+
+// A socket to this process itself. Each end has a handle to read and one to write.
+fn join<R>(rt: &R, bus: SimulatedBus<Global>) -> io::Result<Ends>
+where
+    R: Net<Stream = TcpStream, Listener = TcpListener>,
+{
+    let listener = TcpListener::bind(rt, LOOPBACK)?;
+    let own = TcpStream::connect(rt, listener.local_addr()?)?;
+    let (far, _) = listener.accept()?;
+    let requests = ReadSource::new(far.try_clone()?);
+    let answers = ReadSource::new(own.try_clone()?);
+    let reader = Looped::new(answers, requests, WriteSink::new(far), bus);
+    Ok((reader, WriteSink::new(own)))
+}
+
+fn work<R: Print + AllocGlobal>(
+    rt: &R,
+    disk: MemoryDisk<Global>,
+    ends: Ends,
+) -> Result<bool, ProgramFault> {
+    let mut reader = Bytes::from_slice(rt.alloc(), SCRIPT)?;
+    let mut writer = Buffered::new(rt.alloc(), ROOM, WriteSink::new(io::writer(rt)))?;
+    let (_, outcome) = run_script(rt.alloc(), disk, &mut reader, &mut writer, Some(ends));
+    let faulty = outcome?;
+    flushed(writer)?;
+    Ok(faulty)
+}
