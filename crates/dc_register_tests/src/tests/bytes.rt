@@ -214,6 +214,7 @@ fn a_house_has_its_bytes(rt: HostRuntime) -> Result<(), Fail> {
 fn the_empty_state_is_read(rt: HostRuntime) -> Result<(), Fail> {
     let house = decoded(rt.alloc(), EMPTY, 153)?;
     assert_eq!(rt; figures(&house), (153, 0, 1, 0, 0));
+    assert_eq!(rt; house.budget(), 153);
     Ok(())
 }
 

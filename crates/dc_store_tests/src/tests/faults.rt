@@ -41,6 +41,7 @@ fn a_failure_stops_the_store_until_it_is_opened(rt: HostRuntime) -> Result<(), F
     is_refused(&rt, heap, &mut life, FIT, StoreFault::Device)?;
     is_refused(&rt, heap, &mut life, b"2 CONFIRM 0", StoreFault::Stopped)?;
     assert_eq!(rt; compact(&rt, &mut life), Err(StoreFault::Stopped));
+    assert!(rt; life.store.is_stopped());
     goes_on(&rt, heap, closed(life))
 }
 
