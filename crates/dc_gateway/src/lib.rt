@@ -5,8 +5,8 @@
 //! byte behind that one, and returns for every reader and writer. [`Gateway`] is both ends: once an exchange is lost
 //! it is silent, and touches neither of them.
 //!
-//! A [`Bus`] is whatever meters are asked over, and [`search_over`] searches one; a [`Gateway`] is a bus that tells no
-//! meters, a [`ListedBus`] one that does.
+//! A [`Bus`] is whatever meters are asked over, and [`search_over`] searches one, a lost one in silence; a [`Gateway`]
+//! is a bus that tells no meters, a [`ListedBus`] one that does.
 //!
 //! Nothing here waits but for its ends, and an exchange takes no memory.
 #![tactic(auto)]

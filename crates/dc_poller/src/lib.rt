@@ -1,9 +1,9 @@
 //! The engines of the program `mbdc` that work on an image, over any source and any sink of bytes.
 //!
 //! [`run_script`] reads the lines of a script ([`ScriptLine`]), opens an image and does what they ask for: a line is one
-//! event of a concentrator, or the poll of a meter through a gateway. What it writes, and what it leaves of the image at
-//! every moment, is what the run of these events writes and leaves (`specs/Script.antt`, `specs/Poll.antt`,
-//! `specs/ImageRun.antt`).
+//! event of a concentrator, the poll of a meter through a gateway, or a search for meters through it. What it writes, and
+//! what it leaves of the image at every moment, is what the run of these events writes and leaves (`specs/Script.antt`,
+//! `specs/Poll.antt`, `specs/Search.antt`, `specs/ImageRun.antt`).
 //!
 //! [`report_on`] opens an image and writes a table of what it holds ([`Report`]), made whole before it is written.
 //!

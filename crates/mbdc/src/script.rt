@@ -54,7 +54,10 @@ fn work<F: Read + Drop, D: FileExt + OpenFile + Drop, R: Print + AllocGlobal>(
     let mut reader = ReadSource::new(lines);
     let mut writer = Buffered::new(rt.alloc(), ROOM, WriteSink::new(io::writer(rt)))?;
     let (_, outcome) = run_script(rt.alloc(), disk, &mut reader, &mut writer, gateway);
-    let faulty = outcome?;
+    if matches!(outcome, Err(ProgramFault::Write)) {
+        return outcome;
+    }
+    // What is written stands, also where memory was refused to a search.
     flushed(writer)?;
-    Ok(faulty)
+    outcome
 }
