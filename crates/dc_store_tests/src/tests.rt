@@ -2,6 +2,7 @@
 
 mod bytes;
 mod faults;
+mod files;
 mod images;
 mod leftovers;
 mod life;

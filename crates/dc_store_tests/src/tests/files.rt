@@ -1,0 +1,79 @@
+//! The store over a file: formatted once, written, compacted and opened again.
+
+use dc_changes::{Change, encode_change};
+use dc_meters::House;
+use dc_recovery::{FormatFault, Store};
+use dc_sectors::FileDisk;
+use dc_stream::Bytes;
+use std::alloc::Global;
+use std::fs::File;
+use std::process::Abort;
+use std::test::Fail;
+use std::{env, fs};
+
+/// A store over a file, and the house beside it.
+#[derive(Drop)]
+struct OnFile {
+    store: Store<FileDisk<File>>,
+    house: House<Global>,
+}
+
+fn format(rt: &HostRuntime, path: &str) -> Result<Result<(), FormatFault>, Fail> {
+    match Store::format(FileDisk::open(rt, path)?) {
+        Ok(_) => Ok(Ok(())),
+        Err((fault, _)) => Ok(Err(fault)),
+    }
+}
+
+fn opened(rt: &HostRuntime, path: &str) -> Result<OnFile, Fail> {
+    match Store::open(rt.alloc(), FileDisk::open(rt, path)?) {
+        Ok((store, house)) => Ok(OnFile { store, house }),
+        Err((fault, _)) => Err(Fail::from(fault)),
+    }
+}
+
+// Accepts `1 CONFIRM 0` and writes it as a group.
+fn confirm(rt: &impl Abort, heap: Global, life: &mut OnFile) -> Result<(), Fail> {
+    let mut room = [0; 2048];
+    let change = Change::parse_line(b"1 CONFIRM 0", &mut room).ok_or("no change")?;
+    assert!(rt; life.house.is_next(&change));
+    assert!(rt; life.house.check(&change).is_ok());
+    life.house.apply(&change)?;
+    let mut bytes = Bytes::new(heap);
+    encode_change(&change, &mut bytes)?;
+    assert!(rt; !bytes.as_slice().is_empty());
+    assert!(rt; life.store.fits(bytes.as_slice().len()));
+    assert_eq!(rt; life.store.append(bytes.as_slice()), Ok(()));
+    Ok(())
+}
+
+fn compact(rt: &impl Abort, life: &mut OnFile) {
+    assert!(rt; life.house.budget() <= life.store.budget());
+    assert_eq!(rt; life.store.compact(&life.house), Ok(()));
+}
+
+fn write(rt: &HostRuntime, path: &str) -> Result<(), Fail> {
+    let mut life = opened(rt, path)?;
+    confirm(rt, rt.alloc(), &mut life)?;
+    compact(rt, &mut life);
+    Ok(())
+}
+
+fn last_number(rt: &HostRuntime, path: &str) -> Result<u64, Fail> {
+    Ok(opened(rt, path)?.house.last_number())
+}
+
+#[test]
+fn a_file_keeps_what_a_store_wrote(rt: HostRuntime) -> Result<(), Fail> {
+    let folder = env::temp_dir(&rt)?;
+    let folder = folder.as_str();
+    let id = std::process::id(rt.process());
+    let path = format!(in rt.alloc(); "{folder}/dc_store_tests_{id}")?;
+    let path = path.as_str();
+    File::create(&rt, path)?.set_len(131 * 512)?;
+    assert_eq!(rt; format(&rt, path)?, Ok(()));
+    assert_eq!(rt; format(&rt, path)?, Err(FormatFault::AlreadyFormatted));
+    write(&rt, path)?;
+    assert_eq!(rt; last_number(&rt, path)?, 1);
+    Ok(fs::remove_file(&rt, path)?)
+}
