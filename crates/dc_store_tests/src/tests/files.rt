@@ -52,9 +52,8 @@ fn compact(rt: &impl Abort, life: &mut OnFile) {
     assert_eq!(rt; life.store.compact(&life.house), Ok(()));
 }
 
-fn write(rt: &HostRuntime, path: &str) -> Result<(), Fail> {
-    let mut life = opened(rt, path)?;
-    confirm(rt, rt.alloc(), &mut life)?;
+fn write(rt: &impl Abort, heap: Global, mut life: OnFile) -> Result<(), Fail> {
+    confirm(rt, heap, &mut life)?;
     compact(rt, &mut life);
     Ok(())
 }
@@ -73,7 +72,7 @@ fn a_file_keeps_what_a_store_wrote(rt: HostRuntime) -> Result<(), Fail> {
     File::create(&rt, path)?.set_len(131 * 512)?;
     assert_eq!(rt; format(&rt, path)?, Ok(()));
     assert_eq!(rt; format(&rt, path)?, Err(FormatFault::AlreadyFormatted));
-    write(&rt, path)?;
+    write(&rt, rt.alloc(), opened(&rt, path)?)?;
     assert_eq!(rt; last_number(&rt, path)?, 1);
     Ok(fs::remove_file(&rt, path)?)
 }
