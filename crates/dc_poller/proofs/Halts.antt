@@ -1,9 +1,8 @@
 -- What ends a script, by what a put gave.
-use Rattle.std.proofs.Common.{◌≡◌, ℕ, Result, Ok, Err, subst, sym}
+use Rattle.std.proofs.Common.{◌≡◌, Result, Ok, Err, subst, sym}
 use Rattle.std.specs.Prelude.{OnOk, OnErr}
-use Rattle.dc_base.specs.Failures.{HasRisen}
 use Rattle.dc_stream.specs.declared.stream.IoFault.{IoFault}
-use Rattle.dc_poller.specs.Halt.{IsCounted, OnNoMemory, OnWrite, halted_by}
+use Rattle.dc_poller.specs.Halt.{OnNoMemory, OnWrite, halted_by}
 use Rattle.dc_poller.specs.declared.halt.Halt.{Halt}
 use Rattle.dc_poller.specs.declared.halt.Halt.TheVariants.{Write, NoMemory}
 
@@ -20,21 +19,6 @@ write_by (Err fault) P p = p
 
 pub halted_write : {X : Type 0} (put : Result X IoFault) (r : Result X Halt) (P : Type 0) → r ≡ halted_by put → OnErr put P → OnWrite r P
 halted_write put r P is p = subst (λ (x : Result _ Halt). OnWrite x P) (sym is) (write_by put P p)
-
-memory_by : {X : Type 0} (put : Result X IoFault) (P : Type 0) → OnNoMemory (halted_by put) P
-memory_by (Ok x) P = tt
-memory_by (Err fault) P = tt
-
--- memory isn't refused to a put
-pub halted_memory : {X : Type 0} (put : Result X IoFault) (r : Result X Halt) (P : Type 0) → r ≡ halted_by put → OnNoMemory r P
-halted_memory put r P is = subst (λ (x : Result _ Halt). OnNoMemory x P) (sym is) (memory_by put P)
-
-counted_by : {X : Type 0} (put : Result X IoFault) (before after : ℕ) → OnOk put (after ≡ before) → OnErr put (HasRisen before after) → IsCounted (halted_by put) before after
-counted_by (Ok x) before after well risen = well
-counted_by (Err fault) before after well risen = risen
-
-pub halted_counted : {X : Type 0} (put : Result X IoFault) (r : Result X Halt) (before after : ℕ) → r ≡ halted_by put → OnOk put (after ≡ before) → OnErr put (HasRisen before after) → IsCounted r before after
-halted_counted put r before after is well risen = subst (λ (x : Result _ Halt). IsCounted x before after) (sym is) (counted_by put before after well risen)
 
 -- ---- what is said of a halt
 

@@ -1,10 +1,10 @@
 -- A search, by the calls that it makes.
-use Rattle.std.proofs.Common.{◌≡◌, ◌⊎◌, inl, inr, ℕ, Bool, true, false, Result, Ok, Err, Option, None, Some, List, [], ◌∷◌, ◌++◌, refl, ap, sym, subst, ◌∙◌}
-use Rattle.std.specs.Prelude.{OnOk, OnErr}
+use Rattle.std.proofs.Common.{◌≡◌, ◌⊎◌, inl, inr, ℕ, Result, Ok, Err, Option, None, Some, List, [], ◌∷◌, ◌++◌, refl, ap, sym, subst, ◌∙◌}
+use Rattle.std.specs.Prelude.{OnOk}
 use Rattle.dc_address.specs.declared.identity.Identity.{Identity}
 use Rattle.dc_changes.specs.State.{State}
 use Rattle.dc_core.specs.Core.{opened}
-use Rattle.dc_core.specs.Event.{Answer, Event, asks, commits, started, asked, committed}
+use Rattle.dc_core.specs.Event.{Answer, asks, commits, started, asked, committed}
 use Rattle.dc_core.specs.Images.{Machine, IsAt}
 use Rattle.dc_core.specs.Text.{answer_text}
 use Rattle.dc_core.specs.Transcript.{Turn, leads, IsChain}
@@ -13,11 +13,11 @@ use Rattle.dc_core.specs.declared.fault.StartFault.TheVariants.{Busy}
 use Rattle.dc_sectors.specs.Disk.{Image, Choices}
 use Rattle.dc_stream.specs.declared.stream.IoFault.{IoFault}
 use Rattle.dc_poller.specs.Halt.{OnNoMemory, OnWrite, halted_by}
-use Rattle.dc_poller.specs.Link.{Link, lost, linked, link_by}
+use Rattle.dc_poller.specs.Link.{Link}
 use Rattle.dc_poller.specs.Poll.{gateway_line}
-use Rattle.dc_poller.specs.Script.{Does, DoesPart, IsThrough, LineRan, LineCut}
+use Rattle.dc_poller.specs.Script.{IsThrough, LineRan, LineCut}
 use Rattle.dc_poller.specs.ScriptLine.{search}
-use Rattle.dc_poller.specs.Search.{Comes, IsLeft, Searches, SearchesPart, Talked, looked_turns, refused_turns}
+use Rattle.dc_poller.specs.Search.{Comes, Talked, looked_turns}
 use Rattle.dc_poller.specs.Starved.{LineStarved}
 use Rattle.dc_poller.specs.Went.{TurnWent, TurnsWent, Went}
 use Rattle.dc_poller.specs.declared.halt.Halt.{Halt}
@@ -25,12 +25,6 @@ use Rattle.dc_poller.specs.declared.halt.Halt.TheVariants.{Write, NoMemory}
 use Rattle.dc_poller.proofs.Wents.{went_both, went_chain, went_at}
 
 -- ---- what a call comes to, with its turns
-
-refused_comes : (meters : Option (List Identity)) (budget : ℕ) (link : Link) (wrote : List ℕ → Type 0) (put : Result (Unit {0}) IoFault) (fault : CommitFault)
-    → OnOk put (wrote (answer_text (committed (Err fault)))) → Comes meters budget link link wrote (halted_by put) (refused_turns fault)
-refused_comes meters budget link wrote (Ok done) fault text =
-    (answer_text (committed (Err fault)), inl (record { fault = fault; turns_are = refl; text_is = refl; left_is = refl }), text)
-refused_comes meters budget link wrote (Err broken) fault text = inl (fault, refl)
 
 busy_comes : (meters : Option (List Identity)) (budget : ℕ) (link : Link) (wrote : List ℕ → Type 0) (put : Result (Unit {0}) IoFault) (count : ℕ) (request : List ℕ)
     → OnOk put (wrote (answer_text (started (Err Busy)))) → Comes meters budget link link wrote (halted_by put) (looked_turns count (Some request))
@@ -45,35 +39,12 @@ talked_comes meters budget link left wrote (Ok done) count (s, over, left_is, te
 talked_comes meters budget link left wrote (Err Write) count so = inr (count, None, refl)
 talked_comes meters budget link left wrote (Err NoMemory) count so = (_, record { count = count; turns_are = refl; text_is = refl; left_is = so.0 }, so.1)
 
-pub refused_halts : (meters : Option (List Identity)) (budget : ℕ) (link : Link) (wrote : List ℕ → Type 0) (put : Result (Unit {0}) IoFault) (r : Result (Unit {0}) Halt) (fault : CommitFault)
-    → r ≡ halted_by put → OnOk put (wrote (answer_text (committed (Err fault)))) → Comes meters budget link link wrote r (refused_turns fault)
-refused_halts meters budget link wrote put r fault is text =
-    subst (λ (x : Result (Unit {0}) Halt). Comes meters budget link link wrote x (refused_turns fault)) (sym is) (refused_comes meters budget link wrote put fault text)
-
 pub busy_halts : (meters : Option (List Identity)) (budget : ℕ) (link : Link) (wrote : List ℕ → Type 0) (put : Result (Unit {0}) IoFault) (r : Result (Unit {0}) Halt) (count : ℕ) (request : List ℕ)
     → r ≡ halted_by put → OnOk put (wrote (answer_text (started (Err Busy)))) → Comes meters budget link link wrote r (looked_turns count (Some request))
 busy_halts meters budget link wrote put r count request is text =
     subst (λ (x : Result (Unit {0}) Halt). Comes meters budget link link wrote x (looked_turns count (Some request))) (sym is) (busy_comes meters budget link wrote put count request text)
 
--- ---- the gateway meanwhile
-
-pub left_by : (was is : Bool) → (was ≡ true → is ≡ true) → IsLeft (link_by was) (link_by is)
-left_by false false stays = inl refl
-left_by false true stays = inr refl
-left_by true is stays = ap link_by (stays refl)
-
-pub was_lost : (was : Bool) → link_by was ≡ lost → was ≡ true
-was_lost true is = refl
-was_lost false is = cc
-
 module _ {D : Type 0} (honest : Type 0) (sectors : D → ℕ) (reads : D → Image) (choices : D → Choices) (moment_of : D → ℕ) (images_since : D → ℕ → Image → Type 0) where
-  -- a commit alone
-  pub commit_alone : (budget : ℕ) (state : State) (before : List Turn) (answer : Result ℕ CommitFault) (fault : CommitFault) (such : List Turn → Type 0) (first new : Machine D)
-      → TurnWent honest sectors reads choices moment_of images_since budget state before commits (λ told. told ≡ committed answer) first new → answer ≡ Err fault → such (refused_turns fault)
-      → TurnsWent honest sectors reads choices moment_of images_since budget state before such first new
-  commit_alone budget state before answer fault such first new one is so =
-      record { turns = refused_turns fault; are_such = so; went = subst (λ (a : Answer). Went honest sectors reads choices moment_of images_since budget state before ((commits, a) ∷ []) first new) (one.is_such ∙ ap committed is) one.went }
-
   -- a commit, and then a look at a line
   pub commit_and_look : (budget : ℕ) (state : State) (before : List Turn) (answer : Result ℕ CommitFault) (count : ℕ) (request : Option (List ℕ)) (such : List Turn → Type 0) (first new : Machine D)
       → TurnWent honest sectors reads choices moment_of images_since budget state before commits (λ told. told ≡ committed answer) first new → answer ≡ Ok count → new.house.budget ≡ budget
