@@ -7,7 +7,7 @@ use Rattle.dc_search.specs.Request.{request_by}
 use Rattle.dc_search.specs.State.{SearchState, after, new_search, rounds_left, step_of}
 use Rattle.dc_search.specs.declared.step.Step.{Step}
 use Rattle.dc_search.proofs.Rounds.{rounds_left-after}
-use Rattle.dc_gateway.specs.Bus.{HasHeard, IsHeard, IsSearched, heard_all}
+use Rattle.dc_gateway.specs.Bus.{IsHeard, IsSearched, heard_all}
 use Rattle.dc_gateway.proofs.Budgets.{IsWithin, within_step}
 use Rattle.dc_gateway.proofs.Searching.{Searching, busy, searched, searching_step}
 use Rattle.dc_gateway.proofs.bus.search_over.Goals as goal
