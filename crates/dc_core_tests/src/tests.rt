@@ -6,3 +6,4 @@ mod readouts;
 mod room;
 mod runs;
 mod steps;
+mod worn;

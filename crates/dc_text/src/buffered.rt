@@ -61,7 +61,8 @@ impl<W: Sink + Drop, A: Allocator> Buffered<W, A> {
 
     /// Puts what waits, and gives the writer back with the answer.
     pub fn finish(self) -> (W, Result<(), IoFault>)
-        ensures { Wrote W.written W.put_failures result.1 self.writer result.0 self.held }
+        ensures wrote { Wrote W.written W.put_failures result.1 self.writer result.0 self.held }
+        ensures front { OnErr result.1 (PutsFront (W.written self.writer) (W.written result.0) self.held) }
     {
         let mut all = self;
         let put = all.flush();
