@@ -22,4 +22,5 @@ pub mod Answering
 pub mod Following
 -- what the office was told is kept (the law of specs/Told)
 pub mod Told
+-- how long a request is
 pub mod Requests

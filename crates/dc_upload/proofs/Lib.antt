@@ -1,2 +1,4 @@
+-- each line of the office has a text of its own
 pub mod Texts
+-- the codes against a command are its faults
 pub mod Verdicts
