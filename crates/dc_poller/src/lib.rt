@@ -34,6 +34,8 @@ pub use run::run_script;
 pub use script_line::ScriptLine;
 
 #[cfg(test)]
+mod hostile_tests;
+#[cfg(test)]
 mod poll_tests;
 #[cfg(test)]
 mod report_tests;

@@ -5,13 +5,13 @@ use dc_stream::Bytes;
 use std::process::Abort;
 use std::test::Fail;
 
-const FIT: &[u8] = b"AT 1735689600\nOFFICE 1 FIT 12345678.PAD.01.07 1 1 A1\n";
+pub const FIT: &[u8] = b"AT 1735689600\nOFFICE 1 FIT 12345678.PAD.01.07 1 1 A1\n";
 
-const POLL: &[u8] = b"POLL 1 12345678.PAD.01.07\n";
+pub const POLL: &[u8] = b"POLL 1 12345678.PAD.01.07\n";
 
 // An acknowledgement, a telegram that says that more follow, and the last one: blocks, each answer with that of length 0
 // behind it.
-const ANSWERS: &[u8] = &[
+pub const ANSWERS: &[u8] = &[
     1, 0xE5, 0, 28, 0x68, 0x16, 0x16, 0x68, 0x08, 0x01, 0x72, 0x78, 0x56, 0x34, 0x12, 0x24, 0x40,
     0x01, 0x07, 0x01, 0x00, 0x00, 0x00, 0x0C, 0x13, 0x78, 0x56, 0x34, 0x12, 0x1F, 0x4E, 0x16, 0,
     31, 0x68, 0x19, 0x19, 0x68, 0x08, 0x01, 0x72, 0x78, 0x56, 0x34, 0x12, 0x24, 0x40, 0x01, 0x07,
@@ -53,6 +53,39 @@ COMMITTED 1
 SEND 105B015C16
 PART 2 LAST
 COMMITTED 1
+",
+    )
+}
+
+// What a poll read is shown to the office, and reported.
+#[test]
+fn a_polled_reading_is_shown(rt: HostRuntime) -> Result<(), Fail> {
+    let lines = joined(
+        rt.alloc(),
+        POLL,
+        b"OFFICE REPORT 2024-12-31\nOFFICE WINDOW 1 1\n",
+    )?;
+    is_polled(
+        &rt,
+        ANSWERS,
+        lines.as_slice(),
+        b"OK 1
+STARTED
+SEND 1040014116
+READY
+SEND 107B017C16
+PART 1 MORE
+COMMITTED 1
+SEND 105B015C16
+PART 2 LAST
+COMMITTED 1
+flat,meter,serial,storage,function,tariff,subunit,value,unit
+A1,12345678.PAD.01.07,1,1,0,0,0,12345.000,m3
+END 1
+READING 1 12345678.PAD.01.07 A1 2
+PART 1 1735689600 7856341224400107010000000C13785634121F
+PART 2 1735689600 785634122440010702000000426C1F3C4C1300503412
+END 1
 ",
     )
 }
