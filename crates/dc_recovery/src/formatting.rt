@@ -111,7 +111,7 @@ pub(crate) fn format_on<D: Disk>(disk: &mut D) -> Result<(), FormatFault>
         Err(Failed) => return Err(FormatFault::Device),
     }
     match choose(disk) {
-        Ok(_) => match disk.read(1) { Ok(bytes) => match disk.write(1, &bytes) { Ok(()) => return Err(FormatFault::AlreadyFormatted), Err(Failed) => return Err(FormatFault::Device), }, Err(_) => return Err(FormatFault::AlreadyFormatted), },
+        Ok(_) => return Err(FormatFault::AlreadyFormatted),
         Err(RootFault::NoRoot(_)) => {}
         Err(_) => return Err(FormatFault::Device),
     }
