@@ -1,6 +1,9 @@
 //! Worked readouts: what is asked and what is answered.
 
-use super::steps::{ACK, Deed, FIRST, LAST, METER, SILENCE, Step, fitted, image, plays};
+use super::steps::{
+    ACK, Deed, FIRST, LAST, METER, OnDisk, SILENCE, Step, Way, fitted, found, go, image, opened,
+    plays, turn,
+};
 use std::alloc::Global;
 use std::process::Abort;
 use std::test::Fail;
@@ -125,4 +128,48 @@ fn a_selected_meter_and_who_is_refused(rt: HostRuntime) -> Result<(), Fail> {
         &SELECTED,
         (0, 0, 167),
     )
+}
+
+// The first telegram, with this access number and checksum: more follow.
+fn numbered(access: u8, checksum: u8) -> [u8; 28] {
+    let mut telegram = *b"\x68\x16\x16\x68\x08\x01\x72\x78\x56\x34\x12\x24\x40\x01\x07\x01\
+        \x00\x00\x00\x0C\x13\x78\x56\x34\x12\x1F\x4E\x16";
+    telegram[15] = access;
+    telegram[26] = checksum;
+    telegram
+}
+
+/// A part that isn't the last one is heard and committed.
+fn one_more(
+    rt: &impl Abort,
+    heap: Global,
+    core: &mut OnDisk<Global>,
+    part: u8,
+) -> Result<(), Fail> {
+    let telegram = numbered(part, part.wrapping_add(0x4D));
+    let text = format!(in heap; "PART {part} MORE\n")?;
+    let heard = Step(Deed::Hear(1, &telegram), text.as_bytes());
+    turn(rt, heap, core, Way::Run, &heard)?;
+    let committed = Step(Deed::Commit, b"COMMITTED 1\n");
+    turn(rt, heap, core, Way::Call, &committed)
+}
+
+/// 31 parts, and one behind which another would follow.
+fn too_many(rt: &impl Abort, heap: Global, core: &mut OnDisk<Global>) -> Result<(), Fail> {
+    go(rt, heap, core, Way::Call, &[START, ACKNOWLEDGED])?;
+    for part in 1..32u8 {
+        one_more(rt, heap, core, part)?;
+    }
+    let telegram = numbered(32, 0x6D);
+    let failed = Step(Deed::Hear(1, &telegram), b"FAILED 7 TooManyParts\n");
+    turn(rt, heap, core, Way::Run, &failed)
+}
+
+#[test]
+fn a_readout_has_at_most_32_parts(rt: HostRuntime) -> Result<(), Fail> {
+    let heap = rt.alloc();
+    let mut core = opened(heap, fitted(&rt, heap)?)?;
+    too_many(&rt, heap, &mut core)?;
+    assert_eq!(rt; found(heap, core.close())?, (31, 0, 1035));
+    Ok(())
 }
