@@ -29,6 +29,3 @@ pub use laws::{
 };
 pub use mask::Mask;
 pub use primary::Primary;
-
-#[cfg(test)]
-mod tests;

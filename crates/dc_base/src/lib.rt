@@ -10,6 +10,3 @@ mod memory;
 
 pub use failures::one_failure_more;
 pub use memory::NoMemory;
-
-#[cfg(test)]
-mod tests;

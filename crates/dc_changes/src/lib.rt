@@ -25,12 +25,8 @@ mod flat;
 mod kept;
 mod laws;
 mod limits;
-#[cfg(test)]
-mod line_tests;
 mod parsing;
 pub mod pieces;
-#[cfg(test)]
-mod tests;
 mod words;
 pub mod writing;
 

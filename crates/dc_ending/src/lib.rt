@@ -9,6 +9,3 @@ mod ending;
 mod escape;
 
 pub use ending::{Ending, STREAM, ending_of};
-
-#[cfg(test)]
-mod tests;

@@ -7,6 +7,3 @@
 mod fields;
 
 pub use fields::{put_u16, put_u32, put_u64, u16_at, u32_at, u64_at};
-
-#[cfg(test)]
-mod tests;

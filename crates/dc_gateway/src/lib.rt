@@ -26,6 +26,3 @@ pub use bus::{Bus, search_over};
 pub use gateway::Gateway;
 pub use listed::ListedBus;
 pub use talk::{Talk, exchange};
-
-#[cfg(test)]
-mod tests;

@@ -35,6 +35,3 @@ pub use needs::Need;
 pub use parser::parse;
 pub use stream::need;
 pub use writer::{write_long, write_short};
-
-#[cfg(test)]
-mod tests;

@@ -30,6 +30,3 @@ pub use held::Held;
 pub use laws::{a_meter_goes_on_from_what_is_committed, what_is_held_is_whole};
 pub use lives::play;
 pub use script::{MeterScript, are_regular};
-
-#[cfg(test)]
-mod tests;

@@ -31,6 +31,3 @@ pub use reader::{Group, read_group};
 pub use stamp::Stamp;
 pub use streaming::GroupSink;
 pub use writer::GroupWriter;
-
-#[cfg(test)]
-mod tests;

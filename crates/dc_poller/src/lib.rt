@@ -28,20 +28,9 @@ mod search;
 mod told;
 
 pub use fault::ProgramFault;
+pub use halt::Halt;
 pub use laws::a_script_line_asks_for_one_thing;
 pub use report::{Report, report_on};
 pub use run::run_script;
 pub use script_line::ScriptLine;
-
-#[cfg(test)]
-mod hostile_tests;
-#[cfg(test)]
-mod poll_tests;
-#[cfg(test)]
-mod report_tests;
-#[cfg(test)]
-mod run_tests;
-#[cfg(test)]
-mod search_tests;
-#[cfg(test)]
-mod tests;
+pub use search::search;

@@ -25,6 +25,3 @@ pub use laws::{
 };
 pub use session::Session;
 pub use why::Why;
-
-#[cfg(test)]
-mod tests;

@@ -28,6 +28,3 @@ pub use laws::{first_fault, one_record, one_telegram, read_as_spelled};
 pub use record::Record;
 pub use records::Records;
 pub use telegram::Telegram;
-
-#[cfg(test)]
-mod tests;

@@ -3,6 +3,9 @@
 mod asked;
 mod bytes;
 mod changes;
+mod coding;
 mod due;
 mod growths;
+mod lines;
+mod tables;
 mod told;

@@ -25,6 +25,3 @@ pub use due::{counted_due_table, due_rows, due_table};
 pub use register::{register_rows, register_table};
 pub use row::Row;
 pub use table::Table;
-
-#[cfg(test)]
-mod tests;

@@ -18,6 +18,3 @@ pub use chooser::choose;
 pub use fault::RootFault;
 pub use root::Root;
 pub use writer::write_next;
-
-#[cfg(test)]
-mod tests;

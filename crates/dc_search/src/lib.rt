@@ -26,6 +26,3 @@ pub use fault::SearchFault;
 pub use laws::searches_end;
 pub use search::Search;
 pub use step::Step;
-
-#[cfg(test)]
-mod tests;

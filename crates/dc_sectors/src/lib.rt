@@ -35,6 +35,3 @@ pub use file::FileDisk;
 pub use memory::MemoryDisk;
 pub use pick::Pick;
 pub use sector::{Failed, ReadFault, Sector};
-
-#[cfg(test)]
-mod tests;

@@ -14,6 +14,3 @@ pub use line::SimulatedBus;
 pub use looped::Looped;
 pub use meter::{Reply, SimulatedMeter};
 pub use serving::serve;
-
-#[cfg(test)]
-mod tests;

@@ -1,11 +1,15 @@
-//! What is tried on the store, by topic.
+//! What is tried on disks and on the store, by topic.
 
 mod bytes;
+mod disks;
 mod faults;
+mod fields;
 mod files;
+mod groups;
 mod images;
 mod leftovers;
 mod life;
+mod root_slots;
 mod roots;
 mod sectors;
 mod upgrades;

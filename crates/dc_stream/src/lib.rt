@@ -20,6 +20,3 @@ pub use memory::room;
 pub use read_source::ReadSource;
 pub use stream::{IoFault, Sink, Source};
 pub use write_sink::WriteSink;
-
-#[cfg(test)]
-mod tests;

@@ -41,8 +41,3 @@ pub use laws::{
     an_input_has_one_fold, frames_are_told_in_turn, hex_is_read_back, lines_end_at_feeds,
 };
 pub use lines::{LONGEST, first_line};
-
-#[cfg(test)]
-mod decode_tests;
-#[cfg(test)]
-mod fold_tests;

@@ -16,6 +16,3 @@ pub use buffered::Buffered;
 pub use fault::{put_fault, put_fault_line};
 pub use hex::{decode_hex, put_byte, put_byte_word, put_hex, put_hex_word};
 pub use number::{put_number, put_number_word};
-
-#[cfg(test)]
-mod tests;

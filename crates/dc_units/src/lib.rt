@@ -33,6 +33,3 @@ pub use point::{Point, Seen, point_of};
 pub use quantity::Quantity;
 pub use room::TEXT_ROOM;
 pub use value::Value;
-
-#[cfg(test)]
-mod tests;

@@ -9,8 +9,6 @@ mod fault;
 mod line;
 mod register;
 mod reply;
-#[cfg(test)]
-mod tests;
 mod verdict;
 mod window;
 mod words;

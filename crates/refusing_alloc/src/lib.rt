@@ -12,6 +12,3 @@ mod refusing;
 mod requests;
 
 pub use refusing::Refusing;
-
-#[cfg(test)]
-mod tests;

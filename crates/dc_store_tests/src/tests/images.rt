@@ -7,18 +7,25 @@ use dc_base::NoMemory;
 use dc_sectors::{MemoryDisk, Pick};
 use std::alloc::Global;
 
-/// What becomes of a sector that was written so often: it is as before, unreadable, or as one of its writes left it.
+/// What becomes of a sector: it is as before, unreadable, or as its first write left it; further ways are its further writes.
+pub const OLD: usize = 0;
+
+pub const UNREADABLE: usize = 1;
+
+pub const WRITTEN: usize = 2;
+
+/// What becomes of a sector that was written so often.
 fn pick_of(way: usize, writes: usize) -> Pick
     ensures { (n : ℕ) → IsPickFor (n, writes) result }
 {
-    if way == 0 {
+    if way == OLD {
         return Pick::Old;
     }
-    if way == 1 {
+    if way == UNREADABLE {
         return Pick::Unreadable;
     }
-    if way - 2 < writes {
-        Pick::Written(way - 2)
+    if way - WRITTEN < writes {
+        Pick::Written(way - WRITTEN)
     } else {
         Pick::Old
     }

@@ -1,0 +1,14 @@
+//! What is tried on the program's engines, by topic.
+
+mod common;
+mod decode;
+mod ending;
+mod fold;
+mod gateway;
+mod hostile;
+mod office;
+mod poll;
+mod report;
+mod run;
+mod search;
+mod streams;

@@ -1,0 +1,20 @@
+//! What the tests share: texts put together, and a fresh image.
+
+use dc_recovery::Store;
+use dc_sectors::MemoryDisk;
+use std::alloc::{AllocError, Global};
+use std::test::Fail;
+
+pub fn joined(alloc: Global, front: &[u8], back: &[u8]) -> Result<Vec<u8>, AllocError> {
+    let mut both = Vec::from_slice(alloc, front)?;
+    both.extend_from_slice(back)?;
+    Ok(both)
+}
+
+/// An image of an empty register.
+pub fn blank(heap: Global) -> Result<MemoryDisk<Global>, Fail> {
+    match Store::format(MemoryDisk::new(heap, 131)?) {
+        Ok(disk) => Ok(disk),
+        Err((fault, _)) => Err(Fail::from(fault)),
+    }
+}

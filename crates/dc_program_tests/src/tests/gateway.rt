@@ -1,0 +1,249 @@
+//! Talks with gateways that answer, lie, stall or go away.
+
+ghost use Rattle.std.specs.Prelude.{◌≡◌};
+ghost use Rattle.dc_linkframe.specs.Control.{reset_to};
+ghost use Rattle.dc_linkframe.specs.Frame.{spelling};
+
+use super::streams::FailingSource;
+use dc_address::Identity;
+use dc_gateway::{AnswerBuf, Gateway, ListedBus, Talk, exchange, search_over};
+use dc_linkframe::FrameBuf;
+use dc_linkframe::control::write_reset;
+use dc_search::{Step, sweep};
+use dc_stream::{Bytes, FixedSink, IoFault, Sink, Source};
+use refusing_alloc::Refusing;
+use std::test::Fail;
+
+fn reset() -> FrameBuf
+    ensures { result ≡ spelling (reset_to 1) }
+{
+    let mut frame = FrameBuf::new();
+    write_reset(1, &mut frame);
+    frame
+}
+
+// Whether the talk is an answer of these bytes.
+fn is_answer(talk: &Talk, bytes: &[u8]) -> bool {
+    match talk {
+        Talk::Answer(answer) => answer.as_slice() == bytes,
+        Talk::Lost => false,
+    }
+}
+
+// Blocks of one byte without an end, each of whose bytes is 1.
+#[derive(Drop)]
+struct Endless {
+    takes: u64,
+}
+
+impl Source for Endless {
+    ghost use Rattle.std.specs.Prelude.{None};
+
+    ghost left = { λ _. None };
+
+    ghost take_failures = { λ _. 0 };
+
+    fn take(&mut self, room: &mut [u8]) -> Result<usize, IoFault> {
+        self.takes = self.takes.saturating_add(1);
+        let count = room.len().min(1);
+        room[..count].copy_from_slice(&[1][..count]);
+        Ok(count)
+    }
+}
+
+// So many blocks of one byte, and the block of length 0.
+fn blocks<A: std::alloc::Allocator>(alloc: A, count: u64) -> Result<Bytes<A>, IoFault> {
+    let mut bytes = Bytes::new(alloc);
+    for _ in 0..count {
+        bytes.put(&[1, 9])?;
+    }
+    bytes.put(&[0])?;
+    Ok(bytes)
+}
+
+#[test]
+fn a_request_and_its_answer_are_blocks(rt: HostRuntime) -> Result<(), Fail> {
+    let mut reader = Bytes::from_slice(rt.alloc(), &[0x01, 0xE5, 0x00, 0x07])?;
+    let mut writer = Bytes::new(rt.alloc());
+    let talk = exchange(&mut reader, &mut writer, &reset());
+    assert!(rt; is_answer(&talk, &[0xE5]));
+    assert_eq!(rt; writer.as_slice(), b"\x05\x10\x40\x01\x41\x16".as_slice());
+    // The byte behind the answer isn't read.
+    let mut room = [0; 2];
+    assert_eq!(rt; reader.take(&mut room)?, 1);
+    assert_eq!(rt; room[0], 7);
+    Ok(())
+}
+
+#[test]
+fn no_byte_is_silence_and_an_end_is_lost(rt: HostRuntime) -> Result<(), Fail> {
+    let mut silent = Bytes::from_slice(rt.alloc(), &[0x00])?;
+    let mut ended = Bytes::from_slice(rt.alloc(), &[0x02, 0xE5])?;
+    let mut empty = Bytes::new(rt.alloc());
+    let mut writer = Bytes::new(rt.alloc());
+    assert!(rt; is_answer(&exchange(&mut silent, &mut writer, &reset()), &[]));
+    assert!(rt; matches!(exchange(&mut ended, &mut writer, &reset()), Talk::Lost));
+    assert!(rt; matches!(exchange(&mut empty, &mut writer, &reset()), Talk::Lost));
+    Ok(())
+}
+
+#[test]
+fn bytes_past_the_room_are_dropped(rt: HostRuntime) -> Result<(), Fail> {
+    let mut reader = Bytes::new(rt.alloc());
+    reader.put(&[255])?;
+    reader.put(&[7; 255])?;
+    reader.put(&[255])?;
+    reader.put(&[8; 255])?;
+    reader.put(&[0])?;
+    let mut wanted = Vec::from_slice(rt.alloc(), &[7; 255])?;
+    wanted.extend_from_slice(&[8; 45])?;
+    let talk = exchange(&mut reader, &mut FixedSink::<6>::new(), &reset());
+    assert!(rt; is_answer(&talk, &wanted));
+    assert_eq!(rt; reader.take(&mut [0; 1])?, 0);
+    Ok(())
+}
+
+#[test]
+fn six_hundred_blocks_are_the_most(rt: HostRuntime) -> Result<(), Fail> {
+    let mut most = blocks(rt.alloc(), 600)?;
+    let mut more = blocks(rt.alloc(), 601)?;
+    let mut writer = Bytes::new(rt.alloc());
+    assert!(rt; is_answer(&exchange(&mut most, &mut writer, &reset()), &[9; 300]));
+    assert!(rt; matches!(exchange(&mut more, &mut writer, &reset()), Talk::Lost));
+    // Of the block past them the length alone is read.
+    let mut room = [0; 3];
+    assert_eq!(rt; more.take(&mut room)?, 2);
+    assert_eq!(rt; (room[0], room[1]), (9, 0));
+    Ok(())
+}
+
+#[test]
+fn blocks_without_an_end_are_given_up(rt: HostRuntime) {
+    let mut reader = Endless { takes: 0 };
+    let talk = exchange(&mut reader, &mut FixedSink::<6>::new(), &reset());
+    assert!(rt; matches!(talk, Talk::Lost));
+    assert_eq!(rt; reader.takes, 1201);
+}
+
+#[test]
+fn each_failing_take_is_lost(rt: HostRuntime) {
+    for takes in 0..8 {
+        let mut reader = FailingSource::after(takes, b"\x02\x07\x08\x01\x09\x00", 1);
+        let talk = exchange(&mut reader, &mut FixedSink::<6>::new(), &reset());
+        assert_eq!(rt; is_answer(&talk, &[7, 8, 9]), takes >= 6);
+        assert_eq!(rt; matches!(talk, Talk::Lost), takes < 6);
+    }
+}
+
+#[test]
+fn a_lost_gateway_is_silent_and_untouched(rt: HostRuntime) -> Result<(), Fail> {
+    let reader = Bytes::from_slice(rt.alloc(), b"\x01\xE5\x00\x01\xE6\x00\x00\x00")?;
+    // Two requests find room, and the third put fails.
+    let mut gateway = Gateway::new(reader, FixedSink::<12>::new());
+    assert_eq!(rt; gateway.ask(&reset()).as_slice(), [0xE5].as_slice());
+    assert_eq!(rt; gateway.ask(&reset()).as_slice(), [0xE6].as_slice());
+    assert!(rt; !gateway.is_lost());
+    assert_eq!(rt; gateway.ask(&reset()).as_slice().len(), 0);
+    assert!(rt; gateway.is_lost());
+    gateway.writer.clear();
+    assert_eq!(rt; gateway.ask(&reset()).as_slice().len(), 0);
+    assert_eq!(rt; gateway.writer.as_slice().len(), 0);
+    // Neither of the two answers that were left is read.
+    assert_eq!(rt; gateway.reader.take(&mut [0; 9])?, 2);
+    Ok(())
+}
+
+#[test]
+fn a_put_without_memory_is_lost(rt: HostRuntime) -> Result<(), Fail> {
+    let heap = Refusing::new(rt.alloc());
+    let mut reader = Bytes::from_slice(rt.alloc(), b"\x00")?;
+    let mut writer = Bytes::new(&heap);
+    heap.refuse(1);
+    assert!(rt; matches!(exchange(&mut reader, &mut writer, &reset()), Talk::Lost));
+    assert!(rt; is_answer(&exchange(&mut reader, &mut writer, &reset()), &[]));
+    Ok(())
+}
+
+#[test]
+fn an_answer_grows_up_to_its_room(rt: HostRuntime) {
+    let mut answer = AnswerBuf::default();
+    assert_eq!(rt; answer.as_slice().len(), 0);
+    answer.append(&[1; 299]);
+    answer.append(&[2, 3]);
+    assert_eq!(rt; answer.as_slice().len(), 300);
+    assert_eq!(rt; answer.as_slice().last().copied(), Some(2));
+    answer.append(&[4]);
+    assert_eq!(rt; answer.as_slice().last().copied(), Some(2));
+}
+
+#[test]
+fn a_search_over_a_silent_gateway_finds_nobody(rt: HostRuntime) -> Result<(), Fail> {
+    let reader = Bytes::from_slice(rt.alloc(), &[0])?;
+    let mut gateway = Gateway::new(reader, Bytes::new(rt.alloc()));
+    let search = search_over(rt.alloc(), 9, &mut gateway)?;
+    assert!(rt; search.found().is_empty());
+    assert_eq!(rt; (search.selections(), search.next()), (1, Step::Done));
+    // The selection of all meters went out, as one block.
+    let selection = b"\x11\x68\x0B\x0B\x68\x53\xFD\x52\xFF\xFF\xFF\xFF\xFF\xFF\xFF\xFF\x9A\x16";
+    assert_eq!(rt; gateway.writer.as_slice(), selection.as_slice());
+    Ok(())
+}
+
+#[test]
+fn a_search_asks_who_acknowledged(rt: HostRuntime) -> Result<(), Fail> {
+    let mut reader = Bytes::from_slice(rt.alloc(), b"\x01\xE5\x00")?;
+    reader.put(&[21])?;
+    reader.put(
+        b"\x68\x0F\x0F\x68\x08\x00\x72\x78\x56\x34\x12\x24\x40\x01\x07\x00\x00\x00\x00\xFA\x16\x00",
+    )?;
+    let mut gateway = Gateway::new(reader, FixedSink::<99>::new());
+    let search = search_over(rt.alloc(), 9, &mut gateway)?;
+    assert_eq!(rt; search.found().len(), 1);
+    assert_eq!(rt; (search.selections(), search.next()), (1, Step::Done));
+    assert!(rt;
+        gateway
+            .writer
+            .as_slice()
+            .ends_with(b"\x05\x10\x7B\xFD\x78\x16")
+    );
+    Ok(())
+}
+
+#[test]
+fn a_search_ends_over_a_lost_gateway(rt: HostRuntime) -> Result<(), Fail> {
+    // All meters acknowledge, and then nothing more comes: one collision, and silence for ten masks.
+    let reader = Bytes::from_slice(rt.alloc(), b"\x01\xE5\x00")?;
+    let mut gateway = Gateway::new(reader, FixedSink::<99>::new());
+    let search = search_over(rt.alloc(), 99, &mut gateway)?;
+    assert_eq!(rt; (search.selections(), search.next()), (11, Step::Done));
+    assert!(rt; gateway.is_lost());
+    let none = search_over(rt.alloc(), 0, &mut gateway)?;
+    assert_eq!(rt; (none.selections(), none.next()), (0, Step::Budget));
+    Ok(())
+}
+
+#[test]
+fn a_search_without_memory_ends(rt: HostRuntime) -> Result<(), Fail> {
+    let heap = Refusing::new(rt.alloc());
+    let reader = Bytes::from_slice(rt.alloc(), b"\x01\xE5\x00")?;
+    let mut gateway = Gateway::new(reader, FixedSink::<99>::new());
+    heap.refuse(1);
+    assert!(rt; search_over(&heap, 9, &mut gateway).is_err());
+    Ok(())
+}
+
+#[test]
+fn a_search_over_listed_meters_is_their_sweep(rt: HostRuntime) -> Result<(), Fail> {
+    let meters = [
+        Identity::parse_text(b"12345678.PAD.01.07")?,
+        Identity::parse_text(b"12345678.PAD.01.04")?,
+        Identity::parse_text(b"12345679.PAD.01.07")?,
+    ];
+    let swept = sweep(rt.alloc(), &meters, 100)?;
+    let search = search_over(rt.alloc(), 100, &mut ListedBus::new(&meters))?;
+    assert_eq!(rt; search.found(), swept.found());
+    assert_eq!(rt; search.shared(), swept.shared());
+    assert_eq!(rt; (search.found().len(), search.shared().len()), (1, 1));
+    assert_eq!(rt; search.selections(), swept.selections());
+    Ok(())
+}

@@ -1,0 +1,108 @@
+//! A script over gateways that fail, stall or lie: it goes on, and says once that the gateway is lost.
+use super::common::{blank, joined};
+use super::poll::{ANSWERS, FIT, POLL};
+use super::streams::{FailingSink, FailingSource};
+use dc_poller::run_script;
+use dc_stream::{Bytes, Sink, Source};
+use std::alloc::Global;
+use std::process::Abort;
+use std::test::Fail;
+
+const LOSS: &[u8] = b"GATEWAY LOST\n";
+
+// The gateway is lost within its first answer.
+const LOST_AT_ONCE: &[u8] = b"OK 1
+STARTED
+SEND 1040014116
+GATEWAY LOST
+AGAIN
+SEND 1040014116
+AGAIN
+SEND 1040014116
+FAILED 1 NoAnswer
+";
+
+// Its first answer is no frame, and then it ends.
+const LOST_AFTER_ONE: &[u8] = b"OK 1
+STARTED
+SEND 1040014116
+AGAIN
+SEND 1040014116
+GATEWAY LOST
+AGAIN
+SEND 1040014116
+FAILED 1 NoAnswer
+";
+
+/// What a poll of the one meter writes.
+fn polled<R: Source + Drop, W: Sink + Drop>(
+    rt: &(impl Abort + AllocGlobal),
+    gateway: (R, W),
+) -> Result<Bytes<Global>, Fail> {
+    let heap = rt.alloc();
+    let lines = joined(heap, FIT, POLL)?;
+    let mut reader = Bytes::from_slice(heap, lines.as_slice())?;
+    let mut writer = Bytes::new(heap);
+    let (_, outcome) = run_script(heap, blank(heap)?, &mut reader, &mut writer, Some(gateway));
+    assert_eq!(rt; outcome, Ok(false));
+    Ok(writer)
+}
+
+fn losses(text: &[u8]) -> usize {
+    text.windows(LOSS.len()).filter(|it| *it == LOSS).count()
+}
+
+/// A gateway whose take of that number fails: how often it is told as lost.
+fn lost_at_take(rt: &(impl Abort + AllocGlobal), takes: u64) -> Result<usize, Fail> {
+    let reader = FailingSource::after(takes, ANSWERS, 1);
+    let text = polled(rt, (reader, Bytes::new(rt.alloc())))?;
+    Ok(losses(text.as_slice()))
+}
+
+/// One whose put of that number fails.
+fn lost_at_put(rt: &(impl Abort + AllocGlobal), puts: u64) -> Result<usize, Fail> {
+    let reader = Bytes::from_slice(rt.alloc(), ANSWERS)?;
+    let writer = FailingSink::after(puts);
+    let text = polled(rt, (reader, writer))?;
+    Ok(losses(text.as_slice()))
+}
+
+#[test]
+fn each_take_and_each_put_fails_in_turn(rt: HostRuntime) -> Result<(), Fail> {
+    for takes in 0..66u64 {
+        assert_eq!(rt; lost_at_take(&rt, takes)?, 1);
+    }
+    assert_eq!(rt; lost_at_take(&rt, 66)?, 0);
+    for puts in 0..3u64 {
+        assert_eq!(rt; lost_at_put(&rt, puts)?, 1);
+    }
+    assert_eq!(rt; lost_at_put(&rt, 1000)?, 0);
+    Ok(())
+}
+
+/// A gateway that gives this piece so many times.
+fn repeated(heap: Global, piece: &[u8], times: u64) -> Result<Bytes<Global>, Fail> {
+    let mut blocks = Bytes::new(heap);
+    for _ in 0..times {
+        blocks.put(piece)?;
+    }
+    Ok(blocks)
+}
+
+#[test]
+fn blocks_without_an_end_are_lost(rt: HostRuntime) -> Result<(), Fail> {
+    let blocks = repeated(rt.alloc(), b"\x01\xE5", 2000)?;
+    let text = polled(&rt, (blocks, Bytes::new(rt.alloc())))?;
+    assert_eq!(rt; text.as_slice(), LOST_AT_ONCE);
+    Ok(())
+}
+
+// Two blocks of 255 bytes are no frame.
+#[test]
+fn more_bytes_than_an_answer_holds_are_heard_as_no_frame(rt: HostRuntime) -> Result<(), Fail> {
+    let mut blocks = repeated(rt.alloc(), &[255; 256], 2)?;
+    blocks.put(&[0])?;
+    let text = polled(&rt, (blocks, Bytes::new(rt.alloc())))?;
+    assert_eq!(rt; text.as_slice(), LOST_AFTER_ONE);
+    Ok(())
+}

@@ -1,0 +1,308 @@
+//! The office's lines as a house answers them, on worked lines.
+
+ghost use Rattle.std.specs.Prelude.{None};
+
+use super::streams::FailingSink;
+use dc_changes::{Body, Change};
+use dc_meters::House;
+use dc_stream::{Bytes, IoFault, Sink};
+use dc_upload::{
+    Code, ReplyFault, Verdict, a_done_command_is_repeated, judge, parse_line, write_refusal,
+    write_reply,
+};
+use refusing_alloc::Refusing;
+use std::alloc::{Allocator, Global};
+use std::process::Abort;
+use std::test::Fail;
+
+const BUDGET: u32 = 15_616;
+
+const FIT: &[u8] = b"1 FIT 12345678.PAD.01.07 1 1 A1";
+
+// The meter 12345678.PAD.01.07 tells a volume, and then a date and the volume on it.
+const FIRST: &[u8] =
+    b"\x78\x56\x34\x12\x24\x40\x01\x07\x01\x00\x00\x00\x0C\x13\x78\x56\x34\x12\x1F";
+
+const LAST: &[u8] =
+    b"\x78\x56\x34\x12\x24\x40\x01\x07\x02\x00\x00\x00\x42\x6C\x1F\x3C\x4C\x13\x00\x50\x34\x12";
+
+const REPORT: &[u8] = b"REPORT 2024-12-31";
+
+const TABLE: &[u8] = b"flat,meter,serial,storage,function,tariff,subunit,value,unit
+A1,12345678.PAD.01.07,1,1,0,0,0,12345.000,m3
+END 1
+";
+
+fn refuse<W: Sink>(code: Code, out: &mut W) -> Result<(), ReplyFault> {
+    Ok(write_refusal(code, out)?)
+}
+
+// Reads a line, does it if it is new, and replies.
+fn answer<A: Allocator + Copy, W: Sink>(
+    alloc: A,
+    house: &mut House<A>,
+    text: &[u8],
+    out: &mut W,
+) -> Result<Result<(), ReplyFault>, Fail> {
+    let Some(line) = parse_line(text) else {
+        return Ok(refuse(Code::Syntax, out));
+    };
+    if let Verdict::Do(change) = judge(house, &line) {
+        house.apply(&change)?;
+        a_done_command_is_repeated();
+    }
+    Ok(write_reply(alloc, house, &line, out))
+}
+
+fn is_answered(
+    rt: &(impl Abort + AllocGlobal),
+    house: &mut House<Global>,
+    text: &[u8],
+    reply: &[u8],
+) -> Result<(), Fail> {
+    let mut out = Bytes::new(rt.alloc());
+    answer(rt.alloc(), house, text, &mut out)??;
+    assert_eq!(rt; out.as_slice(), reply);
+    Ok(())
+}
+
+fn hear<A: Allocator + Copy>(
+    rt: &(impl Abort + AllocGlobal),
+    house: &mut House<A>,
+    part: u8,
+    body: &'static [u8],
+) -> Result<(), Fail> {
+    let change = Change::Telegram {
+        part,
+        moment: 1_735_689_600,
+        body: Body::parse(body).ok_or("body")?,
+    };
+    assert!(rt; house.check(&change).is_ok());
+    house.apply(&change)?;
+    Ok(())
+}
+
+// One meter is fitted and read.
+fn read_out(rt: &(impl Abort + AllocGlobal), house: &mut House<Global>) -> Result<(), Fail> {
+    is_answered(rt, house, FIT, b"OK 1\n")?;
+    hear(rt, house, 1, FIRST)?;
+    hear(rt, house, 2, LAST)
+}
+
+fn are_done_once(rt: &(impl Abort + AllocGlobal), house: &mut House<Global>) -> Result<(), Fail> {
+    is_answered(rt, house, FIT, b"OK 1\n")?;
+    is_answered(rt, house, FIT, b"OK 1\n")?;
+    let other = b"1 FIT 12345678.PAD.01.07 1 1 A2";
+    is_answered(rt, house, other, b"ERR ORDER 1\n")?;
+    let later = b"3 OUT 12345678.PAD.01.07";
+    is_answered(rt, house, later, b"ERR ORDER 1\n")?;
+    let known = b"2 FIT 12345678.PAD.01.07 1 2 A1";
+    is_answered(rt, house, known, b"ERR KNOWN\n")?;
+    let taken = b"2 FIT 00000001.PAD.01.07 1 1 A1";
+    is_answered(rt, house, taken, b"ERR ADDRESS\n")?;
+    let unknown = b"2 OUT 00000001.PAD.01.07";
+    is_answered(rt, house, unknown, b"ERR UNKNOWN\n")?;
+    let zero = b"02 OUT 12345678.PAD.01.07";
+    is_answered(rt, house, zero, b"ERR SYNTAX\n")
+}
+
+#[test]
+fn commands_are_done_once(rt: HostRuntime) -> Result<(), Fail> {
+    let mut house = House::new(rt.alloc(), BUDGET);
+    are_done_once(&rt, &mut house)
+}
+
+#[test]
+fn a_meter_that_doesnt_fit_is_refused(rt: HostRuntime) -> Result<(), Fail> {
+    let mut small = House::new(rt.alloc(), 166);
+    is_answered(&rt, &mut small, FIT, b"ERR FULL\n")
+}
+
+fn are_gone(rt: &(impl Abort + AllocGlobal), house: &mut House<Global>) -> Result<(), Fail> {
+    is_answered(rt, house, b"WINDOW 1 100", b"END 0\n")?;
+    is_answered(rt, house, b"REGISTER", b"END 0\n")?;
+    read_out(rt, house)?;
+    is_answered(rt, house, b"2 CONFIRM 2", b"ERR BEYOND\n")?;
+    is_answered(rt, house, b"2 CONFIRM 1", b"OK 2\n")?;
+    is_answered(rt, house, b"WINDOW 1 10", b"ERR GONE 1\n")?;
+    is_answered(rt, house, b"WINDOW 2 10", b"END 0\n")
+}
+
+#[test]
+fn confirmed_readings_are_gone(rt: HostRuntime) -> Result<(), Fail> {
+    let mut house = House::new(rt.alloc(), BUDGET);
+    are_gone(&rt, &mut house)
+}
+
+fn is_shown(rt: &(impl Abort + AllocGlobal), house: &mut House<Global>) -> Result<(), Fail> {
+    let none = b"flat,meter,serial,storage,function,tariff,subunit,value,unit\nEND 0\n";
+    is_answered(rt, house, REPORT, none)?;
+    read_out(rt, house)?;
+    let shown = b"READING 1 12345678.PAD.01.07 A1 2
+PART 1 1735689600 7856341224400107010000000C13785634121F
+PART 2 1735689600 785634122440010702000000426C1F3C4C1300503412
+END 1
+";
+    is_answered(rt, house, b"WINDOW 1 1", shown)?;
+    is_answered(rt, house, REPORT, TABLE)?;
+    is_answered(rt, house, b"REPORT 2023-12-31", none)
+}
+
+#[test]
+fn a_reading_and_its_table_are_shown(rt: HostRuntime) -> Result<(), Fail> {
+    let mut house = House::new(rt.alloc(), BUDGET);
+    is_shown(&rt, &mut house)
+}
+
+fn is_swapped(rt: &(impl Abort + AllocGlobal), house: &mut House<Global>) -> Result<(), Fail> {
+    read_out(rt, house)?;
+    let swap = b"2 SWAP 12345678.PAD.01.07 00000001.PAD.01.07 2";
+    is_answered(rt, house, swap, b"OK 2\n")?;
+    assert_eq!(rt; house.size(), 246);
+    let meters = b"METER 00000001.PAD.01.07 1 2 A1 0\nEND 1\n";
+    is_answered(rt, house, b"REGISTER", meters)?;
+    let itself = b"3 SWAP 00000001.PAD.01.07 00000001.PAD.01.07 2";
+    is_answered(rt, house, itself, b"ERR KNOWN\n")?;
+    let gone = b"3 SWAP 12345678.PAD.01.07 12345678.PAD.01.07 2";
+    is_answered(rt, house, gone, b"ERR UNKNOWN\n")?;
+    let back = b"3 SWAP 00000001.PAD.01.07 12345678.PAD.01.07 2";
+    is_answered(rt, house, back, b"OK 3\n")
+}
+
+#[test]
+fn a_meter_is_swapped(rt: HostRuntime) -> Result<(), Fail> {
+    let mut house = House::new(rt.alloc(), BUDGET);
+    is_swapped(&rt, &mut house)
+}
+
+#[test]
+fn long_lines_are_none(rt: HostRuntime) {
+    assert!(rt; parse_line(&[b'1'; 120]).is_none());
+    assert!(rt; parse_line(&[b'1'; 121]).is_none());
+    assert!(rt; parse_line(b"WINDOW 0 1").is_none());
+    assert!(rt; parse_line(b"WINDOW 1 101").is_none());
+    assert!(rt; parse_line(b"WINDOW 1 1 ").is_none());
+    assert!(rt; parse_line(b"REGISTER ").is_none());
+    assert!(rt; parse_line(b"REPORT 2024-02-30").is_none());
+    assert!(rt; parse_line(b"REPORT 2024-12-31 ").is_none());
+    assert!(rt; parse_line(b"REPORT ").is_none());
+}
+
+// Each write of a reply fails in turn; the line is answered in full when it comes again.
+fn each_write_fails(
+    rt: &(impl Abort + AllocGlobal),
+    house: &mut House<Global>,
+    text: &[u8],
+    reply: &[u8],
+) -> Result<(), Fail> {
+    for left in 0..100 {
+        let mut out = FailingSink::after(left);
+        if answer(rt.alloc(), house, text, &mut out)?.is_ok() {
+            assert!(rt; left > 0);
+            return Ok(());
+        }
+        assert_eq!(rt; out.failures(), 1);
+        is_answered(rt, house, text, reply)?;
+    }
+    Err(Fail::from("a reply of at most 100 writes"))
+}
+
+fn writes_fail(rt: &(impl Abort + AllocGlobal), house: &mut House<Global>) -> Result<(), Fail> {
+    each_write_fails(rt, house, FIT, b"OK 1\n")?;
+    let refused = b"1 OUT 12345678.PAD.01.07";
+    each_write_fails(rt, house, refused, b"ERR ORDER 1\n")?;
+    let meters = b"METER 12345678.PAD.01.07 1 1 A1 0\nEND 1\n";
+    each_write_fails(rt, house, b"REGISTER", meters)?;
+    hear(rt, house, 1, LAST)?;
+    let shown = b"READING 1 12345678.PAD.01.07 A1 1
+PART 1 1735689600 785634122440010702000000426C1F3C4C1300503412
+END 1
+";
+    each_write_fails(rt, house, b"WINDOW 1 1", shown)?;
+    each_write_fails(rt, house, REPORT, TABLE)
+}
+
+#[test]
+fn a_write_fault_changes_nothing(rt: HostRuntime) -> Result<(), Fail> {
+    let mut house = House::new(rt.alloc(), BUDGET);
+    writes_fail(&rt, &mut house)
+}
+
+// A meter is read in a house whose memory may be refused.
+fn read_on<A: Allocator + Copy>(
+    rt: &(impl Abort + AllocGlobal),
+    alloc: A,
+    house: &mut House<A>,
+) -> Result<(), Fail> {
+    let mut out = Bytes::new(rt.alloc());
+    answer(alloc, house, FIT, &mut out)??;
+    hear(rt, house, 1, FIRST)?;
+    hear(rt, house, 2, LAST)
+}
+
+// Whether the table is made with the k-th request refused; where it isn't, it is want of memory, with nothing written,
+// and the same line is then answered.
+fn is_made<'a, A: Allocator>(
+    rt: &(impl Abort + AllocGlobal),
+    heap: &'a Refusing<A>,
+    house: &mut House<&'a Refusing<A>>,
+    k: u64,
+) -> Result<bool, Fail> {
+    heap.refuse(k);
+    let mut out = Bytes::new(rt.alloc());
+    let refused = answer(heap, house, REPORT, &mut out)?;
+    if refused.is_ok() {
+        return Ok(true);
+    }
+    assert!(rt; matches!(refused, Err(ReplyFault::NoMemory)));
+    assert!(rt; out.as_slice().is_empty());
+    answer(heap, house, REPORT, &mut out)??;
+    assert_eq!(rt; out.as_slice(), TABLE);
+    Ok(false)
+}
+
+fn tables_want_memory<'a, A: Allocator>(
+    rt: &(impl Abort + AllocGlobal),
+    heap: &'a Refusing<A>,
+    house: &mut House<&'a Refusing<A>>,
+) -> Result<(), Fail> {
+    read_on(rt, heap, house)?;
+    for k in 1..100u64 {
+        if is_made(rt, heap, house, k)? {
+            assert!(rt; k > 2);
+            return Ok(());
+        }
+    }
+    Err(Fail::from("a table of at most 100 requests"))
+}
+
+// Each request for memory is refused in turn. At last there is none to be refused.
+#[test]
+fn a_report_that_wants_memory_writes_nothing(rt: HostRuntime) -> Result<(), Fail> {
+    let heap = Refusing::new(rt.alloc());
+    heap.refuse(0);
+    let mut house = House::new(&heap, BUDGET);
+    tables_want_memory(&rt, &heap, &mut house)
+}
+
+fn others_take_none<'a, A: Allocator>(
+    rt: &(impl Abort + AllocGlobal),
+    heap: &'a Refusing<A>,
+    house: &mut House<&'a Refusing<A>>,
+) -> Result<(), Fail> {
+    read_on(rt, heap, house)?;
+    heap.refuse(1);
+    for text in [FIT, b"WINDOW 1 1", b"REGISTER", b"WINDOW 0 1"] {
+        let mut out = Bytes::new(rt.alloc());
+        assert!(rt; answer(heap, house, text, &mut out)?.is_ok());
+    }
+    Ok(())
+}
+
+#[test]
+fn other_lines_take_no_memory(rt: HostRuntime) -> Result<(), Fail> {
+    let heap = Refusing::new(rt.alloc());
+    heap.refuse(0);
+    let mut house = House::new(&heap, BUDGET);
+    others_take_none(&rt, &heap, &mut house)
+}

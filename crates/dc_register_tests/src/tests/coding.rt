@@ -1,0 +1,121 @@
+//! Changes as bytes, and out of bytes. The worked bytes are put together by hand from the format.
+
+use dc_changes::{Body, Change, Command, DecodeFault, Flat, decode_changes, encode_change};
+use dc_stream::Bytes;
+use refusing_alloc::Refusing;
+use std::alloc::Allocator;
+use std::test::Fail;
+
+// The meter 12345678.PAD.01.07, with nothing to tell.
+const TELEGRAM: &[u8] = b"\x78\x56\x34\x12\x24\x40\x01\x07\x01\x00\x00\x00";
+
+fn put_telegram<A: Allocator>(bytes: &mut Bytes<A>) -> Result<(), Fail> {
+    let body = Body::parse(TELEGRAM).ok_or("body")?;
+    let change = Change::Telegram {
+        part: 1,
+        moment: 100,
+        body,
+    };
+    encode_change(&change, bytes)?;
+    Ok(())
+}
+
+fn put_command<A: Allocator>(line: &[u8], bytes: &mut Bytes<A>) -> Result<(), Fail> {
+    let found = Command::parse_line(line).ok_or("a command")?;
+    let change = Change::Command {
+        number: found.number,
+        command: found.command,
+    };
+    encode_change(&change, bytes)?;
+    Ok(())
+}
+
+#[test]
+fn changes_have_their_bytes(rt: HostRuntime) -> Result<(), Fail> {
+    let mut bytes = Bytes::new(rt.alloc());
+    put_command(b"1 FIT 12345678.PAD.01.07 1 1 A1", &mut bytes)?;
+    let fitted =
+        b"\x02\x01\x00\x00\x00\x00\x00\x00\x00\x78\x56\x34\x12\x24\x40\x01\x07\x01\x01\x02\x41\x31";
+    assert_eq!(rt; bytes.as_slice(), fitted.as_slice());
+    let mut bytes = Bytes::new(rt.alloc());
+    put_command(
+        b"2 SWAP 12345678.PAD.01.07 00000001.PAD.01.07 2",
+        &mut bytes,
+    )?;
+    let swapped =
+        b"\x06\x02\x00\x00\x00\x00\x00\x00\x00\x78\x56\x34\x12\x24\x40\x01\x07\x01\x00\x00\x00\x24\x40\x01\x07\x02";
+    assert_eq!(rt; bytes.as_slice(), swapped.as_slice());
+    let mut bytes = Bytes::new(rt.alloc());
+    put_telegram(&mut bytes)?;
+    let heard =
+        b"\x01\x01\x64\x00\x00\x00\x00\x00\x00\x00\x0C\x78\x56\x34\x12\x24\x40\x01\x07\x01\x00\x00\x00";
+    assert_eq!(rt; bytes.as_slice(), heard.as_slice());
+    Ok(())
+}
+
+// A change of each tag.
+fn put_each<A: Allocator>(bytes: &mut Bytes<A>) -> Result<(), Fail> {
+    put_telegram(bytes)?;
+    put_command(b"1 FIT 12345678.PAD.01.07 1 S A1", bytes)?;
+    put_command(b"2 MOVE 12345678.PAD.01.07 B2", bytes)?;
+    put_command(b"3 CONFIRM 1", bytes)?;
+    put_command(b"4 SWAP 12345678.PAD.01.07 00000001.PAD.01.07 250", bytes)?;
+    put_command(b"5 OUT 00000001.PAD.01.07", bytes)?;
+    Ok(())
+}
+
+#[test]
+fn a_change_of_each_tag_reads_back(rt: HostRuntime) -> Result<(), Fail> {
+    let mut bytes = Bytes::new(rt.alloc());
+    put_each(&mut bytes)?;
+    let changes = decode_changes(rt.alloc(), bytes.as_slice())?;
+    assert_eq!(rt; changes.len(), 6);
+    let mut again = Bytes::new(rt.alloc());
+    for change in &changes {
+        encode_change(change, &mut again)?;
+    }
+    assert_eq!(rt; again.as_slice(), bytes.as_slice());
+    assert!(rt; decode_changes(rt.alloc(), b"")?.is_empty());
+
+    // a cut end, and a tag that there isn't
+    let whole = bytes.as_slice();
+    assert!(rt; whole.len() > 1);
+    let cut = decode_changes(rt.alloc(), &whole[..whole.len() - 1]);
+    assert!(rt; matches!(cut, Err(DecodeFault::Bad)));
+    for tag in [b"\0".as_slice(), b"\x07"] {
+        let more = [whole, tag, TELEGRAM].concat(rt.alloc())?;
+        let refused = decode_changes(rt.alloc(), &more);
+        assert!(rt; matches!(refused, Err(DecodeFault::Bad)));
+    }
+    let name = format!(in rt.alloc(); "{}, {}", DecodeFault::Bad, DecodeFault::NoMemory)?;
+    assert_eq!(rt; name.as_str(), "1 Bad, 2 NoMemory");
+    Ok(())
+}
+
+// Each request is refused in turn, and the same call then succeeds. A list of six changes grows twice.
+#[test]
+fn each_growth_of_the_changes_is_refused_in_turn(rt: HostRuntime) -> Result<(), Fail> {
+    let mut bytes = Bytes::new(rt.alloc());
+    put_each(&mut bytes)?;
+    let heap = Refusing::new(rt.alloc());
+    let mut refused = 0;
+    for k in 1..30u64 {
+        heap.refuse(k);
+        if decode_changes(&heap, bytes.as_slice()).is_ok() {
+            break;
+        }
+        assert_eq!(rt; decode_changes(&heap, bytes.as_slice())?.len(), 6);
+        refused = k;
+    }
+    assert_eq!(rt; refused, 2);
+    Ok(())
+}
+
+#[test]
+fn flats_are_ordered_as_their_bytes(rt: HostRuntime) {
+    let names = [b"-".as_slice(), b"A", b"A1", b"A10", b"A2", b"B", b"a"];
+    for pair in names.windows(2) {
+        assert!(rt; Flat::new(pair[0]) < Flat::new(pair[1]));
+    }
+    assert_eq!(rt; Flat::new(b"A1"), Flat::new(b"A1"));
+}

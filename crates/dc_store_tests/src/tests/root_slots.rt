@@ -1,0 +1,155 @@
+//! The bytes of a root sector, and the choice after a stop or a failure within a root's write.
+
+ghost use Rattle.std.specs.Prelude.{◌<◌};
+
+use super::images::{OLD, UNREADABLE, WRITTEN, stop_at};
+use dc_roots::{Root, RootFault, choose, write_next};
+use dc_sectors::{Disk, MemoryDisk, ReadFault};
+use std::alloc::Global;
+use std::process::Abort;
+use std::test::Fail;
+
+const FIRST: Root = Root {
+    version: 2,
+    half: 0,
+    generation: 1,
+    session: 1,
+    base_sequence: 1,
+    half_len: 64,
+};
+
+const SECOND: Root = Root {
+    generation: 2,
+    session: 2,
+    ..FIRST
+};
+
+/// A disk on which the first root is synced, and the second one written.
+fn written_twice(rt: &impl Abort, alloc: Global) -> Result<MemoryDisk<Global>, Fail> {
+    let mut disk = MemoryDisk::new(alloc, 131)?;
+    assert_eq!(rt; disk.count(), 131);
+    let none = Root {
+        generation: 0,
+        ..FIRST
+    };
+    assert!(rt; write_next(&mut disk, &none) == Ok(FIRST));
+    assert!(rt; disk.sync().is_ok());
+    let opened = Root {
+        session: 2,
+        ..FIRST
+    };
+    assert!(rt; write_next(&mut disk, &opened) == Ok(SECOND));
+    Ok(disk)
+}
+
+#[test]
+fn a_root_sector_is_zero_behind_its_numbers(rt: HostRuntime) -> Result<(), Fail> {
+    let mut disk = written_twice(&rt, rt.alloc())?;
+    assert_eq!(rt; disk.count(), 131);
+    let mut sector = [0; 512];
+    sector[..8].copy_from_slice(&[0x4D, 0x42, 0x44, 0x43, 2, 0, 0, 0]);
+    sector[8] = 1;
+    sector[16] = 1;
+    sector[24] = 1;
+    sector[32] = 0x40;
+    assert!(rt; disk.read(2) == Ok(sector));
+    sector[8] = 2;
+    sector[16] = 2;
+    assert!(rt; disk.read(1) == Ok(sector));
+    Ok(())
+}
+
+/// Stops a disk that has one pending sector, written once.
+fn stop_one(
+    rt: &impl Abort,
+    disk: &mut MemoryDisk<Global>,
+    alloc: Global,
+    sector: u32,
+    way: usize,
+) -> Result<(), Fail> {
+    let pending = disk.pending()?;
+    assert!(rt; pending.as_slice() == [(sector, 1)].as_slice());
+    stop_at(alloc, disk, way)?;
+    Ok(())
+}
+
+fn chosen_after_stop(
+    rt: &impl Abort,
+    alloc: Global,
+    way: usize,
+) -> Result<Result<Root, RootFault>, Fail> {
+    let mut disk = written_twice(rt, alloc)?;
+    stop_one(rt, &mut disk, alloc, 1, way)?;
+    assert_eq!(rt; disk.count(), 131);
+    Ok(choose(&mut disk))
+}
+
+#[test]
+fn a_stop_leaves_the_old_root_or_the_new_one(rt: HostRuntime) -> Result<(), Fail> {
+    let alloc = rt.alloc();
+    assert!(rt; chosen_after_stop(&rt, alloc, OLD)? == Ok(FIRST));
+    assert!(rt; chosen_after_stop(&rt, alloc, UNREADABLE)? == Ok(FIRST));
+    assert!(rt; chosen_after_stop(&rt, alloc, WRITTEN)? == Ok(SECOND));
+    Ok(())
+}
+
+#[test]
+fn the_first_unreadable_slot_is_named(rt: HostRuntime) -> Result<(), Fail> {
+    let mut disk = MemoryDisk::new(rt.alloc(), 131)?;
+    assert_eq!(rt; disk.count(), 131);
+    assert!(rt; choose(&mut disk) == Err(RootFault::NoRoot(None)));
+    assert!(rt; write_next(&mut disk, &SECOND).is_ok());
+    stop_one(&rt, &mut disk, rt.alloc(), 2, UNREADABLE)?;
+    assert_eq!(rt; disk.count(), 131);
+    assert!(rt; choose(&mut disk) == Err(RootFault::NoRoot(Some(2))));
+    assert!(rt; write_next(&mut disk, &FIRST).is_ok());
+    stop_one(&rt, &mut disk, rt.alloc(), 1, UNREADABLE)?;
+    assert_eq!(rt; disk.count(), 131);
+    assert!(rt; choose(&mut disk) == Err(RootFault::NoRoot(Some(1))));
+    Ok(())
+}
+
+#[test]
+fn a_failed_read_is_a_device_fault(rt: HostRuntime) -> Result<(), Fail> {
+    let mut disk = written_twice(&rt, rt.alloc())?;
+    assert_eq!(rt; disk.count(), 131);
+    disk.fail_once(0);
+    assert!(rt; choose(&mut disk) == Err(RootFault::Device));
+    disk.fail_once(1);
+    assert!(rt; choose(&mut disk) == Err(RootFault::Device));
+    assert!(rt; choose(&mut disk) == Ok(SECOND));
+    disk.fail_once(0);
+    assert!(rt; write_next(&mut disk, &SECOND) == Err(RootFault::Device));
+    assert!(rt; disk.read(1) != Err(ReadFault::Failed));
+    Ok(())
+}
+
+#[test]
+fn the_last_generation_is_worn(rt: HostRuntime) -> Result<(), Fail> {
+    let mut disk = MemoryDisk::new(rt.alloc(), 131)?;
+    assert_eq!(rt; disk.count(), 131);
+    let last = Root {
+        generation: u64::MAX,
+        ..FIRST
+    };
+    assert!(rt; write_next(&mut disk, &last) == Err(RootFault::Worn));
+    assert_eq!(rt; disk.pending()?.len(), 0);
+    let before = Root {
+        generation: u64::MAX - 1,
+        ..FIRST
+    };
+    assert!(rt; write_next(&mut disk, &before) == Ok(last));
+    Ok(())
+}
+
+#[test]
+fn faults_have_numbers_and_names(rt: HostRuntime) -> Result<(), Fail> {
+    let fault = RootFault::NoRoot(Some(1));
+    assert_eq!(rt; fault.number(), 1);
+    assert_eq!(rt; fault.name(), "NoRoot");
+    assert_eq!(rt;
+        format!(in rt.alloc(); "{}", RootFault::Worn)?.as_str(),
+        "2 Worn"
+    );
+    Ok(())
+}

@@ -1,0 +1,14 @@
+//! What is tried below the register, by crate.
+
+mod address;
+mod base;
+mod linkframe;
+mod lives;
+mod readout;
+mod records;
+mod refusing_alloc;
+mod search;
+mod simulated;
+mod stream;
+mod text;
+mod units;

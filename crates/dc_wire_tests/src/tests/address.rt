@@ -1,0 +1,119 @@
+//! Identities and masks as they are sent and printed.
+
+use dc_address::{Identity, IdentityFault, Mask, Primary, order_of};
+use std::cmp::Ordering;
+use std::test::Fail;
+
+/// 12345678.PAD.01.07 as eight bytes.
+const WIRE: [u8; 8] = [0x78, 0x56, 0x34, 0x12, 0x24, 0x40, 0x01, 0x07];
+
+#[test]
+fn bytes_and_text_name_one_identity(rt: HostRuntime) -> Result<(), Fail> {
+    let identity = Identity::from_wire(&WIRE).ok_or("an identity")?;
+    assert_eq!(rt; identity.number, 12_345_678);
+    assert_eq!(rt; identity.maker, 0x4024);
+    assert_eq!(rt; identity.version, 1);
+    assert_eq!(rt; identity.kind, 7);
+    assert_eq!(rt; identity.wire(), WIRE);
+    assert_eq!(rt; identity.text(), *b"12345678.PAD.01.07");
+    assert_eq!(rt; Identity::parse_text(b"12345678.PAD.01.07"), Ok(identity));
+    Ok(())
+}
+
+#[test]
+fn other_bytes_name_none(rt: HostRuntime) {
+    let digit = [0x7A, 0x56, 0x34, 0x12, 0x24, 0x40, 0x01, 0x07];
+    assert_eq!(rt; Identity::from_wire(&digit), None);
+    let maker = [0x78, 0x56, 0x34, 0x12, 0x20, 0x40, 0x01, 0x07];
+    assert_eq!(rt; Identity::from_wire(&maker), None);
+}
+
+#[test]
+fn the_first_fault_of_a_text_is_named(rt: HostRuntime) {
+    assert_eq!(rt;
+        Identity::parse_text(b"12345678.PAD.01.7"),
+        Err(IdentityFault::Length)
+    );
+    assert_eq!(rt;
+        Identity::parse_text(b"1234567A.PAD.01.07"),
+        Err(IdentityFault::Digit)
+    );
+    assert_eq!(rt;
+        Identity::parse_text(b"12345678.PaD.01.0g"),
+        Err(IdentityFault::Letter)
+    );
+    assert_eq!(rt;
+        Identity::parse_text(b"12345678-PAD.01.0a"),
+        Err(IdentityFault::Hex)
+    );
+    assert_eq!(rt;
+        Identity::parse_text(b"12345678.PAD.01-07"),
+        Err(IdentityFault::Dot)
+    );
+}
+
+#[test]
+fn faults_print_as_number_and_name(rt: HostRuntime) -> Result<(), Fail> {
+    let table = [
+        (IdentityFault::Length, "1 Length"),
+        (IdentityFault::Digit, "2 Digit"),
+        (IdentityFault::Letter, "3 Letter"),
+        (IdentityFault::Hex, "4 Hex"),
+        (IdentityFault::Dot, "5 Dot"),
+    ];
+    for (fault, wanted) in &table {
+        assert_eq!(rt; format!(in rt.alloc(); "{fault}")?.as_str(), *wanted);
+    }
+    Ok(())
+}
+
+#[test]
+fn masks_are_sent_with_wildcards(rt: HostRuntime) -> Result<(), Fail> {
+    let identity = Identity::from_wire(&WIRE).ok_or("an identity")?;
+    assert_eq!(rt; Mask::of(&identity).wire(), WIRE);
+    assert_eq!(rt; Mask::all().wire(), [0xFF; 8]);
+    let first = Mask::all().with_digit(0, 1);
+    assert_eq!(rt;
+        first.wire(),
+        [0xFF, 0xFF, 0xFF, 0x1F, 0xFF, 0xFF, 0xFF, 0xFF]
+    );
+    assert!(rt; first.matches(&identity));
+    assert!(rt; !Mask::all().with_digit(7, 1).matches(&identity));
+    assert!(rt; Mask::of(&identity).matches(&identity));
+    Ok(())
+}
+
+#[test]
+fn masks_are_read_as_they_are_sent(rt: HostRuntime) -> Result<(), Fail> {
+    let identity = Identity::from_wire(&WIRE).ok_or("an identity")?;
+    assert_eq!(rt; Mask::from_wire(&WIRE), Some(Mask::of(&identity)));
+    assert_eq!(rt; Mask::from_wire(&[0xFF; 8]), Some(Mask::all()));
+    assert_eq!(rt;
+        Mask::from_wire(&[0xFF, 0xFF, 0xFF, 0x1F, 0xFF, 0xFF, 0xFF, 0xFF]),
+        Some(Mask::all().with_digit(0, 1))
+    );
+    let no_digit = [0xFF, 0xFF, 0xFF, 0x1A, 0xFF, 0xFF, 0xFF, 0xFF];
+    assert_eq!(rt; Mask::from_wire(&no_digit), None);
+    Ok(())
+}
+
+#[test]
+fn identities_ascend_from_the_least_to_the_greatest(rt: HostRuntime) -> Result<(), Fail> {
+    let identity = Identity::from_wire(&WIRE).ok_or("an identity")?;
+    assert_eq!(rt; Identity::least().text(), *b"00000000.AAA.00.00");
+    assert_eq!(rt; Identity::greatest().text(), *b"99999999.ZZZ.FF.FF");
+    assert_eq!(rt; order_of(&Identity::least(), &identity), Ordering::Less);
+    assert_eq!(rt;
+        order_of(&Identity::greatest(), &identity),
+        Ordering::Greater
+    );
+    Ok(())
+}
+
+#[test]
+fn primary_addresses_are_1_to_250(rt: HostRuntime) {
+    assert_eq!(rt; Primary::new(0), None);
+    assert_eq!(rt; Primary::new(1).map(Primary::get), Some(1));
+    assert_eq!(rt; Primary::new(250).map(Primary::get), Some(250));
+    assert_eq!(rt; Primary::new(251), None);
+}
