@@ -19,7 +19,7 @@ use lives::{
     COMMANDS, COMMANDS_DONE, COMPACTED, COMPACTED_DONE, MOVED, MOVED_DONE, READOUT, READOUT_DONE,
     REMOVED, REMOVED_DONE, SWAPPED, SWAPPED_DONE, UPGRADED, UPGRADED_DONE, full, of_version_1,
 };
-use std::alloc::Global;
+use std::io::Print;
 use std::ops::Range;
 use std::process::Abort;
 use std::test::Fail;
@@ -27,232 +27,164 @@ use stops::stops_everywhere;
 use turns::Way;
 use writes::breaks_everywhere;
 
-/// A stop at each call of the disk, and each call failing once: what was tried.
+/// Both ways in which a life is done.
+const WAYS: [Way; 2] = [Way::Call, Way::Run];
+
+/// A stop at each call of the disk, and each call failing once.
 fn tries_stops(
-    rt: &impl Abort,
-    heap: Global,
+    rt: &(impl Abort + AllocGlobal + Print),
     life: &Life<'_>,
     way: Way,
-) -> Result<String<Global>, Fail> {
-    let tried = stops_everywhere(rt, heap, life, way)?;
-    let calls = fails_everywhere(rt, heap, life, way)?;
-    Ok(format!(in heap;
+) -> Result<(), Fail> {
+    let tried = stops_everywhere(rt, rt.alloc(), life, way)?;
+    let calls = fails_everywhere(rt, rt.alloc(), life, way)?;
+    println!(rt;
         "{way:?}: {} stops, {} images, {calls} calls failed once",
         tried.stops, tried.images
-    )?)
+    )?;
+    Ok(())
 }
 
-/// Faults within the opening after a stop: what was tried.
-fn tries_openings(
-    rt: &impl Abort,
-    heap: Global,
-    life: &Life<'_>,
-    way: Way,
-) -> Result<String<Global>, Fail> {
-    let images = faults_in_the_opening(rt, heap, life, way)?;
-    Ok(format!(in heap; "{way:?}: {images} images of openings that stopped")?)
-}
-
-/// Each growth refused, and each write failing once: what was tried.
+/// Each growth refused, and each write failing once.
 fn tries_refusals(
-    rt: &impl Abort,
-    heap: Global,
+    rt: &(impl Abort + AllocGlobal + Print),
     life: &Life<'_>,
     way: Way,
-) -> Result<String<Global>, Fail> {
-    let growths = refuses_everywhere(rt, heap, life, way)?;
-    let writes = breaks_everywhere(rt, heap, life, way)?;
-    Ok(format!(in heap; "{way:?}: {growths} growths refused, {writes} writes failed")?)
+) -> Result<(), Fail> {
+    let growths = refuses_everywhere(rt, rt.alloc(), life, way)?;
+    let writes = breaks_everywhere(rt, rt.alloc(), life, way)?;
+    println!(rt; "{way:?}: {growths} growths refused, {writes} writes failed")?;
+    Ok(())
+}
+
+/// Faults within the life; what was tried is printed.
+fn tries_faults(rt: &(impl Abort + AllocGlobal + Print), life: &Life<'_>) -> Result<(), Fail> {
+    for way in WAYS {
+        tries_stops(rt, life, way)?;
+        tries_refusals(rt, life, way)?;
+    }
+    Ok(())
+}
+
+/// Faults within the opening after a stop; what was tried is printed.
+fn tries_openings(rt: &(impl Abort + AllocGlobal + Print), life: &Life<'_>) -> Result<(), Fail> {
+    for way in WAYS {
+        let images = faults_in_the_opening(rt, rt.alloc(), life, way)?;
+        println!(rt; "{way:?}: {images} images of openings that stopped")?;
+    }
+    Ok(())
+}
+
+fn tries_all(rt: &(impl Abort + AllocGlobal + Print), life: &Life<'_>) -> Result<(), Fail> {
+    tries_faults(rt, life)?;
+    tries_openings(rt, life)
 }
 
 #[test]
 fn faults_in_commands(rt: HostRuntime) -> Result<(), Fail> {
-    let heap = rt.alloc();
-    let life = Life {
-        disk: blank(heap)?,
-        steps: &COMMANDS,
-        changes: &COMMANDS_DONE,
-    };
-    for way in [Way::Call, Way::Run] {
-        println!(rt; "{}", tries_stops(&rt, heap, &life, way)?.as_str())?;
-        println!(rt; "{}", tries_openings(&rt, heap, &life, way)?.as_str())?;
-        println!(rt; "{}", tries_refusals(&rt, heap, &life, way)?.as_str())?;
-    }
-    Ok(())
+    let disk = blank(rt.alloc())?;
+    tries_all(&rt, &Life::of(disk, &COMMANDS, &COMMANDS_DONE))
 }
 
 #[test]
 fn faults_in_a_readout(rt: HostRuntime) -> Result<(), Fail> {
-    let heap = rt.alloc();
-    let life = Life {
-        disk: blank(heap)?,
-        steps: &READOUT,
-        changes: &READOUT_DONE,
-    };
-    for way in [Way::Call, Way::Run] {
-        println!(rt; "{}", tries_stops(&rt, heap, &life, way)?.as_str())?;
-        println!(rt; "{}", tries_openings(&rt, heap, &life, way)?.as_str())?;
-        println!(rt; "{}", tries_refusals(&rt, heap, &life, way)?.as_str())?;
-    }
-    Ok(())
+    let disk = blank(rt.alloc())?;
+    tries_all(&rt, &Life::of(disk, &READOUT, &READOUT_DONE))
 }
 
 #[test]
 fn faults_where_a_meter_moves(rt: HostRuntime) -> Result<(), Fail> {
-    let heap = rt.alloc();
-    let life = Life {
-        disk: blank(heap)?,
-        steps: &MOVED,
-        changes: &MOVED_DONE,
-    };
-    for way in [Way::Call, Way::Run] {
-        println!(rt; "{}", tries_stops(&rt, heap, &life, way)?.as_str())?;
-        println!(rt; "{}", tries_openings(&rt, heap, &life, way)?.as_str())?;
-        println!(rt; "{}", tries_refusals(&rt, heap, &life, way)?.as_str())?;
-    }
-    Ok(())
+    let disk = blank(rt.alloc())?;
+    tries_all(&rt, &Life::of(disk, &MOVED, &MOVED_DONE))
 }
 
 #[test]
 fn faults_where_a_meter_goes(rt: HostRuntime) -> Result<(), Fail> {
-    let heap = rt.alloc();
-    let life = Life {
-        disk: blank(heap)?,
-        steps: &REMOVED,
-        changes: &REMOVED_DONE,
-    };
-    for way in [Way::Call, Way::Run] {
-        println!(rt; "{}", tries_stops(&rt, heap, &life, way)?.as_str())?;
-        println!(rt; "{}", tries_openings(&rt, heap, &life, way)?.as_str())?;
-        println!(rt; "{}", tries_refusals(&rt, heap, &life, way)?.as_str())?;
-    }
-    Ok(())
+    let disk = blank(rt.alloc())?;
+    tries_all(&rt, &Life::of(disk, &REMOVED, &REMOVED_DONE))
 }
 
 #[test]
 fn faults_where_a_meter_is_changed(rt: HostRuntime) -> Result<(), Fail> {
-    let heap = rt.alloc();
-    let life = Life {
-        disk: blank(heap)?,
-        steps: &SWAPPED,
-        changes: &SWAPPED_DONE,
-    };
-    for way in [Way::Call, Way::Run] {
-        println!(rt; "{}", tries_stops(&rt, heap, &life, way)?.as_str())?;
-        println!(rt; "{}", tries_openings(&rt, heap, &life, way)?.as_str())?;
-        println!(rt; "{}", tries_refusals(&rt, heap, &life, way)?.as_str())?;
-    }
-    Ok(())
+    let disk = blank(rt.alloc())?;
+    tries_all(&rt, &Life::of(disk, &SWAPPED, &SWAPPED_DONE))
 }
 
 #[test]
-fn stops_in_a_compaction(rt: HostRuntime) -> Result<(), Fail> {
-    let heap = rt.alloc();
-    let life = Life {
-        disk: full(heap)?,
-        steps: &COMPACTED,
-        changes: &COMPACTED_DONE,
-    };
-    for way in [Way::Call, Way::Run] {
-        println!(rt; "{}", tries_stops(&rt, heap, &life, way)?.as_str())?;
-        println!(rt; "{}", tries_refusals(&rt, heap, &life, way)?.as_str())?;
-    }
-    Ok(())
+fn faults_in_a_compaction(rt: HostRuntime) -> Result<(), Fail> {
+    let disk = full(rt.alloc())?;
+    tries_faults(&rt, &Life::of(disk, &COMPACTED, &COMPACTED_DONE))
 }
 
 #[test]
 fn faults_in_the_opening_after_a_compaction(rt: HostRuntime) -> Result<(), Fail> {
-    let heap = rt.alloc();
-    let life = Life {
-        disk: full(heap)?,
-        steps: &COMPACTED,
-        changes: &COMPACTED_DONE,
-    };
-    for way in [Way::Call, Way::Run] {
-        println!(rt; "{}", tries_openings(&rt, heap, &life, way)?.as_str())?;
-    }
-    Ok(())
+    let disk = full(rt.alloc())?;
+    tries_openings(&rt, &Life::of(disk, &COMPACTED, &COMPACTED_DONE))
 }
 
 #[test]
 fn faults_in_an_image_of_version_1(rt: HostRuntime) -> Result<(), Fail> {
-    let heap = rt.alloc();
-    let life = Life {
-        disk: of_version_1(&rt, heap)?,
-        steps: &UPGRADED,
-        changes: &UPGRADED_DONE,
-    };
-    for way in [Way::Call, Way::Run] {
-        println!(rt; "{}", tries_stops(&rt, heap, &life, way)?.as_str())?;
-        println!(rt; "{}", tries_openings(&rt, heap, &life, way)?.as_str())?;
-        println!(rt; "{}", tries_refusals(&rt, heap, &life, way)?.as_str())?;
+    let disk = of_version_1(&rt, rt.alloc())?;
+    tries_all(&rt, &Life::of(disk, &UPGRADED, &UPGRADED_DONE))
+}
+
+/// Each growth of the disk refused; what was tried is printed.
+fn tries_a_full_disk(rt: &(impl Abort + AllocGlobal + Print), life: &Life<'_>) -> Result<(), Fail> {
+    for way in WAYS {
+        let growths = disk_refuses_everywhere(rt, rt.alloc(), life, way)?;
+        println!(rt; "{way:?}: {growths} growths of the disk refused")?;
     }
     Ok(())
 }
 
 #[test]
 fn refused_growths_of_the_disk(rt: HostRuntime) -> Result<(), Fail> {
-    let heap = rt.alloc();
-    let life = Life {
-        disk: blank(heap)?,
-        steps: &READOUT,
-        changes: &READOUT_DONE,
-    };
-    for way in [Way::Call, Way::Run] {
-        let growths = disk_refuses_everywhere(&rt, heap, &life, way)?;
-        println!(rt; "{way:?}: {growths} growths of the disk refused")?;
-    }
-    Ok(())
+    let disk = blank(rt.alloc())?;
+    tries_a_full_disk(&rt, &Life::of(disk, &READOUT, &READOUT_DONE))
 }
 
-/// Stops a format at these calls, of a blank disk or of one that was an image once: what was tried.
-fn tries_formats(rt: &impl Abort, heap: Global, calls: Range<u64>) -> Result<String<Global>, Fail> {
-    let disk = stale(rt, heap, &full(heap)?)?;
-    let (tried, ones) = formats_stopped(rt, heap, &disk, calls)?;
-    Ok(format!(in heap;
+/// Stops a format at these calls, of a blank disk or of one that was an image once; what was tried is printed.
+fn tries_formats(rt: &(impl Abort + AllocGlobal + Print), calls: Range<u64>) -> Result<(), Fail> {
+    let disk = stale(rt, rt.alloc(), &full(rt.alloc())?)?;
+    let (tried, ones) = formats_stopped(rt, rt.alloc(), &disk, calls)?;
+    println!(rt;
         "{} stops, {} images, of which {ones} are images of a store",
         tried.stops, tried.images
-    )?)
+    )?;
+    Ok(())
 }
 
 #[test]
 fn stops_early_in_a_format(rt: HostRuntime) -> Result<(), Fail> {
-    println!(rt; "{}", tries_formats(&rt, rt.alloc(), 0..50)?.as_str())?;
-    Ok(())
+    tries_formats(&rt, 0..50)
 }
 
 #[test]
 fn stops_in_a_format_at_call_50(rt: HostRuntime) -> Result<(), Fail> {
-    println!(rt; "{}", tries_formats(&rt, rt.alloc(), 50..70)?.as_str())?;
-    Ok(())
+    tries_formats(&rt, 50..70)
 }
 
 #[test]
 fn stops_in_a_format_at_call_70(rt: HostRuntime) -> Result<(), Fail> {
-    println!(rt; "{}", tries_formats(&rt, rt.alloc(), 70..86)?.as_str())?;
-    Ok(())
+    tries_formats(&rt, 70..86)
 }
 
 #[test]
 fn stops_in_a_format_at_call_86(rt: HostRuntime) -> Result<(), Fail> {
-    println!(rt; "{}", tries_formats(&rt, rt.alloc(), 86..100)?.as_str())?;
-    Ok(())
+    tries_formats(&rt, 86..100)
 }
 
 #[test]
 fn stops_in_a_format_at_call_100(rt: HostRuntime) -> Result<(), Fail> {
-    println!(rt; "{}", tries_formats(&rt, rt.alloc(), 100..112)?.as_str())?;
-    Ok(())
+    tries_formats(&rt, 100..112)
 }
 
 #[test]
 fn stops_in_a_format_at_call_112(rt: HostRuntime) -> Result<(), Fail> {
-    println!(rt; "{}", tries_formats(&rt, rt.alloc(), 112..124)?.as_str())?;
-    Ok(())
+    tries_formats(&rt, 112..124)
 }
 
 #[test]
 fn stops_late_in_a_format(rt: HostRuntime) -> Result<(), Fail> {
-    println!(rt; "{}", tries_formats(&rt, rt.alloc(), 124..1000)?.as_str())?;
-    Ok(())
+    tries_formats(&rt, 124..1000)
 }

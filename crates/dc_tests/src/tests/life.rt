@@ -39,6 +39,21 @@ pub struct Life<'a> {
     pub changes: &'a [&'a [u8]],
 }
 
+impl<'a> Life<'a> {
+    /// The life that begins with this image.
+    pub fn of(
+        disk: MemoryDisk<Global>,
+        steps: &'a [Step<'a>],
+        changes: &'a [&'a [u8]],
+    ) -> Life<'a> {
+        Life {
+            disk,
+            steps,
+            changes,
+        }
+    }
+}
+
 /// The event of a deed.
 pub fn event_of<'a>(deed: &Deed<'a>) -> Result<Event<'a>, Fail>
     ensures { IfOk result (λ event. IsEvent event) }
