@@ -8,56 +8,58 @@ use Rattle.dc_sectors.specs.Disk.{Image}
 use Rattle.dc_pages.specs.Group.{IsPage, IsCommit, IsGroup, IsComplete, commit_kind, piece}
 use Rattle.dc_fields.specs.Fields.{field}
 use Rattle.dc_sectors.proofs.Texts.{one_text}
+use Rattle.dc_pages.specs.declared.site.Site.{Site}
 
 -- what agrees up to its end has the same group
-pub same_group : (version kind session sequence : ℕ) (payload : List ℕ) (pages place limit : ℕ) (a b : Image)
-    → ((m : ℕ) → place ≤ m → m ≤ place + pages → a m ≡ b m)
-    → IsGroup version kind session sequence payload pages place limit a → IsGroup version kind session sequence payload pages place limit b
-same_group version kind session sequence payload pages place limit a b same is = record {
+pub same_group : (site : Site) (session : ℕ) (payload : List ℕ) (pages : ℕ) (a b : Image)
+    → ((m : ℕ) → site.first ≤ m → m ≤ site.first + pages → a m ≡ b m)
+    → IsGroup site session payload pages a → IsGroup site session payload pages b
+same_group site session payload pages a b same is = record {
   some = is.some;
   all = is.all;
   fits = is.fits;
-  page = λ i lt. subst (IsPage version kind session sequence i (piece i payload)) (same (place + i) (omega arith) (omega arith)) (is.page i lt);
-  commit = subst (IsCommit version session sequence pages) (same (place + pages) (omega arith) (omega arith)) is.commit;
+  page = λ i lt. subst (IsPage site session i (piece i payload)) (same (site.first + i) (omega arith) (omega arith)) (is.page i lt);
+  commit = subst (IsCommit site session pages) (same (site.first + pages) (omega arith) (omega arith)) is.commit;
 }
 
 -- what agrees up to the half's end has the same complete group
-pub same_complete : (version kind sequence place limit : ℕ) (a b : Image)
-    → ((m : ℕ) → place ≤ m → m < limit → a m ≡ b m) → IsComplete version kind sequence place limit a → IsComplete version kind sequence place limit b
-same_complete version kind sequence place limit a b same is =
+pub same_complete : (site : Site) (a b : Image) → ((m : ℕ) → site.first ≤ m → m < site.limit → a m ≡ b m) → IsComplete site a → IsComplete site b
+same_complete site a b same is =
     let fits = is.group.fits in
     record {
       session = is.session;
       payload = is.payload;
       pages = is.pages;
-      group = same_group version kind is.session sequence is.payload is.pages place limit a b (λ m le up. same m le (omega arith)) is.group;
+      group = same_group site is.session is.payload is.pages a b (λ m le up. same m le (omega arith)) is.group;
     }
 
 pub not_lost : (sector : Sector) (a : List ℕ) → sector ≡ Bytes a → sector ≡ Unreadable → ⊥
 not_lost sector a left right = cc
 
-pub page_or_commit : (version kind session sequence index version' session' sequence' pages : ℕ) (content : List ℕ) (sector : Sector)
-    → kind ≢ commit_kind → IsPage version kind session sequence index content sector → IsCommit version' session' sequence' pages sector → ⊥
-page_or_commit version kind session sequence index version' session' sequence' pages content sector other page commit =
+pub page_or_commit : (a b : Site) (session index session' pages : ℕ) (content : List ℕ) (sector : Sector)
+    → a.kind ≢ commit_kind → IsPage a session index content sector → IsCommit b session' pages sector → ⊥
+page_or_commit a b session index session' pages content sector other page commit =
     let same = one_text sector page.bytes commit.bytes page.readable commit.readable in
     let at_page = page.head.kind_is in
     let at_commit = commit.head.kind_is in
     other (sym at_page ∙ ap (λ (bytes : List ℕ). slice_index bytes 0) same ∙ at_commit)
 
-pub one_content : (version kind session sequence index version' kind' session' sequence' index' : ℕ) (content content' : List ℕ) (sector : Sector)
-    → IsPage version kind session sequence index content sector → IsPage version' kind' session' sequence' index' content' sector → (content ≡ content') × (session ≡ session')
-one_content version kind session sequence index version' kind' session' sequence' index' content content' sector a b =
-    let same = one_text sector a.bytes b.bytes a.readable b.readable in
-    let long : length content ≡ length content' = sym a.head.used_is ∙ ap (λ (bytes : List ℕ). field 2 2 bytes) same ∙ b.head.used_is in
-    let text : take (length content) (drop 24 a.bytes) ≡ take (length content') (drop 24 b.bytes) = cc in (
-      sym a.content_is ∙ text ∙ b.content_is,
-      sym a.head.session_is ∙ ap (λ (bytes : List ℕ). field 8 8 bytes) same ∙ b.head.session_is,
+pub one_content : (a b : Site) (session index session' index' : ℕ) (content content' : List ℕ) (sector : Sector)
+    → IsPage a session index content sector → IsPage b session' index' content' sector → (content ≡ content') × (session ≡ session')
+one_content a b session index session' index' content content' sector page other =
+    let same = one_text sector page.bytes other.bytes page.readable other.readable in
+    let long : length content ≡ length content' = sym page.head.used_is ∙ ap (λ (bytes : List ℕ). field 2 2 bytes) same ∙ other.head.used_is in
+    let text : take (length content) (drop 24 page.bytes) ≡ take (length content') (drop 24 other.bytes) = cc in (
+      sym page.content_is ∙ text ∙ other.content_is,
+      sym page.head.session_is ∙ ap (λ (bytes : List ℕ). field 8 8 bytes) same ∙ other.head.session_is,
     )
 
-pub one_count : (version kind session sequence version' session' sequence' : ℕ) (payload payload' : List ℕ) (pages pages' place limit limit' : ℕ) (image : Image)
-    → kind ≢ commit_kind → IsGroup version kind session sequence payload pages place limit image → IsGroup version' kind session' sequence' payload' pages' place limit' image → pages' ≤ pages
-one_count version kind session sequence version' session' sequence' payload payload' pages pages' place limit limit' image other a b =
-    ⊎_elim (λ (lt : pages < pages'). absurd (page_or_commit _ _ _ _ _ _ _ _ _ _ _ other (b.page pages lt) a.commit)) (λ le. le) (cases_lt pages pages')
+pub one_count : (a b : Site) (session session' : ℕ) (payload payload' : List ℕ) (pages pages' : ℕ) (image : Image) → b.kind ≢ commit_kind → a.first ≡ b.first
+    → IsGroup a session payload pages image → IsGroup b session' payload' pages' image → pages' ≤ pages
+one_count a b session session' payload payload' pages pages' image other same one two =
+    ⊎_elim
+    (λ (lt : pages < pages'). absurd (page_or_commit b a _ _ _ _ _ _ other (two.page pages lt) (subst (λ (n : ℕ). IsCommit a session pages (image (n + pages))) same one.commit)))
+    (λ le. le) (cases_lt pages pages')
 
 pub pieces_same : (n : ℕ) (a b : List ℕ) → length a ≤ 488 * n → length b ≤ 488 * n → ((i : ℕ) → i < n → piece i a ≡ piece i b) → a ≡ b
 pieces_same zero a b up up' same = nil_from_length a (omega arith) ∙ sym (nil_from_length b (omega arith))
@@ -69,18 +71,21 @@ pieces_same (suc n) a b up up' same =
     sym (take-append-drop 488 a) ∙ ap (λ (l : List ℕ). l ++ drop 488 a) first ∙ ap (λ (l : List ℕ). take 488 b ++ l) rest ∙ take-append-drop 488 b
 
 -- a group at a place has one payload, one number of pages and one session
-pub one_group : (version kind session sequence version' session' sequence' : ℕ) (payload payload' : List ℕ) (pages pages' place limit limit' : ℕ) (image : Image)
-    → kind ≢ commit_kind → IsGroup version kind session sequence payload pages place limit image → IsGroup version' kind session' sequence' payload' pages' place limit' image
+pub one_group : (a b : Site) (session session' : ℕ) (payload payload' : List ℕ) (pages pages' : ℕ) (image : Image) → a.kind ≢ commit_kind → a.kind ≡ b.kind → a.first ≡ b.first
+    → IsGroup a session payload pages image → IsGroup b session' payload' pages' image
     → (payload ≡ payload') × (pages ≡ pages') × (session ≡ session')
-one_group version kind session sequence version' session' sequence' payload payload' pages pages' place limit limit' image other a b =
-    let le = one_count _ _ _ _ _ _ _ _ _ _ _ _ _ _ image other a b in
-    let ge = one_count _ _ _ _ _ _ _ _ _ _ _ _ _ _ image other b a in
+one_group a b session session' payload payload' pages pages' image other same_kind same_first one two =
+    let le = one_count a b _ _ _ _ _ _ image (subst (λ (k : ℕ). k ≢ commit_kind) same_kind other) same_first one two in
+    let ge = one_count b a _ _ _ _ _ _ image other (sym same_first) two one in
     let count : pages ≡ pages' = omega arith in
-    let some = a.some in
-    let up = a.all in
-    let up' = b.all in (
-      pieces_same pages payload payload' up (omega arith)
-          (λ i lt. (one_content _ _ _ _ _ _ _ _ _ _ _ _ _ (a.page i lt) (b.page i (omega arith))).0),
+    let some = one.some in
+    let up = one.all in
+    let up' = two.all in (
+      pieces_same pages payload payload' up (omega arith) (λ i lt. (one_content a b _ _ _ _ _ _ _ (one.page i lt) (moved i (omega arith))).0),
       count,
-      (one_content _ _ _ _ _ _ _ _ _ _ _ _ _ (a.page 0 (omega arith)) (b.page 0 (omega arith))).1,
+      (one_content a b _ _ _ _ _ _ _ (one.page 0 (omega arith)) (moved 0 (omega arith))).1,
     )
+  where
+    -- the other's pages, by the first's numbers
+    moved : (i : ℕ) → i < pages' → IsPage b session' i (piece i payload') (image (a.first + i))
+    moved i lt = subst (λ (n : ℕ). IsPage b session' i (piece i payload') (image (n + i))) (sym same_first) (two.page i lt)

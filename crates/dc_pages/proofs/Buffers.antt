@@ -4,6 +4,7 @@ use Rattle.std.proofs.lemmas.List.{drop-append-le, drop-take, drop-drop, drop-re
 use borrow.Rule.Slice.PartMut.{put_mid, mid_of, same_len_mid}
 use Rattle.dc_pages.specs.Buffer.{IsBuffer}
 use Rattle.dc_pages.specs.Group.{head_bytes, page_bytes}
+use Rattle.dc_pages.specs.declared.site.Site.{Site}
 use Rattle.dc_pages.proofs.Stamped.{length-head_bytes}
 
 module _ (used count k : ℕ) (page bytes : List ℕ) (is : IsBuffer used page) (within : used + count ≤ 488) (all : length bytes ≡ count) (k_is : k ≡ count) where
@@ -46,15 +47,15 @@ module _ (used count k : ℕ) (page bytes : List ℕ) (is : IsBuffer used page) 
   }
 
 -- a head before the buffer makes the page's sector
-pub sealed : (version kind session sequence index used : ℕ) (page new : List ℕ) → IsBuffer used page → new ≡ head_bytes kind version used index session sequence ++ drop 24 page
-    → new ≡ page_bytes version kind session sequence index (take used (drop 24 page))
+pub sealed : (site : Site) (session index used : ℕ) (page new : List ℕ) → IsBuffer used page → new ≡ head_bytes site.kind site.version used index session site.sequence ++ drop 24 page
+    → new ≡ page_bytes site session index (take used (drop 24 page))
 unfolding page_bytes
-sealed version kind session sequence index used page new is e =
+sealed site session index used page new is e =
     let long = is.long in
     let small = is.small in
     let full : used ≡ length (take used (drop 24 page)) = sym (length-take-le used (drop 24 page) (omega (arith, length-drop 24 page))) in
-    e ∙ ap (λ (l : List ℕ). head_bytes kind version used index session sequence ++ l) is.clean
-    ∙ ap (λ (n : ℕ). head_bytes kind version n index session sequence ++ (take used (drop 24 page) ++ replicate (488 - n) 0)) full
+    e ∙ ap (λ (l : List ℕ). head_bytes site.kind site.version used index session site.sequence ++ l) is.clean
+    ∙ ap (λ (n : ℕ). head_bytes site.kind site.version n index session site.sequence ++ (take used (drop 24 page) ++ replicate (488 - n) 0)) full
 
 -- a head leaves the buffer behind it
 pub headed_buffer : (kind version index session sequence used : ℕ) (page new : List ℕ) → IsBuffer used page → length new ≡ 512 → new ≡ head_bytes kind version used index session sequence ++ drop 24 page

@@ -48,8 +48,8 @@ module _ {D : Type 0} (honest : Type 0) (reads : D → Image) (choices : D → C
   pub breaks_off-behind : (old mid new : D) (was between : Draft) (front piece rest : List ℕ) → GoesInto honest reads choices moment images_since sectors failures old mid was between front → BreaksOff honest reads choices moment images_since sectors failures mid new between piece → BreaksOff honest reads choices moment images_since sectors failures old new was (front ++ (piece ++ rest))
   breaks_off-behind old mid new was between front piece rest first broken = record {
     failed = λ room within.
-        let same = ap (λ (d : Draft). d.limit) first.same in
-        let place = ap (λ (d : Draft). d.place) first.same in
+        let same = ap (λ (d : Draft). d.site.limit) first.same in
+        let place = ap (λ (d : Draft). d.site.first) first.same in
         let long = first.length_is in
         let all = length-append front (piece ++ rest) in
         let behind = length-append piece rest in
@@ -58,7 +58,7 @@ module _ {D : Type 0} (honest : Type 0) (reads : D → Image) (choices : D → C
         let risen : HasRisen (failures mid) (failures new) = broken.failed (omega arith) (omega arith) in
         omega arith;
     any_moment = λ h start payload going.
-        let P : Draft → Type 0 = λ d. LeavesOnly moment images_since start new (IsPartOf d.version d.kind d.session d.sequence d.place d.limit (reads start)) in
+        let P : Draft → Type 0 = λ d. LeavesOnly moment images_since start new (IsPartOf d.site d.session (reads start)) in
         subst P first.same (broken.any_moment h start (payload ++ front) (first.going h start payload going));
     count = broken.count ∙ first.count;
     later = omega (arith, first.later, broken.later);

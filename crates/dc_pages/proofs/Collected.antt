@@ -9,13 +9,14 @@ use Rattle.dc_pages.specs.Reading.{IsBegun, IsCutAt}
 use Rattle.dc_pages.specs.Judging.{IsStep}
 use Rattle.dc_pages.proofs.Agree.{page_or_commit}
 use Rattle.dc_pages.specs.declared.fault.GroupFault.{GroupFault}
-use Rattle.dc_pages.specs.declared.reader.Wanted.{Wanted}
 use Rattle.dc_pages.proofs.Turning.{piece_same}
+use Rattle.dc_pages.specs.declared.site.Site.{Site}
 
-pub page_read : (kind' version' index' sequence' used session kind version index sequence : ℕ) (bytes : List ℕ) → length bytes ≡ 512 → used ≤ 488
-    → kind' ≡ kind → version' ≡ version → index' ≡ index → sequence' ≡ sequence → IsHead kind' version' used index' session sequence' bytes
-    → IsPage version kind session sequence index (take used (drop 24 bytes)) (Bytes bytes)
-page_read kind' version' index' sequence' used session kind version index sequence bytes long le k v i q head =
+-- the bytes under a head that was judged are that page
+pub page_read : (site : Site) (kind version index sequence used session at : ℕ) (bytes : List ℕ) → length bytes ≡ 512 → used ≤ 488
+    → kind ≡ site.kind → version ≡ site.version → index ≡ at → sequence ≡ site.sequence → IsHead kind version used index session sequence bytes
+    → IsPage site session at (take used (drop 24 bytes)) (Bytes bytes)
+page_read site kind version index sequence used session at bytes long le k v i q head =
     let full : length (take used (drop 24 bytes)) ≡ used = length-take-le used (drop 24 bytes) (omega (arith, length-drop 24 bytes)) in
     record {
       bytes = bytes;
@@ -25,18 +26,18 @@ page_read kind' version' index' sequence' used session kind version index sequen
     }
 
 -- one page more
-pub begun_more : (version kind session sequence : ℕ) (payload content : List ℕ) (i place limit : ℕ) (image : Image) → IsBegun version kind session sequence payload i place limit image
-    → length payload ≡ 488 * i → 0 < length content → length content ≤ 488 → place + i < limit → IsPage version kind session sequence i content (image (place + i))
-    → IsBegun version kind session sequence (payload ++ content) (i + 1) place limit image
-begun_more version kind session sequence payload content i place limit image is full some le fits page =
+pub begun_more : (site : Site) (session : ℕ) (payload content : List ℕ) (i : ℕ) (image : Image) → IsBegun site session payload i image
+    → length payload ≡ 488 * i → 0 < length content → length content ≤ 488 → site.first + i < site.limit → IsPage site session i content (image (site.first + i))
+    → IsBegun site session (payload ++ content) (i + 1) image
+begun_more site session payload content i image is full some le fits page =
     let long = length-append payload content in
     record {
       some = inr (omega arith);
       all = omega arith;
       fits = omega arith;
       page = λ k lt. ⊎_elim
-          (λ (e : k ≡ i). subst (λ (j : ℕ). IsPage version kind session sequence j (piece j (payload ++ content)) (image (place + j))) (sym e)
-          (subst (λ (c : List ℕ). IsPage version kind session sequence i c (image (place + i))) (sym (ap (take 488) (drop_at payload content (488 * i) full) ∙ take_all 488 content le)) page))
+          (λ (e : k ≡ i). subst (λ (j : ℕ). IsPage site session j (piece j (payload ++ content)) (image (site.first + j))) (sym e)
+          (subst (λ (c : List ℕ). IsPage site session i c (image (site.first + i))) (sym (ap (take 488) (drop_at payload content (488 * i) full) ∙ take_all 488 content le)) page))
           (λ (not : k ≡ i → ⊥). earlier k (below k lt not))
           (cases_eq k i);
     }
@@ -44,13 +45,13 @@ begun_more version kind session sequence payload content i place limit image is 
     below : (k : ℕ) → k < i + 1 → (k ≡ i → ⊥) → k < i
     below k lt not = ⊎_elim (λ (yes : k < i). yes) (λ (ge : i ≤ k). absurd (not (omega arith))) (cases_lt k i)
 
-    earlier : (k : ℕ) → k < i → IsPage version kind session sequence k (piece k (payload ++ content)) (image (place + k))
-    earlier k lt = subst (λ (c : List ℕ). IsPage version kind session sequence k c (image (place + k))) (sym (piece_same k payload content (omega arith))) (is.page k lt)
+    earlier : (k : ℕ) → k < i → IsPage site session k (piece k (payload ++ content)) (image (site.first + k))
+    earlier k lt = subst (λ (c : List ℕ). IsPage site session k c (image (site.first + k))) (sym (piece_same k payload content (omega arith))) (is.page k lt)
 
 -- and the commit sector
-pub begun_closed : (version kind session sequence : ℕ) (payload : List ℕ) (i place limit : ℕ) (image : Image) → IsBegun version kind session sequence payload i place limit image
-    → 0 < i → place + i < limit → IsCommit version session sequence i (image (place + i)) → IsGroup version kind session sequence payload i place limit image
-begun_closed version kind session sequence payload i place limit image is some fits commit = record {
+pub begun_closed : (site : Site) (session : ℕ) (payload : List ℕ) (i : ℕ) (image : Image) → IsBegun site session payload i image
+    → 0 < i → site.first + i < site.limit → IsCommit site session i (image (site.first + i)) → IsGroup site session payload i image
+begun_closed site session payload i image is some fits commit = record {
   some = ⊎_elim (λ none. absurd (omega (arith, none))) (λ more. more) is.some;
   all = is.all;
   fits = fits;
@@ -59,13 +60,13 @@ begun_closed version kind session sequence payload i place limit image is some f
 }
 
 -- before the first sector
-pub begun_first : (version kind session sequence place limit : ℕ) (image : Image) → place ≤ limit → IsBegun version kind session sequence [] 0 place limit image
-begun_first version kind session sequence place limit image le = record { some = inl refl; all = omega arith; fits = omega arith; page = λ k lt. absurd (omega arith) }
+pub begun_first : (site : Site) (session : ℕ) (image : Image) → site.first ≤ site.limit → IsBegun site session [] 0 image
+begun_first site session image le = record { some = inl refl; all = omega arith; fits = omega arith; page = λ k lt. absurd (omega arith) }
 
 -- the ways in which a sector doesn't fit
-pub cut_lost : (version kind session sequence : ℕ) (payload : List ℕ) (i place limit n : ℕ) (image : Image) → IsBegun version kind session sequence payload i place limit image
-    → n ≡ place + i → image n ≡ Unreadable → IsCutAt version kind sequence place limit n image
-cut_lost version kind session sequence payload i place limit n image is at lost = record {
+pub cut_lost : (site : Site) (session : ℕ) (payload : List ℕ) (i n : ℕ) (image : Image) → IsBegun site session payload i image
+    → n ≡ site.first + i → image n ≡ Unreadable → IsCutAt site n image
+cut_lost site session payload i n image is at lost = record {
   session = session;
   payload = payload;
   i = i;
@@ -75,9 +76,9 @@ cut_lost version kind session sequence payload i place limit n image is at lost 
   no_commit = λ lt some commit. let readable = commit.readable in cc;
 }
 
-pub cut_end : (version kind session sequence : ℕ) (payload : List ℕ) (i place limit n : ℕ) (image : Image) → IsBegun version kind session sequence payload i place limit image
-    → n ≡ place + i → limit ≤ n → IsCutAt version kind sequence place limit n image
-cut_end version kind session sequence payload i place limit n image is at past = record {
+pub cut_end : (site : Site) (session : ℕ) (payload : List ℕ) (i n : ℕ) (image : Image) → IsBegun site session payload i image
+    → n ≡ site.first + i → site.limit ≤ n → IsCutAt site n image
+cut_end site session payload i n image is at past = record {
   session = session;
   payload = payload;
   i = i;
@@ -87,55 +88,53 @@ cut_end version kind session sequence payload i place limit n image is at past =
   no_commit = λ lt some commit. absurd (omega arith);
 }
 
-pub cut_neither : (version kind session sequence : ℕ) (payload bytes : List ℕ) (i place limit n : ℕ) (image : Image) → IsBegun version kind session sequence payload i place limit image
-    → n ≡ place + i → image n ≡ Bytes bytes
-    → ((s : ℕ) (content : List ℕ) → (i ≡ 0) ⊎ (s ≡ session) → 0 < length content → length content ≤ 488 → IsPage version kind s sequence i content (Bytes bytes) → ⊥)
-    → (0 < i → IsCommit version session sequence i (Bytes bytes) → ⊥) → IsCutAt version kind sequence place limit n image
-cut_neither version kind session sequence payload bytes i place limit n image is at e page_not commit_not = record {
+pub cut_neither : (site : Site) (session : ℕ) (payload bytes : List ℕ) (i n : ℕ) (image : Image) → IsBegun site session payload i image
+    → n ≡ site.first + i → image n ≡ Bytes bytes
+    → ((s : ℕ) (content : List ℕ) → (i ≡ 0) ⊎ (s ≡ session) → 0 < length content → length content ≤ 488 → IsPage site s i content (Bytes bytes) → ⊥)
+    → (0 < i → IsCommit site session i (Bytes bytes) → ⊥) → IsCutAt site n image
+cut_neither site session payload bytes i n image is at e page_not commit_not = record {
   session = session;
   payload = payload;
   i = i;
   at = at;
   begun = is;
-  no_page = λ lt full s content of some le page. page_not s content of some le (subst (IsPage version kind s sequence i content) e page);
-  no_commit = λ lt some commit. commit_not some (subst (IsCommit version session sequence i) e commit);
+  no_page = λ lt full s content of some le page. page_not s content of some le (subst (IsPage site s i content) e page);
+  no_commit = λ lt some commit. commit_not some (subst (IsCommit site session i) e commit);
 }
 
 -- a page behind one that isn't full
-pub cut_short : (version kind session sequence s : ℕ) (payload content bytes : List ℕ) (i place limit n : ℕ) (image : Image) → kind ≢ commit_kind → IsBegun version kind session sequence payload i place limit image
-    → n ≡ place + i → image n ≡ Bytes bytes → (length payload ≡ 488 * i → ⊥) → IsPage version kind s sequence i content (Bytes bytes) → IsCutAt version kind sequence place limit n image
-cut_short version kind session sequence s payload content bytes i place limit n image other is at e not_full page = record {
+pub cut_short : (site : Site) (session s : ℕ) (payload content bytes : List ℕ) (i n : ℕ) (image : Image) → site.kind ≢ commit_kind → IsBegun site session payload i image
+    → n ≡ site.first + i → image n ≡ Bytes bytes → (length payload ≡ 488 * i → ⊥) → IsPage site s i content (Bytes bytes) → IsCutAt site n image
+cut_short site session s payload content bytes i n image other is at e not_full page = record {
   session = session;
   payload = payload;
   i = i;
   at = at;
   begun = is;
   no_page = λ lt full s' content' of some le page'. absurd (not_full full);
-  no_commit = λ lt some commit. page_or_commit _ _ _ _ _ _ _ _ _ _ _ other page (subst (IsCommit version session sequence i) e commit);
+  no_commit = λ lt some commit. page_or_commit _ _ _ _ _ _ _ _ other page (subst (IsCommit site session i) e commit);
 }
 
 -- one page more, of a session that may be the first one's
-pub begun_page : (version kind session sequence s used : ℕ) (payload bytes : List ℕ) (i place limit n : ℕ) (image : Image) → IsBegun version kind session sequence payload i place limit image
-    → length bytes ≡ 512 → length payload ≡ 488 * i → (i ≡ 0) ⊎ (s ≡ session) → 0 < used → used ≤ 488 → n ≡ place + i → n < limit → image n ≡ Bytes bytes
-    → IsPage version kind s sequence i (take used (drop 24 bytes)) (Bytes bytes)
-    → IsBegun version kind s sequence (payload ++ take used (drop 24 bytes)) (i + 1) place limit image
-begun_page version kind session sequence s used payload bytes i place limit n image is long full of some le at lt e page =
+pub begun_page : (site : Site) (session s used : ℕ) (payload bytes : List ℕ) (i n : ℕ) (image : Image) → IsBegun site session payload i image
+    → length bytes ≡ 512 → length payload ≡ 488 * i → (i ≡ 0) ⊎ (s ≡ session) → 0 < used → used ≤ 488 → n ≡ site.first + i → n < site.limit → image n ≡ Bytes bytes
+    → IsPage site s i (take used (drop 24 bytes)) (Bytes bytes)
+    → IsBegun site s (payload ++ take used (drop 24 bytes)) (i + 1) image
+begun_page site session s used payload bytes i n image is long full of some le at lt e page =
     let count : length (take used (drop 24 bytes)) ≡ used = length-take-le used (drop 24 bytes) (omega (arith, length-drop 24 bytes)) in
-    begun_more version kind s sequence payload (take used (drop 24 bytes)) i place limit image again full (omega arith) (omega arith) (omega arith)
-    (subst (IsPage version kind s sequence i (take used (drop 24 bytes))) (sym (ap image (sym at) ∙ e)) page)
+    begun_more site s payload (take used (drop 24 bytes)) i image again full (omega arith) (omega arith) (omega arith)
+    (subst (IsPage site s i (take used (drop 24 bytes))) (sym (ap image (sym at) ∙ e)) page)
   where
-    again : IsBegun version kind s sequence payload i place limit image
+    again : IsBegun site s payload i image
     again = ⊎_elim
         (λ (none : i ≡ 0). record { some = is.some; all = is.all; fits = is.fits; page = λ k lt. absurd (omega (arith, none)) })
-        (λ (same : s ≡ session). subst (λ (x : ℕ). IsBegun version kind x sequence payload i place limit image) (sym same) is)
+        (λ (same : s ≡ session). subst (λ (x : ℕ). IsBegun site x payload i image) (sym same) is)
         of
 
--- one step, of the group that is wanted and in the image that is read
-pub step_read : (wanted wanted' : Wanted) (image image' : Image) (place limit at session pages session' pages' : ℕ) (payload payload' : List ℕ) (result : Result Bool GroupFault) → wanted ≡ wanted' → image ≡ image'
-    → ((place limit : ℕ) → at ≡ place + pages → at < limit → IsBegun wanted.version wanted.kind session wanted.sequence payload pages place limit image
-    → IsStep wanted.version wanted.kind wanted.sequence place limit image session' pages' payload' result)
-    → at ≡ place + pages → at < limit → IsBegun wanted'.version wanted'.kind session wanted'.sequence payload pages place limit image'
-    → IsStep wanted'.version wanted'.kind wanted'.sequence place limit image' session' pages' payload' result
-step_read wanted wanted' image image' place limit at session pages session' pages' payload payload' result same_wanted same_image step is lt begun =
-    let P : Wanted → Image → Type 0 = λ w i. IsBegun w.version w.kind session w.sequence payload pages place limit i → IsStep w.version w.kind w.sequence place limit i session' pages' payload' result in
-    subst (λ (w : Wanted). P w image') same_wanted (subst (P wanted) same_image (step place limit is lt)) begun
+-- one step, of the site that was and in the image that is read
+pub step_read : (site site' : Site) (image image' : Image) (at session pages session' pages' : ℕ) (payload payload' : List ℕ) (result : Result Bool GroupFault) → site ≡ site' → image ≡ image'
+    → (at ≡ site.first + pages → at < site.limit → IsBegun site session payload pages image → IsStep site image session' pages' payload' result)
+    → at ≡ site'.first + pages → at < site'.limit → IsBegun site' session payload pages image' → IsStep site' image' session' pages' payload' result
+step_read site site' image image' at session pages session' pages' payload payload' result same_site same_image step =
+    let P : Site → Image → Type 0 = λ s i. at ≡ s.first + pages → at < s.limit → IsBegun s session payload pages i → IsStep s i session' pages' payload' result in
+    subst (λ (s : Site). P s image') same_site (subst (P site) same_image step)

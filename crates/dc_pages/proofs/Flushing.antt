@@ -11,47 +11,48 @@ use Rattle.dc_pages.proofs.Stamped.{page_bytes-is_page}
 use Rattle.dc_pages.specs.Writing.{IsPageWritten, IsPartOf, IsOnDisk}
 use Rattle.dc_pages.proofs.Buffers.{sealed}
 use Rattle.dc_pages.proofs.Turning.{flush_left, flushed}
+use Rattle.dc_pages.specs.declared.site.Site.{Site}
 
 -- a head over the buffer makes the sector of its page
-pub page_written : (version kind session sequence index used : ℕ) (page sector content : List ℕ) → IsBuffer used page
-    → sector ≡ head_bytes kind version used index session sequence ++ drop 24 page → index < 2 ^ 32 → session < 2 ^ 64 → sequence < 2 ^ 64
-    → take used (drop 24 page) ≡ content → IsPageWritten version kind session sequence index content (Bytes sector)
-page_written version kind session sequence index used page sector content is e index_fits session_fits sequence_fits content_is =
+pub page_written : (site : Site) (session index used : ℕ) (page sector content : List ℕ) → IsBuffer used page
+    → sector ≡ head_bytes site.kind site.version used index session site.sequence ++ drop 24 page → index < 2 ^ 32 → session < 2 ^ 64 → site.sequence < 2 ^ 64
+    → take used (drop 24 page) ≡ content → IsPageWritten site session index content (Bytes sector)
+page_written site session index used page sector content is e index_fits session_fits sequence_fits content_is =
     let small = is.small in
     let long = is.long in
     let buffer = take used (drop 24 page) in
     let full : length buffer ≡ used = length-take-le used (drop 24 page) (omega (arith, length-drop 24 page)) in
-    let bytes_are : Bytes sector ≡ Bytes (page_bytes version kind session sequence index buffer) = ap Bytes (sealed version kind session sequence index used page sector is e) in
-    let written : IsPageWritten version kind session sequence index buffer (Bytes sector) = record {
-      page = let P : Sector → Type 0 = λ s. IsPage version kind session sequence index buffer s in
-          subst P (sym bytes_are) (page_bytes-is_page version kind session sequence index buffer (omega arith) index_fits session_fits sequence_fits);
+    let bytes_are : Bytes sector ≡ Bytes (page_bytes site session index buffer) = ap Bytes (sealed site session index used page sector is e) in
+    let written : IsPageWritten site session index buffer (Bytes sector) = record {
+      page = let P : Sector → Type 0 = λ s. IsPage site session index buffer s in
+          subst P (sym bytes_are) (page_bytes-is_page site session index buffer (omega arith) index_fits session_fits sequence_fits);
       bytes_are = bytes_are;
     } in
-    subst (λ (l : List ℕ). IsPageWritten version kind session sequence index l (Bytes sector)) content_is written
+    subst (λ (l : List ℕ). IsPageWritten site session index l (Bytes sector)) content_is written
 
 module _ {D : Type 0} (reads : D → Image) (choices : D → Choices) (moment : D → ℕ) (images_since : D → ℕ → Image → Type 0) (disk new : D) where
   -- what the page's write leaves, whatever it answers
   abbrev pub LeavesPart : Draft → Type 0
   LeavesPart draft = (start : D) (payload : List ℕ) → draft.buffer ≡ piece draft.pages payload
-      → IsOnDisk reads choices moment images_since start disk draft.version draft.kind draft.session draft.sequence draft.place draft.limit draft.pages payload
-      → LeavesOnly moment images_since start new (IsPartOf draft.version draft.kind draft.session draft.sequence draft.place draft.limit (reads start))
+      → IsOnDisk reads choices moment images_since start disk draft.site draft.session draft.pages payload
+      → LeavesOnly moment images_since start new (IsPartOf draft.site draft.session (reads start))
 
   -- one page more is on the disk
   abbrev pub Flushes : Draft → Type 0
   Flushes draft = (start : D) (payload : List ℕ) → draft.buffer ≡ piece draft.pages payload
-      → IsOnDisk reads choices moment images_since start disk draft.version draft.kind draft.session draft.sequence draft.place draft.limit draft.pages payload
-      → IsOnDisk reads choices moment images_since start new draft.version draft.kind draft.session draft.sequence draft.place draft.limit (draft.pages + 1) payload
+      → IsOnDisk reads choices moment images_since start disk draft.site draft.session draft.pages payload
+      → IsOnDisk reads choices moment images_since start new draft.site draft.session (draft.pages + 1) payload
 
-  module _ (draft : Draft) (sector : List ℕ) (fits : draft.place + draft.pages < draft.limit)
-      (written : IsPageWritten draft.version draft.kind draft.session draft.sequence draft.pages draft.buffer (Bytes sector))
-      (time : Elapses (moment disk) (moment new) (images_since disk) (images_since new) (IsImage (added (choices disk) (draft.place + draft.pages) sector))) where
-    at_piece : (payload : List ℕ) → draft.buffer ≡ piece draft.pages payload → IsPageWritten draft.version draft.kind draft.session draft.sequence draft.pages (piece draft.pages payload) (Bytes sector)
-    at_piece payload e = subst (λ (l : List ℕ). IsPageWritten draft.version draft.kind draft.session draft.sequence draft.pages l (Bytes sector)) e written
+  module _ (draft : Draft) (sector : List ℕ) (fits : draft.site.first + draft.pages < draft.site.limit)
+      (written : IsPageWritten draft.site draft.session draft.pages draft.buffer (Bytes sector))
+      (time : Elapses (moment disk) (moment new) (images_since disk) (images_since new) (IsImage (added (choices disk) (draft.site.first + draft.pages) sector))) where
+    at_piece : (payload : List ℕ) → draft.buffer ≡ piece draft.pages payload → IsPageWritten draft.site draft.session draft.pages (piece draft.pages payload) (Bytes sector)
+    at_piece payload e = subst (λ (l : List ℕ). IsPageWritten draft.site draft.session draft.pages l (Bytes sector)) e written
 
     pub leaves_part : LeavesPart draft
     leaves_part start payload e is =
-        flush_left reads choices moment images_since draft.version draft.kind draft.session draft.sequence draft.place draft.limit start disk new draft.pages payload sector fits (at_piece payload e) is time
+        flush_left reads choices moment images_since draft.site draft.session start disk new draft.pages payload sector fits (at_piece payload e) is time
 
-    pub flushes : reads new ≡ put (reads disk) (draft.place + draft.pages) sector → choices new ≡ added (choices disk) (draft.place + draft.pages) sector → Flushes draft
+    pub flushes : reads new ≡ put (reads disk) (draft.site.first + draft.pages) sector → choices new ≡ added (choices disk) (draft.site.first + draft.pages) sector → Flushes draft
     flushes reads_new choices_new start payload e is =
-        flushed reads choices moment images_since draft.version draft.kind draft.session draft.sequence draft.place draft.limit start disk new draft.pages payload sector fits (at_piece payload e) is time reads_new choices_new
+        flushed reads choices moment images_since draft.site draft.session start disk new draft.pages payload sector fits (at_piece payload e) is time reads_new choices_new

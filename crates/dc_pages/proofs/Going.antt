@@ -23,7 +23,7 @@ module _ {D : Type 0} (reads : D → Image) (choices : D → Choices) (moment : 
 
   -- the page in the buffer was full, and was written
   pub going_flushed : (start disk new : D) (draft : Draft) (payload : List ℕ) → 488 ≤ length draft.buffer → length draft.buffer ≤ 488 → going start disk draft payload
-      → IsOnDisk reads choices moment images_since start new draft.version draft.kind draft.session draft.sequence draft.place draft.limit (draft.pages + 1) payload
+      → IsOnDisk reads choices moment images_since start new draft.site draft.session (draft.pages + 1) payload
       → going start new (record draft { pages = draft.pages + 1; buffer = [] }) payload
   going_flushed start disk new draft payload full small is on_disk =
       let count = is.count in
@@ -36,10 +36,10 @@ module _ {D : Type 0} (reads : D → Image) (choices : D → Choices) (moment : 
       record {
         count = omega (arith, length-append payload bytes, length-append draft.buffer bytes);
         buffered = ap (λ (l : List ℕ). l ++ bytes) is.buffered ∙ sym (drop-append-le (488 * draft.pages) payload bytes (omega arith));
-        on_disk = more_buffered reads choices moment images_since draft.version draft.kind draft.session draft.sequence draft.place draft.limit start disk draft.pages payload bytes (omega arith) is.on_disk;
+        on_disk = more_buffered reads choices moment images_since draft.site draft.session start disk draft.pages payload bytes (omega arith) is.on_disk;
       }
 
--- what a step leaves of a draft: its place and its stamp
+-- what a step leaves of a draft: its site and its session
 pub same_through : (a b draft : Draft) → b ≡ record a { pages = b.pages; buffer = b.buffer } → draft ≡ record b { pages = draft.pages; buffer = draft.buffer }
     → draft ≡ record a { pages = draft.pages; buffer = draft.buffer }
 same_through a b draft first second = second ∙ ap (λ (d : Draft). record d { pages = draft.pages; buffer = draft.buffer }) first

@@ -5,6 +5,7 @@ use Rattle.dc_sectors.specs.declared.sector.Sector.TheVariants.{Bytes}
 use Rattle.dc_fields.specs.Fields.{number_bytes}
 use Rattle.dc_fields.proofs.Numbers.{length-number_bytes, field-number_bytes, field-append}
 use Rattle.dc_pages.specs.Group.{IsHead, IsPage, IsCommit, commit_kind, head_bytes, page_bytes, commit_bytes}
+use Rattle.dc_pages.specs.declared.site.Site.{Site}
 
 pub length-head_bytes : (kind version used index session sequence : ℕ) → length (head_bytes kind version used index session sequence) ≡ 24
 unfolding head_bytes
@@ -47,23 +48,23 @@ head_bytes-is_head kind version used index session sequence rest used_fits index
     }
 
 -- what is written for a page reads as that page
-pub page_bytes-is_page : (version kind session sequence index : ℕ) (content : List ℕ) → length content ≤ 488 → index < 2 ^ 32 → session < 2 ^ 64 → sequence < 2 ^ 64
-    → IsPage version kind session sequence index content (Bytes (page_bytes version kind session sequence index content))
+pub page_bytes-is_page : (site : Site) (session index : ℕ) (content : List ℕ) → length content ≤ 488 → index < 2 ^ 32 → session < 2 ^ 64 → site.sequence < 2 ^ 64
+    → IsPage site session index content (Bytes (page_bytes site session index content))
 unfolding page_bytes
-page_bytes-is_page version kind session sequence index content small index_fits session_fits sequence_fits =
-    let head = head_bytes kind version (length content) index session sequence in
+page_bytes-is_page site session index content small index_fits session_fits sequence_fits =
+    let head = head_bytes site.kind site.version (length content) index session site.sequence in
     let rest = content ++ replicate (488 - length content) 0 in
     record {
       bytes = head ++ rest;
       readable = refl;
-      head = head_bytes-is_head kind version (length content) index session sequence rest (omega arith) index_fits session_fits sequence_fits;
-      content_is = ap (take (length content)) (drop_at head rest 24 (length-head_bytes kind version (length content) index session sequence))
+      head = head_bytes-is_head site.kind site.version (length content) index session site.sequence rest (omega arith) index_fits session_fits sequence_fits;
+      content_is = ap (take (length content)) (drop_at head rest 24 (length-head_bytes site.kind site.version (length content) index session site.sequence))
           ∙ take_at content (replicate (488 - length content) 0) (length content) refl;
     }
 
 -- and what is written for a commit sector as that one
-pub commit_bytes-is_commit : (version session sequence pages : ℕ) → pages < 2 ^ 32 → session < 2 ^ 64 → sequence < 2 ^ 64
-    → IsCommit version session sequence pages (Bytes (commit_bytes version session sequence pages))
-commit_bytes-is_commit version session sequence pages pages_fit session_fits sequence_fits =
-    let page = page_bytes-is_page version commit_kind session sequence pages [] (omega arith) pages_fit session_fits sequence_fits in
+pub commit_bytes-is_commit : (site : Site) (session pages : ℕ) → pages < 2 ^ 32 → session < 2 ^ 64 → site.sequence < 2 ^ 64
+    → IsCommit site session pages (Bytes (commit_bytes site session pages))
+commit_bytes-is_commit site session pages pages_fit session_fits sequence_fits =
+    let page = page_bytes-is_page (record site { kind = commit_kind }) session pages [] (omega arith) pages_fit session_fits sequence_fits in
     record { bytes = page.bytes; readable = page.readable; head = page.head }

@@ -10,6 +10,7 @@ use Rattle.dc_sectors.specs.Images.{put_elsewhere, put_here, added_here, added_e
 use Rattle.dc_sectors.proofs.Moments.{goes_on, weakened}
 use Rattle.dc_pages.specs.Group.{IsPage, IsCommit, piece, commit_bytes}
 use Rattle.dc_pages.specs.Writing.{IsPageWritten, IsPartOf, IsTorn, IsOnDisk, IsClosed, TornAt, PartOrTorn}
+use Rattle.dc_pages.specs.declared.site.Site.{Site}
 
 pub torn_of_points : (first count : ℕ) (old written image : Image) → ((k : ℕ) → TornAt first count old written k (image k)) → IsTorn first count old written image
 torn_of_points first count old written image at = record {
@@ -20,16 +21,16 @@ torn_of_points first count old written image at = record {
     not_both : (k : ℕ) → first ≤ k → k < first + count → (k < first) ⊎ (first + count ≤ k) → ⊥
     not_both k le lt out = ⊎_elim (λ below. omega (arith, below)) (λ above. omega (arith, above)) out
 
-pub part_of_points : (version kind session sequence place limit index : ℕ) (old written image : Image) → place + index ≤ limit
-    → ((i : ℕ) → i < index → (content : List ℕ) × IsPage version kind session sequence i content (written (place + i)))
-    → ((k : ℕ) → TornAt place index old written k (image k)) → IsPartOf version kind session sequence place limit old image
-part_of_points version kind session sequence place limit index old written image fits pages at = record {
+pub part_of_points : (site : Site) (session index : ℕ) (old written image : Image) → site.first + index ≤ site.limit
+    → ((i : ℕ) → i < index → (content : List ℕ) × IsPage site session i content (written (site.first + i)))
+    → ((k : ℕ) → TornAt site.first index old written k (image k)) → IsPartOf site session old image
+part_of_points site session index old written image fits pages at = record {
   inside = λ i lt. ⊎_elim (λ e. inl (inl e)) (λ inner. ⊎_elim (λ lost. inl (inr lost))
-      (λ e. let page = pages i (omega (arith, inner.1)) in inr (page.0, subst (IsPage version kind session sequence i page.0) (sym e) page.1)) inner.2) (at (place + i));
+      (λ e. let page = pages i (omega (arith, inner.1)) in inr (page.0, subst (IsPage site session i page.0) (sym e) page.1)) inner.2) (at (site.first + i));
   outside = λ k out. ⊎_elim (λ e. e) (λ inner. absurd (not_both k inner.0 inner.1 out)) (at k);
 }
   where
-    not_both : (k : ℕ) → place ≤ k → k < place + index → (k < place) ⊎ (limit ≤ k) → ⊥
+    not_both : (k : ℕ) → site.first ≤ k → k < site.first + index → (k < site.first) ⊎ (site.limit ≤ k) → ⊥
     not_both k le lt out = ⊎_elim (λ below. omega (arith, below)) (λ above. omega (arith, above)) out
 
 -- a write behind those that were torn
@@ -83,88 +84,88 @@ further : (place index k : ℕ) → (k < place) ⊎ (place + (index + 1) ≤ k) 
 further place index k out = ⊎_elim (λ below. inl below) (λ above. inr (omega (arith, above))) out
 
 module _ {D : Type 0} (reads : D → Image) (choices : D → Choices) (moment : D → ℕ) (images_since : D → ℕ → Image → Type 0)
-    (version kind session sequence place limit : ℕ) where
+    (site : Site) (session : ℕ) where
   abbrev on_disk : D → D → ℕ → List ℕ → Type 0
-  on_disk start disk index payload = IsOnDisk reads choices moment images_since start disk version kind session sequence place limit index payload
+  on_disk start disk index payload = IsOnDisk reads choices moment images_since start disk site session index payload
 
   abbrev is_part : D → Image → Type 0
-  is_part start = IsPartOf version kind session sequence place limit (reads start)
+  is_part start = IsPartOf site session (reads start)
 
   -- more of the payload in the buffer
   pub more_buffered : (start disk : D) (index : ℕ) (payload more : List ℕ) → 488 * index ≤ length payload → on_disk start disk index payload → on_disk start disk index (payload ++ more)
   more_buffered start disk index payload more le is = record {
-    pages = λ i lt. subst (λ (c : List ℕ). IsPageWritten version kind session sequence i c (reads disk (place + i))) (sym (piece_same i payload more (omega arith))) (is.pages i lt);
+    pages = λ i lt. subst (λ (c : List ℕ). IsPageWritten site session i c (reads disk (site.first + i))) (sym (piece_same i payload more (omega arith))) (is.pages i lt);
     outside = is.outside;
     choices_are = is.choices_are;
     any_moment = is.any_moment;
   }
 
   abbrev is_written : List ℕ → ℕ → Sector → Type 0
-  is_written payload i sector = IsPageWritten version kind session sequence i (piece i payload) sector
+  is_written payload i sector = IsPageWritten site session i (piece i payload) sector
 
   -- what a stop leaves in the write of a page
-  page_left : (start mid : D) (index : ℕ) (payload bytes : List ℕ) → place + index < limit → is_written payload index (Bytes bytes) → on_disk start mid index payload
-      → (image : Image) → IsImage (added (choices mid) (place + index) bytes) image → is_part start image
+  page_left : (start mid : D) (index : ℕ) (payload bytes : List ℕ) → site.first + index < site.limit → is_written payload index (Bytes bytes) → on_disk start mid index payload
+      → (image : Image) → IsImage (added (choices mid) (site.first + index) bytes) image → is_part start image
   page_left start mid index payload bytes fits page is image in_added =
-      part_of_points version kind session sequence place limit (index + 1) (reads start) (put (reads mid) (place + index) bytes) image (omega arith)
-      (λ i lt. (piece i payload, (more_pages (is_written payload) place index (reads mid) bytes is.pages page i lt).page))
-      (λ k. torn_more place index (reads start) (reads mid) (choices mid) bytes is.choices_are k (image k) (in_added k))
+      part_of_points site session (index + 1) (reads start) (put (reads mid) (site.first + index) bytes) image (omega arith)
+      (λ i lt. (piece i payload, (more_pages (is_written payload) site.first index (reads mid) bytes is.pages page i lt).page))
+      (λ k. torn_more site.first index (reads start) (reads mid) (choices mid) bytes is.choices_are k (image k) (in_added k))
 
-  pub flush_left : (start mid new : D) (index : ℕ) (payload bytes : List ℕ) → place + index < limit → is_written payload index (Bytes bytes) → on_disk start mid index payload
-      → Elapses (moment mid) (moment new) (images_since mid) (images_since new) (IsImage (added (choices mid) (place + index) bytes))
+  pub flush_left : (start mid new : D) (index : ℕ) (payload bytes : List ℕ) → site.first + index < site.limit → is_written payload index (Bytes bytes) → on_disk start mid index payload
+      → Elapses (moment mid) (moment new) (images_since mid) (images_since new) (IsImage (added (choices mid) (site.first + index) bytes))
       → LeavesOnly moment images_since start new (is_part start)
   flush_left start mid new index payload bytes fits page is time =
-      goes_on moment images_since start mid new (is_part start) (IsImage (added (choices mid) (place + index) bytes)) is.any_moment time (page_left start mid index payload bytes fits page is)
+      goes_on moment images_since start mid new (is_part start) (IsImage (added (choices mid) (site.first + index) bytes)) is.any_moment time (page_left start mid index payload bytes fits page is)
 
-  pub flushed : (start mid new : D) (index : ℕ) (payload bytes : List ℕ) → place + index < limit → is_written payload index (Bytes bytes) → on_disk start mid index payload
-      → Elapses (moment mid) (moment new) (images_since mid) (images_since new) (IsImage (added (choices mid) (place + index) bytes))
-      → reads new ≡ put (reads mid) (place + index) bytes → choices new ≡ added (choices mid) (place + index) bytes
+  pub flushed : (start mid new : D) (index : ℕ) (payload bytes : List ℕ) → site.first + index < site.limit → is_written payload index (Bytes bytes) → on_disk start mid index payload
+      → Elapses (moment mid) (moment new) (images_since mid) (images_since new) (IsImage (added (choices mid) (site.first + index) bytes))
+      → reads new ≡ put (reads mid) (site.first + index) bytes → choices new ≡ added (choices mid) (site.first + index) bytes
       → on_disk start new (index + 1) payload
   flushed start mid new index payload bytes fits page is time reads_new choices_new = record {
-    pages = λ i lt. subst (λ (image : Image). is_written payload i (image (place + i))) (sym reads_new) (more_pages (is_written payload) place index (reads mid) bytes is.pages page i lt);
-    outside = λ k out. ap (λ (image : Image). image k) reads_new ∙ put_elsewhere (reads mid) (place + index) bytes k (not_here place index k out) ∙ is.outside k (further place index k out);
-    choices_are = λ k s in_new. subst (λ (image : Image). TornAt place (index + 1) (reads start) image k s) (sym reads_new)
-        (torn_more place index (reads start) (reads mid) (choices mid) bytes is.choices_are k s (subst (λ (c : Choices). Contains (c k) s) choices_new in_new));
+    pages = λ i lt. subst (λ (image : Image). is_written payload i (image (site.first + i))) (sym reads_new) (more_pages (is_written payload) site.first index (reads mid) bytes is.pages page i lt);
+    outside = λ k out. ap (λ (image : Image). image k) reads_new ∙ put_elsewhere (reads mid) (site.first + index) bytes k (not_here site.first index k out) ∙ is.outside k (further site.first index k out);
+    choices_are = λ k s in_new. subst (λ (image : Image). TornAt site.first (index + 1) (reads start) image k s) (sym reads_new)
+        (torn_more site.first index (reads start) (reads mid) (choices mid) bytes is.choices_are k s (subst (λ (c : Choices). Contains (c k) s) choices_new in_new));
     any_moment = flush_left start mid new index payload bytes fits page is time;
   }
 
   -- the commit sector behind all pages
-  module _ (start mid new : D) (pages : ℕ) (payload : List ℕ) (some : 488 * (pages - 1) < length payload) (all : length payload ≤ 488 * pages) (fits : place + pages < limit)
-      (commit : IsCommit version session sequence pages (Bytes (commit_bytes version session sequence pages))) (is : on_disk start mid pages payload)
-      (time : Elapses (moment mid) (moment new) (images_since mid) (images_since new) (IsImage (added (choices mid) (place + pages) (commit_bytes version session sequence pages)))) where
+  module _ (start mid new : D) (pages : ℕ) (payload : List ℕ) (some : 488 * (pages - 1) < length payload) (all : length payload ≤ 488 * pages) (fits : site.first + pages < site.limit)
+      (commit : IsCommit site session pages (Bytes (commit_bytes site session pages))) (is : on_disk start mid pages payload)
+      (time : Elapses (moment mid) (moment new) (images_since mid) (images_since new) (IsImage (added (choices mid) (site.first + pages) (commit_bytes site session pages)))) where
     abbrev bytes : List ℕ
-    bytes = commit_bytes version session sequence pages
+    bytes = commit_bytes site session pages
 
     abbrev after : Image
-    after = put (reads mid) (place + pages) bytes
+    after = put (reads mid) (site.first + pages) bytes
 
-    earlier : (i : ℕ) → i < pages → after (place + i) ≡ reads mid (place + i)
-    earlier i lt = put_elsewhere (reads mid) (place + pages) bytes (place + i) (λ e. omega (arith, e))
+    earlier : (i : ℕ) → i < pages → after (site.first + i) ≡ reads mid (site.first + i)
+    earlier i lt = put_elsewhere (reads mid) (site.first + pages) bytes (site.first + i) (λ e. omega (arith, e))
 
-    last : after (place + pages) ≡ Bytes bytes
-    last = put_here (reads mid) (place + pages) bytes (place + pages) refl
+    last : after (site.first + pages) ≡ Bytes bytes
+    last = put_here (reads mid) (site.first + pages) bytes (site.first + pages) refl
 
-    closed_left : LeavesOnly moment images_since start new (PartOrTorn version kind session sequence place limit pages (reads start) after)
+    closed_left : LeavesOnly moment images_since start new (PartOrTorn site session pages (reads start) after)
     closed_left =
-        let P = PartOrTorn version kind session sequence place limit pages (reads start) after in
-        goes_on moment images_since start mid new P (IsImage (added (choices mid) (place + pages) bytes))
+        let P = PartOrTorn site session pages (reads start) after in
+        goes_on moment images_since start mid new P (IsImage (added (choices mid) (site.first + pages) bytes))
         (weakened moment images_since start mid (is_part start) P is.any_moment (λ image part. inl part)) time
-        (λ image in_added. inr (torn_of_points place (pages + 1) (reads start) after image
-        (λ k. torn_more place pages (reads start) (reads mid) (choices mid) bytes is.choices_are k (image k) (in_added k))))
+        (λ image in_added. inr (torn_of_points site.first (pages + 1) (reads start) after image
+        (λ k. torn_more site.first pages (reads start) (reads mid) (choices mid) bytes is.choices_are k (image k) (in_added k))))
 
-    pub closed : IsClosed moment images_since start new (reads start) version kind session sequence place limit pages payload after
+    pub closed : IsClosed moment images_since start new (reads start) site session pages payload after
     closed = record {
       group = record {
         some = some;
         all = all;
         fits = fits;
-        page = λ i lt. subst (IsPage version kind session sequence i (piece i payload)) (sym (earlier i lt)) (is.pages i lt).page;
-        commit = subst (IsCommit version session sequence pages) (sym last) commit;
+        page = λ i lt. subst (IsPage site session i (piece i payload)) (sym (earlier i lt)) (is.pages i lt).page;
+        commit = subst (IsCommit site session pages) (sym last) commit;
       };
       laid = record {
         page = λ i lt. earlier i lt ∙ (is.pages i lt).bytes_are;
         commit = last;
       };
-      outside = λ k out. put_elsewhere (reads mid) (place + pages) bytes k (not_here place pages k out) ∙ is.outside k (further place pages k out);
+      outside = λ k out. put_elsewhere (reads mid) (site.first + pages) bytes k (not_here site.first pages k out) ∙ is.outside k (further site.first pages k out);
       any_moment = closed_left;
     }

@@ -1,16 +1,13 @@
 -- What a group writer holds: this product's image format.
 use Rattle.std.specs.Prelude.{ℕ, ◌+◌, ◌*◌, ◌≤◌, List, length}
 use Rattle.dc_pages.specs.Group.{page_payload}
+use Rattle.dc_pages.specs.declared.site.Site.{Site}
 
--- A group that is being written from a place on, in a half that ends before `limit`: its stamp, how
--- many of its pages are written, and the bytes that wait for the next page to be full.
+-- A group that is being written: which one and where, its session, how many of its pages are written,
+-- and the bytes that wait for the next page to be full.
 pub record Draft : Type 0 where
-  pub place : ℕ
-  pub limit : ℕ
-  pub version : ℕ
-  pub kind : ℕ
+  pub site : Site
   pub session : ℕ
-  pub sequence : ℕ
   pub pages : ℕ
   pub buffer : List ℕ
 
@@ -20,8 +17,8 @@ draft_len draft = page_payload * draft.pages + length draft.buffer
 
 -- so many bytes more and a commit sector fit
 abbrev pub HasRoom : Draft → ℕ → Type 0
-HasRoom draft more = page_payload * draft.place + draft_len draft + more + page_payload ≤ page_payload * draft.limit
+HasRoom draft more = page_payload * draft.site.first + draft_len draft + more + page_payload ≤ page_payload * draft.site.limit
 
--- so many bytes and a commit sector fit from a place on, in a half that ends before `limit`
+-- so many bytes and a commit sector fit from a sector on, in a half that ends before `limit`
 abbrev pub FitsAt : ℕ → ℕ → ℕ → Type 0
-FitsAt place limit len = page_payload * place + len + page_payload ≤ page_payload * limit
+FitsAt first limit len = page_payload * first + len + page_payload ≤ page_payload * limit

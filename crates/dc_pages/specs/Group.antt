@@ -4,6 +4,7 @@ use Rattle.dc_sectors.specs.declared.sector.Sector.{Sector}
 use Rattle.dc_sectors.specs.declared.sector.Sector.TheVariants.{Bytes}
 use Rattle.dc_sectors.specs.Disk.{Image}
 use Rattle.dc_fields.specs.Fields.{field, number_bytes}
+use Rattle.dc_pages.specs.declared.site.Site.{Site}
 
 -- a page's sector: the bytes of its head, and the bytes of payload behind it
 abbrev pub head_len : ℕ
@@ -31,38 +32,37 @@ pub record IsHead (kind version used index session sequence : ℕ) (bytes : List
   pub session_is : field 8 8 bytes ≡ session
   pub sequence_is : field 8 16 bytes ≡ sequence
 
--- a readable page with this content; what stands behind its used bytes isn't looked at
-pub record IsPage (version kind session sequence index : ℕ) (content : List ℕ) (sector : Sector) : Type 0 where
+-- a readable page of that group with this content; what stands behind its used bytes isn't looked at
+pub record IsPage (site : Site) (session index : ℕ) (content : List ℕ) (sector : Sector) : Type 0 where
   pub bytes : List ℕ
   pub readable : sector ≡ Bytes bytes
-  pub head : IsHead kind version (length content) index session sequence bytes
+  pub head : IsHead site.kind site.version (length content) index session site.sequence bytes
   pub content_is : take (length content) (drop head_len bytes) ≡ content
 
--- a readable commit sector of a group of so many pages
-pub record IsCommit (version session sequence pages : ℕ) (sector : Sector) : Type 0 where
+-- a readable commit sector of that group, of so many pages
+pub record IsCommit (site : Site) (session pages : ℕ) (sector : Sector) : Type 0 where
   pub bytes : List ℕ
   pub readable : sector ≡ Bytes bytes
-  pub head : IsHead commit_kind version 0 pages session sequence bytes
+  pub head : IsHead commit_kind site.version 0 pages session site.sequence bytes
 
 -- the i-th piece of a payload, as a page has room for; the last may be shorter
 abbrev pub piece : ℕ → List ℕ → List ℕ
 piece i payload = take page_payload (drop (page_payload * i) payload)
 
--- A complete group: its pages hold the payload piece by piece, and a commit sector follows. The half
--- ends before sector `limit`.
-pub record IsGroup (version kind session sequence : ℕ) (payload : List ℕ) (pages place limit : ℕ) (image : Image) : Type 0 where
+-- A complete group: its pages hold the payload piece by piece, and a commit sector follows.
+pub record IsGroup (site : Site) (session : ℕ) (payload : List ℕ) (pages : ℕ) (image : Image) : Type 0 where
   pub some : page_payload * (pages - 1) < length payload
   pub all : length payload ≤ page_payload * pages
-  pub fits : place + pages < limit
-  pub page : (i : ℕ) → i < pages → IsPage version kind session sequence i (piece i payload) (image (place + i))
-  pub commit : IsCommit version session sequence pages (image (place + pages))
+  pub fits : site.first + pages < site.limit
+  pub page : (i : ℕ) → i < pages → IsPage site session i (piece i payload) (image (site.first + i))
+  pub commit : IsCommit site session pages (image (site.first + pages))
 
--- a group of that kind and sequence, of some session, is complete there
-pub record IsComplete (version kind sequence place limit : ℕ) (image : Image) : Type 0 where
+-- that group is complete, of some session
+pub record IsComplete (site : Site) (image : Image) : Type 0 where
   pub session : ℕ
   pub payload : List ℕ
   pub pages : ℕ
-  pub group : IsGroup version kind session sequence payload pages place limit image
+  pub group : IsGroup site session payload pages image
 
 -- a readable page or commit sector with that stamp, of either version of the format
 pub record Carries (session sequence : ℕ) (sector : Sector) : Type 0 where
@@ -86,10 +86,10 @@ head_bytes kind version used index session sequence =
     ((((kind ∷ version ∷ []) ++ number_bytes 2 used) ++ number_bytes 4 index) ++ number_bytes 8 session) ++ number_bytes 8 sequence
 
 -- the sector that is written for a page, with zeros behind its content
-unfoldable pub page_bytes : (version kind session sequence index : ℕ) → List ℕ → List ℕ
-page_bytes version kind session sequence index content =
-    head_bytes kind version (length content) index session sequence ++ (content ++ replicate (page_payload - length content) 0)
+unfoldable pub page_bytes : (site : Site) (session index : ℕ) → List ℕ → List ℕ
+page_bytes site session index content =
+    head_bytes site.kind site.version (length content) index session site.sequence ++ (content ++ replicate (page_payload - length content) 0)
 
 -- the sector that is written for the commit of so many pages: it has no content
-abbrev pub commit_bytes : (version session sequence pages : ℕ) → List ℕ
-commit_bytes version session sequence pages = page_bytes version commit_kind session sequence pages []
+abbrev pub commit_bytes : (site : Site) (session pages : ℕ) → List ℕ
+commit_bytes site session pages = page_bytes (record site { kind = commit_kind }) session pages []

@@ -18,8 +18,8 @@ module _ {D : Type 0} (honest : Type 0) (reads : D → Image) (choices : D → C
 
   -- They didn't: where there is room for them, the disk failed. No commit sector was written.
   pub record BreaksOff (old new : D) (was : Draft) (bytes : List ℕ) : Type 0 where
-    pub failed : HasRoom was (length bytes) → was.limit ≤ sectors old → HasRisen (failures old) (failures new)
+    pub failed : HasRoom was (length bytes) → was.site.limit ≤ sectors old → HasRisen (failures old) (failures new)
     pub any_moment : honest → (start : D) (payload : List ℕ) → IsGoing reads choices moment images_since start old was payload
-        → LeavesOnly moment images_since start new (IsPartOf was.version was.kind was.session was.sequence was.place was.limit (reads start))
+        → LeavesOnly moment images_since start new (IsPartOf was.site was.session (reads start))
     pub count : sectors new ≡ sectors old
     pub later : failures old ≤ failures new

@@ -2,7 +2,8 @@
 //!
 //! This product's own format. A group is pages of 488 bytes of payload and a commit sector behind them,
 //! all stamped with one session and one sequence. Whether a group is complete is decided by the stamps
-//! alone, so that one sync makes the whole group durable.
+//! alone, so that one sync makes the whole group durable. A [`Site`] says which group is meant, and where
+//! it lies.
 //!
 //! [`GroupWriter`] streams a payload into sectors through the buffer of one page. It takes no memory and
 //! doesn't sync. It says of every moment which sectors a stop may leave; and [`complete_as_written`]
@@ -17,7 +18,7 @@ mod fault;
 mod head;
 mod laws;
 mod reader;
-mod stamp;
+mod site;
 mod streaming;
 mod writer;
 
@@ -28,6 +29,6 @@ pub use laws::{
     part_is_incomplete,
 };
 pub use reader::{Group, read_group};
-pub use stamp::Stamp;
+pub use site::Site;
 pub use streaming::GroupSink;
 pub use writer::GroupWriter;

@@ -7,8 +7,8 @@ ghost use Rattle.dc_pages.specs.Group.{IsGroup, commit_kind, page_payload, head_
 ghost use Rattle.dc_pages.specs.Judging.{Judged, IsStep};
 ghost use Rattle.dc_pages.specs.Reading.{IsBegun, IsCutAt};
 
-use crate::GroupFault;
 use crate::head::{COMMIT, HEAD, Head, PAYLOAD, read_head};
+use crate::{GroupFault, Site};
 use dc_base::NoMemory;
 use dc_sectors::{Disk, ReadFault};
 use std::alloc::Allocator;
@@ -22,48 +22,40 @@ pub struct Group<A: Allocator> {
     pub sectors: u32,
 }
 
-/// Which group is wanted.
-#[derive(Clone, Copy)]
-struct Wanted {
-    kind: u8,
-    version: u8,
-    sequence: u64,
-}
-
-impl Wanted {
-    /// The head is that of a page of the group, at that index.
+impl Site {
+    // The head is that of a page of the group, at that index.
     fn is_page(&self, head: &Head, index: u32) -> bool
-        ensures { IsTrue result ↔ ((head.now.kind ≡ self.now.kind) × (head.now.version ≡ self.now.version) × (head.now.stamp.sequence ≡ self.now.sequence) × (head.now.index ≡ index) × (0 < head.now.used) × (head.now.used ≤ page_payload)) }
+        ensures { IsTrue result ↔ ((head.now.kind ≡ self.now.kind) × (head.now.version ≡ self.now.version) × (head.now.sequence ≡ self.now.sequence) × (head.now.index ≡ index) × (0 < head.now.used) × (head.now.used ≤ page_payload)) }
     {
         head.kind == self.kind
             && head.version == self.version
-            && head.stamp.sequence == self.sequence
+            && head.sequence == self.sequence
             && head.index == index
             && head.used > 0
             && usize::from(head.used) <= PAYLOAD
     }
 
-    /// The head is that of the group's commit sector, behind so many pages of that session.
+    // The head is that of the group's commit sector, behind so many pages of that session.
     fn is_commit(&self, head: &Head, session: u64, pages: u32) -> bool
-        ensures { IsTrue result ↔ ((head.now.kind ≡ commit_kind) × (head.now.version ≡ self.now.version) × (head.now.stamp.sequence ≡ self.now.sequence) × (head.now.index ≡ pages) × (head.now.stamp.session ≡ session) × (head.now.used ≡ 0)) }
+        ensures { IsTrue result ↔ ((head.now.kind ≡ commit_kind) × (head.now.version ≡ self.now.version) × (head.now.sequence ≡ self.now.sequence) × (head.now.index ≡ pages) × (head.now.session ≡ session) × (head.now.used ≡ 0)) }
     {
         head.kind == COMMIT
             && head.version == self.version
-            && head.stamp.sequence == self.sequence
+            && head.sequence == self.sequence
             && head.index == pages
-            && head.stamp.session == session
+            && head.session == session
             && head.used == 0
     }
 
-    /// How a sector fits behind so many pages of that session.
+    // How a sector fits behind so many pages of that session.
     fn judge(&self, bytes: &[u8; 512], session: u64, pages: u32) -> Fit
         requires { self.now.kind ≢ commit_kind }
-        ensures { Judged self.now.kind self.now.version self.now.sequence session pages bytes.now result }
+        ensures { Judged self.now session pages bytes.now result }
     {
         let head = read_head(bytes);
         if self.is_page(&head, pages) {
-            if pages == 0 || head.stamp.session == session {
-                return Fit::Page(head.used, head.stamp.session);
+            if pages == 0 || head.session == session {
+                return Fit::Page(head.used, head.session);
             }
             return Fit::Neither;
         }
@@ -87,7 +79,7 @@ pub(crate) enum Fit {
 /// The pages that were read.
 #[derive(Drop)]
 struct Reading<A: Allocator> {
-    wanted: Wanted,
+    site: Site,
     payload: Vec<u8, A>,
     session: u64,
     pages: u32,
@@ -99,7 +91,7 @@ impl<A: Allocator> Reading<A> {
         requires used { used ≤ page_payload }
         requires more { self.old.pages < 2 ^ 32 - 1 }
         ensures long { length bytes.now ≡ 512 }
-        ensures wanted { self.new.wanted ≡ self.old.wanted }
+        ensures site { self.new.site ≡ self.old.site }
         ensures pages { OnOk result (self.new.pages ≡ self.old.pages + 1) }
         ensures session { OnOk result (self.new.session ≡ session) }
         ensures payload { OnOk result (self.new.payload.items ≡ self.old.payload.items ++ take used (drop head_len bytes.now)) }
@@ -113,13 +105,13 @@ impl<A: Allocator> Reading<A> {
 
     /// Reads the sector behind the pages, and says whether it completes the group.
     fn read_next<D: Disk>(&mut self, disk: &mut D, at: u32) -> Result<bool, GroupFault>
-        requires kind { self.old.wanted.kind ≢ commit_kind }
+        requires kind { self.old.site.kind ≢ commit_kind }
         requires more { self.old.pages < 2 ^ 32 - 1 }
         requires within { at < D.sectors disk.old }
-        ensures step { D.honest → (place limit : ℕ) → at ≡ place + self.old.pages → at < limit
-            → IsBegun self.old.wanted.version self.old.wanted.kind self.old.session self.old.wanted.sequence self.old.payload.items self.old.pages place limit (D.reads disk.old)
-            → IsStep self.old.wanted.version self.old.wanted.kind self.old.wanted.sequence place limit (D.reads disk.old) self.new.session self.new.pages self.new.payload.items result }
-        ensures wanted { self.new.wanted ≡ self.old.wanted }
+        ensures step { D.honest → at ≡ self.old.site.first + self.old.pages → at < self.old.site.limit
+            → IsBegun self.old.site self.old.session self.old.payload.items self.old.pages (D.reads disk.old)
+            → IsStep self.old.site (D.reads disk.old) self.new.session self.new.pages self.new.payload.items result }
+        ensures site { self.new.site ≡ self.old.site }
         ensures pages { IfOk result (λ done. self.new.pages ≡ (if done then self.old.pages else self.old.pages + 1)) }
         ensures device { IsErrOf result GroupFault.Device → HasRisen (D.failures disk.old) (D.failures disk.new) }
         ensures passed { (IsErrOf result GroupFault.Device → ⊥) → D.failures disk.new ≡ D.failures disk.old }
@@ -134,7 +126,7 @@ impl<A: Allocator> Reading<A> {
             Err(ReadFault::Unreadable) => return Err(GroupFault::Incomplete(at)),
             Err(ReadFault::Failed) => return Err(GroupFault::Device),
         };
-        match self.wanted.judge(&bytes, self.session, self.pages) {
+        match self.site.judge(&bytes, self.session, self.pages) {
             Fit::Neither => Err(GroupFault::Incomplete(at)),
             Fit::Commit => Ok(true),
             Fit::Page(used, session) => {
@@ -150,28 +142,23 @@ impl<A: Allocator> Reading<A> {
     }
 }
 
-/// Reads the group of that kind, version and sequence at a place of a half that ends before sector
-/// `limit`. Each sector is read once.
+/// Reads the group of a site. Each sector is read once.
 ///
 /// # Errors
 ///
-/// `Incomplete` where no such group is complete there, with the first sector that doesn't fit; `Device`
+/// `Incomplete` where that group isn't complete, with the first sector that doesn't fit; `Device`
 /// where a read failed; `NoMemory`.
 pub fn read_group<A: Allocator, D: Disk>(
     alloc: A,
     disk: &mut D,
-    place: u32,
-    limit: u32,
-    kind: u8,
-    version: u8,
-    sequence: u64,
+    site: Site,
 ) -> Result<Group<A>, GroupFault>
-    requires kind { kind ≢ commit_kind }
-    requires place { place ≤ limit }
-    requires limit { limit ≤ D.sectors disk.old }
-    ensures group { D.honest → IfOk result (λ group. (session : ℕ) × (pages : ℕ) × IsGroup version kind session sequence group.payload.items pages place limit (D.reads disk.old) × (group.sectors ≡ pages + 1)) }
-    ensures incomplete { D.honest → (n : ℕ) → IsErrOf result (GroupFault.Incomplete n) → IsCutAt version kind sequence place limit n (D.reads disk.old) }
-    ensures within { IfOk result (λ group. (1 ≤ group.sectors) × (place + group.sectors ≤ limit)) }
+    requires kind { site.kind ≢ commit_kind }
+    requires first { site.first ≤ site.limit }
+    requires limit { site.limit ≤ D.sectors disk.old }
+    ensures group { D.honest → IfOk result (λ group. (session : ℕ) × (pages : ℕ) × IsGroup site session group.payload.items pages (D.reads disk.old) × (group.sectors ≡ pages + 1)) }
+    ensures incomplete { D.honest → (n : ℕ) → IsErrOf result (GroupFault.Incomplete n) → IsCutAt site n (D.reads disk.old) }
+    ensures within { IfOk result (λ group. (1 ≤ group.sectors) × (site.first + group.sectors ≤ site.limit)) }
     ensures device { IsErrOf result GroupFault.Device → HasRisen (D.failures disk.old) (D.failures disk.new) }
     ensures passed { (IsErrOf result GroupFault.Device → ⊥) → D.failures disk.new ≡ D.failures disk.old }
     ensures reads { D.honest → D.reads disk.new ≡ D.reads disk.old }
@@ -181,16 +168,12 @@ pub fn read_group<A: Allocator, D: Disk>(
     ensures failures { D.failures disk.old ≤ D.failures disk.new }
 {
     let mut reading = Reading {
-        wanted: Wanted {
-            kind,
-            version,
-            sequence,
-        },
+        site,
         payload: Vec::new(alloc),
         session: 0,
         pages: 0,
     };
-    for at in place..limit {
+    for at in site.first..site.limit {
         if reading.read_next(disk, at)? {
             return Ok(Group {
                 payload: reading.payload,
@@ -198,5 +181,5 @@ pub fn read_group<A: Allocator, D: Disk>(
             });
         }
     }
-    Err(GroupFault::Incomplete(limit))
+    Err(GroupFault::Incomplete(site.limit))
 }

@@ -7,7 +7,7 @@ ghost use Rattle.dc_pages.specs.Draft.{draft_len, HasRoom};
 ghost use Rattle.dc_pages.specs.Group.{piece, page_payload};
 ghost use Rattle.dc_pages.specs.Writing.{IsPartOf, IsOnDisk, IsGoing, IsClosed};
 
-use crate::Stamp;
+use crate::Site;
 use crate::head::{COMMIT, HEAD, Head, PAYLOAD, write_head};
 use dc_sectors::{Disk, Failed};
 use std::marker::Model;
@@ -17,11 +17,8 @@ use std::marker::Model;
 /// Once a call answered `Failed`, nothing more is said of the group: it is given up.
 #[derive(Drop)]
 pub struct GroupWriter {
-    place: u32,
-    limit: u32,
-    version: u8,
-    kind: u8,
-    stamp: Stamp,
+    site: Site,
+    session: u64,
     index: u32,
     used: u16,
     page: [u8; 512],
@@ -36,22 +33,19 @@ impl Model for GroupWriter {
     ghost use Rattle.dc_pages.specs.Buffer.{IsBuffer};
     ghost use Rattle.dc_pages.specs.Group.{head_len};
 
-    ghost view = { λ w. record { place = w.place; limit = w.limit; version = w.version; kind = w.kind; session = w.stamp.session; sequence = w.stamp.sequence; pages = w.index; buffer = take w.used (drop head_len w.page) } };
+    ghost view = { λ w. record { site = w.site; session = w.session; pages = w.index; buffer = take w.used (drop head_len w.page) } };
 
     ghost invariant = { λ w. IsBuffer w.used w.page };
 }
 
 impl GroupWriter {
-    /// A group without payload, at that place of a half that ends before sector `limit`.
-    pub fn begin(place: u32, limit: u32, stamp: Stamp, kind: u8, version: u8) -> GroupWriter
-        ensures { result ≡ record { place = place; limit = limit; version = version; kind = kind; session = stamp.session; sequence = stamp.sequence; pages = 0; buffer = [] } }
+    /// The group of that site in that session, without payload so far.
+    pub fn begin(site: Site, session: u64) -> GroupWriter
+        ensures { result ≡ record { site = site; session = session; pages = 0; buffer = [] } }
     {
         GroupWriter {
-            place,
-            limit,
-            version,
-            kind,
-            stamp,
+            site,
+            session,
             index: 0,
             used: 0,
             page: [0; 512],
@@ -60,17 +54,18 @@ impl GroupWriter {
 
     /// The sector before which the half ends.
     pub fn limit(&self) -> u32
-        ensures { result ≡ self.now.limit }
+        ensures { result ≡ self.now.site.limit }
     {
-        self.limit
+        self.site.limit
     }
 
     /// Whether so many bytes more and the commit sector fit.
     pub fn has_room(&self, more: usize) -> bool
         ensures { IsTrue result ↔ HasRoom self.now more }
     {
-        let written = PAYLOAD as u64 * (self.place as u64 + self.index as u64) + self.used as u64;
-        let room = PAYLOAD as u64 * self.limit as u64;
+        let written = PAYLOAD as u64 * (self.site.first as u64 + self.index as u64)
+            + self.used as u64;
+        let room = PAYLOAD as u64 * self.site.limit as u64;
         room.saturating_sub(written) >= PAYLOAD as u64
             && more as u64 <= room.saturating_sub(written) - PAYLOAD as u64
     }
@@ -89,27 +84,28 @@ impl GroupWriter {
 
     // Writes the page in the buffer, and begins another.
     fn flush_page<D: Disk>(&mut self, disk: &mut D) -> Result<(), Failed>
-        requires room { self.old.place + self.old.pages + 1 < self.old.limit }
-        requires limit { self.old.limit ≤ D.sectors disk.old }
+        requires room { self.old.site.first + self.old.pages + 1 < self.old.site.limit }
+        requires limit { self.old.site.limit ≤ D.sectors disk.old }
         ensures flushed { OnOk result (self.new ≡ record self.old { pages = self.old.pages + 1; buffer = [] }) }
         ensures on_disk { D.honest → (start : D) (payload : List ℕ) → self.old.buffer ≡ piece self.old.pages payload
-            → IsOnDisk D.reads D.choices D.moment D.images_since start disk.old self.old.version self.old.kind self.old.session self.old.sequence self.old.place self.old.limit self.old.pages payload
-            → OnOk result (IsOnDisk D.reads D.choices D.moment D.images_since start disk.new self.old.version self.old.kind self.old.session self.old.sequence self.old.place self.old.limit (self.old.pages + 1) payload) }
+            → IsOnDisk D.reads D.choices D.moment D.images_since start disk.old self.old.site self.old.session self.old.pages payload
+            → OnOk result (IsOnDisk D.reads D.choices D.moment D.images_since start disk.new self.old.site self.old.session (self.old.pages + 1) payload) }
         ensures any_moment { D.honest → (start : D) (payload : List ℕ) → self.old.buffer ≡ piece self.old.pages payload
-            → IsOnDisk D.reads D.choices D.moment D.images_since start disk.old self.old.version self.old.kind self.old.session self.old.sequence self.old.place self.old.limit self.old.pages payload
-            → LeavesOnly D.moment D.images_since start disk.new (IsPartOf self.old.version self.old.kind self.old.session self.old.sequence self.old.place self.old.limit (D.reads start)) }
+            → IsOnDisk D.reads D.choices D.moment D.images_since start disk.old self.old.site self.old.session self.old.pages payload
+            → LeavesOnly D.moment D.images_since start disk.new (IsPartOf self.old.site self.old.session (D.reads start)) }
         ensures count { D.sectors disk.new ≡ D.sectors disk.old }
         ensures failures { D.failures disk.old ≤ D.failures disk.new }
         ensures passed { OnOk result (D.failures disk.new ≡ D.failures disk.old) }
         ensures failed { OnErr result (HasRisen (D.failures disk.old) (D.failures disk.new)) }
     {
-        let at = self.place + self.index;
+        let at = self.site.first + self.index;
         let head = Head {
-            kind: self.kind,
-            version: self.version,
+            kind: self.site.kind,
+            version: self.site.version,
             used: self.used,
             index: self.index,
-            stamp: self.stamp,
+            session: self.session,
+            sequence: self.site.sequence,
         };
         write_head(&mut self.page, &head);
         disk.write(at, &self.page)?;
@@ -122,14 +118,14 @@ impl GroupWriter {
     // Writes the page in the buffer where it is full.
     fn make_room<D: Disk>(&mut self, disk: &mut D) -> Result<(), Failed>
         requires room { HasRoom self.old 1 }
-        requires limit { self.old.limit ≤ D.sectors disk.old }
+        requires limit { self.old.site.limit ≤ D.sectors disk.old }
         ensures room { OnOk result (length self.new.buffer < page_payload) }
         ensures length { OnOk result (draft_len self.new ≡ draft_len self.old) }
         ensures same { OnOk result (self.new ≡ record self.old { pages = self.new.pages; buffer = self.new.buffer }) }
         ensures going { D.honest → (start : D) (payload : List ℕ) → IsGoing D.reads D.choices D.moment D.images_since start disk.old self.old payload
             → OnOk result (IsGoing D.reads D.choices D.moment D.images_since start disk.new self.new payload) }
         ensures any_moment { D.honest → (start : D) (payload : List ℕ) → IsGoing D.reads D.choices D.moment D.images_since start disk.old self.old payload
-            → LeavesOnly D.moment D.images_since start disk.new (IsPartOf self.old.version self.old.kind self.old.session self.old.sequence self.old.place self.old.limit (D.reads start)) }
+            → LeavesOnly D.moment D.images_since start disk.new (IsPartOf self.old.site self.old.session (D.reads start)) }
         ensures count { D.sectors disk.new ≡ D.sectors disk.old }
         ensures failures { D.failures disk.old ≤ D.failures disk.new }
         ensures passed { OnOk result (D.failures disk.new ≡ D.failures disk.old) }
@@ -145,7 +141,7 @@ impl GroupWriter {
     /// Adds bytes to the payload.
     pub fn put<D: Disk>(&mut self, disk: &mut D, bytes: &[u8]) -> Result<(), Failed>
         requires room { HasRoom self.old (length bytes.now) }
-        requires limit { self.old.limit ≤ D.sectors disk.old }
+        requires limit { self.old.site.limit ≤ D.sectors disk.old }
         ensures length { OnOk result (draft_len self.new ≡ draft_len self.old + length bytes.now) }
         ensures some { 0 < length bytes.now → OnOk result (0 < length self.new.buffer) }
         ensures still_some { 0 < length self.old.buffer → OnOk result (0 < length self.new.buffer) }
@@ -153,7 +149,7 @@ impl GroupWriter {
         ensures going { D.honest → (start : D) (payload : List ℕ) → IsGoing D.reads D.choices D.moment D.images_since start disk.old self.old payload
             → OnOk result (IsGoing D.reads D.choices D.moment D.images_since start disk.new self.new (payload ++ bytes.now)) }
         ensures any_moment { D.honest → (start : D) (payload : List ℕ) → IsGoing D.reads D.choices D.moment D.images_since start disk.old self.old payload
-            → LeavesOnly D.moment D.images_since start disk.new (IsPartOf self.old.version self.old.kind self.old.session self.old.sequence self.old.place self.old.limit (D.reads start)) }
+            → LeavesOnly D.moment D.images_since start disk.new (IsPartOf self.old.site self.old.session (D.reads start)) }
         ensures count { D.sectors disk.new ≡ D.sectors disk.old }
         ensures failures { D.failures disk.old ≤ D.failures disk.new }
         ensures passed { OnOk result (D.failures disk.new ≡ D.failures disk.old) }
@@ -172,28 +168,29 @@ impl GroupWriter {
     pub fn finish<D: Disk>(mut self, disk: &mut D) -> Result<u32, Failed>
         requires some { 0 < length self.buffer }
         requires room { HasRoom self 0 }
-        requires limit { self.limit ≤ D.sectors disk.old }
+        requires limit { self.site.limit ≤ D.sectors disk.old }
         ensures sectors { IfOk result (λ n. n ≡ self.pages + 2) }
         ensures closed { D.honest → (start : D) (payload : List ℕ) → IsGoing D.reads D.choices D.moment D.images_since start disk.old self payload
-            → OnOk result (IsClosed D.moment D.images_since start disk.new (D.reads start) self.version self.kind self.session self.sequence self.place self.limit (self.pages + 1) payload (D.reads disk.new)) }
+            → OnOk result (IsClosed D.moment D.images_since start disk.new (D.reads start) self.site self.session (self.pages + 1) payload (D.reads disk.new)) }
 
         // Where a write failed, a stop leaves a part of the group without its commit sector, or the group torn.
         ensures any_moment { D.honest → (start : D) (payload : List ℕ) → IsGoing D.reads D.choices D.moment D.images_since start disk.old self payload
-            → OnErr result (LeavesOnly D.moment D.images_since start disk.new (IsPartOf self.version self.kind self.session self.sequence self.place self.limit (D.reads start))
-            ⊎ ((written : Image) × IsClosed D.moment D.images_since start disk.new (D.reads start) self.version self.kind self.session self.sequence self.place self.limit (self.pages + 1) payload written)) }
+            → OnErr result (LeavesOnly D.moment D.images_since start disk.new (IsPartOf self.site self.session (D.reads start))
+            ⊎ ((written : Image) × IsClosed D.moment D.images_since start disk.new (D.reads start) self.site self.session (self.pages + 1) payload written)) }
         ensures count { D.sectors disk.new ≡ D.sectors disk.old }
         ensures failures { D.failures disk.old ≤ D.failures disk.new }
         ensures passed { OnOk result (D.failures disk.new ≡ D.failures disk.old) }
         ensures failed { OnErr result (HasRisen (D.failures disk.old) (D.failures disk.new)) }
     {
         let pages = self.index + 1;
-        let at = self.place + pages;
+        let at = self.site.first + pages;
         let head = Head {
             kind: COMMIT,
-            version: self.version,
+            version: self.site.version,
             used: 0,
             index: pages,
-            stamp: self.stamp,
+            session: self.session,
+            sequence: self.site.sequence,
         };
         self.flush_page(disk)?;
         let mut commit = [0; 512];

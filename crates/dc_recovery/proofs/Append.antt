@@ -4,12 +4,14 @@ use Rattle.std.proofs.lemmas.Bool.{cases_eq, cases_lt}
 use Rattle.dc_sectors.specs.declared.sector.Sector.TheVariants.{Unreadable}
 use Rattle.dc_sectors.specs.Disk.{Image}
 use Rattle.dc_roots.specs.declared.root.Root.{Root}
-use Rattle.dc_pages.specs.Group.{IsGroup, IsComplete, Carries, change_kind}
+use Rattle.dc_pages.specs.declared.site.Site.{Site}
+use Rattle.dc_pages.specs.Group.{IsGroup, IsComplete, Carries}
 use Rattle.dc_pages.specs.Writing.{IsTorn, IsPartOf}
 use Rattle.dc_roots.proofs.Choices.{same_chosen}
 use Rattle.dc_recovery.specs.Halves.{half_start, half_end}
 use Rattle.dc_recovery.specs.Language.{State, Change, SpellsChanges, AcceptsAll, after}
 use Rattle.dc_recovery.specs.Halves.{budget_of}
+use Rattle.dc_recovery.specs.Sites.{change_site}
 use Rattle.dc_recovery.specs.Stands.{IsSequence, IsFresh, Holds, ReadsBy, StandsBy, IsReady}
 use Rattle.dc_pages.proofs.Agree.{same_group}
 use Rattle.dc_pages.specs.Group.{IsPageKind, IsKnown}
@@ -25,11 +27,11 @@ half_within half_len half small = ⊎_elim
     which : (h : ℕ) → h ≤ 1 → (h ≡ 0) ⊎ (h ≡ 1)
     which h le = grind arith
 
-pub any_complete_carries : (version kind sequence place limit : ℕ) (image : Image) → IsPageKind kind → IsKnown version
-    → IsComplete version kind sequence place limit image → (place < limit) × ((s : ℕ) × Carries s sequence (image place))
-any_complete_carries version kind sequence place limit image is known complete =
+pub any_complete_carries : (site : Site) (image : Image) → IsPageKind site.kind → IsKnown site.version
+    → IsComplete site image → (site.first < site.limit) × ((s : ℕ) × Carries s site.sequence (image site.first))
+any_complete_carries site image is known complete =
     let fits = complete.group.fits in
-    (omega arith, (complete.session, member version kind complete.session sequence complete.payload complete.pages place limit image is known complete.group place (omega arith) (omega arith)))
+    (omega arith, (complete.session, member site complete.session complete.payload complete.pages image is known complete.group site.first (omega arith) (omega arith)))
 
 abbrev holds : ℕ → Root → Image → ℕ → ℕ → State → Type 0
 holds = Holds
@@ -64,7 +66,7 @@ same_holds half_len root a b zero place state same is =
       pages = is.pages;
       spells = is.spells;
       end = is.end;
-      group = same_group _ _ _ _ _ is.pages _ _ a b (λ k le up. same k le (omega arith)) is.group;
+      group = same_group _ _ _ is.pages a b (λ k le up. same k le (omega arith)) is.group;
     }
 same_holds half_len root a b (suc m) place state same is =
     let end = is.end in
@@ -82,14 +84,14 @@ same_holds half_len root a b (suc m) place state same is =
       state_is = is.state_is;
       end = is.end;
       before = same_holds half_len root a b m is.from is.was (λ k le up. same k le (omega arith)) is.before;
-      group = same_group _ _ _ _ _ is.pages _ _ a b (λ k le up. same k (omega arith) (omega arith)) is.group;
+      group = same_group _ _ _ is.pages a b (λ k le up. same k (omega arith) (omega arith)) is.group;
     }
 
 -- what agrees on the slots and up to the place, is fresh and has no further group stands for the same
 pub kept : (half_len : ℕ) (root : Root) (m place : ℕ) (state : State) (a b : Image) → stands_by half_len root m place state a
     → ((k : ℕ) → 1 ≤ k → k ≤ 2 → a k ≡ b k)
     → ((k : ℕ) → half_start half_len root.half ≤ k → k < place → a k ≡ b k)
-    → (IsSequence (root.base_sequence + suc m) → IsComplete root.version change_kind (root.base_sequence + suc m) place (half_end half_len root.half) b → ⊥)
+    → (IsSequence (root.base_sequence + suc m) → IsComplete (change_site half_len root (root.base_sequence + suc m) place) b → ⊥)
     → IsFresh half_len root.session (root.base_sequence + suc m) b
     → stands_by half_len root m place state b
 kept half_len root m place state a b is slots same no_more fresh = record {
@@ -125,6 +127,9 @@ module _ (half_len : ℕ) (root : Root) (m place : ℕ) (state : State) (old : I
   abbrev limit : ℕ
   limit = half_end half_len root.half
 
+  abbrev site : Site
+  site = change_site half_len root sequence place
+
   known : IsKnown root.version
   known = ready.stands.reads.version
 
@@ -142,11 +147,11 @@ module _ (half_len : ℕ) (root : Root) (m place : ℕ) (state : State) (old : I
   unused k le lt = let at = rest_within k le lt in ready.unused k at.0 at.1
 
   -- with pages alone written: the state before
-  pub append_part : (image : Image) → IsPartOf root.version change_kind root.session sequence place limit old image → stands_by half_len root m place state image
+  pub append_part : (image : Image) → IsPartOf site root.session old image → stands_by half_len root m place state image
   append_part image part = kept half_len root m place state old image ready.stands
       (λ k low up. let at = within in sym (part.outside k (inl (omega arith))))
       (λ k low up. sym (part.outside k (inl up)))
-      (λ _. part_incomplete root.version change_kind root.session sequence place limit old image (inr refl) known part unused (ready.stands.reads.no_more is_sequence))
+      (λ _. part_incomplete site root.session old image (inr refl) known part unused (ready.stands.reads.no_more is_sequence))
       fresh
     where
       fresh : IsFresh half_len root.session sequence image
@@ -164,14 +169,14 @@ module _ (half_len : ℕ) (root : Root) (m place : ℕ) (state : State) (old : I
               ⊎_elim
               (λ either. ⊎_elim (λ (e : image (place + i) ≡ old (place + i)). ready.stands.fresh (place + i) s' q' (omega arith) (omega arith) (subst (Carries s' q') e here))
               (λ (lost : image (place + i) ≡ Unreadable). absurd (lost_carries_none s' q' (image (place + i)) lost here)) either)
-              (λ page. let same = one_stamp root.session sequence s' q' (image (place + i)) (page_carries root.version change_kind root.session sequence i page.0 _ (inr refl) known page.1) here in (omega arith, omega arith))
+              (λ page. let same = one_stamp root.session sequence s' q' (image (place + i)) (page_carries site root.session i page.0 _ (inr refl) known page.1) here in (omega arith, omega arith))
               (part.inside i (omega arith))
 
   module _ (payload : List ℕ) (pages : ℕ) (changes : List Change) (written : Image)
-      (group : IsGroup root.version change_kind root.session sequence payload pages place limit written)
+      (group : IsGroup site root.session payload pages written)
       (spells : SpellsChanges payload changes) (accepted : AcceptsAll (budget_of half_len) state changes) where
     of_written : (k : ℕ) → place ≤ k → k ≤ place + pages → Carries root.session sequence (written k)
-    of_written k le up = member root.version change_kind root.session sequence payload pages place limit written (inr refl) known group k le up
+    of_written k le up = member site root.session payload pages written (inr refl) known group k le up
 
     abbrev after_all : State
     after_all = after state changes
@@ -197,10 +202,10 @@ module _ (half_len : ℕ) (root : Root) (m place : ℕ) (state : State) (old : I
           state_is = refl;
           end = refl;
           before = same_holds half_len root old image m place state (λ k low up. sym (torn.outside k (inl up))) ready.stands.reads.holds;
-          group = same_group root.version change_kind root.session sequence payload pages place limit written image (λ k le up. sym (all k le (omega arith))) group;
+          group = same_group site root.session payload pages written image (λ k le up. sym (all k le (omega arith))) group;
         };
         no_more = λ _ complete.
-            let first = any_complete_carries root.version change_kind (root.base_sequence + suc (suc m)) (place + pages + 1) limit image (inr refl) known complete in
+            let first = any_complete_carries (change_site half_len root (root.base_sequence + suc (suc m)) (place + pages + 1)) image (inr refl) known complete in
             let at = rest_within (place + pages + 1) (omega arith) first.0 in
             let low = ready.stands.fresh (place + pages + 1) first.1.0 (root.base_sequence + suc (suc m)) at.0 at.1 (subst (Carries first.1.0 (root.base_sequence + suc (suc m))) (torn.outside (place + pages + 1) (inr (omega arith))) first.1.1) in
             omega arith;
@@ -235,7 +240,7 @@ module _ (half_len : ℕ) (root : Root) (m place : ℕ) (state : State) (old : I
             (λ k low up. sym (torn.outside k (inl up)))
             (λ _ complete.
             let fits = group.fits in
-            let e = one_sync root.version change_kind root.session sequence payload pages place limit old written image (inr refl) known group torn
+            let e = one_sync site root.session payload pages old written image (inr refl) known group torn
             (λ k le up. unused k le (omega arith)) (ready.stands.reads.no_more is_sequence) complete not.0 not.1 not.2 in
             let is : Carries root.session sequence (image not.0) = subst (Carries root.session sequence) (sym e) (of_written not.0 not.1 not.2) in
             ⊎_elim (λ (was : image not.0 ≡ old not.0). unused not.0 not.1 (omega arith) (subst (Carries root.session sequence) was is))

@@ -3,9 +3,10 @@ use Rattle.std.proofs.Common.{◌≡◌, ◌<◌, ◌+◌, ◌^◌, ℕ, zero, s
 use Rattle.dc_sectors.specs.Disk.{Image, Choices, IsImage, settled}
 use Rattle.dc_sectors.specs.Images.{settled_image}
 use Rattle.dc_roots.specs.declared.root.Root.{Root}
-use Rattle.dc_recovery.specs.Halves.{half_len_of, half_end, budget_of}
+use Rattle.dc_recovery.specs.Halves.{half_len_of, budget_of}
 use Rattle.dc_recovery.specs.Language.{State, Change, SpellsChanges, AcceptsAll}
 use Rattle.dc_recovery.specs.Roots.{compacted}
+use Rattle.dc_recovery.specs.Sites.{change_site}
 use Rattle.dc_recovery.specs.Stands.{IsReady, IsReadyFor, IsAppendable, Reads, Stands, EachStands, StandsForEither}
 use Rattle.dc_recovery.specs.Store.{Kept, Keeps}
 use Rattle.dc_recovery.proofs.Once.{reads_once}
@@ -25,17 +26,17 @@ module _ {D : Type 0} (sectors : D → ℕ) (reads : D → Image) (choices : D �
       (record { m = kept.m; place = store.place; ready = kept.ready }) is)
 
   -- accepted changes may follow
-  pub keeps_appendable : (store : Kept D) (was : State) (payload : List ℕ) (changes : List Change) (half_len limit next : ℕ) → (kept : Keeps sectors reads choices store was)
-      → half_len ≡ half_len_of (sectors store.disk) → limit ≡ half_end half_len store.root.half → next ≡ store.last + 1 → next < 2 ^ 64
+  pub keeps_appendable : (store : Kept D) (was : State) (payload : List ℕ) (changes : List Change) (kept : Keeps sectors reads choices store was) → store.last + 1 < 2 ^ 64
       → SpellsChanges payload changes → AcceptsAll (budget_of (half_len_of (sectors store.disk))) was changes
-      → IsAppendable (half_len_of (sectors store.disk)) store.root kept.m store.place limit next was payload changes (reads store.disk)
-  keeps_appendable store was payload changes half_len limit next kept at_half at_limit at_next small spells accepted =
+      → IsAppendable (half_len_of (sectors store.disk)) store.root kept.m (change_site (half_len_of (sectors store.disk)) store.root (store.last + 1) store.place) was payload changes (reads store.disk)
+  keeps_appendable store was payload changes kept small spells accepted =
+      let H = half_len_of (sectors store.disk) in
       let last_is = kept.last_is in
+      let next : store.last + 1 ≡ store.root.base_sequence + suc kept.m = omega (arith, last_is) in
       record {
         ready = kept.ready;
-        at_limit = at_limit ∙ ap (λ (h : ℕ). half_end h store.root.half) at_half;
-        at_sequence = omega (arith, at_next, last_is);
-        is_sequence = small;
+        site_is = ap (λ (q : ℕ). change_site H store.root q store.place) next;
+        is_sequence = omega (arith, next);
         spells = spells;
         accepted = accepted;
       }

@@ -4,7 +4,7 @@ use Rattle.std.proofs.lemmas.Bool.{cases_eq, cases_lt}
 use Rattle.dc_sectors.specs.declared.sector.Sector.TheVariants.{Unreadable}
 use Rattle.dc_sectors.specs.Disk.{Image}
 use Rattle.dc_roots.specs.declared.root.Root.{Root}
-use Rattle.dc_pages.specs.Group.{IsGroup, IsComplete, Carries, base_kind, change_kind}
+use Rattle.dc_pages.specs.Group.{IsGroup, IsComplete, Carries}
 use Rattle.dc_pages.specs.Writing.{IsTorn, IsPartOf}
 use Rattle.dc_roots.specs.Root.{IsRoot, slot}
 use Rattle.dc_roots.specs.Choice.{IsChosen, IsRootWrite}
@@ -13,6 +13,7 @@ use Rattle.dc_recovery.specs.Roots.{opened}
 use Rattle.dc_recovery.specs.Halves.{half_start, half_end}
 use Rattle.dc_recovery.specs.Language.{State, SpellsState}
 use Rattle.dc_recovery.specs.Halves.{budget_of}
+use Rattle.dc_recovery.specs.Sites.{base_site, change_site}
 use Rattle.dc_recovery.specs.Stands.{IsSequence, IsFresh, IsUnused, Holds, StandsBy, IsReady}
 use Rattle.dc_pages.proofs.Agree.{same_complete}
 use Rattle.dc_pages.specs.Group.{IsKnown}
@@ -33,7 +34,7 @@ pub record IsPrepared (half_len : ℕ) (root : Root) (m place : ℕ) (state : St
   pub version : IsKnown root.version
   pub length_is : root.half_len ≡ half_len
   pub holds_it : holds half_len root image m place state
-  pub no_more : IsSequence (root.base_sequence + suc m) → IsComplete root.version change_kind (root.base_sequence + suc m) place (half_end half_len root.half) image → ⊥
+  pub no_more : IsSequence (root.base_sequence + suc m) → IsComplete (change_site half_len root (root.base_sequence + suc m) place) image → ⊥
   pub fresh : IsFresh half_len root.session (root.base_sequence + suc m) image
 
 pub prepared_of : (half_len : ℕ) (root : Root) (m place : ℕ) (state : State) (image : Image) → stands_by half_len root m place state image → IsPrepared half_len root m place state image
@@ -54,7 +55,7 @@ prepared_same half_len root m place state a b same is =
       version = is.version;
       length_is = is.length_is;
       holds_it = same_holds half_len root a b m place state (λ k low up. same k (omega arith)) is.holds_it;
-      no_more = λ fits complete. is.no_more fits (same_complete root.version change_kind (root.base_sequence + suc m) place (half_end half_len root.half) b a (λ k low up. sym (same k (omega arith))) complete);
+      no_more = λ fits complete. is.no_more fits (same_complete (change_site half_len root (root.base_sequence + suc m) place) b a (λ k low up. sym (same k (omega arith))) complete);
       fresh = λ k s q from to carries. is.fresh k s q from to (subst (Carries s q) (sym (same k from)) carries);
     }
 
@@ -136,33 +137,32 @@ other_half half_len root m place state old image is slots same fresh =
     let at = place_within half_len root old m place state is.reads.holds in
     kept half_len root m place state old image is slots
     (λ k low up. same k low (omega arith))
-    (λ fits complete. is.reads.no_more fits (same_complete root.version change_kind (root.base_sequence + suc m) place (half_end half_len root.half) image old (λ k low up. sym (same k (omega arith) up)) complete))
+    (λ fits complete. is.reads.no_more fits (same_complete (change_site half_len root (root.base_sequence + suc m) place) image old (λ k low up. sym (same k (omega arith) up)) complete))
     fresh
 
 -- COMPACT: the base group goes into the other half with the next sequence; each image on the way stands for what it stood for
-pub base_torn : (half_len : ℕ) (root : Root) (m place : ℕ) (state : State) (version : ℕ) (payload : List ℕ) (pages half : ℕ) (old written image : Image) → stands_by half_len root m place state old
-    → IsKnown version → root.half + half ≡ 1
-    → IsGroup version base_kind root.session (root.base_sequence + suc m) payload pages (half_start half_len half) (half_end half_len half) written
-    → IsTorn (half_start half_len half) (pages + 1) old written image → stands_by half_len root m place state image
-base_torn half_len root m place state version payload pages half old written image is known other group torn =
+pub base_torn : (half_len : ℕ) (root next : Root) (m place : ℕ) (state : State) (payload : List ℕ) (pages : ℕ) (old written image : Image) → stands_by half_len root m place state old
+    → IsKnown next.version → root.half + next.half ≡ 1 → next.base_sequence ≡ root.base_sequence + suc m → IsGroup (base_site half_len next) root.session payload pages written
+    → IsTorn (half_start half_len next.half) (pages + 1) old written image → stands_by half_len root m place state image
+base_torn half_len root next m place state payload pages old written image is known other base group torn =
     let fits = group.fits in
     other_half half_len root m place state old image is
     (λ k low up. sym (torn.outside k (inl (omega arith))))
     (λ k low up. sym (torn.outside k (apart k low up)))
-    (torn_fresh half_len root.session (root.base_sequence + suc m) root.session (root.base_sequence + suc m) (half_start half_len half) (pages + 1) old written image
-    is.fresh torn (λ k le lt. member version base_kind root.session (root.base_sequence + suc m) payload pages (half_start half_len half) (half_end half_len half) written (inl refl) known group k le (omega arith)) (omega arith) (omega arith))
+    (torn_fresh half_len root.session (root.base_sequence + suc m) root.session next.base_sequence (half_start half_len next.half) (pages + 1) old written image
+    is.fresh torn (λ k le lt. member (base_site half_len next) root.session payload pages written (inl refl) known group k le (omega arith)) (omega arith) (omega arith))
   where
-    apart : (k : ℕ) → half_start half_len root.half ≤ k → k < half_end half_len root.half → (k < half_start half_len half) ⊎ (half_start half_len half + (pages + 1) ≤ k)
-    apart k low up = let fits = group.fits in which (cases_eq half 0)
+    apart : (k : ℕ) → half_start half_len root.half ≤ k → k < half_end half_len root.half → (k < half_start half_len next.half) ⊎ (half_start half_len next.half + (pages + 1) ≤ k)
+    apart k low up = let fits = group.fits in which (cases_eq next.half 0)
       where
-        which : (half ≡ 0) ⊎ (half ≡ 0 → ⊥) → (k < half_start half_len half) ⊎ (half_start half_len half + (pages + 1) ≤ k)
+        which : (next.half ≡ 0) ⊎ (next.half ≡ 0 → ⊥) → (k < half_start half_len next.half) ⊎ (half_start half_len next.half + (pages + 1) ≤ k)
         which (inl e) =
             let one : root.half ≡ 1 = omega arith in
             let fits' : half_start half_len 0 + pages < half_end half_len 0 = subst (λ (h : ℕ). half_start half_len h + pages < half_end half_len h) e group.fits in
             let low' : half_start half_len 1 ≤ k = subst (λ (h : ℕ). half_start half_len h ≤ k) one low in
             inr (subst (λ (h : ℕ). half_start half_len h + (pages + 1) ≤ k) (sym e) (omega arith))
         which (inr not) =
-            let one : half ≡ 1 = grind (arith, not, other) in
+            let one : next.half ≡ 1 = grind (arith, not, other) in
             let zero_is : root.half ≡ 0 = omega arith in
             let up' : k < half_end half_len 0 = subst (λ (h : ℕ). k < half_end half_len h) zero_is up in
             inl (subst (λ (h : ℕ). k < half_start half_len h) (sym one) (omega arith))
@@ -170,8 +170,7 @@ base_torn half_len root m place state version payload pages half old written ima
 -- with all of it written, the next root finds the state there
 pub base_prepared : (half_len : ℕ) (root next : Root) (m place : ℕ) (state state' : State) (payload : List ℕ) (pages : ℕ) (old written : Image) → stands_by half_len root m place state old
     → IsKnown next.version → next.half_len ≡ half_len → next.half ≤ 1 → next.session ≡ root.session → next.base_sequence ≡ root.base_sequence + suc m
-    → IsGroup next.version base_kind root.session (root.base_sequence + suc m) payload pages (half_start half_len next.half) (half_end half_len next.half) written
-    → SpellsState (budget_of half_len) payload state'
+    → IsGroup (base_site half_len next) root.session payload pages written → SpellsState (budget_of half_len) payload state'
     → ((k : ℕ) → (k < half_start half_len next.half) ⊎ (half_start half_len next.half + (pages + 1) ≤ k) → written k ≡ old k)
     → IsPrepared half_len next zero (half_start half_len next.half + pages + 1) state' written
 base_prepared half_len root next m place state state' payload pages old written is known len small session base group spells outside = record {
@@ -183,18 +182,18 @@ base_prepared half_len root next m place state state' payload pages old written 
     pages = pages;
     spells = spells;
     end = refl;
-    group = subst (λ (q : ℕ). IsGroup next.version base_kind root.session q payload pages (half_start half_len next.half) (half_end half_len next.half) written) (sym base) group;
+    group = group;
   };
   no_more = λ _ complete.
-      let first = any_complete_carries next.version change_kind (next.base_sequence + suc zero) (half_start half_len next.half + pages + 1) (half_end half_len next.half) written (inr refl) known complete in
+      let first = any_complete_carries (change_site half_len next (next.base_sequence + suc zero) (half_start half_len next.half + pages + 1)) written (inr refl) known complete in
       let top = half_within half_len next.half small in
       let low = is.fresh (half_start half_len next.half + pages + 1) first.1.0 (next.base_sequence + suc zero) (omega arith) (omega arith)
       (subst (Carries first.1.0 (next.base_sequence + suc zero)) (outside (half_start half_len next.half + pages + 1) (inr (omega arith))) first.1.1) in
       omega arith;
   fresh = λ k s q from to carries.
-      let low = torn_fresh half_len root.session (root.base_sequence + suc m) root.session (root.base_sequence + suc m) (half_start half_len next.half) (pages + 1) old written written
+      let low = torn_fresh half_len root.session (root.base_sequence + suc m) root.session next.base_sequence (half_start half_len next.half) (pages + 1) old written written
       is.fresh (record { inside = λ j le lt. inr refl; outside = outside })
-      (λ j le lt. member next.version base_kind root.session (root.base_sequence + suc m) payload pages (half_start half_len next.half) (half_end half_len next.half) written (inl refl) known group j le (omega arith)) (omega arith) (omega arith) k s q from to carries in
+      (λ j le lt. member (base_site half_len next) root.session payload pages written (inl refl) known group j le (omega arith)) (omega arith) (omega arith) k s q from to carries in
       (omega arith, omega arith);
 }
 
@@ -204,45 +203,45 @@ base_unused half_len session sequence a b fresh same k from to is =
     let low = fresh k session (sequence + 1) from to (subst (Carries session (sequence + 1)) (sym (same k from)) is) in omega arith
 
 -- with pages alone written it stands for what it stood for
-pub base_part : (half_len : ℕ) (root : Root) (m place : ℕ) (state : State) (version half : ℕ) (old image : Image) → stands_by half_len root m place state old
-    → IsKnown version → root.half + half ≡ 1
-    → IsPartOf version base_kind root.session (root.base_sequence + suc m) (half_start half_len half) (half_end half_len half) old image → stands_by half_len root m place state image
-base_part half_len root m place state version half old image is known other part =
+pub base_part : (half_len : ℕ) (root next : Root) (m place : ℕ) (state : State) (old image : Image) → stands_by half_len root m place state old
+    → IsKnown next.version → root.half + next.half ≡ 1 → next.base_sequence ≡ root.base_sequence + suc m
+    → IsPartOf (base_site half_len next) root.session old image → stands_by half_len root m place state image
+base_part half_len root next m place state old image is known other base part =
     other_half half_len root m place state old image is
     (λ k low up. sym (part.outside k (inl (omega arith))))
     (λ k low up. sym (part.outside k (apart k low up)))
     fresh
   where
-    apart : (k : ℕ) → half_start half_len root.half ≤ k → k < half_end half_len root.half → (k < half_start half_len half) ⊎ (half_end half_len half ≤ k)
-    apart k low up = which (cases_eq half 0)
+    apart : (k : ℕ) → half_start half_len root.half ≤ k → k < half_end half_len root.half → (k < half_start half_len next.half) ⊎ (half_end half_len next.half ≤ k)
+    apart k low up = which (cases_eq next.half 0)
       where
-        which : (half ≡ 0) ⊎ (half ≡ 0 → ⊥) → (k < half_start half_len half) ⊎ (half_end half_len half ≤ k)
+        which : (next.half ≡ 0) ⊎ (next.half ≡ 0 → ⊥) → (k < half_start half_len next.half) ⊎ (half_end half_len next.half ≤ k)
         which (inl e) =
             let one : root.half ≡ 1 = omega arith in
             let low' : half_start half_len 1 ≤ k = subst (λ (h : ℕ). half_start half_len h ≤ k) one low in
             inr (subst (λ (h : ℕ). half_end half_len h ≤ k) (sym e) (omega arith))
         which (inr not) =
-            let one : half ≡ 1 = grind (arith, not, other) in
+            let one : next.half ≡ 1 = grind (arith, not, other) in
             let zero_is : root.half ≡ 0 = omega arith in
             let up' : k < half_end half_len 0 = subst (λ (h : ℕ). k < half_end half_len h) zero_is up in
             inl (subst (λ (h : ℕ). k < half_start half_len h) (sym one) (omega arith))
 
     fresh : IsFresh half_len root.session (root.base_sequence + suc m) image
     fresh k s q from to carries = ⊎_elim
-        (λ (below : k < half_start half_len half). is.fresh k s q from to (subst (Carries s q) (part.outside k (inl below)) carries))
-        (λ (ge : half_start half_len half ≤ k). ⊎_elim
-        (λ (lt : k < half_end half_len half). inside (k - half_start half_len half) (omega arith) lt)
-        (λ (past : half_end half_len half ≤ k). is.fresh k s q from to (subst (Carries s q) (part.outside k (inr past)) carries))
-        (cases_lt k (half_end half_len half)))
-        (cases_lt k (half_start half_len half))
+        (λ (below : k < half_start half_len next.half). is.fresh k s q from to (subst (Carries s q) (part.outside k (inl below)) carries))
+        (λ (ge : half_start half_len next.half ≤ k). ⊎_elim
+        (λ (lt : k < half_end half_len next.half). inside (k - half_start half_len next.half) (omega arith) lt)
+        (λ (past : half_end half_len next.half ≤ k). is.fresh k s q from to (subst (Carries s q) (part.outside k (inr past)) carries))
+        (cases_lt k (half_end half_len next.half)))
+        (cases_lt k (half_start half_len next.half))
       where
-        inside : (i : ℕ) → half_start half_len half + i ≡ k → k < half_end half_len half → (s ≤ root.session) × (q ≤ root.base_sequence + suc m)
+        inside : (i : ℕ) → half_start half_len next.half + i ≡ k → k < half_end half_len next.half → (s ≤ root.session) × (q ≤ root.base_sequence + suc m)
         inside i at lt =
-            let here : Carries s q (image (half_start half_len half + i)) = subst (λ (n : ℕ). Carries s q (image n)) (sym at) carries in
+            let here : Carries s q (image (half_start half_len next.half + i)) = subst (λ (n : ℕ). Carries s q (image n)) (sym at) carries in
             ⊎_elim
             (λ either. ⊎_elim
-            (λ (e : image (half_start half_len half + i) ≡ old (half_start half_len half + i)). is.fresh (half_start half_len half + i) s q (omega arith) (omega arith) (subst (Carries s q) e here))
-            (λ (lost : image (half_start half_len half + i) ≡ Unreadable). absurd (lost_carries_none s q (image (half_start half_len half + i)) lost here)) either)
-            (λ page. let same = one_stamp root.session (root.base_sequence + suc m) s q (image (half_start half_len half + i))
-            (page_carries version base_kind root.session (root.base_sequence + suc m) i page.0 _ (inl refl) known page.1) here in (omega arith, omega arith))
+            (λ (e : image (half_start half_len next.half + i) ≡ old (half_start half_len next.half + i)). is.fresh (half_start half_len next.half + i) s q (omega arith) (omega arith) (subst (Carries s q) e here))
+            (λ (lost : image (half_start half_len next.half + i) ≡ Unreadable). absurd (lost_carries_none s q (image (half_start half_len next.half + i)) lost here)) either)
+            (λ page. let same = one_stamp root.session next.base_sequence s q (image (half_start half_len next.half + i))
+            (page_carries (base_site half_len next) root.session i page.0 _ (inl refl) known page.1) here in (omega arith, omega arith))
             (part.inside i (omega arith))

@@ -3,12 +3,12 @@ use Rattle.std.proofs.Common.{◌≡◌, inl, inr, ⊎_elim, ℕ, zero, suc, ◌
 use Rattle.std.proofs.lemmas.Bool.{cases_lt}
 use Rattle.dc_sectors.specs.Disk.{Image}
 use Rattle.dc_roots.specs.declared.root.Root.{Root}
-use Rattle.dc_pages.specs.Group.{IsGroup, IsComplete, base_kind, change_kind}
+use Rattle.dc_pages.specs.Group.{IsComplete, base_kind, change_kind}
 use Rattle.dc_roots.proofs.Choices.{one_root}
-use Rattle.dc_recovery.specs.Halves.{half_end}
 use Rattle.dc_recovery.proofs.Spellings.{one_state, one_list}
 use Rattle.dc_recovery.specs.Language.{State, Change, SpellsState, SpellsChanges, after}
 use Rattle.dc_recovery.specs.Halves.{budget_of}
+use Rattle.dc_recovery.specs.Sites.{change_site}
 use Rattle.dc_recovery.specs.Stands.{IsSequence, IsFresh, StandsBy, Stands, HasMore, Holds, ReadsBy, Reads}
 use Rattle.dc_pages.proofs.Agree.{one_group}
 use Rattle.dc_pages.proofs.OneSync.{not_commit}
@@ -21,15 +21,14 @@ module _ (half_len : ℕ) (most : half_len ≤ 65536) where
   pub one_holds : (root : Root) (image : Image) (m place place' : ℕ) (state state' : State)
       → holds half_len root image m place state → holds half_len root image m place' state' → (place ≡ place') × (state ≡ state')
   one_holds root image zero place place' state state' a b =
-      let same = one_group _ _ _ _ _ _ _ _ _ _ _ _ _ _ image (not_commit base_kind (inl refl)) a.group b.group in
+      let same = one_group _ _ _ _ _ _ _ _ image (not_commit base_kind (inl refl)) refl refl a.group b.group in
       let end = a.end in
       let end' = b.end in
       let count = same.1 in
       (omega arith, one_state half_len most b.payload state state' (subst (λ (l : List ℕ). SpellsState (budget_of half_len) l state) same.0 a.spells) b.spells)
   one_holds root image (suc m) place place' state state' a b =
       let before = one_holds root image m a.from b.from a.was b.was a.before b.before in
-      let group = subst (λ (p : ℕ). IsGroup root.version change_kind a.session (root.base_sequence + suc m) a.payload a.pages p (half_end half_len root.half) image) before.0 a.group in
-      let same = one_group _ _ _ _ _ _ _ _ _ _ _ _ _ _ image (not_commit change_kind (inr refl)) group b.group in
+      let same = one_group _ _ _ _ _ _ _ _ image (not_commit change_kind (inr refl)) refl before.0 a.group b.group in
       let end = a.end in
       let end' = b.end in
       let from = before.0 in
@@ -41,11 +40,11 @@ module _ (half_len : ℕ) (most : half_len ≤ 65536) where
 
   -- where more groups are, the next is complete
   pub next_complete : (root : Root) (image : Image) (k m place : ℕ) (state : State) → holds half_len root image (suc (m + k)) place state
-      → (from : ℕ) × ((was : State) × (holds half_len root image m from was × (IsSequence (root.base_sequence + suc m) × IsComplete root.version change_kind (root.base_sequence + suc m) from (half_end half_len root.half) image)))
+      → (from : ℕ) × ((was : State) × (holds half_len root image m from was × (IsSequence (root.base_sequence + suc m) × IsComplete (change_site half_len root (root.base_sequence + suc m) from) image)))
   next_complete root image zero m place state is =
       let e : m + 0 ≡ m = omega arith in
-      let all : HasMore half_len (holds half_len root image m) root.version (root.base_sequence + suc m) (half_end half_len root.half) place state image
-      = subst (λ (n : ℕ). HasMore half_len (holds half_len root image n) root.version (root.base_sequence + suc n) (half_end half_len root.half) place state image) e is in
+      let all : HasMore half_len root (holds half_len root image m) (root.base_sequence + suc m) place state image
+      = subst (λ (n : ℕ). HasMore half_len root (holds half_len root image n) (root.base_sequence + suc n) place state image) e is in
       (all.from, (all.was, (all.before, (all.is_sequence, record { session = all.session; payload = all.payload; pages = all.pages; group = all.group }))))
   next_complete root image (suc k) m place state is =
       let e : m + suc k ≡ suc (m + k) = omega arith in
@@ -58,7 +57,7 @@ module _ (half_len : ℕ) (most : half_len ≤ 65536) where
       let e : n ≡ suc (m + (n - suc m)) = omega arith in
       let next = next_complete root image (n - suc m) m place' state' (subst (λ (j : ℕ). holds half_len root image j place' state') e more) in
       let same = one_holds root image m next.0 place next.1.0 state next.1.1.0 is.holds in
-      absurd (is.no_more next.1.1.1.0 (subst (λ (p : ℕ). IsComplete root.version change_kind (root.base_sequence + suc m) p (half_end half_len root.half) image) same.0 next.1.1.1.1)))
+      absurd (is.no_more next.1.1.1.0 (subst (λ (p : ℕ). IsComplete (change_site half_len root (root.base_sequence + suc m) p) image) same.0 next.1.1.1.1)))
       (λ le. le)
       (cases_lt m n)
 

@@ -6,15 +6,16 @@ use Rattle.dc_roots.specs.declared.root.Root.{Root}
 use Rattle.dc_roots.specs.Root.{slot}
 use Rattle.dc_roots.specs.Choice.{IsChosen, IsRootless}
 use Rattle.dc_roots.proofs.Choices.{one_root}
-use Rattle.dc_pages.specs.Group.{base_kind, change_kind, IsKnown, IsGroup, IsComplete}
+use Rattle.dc_pages.specs.Group.{base_kind, change_kind, IsKnown, IsComplete}
 use Rattle.dc_pages.proofs.Agree.{one_group}
 use Rattle.dc_pages.proofs.Cut.{cut_incomplete, one_cut}
 use Rattle.dc_pages.proofs.OneSync.{not_commit}
 use Rattle.dc_pages.specs.Reading.{IsCutAt}
 use Rattle.dc_recovery.specs.declared.fault.OpenFault.{OpenFault}
 use Rattle.dc_recovery.specs.declared.fault.OpenFault.TheVariants.{NotImage, Damaged, Version, Worn, Device, NoMemory}
-use Rattle.dc_recovery.specs.Halves.{half_start, half_end, budget_of}
+use Rattle.dc_recovery.specs.Halves.{half_start, budget_of}
 use Rattle.dc_recovery.specs.Language.{State, SpellsState, SpellsChanges, AcceptsAll}
+use Rattle.dc_recovery.specs.Sites.{base_site, change_site}
 use Rattle.dc_recovery.specs.Stands.{IsSequence, IsCurrent, HasBase, HasMore, Holds, ReadsBy, Reads, Stands}
 use Rattle.dc_recovery.specs.Refusal.{HasNoRoot, HasOtherLength, HasNoBase, HasBadBase, HasBadGroup, IsDamagedAt, HasOtherVersion, IsSpent, IsWorn, IsRefused, TellsOfImage}
 use Rattle.dc_recovery.proofs.Once.{one_holds, not_more}
@@ -31,11 +32,11 @@ module _ (half_len : ℕ) (most : half_len ≤ 65536) (image : Image) where
   NoState n = NoBase n ⊎ HasBadBase half_len n image
 
   abbrev HasBaseGroup : Root → Type 0
-  HasBaseGroup root = IsComplete root.version base_kind root.base_sequence (half_start half_len root.half) (half_end half_len root.half) image
+  HasBaseGroup root = IsComplete (base_site half_len root) image
 
   -- one group of changes behind m of them
   abbrev HasMoreBehind : Root → ℕ → ℕ → State → Type 0
-  HasMoreBehind root m end state = HasMore half_len (Holds half_len root image m) root.version (root.base_sequence + suc m) (half_end half_len root.half) end state image
+  HasMoreBehind root m end state = HasMore half_len root (Holds half_len root image m) (root.base_sequence + suc m) end state image
 
   -- whatever follows it, there is a base
   has_base : (root : Root) (m place : ℕ) (state : State) → Holds half_len root image m place state → (end : ℕ) × ((first : State) × HasBase half_len root end first image)
@@ -61,21 +62,20 @@ module _ (half_len : ℕ) (most : half_len ≤ 65536) (image : Image) where
   stops_at_base : (n : ℕ) (root : Root) → NoBase n → IsCurrent half_len root image → HasBaseGroup root → ⊥
   stops_at_base n root (inl early) current complete = stops_at_root n root early current
   stops_at_base n root (inr none) current complete =
-      cut_incomplete _ _ _ _ _ n image (not_commit base_kind (inl refl)) none.cut (subst HasBaseGroup (one_root root none.root image current.chosen none.current.chosen) complete)
+      cut_incomplete _ n image (not_commit base_kind (inl refl)) none.cut (subst HasBaseGroup (one_root root none.root image current.chosen none.current.chosen) complete)
 
   stops_at_state : (n : ℕ) (root : Root) (place : ℕ) (state : State) → NoState n → IsCurrent half_len root image → HasBase half_len root place state image → ⊥
   stops_at_state n root place state (inl early) current base =
       stops_at_base n root early current (record { session = base.session; payload = base.payload; pages = base.pages; group = base.group })
   stops_at_state n root place state (inr bad) current base =
       let there = subst (λ (r : Root). HasBase half_len r place state image) (one_root root bad.root image current.chosen bad.current.chosen) base in
-      let same = one_group _ _ _ _ _ _ _ _ _ _ _ _ _ _ image (not_commit base_kind (inl refl)) bad.group there.group in
+      let same = one_group _ _ _ _ _ _ _ _ image (not_commit base_kind (inl refl)) refl refl bad.group there.group in
       bad.no_state state (subst (λ (l : List ℕ). SpellsState (budget_of half_len) l state) (sym same.0) there.spells)
 
   bad_or_more : (n : ℕ) (bad : HasBadGroup half_len n image) (end : ℕ) (next : State) → HasMoreBehind bad.root bad.m end next → ⊥
   bad_or_more n bad end next more =
       let before = one_holds half_len most bad.root image bad.m n more.from bad.state more.was bad.before more.before in
-      let group = subst (λ (p : ℕ). IsGroup bad.root.version change_kind more.session (bad.root.base_sequence + suc bad.m) more.payload more.pages p (half_end half_len bad.root.half) image) (sym before.0) more.group in
-      let same = one_group _ _ _ _ _ _ _ _ _ _ _ _ _ _ image (not_commit change_kind (inr refl)) bad.group group in
+      let same = one_group _ _ _ _ _ _ _ _ image (not_commit change_kind (inr refl)) refl before.0 bad.group more.group in
       bad.no_changes more.changes (subst (λ (l : List ℕ). SpellsChanges l more.changes) (sym same.0) more.spells)
       (subst (λ (s : State). AcceptsAll (budget_of half_len) s more.changes) (sym before.1) more.accepted)
 
@@ -99,11 +99,11 @@ module _ (half_len : ℕ) (most : half_len ≤ 65536) (image : Image) where
       let count : bad.m ≡ m = omega arith in
       let at = one_holds half_len most bad.root image m n place bad.state state (subst (λ (j : ℕ). Holds half_len bad.root image j n bad.state) count bad.before) there.holds in
       let sequence : bad.root.base_sequence + suc bad.m ≡ bad.root.base_sequence + suc m = ap (λ (j : ℕ). bad.root.base_sequence + suc j) count in
-      let complete : IsComplete bad.root.version change_kind (bad.root.base_sequence + suc bad.m) n (half_end half_len bad.root.half) image
+      let complete : IsComplete (change_site half_len bad.root (bad.root.base_sequence + suc bad.m) n) image
       = record { session = bad.session; payload = bad.payload; pages = bad.pages; group = bad.group } in
       there.no_more (subst IsSequence sequence bad.is_sequence)
-      (subst (λ (p : ℕ). IsComplete bad.root.version change_kind (bad.root.base_sequence + suc m) p (half_end half_len bad.root.half) image) at.0
-      (subst (λ (q : ℕ). IsComplete bad.root.version change_kind q n (half_end half_len bad.root.half) image) sequence complete))
+      (subst (λ (p : ℕ). IsComplete (change_site half_len bad.root (bad.root.base_sequence + suc m) p) image) at.0
+      (subst (λ (q : ℕ). IsComplete (change_site half_len bad.root q n) image) sequence complete))
 
   -- AND IT NAMES ONE SECTOR
 
@@ -118,8 +118,8 @@ module _ (half_len : ℕ) (most : half_len ≤ 65536) (image : Image) where
   one_base n n' (inl a) (inr b) = absurd (stops_at_root n b.root a b.current)
   one_base n n' (inr a) (inl b) = absurd (stops_at_root n' a.root b a.current)
   one_base n n' (inr a) (inr b) =
-      let there = subst (λ (r : Root). IsCutAt r.version base_kind r.base_sequence (half_start half_len r.half) (half_end half_len r.half) n image) (one_root a.root b.root image a.current.chosen b.current.chosen) a.cut in
-      one_cut _ _ _ _ _ n n' image (not_commit base_kind (inl refl)) there b.cut
+      let there = subst (λ (r : Root). IsCutAt (base_site half_len r) n image) (one_root a.root b.root image a.current.chosen b.current.chosen) a.cut in
+      one_cut _ n n' image (not_commit base_kind (inl refl)) there b.cut
 
   bad_complete : (n : ℕ) (bad : HasBadBase half_len n image) → HasBaseGroup bad.root
   bad_complete n bad = record { session = bad.session; payload = bad.payload; pages = bad.pages; group = bad.group }

@@ -1,5 +1,5 @@
 -- What a stop may leave while a disk without a valid root is formatted.
-use Rattle.std.proofs.Common.{◌≡◌, ◌⊎◌, inl, inr, ⊎_elim, ℕ, zero, ◌<◌, ◌≤◌, ◌+◌, ◌*◌, List, [], ◌∷◌, arith, ap, sym, subst, refl, ◌∙◌}
+use Rattle.std.proofs.Common.{◌≡◌, ◌⊎◌, inl, inr, ⊎_elim, ℕ, zero, ◌<◌, ◌≤◌, ◌+◌, ◌*◌, List, [], ◌∷◌, arith, ap, sym, subst, ◌∙◌}
 use Rattle.std.specs.Prelude.{Contains}
 use Rattle.std.proofs.lemmas.Bool.{cases_eq}
 use Rattle.std.proofs.lemmas.List.Elements.{Contains-append_cases, Contains-push_cases}
@@ -12,10 +12,11 @@ use Rattle.dc_roots.specs.declared.root.Root.{Root}
 use Rattle.dc_roots.specs.Root.{IsRoot, slot, next_of}
 use Rattle.dc_roots.specs.Choice.{IsRootWrite}
 use Rattle.dc_roots.proofs.Choices.{slot_range}
-use Rattle.dc_pages.specs.Group.{base_kind}
-use Rattle.dc_recovery.specs.Halves.{half_start, half_end, budget_of}
+use Rattle.dc_pages.specs.declared.site.Site.{Site}
+use Rattle.dc_recovery.specs.Halves.{half_start, budget_of}
 use Rattle.dc_recovery.specs.Language.{State, SpellsState, empty_state}
-use Rattle.dc_recovery.specs.Roots.{IsRootDone}
+use Rattle.dc_recovery.specs.Roots.{IsRootDone, first_root}
+use Rattle.dc_recovery.specs.Sites.{base_site}
 use Rattle.dc_recovery.specs.Stands.{blank, image_version, WipedAt, IsWiped, IsUnformatted, IsBlankOrEmpty, IsReady, Stands}
 use Rattle.dc_recovery.specs.Writing.{IsAttempt, IsWritten}
 use Rattle.dc_recovery.proofs.Formatted.{formatted, blank_is_no_root}
@@ -59,9 +60,9 @@ blank_unformatted image blanks root has =
     (blanks (slot root.generation) at.0 at.1)
 
 -- a group goes behind the slots
-pub attempt_unformatted : (version kind session sequence place limit : ℕ) (payload : List ℕ) (zeros image : Image) → 3 ≤ place
-    → ((k : ℕ) → 1 ≤ k → k ≤ 2 → zeros k ≡ blank) → IsAttempt version kind session sequence payload place limit zeros image → IsUnformatted image
-attempt_unformatted version kind session sequence place limit payload zeros image from blanks attempt =
+pub attempt_unformatted : (site : Site) (session : ℕ) (payload : List ℕ) (zeros image : Image) → 3 ≤ site.first
+    → ((k : ℕ) → 1 ≤ k → k ≤ 2 → zeros k ≡ blank) → IsAttempt site session payload zeros image → IsUnformatted image
+attempt_unformatted site session payload zeros image from blanks attempt =
     blank_unformatted image (λ k low up. inl (⊎_elim (λ part. part.outside k (inl (omega arith))) (λ torn. torn.torn.outside k (inl (omega arith))) attempt ∙ blanks k low up))
 
 -- ZEROS WERE WRITTEN: the disk is settled, and blank behind sector 0.
@@ -73,7 +74,7 @@ pub record IsBlanked {D : Type 0} (reads : D → Image) (choices : D → Choices
 pub record IsBased {D : Type 0} (reads : D → Image) (choices : D → Choices) (half_len count : ℕ) (payload : List ℕ) (state : State) (zeros disk : D) : Type 0 where
   pub still : choices disk ≡ settled (reads disk)
   pub blanks : (k : ℕ) → 1 ≤ k → k < 3 + 2 * half_len → reads zeros k ≡ blank
-  pub written : IsWritten image_version base_kind 1 1 payload (half_start half_len 0) (half_end half_len 0) count (reads zeros) (reads disk)
+  pub written : IsWritten (base_site half_len (first_root half_len)) 1 payload count (reads zeros) (reads disk)
   pub spells : SpellsState (budget_of half_len) payload state
 
 -- the root before the first one
@@ -86,7 +87,7 @@ module _ {D : Type 0} {reads : D → Image} {choices : D → Choices} {half_len 
 
   -- once the first root is in force
   pub first_root_done : (image : Image) → IsRootDone (next_of (zero_root half_len)) (reads disk) image → IsReady half_len (next_of (zero_root half_len)) zero (half_start half_len 0 + count) state image
-  first_root_done image done = formatted half_len count (zero_root half_len) payload state (reads zeros) (reads disk) image based.blanks based.written based.spells refl done
+  first_root_done image done = formatted half_len count payload state (reads zeros) (reads disk) image based.blanks based.written based.spells done
 
   -- THE FIRST ROOT, WRITTEN OR NOT
   pub first_root_step : (image : Image) → IsRootWrite (next_of (zero_root half_len)) (reads disk) image → IsUnformatted image ⊎ Stands half_len state image
@@ -114,12 +115,12 @@ module _ {D : Type 0} (moment : D → ℕ) (images_since : D → ℕ → Image �
   pub zeros_written : (wiped : D) → IsUnformatted (reads start) → LeavesOnly moment images_since start wiped (IsWiped (reads start)) → LeavesOnly moment images_since start wiped (IsBlankOrEmpty half_len)
   zeros_written wiped none wiping = weakened moment images_since start wiped (IsWiped (reads start)) (IsBlankOrEmpty half_len) wiping (λ image left. inl (wiped_unformatted (reads start) image none left))
 
-  pub group_written : (choices : D → Choices) (blanked grouped : D) (place limit : ℕ) (payload : List ℕ) → IsBlanked reads choices half_len blanked → 3 ≤ place
-      → LeavesOnly moment images_since start blanked (IsBlankOrEmpty half_len) → LeavesOnly moment images_since blanked grouped (IsAttempt image_version base_kind 1 1 payload place limit (reads blanked))
+  pub group_written : (choices : D → Choices) (blanked grouped : D) (site : Site) (payload : List ℕ) → IsBlanked reads choices half_len blanked → 3 ≤ site.first
+      → LeavesOnly moment images_since start blanked (IsBlankOrEmpty half_len) → LeavesOnly moment images_since blanked grouped (IsAttempt site 1 payload (reads blanked))
       → LeavesOnly moment images_since start grouped (IsBlankOrEmpty half_len)
-  group_written choices blanked grouped place limit payload blank from so_far grouping =
-      followed moment images_since start blanked grouped (IsBlankOrEmpty half_len) (IsAttempt image_version base_kind 1 1 payload place limit (reads blanked)) (IsBlankOrEmpty half_len) so_far grouping
-      (λ image left. left) (λ image attempt. inl (attempt_unformatted image_version base_kind 1 1 place limit payload (reads blanked) image from (λ k low up. blank.blanks k low (omega arith)) attempt))
+  group_written choices blanked grouped site payload blank from so_far grouping =
+      followed moment images_since start blanked grouped (IsBlankOrEmpty half_len) (IsAttempt site 1 payload (reads blanked)) (IsBlankOrEmpty half_len) so_far grouping
+      (λ image left. left) (λ image attempt. inl (attempt_unformatted site 1 payload (reads blanked) image from (λ k low up. blank.blanks k low (omega arith)) attempt))
 
   pub root_written : (choices : D → Choices) (count : ℕ) (payload : List ℕ) (zeros based rooted : D) → IsBased reads choices half_len count payload empty_state zeros based
       → LeavesOnly moment images_since start based (IsBlankOrEmpty half_len) → LeavesOnly moment images_since based rooted (IsRootWrite (next_of (zero_root half_len)) (reads based))

@@ -12,6 +12,8 @@ pub mod Looked
 pub mod Refusal
 -- the roots that are written, and when the next one is in force
 pub mod Roots
+-- where the groups of an image lie
+pub mod Sites
 -- the state that an image reads as, and stands for
 pub mod Stands
 -- what a store keeps beside its disk

@@ -5,12 +5,13 @@ use Rattle.dc_sectors.specs.Disk.{Image}
 use Rattle.dc_roots.specs.declared.root.Root.{Root}
 use Rattle.dc_roots.specs.Root.{slot}
 use Rattle.dc_roots.specs.Choice.{IsChosen, IsRootless}
-use Rattle.dc_pages.specs.Group.{base_kind, change_kind, IsKnown, IsGroup}
+use Rattle.dc_pages.specs.Group.{IsKnown, IsGroup}
 use Rattle.dc_pages.specs.Reading.{IsCutAt}
 use Rattle.dc_recovery.specs.declared.fault.OpenFault.{OpenFault}
 use Rattle.dc_recovery.specs.declared.fault.OpenFault.TheVariants.{NotImage, Damaged, Version, Worn, Device, NoMemory}
-use Rattle.dc_recovery.specs.Halves.{half_start, half_end, budget_of, longest_half}
+use Rattle.dc_recovery.specs.Halves.{half_start, budget_of, longest_half}
 use Rattle.dc_recovery.specs.Language.{State, Change, SpellsState, SpellsChanges, AcceptsAll}
+use Rattle.dc_recovery.specs.Sites.{base_site, change_site}
 use Rattle.dc_recovery.specs.Stands.{image_version, IsSequence, IsCurrent, Holds, ReadsBy, Reads}
 
 -- a root slot can't be read, and no other root is there
@@ -29,7 +30,7 @@ pub record HasOtherLength (half_len n : ℕ) (image : Image) : Type 0 where
 pub record HasNoBase (half_len n : ℕ) (image : Image) : Type 0 where
   pub root : Root
   pub current : IsCurrent half_len root image
-  pub cut : IsCutAt root.version base_kind root.base_sequence (half_start half_len root.half) (half_end half_len root.half) n image
+  pub cut : IsCutAt (base_site half_len root) n image
 
 -- the base group is complete and spells no state
 pub record HasBadBase (half_len n : ℕ) (image : Image) : Type 0 where
@@ -38,7 +39,7 @@ pub record HasBadBase (half_len n : ℕ) (image : Image) : Type 0 where
   pub session : ℕ
   pub pages : ℕ
   pub payload : List ℕ
-  pub group : IsGroup root.version base_kind session root.base_sequence payload pages (half_start half_len root.half) (half_end half_len root.half) image
+  pub group : IsGroup (base_site half_len root) session payload pages image
   pub no_state : (state : State) → SpellsState (budget_of half_len) payload state → ⊥
   pub at : n ≡ half_start half_len root.half
 
@@ -53,7 +54,7 @@ pub record HasBadGroup (half_len n : ℕ) (image : Image) : Type 0 where
   pub session : ℕ
   pub pages : ℕ
   pub payload : List ℕ
-  pub group : IsGroup root.version change_kind session (root.base_sequence + suc m) payload pages n (half_end half_len root.half) image
+  pub group : IsGroup (change_site half_len root (root.base_sequence + suc m) n) session payload pages image
   pub no_changes : (changes : List Change) → SpellsChanges payload changes → AcceptsAll (budget_of half_len) state changes → ⊥
 
 abbrev pub IsDamagedAt : ℕ → ℕ → Image → Type 0

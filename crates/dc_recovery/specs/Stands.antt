@@ -5,8 +5,10 @@ use Rattle.dc_sectors.specs.declared.sector.Sector.{Sector}
 use Rattle.dc_sectors.specs.declared.sector.Sector.TheVariants.{Bytes, Unreadable}
 use Rattle.dc_roots.specs.declared.root.Root.{Root}
 use Rattle.dc_roots.specs.Choice.{HasRoot, IsChosen}
-use Rattle.dc_pages.specs.Group.{base_kind, change_kind, IsKnown, IsGroup, IsComplete, Carries}
-use Rattle.dc_recovery.specs.Halves.{half_start, half_end, budget_of, longest_half}
+use Rattle.dc_pages.specs.declared.site.Site.{Site}
+use Rattle.dc_pages.specs.Group.{IsKnown, IsGroup, IsComplete, Carries}
+use Rattle.dc_recovery.specs.Halves.{half_start, budget_of, longest_half}
+use Rattle.dc_recovery.specs.Sites.{base_site, change_site}
 use Rattle.dc_recovery.specs.Language.{State, Change, SpellsState, SpellsChanges, AcceptsAll, after, empty_state}
 
 -- the version of the images that are written; those of version 1 are read too
@@ -36,12 +38,12 @@ pub record HasBase (half_len : ℕ) (root : Root) (place : ℕ) (state : State) 
   pub session : ℕ
   pub payload : List ℕ
   pub pages : ℕ
-  pub group : IsGroup root.version base_kind session root.base_sequence payload pages (half_start half_len root.half) (half_end half_len root.half) image
+  pub group : IsGroup (base_site half_len root) session payload pages image
   pub spells : SpellsState (budget_of half_len) payload state
   pub end : place ≡ half_start half_len root.half + pages + 1
 
 -- one group of changes more than what `Before` says of a place and a state
-pub record HasMore (half_len : ℕ) (Before : ℕ → State → Type 0) (version sequence limit place : ℕ) (state : State) (image : Image) : Type 0 where
+pub record HasMore (half_len : ℕ) (root : Root) (Before : ℕ → State → Type 0) (sequence place : ℕ) (state : State) (image : Image) : Type 0 where
   pub from : ℕ
   pub was : State
   pub before : Before from was
@@ -49,7 +51,7 @@ pub record HasMore (half_len : ℕ) (Before : ℕ → State → Type 0) (version
   pub payload : List ℕ
   pub pages : ℕ
   pub is_sequence : IsSequence sequence
-  pub group : IsGroup version change_kind session sequence payload pages from limit image
+  pub group : IsGroup (change_site half_len root sequence from) session payload pages image
   pub changes : List Change
   pub spells : SpellsChanges payload changes
   pub accepted : AcceptsAll (budget_of half_len) was changes
@@ -59,7 +61,7 @@ pub record HasMore (half_len : ℕ) (Before : ℕ → State → Type 0) (version
 -- After the base and m groups of changes with consecutive sequences the state is this, and the last of them ends before `place`.
 abbrev pub Holds : ℕ → Root → Image → ℕ → ℕ → State → Type 0
 Holds half_len root image zero place state = HasBase half_len root place state image
-Holds half_len root image (suc m) place state = HasMore half_len (Holds half_len root image m) root.version (root.base_sequence + suc m) (half_end half_len root.half) place state image
+Holds half_len root image (suc m) place state = HasMore half_len root (Holds half_len root image m) (root.base_sequence + suc m) place state image
 
 -- The image reads as the state, by this root and m groups of changes, and `place` is where the next would go.
 pub record ReadsBy (half_len : ℕ) (root : Root) (m place : ℕ) (state : State) (image : Image) : Type 0 where
@@ -67,7 +69,7 @@ pub record ReadsBy (half_len : ℕ) (root : Root) (m place : ℕ) (state : State
   pub version : IsKnown root.version
   pub length_is : root.half_len ≡ half_len
   pub holds : Holds half_len root image m place state
-  pub no_more : IsSequence (root.base_sequence + suc m) → IsComplete root.version change_kind (root.base_sequence + suc m) place (half_end half_len root.half) image → ⊥
+  pub no_more : IsSequence (root.base_sequence + suc m) → IsComplete (change_site half_len root (root.base_sequence + suc m) place) image → ⊥
 
 -- it reads, and it is fresh
 pub record StandsBy (half_len : ℕ) (root : Root) (m place : ℕ) (state : State) (image : Image) : Type 0 where
@@ -138,12 +140,11 @@ pub record StandsForFront (half_len : ℕ) (state : State) (changes : List Chang
   pub within : count ≤ length changes
   pub stands : Stands half_len (after state (take count changes)) image
 
--- A payload that spells accepted changes may follow: the image is ready, and this are the place, the half's end and the next sequence.
-pub record IsAppendable (half_len : ℕ) (root : Root) (m place limit sequence : ℕ) (was : State) (payload : List ℕ) (changes : List Change) (image : Image) : Type 0 where
-  pub ready : IsReady half_len root m place was image
-  pub at_limit : limit ≡ half_end half_len root.half
-  pub at_sequence : sequence ≡ root.base_sequence + suc m
-  pub is_sequence : IsSequence sequence
+-- A payload that spells accepted changes may follow: the image is ready, and this is the site of the next group.
+pub record IsAppendable (half_len : ℕ) (root : Root) (m : ℕ) (site : Site) (was : State) (payload : List ℕ) (changes : List Change) (image : Image) : Type 0 where
+  pub ready : IsReady half_len root m site.first was image
+  pub site_is : site ≡ change_site half_len root (root.base_sequence + suc m) site.first
+  pub is_sequence : IsSequence (root.base_sequence + suc m)
   pub spells : SpellsChanges payload changes
   pub accepted : AcceptsAll (budget_of half_len) was changes
 

@@ -1,24 +1,24 @@
 -- What a stop may leave while one group is written to a disk that was settled: this product's image format.
 use Rattle.std.specs.Prelude.{◌≡◌, ◌⊎◌, ◌<◌, ◌≤◌, ℕ, ◌+◌, List}
 use Rattle.dc_sectors.specs.Disk.{Image}
+use Rattle.dc_pages.specs.declared.site.Site.{Site}
 use Rattle.dc_pages.specs.Group.{IsGroup}
 use Rattle.dc_pages.specs.Writing.{IsTorn, IsPartOf}
 
 -- each sector of a whole group with that payload is as before, as written, or unreadable
-pub record IsTornGroup (version kind session sequence : ℕ) (payload : List ℕ) (place limit : ℕ) (old image : Image) : Type 0 where
+pub record IsTornGroup (site : Site) (session : ℕ) (payload : List ℕ) (old image : Image) : Type 0 where
   pub pages : ℕ
   pub written : Image
-  pub group : IsGroup version kind session sequence payload pages place limit written
-  pub torn : IsTorn place (pages + 1) old written image
+  pub group : IsGroup site session payload pages written
+  pub torn : IsTorn site.first (pages + 1) old written image
 
 -- some of its pages, or a torn group
-abbrev pub IsAttempt : (version kind session sequence : ℕ) → List ℕ → (place limit : ℕ) → Image → Image → Type 0
-IsAttempt version kind session sequence payload place limit old image =
-    IsPartOf version kind session sequence place limit old image ⊎ IsTornGroup version kind session sequence payload place limit old image
+abbrev pub IsAttempt : (site : Site) (session : ℕ) → List ℕ → Image → Image → Type 0
+IsAttempt site session payload old image = IsPartOf site session old image ⊎ IsTornGroup site session payload old image
 
 -- the whole group is written, in so many sectors
-pub record IsWritten (version kind session sequence : ℕ) (payload : List ℕ) (place limit count : ℕ) (old image : Image) : Type 0 where
+pub record IsWritten (site : Site) (session : ℕ) (payload : List ℕ) (count : ℕ) (old image : Image) : Type 0 where
   pub pages : ℕ
   pub count_is : count ≡ pages + 1
-  pub group : IsGroup version kind session sequence payload pages place limit image
-  pub outside : (k : ℕ) → (k < place) ⊎ (place + (pages + 1) ≤ k) → image k ≡ old k
+  pub group : IsGroup site session payload pages image
+  pub outside : (k : ℕ) → (k < site.first) ⊎ (site.first + (pages + 1) ≤ k) → image k ≡ old k

@@ -7,8 +7,8 @@ ghost use Rattle.dc_sectors.specs.Disk.{LeavesOnly, settled};
 ghost use Rattle.dc_recovery.specs.Language.{State, Change, after};
 ghost use Rattle.dc_recovery.specs.Stands.{IsReady, IsAppendable, StandsForEither};
 
-use crate::writing::{Place, write_group};
-use dc_pages::{CHANGES, Stamp};
+use crate::writing::write_group;
+use dc_pages::Site;
 use dc_roots::Root;
 use dc_sectors::{Disk, Failed};
 
@@ -16,37 +16,25 @@ use dc_sectors::{Disk, Failed};
 pub(crate) fn append_group<D: Disk>(
     disk: &mut D,
     root: &Root,
-    place: u32,
-    limit: u32,
-    sequence: u64,
+    site: Site,
     bytes: &[u8],
 ) -> Result<u32, Failed>
     requires some { 0 < length bytes.now }
-    requires room { FitsAt place limit (length bytes.now) }
-    requires limit { limit ≤ D.sectors disk.old }
+    requires room { FitsAt site.first site.limit (length bytes.now) }
+    requires limit { site.limit ≤ D.sectors disk.old }
     ensures any_moment { D.honest → D.choices disk.old ≡ settled (D.reads disk.old) → (half_len m : ℕ) (was : State) (changes : List Change)
-        → IsAppendable half_len root.now m place limit sequence was bytes.now changes (D.reads disk.old)
+        → IsAppendable half_len root.now m site was bytes.now changes (D.reads disk.old)
         → LeavesOnly D.moment D.images_since disk.old disk.new (StandsForEither half_len was (after was changes)) }
     ensures ready { D.honest → D.choices disk.old ≡ settled (D.reads disk.old) → (half_len m : ℕ) (was : State) (changes : List Change)
-        → IsAppendable half_len root.now m place limit sequence was bytes.now changes (D.reads disk.old)
-        → IfOk result (λ count. IsReady half_len root.now (suc m) (place + count) (after was changes) (D.reads disk.new)) }
+        → IsAppendable half_len root.now m site was bytes.now changes (D.reads disk.old)
+        → IfOk result (λ count. IsReady half_len root.now (suc m) (site.first + count) (after was changes) (D.reads disk.new)) }
     ensures durable { D.honest → OnOk result (D.choices disk.new ≡ settled (D.reads disk.new)) }
-    ensures within { IfOk result (λ count. place + count ≤ limit) }
+    ensures within { IfOk result (λ count. site.first + count ≤ site.limit) }
     ensures count { D.sectors disk.new ≡ D.sectors disk.old }
     ensures failures { D.failures disk.old ≤ D.failures disk.new }
     ensures failed { OnErr result (HasRisen (D.failures disk.old) (D.failures disk.new)) }
 {
-    let to = Place {
-        at: place,
-        limit,
-        kind: CHANGES,
-        version: root.version,
-        stamp: Stamp {
-            session: root.session,
-            sequence,
-        },
-    };
-    let count = write_group(disk, to, bytes)?;
+    let count = write_group(disk, site, root.session, bytes)?;
     disk.sync()?;
     Ok(count)
 }

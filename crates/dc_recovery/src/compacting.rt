@@ -8,12 +8,11 @@ ghost use Rattle.dc_recovery.specs.Roots.{compacted};
 ghost use Rattle.dc_recovery.specs.Stands.{IsReady, StandsForEither};
 ghost use Rattle.dc_recovery.specs.Language.{State};
 
-use crate::halves::{half_end, half_start};
 use crate::reading::VERSION;
 use crate::rooting::put_root;
-use crate::writing::{Place, write_state};
+use crate::sites::base_site;
+use crate::writing::write_state;
 use dc_meters::House;
-use dc_pages::{BASE, Stamp};
 use dc_roots::Root;
 use dc_sectors::{Disk, Failed};
 use std::alloc::Allocator;
@@ -45,27 +44,17 @@ pub(crate) fn compact_into_other_half<A: Allocator + Copy, D: Disk>(
     ensures failed { OnErr result (HasRisen (D.failures disk.old) (D.failures disk.new)) }
 {
     let _size = house.size(); // for what it says: the state is one within its budget
-    let half = 1 - root.half;
-    let to = Place {
-        at: half_start(half_len, half),
-        limit: half_end(half_len, half),
-        kind: BASE,
-        version: VERSION,
-        stamp: Stamp {
-            session: root.session,
-            sequence,
-        },
-    };
-    let count = write_state(disk, to, house)?;
-    disk.sync()?;
     let based = Root {
         version: VERSION,
-        half,
+        half: 1 - root.half,
         base_sequence: sequence,
         ..*root
     };
+    let site = base_site(half_len, &based);
+    let count = write_state(disk, site, root.session, house)?;
+    disk.sync()?;
     match put_root(disk, &based) {
-        Ok(next) => Ok((next, to.at + count)),
+        Ok(next) => Ok((next, site.first + count)),
         Err(_) => Err(Failed),
     }
 }

@@ -12,11 +12,11 @@ ghost use Rattle.dc_recovery.specs.Roots.{first_root};
 ghost use Rattle.dc_recovery.specs.Stands.{IsReadyFor, IsUnformatted, IsBlankOrEmpty, IsFormatting, IsWiped, blank};
 
 use crate::FormatFault;
-use crate::halves::{FEWEST_SECTORS, half_end, half_len_of, half_start};
+use crate::halves::{FEWEST_SECTORS, half_end, half_len_of};
 use crate::reading::VERSION;
 use crate::rooting::put_root;
-use crate::writing::{Place, write_group};
-use dc_pages::{BASE, Stamp};
+use crate::sites::base_site;
+use crate::writing::write_group;
 use dc_roots::{Root, RootFault, choose};
 use dc_sectors::{Disk, Failed};
 
@@ -60,18 +60,6 @@ fn lay_out<D: Disk>(disk: &mut D, half_len: u32) -> Result<(), Failed>
 {
     blank_sectors(disk, half_end(half_len, 1))?;
     disk.sync()?;
-    let to = Place {
-        at: half_start(half_len, 0),
-        limit: half_end(half_len, 0),
-        kind: BASE,
-        version: VERSION,
-        stamp: Stamp {
-            session: FIRST_SESSION,
-            sequence: 1,
-        },
-    };
-    write_group(disk, to, &EMPTY)?;
-    disk.sync()?;
     let root = Root {
         version: VERSION,
         half: 0,
@@ -80,6 +68,8 @@ fn lay_out<D: Disk>(disk: &mut D, half_len: u32) -> Result<(), Failed>
         base_sequence: 1,
         half_len,
     };
+    write_group(disk, base_site(half_len, &root), root.session, &EMPTY)?;
+    disk.sync()?;
     match put_root(disk, &root) {
         Ok(_) => Ok(()),
         Err(_) => Err(Failed),

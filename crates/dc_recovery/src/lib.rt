@@ -26,6 +26,7 @@ mod laws;
 mod opening;
 mod reading;
 mod rooting;
+mod sites;
 mod store;
 mod writing;
 

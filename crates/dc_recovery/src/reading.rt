@@ -9,14 +9,16 @@ ghost use Rattle.dc_recovery.specs.declared.fault.OpenFault.TheVariants.{Device}
 ghost use Rattle.dc_recovery.specs.Halves.{half_end, budget_of, longest_half};
 ghost use Rattle.dc_recovery.specs.Language.{State};
 ghost use Rattle.dc_recovery.specs.Stands.{IsSequence, IsCurrent, IsReached, IsRead, Holds, ReadsBy, Reads};
-ghost use Rattle.dc_pages.specs.Group.{change_kind, IsKnown, IsComplete};
+ghost use Rattle.dc_pages.specs.Group.{IsKnown, IsComplete};
+ghost use Rattle.dc_recovery.specs.Sites.{change_site};
 ghost use Rattle.dc_recovery.specs.Refusal.{IsRefused};
 
 use crate::OpenFault;
-use crate::halves::{budget_of, half_end, half_start};
+use crate::halves::budget_of;
+use crate::sites::{base_site, change_site};
 use dc_changes::DecodeFault;
 use dc_meters::House;
-use dc_pages::{BASE, CHANGES, GroupFault, read_group};
+use dc_pages::{GroupFault, read_group};
 use dc_roots::{Root, RootFault, choose};
 use dc_sectors::Disk;
 use std::alloc::Allocator;
@@ -82,17 +84,8 @@ fn read_base<A: Allocator + Copy, D: Disk>(
     ensures passed { (IsErrOf result Device → ⊥) → D.failures disk.new ≡ D.failures disk.old }
     ensures looked { OnlyLooked D.honest D.reads D.choices D.moment D.images_since D.sectors D.failures disk.old disk.new }
 {
-    let start = half_start(half_len, root.half);
-    let limit = half_end(half_len, root.half);
-    let group = match read_group(
-        alloc,
-        disk,
-        start,
-        limit,
-        BASE,
-        root.version,
-        root.base_sequence,
-    ) {
+    let site = base_site(half_len, &root);
+    let group = match read_group(alloc, disk, site) {
         Ok(group) => group,
         Err(GroupFault::Incomplete(sector)) => return Err(OpenFault::Damaged(sector)),
         Err(GroupFault::Device) => return Err(OpenFault::Device),
@@ -102,10 +95,10 @@ fn read_base<A: Allocator + Copy, D: Disk>(
         Ok(house) => Ok(Found {
             root,
             house,
-            place: start + group.sectors,
+            place: site.first + group.sectors,
             last: root.base_sequence,
         }),
-        Err(DecodeFault::Bad) => Err(OpenFault::Damaged(start)),
+        Err(DecodeFault::Bad) => Err(OpenFault::Damaged(site.first)),
         Err(DecodeFault::NoMemory) => Err(OpenFault::NoMemory),
     }
 }
@@ -115,19 +108,19 @@ fn read_next<A: Allocator + Copy, D: Disk>(
     alloc: A,
     disk: &mut D,
     found: &mut Found<A>,
-    limit: u32,
+    half_len: u32,
 ) -> Result<bool, OpenFault>
-    requires within { found.old.place ≤ limit }
-    requires fits { limit ≤ D.sectors disk.old }
-    ensures more { D.honest → (half_len : ℕ) → limit ≡ half_end half_len found.old.root.half → found.old.house.budget ≡ budget_of half_len
-        → IsReached half_len found.old.root found.old.place found.old.last found.old.house.state (D.reads disk.old)
+    requires half { found.old.root.half ≤ 1 }
+    requires most { half_len ≤ longest_half }
+    requires fits { 3 + 2 * half_len ≤ D.sectors disk.old }
+    requires within { found.old.place ≤ half_end half_len found.old.root.half }
+    ensures more { D.honest → found.old.house.budget ≡ budget_of half_len → IsReached half_len found.old.root found.old.place found.old.last found.old.house.state (D.reads disk.old)
         → OnOk result (IsReached half_len found.new.root found.new.place found.new.last found.new.house.state (D.reads disk.old)) }
-    ensures none { D.honest → result ≡ Ok false → (sequence : ℕ) → sequence ≡ found.new.last + 1 → IsSequence sequence → IsComplete found.new.root.version change_kind sequence found.new.place limit (D.reads disk.old) → ⊥ }
-    ensures refused { D.honest → (half_len : ℕ) → limit ≡ half_end half_len found.old.root.half → found.old.house.budget ≡ budget_of half_len
-        → IsReached half_len found.old.root found.old.place found.old.last found.old.house.state (D.reads disk.old)
+    ensures none { D.honest → result ≡ Ok false → (sequence : ℕ) → sequence ≡ found.new.last + 1 → IsSequence sequence → IsComplete (change_site half_len found.new.root sequence found.new.place) (D.reads disk.old) → ⊥ }
+    ensures refused { D.honest → found.old.house.budget ≡ budget_of half_len → IsReached half_len found.old.root found.old.place found.old.last found.old.house.state (D.reads disk.old)
         → IfErr result (λ fault. IsRefused half_len (D.reads disk.old) fault) }
     ensures further { result ≡ Ok true → found.old.place < found.new.place }
-    ensures within { OnOk result (found.new.place ≤ limit) }
+    ensures within { OnOk result (found.new.place ≤ half_end half_len found.new.root.half) }
     ensures kept { (found.new.root ≡ found.old.root) × (found.new.house.budget ≡ found.old.house.budget) }
     ensures device { IsErrOf result Device → HasRisen (D.failures disk.old) (D.failures disk.new) }
     ensures passed { (IsErrOf result Device → ⊥) → D.failures disk.new ≡ D.failures disk.old }
@@ -137,15 +130,8 @@ fn read_next<A: Allocator + Copy, D: Disk>(
         return Ok(false);
     }
     let next = found.last + 1;
-    let group = match read_group(
-        alloc,
-        disk,
-        found.place,
-        limit,
-        CHANGES,
-        found.root.version,
-        next,
-    ) {
+    let site = change_site(half_len, &found.root, next, found.place);
+    let group = match read_group(alloc, disk, site) {
         Ok(group) => group,
         Err(GroupFault::Incomplete(_)) => return Ok(false),
         Err(GroupFault::Device) => return Err(OpenFault::Device),
@@ -166,24 +152,24 @@ fn read_groups<A: Allocator + Copy, D: Disk>(
     alloc: A,
     disk: &mut D,
     found: &mut Found<A>,
-    limit: u32,
+    half_len: u32,
 ) -> Result<(), OpenFault>
-    requires within { found.old.place ≤ limit }
-    requires fits { limit ≤ D.sectors disk.old }
-    ensures all { D.honest → (half_len : ℕ) → limit ≡ half_end half_len found.old.root.half → found.old.house.budget ≡ budget_of half_len
-        → IsReached half_len found.old.root found.old.place found.old.last found.old.house.state (D.reads disk.old)
+    requires half { found.old.root.half ≤ 1 }
+    requires most { half_len ≤ longest_half }
+    requires fits { 3 + 2 * half_len ≤ D.sectors disk.old }
+    requires within { found.old.place ≤ half_end half_len found.old.root.half }
+    ensures all { D.honest → found.old.house.budget ≡ budget_of half_len → IsReached half_len found.old.root found.old.place found.old.last found.old.house.state (D.reads disk.old)
         → OnOk result (IsRead half_len found.new.root found.new.place found.new.last found.new.house.state (D.reads disk.old)) }
-    ensures refused { D.honest → (half_len : ℕ) → limit ≡ half_end half_len found.old.root.half → found.old.house.budget ≡ budget_of half_len
-        → IsReached half_len found.old.root found.old.place found.old.last found.old.house.state (D.reads disk.old)
+    ensures refused { D.honest → found.old.house.budget ≡ budget_of half_len → IsReached half_len found.old.root found.old.place found.old.last found.old.house.state (D.reads disk.old)
         → IfErr result (λ fault. IsRefused half_len (D.reads disk.old) fault) }
-    ensures within { OnOk result (found.new.place ≤ limit) }
+    ensures within { OnOk result (found.new.place ≤ half_end half_len found.new.root.half) }
     ensures root { found.new.root ≡ found.old.root }
     ensures budget { found.new.house.budget ≡ found.old.house.budget }
     ensures device { IsErrOf result Device → HasRisen (D.failures disk.old) (D.failures disk.new) }
     ensures passed { (IsErrOf result Device → ⊥) → D.failures disk.new ≡ D.failures disk.old }
     ensures looked { OnlyLooked D.honest D.reads D.choices D.moment D.images_since D.sectors D.failures disk.old disk.new }
 {
-    'groups: while read_next(alloc, disk, found, limit)? {}
+    'groups: while read_next(alloc, disk, found, half_len)? {}
     Ok(())
 }
 
@@ -207,7 +193,6 @@ pub(crate) fn read_image<A: Allocator + Copy, D: Disk>(
 {
     let root = current_root(disk, half_len)?;
     let mut found = read_base(alloc, disk, root, half_len)?;
-    let limit = half_end(half_len, root.half);
-    read_groups(alloc, disk, &mut found, limit)?;
+    read_groups(alloc, disk, &mut found, half_len)?;
     Ok(found)
 }

@@ -20,6 +20,7 @@ use crate::formatting::format_on;
 use crate::halves::{FEWEST_SECTORS, budget_of, half_end, half_len_of};
 use crate::opening::open_on;
 use crate::reading::Found;
+use crate::sites::change_site;
 use crate::{FormatFault, OpenFault, StoreFault};
 use dc_meters::House;
 use dc_pages::PAYLOAD;
@@ -213,9 +214,10 @@ impl<D: Disk + Drop> Store<D> {
         if self.last >= u64::MAX - 1 {
             return Err(StoreFault::Worn);
         }
-        let limit = half_end(half_len_of(self.disk.count()), self.root.half);
+        let half_len = half_len_of(self.disk.count());
         let next = self.last + 1;
-        match append_group(&mut self.disk, &self.root, self.place, limit, next, bytes) {
+        let site = change_site(half_len, &self.root, next, self.place);
+        match append_group(&mut self.disk, &self.root, site, bytes) {
             Ok(count) => {
                 self.place += count;
                 self.last = next;

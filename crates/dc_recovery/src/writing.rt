@@ -9,36 +9,31 @@ ghost use Rattle.dc_recovery.specs.Language.{state_bytes};
 ghost use Rattle.dc_recovery.specs.Writing.{IsAttempt, IsWritten};
 
 use dc_meters::House;
-use dc_pages::{GroupSink, GroupWriter, Stamp};
+use dc_pages::{GroupSink, GroupWriter, Site};
 use dc_sectors::{Disk, Failed};
 use dc_stream::IoFault;
 use std::alloc::Allocator;
 
-/// Where a group goes: its first sector, the number behind the half's last one, its kind and its stamp.
-#[derive(Clone, Copy)]
-pub(crate) struct Place {
-    pub at: u32,
-    pub limit: u32,
-    pub kind: u8,
-    pub version: u8,
-    pub stamp: Stamp,
-}
-
 /// Writes a group with these bytes, and answers how many sectors it has.
-pub(crate) fn write_group<D: Disk>(disk: &mut D, to: Place, bytes: &[u8]) -> Result<u32, Failed>
+pub(crate) fn write_group<D: Disk>(
+    disk: &mut D,
+    site: Site,
+    session: u64,
+    bytes: &[u8],
+) -> Result<u32, Failed>
     requires some { 0 < length bytes.now }
-    requires room { FitsAt to.at to.limit (length bytes.now) }
-    requires limit { to.limit ≤ D.sectors disk.old }
+    requires room { FitsAt site.first site.limit (length bytes.now) }
+    requires limit { site.limit ≤ D.sectors disk.old }
     ensures written { D.honest → D.choices disk.old ≡ settled (D.reads disk.old)
-        → IfOk result (λ count. IsWritten to.version to.kind to.stamp.session to.stamp.sequence bytes.now to.at to.limit count (D.reads disk.old) (D.reads disk.new)) }
+        → IfOk result (λ count. IsWritten site session bytes.now count (D.reads disk.old) (D.reads disk.new)) }
     ensures any_moment { D.honest → D.choices disk.old ≡ settled (D.reads disk.old)
-        → LeavesOnly D.moment D.images_since disk.old disk.new (IsAttempt to.version to.kind to.stamp.session to.stamp.sequence bytes.now to.at to.limit (D.reads disk.old)) }
-    ensures within { IfOk result (λ count. to.at + count ≤ to.limit) }
+        → LeavesOnly D.moment D.images_since disk.old disk.new (IsAttempt site session bytes.now (D.reads disk.old)) }
+    ensures within { IfOk result (λ count. site.first + count ≤ site.limit) }
     ensures count { D.sectors disk.new ≡ D.sectors disk.old }
     ensures failures { D.failures disk.old ≤ D.failures disk.new }
     ensures failed { OnErr result (HasRisen (D.failures disk.old) (D.failures disk.new)) }
 {
-    let mut writer = GroupWriter::begin(to.at, to.limit, to.stamp, to.kind, to.version);
+    let mut writer = GroupWriter::begin(site, session);
     writer.put(disk, bytes)?;
     let count = writer.finish(disk)?;
     Ok(count)
@@ -62,24 +57,25 @@ fn encode_into<A: Allocator + Copy, D: Disk>(
 /// Writes a group with the bytes that spell a house's state, and answers how many sectors it has.
 pub(crate) fn write_state<A: Allocator + Copy, D: Disk>(
     disk: &mut D,
-    to: Place,
+    site: Site,
+    session: u64,
     house: &House<A>,
 ) -> Result<u32, Failed>
     requires some { 0 < length (state_bytes house.now.state) }
-    requires room { FitsAt to.at to.limit (length (state_bytes house.now.state)) }
-    requires limit { to.limit ≤ D.sectors disk.old }
+    requires room { FitsAt site.first site.limit (length (state_bytes house.now.state)) }
+    requires limit { site.limit ≤ D.sectors disk.old }
     ensures written { D.honest → D.choices disk.old ≡ settled (D.reads disk.old)
-        → IfOk result (λ count. IsWritten to.version to.kind to.stamp.session to.stamp.sequence (state_bytes house.now.state) to.at to.limit count (D.reads disk.old) (D.reads disk.new)) }
+        → IfOk result (λ count. IsWritten site session (state_bytes house.now.state) count (D.reads disk.old) (D.reads disk.new)) }
     ensures any_moment { D.honest → D.choices disk.old ≡ settled (D.reads disk.old)
-        → LeavesOnly D.moment D.images_since disk.old disk.new (IsAttempt to.version to.kind to.stamp.session to.stamp.sequence (state_bytes house.now.state) to.at to.limit (D.reads disk.old)) }
-    ensures within { IfOk result (λ count. to.at + count ≤ to.limit) }
+        → LeavesOnly D.moment D.images_since disk.old disk.new (IsAttempt site session (state_bytes house.now.state) (D.reads disk.old)) }
+    ensures within { IfOk result (λ count. site.first + count ≤ site.limit) }
     ensures count { D.sectors disk.new ≡ D.sectors disk.old }
     ensures failures { D.failures disk.old ≤ D.failures disk.new }
     ensures failed { OnErr result (HasRisen (D.failures disk.old) (D.failures disk.new)) }
 {
     let mut sink = GroupSink {
         disk,
-        writer: GroupWriter::begin(to.at, to.limit, to.stamp, to.kind, to.version),
+        writer: GroupWriter::begin(site, session),
         refused: 0,
     };
     encode_into(&mut sink, house)?;

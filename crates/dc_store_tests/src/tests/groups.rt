@@ -3,7 +3,7 @@
 ghost use Rattle.std.specs.Prelude.{◌≡◌, ◌<◌, ◌≤◌, ◌+◌, ◌*◌, [], ◌∷◌, length};
 
 use super::images::{OLD, UNREADABLE, WRITTEN, stop_at};
-use dc_pages::{GroupFault, GroupSink, GroupWriter, Stamp, read_group};
+use dc_pages::{GroupFault, GroupSink, GroupWriter, Site, read_group};
 use dc_sectors::{Disk, Failed, MemoryDisk};
 use dc_stream::{IoFault, Sink};
 use refusing_alloc::Refusing;
@@ -21,6 +21,26 @@ const FIT: [u8; 22] = [
     2, 1, 0, 0, 0, 0, 0, 0, 0, 0x78, 0x56, 0x34, 0x12, 0x24, 0x40, 1, 7, 1, 1, 2, 0x41, 0x31,
 ];
 
+/// The session and the sequence that a group is written with.
+#[derive(Clone, Copy)]
+struct Stamp {
+    session: u64,
+    sequence: u64,
+}
+
+/// Where a group of changes lies in the half.
+fn site(first: u32, sequence: u64) -> Site
+    ensures { result ≡ record { kind = 0x50; version = 2; sequence = sequence; first = first; limit = 67 } }
+{
+    Site {
+        kind: CHANGES,
+        version: 2,
+        sequence,
+        first,
+        limit: LIMIT,
+    }
+}
+
 fn write_group(
     rt: &impl Abort,
     disk: &mut MemoryDisk<Global>,
@@ -32,7 +52,7 @@ fn write_group(
     requires room { 488 * place + length payload.now + 488 ≤ 488 * 67 }
 {
     assert_eq!(rt; disk.count(), 131);
-    let mut writer = GroupWriter::begin(place, LIMIT, stamp, CHANGES, 2);
+    let mut writer = GroupWriter::begin(site(place, stamp.sequence), stamp.session);
     writer.put(disk, payload)?;
     writer.finish(disk)
 }
@@ -69,7 +89,7 @@ fn a_full_page_needs_no_second_one(rt: HostRuntime) -> Result<(), Fail> {
     };
     assert!(rt; write_group(&rt, &mut disk, 5, stamp, &[7; 488]) == Ok(2));
     assert_eq!(rt; disk.count(), 131);
-    let group = read_group(rt.alloc(), &mut disk, 5, LIMIT, CHANGES, 2, 9)?;
+    let group = read_group(rt.alloc(), &mut disk, site(5, 9))?;
     assert_eq!(rt; group.sectors, 2);
     assert!(rt; group.payload.as_slice() == [7; 488].as_slice());
     Ok(())
@@ -91,7 +111,7 @@ fn stop_at_three(
 /// Reads the group of sequence 4 at the ninth sector, and names the sector that doesn't fit.
 fn cut_at(rt: &impl Abort, alloc: Global, disk: &mut MemoryDisk<Global>) -> Option<GroupFault> {
     assert_eq!(rt; disk.count(), 131);
-    match read_group(alloc, disk, 9, LIMIT, CHANGES, 2, 4) {
+    match read_group(alloc, disk, site(9, 4)) {
         Ok(_) => None,
         Err(fault) => Some(fault),
     }
@@ -139,7 +159,13 @@ fn a_group_takes_pieces_while_it_has_room(rt: HostRuntime) -> Result<(), Fail> {
     };
     let mut sink = GroupSink {
         disk: &mut disk,
-        writer: GroupWriter::begin(9, 12, stamp, CHANGES, 2),
+        writer: GroupWriter::begin(
+            Site {
+                limit: 12,
+                ..site(9, stamp.sequence)
+            },
+            stamp.session,
+        ),
         refused: 0,
     };
     sink.put(&[3; 400])?;
@@ -157,7 +183,7 @@ fn a_group_takes_pieces_while_it_has_room(rt: HostRuntime) -> Result<(), Fail> {
 fn where_the_half_ends_its_end_is_named(rt: HostRuntime) -> Result<(), Fail> {
     let mut disk = MemoryDisk::new(rt.alloc(), 131)?;
     assert_eq!(rt; disk.count(), 131);
-    let nothing = read_group(rt.alloc(), &mut disk, LIMIT, LIMIT, CHANGES, 2, 4);
+    let nothing = read_group(rt.alloc(), &mut disk, site(LIMIT, 4));
     assert!(rt; matches!(&nothing, Err(GroupFault::Incomplete(LIMIT))));
     Ok(())
 }
@@ -192,12 +218,12 @@ fn each_growth_may_be_refused(rt: HostRuntime) -> Result<(), Fail> {
     for growth in 1..3 {
         assert_eq!(rt; disk.count(), 131);
         heap.refuse(growth);
-        let refused = read_group(&heap, &mut disk, 9, LIMIT, CHANGES, 2, 4);
+        let refused = read_group(&heap, &mut disk, site(9, 4));
         assert!(rt; matches!(&refused, Err(GroupFault::NoMemory)));
     }
     assert_eq!(rt; disk.count(), 131);
     heap.refuse(3);
-    let group = read_group(&heap, &mut disk, 9, LIMIT, CHANGES, 2, 4)?;
+    let group = read_group(&heap, &mut disk, site(9, 4))?;
     assert!(rt; group.payload.as_slice() == [3; 600].as_slice());
     Ok(())
 }

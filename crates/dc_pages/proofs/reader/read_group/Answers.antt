@@ -14,23 +14,29 @@ returns-in_err-read_next-clause-incomplete g c h n e =
     let so_far = c.loop-at.invariant in
     let reading = c.loop-at.reading in
     let after = c.read_next.new.self in
-    let step = step_read reading.wanted (record { kind = c.args.kind; version = c.args.version; sequence = c.args.sequence }) (g.D.Disk.reads c.loop-at.disk) (g.D.Disk.reads c.args.disk.now)
-    c.args.place c.args.limit c.loop-at.at reading.session reading.pages after.session after.pages reading.payload.items after.payload.items (Err c.in_err-read_next.field-0.0) so_far.wanted (so_far.reads h)
+    let step = step_read reading.site c.args.site (g.D.Disk.reads c.loop-at.disk) (g.D.Disk.reads c.args.disk.now)
+    c.loop-at.at reading.session reading.pages after.session after.pages reading.payload.items after.payload.items (Err c.in_err-read_next.field-0.0) so_far.site (so_far.reads h)
     (c.in_err-read_next.ensures.step h) so_far.at (omega arith) (so_far.begun h) in
     let p = err_from_is_err_and c.from_residual.result c.from_residual.ensures.1 in
     let same : c.in_err-read_next.field-0.0 ≡ Incomplete n = cc (p.1, p.2, e) in
-    subst (λ (f : GroupFault). IsStep c.args.version c.args.kind c.args.sequence c.args.place c.args.limit (g.D.Disk.reads c.args.disk.now) after.session after.pages after.payload.items (Err f)) same step
+    subst (λ (f : GroupFault). IsStep c.args.site (g.D.Disk.reads c.args.disk.now) after.session after.pages after.payload.items (Err f)) same step
 
 pub returns-then-branch-clause-group : goal.returns-then-branch-clause-group
 returns-then-branch-clause-group g c h =
     let so_far = c.loop-at.invariant in
     let reading = c.loop-at.reading in
     let after = c.read_next.new.self in
-    let step = step_read reading.wanted (record { kind = c.args.kind; version = c.args.version; sequence = c.args.sequence }) (g.D.Disk.reads c.loop-at.disk) (g.D.Disk.reads c.args.disk.now)
-    c.args.place c.args.limit c.loop-at.at reading.session reading.pages after.session after.pages reading.payload.items after.payload.items (Ok c.in_ok-read_next.field-0) so_far.wanted (so_far.reads h)
+    let step = step_read reading.site c.args.site (g.D.Disk.reads c.loop-at.disk) (g.D.Disk.reads c.args.disk.now)
+    c.loop-at.at reading.session reading.pages after.session after.pages reading.payload.items after.payload.items (Ok c.in_ok-read_next.field-0) so_far.site (so_far.reads h)
     (c.in_ok-read_next.ensures.step h) so_far.at (omega arith) (so_far.begun h) in
-    let whole = subst (λ (b : Bool). IsStep c.args.version c.args.kind c.args.sequence c.args.place c.args.limit (g.D.Disk.reads c.args.disk.now) after.session after.pages after.payload.items (Ok b)) c.if-branch.true step in
+    let whole = subst (λ (b : Bool). IsStep c.args.site (g.D.Disk.reads c.args.disk.now) after.session after.pages after.payload.items (Ok b)) c.if-branch.true step in
     (after.session, after.pages, whole, refl)
+
+pub returns-then-branch-clause-any_moment : goal.returns-then-branch-clause-any_moment
+returns-then-branch-clause-any_moment g c h =
+    let so_far = c.loop-at.invariant in
+    goes_on g.D.Disk.moment g.D.Disk.images_since c.args.disk.now c.loop-at.disk c.read_next.new.disk (IsImage (g.D.Disk.choices c.args.disk.now)) _ (so_far.any_moment h) (c.in_ok-read_next.ensures.time h)
+    (λ image is. subst (λ (d : Choices). IsImage d image) (so_far.choices h) is)
 
 pub loop-at-preserved : goal.loop-at-preserved
 loop-at-preserved g c =
@@ -42,12 +48,12 @@ loop-at-preserved g c =
     let pages : after.pages ≡ reading.pages + 1 = next.pages ∙ ap (λ (b : Bool). if b then reading.pages else reading.pages + 1) not_done in
     record {
       at = omega arith;
-      wanted = next.wanted ∙ so_far.wanted;
+      site = next.site ∙ so_far.site;
       begun = λ h.
-          let step = step_read reading.wanted (record { kind = c.args.kind; version = c.args.version; sequence = c.args.sequence }) (g.D.Disk.reads c.loop-at.disk) (g.D.Disk.reads c.args.disk.now)
-          c.args.place c.args.limit c.loop-at.at reading.session reading.pages after.session after.pages reading.payload.items after.payload.items (Ok c.in_ok-read_next.field-0) so_far.wanted (so_far.reads h)
+          let step = step_read reading.site c.args.site (g.D.Disk.reads c.loop-at.disk) (g.D.Disk.reads c.args.disk.now)
+          c.loop-at.at reading.session reading.pages after.session after.pages reading.payload.items after.payload.items (Ok c.in_ok-read_next.field-0) so_far.site (so_far.reads h)
           (next.step h) so_far.at (omega arith) (so_far.begun h) in
-          subst (λ (b : Bool). IsStep c.args.version c.args.kind c.args.sequence c.args.place c.args.limit (g.D.Disk.reads c.args.disk.now) after.session after.pages after.payload.items (Ok b)) not_done step;
+          subst (λ (b : Bool). IsStep c.args.site (g.D.Disk.reads c.args.disk.now) after.session after.pages after.payload.items (Ok b)) not_done step;
       reads = λ h. next.reads h ∙ so_far.reads h;
       choices = λ h. next.choices h ∙ so_far.choices h;
       any_moment = λ h. goes_on g.D.Disk.moment g.D.Disk.images_since c.args.disk.now c.loop-at.disk c.read_next.new.disk (IsImage (g.D.Disk.choices c.args.disk.now)) _ (so_far.any_moment h) (next.time h)

@@ -5,9 +5,9 @@ use Rattle.dc_pages.proofs.reader.read_group.Given as goal
 
 abbrev pub invariant-loop-at : goal.invariant-loop-at
 invariant-loop-at g l = record {
-  at : l.at ≡ l.place + l.reading.pages;
-  wanted : l.reading.wanted ≡ record { kind = l.kind; version = l.version; sequence = l.sequence };
-  begun : g.D.Disk.honest → IsBegun l.version l.kind l.reading.session l.sequence l.reading.payload.items l.reading.pages l.place l.limit (g.D.Disk.reads l.fn.disk);
+  at : l.at ≡ l.site.first + l.reading.pages;
+  site : l.reading.site ≡ l.site;
+  begun : g.D.Disk.honest → IsBegun l.site l.reading.session l.reading.payload.items l.reading.pages (g.D.Disk.reads l.fn.disk);
   reads : g.D.Disk.honest → g.D.Disk.reads l.disk ≡ g.D.Disk.reads l.fn.disk;
   choices : g.D.Disk.honest → g.D.Disk.choices l.disk ≡ g.D.Disk.choices l.fn.disk;
   any_moment : g.D.Disk.honest → LeavesOnly g.D.Disk.moment g.D.Disk.images_since l.fn.disk l.disk (IsImage (g.D.Disk.choices l.fn.disk));

@@ -11,11 +11,11 @@ use Rattle.dc_recovery.proofs.appending.append_group.Goals as goal
 
 -- while the group is written
 written : (g : Over) (c : After-write_group g) → g.D.Disk.honest → g.D.Disk.choices c.args.disk.now ≡ settled (g.D.Disk.reads c.args.disk.now) → (half_len m : ℕ) (was : State) (changes : List Change)
-    → IsAppendable half_len c.args.root.now m c.args.place c.args.limit c.args.sequence was c.args.bytes.now changes (g.D.Disk.reads c.args.disk.now)
+    → IsAppendable half_len c.args.root.now m c.args.site was c.args.bytes.now changes (g.D.Disk.reads c.args.disk.now)
     → LeavesOnly g.D.Disk.moment g.D.Disk.images_since c.args.disk.now c.write_group.new.disk (StandsForEither half_len was (after was changes))
 written g c h is_settled half_len m was changes may =
     weakened g.D.Disk.moment g.D.Disk.images_since c.args.disk.now c.write_group.new.disk _ _ (c.write_group.ensures.any_moment h is_settled)
-    (appending_stands half_len c.args.root.now m c.args.place c.args.limit c.args.sequence was c.args.bytes.now changes (g.D.Disk.reads c.args.disk.now) may)
+    (appending_stands half_len c.args.root.now m c.args.site was c.args.bytes.now changes (g.D.Disk.reads c.args.disk.now) may)
 
 pub returns-in_err-count-clause-any_moment : goal.returns-in_err-count-clause-any_moment
 returns-in_err-count-clause-any_moment g c h is_settled half_len m was changes may = written g (goal.at.returns-in_err-count-clause-any_moment g c).After-write_group h is_settled half_len m was changes may
@@ -32,5 +32,5 @@ returns-clause-any_moment g c h is_settled half_len m was changes may =
 
 pub returns-clause-ready : goal.returns-clause-ready
 returns-clause-ready g c h is_settled half_len m was changes may =
-    subst (λ (i : Image). IsReady half_len c.args.root.now (suc m) (c.args.place + c.in_ok-count.count) (after was changes) i) (sym (c.in_ok-sync.ensures.reads h))
-    (appended_ready half_len c.args.root.now m c.args.place c.args.limit c.args.sequence was c.args.bytes.now changes (g.D.Disk.reads c.args.disk.now) may c.in_ok-count.count (g.D.Disk.reads c.write_group.new.disk) (c.in_ok-count.ensures.written h is_settled))
+    subst (λ (i : Image). IsReady half_len c.args.root.now (suc m) (c.args.site.first + c.in_ok-count.count) (after was changes) i) (sym (c.in_ok-sync.ensures.reads h))
+    (appended_ready half_len c.args.root.now m c.args.site was c.args.bytes.now changes (g.D.Disk.reads c.args.disk.now) may c.in_ok-count.count (g.D.Disk.reads c.write_group.new.disk) (c.in_ok-count.ensures.written h is_settled))

@@ -1,9 +1,11 @@
-use Rattle.std.proofs.Common.{◌≡◌, ◌+◌, ℕ, zero, arith, ap, subst, sym, ◌∙◌}
+use Rattle.std.proofs.Common.{◌≡◌, ◌+◌, zero, arith, ap, subst, sym, ◌∙◌}
 use Rattle.dc_sectors.specs.Disk.{Image, LeavesOnly, settled}
-use Rattle.dc_pages.specs.Group.{base_kind}
-use Rattle.dc_recovery.specs.Halves.{half_start, half_end, budget_of}
+use Rattle.dc_pages.specs.declared.site.Site.{Site}
+use Rattle.dc_recovery.specs.Halves.{half_start, budget_of}
 use Rattle.dc_recovery.specs.Language.{empty_state}
-use Rattle.dc_recovery.specs.Stands.{image_version, IsUnformatted, IsBlankOrEmpty}
+use Rattle.dc_recovery.specs.Roots.{first_root}
+use Rattle.dc_recovery.specs.Sites.{base_site}
+use Rattle.dc_recovery.specs.Stands.{IsUnformatted, IsBlankOrEmpty}
 use Rattle.dc_recovery.specs.Writing.{IsWritten}
 use Rattle.dc_recovery.proofs.ReadMoments.{synced_behind}
 use Rattle.dc_recovery.proofs.Spellings.{empty_bytes, empty_spelled}
@@ -30,8 +32,8 @@ grouped : (g : Over) (c : After-write_group g) → g.D.Disk.honest → LeavesOnl
     → LeavesOnly g.D.Disk.moment g.D.Disk.images_since c.args.disk.now c.write_group.new.disk (IsBlankOrEmpty c.args.half_len)
 grouped g c h so_far =
     let blank = blanked g c h in
-    group_written g.D.Disk.moment g.D.Disk.images_since g.D.Disk.reads c.args.half_len c.args.disk.now g.D.Disk.choices c.sync.new.self c.write_group.new.disk c.half_start.result c.half_end-2.result empty_bytes
-    blank (omega (arith, c.half_start.ensures.exact)) so_far (c.write_group.ensures.any_moment h blank.still)
+    group_written g.D.Disk.moment g.D.Disk.images_since g.D.Disk.reads c.args.half_len c.args.disk.now g.D.Disk.choices c.sync.new.self c.write_group.new.disk c.base_site.result empty_bytes
+    blank (omega (arith, ap (λ (s : Site). s.first) c.base_site.ensures.exact)) so_far (c.write_group.ensures.any_moment h blank.still)
 
 based : (g : Over) (c : After-put_root g) → g.D.Disk.honest → IsBlanked g.D.Disk.reads g.D.Disk.choices c.args.half_len c.sync.new.self
     → IsBased g.D.Disk.reads g.D.Disk.choices c.args.half_len c.in_ok-write_group.field-0 empty_bytes empty_state c.sync.new.self c.sync-2.new.self
@@ -42,9 +44,8 @@ based g c h blank =
     record {
       still = c.in_ok-sync-2.ensures.choices h ∙ ap settled (sym (c.sync-2.ensures.reads h));
       blanks = blank.blanks;
-      written = subst (IsWritten image_version base_kind 1 1 empty_bytes (half_start H 0) (half_end H 0) count zeros) (sym (c.sync-2.ensures.reads h))
-          (subst (λ (p : ℕ). IsWritten image_version base_kind 1 1 empty_bytes p (half_end H 0) count zeros (g.D.Disk.reads c.write_group.new.disk)) c.half_start.ensures.exact
-          (subst (λ (l : ℕ). IsWritten image_version base_kind 1 1 empty_bytes c.half_start.result l count zeros (g.D.Disk.reads c.write_group.new.disk)) c.half_end-2.ensures.exact (c.in_ok-write_group.ensures.written h blank.still)));
+      written = subst (IsWritten (base_site H (first_root H)) 1 empty_bytes count zeros) (sym (c.sync-2.ensures.reads h))
+          (subst (λ (s : Site). IsWritten s 1 empty_bytes count zeros (g.D.Disk.reads c.write_group.new.disk)) c.base_site.ensures.exact (c.in_ok-write_group.ensures.written h blank.still));
       spells = empty_spelled (budget_of H) (omega (arith, c.requires.some));
     }
 

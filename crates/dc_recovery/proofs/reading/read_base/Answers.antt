@@ -6,17 +6,17 @@ use Rattle.dc_recovery.proofs.reading.read_base.Goals as goal
 
 pub returns-in-Err-Incomplete-clause-refused : goal.returns-in-Err-Incomplete-clause-refused
 returns-in-Err-Incomplete-clause-refused g c h current =
-    base_cut c.args.half_len c.args.root (g.D.Disk.reads c.args.disk.now) current _ _ _ c.half_start-start.ensures.exact c.half_end-limit.ensures.exact (c.read_group.ensures.incomplete h _ (cc))
+    base_cut c.args.half_len c.args.root (g.D.Disk.reads c.args.disk.now) current c.base_site-site.result _ c.base_site-site.ensures.exact (c.read_group.ensures.incomplete h _ (cc))
 
 pub returns-in-Ok-decode-clause-reached : goal.returns-in-Ok-decode-clause-reached
 returns-in-Ok-decode-clause-reached g c h current =
-    base_reached c.args.half_len c.args.root (g.D.Disk.reads c.args.disk.now) current _ _ _ _ _ c.half_start-start.ensures.exact c.half_end-limit.ensures.exact (c.in-Ok.ensures.group h)
+    base_reached c.args.half_len c.args.root (g.D.Disk.reads c.args.disk.now) current c.base_site-site.result _ _ _ c.base_site-site.ensures.exact (c.in-Ok.ensures.group h)
     (subst (λ (l : List ℕ). SpellsState (budget_of c.args.half_len) l c.in-Ok-decode.house.state) c.as_slice.ensures.value
     (subst (λ (b : ℕ). SpellsState b c.as_slice.result.now c.in-Ok-decode.house.state) c.budget_of.ensures c.in-Ok-decode.ensures.found.0))
 
 pub returns-in-Err-Bad-clause-refused : goal.returns-in-Err-Bad-clause-refused
 returns-in-Err-Bad-clause-refused g c h current =
-    base_bad c.args.half_len c.args.root (g.D.Disk.reads c.args.disk.now) current _ _ _ _ c.half_start-start.ensures.exact c.half_end-limit.ensures.exact (c.in-Ok.ensures.group h)
+    base_bad c.args.half_len c.args.root (g.D.Disk.reads c.args.disk.now) current c.base_site-site.result _ _ c.base_site-site.ensures.exact (c.in-Ok.ensures.group h)
     (λ state spells. c.decode.ensures.bad (cc) state
     (subst (λ (b : ℕ). SpellsState b c.as_slice.result.now state) (sym c.budget_of.ensures)
     (subst (λ (l : List ℕ). SpellsState (budget_of c.args.half_len) l state) (sym c.as_slice.ensures.value) spells)))

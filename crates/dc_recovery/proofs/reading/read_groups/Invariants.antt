@@ -1,4 +1,4 @@
-use Rattle.std.proofs.Common.{◌-◌, ◌≡◌, ◌≤◌, ℕ}
+use Rattle.std.proofs.Common.{◌-◌, ◌≡◌, ◌≤◌}
 use Rattle.dc_recovery.specs.Looked.{OnlyLooked}
 use Rattle.dc_recovery.specs.Halves.{half_end, budget_of}
 use Rattle.dc_recovery.specs.Stands.{IsReached}
@@ -6,15 +6,15 @@ use Rattle.dc_recovery.proofs.reading.read_groups.Given as goal
 
 abbrev pub invariant-groups : goal.invariant-groups
 invariant-groups g l = record {
-  reached : g.D.Disk.honest → (half_len : ℕ) → l.limit ≡ half_end half_len l.fn.found.root.half → l.fn.found.house.budget ≡ budget_of half_len
-      → IsReached half_len l.fn.found.root l.fn.found.place l.fn.found.last l.fn.found.house.state (g.D.Disk.reads l.fn.disk)
-      → IsReached half_len l.found.root l.found.place l.found.last l.found.house.state (g.D.Disk.reads l.fn.disk);
+  reached : g.D.Disk.honest → l.fn.found.house.budget ≡ budget_of l.half_len
+      → IsReached l.half_len l.fn.found.root l.fn.found.place l.fn.found.last l.fn.found.house.state (g.D.Disk.reads l.fn.disk)
+      → IsReached l.half_len l.found.root l.found.place l.found.last l.found.house.state (g.D.Disk.reads l.fn.disk);
   root : l.found.root ≡ l.fn.found.root;
   budget : l.found.house.budget ≡ l.fn.found.house.budget;
-  within : l.found.place ≤ l.limit;
+  within : l.found.place ≤ half_end l.half_len l.found.root.half;
   looked : OnlyLooked g.D.Disk.honest g.D.Disk.reads g.D.Disk.choices g.D.Disk.moment g.D.Disk.images_since g.D.Disk.sectors g.D.Disk.failures l.fn.disk l.disk;
   passed : g.D.Disk.failures l.disk ≡ g.D.Disk.failures l.fn.disk;
 }
 
 abbrev pub decreases-groups : goal.decreases-groups
-decreases-groups g l = l.limit - l.found.place
+decreases-groups g l = half_end l.half_len l.fn.found.root.half - l.found.place

@@ -3,7 +3,6 @@ use Rattle.std.proofs.lemmas.Result.{err_from_is_err_and}
 use Rattle.dc_sectors.specs.Disk.{Image}
 use Rattle.dc_roots.specs.declared.root.Root.{Root}
 use Rattle.dc_recovery.specs.declared.fault.OpenFault.TheVariants.{Device}
-use Rattle.dc_recovery.specs.Halves.{half_end}
 use Rattle.dc_recovery.specs.Refusal.{IsRefused}
 use Rattle.dc_recovery.specs.Stands.{IsCurrent, IsReached, IsRead}
 use Rattle.dc_recovery.proofs.ReadMoments.{looked_on}
@@ -35,9 +34,8 @@ returns-clause-all g c h =
     let current = subst (λ (i : Image). IsCurrent H root i) (sym chosen) (c.in_ok-root.ensures.current h) in
     let reached = subst (λ (i : Image). IsReached H root found.place found.last found.house.state i) (sym based) (c.in_ok-found.ensures.reached h current) in
     let reached' = subst (λ (r : Root). IsReached H r found.place found.last found.house.state (g.D.Disk.reads c.read_base.new.disk)) (sym same_root) reached in
-    let at_limit = c.half_end-limit.ensures.exact ∙ ap (λ (r : Root). half_end H r.half) (sym same_root) in
     let now = c.read_groups.new.found in
-    subst (λ (i : Image). IsRead H now.root now.place now.last now.house.state i) (based ∙ chosen) (c.in_ok-read_groups.ensures.all h H at_limit c.in_ok-found.ensures.budget reached')
+    subst (λ (i : Image). IsRead H now.root now.place now.last now.house.state i) (based ∙ chosen) (c.in_ok-read_groups.ensures.all h c.in_ok-found.ensures.budget reached')
 
 pub returns-in_err-read_groups-clause-passed : goal.returns-in_err-read_groups-clause-passed
 returns-in_err-read_groups-clause-passed g c other =
@@ -60,9 +58,8 @@ returns-in_err-read_groups-clause-refused g c h =
     let current = subst (λ (i : Image). IsCurrent H root i) (sym chosen) (c.in_ok-root.ensures.current h) in
     let reached = subst (λ (i : Image). IsReached H root found.place found.last found.house.state i) (sym based) (c.in_ok-found.ensures.reached h current) in
     let reached' = subst (λ (r : Root). IsReached H r found.place found.last found.house.state (g.D.Disk.reads c.read_base.new.disk)) (sym same_root) reached in
-    let at_limit = c.half_end-limit.ensures.exact ∙ ap (λ (r : Root). half_end H r.half) (sym same_root) in
     let told = c.from_residual-in_err-read_groups in
     let p = err_from_is_err_and told.result told.ensures.1 in
     let fault = c.in_err-read_groups.field-0.0 in
     let same : told.result ≡ Err fault = cc (p.1, p.2) in
-    rw same (subst (λ (i : Image). IsRefused H i fault) (based ∙ chosen) (c.in_err-read_groups.ensures.refused h H at_limit c.in_ok-found.ensures.budget reached'))
+    rw same (subst (λ (i : Image). IsRefused H i fault) (based ∙ chosen) (c.in_err-read_groups.ensures.refused h c.in_ok-found.ensures.budget reached'))

@@ -6,7 +6,7 @@ use Rattle.dc_recovery.proofs.writing.write_group.Goals.{After-begin-writer}
 use Rattle.dc_recovery.proofs.writing.write_group.Goals as goal
 
 begins : (g : Over) (c : After-begin-writer g) → g.D.Disk.honest → g.D.Disk.choices c.args.disk.now ≡ settled (g.D.Disk.reads c.args.disk.now)
-    → Begins g.D.Disk.reads g.D.Disk.choices g.D.Disk.moment g.D.Disk.images_since c.args.disk.now c.begin-writer.result c.args.to.at c.args.to.limit c.args.to.version c.args.to.kind c.args.to.stamp.session c.args.to.stamp.sequence
+    → Begins g.D.Disk.reads g.D.Disk.choices g.D.Disk.moment g.D.Disk.images_since c.args.disk.now c.begin-writer.result c.args.site c.args.session
 begins g c h is_settled = record { draft_is = c.begin-writer.ensures; is_settled = is_settled; only_now = g.met.D.Disk.only_now h c.args.disk.now }
 
 pub returns-in_err-put-clause-any_moment : goal.returns-in_err-put-clause-any_moment

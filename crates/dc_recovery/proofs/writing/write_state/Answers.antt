@@ -8,14 +8,14 @@ use Rattle.dc_recovery.proofs.writing.write_state.Goals.{After-begin}
 use Rattle.dc_recovery.proofs.writing.write_state.Goals as goal
 
 begins : (g : Over) (c : After-begin g) → g.D.Disk.honest → g.D.Disk.choices c.args.disk.now ≡ settled (g.D.Disk.reads c.args.disk.now)
-    → Begins g.D.Disk.reads g.D.Disk.choices g.D.Disk.moment g.D.Disk.images_since c.args.disk.now c.begin.result c.args.to.at c.args.to.limit c.args.to.version c.args.to.kind c.args.to.stamp.session c.args.to.stamp.sequence
+    → Begins g.D.Disk.reads g.D.Disk.choices g.D.Disk.moment g.D.Disk.images_since c.args.disk.now c.begin.result c.args.site c.args.session
 begins g c h is_settled = record { draft_is = c.begin.ensures; is_settled = is_settled; only_now = g.met.D.Disk.only_now h c.args.disk.now }
 
 -- the group may be written in part, on that disk
 abbrev Leaves : (g : Over) (c : After-begin g) → g.row.D.Denot → Type 0
 Leaves g c new =
     LeavesOnly g.D.Disk.moment g.D.Disk.images_since c.args.disk.now new
-    (IsAttempt c.args.to.version c.args.to.kind c.args.to.stamp.session c.args.to.stamp.sequence (state_bytes c.args.house.now.state) c.args.to.at c.args.to.limit (g.D.Disk.reads c.args.disk.now))
+    (IsAttempt c.args.site c.args.session (state_bytes c.args.house.now.state) (g.D.Disk.reads c.args.disk.now))
 
 pub returns-in_err-encode_into-clause-any_moment : goal.returns-in_err-encode_into-clause-any_moment
 returns-in_err-encode_into-clause-any_moment g c h is_settled =
@@ -46,6 +46,6 @@ pub returns-clause-written : goal.returns-clause-written
 returns-clause-written g c h is_settled =
     let start = begins g (goal.at.returns-clause-written g c).After-begin h is_settled in
     let bytes = state_bytes c.args.house.now.state in
-    subst (λ (d : g.row.D.Denot). IsWritten c.args.to.version c.args.to.kind c.args.to.stamp.session c.args.to.stamp.sequence bytes c.args.to.at c.args.to.limit c.in_ok-count.count (g.D.Disk.reads c.args.disk.now) (g.D.Disk.reads d)) (search rules)
+    subst (λ (d : g.row.D.Denot). IsWritten c.args.site c.args.session bytes c.in_ok-count.count (g.D.Disk.reads c.args.disk.now) (g.D.Disk.reads d)) (search rules)
     (finish_written start bytes c.finish.new.disk c.encode_into.new.sink.writer c.in_ok-encode_into.ensures.goes_into.same
     (c.in_ok-count.ensures.closed h c.args.disk.now bytes (c.in_ok-encode_into.ensures.goes_into.going h c.args.disk.now [] (first_going start))) c.in_ok-count.count c.in_ok-count.ensures.sectors)

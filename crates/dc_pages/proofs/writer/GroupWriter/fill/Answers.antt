@@ -17,7 +17,7 @@ returns-clause-filled c =
     let small = c.self.invariant.small in
     let all : length c.copy_from_slice.new.self ≡ c.min-count.result = ap length c.copy_from_slice.ensures.after ∙ length-take-le c.min-count.result c.args.bytes.now (omega arith) in
     let with_buffer : List ℕ → Draft
-    = λ buffer. record { place = inside.place; limit = inside.limit; version = inside.version; kind = inside.kind; session = inside.stamp.session; sequence = inside.stamp.sequence; pages = inside.index; buffer = buffer } in
+    = λ buffer. record { site = inside.site; session = inside.session; pages = inside.index; buffer = buffer } in
     ap with_buffer (filled inside.used c.min-count.result _ inside.page c.copy_from_slice.new.self c.self.invariant (omega arith) all (omega arith))
     ∙ ap (λ (d : Draft). record d { buffer = d.buffer ++ c.copy_from_slice.new.self }) c.self.view_is
     ∙ ap (λ (l : List ℕ). record c.args.self.now { buffer = c.args.self.now.buffer ++ l }) c.copy_from_slice.ensures.after

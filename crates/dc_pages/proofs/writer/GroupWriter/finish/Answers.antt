@@ -20,22 +20,22 @@ last_piece g c start payload is =
 
 -- THE COMMIT SECTOR CLOSES THE GROUP, whatever its write answers.
 closed_by : (g : Over) (c : After-write g) → g.D.Disk.honest → (start : g.row.D.Denot) (payload : List ℕ) → IsGoing g.D.Disk.reads g.D.Disk.choices g.D.Disk.moment g.D.Disk.images_since start c.args.disk.now c.args.self payload
-    → IsClosed g.D.Disk.moment g.D.Disk.images_since start c.write.new.self (g.D.Disk.reads start) c.args.self.version c.args.self.kind c.args.self.session c.args.self.sequence c.args.self.place c.args.self.limit (c.args.self.pages + 1) payload
-    (put (g.D.Disk.reads c.flush_page.new.disk) (c.self.inside.place + (c.self.inside.index + 1)) c.write_head.new.sector)
+    → IsClosed g.D.Disk.moment g.D.Disk.images_since start c.write.new.self (g.D.Disk.reads start) c.args.self.site c.args.self.session (c.args.self.pages + 1) payload
+    (put (g.D.Disk.reads c.flush_page.new.disk) (c.self.inside.site.first + (c.self.inside.index + 1)) c.write_head.new.sector)
 closed_by g c h start payload is =
     let draft = c.args.self in
     let inside = c.self.inside in
     let long = buffer_long inside.used inside.page draft.buffer c.self.invariant (ap (λ (d : Draft). d.buffer) c.self.view_is) in
     let small = c.self.invariant.small in
     let pages = ap (λ (d : Draft). d.pages) c.self.view_is in
-    let limit = ap (λ (d : Draft). d.limit) c.self.view_is in
+    let limit = ap (λ (d : Draft). d.site.limit) c.self.view_is in
     let session = ap (λ (d : Draft). d.session) c.self.view_is in
-    let sequence = ap (λ (d : Draft). d.sequence) c.self.view_is in
-    let at_is : inside.place + (inside.index + 1) ≡ draft.place + (draft.pages + 1) = ap (λ (d : Draft). d.place + (d.pages + 1)) c.self.view_is in
-    let sector_is : c.write_head.new.sector ≡ commit_bytes draft.version draft.session draft.sequence (draft.pages + 1)
-    = c.write_head.ensures ∙ ap (λ (d : Draft). head_bytes commit_kind d.version 0 (d.pages + 1) d.session d.sequence ++ drop 24 (replicate 512 0)) c.self.view_is ∙ committed draft.version draft.session draft.sequence (draft.pages + 1) in
+    let sequence = ap (λ (d : Draft). d.site.sequence) c.self.view_is in
+    let at_is : inside.site.first + (inside.index + 1) ≡ draft.site.first + (draft.pages + 1) = ap (λ (d : Draft). d.site.first + (d.pages + 1)) c.self.view_is in
+    let sector_is : c.write_head.new.sector ≡ commit_bytes draft.site draft.session (draft.pages + 1)
+    = c.write_head.ensures ∙ ap (λ (d : Draft). head_bytes commit_kind d.site.version 0 (d.pages + 1) d.session d.site.sequence ++ drop 24 (replicate 512 0)) c.self.view_is ∙ committed draft.site draft.session (draft.pages + 1) in
     let last = next_piece g.D.Disk.reads g.D.Disk.choices g.D.Disk.moment g.D.Disk.images_since start c.args.disk.now draft payload (omega arith) is in
-    closes g.D.Disk.reads g.D.Disk.choices g.D.Disk.moment g.D.Disk.images_since c.args.disk.now c.flush_page.new.disk c.write.new.self draft (inside.place + (inside.index + 1)) c.write_head.new.sector at_is sector_is
+    closes g.D.Disk.reads g.D.Disk.choices g.D.Disk.moment g.D.Disk.images_since c.args.disk.now c.flush_page.new.disk c.write.new.self draft (inside.site.first + (inside.index + 1)) c.write_head.new.sector at_is sector_is
     (omega arith) (omega arith) (omega arith) (omega arith) c.requires.some (omega arith) (c.write.ensures.time h) start payload is
     (c.in_ok-flush_page.ensures.on_disk h start payload last is.on_disk)
 
@@ -47,10 +47,10 @@ returns-in_err-flush_page-clause-any_moment g c h start payload is =
 pub returns-in_err-write-clause-any_moment : goal.returns-in_err-write-clause-any_moment
 returns-in_err-write-clause-any_moment g c h start payload is =
     on_err_always c.from_residual-in_err-write.result
-    (inr (put (g.D.Disk.reads c.flush_page.new.disk) (c.self.inside.place + (c.self.inside.index + 1)) c.write_head.new.sector, closed_by g (goal.at.returns-in_err-write-clause-any_moment g c).After-write h start payload is))
+    (inr (put (g.D.Disk.reads c.flush_page.new.disk) (c.self.inside.site.first + (c.self.inside.index + 1)) c.write_head.new.sector, closed_by g (goal.at.returns-in_err-write-clause-any_moment g c).After-write h start payload is))
 
 pub returns-clause-closed : goal.returns-clause-closed
 returns-clause-closed g c h start payload is =
     let draft = c.args.self in
-    subst (λ (image : Image). IsClosed g.D.Disk.moment g.D.Disk.images_since start c.write.new.self (g.D.Disk.reads start) draft.version draft.kind draft.session draft.sequence draft.place draft.limit (draft.pages + 1) payload image)
+    subst (λ (image : Image). IsClosed g.D.Disk.moment g.D.Disk.images_since start c.write.new.self (g.D.Disk.reads start) draft.site draft.session (draft.pages + 1) payload image)
     (sym (c.in_ok-write.ensures.reads h)) (closed_by g (goal.at.returns-clause-closed g c).After-write h start payload is)

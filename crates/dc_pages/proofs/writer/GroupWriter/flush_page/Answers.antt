@@ -11,31 +11,27 @@ use Rattle.dc_pages.proofs.writer.GroupWriter.flush_page.Goals as goal
 pub invariant_of-self : goal.invariant_of-self
 invariant_of-self g c =
     let inside = c.self.inside in
-    headed_buffer inside.kind inside.version inside.index inside.stamp.session inside.stamp.sequence inside.used inside.page c.write_head.new.sector c.self.invariant c.write_head.array_long c.write_head.ensures
+    headed_buffer inside.site.kind inside.site.version inside.index inside.session inside.site.sequence inside.used inside.page c.write_head.new.sector c.self.invariant c.write_head.array_long c.write_head.ensures
 
 -- the draft by the writer's fields
 abbrev draft_of : (g : Over) → After-write g → Draft
 draft_of g c = record {
-  place = c.self.inside.place;
-  limit = c.self.inside.limit;
-  version = c.self.inside.version;
-  kind = c.self.inside.kind;
-  session = c.self.inside.stamp.session;
-  sequence = c.self.inside.stamp.sequence;
+  site = c.self.inside.site;
+  session = c.self.inside.session;
   pages = c.self.inside.index;
   buffer = take c.self.inside.used (drop 24 c.self.inside.page);
 }
 
-fits : (g : Over) (c : After-write g) → (draft_of g c).place + (draft_of g c).pages < (draft_of g c).limit
+fits : (g : Over) (c : After-write g) → (draft_of g c).site.first + (draft_of g c).pages < (draft_of g c).site.limit
 fits g c =
-    let room : (draft_of g c).place + (draft_of g c).pages + 1 < (draft_of g c).limit = subst (λ (d : Draft). d.place + d.pages + 1 < d.limit) (sym c.self.view_is) c.requires.room in
+    let room : (draft_of g c).site.first + (draft_of g c).pages + 1 < (draft_of g c).site.limit = subst (λ (d : Draft). d.site.first + d.pages + 1 < d.site.limit) (sym c.self.view_is) c.requires.room in
     omega arith
 
 -- what is written is the draft's next page
-page : (g : Over) (c : After-write g) → IsPageWritten c.self.inside.version c.self.inside.kind c.self.inside.stamp.session c.self.inside.stamp.sequence c.self.inside.index (draft_of g c).buffer (Bytes c.write_head.new.sector)
+page : (g : Over) (c : After-write g) → IsPageWritten c.self.inside.site c.self.inside.session c.self.inside.index (draft_of g c).buffer (Bytes c.write_head.new.sector)
 page g c =
     let inside = c.self.inside in
-    page_written inside.version inside.kind inside.stamp.session inside.stamp.sequence inside.index inside.used inside.page c.write_head.new.sector _ c.self.invariant c.write_head.ensures (omega arith) (omega arith) (omega arith) refl
+    page_written inside.site inside.session inside.index inside.used inside.page c.write_head.new.sector _ c.self.invariant c.write_head.ensures (omega arith) (omega arith) (omega arith) refl
 
 -- whatever the write answers
 leaves : (g : Over) (c : After-write g) → g.D.Disk.honest → LeavesPart g.D.Disk.reads g.D.Disk.choices g.D.Disk.moment g.D.Disk.images_since c.args.disk.now c.write.new.self c.args.self.now

@@ -10,13 +10,13 @@ use Rattle.dc_pages.proofs.writer.GroupWriter.put.Goals as goal
 pub returns-in_err-make_room-clause-any_moment : goal.returns-in_err-make_room-clause-any_moment
 returns-in_err-make_room-clause-any_moment g c h start payload is =
     let so_far = c.loop-at.invariant in
-    let P : Draft → Type 0 = λ d. LeavesOnly g.D.Disk.moment g.D.Disk.images_since start c.make_room.new.disk (IsPartOf d.version d.kind d.session d.sequence d.place d.limit (g.D.Disk.reads start)) in
+    let P : Draft → Type 0 = λ d. LeavesOnly g.D.Disk.moment g.D.Disk.images_since start c.make_room.new.disk (IsPartOf d.site d.session (g.D.Disk.reads start)) in
     subst P so_far.same (c.make_room.ensures.any_moment h start _ (so_far.going h start payload is))
 
 pub returns-clause-any_moment : goal.returns-clause-any_moment
 returns-clause-any_moment g c h start payload is =
     let so_far = c.loop-at.invariant in
-    let P : Draft → Type 0 = λ d. LeavesOnly g.D.Disk.moment g.D.Disk.images_since start c.loop-at.disk (IsPartOf d.version d.kind d.session d.sequence d.place d.limit (g.D.Disk.reads start)) in
+    let P : Draft → Type 0 = λ d. LeavesOnly g.D.Disk.moment g.D.Disk.images_since start c.loop-at.disk (IsPartOf d.site d.session (g.D.Disk.reads start)) in
     subst P so_far.same (so_far.going h start payload is).on_disk.any_moment
 
 pub returns-clause-going : goal.returns-clause-going
