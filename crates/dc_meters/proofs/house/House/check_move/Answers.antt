@@ -2,13 +2,14 @@ use Rattle.std.proofs.Common.{◌≡◌, ◌+◌, ◌-◌, Some, ap, sym, ◌∙
 use Rattle.dc_changes.specs.State.{State, Held, MeterRow, row_of}
 use Rattle.dc_changes.specs.Apply.{moved}
 use Rattle.dc_changes.specs.Size.{size_of}
+use Rattle.dc_meters.proofs.Fields.{state_in}
 use Rattle.dc_meters.proofs.Sizes.{size_of-moved, meter_size-le}
 use Rattle.dc_meters.proofs.house.House.check_move.Goals as goal
 
 pub overflow_sub-both : goal.overflow_sub-both
 overflow_sub-both g c =
     let h = c.self.inside in
-    let s : State = record { meters = h.meters.entries; readings = h.readings.items; next_serial = h.next_serial; confirmed = h.confirmed; last_number = h.last_number; last_line = h.last_line } in
+    let s : State = state_in h in
     let row : MeterRow = c.in-Some.row.now in
     let found : row_of c.args.meter.now s ≡ Some row = sym c.in-Some.ensures.value in
     let before : c.from-3.result ≡ length row.flat = c.from-3.ensures ∙ c.len-2.ensures.exact ∙ ap length c.flat.ensures.flat in
@@ -18,7 +19,7 @@ overflow_sub-both g c =
 pub returns : goal.returns
 returns g c =
     let h = c.self.inside in
-    let s : State = record { meters = h.meters.entries; readings = h.readings.items; next_serial = h.next_serial; confirmed = h.confirmed; last_number = h.last_number; last_line = h.last_line } in
+    let s : State = state_in h in
     let row : MeterRow = c.in-Some.row.now in
     let found : row_of c.args.meter.now s ≡ Some row = sym c.in-Some.ensures.value in
     let before : c.from-3.result ≡ length row.flat = c.from-3.ensures ∙ c.len-2.ensures.exact ∙ ap length c.flat.ensures.flat in
