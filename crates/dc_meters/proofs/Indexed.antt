@@ -1,10 +1,10 @@
 -- The orders of the meters through the changes of the meters.
 use Rattle.std.proofs.Common.{◌≡◌, ℕ, Bool, true, false, cond, List, [], ◌∷◌, Option, None, Some, map, refl, sym, ap, subst, ◌∙◌}
-use Rattle.std.specs.Prelude.{◌&&◌, ◌||◌, not}
+use Rattle.std.specs.Prelude.{◌&&◌, ◌||◌, not, IsSome}
 use Rattle.std.specs.List.{list_any, AllByRecursion}
 use Rattle.std.specs.List.Sorted.{IsStrictlySortedBy}
 use Rattle.std.specs.Map.{lookup, keys_of, set_value}
-use Rattle.std.specs.BTreeMap.{is_at}
+use Rattle.std.specs.BTreeMap.{BTreeMap, is_at, WritesThrough}
 use Rattle.std.specs.Ordering.{nat_cmp, eq_by_cmp, is_eq}
 use Rattle.std.specs.declared.cmp.Ordering.{Ordering}
 use Rattle.std.specs.declared.cmp.Ordering.TheVariants.{Less, Equal, Greater}
@@ -14,7 +14,7 @@ use Rattle.std.proofs.lemmas.Map.Steps.{set_value_same}
 use Rattle.dc_address.specs.declared.identity.Identity.{Identity}
 use Rattle.dc_address.specs.Identity.{identity_cmp}
 use Rattle.dc_address.proofs.Order.{same_from_tie}
-use Rattle.dc_changes.specs.State.{MeterRow}
+use Rattle.dc_changes.specs.State.{MeterRow, PartRow}
 use Rattle.dc_meters.specs.declared.place.Place.{Place}
 use Rattle.dc_meters.specs.declared.place.BusPlace.{BusPlace}
 use Rattle.dc_meters.specs.Places.{place_cmp, bus_cmp, place_of, by_flat, among, stands, is_own, is_in_flat, hangs_at, meter_by_flat, meter_on_bus, moved_in, AreIndexed}
@@ -82,16 +82,16 @@ module _ (flats new_flats : List Place) (bus new_bus : List BusPlace) (old meter
     on_bus = placed_same bus_cmp meter_on_bus hangs_at bus new_bus old meters meter indexed.on_bus row after found (λ q. ap (hangs_at q) is) bus_is map_is;
   }
 
--- a meter with another row that stands where it did
-pub indexed_same : (flats : List Place) (bus : List BusPlace) (old meters : List (Identity × MeterRow)) (meter : Identity) (row after : MeterRow) → AreIndexed flats bus old
-    → lookup (is_at (identity_cmp meter)) old ≡ Some row → after ≡ record row { parts = after.parts }
-    → ((k : Identity) → lookup (is_at (identity_cmp k)) meters ≡ cond (is_at (identity_cmp meter) k) (Some after) (lookup (is_at (identity_cmp k)) old))
-    → IsStrictlySortedBy identity_cmp (keys_of meters) → AreIndexed flats bus meters
-indexed_same flats bus old meters meter row after indexed found is map_is ascend = record {
-  ascend = ascend;
-  by_flat = placed_same place_cmp meter_by_flat is_in_flat flats flats old meters meter indexed.by_flat row after found (λ q. ap (is_in_flat q) is) (λ q. refl) map_is;
-  on_bus = placed_same bus_cmp meter_on_bus hangs_at bus bus old meters meter indexed.on_bus row after found (λ q. ap (hangs_at q) is) (λ q. refl) map_is;
-}
+-- other parts, written in a meter's row
+pub indexed_same : (flats : List Place) (bus : List BusPlace) (old new : BTreeMap Identity MeterRow) (meter : Identity) (row after : MeterRow) {parts : List PartRow} → AreIndexed flats bus old.entries
+    → lookup (is_at (identity_cmp meter)) old.entries ≡ Some row → after ≡ record row { parts = parts } → WritesThrough identity_cmp (identity_cmp meter) old after new → AreIndexed flats bus new.entries
+indexed_same flats bus old new meter row after indexed found is written =
+    let map_is = (written.3 (subst IsSome (sym found) refl)).0 in
+    record {
+      ascend = written.4;
+      by_flat = placed_same place_cmp meter_by_flat is_in_flat flats flats old.entries new.entries meter indexed.by_flat row after found (λ q. ap (is_in_flat q) is) (λ q. refl) map_is;
+      on_bus = placed_same bus_cmp meter_on_bus hangs_at bus bus old.entries new.entries meter indexed.on_bus row after found (λ q. ap (hangs_at q) is) (λ q. refl) map_is;
+    }
 
 -- a meter that moves to its own flat
 pub moved_nowhere : (flats : List Place) (bus : List BusPlace) (meters : List (Identity × MeterRow)) (meter : Identity) (row : MeterRow) (flat : List ℕ) → AreIndexed flats bus meters → lookup (is_at (identity_cmp meter)) meters ≡ Some row

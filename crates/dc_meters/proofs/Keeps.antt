@@ -1,103 +1,67 @@
 -- Each step of a change leaves a state, with its size.
-use Rattle.std.proofs.Common.{◌≡◌, ℕ, ◌+◌, ◌<◌, ◌≤◌, List, [], ◌∷◌, ◌++◌, length, Option, Some, None, sum_by, Bool, true, false, refl, sym, ap, subst, arith, nat_lt, ◌-◌}
+use Rattle.std.proofs.Common.{◌≡◌, ℕ, ◌+◌, ◌<◌, ◌≤◌, List, [], ◌∷◌, ◌++◌, length, Option, Some, None, sum_by, Bool, false, refl, sym, ap, subst, arith, nat_lt, ◌-◌, All}
 use Rattle.std.proofs.lemmas.Bool.{ltb-true}
-use Rattle.std.specs.Map.{lookup, set_value, remove_entry, values_of, keys_of}
-use Rattle.std.specs.BTreeMap.{is_at, insert_entry}
+use Rattle.std.specs.Map.{values_of, keys_of}
+use Rattle.std.specs.BTreeMap.{is_at}
 use Rattle.std.specs.List.Sorted.{IsStrictlySortedBy}
-use Rattle.std.specs.Ordering.{nat_cmp}
 use Rattle.std.proofs.lemmas.Map.{keys-set_value}
 use Rattle.std.proofs.lemmas.Map.Views.{All-values-insert_entry, All-values-set_value, All-map-remove_entry}
-use Rattle.std.proofs.lemmas.List.Elements.{All-nil, All-filter, filter_passes, All-push}
+use Rattle.std.proofs.lemmas.List.Elements.{All-filter, filter_passes, All-push}
 use Rattle.dc_address.specs.declared.identity.Identity.{Identity}
 use Rattle.dc_address.specs.Identity.{identity_cmp}
 use Rattle.dc_changes.specs.State.{State, MeterRow, PartRow, ReadingRow, row_of, empty_state}
 use Rattle.dc_changes.specs.Size.{parts_size, meter_size, reading_size, size_of}
-use Rattle.dc_changes.specs.Apply.{with_row, joined, moved, heard, fitted, taken_out, confirmed_up_to}
+use Rattle.dc_changes.specs.Apply.{with_row, joined, heard, fitted, taken_out, confirmed_up_to}
 use Rattle.dc_changes.specs.Valid.{IsMeter, IsReading, IsOpenSerial, end_of_numbers}
 use Rattle.dc_meters.specs.Kept.{IsKept}
+use Rattle.dc_meters.proofs.Empty.{IsState-empty}
 use Rattle.dc_meters.proofs.Readings.{sorted_of_kept, sorted_of_pushed}
 use Rattle.dc_meters.proofs.Sizes.{size_of-with_row, size_of-fitted, size_of-taken_out, size_of-read, meter_size-le, size_of-heard_last}
 
-sorted_nothing : {K : Type 0} (c : K → K → Rattle.std.specs.declared.cmp.Ordering.Ordering) → IsStrictlySortedBy c []
-unfolding IsStrictlySortedBy
-sorted_nothing c = tt
-
 pub IsKept-empty : (budget : ℕ) → 153 ≤ budget → IsKept 153 budget empty_state
-IsKept-empty budget room = record {
-  size_is = refl;
-  state_is = record {
-    meters_ascend = sorted_nothing identity_cmp;
-    meters_are = All-nil IsMeter;
-    readings_ascend = sorted_nothing nat_cmp;
-    readings_are = All-nil IsReading;
-    serials_are = All-nil (λ (r : ReadingRow). IsOpenSerial 0 1 r.serial);
-    next_fits = omega arith;
-    confirmed_fits = omega arith;
-    number_fits = omega arith;
-    line_fits = omega arith;
-    size_fits = room;
-  };
-}
+IsKept-empty budget room = record { size_is = refl; state_is = IsState-empty budget room }
+
+-- other meters
+IsKept-with_meters : (meters : List (Identity × MeterRow)) (size size' budget : ℕ) (s : State) → IsKept size budget s → IsStrictlySortedBy identity_cmp (keys_of meters) → All IsMeter (values_of meters)
+    → size' ≡ size_of (record s { meters = meters }) → size' ≤ budget → IsKept size' budget (record s { meters = meters })
+IsKept-with_meters meters size size' budget s kept sorted are size_is room =
+    record {
+      size_is = size_is;
+      state_is = record {
+        meters_ascend = sorted;
+        meters_are = are;
+        readings_ascend = kept.state_is.readings_ascend;
+        readings_are = kept.state_is.readings_are;
+        serials_are = kept.state_is.serials_are;
+        next_fits = kept.state_is.next_fits;
+        confirmed_fits = kept.state_is.confirmed_fits;
+        number_fits = kept.state_is.number_fits;
+        line_fits = kept.state_is.line_fits;
+        size_fits = omega (arith, size_is, room);
+      };
+    }
 
 pub IsKept-fitted : (meter : Identity) (row : MeterRow) (size size' budget : ℕ) (s : State) → IsKept size budget s → row_of meter s ≡ None → IsMeter row
     → IsStrictlySortedBy identity_cmp (keys_of (fitted meter row s).meters) → size' ≡ size + meter_size row → size' ≤ budget → IsKept size' budget (fitted meter row s)
 IsKept-fitted meter row size size' budget s kept absent is sorted sum room =
     let more = size_of-fitted meter row s kept.state_is.meters_ascend absent in
-    record {
-      size_is = omega (arith, more, kept.size_is);
-      state_is = record {
-        meters_ascend = sorted;
-        meters_are = All-values-insert_entry identity_cmp meter row IsMeter s.meters kept.state_is.meters_are is;
-        readings_ascend = kept.state_is.readings_ascend;
-        readings_are = kept.state_is.readings_are;
-        serials_are = kept.state_is.serials_are;
-        next_fits = kept.state_is.next_fits;
-        confirmed_fits = kept.state_is.confirmed_fits;
-        number_fits = kept.state_is.number_fits;
-        line_fits = kept.state_is.line_fits;
-        size_fits = omega (arith, more, kept.size_is);
-      };
-    }
+    IsKept-with_meters (fitted meter row s).meters size size' budget s kept sorted (All-values-insert_entry identity_cmp meter row IsMeter s.meters kept.state_is.meters_are is)
+    (omega (arith, more, kept.size_is)) room
 
 pub IsKept-with_row : (meter : Identity) (old new : MeterRow) (size size' budget : ℕ) (s : State) → IsKept size budget s → row_of meter s ≡ Some old → IsMeter new
     → size' + meter_size old ≡ size + meter_size new → size' ≤ budget → IsKept size' budget (with_row meter new s)
 IsKept-with_row meter old new size size' budget s kept found is sum room =
     let more = size_of-with_row meter old new s found in
-    record {
-      size_is = omega (arith, more, kept.size_is);
-      state_is = record {
-        meters_ascend = subst (IsStrictlySortedBy identity_cmp) (sym (keys-set_value (is_at (identity_cmp meter)) s.meters new)) kept.state_is.meters_ascend;
-        meters_are = All-values-set_value (is_at (identity_cmp meter)) IsMeter s.meters new kept.state_is.meters_are is;
-        readings_ascend = kept.state_is.readings_ascend;
-        readings_are = kept.state_is.readings_are;
-        serials_are = kept.state_is.serials_are;
-        next_fits = kept.state_is.next_fits;
-        confirmed_fits = kept.state_is.confirmed_fits;
-        number_fits = kept.state_is.number_fits;
-        line_fits = kept.state_is.line_fits;
-        size_fits = omega (arith, more, kept.size_is);
-      };
-    }
+    let sorted = subst (IsStrictlySortedBy identity_cmp) (sym (keys-set_value (is_at (identity_cmp meter)) s.meters new)) kept.state_is.meters_ascend in
+    IsKept-with_meters (with_row meter new s).meters size size' budget s kept sorted (All-values-set_value (is_at (identity_cmp meter)) IsMeter s.meters new kept.state_is.meters_are is)
+    (omega (arith, more, kept.size_is)) room
 
 pub IsKept-taken_out : (meter : Identity) (row : MeterRow) (size size' budget : ℕ) (s : State) → IsKept size budget s → row_of meter s ≡ Some row
     → IsStrictlySortedBy identity_cmp (keys_of (taken_out meter s).meters) → size' + meter_size row ≡ size → IsKept size' budget (taken_out meter s)
 IsKept-taken_out meter row size size' budget s kept found sorted sum =
     let less = size_of-taken_out meter row s found in
-    record {
-      size_is = omega (arith, less, kept.size_is);
-      state_is = record {
-        meters_ascend = sorted;
-        meters_are = All-map-remove_entry (is_at (identity_cmp meter)) (λ e. e.1) IsMeter s.meters kept.state_is.meters_are;
-        readings_ascend = kept.state_is.readings_ascend;
-        readings_are = kept.state_is.readings_are;
-        serials_are = kept.state_is.serials_are;
-        next_fits = kept.state_is.next_fits;
-        confirmed_fits = kept.state_is.confirmed_fits;
-        number_fits = kept.state_is.number_fits;
-        line_fits = kept.state_is.line_fits;
-        size_fits = omega (arith, less, kept.size_is, kept.state_is.size_fits);
-      };
-    }
+    IsKept-with_meters (taken_out meter s).meters size size' budget s kept sorted (All-map-remove_entry (is_at (identity_cmp meter)) (λ e. e.1) IsMeter s.meters kept.state_is.meters_are)
+    (omega (arith, less, kept.size_is)) (omega (arith, kept.size_is, kept.state_is.size_fits))
 
 -- the command's number and line
 pub IsKept-signed : (number : ℕ) (line : List ℕ) (size budget : ℕ) (s : State) → IsKept size budget s → number < end_of_numbers → length line ≤ 120
@@ -119,16 +83,13 @@ IsKept-signed number line size budget s kept low short =
       };
     }
 
--- a meter whose flat changed
-pub IsKept-moved : (meter : Identity) (flat : List ℕ) (old new : MeterRow) (size budget : ℕ) (s : State) → IsKept size budget s → row_of meter s ≡ Some old → new ≡ record old { flat = flat } → IsMeter new
-    → size_of (moved meter flat (row_of meter s) s) ≤ budget
+-- a meter with another row, within the budget
+pub IsKept-other_row : (meter : Identity) (old new : MeterRow) (size budget : ℕ) (s : State) → IsKept size budget s → row_of meter s ≡ Some old → IsMeter new → size_of (with_row meter new s) ≤ budget
     → ((size - meter_size old) + meter_size new ≤ budget) × IsKept ((size - meter_size old) + meter_size new) budget (with_row meter new s)
-IsKept-moved meter flat old new size budget s kept found is_new is room =
-    let after : size_of (with_row meter (record old { flat = flat }) s) ≤ budget = subst (λ (o : Option MeterRow). size_of (moved meter flat o s) ≤ budget) found room in
-    let new_size : meter_size new ≡ meter_size (record old { flat = flat }) = ap meter_size is_new in
-    let sum = size_of-with_row meter old (record old { flat = flat }) s found in
+IsKept-other_row meter old new size budget s kept found is room =
+    let sum = size_of-with_row meter old new s found in
     let small = meter_size-le meter old s found in
-    let fits : (size - meter_size old) + meter_size new ≤ budget = omega (arith, after, sum, new_size, small, kept.size_is) in
+    let fits : (size - meter_size old) + meter_size new ≤ budget = omega (arith, room, sum, small, kept.size_is) in
     (fits, IsKept-with_row meter old new size ((size - meter_size old) + meter_size new) budget s kept found is (omega (arith, small, kept.size_is)) fits)
 
 -- the readings up to a serial go
@@ -181,18 +142,6 @@ IsKept-read reading size size' budget s kept serial is room sum fits =
       };
     }
 
--- a part that stays open
-pub IsKept-heard_open : (meter : Identity) (number : ℕ) (part : PartRow) (old new : MeterRow) (size budget : ℕ) (s : State) → IsKept size budget s → row_of meter s ≡ Some old
-    → new ≡ record old { parts = joined number part old.parts } → IsMeter new → size_of (heard meter true number part (row_of meter s) s) ≤ budget
-    → ((size - meter_size old) + meter_size new ≤ budget) × IsKept ((size - meter_size old) + meter_size new) budget (with_row meter new s)
-IsKept-heard_open meter number part old new size budget s kept found is_new is room =
-    let after : size_of (with_row meter (record old { parts = joined number part old.parts }) s) ≤ budget = subst (λ (o : Option MeterRow). size_of (heard meter true number part o s) ≤ budget) found room in
-    let new_size : meter_size new ≡ meter_size (record old { parts = joined number part old.parts }) = ap meter_size is_new in
-    let sum = size_of-with_row meter old (record old { parts = joined number part old.parts }) s found in
-    let small = meter_size-le meter old s found in
-    let fits : (size - meter_size old) + meter_size new ≤ budget = omega (arith, after, sum, new_size, small, kept.size_is) in
-    (fits, IsKept-with_row meter old new size ((size - meter_size old) + meter_size new) budget s kept found is (omega (arith, small, kept.size_is)) fits)
-
 -- the part that ends a readout
 pub IsKept-heard_last : (meter : Identity) (number : ℕ) (part : PartRow) (old closed : MeterRow) (reading : ReadingRow) (size budget : ℕ) (s : State) → IsKept size budget s → row_of meter s ≡ Some old
     → closed ≡ record old { parts = [] } → IsMeter closed
@@ -223,21 +172,7 @@ IsKept-swapped old new row hung size budget s kept found absent flat parts hung_
     let flat_size : length hung.flat ≡ length row.flat = ap length flat in
     let parts_size_is : parts_size hung.parts ≡ 0 = ap parts_size parts in
     let never_larger : (size - meter_size row) + meter_size hung ≤ size = omega (arith, small, flat_size, parts_size_is, kept.size_is) in
-    let size_is : (size - meter_size row) + meter_size hung ≡ size_of (taken_out old (fitted new hung s)) = omega (arith, small, more, less, kept.size_is) in (
-      never_larger,
-      record {
-        size_is = size_is;
-        state_is = record {
-          meters_ascend = sorted;
-          meters_are = All-map-remove_entry (is_at (identity_cmp old)) (λ e. e.1) IsMeter (fitted new hung s).meters (All-values-insert_entry identity_cmp new hung IsMeter s.meters kept.state_is.meters_are hung_is);
-          readings_ascend = kept.state_is.readings_ascend;
-          readings_are = kept.state_is.readings_are;
-          serials_are = kept.state_is.serials_are;
-          next_fits = kept.state_is.next_fits;
-          confirmed_fits = kept.state_is.confirmed_fits;
-          number_fits = kept.state_is.number_fits;
-          line_fits = kept.state_is.line_fits;
-          size_fits = omega (arith, size_is, never_larger, kept.size_is, kept.state_is.size_fits);
-        };
-      },
-    )
+    let size_is : (size - meter_size row) + meter_size hung ≡ size_of (taken_out old (fitted new hung s)) = omega (arith, small, more, less, kept.size_is) in
+    let are = All-map-remove_entry (is_at (identity_cmp old)) (λ e. e.1) IsMeter (fitted new hung s).meters (All-values-insert_entry identity_cmp new hung IsMeter s.meters kept.state_is.meters_are hung_is) in
+    let room : (size - meter_size row) + meter_size hung ≤ budget = omega (arith, never_larger, kept.size_is, kept.state_is.size_fits) in
+    (never_larger, IsKept-with_meters (taken_out old (fitted new hung s)).meters size ((size - meter_size row) + meter_size hung) budget s kept sorted are size_is room)

@@ -1,7 +1,9 @@
 pub mod Sizes  -- what a change does to the size
 pub mod Identities  -- meters told apart by their rows
 mod Readings  -- lists of readings
+mod Fields  -- the state that a house's fields hold
 mod Keeps  -- each step of a change leaves a state
+pub mod Empty  -- the empty register is a state
 mod Acceptance  -- what an accepted change says
 mod Loops  -- pieces of a list, one after the other
 mod PartLists  -- parts read one after the other

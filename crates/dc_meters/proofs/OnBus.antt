@@ -21,6 +21,7 @@ use Rattle.dc_address.specs.Identity.{identity_cmp}
 use Rattle.dc_address.proofs.Order.{same_from_tie, equal_to_itself}
 use Rattle.dc_changes.specs.State.{MeterRow}
 use Rattle.dc_changes.specs.Accepts.{occupies}
+use Rattle.dc_changes.proofs.Exact.{some_is}
 use Rattle.dc_meters.specs.declared.place.BusPlace.{BusPlace}
 use Rattle.dc_meters.specs.Places.{bus_cmp, is_on_bus, among, stands, hangs_at, meter_on_bus, ArePlaces}
 use Rattle.dc_meters.proofs.DueDates.{not_empty, some_kept}
@@ -130,9 +131,6 @@ found_row test (x ∷ es) m row met found = at (found_row test es m row met) (is
     later : (a b : Bool) → b ≡ true → (a || b) ≡ true
     later true b e = refl
     later false b e = e
-
-    some_is : (a b : MeterRow) → Some a ≡ Some b → a ≡ b
-    some_is a b e = cc
 
     at : (lookup (is_at (identity_cmp m)) es ≡ Some row → list_any test es ≡ true) → (t : Bool) → is_at (identity_cmp m) x.0 ≡ t → cond t (Some x.1) (lookup (is_at (identity_cmp m)) es) ≡ Some row → (test x || list_any test es) ≡ true
     at rest true is e =

@@ -1,45 +1,21 @@
 -- The bytes that formatting writes spell the empty register.
 use Rattle.std.proofs.Common.{◌<◌, ◌^◌, ◌≡◌, ℕ, List, ◌∷◌, ◌≤◌, replicate, refl, arith}
-use Rattle.std.specs.Prelude.{[]}
-use Rattle.std.specs.List.Sorted.{IsStrictlySortedBy}
-use Rattle.std.specs.Ordering.{nat_cmp}
-use Rattle.std.proofs.lemmas.List.Elements.{All-nil}
-use Rattle.dc_address.specs.Identity.{identity_cmp}
-use Rattle.dc_changes.specs.State.{ReadingRow}
-use Rattle.dc_changes.specs.Valid.{IsMeter, IsReading, IsOpenSerial}
 use Rattle.dc_changes.specs.Encoding.{long_bytes, count_bytes, byte, counted, state_bytes}
 use Rattle.dc_changes.proofs.StateSpellings.{spelled_once}
 use Rattle.dc_changes.proofs.ChangeSpellings.{changes_spelled_once}
+use Rattle.dc_meters.proofs.Empty.{IsState-empty}
 use Rattle.dc_recovery.specs.Halves.{budget_of}
 use Rattle.dc_recovery.specs.Language.{State, Change, SpellsState, SpellsChanges, empty_state}
 
 abbrev pub empty_bytes : List ℕ
 empty_bytes = 1 ∷ replicate 32 0
 
-sorted_nothing : {K : Type 0} (c : K → K → Rattle.std.specs.declared.cmp.Ordering.Ordering) → IsStrictlySortedBy c []
-unfolding IsStrictlySortedBy
-sorted_nothing c = tt
-
 spelled : empty_bytes ≡ state_bytes empty_state
 unfolding long_bytes count_bytes byte counted
 spelled = refl
 
 pub empty_spelled : (budget : ℕ) → 153 ≤ budget → SpellsState budget empty_bytes empty_state
-empty_spelled budget room = record {
-  spelled = spelled;
-  is_state = record {
-    meters_ascend = sorted_nothing identity_cmp;
-    meters_are = All-nil IsMeter;
-    readings_ascend = sorted_nothing nat_cmp;
-    readings_are = All-nil IsReading;
-    serials_are = All-nil (λ (r : ReadingRow). IsOpenSerial 0 1 r.serial);
-    next_fits = omega arith;
-    confirmed_fits = omega arith;
-    number_fits = omega arith;
-    line_fits = omega arith;
-    size_fits = room;
-  };
-}
+empty_spelled budget room = record { spelled = spelled; is_state = IsState-empty budget room }
 
 pub one_state : (half_len : ℕ) → half_len ≤ 65536 → (payload : List ℕ) (s t : State) → SpellsState (budget_of half_len) payload s → SpellsState (budget_of half_len) payload t → s ≡ t
 one_state half_len most payload s t a b =

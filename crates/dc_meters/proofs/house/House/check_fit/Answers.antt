@@ -4,6 +4,7 @@ use Rattle.dc_changes.specs.State.{State, Held, MeterRow, row_of}
 use Rattle.dc_changes.specs.Apply.{fitted}
 use Rattle.dc_changes.specs.Accepts.{is_taken}
 use Rattle.dc_changes.specs.Size.{size_of}
+use Rattle.dc_meters.proofs.Fields.{state_in}
 use Rattle.dc_meters.proofs.Sizes.{size_of-fitted}
 use Rattle.dc_meters.proofs.Acceptance.{none_of}
 use Rattle.dc_meters.proofs.house.House.check_fit.Goals as goal
@@ -11,7 +12,7 @@ use Rattle.dc_meters.proofs.house.House.check_fit.Goals as goal
 pub returns : goal.returns
 returns g c =
     let h = c.self.inside in
-    let s : State = record { meters = h.meters.entries; readings = h.readings.items; next_serial = h.next_serial; confirmed = h.confirmed; last_number = h.last_number; last_line = h.last_line } in
+    let s : State = state_in h in
     let row : MeterRow = record { line = c.args.line; address = c.args.address; flat = c.args.flat; parts = [] } in
     let unknown : is_some (row_of c.args.meter.now s) ≡ false = sym c.contains_key.ensures ∙ c.if-contains_key.false in
     let known : is_some (row_of c.args.meter.now c.args.self.now.state) ≡ false = ap (λ (x : Held). is_some (row_of c.args.meter.now x.state)) (sym c.self.view_is) ∙ unknown in

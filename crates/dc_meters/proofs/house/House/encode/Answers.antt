@@ -1,6 +1,7 @@
 use Rattle.std.proofs.Common.{◌≡◌, sym, ap, ◌∙◌, arith, length, List}
 use Rattle.dc_address.specs.declared.identity.Identity.{Identity}
 use Rattle.dc_changes.specs.State.{State, Held, MeterRow, ReadingRow}
+use Rattle.dc_meters.proofs.Fields.{state_in}
 use Rattle.dc_meters.proofs.Sizes.{meters-le, readings-le}
 use Rattle.dc_changes.specs.Size.{size_of}
 use Rattle.dc_changes.proofs.Writes.{written_both, stopped_first, stopped_second}
@@ -22,13 +23,13 @@ returns-clause-ok g c = rw (← c.rows.ensures ∙ ap (λ (x : Held). x.state.me
 pub put_meters-requires : goal.put_meters-requires
 put_meters-requires g c =
     let h = c.self.inside in
-    let s : State = record { meters = h.meters.entries; readings = h.readings.items; next_serial = h.next_serial; confirmed = h.confirmed; last_number = h.last_number; last_line = h.last_line } in
+    let s : State = state_in h in
     let whole : c.size.result ≡ size_of s = c.size.ensures.size ∙ ap (λ (x : Held). size_of x.state) (sym c.self.view_is) in
     omega (arith, meters-le s, whole, ap (λ (ms : List (Identity × MeterRow)). length ms) c.rows.ensures)
 
 pub put_readings-requires : goal.put_readings-requires
 put_readings-requires g c =
     let h = c.self.inside in
-    let s : State = record { meters = h.meters.entries; readings = h.readings.items; next_serial = h.next_serial; confirmed = h.confirmed; last_number = h.last_number; last_line = h.last_line } in
+    let s : State = state_in h in
     let whole : c.size.result ≡ size_of s = c.size.ensures.size ∙ ap (λ (x : Held). size_of x.state) (sym c.self.view_is) in
     omega (arith, readings-le s, whole, ap (λ (rs : List ReadingRow). length rs) c.all.ensures)

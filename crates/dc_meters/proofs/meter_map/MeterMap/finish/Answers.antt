@@ -1,16 +1,13 @@
-use Rattle.std.proofs.Common.{◌≡◌, Option, Some, true, ap, subst, sym, refl, ◌∙◌}
-use Rattle.std.specs.Prelude.{IsSome}
+use Rattle.std.proofs.Common.{◌≡◌, Option, true, ap, subst, sym, ◌∙◌}
 use Rattle.std.specs.Map.{lookup}
 use Rattle.std.specs.BTreeMap.{is_at}
 use Rattle.dc_address.specs.Identity.{identity_cmp}
 use Rattle.dc_changes.specs.State.{MeterRow}
 use Rattle.dc_changes.specs.Accepts.{continues}
 use Rattle.dc_meters.specs.Places.{MeterRows}
+use Rattle.dc_meters.proofs.Identities.{one_row}
 use Rattle.dc_meters.proofs.Indexed.{indexed_same}
 use Rattle.dc_meters.proofs.meter_map.MeterMap.finish.Goals as goal
-
-some_is : (a b : MeterRow) → Some a ≡ Some b → a ≡ b
-some_is a b e = cc
 
 pub finish-requires-clause-continues : goal.finish-requires-clause-continues
 finish-requires-clause-continues g c =
@@ -19,26 +16,18 @@ finish-requires-clause-continues g c =
 pub invariant_of-self-2 : goal.invariant_of-self-2
 invariant_of-self-2 g c =
     let inside = c.self.inside in
-    let row : MeterRow = c.in-Some.row.now in
     let after : MeterRow = c.finish.new.self in
-    let found : lookup (is_at (identity_cmp c.args.ended.meter)) inside.rows.entries ≡ Some row = sym c.in-Some.ensures.value in
-    let written = c.get_mut.follows.holds after in
-    let updates = written.3 (subst IsSome (sym found) refl) in
-    indexed_same inside.orders.by_flat.keys inside.orders.on_bus.keys inside.rows.entries (c.get_mut.follows.lender after).entries c.args.ended.meter row after c.self.invariant found
-    (c.in_ok-size.ensures.closed ∙ ap (λ (m : MeterRow). record row { parts = m.parts }) (sym c.in_ok-size.ensures.closed)) updates.0 written.4
+    indexed_same inside.orders.by_flat.keys inside.orders.on_bus.keys inside.rows (c.get_mut.follows.lender after) c.args.ended.meter c.in-Some.row.now after c.self.invariant (sym c.in-Some.ensures.value) c.in_ok-size.ensures.closed
+    (c.get_mut.follows.holds after)
 
 pub returns-clause-closed : goal.returns-clause-closed
 returns-clause-closed g c = λ row found_row.
-    let before : MeterRow = c.in-Some.row.now in
-    let found : lookup (is_at (identity_cmp c.args.ended.meter)) c.args.self.now.entries ≡ Some before = ap (λ (m : MeterRows). lookup (is_at (identity_cmp c.args.ended.meter)) m.entries) (sym c.self.view_is) ∙ sym c.in-Some.ensures.value in
-    let same : before ≡ row = some_is before row (sym found ∙ found_row) in
+    let same = one_row c.args.ended.meter c.self.view_is c.in-Some.ensures.value found_row in
     rw (← c.self.view_is, (c.get_mut.follows.holds c.finish.new.self).0, c.in_ok-size.ensures.closed, same)
 
 pub returns-clause-read : goal.returns-clause-read
 returns-clause-read g c = λ row found_row.
-    let before : MeterRow = c.in-Some.row.now in
-    let found : lookup (is_at (identity_cmp c.args.ended.meter)) c.args.self.now.entries ≡ Some before = ap (λ (m : MeterRows). lookup (is_at (identity_cmp c.args.ended.meter)) m.entries) (sym c.self.view_is) ∙ sym c.in-Some.ensures.value in
-    let same : before ≡ row = some_is before row (sym found ∙ found_row) in
+    let same = one_row c.args.ended.meter c.self.view_is c.in-Some.ensures.value found_row in
     record {
       readings = rw same at c.in_ok-size.ensures.ok;
       size_is = rw same at c.in_ok-size.ensures.size;

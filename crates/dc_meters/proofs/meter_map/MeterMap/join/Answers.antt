@@ -1,5 +1,4 @@
-use Rattle.std.proofs.Common.{◌≡◌, Option, Some, true, ap, subst, sym, refl, ◌∙◌}
-use Rattle.std.specs.Prelude.{IsSome}
+use Rattle.std.proofs.Common.{◌≡◌, Option, true, ap, subst, sym, ◌∙◌}
 use Rattle.std.specs.Map.{lookup}
 use Rattle.std.specs.BTreeMap.{is_at}
 use Rattle.dc_address.specs.Identity.{identity_cmp}
@@ -9,11 +8,9 @@ use Rattle.dc_changes.specs.Apply.{joined}
 use Rattle.dc_changes.specs.Size.{meter_size}
 use Rattle.dc_changes.specs.Valid.{IsMeter}
 use Rattle.dc_meters.specs.Places.{MeterRows}
+use Rattle.dc_meters.proofs.Identities.{one_row}
 use Rattle.dc_meters.proofs.Indexed.{indexed_same}
 use Rattle.dc_meters.proofs.meter_map.MeterMap.join.Goals as goal
-
-some_is : (a b : MeterRow) → Some a ≡ Some b → a ≡ b
-some_is a b e = cc
 
 pub join-requires-clause-continues : goal.join-requires-clause-continues
 join-requires-clause-continues g c =
@@ -22,19 +19,13 @@ join-requires-clause-continues g c =
 pub invariant_of-self-2 : goal.invariant_of-self-2
 invariant_of-self-2 g c =
     let inside = c.self.inside in
-    let row : MeterRow = c.in-Some.row.now in
     let after : MeterRow = c.join.new.self in
-    let found : lookup (is_at (identity_cmp c.args.meter.now)) inside.rows.entries ≡ Some row = sym c.in-Some.ensures.value in
-    let written = c.get_mut.follows.holds after in
-    let updates = written.3 (subst IsSome (sym found) refl) in
-    indexed_same inside.orders.by_flat.keys inside.orders.on_bus.keys inside.rows.entries (c.get_mut.follows.lender after).entries c.args.meter.now row after c.self.invariant found
-    (c.in_ok-join.ensures.ok ∙ ap (λ (m : MeterRow). record row { parts = m.parts }) (sym c.in_ok-join.ensures.ok)) updates.0 written.4
+    indexed_same inside.orders.by_flat.keys inside.orders.on_bus.keys inside.rows (c.get_mut.follows.lender after) c.args.meter.now c.in-Some.row.now after c.self.invariant (sym c.in-Some.ensures.value) c.in_ok-join.ensures.ok
+    (c.get_mut.follows.holds after)
 
 pub returns-clause-joined : goal.returns-clause-joined
 returns-clause-joined g c = λ row found_row.
-    let before : MeterRow = c.in-Some.row.now in
-    let found : lookup (is_at (identity_cmp c.args.meter.now)) c.args.self.now.entries ≡ Some before = ap (λ (m : MeterRows). lookup (is_at (identity_cmp c.args.meter.now)) m.entries) (sym c.self.view_is) ∙ sym c.in-Some.ensures.value in
-    let same : before ≡ row = some_is before row (sym found ∙ found_row) in
+    let same = one_row c.args.meter.now c.self.view_is c.in-Some.ensures.value found_row in
     let after : c.join.new.self ≡ record row { parts = joined c.args.number c.args.part row.parts } = c.in_ok-join.ensures.ok ∙ ap (λ (m : MeterRow). record m { parts = joined c.args.number c.args.part m.parts }) same in
     record {
       entries = rw (← c.self.view_is, (c.get_mut.follows.holds c.join.new.self).0, after);

@@ -5,6 +5,7 @@ use Rattle.std.specs.Map.{lookup}
 use Rattle.std.specs.BTreeMap.{is_at}
 use Rattle.dc_address.specs.Identity.{identity_cmp}
 use Rattle.dc_changes.specs.State.{MeterRow}
+use Rattle.dc_changes.proofs.Exact.{some_is}
 use Rattle.dc_meters.specs.Places.{MeterRows, place_cmp, among, moved_in}
 use Rattle.dc_meters.proofs.PlaceOrder.{own_place, put_in, taken_out}
 use Rattle.dc_meters.proofs.Indexed.{indexed_moved, moved_nowhere}
@@ -17,9 +18,6 @@ was_there false e = cc
 was_away : (b : Bool) → true ≡ not b → b ≡ false
 was_away true e = cc
 was_away false e = refl
-
-some_is : (a b : MeterRow) → Some a ≡ Some b → a ≡ b
-some_is a b e = cc
 
 pub returns-then-not-branch-clause-entries : goal.returns-then-not-branch-clause-entries
 returns-then-not-branch-clause-entries g c =
