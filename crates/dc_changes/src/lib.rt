@@ -27,6 +27,7 @@ mod laws;
 mod limits;
 #[cfg(test)]
 mod line_tests;
+mod moment;
 mod parsing;
 pub mod pieces;
 #[cfg(test)]
@@ -48,5 +49,6 @@ pub use laws::{acceptance_goes_by_parts, after_goes_by_parts, length_of_spelling
 pub use limits::{
     END_OF_NUMBERS, LAST_MOMENT, LONGEST_BODY, LONGEST_CHANGE_LINE, LONGEST_FLAT, LONGEST_LINE,
 };
+pub use moment::Moment;
 pub use parsing::a_line_has_one_command;
 pub use words::{a_text_has_one_first_word, parse_number, split_word};
