@@ -8,7 +8,7 @@ ghost use Rattle.dc_changes.specs.Valid.{IsChange, IsTelegram, last_moment, most
 ghost use Rattle.dc_changes.specs.declared.change.Change.{Change};
 
 use crate::words::{parse_number, split_word};
-use crate::{Body, Change, Command, LAST_MOMENT, LONGEST_CHANGE_LINE};
+use crate::{Body, Change, Command, LONGEST_CHANGE_LINE, Moment};
 use dc_records::one_telegram;
 use dc_text::decode_hex;
 
@@ -84,11 +84,8 @@ fn parse_moment(word: &[u8]) -> Option<u64>
     ensures found { IfSome result (λ moment. (moment ≤ last_moment) × (word.now ≡ decimal moment)) }
     ensures only { (moment : ℕ) → moment ≤ last_moment → word.now ≡ decimal moment → result ≡ Some moment }
 {
-    let moment = parse_number(word)?;
-    if moment > LAST_MOMENT {
-        return None;
-    }
-    Some(moment)
+    let moment = Moment::from_seconds(parse_number(word)?)?;
+    Some(moment.seconds)
 }
 
 fn parse_body<'a>(digits: &[u8], room: &'a mut [u8]) -> Option<Body<'a>>

@@ -25,6 +25,7 @@ mod flat;
 mod kept;
 mod laws;
 mod limits;
+mod moment;
 mod parsing;
 pub mod pieces;
 mod words;
@@ -44,5 +45,6 @@ pub use laws::{acceptance_goes_by_parts, after_goes_by_parts, length_of_spelling
 pub use limits::{
     END_OF_NUMBERS, LAST_MOMENT, LONGEST_BODY, LONGEST_CHANGE_LINE, LONGEST_FLAT, LONGEST_LINE,
 };
+pub use moment::Moment;
 pub use parsing::a_line_has_one_command;
 pub use words::{a_text_has_one_first_word, parse_number, split_word};

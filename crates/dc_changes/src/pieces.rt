@@ -6,7 +6,7 @@ ghost use Rattle.dc_changes.specs.Body.{IsBody};
 ghost use Rattle.dc_changes.specs.Valid.{IsNumber, IsBusLine, IsAddress, last_moment, end_of_numbers};
 ghost use Rattle.dc_changes.specs.Reading.{Reads, byte_at, long_at, count_at, counted_at, identity_at, moment_at, number_at, serial_at, line_at, address_of, only, is_flat, body_at};
 
-use crate::{Body, DecodeFault, END_OF_NUMBERS, Flat, LAST_MOMENT};
+use crate::{Body, DecodeFault, END_OF_NUMBERS, Flat, Moment};
 use byteorder::{ByteOrder, LittleEndian};
 use dc_address::{Identity, Primary};
 
@@ -75,12 +75,11 @@ pub fn moment_at(bytes: &[u8]) -> Result<(u64, &[u8]), DecodeFault>
     ensures read { Reads (λ x. (x.0, x.1.now)) result (moment_at bytes.now) }
     ensures fits { IfOk result (λ x. x.0 ≤ last_moment) }
 {
-    let (moment, rest) = long_at(bytes)?;
-    if moment <= LAST_MOMENT {
-        Ok((moment, rest))
-    } else {
-        Err(DecodeFault::Bad)
-    }
+    let (seconds, rest) = long_at(bytes)?;
+    let Some(moment) = Moment::from_seconds(seconds) else {
+        return Err(DecodeFault::Bad);
+    };
+    Ok((moment.seconds, rest))
 }
 
 /// The number of a command: from 1, of at most 18 digits.

@@ -3,7 +3,6 @@ use Rattle.std.specs.Prelude.{◌≡◌, ◌⊎◌, ℕ, ◌≤◌, ◌+◌, ◌
 use Rattle.dc_base.specs.Failures.{HasRisen}
 use Rattle.dc_sectors.specs.Disk.{Image, Choices, IsImage, LeavesOnly}
 use Rattle.dc_changes.specs.State.{State}
-use Rattle.dc_changes.specs.Valid.{last_moment}
 use Rattle.dc_recovery.specs.Halves.{half_len_of}
 use Rattle.dc_recovery.specs.Stands.{StandsForFront}
 use Rattle.dc_recovery.specs.Store.{Kept}
@@ -24,17 +23,9 @@ use Rattle.dc_core.specs.Images.{Machine, IsAt, StandsForPromised}
 abbrev pub event_of : declared.Event → Event
 event_of (Start line meter) = starts line meter
 event_of (Ask line) = asks line
-event_of (Hear line moment answer) = hears line moment answer.now
+event_of (Hear line moment answer) = hears line moment.seconds answer.now
 event_of Commit = commits
 event_of (Office text) = offices text.now
-
--- what a call asks of its arguments: a moment is a second up to the year 9999
-abbrev pub IsEvent : declared.Event → Type 0
-IsEvent (Start line meter) = Unit {0}
-IsEvent (Ask line) = Unit {0}
-IsEvent (Hear line moment answer) = moment ≤ last_moment
-IsEvent Commit = Unit {0}
-IsEvent (Office text) = Unit {0}
 
 -- the fault of a commit that an answer tells of
 abbrev pub fault_in : Answer → Option CommitFault

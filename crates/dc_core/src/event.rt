@@ -1,6 +1,7 @@
 //! The events of a concentrator: its calls, with their arguments.
 
 use dc_address::Identity;
+use dc_changes::Moment;
 
 /// What happens to a concentrator: a call, with its arguments.
 #[derive(Clone, Copy)]
@@ -14,10 +15,10 @@ pub enum Event<'a> {
     Ask {
         line: u8,
     },
-    /// An answer is heard on a line, at a moment in seconds since 1970. No byte is silence.
+    /// An answer is heard on a line, at a moment. No byte is silence.
     Hear {
         line: u8,
-        moment: u64,
+        moment: Moment,
         answer: &'a [u8],
     },
     /// What waits is written.

@@ -1,13 +1,13 @@
 //! Runs of events, with the text of their answers.
 
-ghost use Rattle.std.specs.Prelude.{◌≡◌, ◌<◌, ◌+◌, ℕ, List, length, take, map, All, OnOk, OnErr};
+ghost use Rattle.std.specs.Prelude.{◌≡◌, ◌<◌, ◌+◌, ℕ, List, length, take, map, OnOk, OnErr};
 ghost use Rattle.dc_base.specs.Failures.{HasRisen};
 ghost use Rattle.dc_stream.specs.Stream.{Puts, Wrote};
 ghost use Rattle.dc_changes.specs.State.{State};
 ghost use Rattle.dc_core.specs.Core.{Core, opened};
 ghost use Rattle.dc_core.specs.Transcript.{Turn, leads, IsChain};
 ghost use Rattle.dc_core.specs.Images.{IsAt};
-ghost use Rattle.dc_core.specs.Run.{event_of, IsEvent, Turned, Ran};
+ghost use Rattle.dc_core.specs.Run.{event_of, Turned, Ran};
 
 use crate::telling::{put_asked, put_committed, put_heard, put_started};
 use crate::{Concentrator, Event, WriteFault};
@@ -22,7 +22,6 @@ impl<D: Disk + Drop, A: Allocator + Copy> Concentrator<D, A> {
     /// `WriteFault` where the writer failed. The event at which it did is done, and none behind it; how much of the text was
     /// written isn't known.
     pub fn run<W: Sink>(&mut self, events: &[Event<'_>], out: &mut W) -> Result<(), WriteFault>
-        requires { All IsEvent events.now }
         // Behind whatever went before in this life, the events make a chain of steps, and what is written is its text.
         ensures ran { (state : State) (before : List Turn) → IsChain self.old.house.budget (opened state) before → IsAt D.honest D.sectors D.reads D.choices self.old (leads (opened state) before)
             → OnOk result (Ran D.honest D.sectors D.reads D.choices D.moment D.images_since self.old.house.budget state before (map event_of events.now) (Puts (W.written out.old) (W.written out.new)) self.old self.new) }
@@ -45,7 +44,6 @@ impl<D: Disk + Drop, A: Allocator + Copy> Concentrator<D, A> {
 
     // One event, and the text of its answer.
     fn turn<W: Sink>(&mut self, event: &Event<'_>, out: &mut W) -> Result<(), IoFault>
-        requires { IsEvent event.now }
         ensures turned { (core : Core) → IsAt D.honest D.sectors D.reads D.choices self.old core
             → Turned D.honest D.sectors D.failures D.reads D.choices D.moment D.images_since self.old.house.budget core (event_of event.now) (Wrote W.written W.put_failures result out.old out.new) self.old self.new }
         ensures count { D.sectors self.new.store.disk ≡ D.sectors self.old.store.disk }

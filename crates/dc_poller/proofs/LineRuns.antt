@@ -3,7 +3,6 @@ use Rattle.std.proofs.Common.{◌≡◌, ◌≤◌, ◌+◌, ℕ, List, [], ◌�
 use Rattle.std.specs.Prelude.{Bool, true, false, Result, Ok, Err, OnOk, OnErr}
 use Rattle.dc_sectors.specs.Disk.{Image, Choices}
 use Rattle.dc_changes.specs.State.{State}
-use Rattle.dc_changes.specs.Valid.{last_moment}
 use Rattle.dc_core.specs.Core.{opened}
 use Rattle.dc_core.specs.Event.{Event, Answer}
 use Rattle.dc_core.specs.Text.{answer_text}
@@ -28,18 +27,6 @@ ask_push : (lines : List (List ℕ)) (done : List LineSeen) (line : List ℕ) (r
 ask_push lines [] line rest asked before is = subst (λ (ls : List (List ℕ)). AskFor ls (asked ∷ []) rest) before (is, refl)
 ask_push [] (first ∷ done) line rest asked before is = absurd before
 ask_push (other ∷ lines) (first ∷ done) line rest asked before is = (before.0, ask_push lines done line rest asked before.1 is)
-
--- a line of a script leaves a moment
-pub moment_fits : (moment : ℕ) (asked : LineSeen) → moment ≤ last_moment → HasBounds asked → moment_behind moment asked ≤ last_moment
-moment_fits moment nothing fits bounds = fits
-moment_fits moment (at seconds) fits bounds = bounds
-moment_fits moment (start line meter) fits bounds = fits
-moment_fits moment (ask line) fits bounds = fits
-moment_fits moment (hear line answer) fits bounds = fits
-moment_fits moment commit fits bounds = fits
-moment_fits moment (office line) fits bounds = fits
-moment_fits moment (poll line meter) fits bounds = fits
-moment_fits moment (search budget) fits bounds = fits
 
 done_push : (moment : ℕ) (link : Link) (done : List LineSeen) (deeds : List Deed) (asked : LineSeen) (deed : Deed) → AreDone moment link done deeds
     → Does (moment_after moment done) asked (link_after link deeds) deed.left deed.turns deed.text → AreDone moment link (done ++ asked ∷ []) (deeds ++ deed ∷ [])

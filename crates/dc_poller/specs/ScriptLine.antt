@@ -24,7 +24,7 @@ pub data LineSeen : Type 0 where
 
 abbrev pub seen : ScriptLine → LineSeen
 seen Nothing = nothing
-seen (At moment) = at moment
+seen (At moment) = at moment.seconds
 seen (Start line meter) = start line meter
 seen (Ask line) = ask line
 seen (Hear line answer) = hear line answer.now

@@ -4,7 +4,6 @@ ghost use Rattle.std.specs.Prelude.{◌≡◌, ◌≤◌, ℕ, true, List, IfOk,
 ghost use Rattle.dc_address.specs.declared.identity.Identity.{Identity as Meter};
 ghost use Rattle.dc_base.specs.Failures.{HasRisen};
 ghost use Rattle.dc_changes.specs.State.{State};
-ghost use Rattle.dc_changes.specs.Valid.{last_moment};
 ghost use Rattle.dc_core.specs.Core.{opened};
 ghost use Rattle.dc_core.specs.Images.{IsAt};
 ghost use Rattle.dc_core.specs.Step.{longest_request};
@@ -17,6 +16,7 @@ ghost use Rattle.dc_poller.specs.Way.{Way, IsRound};
 
 use crate::told::{told_ask, told_commit, told_hear, told_start};
 use dc_address::Identity;
+use dc_changes::Moment;
 use dc_core::{Concentrator, HearFault, LineHeard};
 use dc_gateway::{AnswerBuf, Gateway};
 use dc_linkframe::FrameBuf;
@@ -36,12 +36,11 @@ pub fn poll<D: Disk + Drop, A: Allocator + Copy, GR: Source + Drop, GW: Sink + D
     concentrator: &mut Concentrator<D, A>,
     gateway: &mut Gateway<GR, GW>,
     meter: &Identity,
-    moment: u64,
+    moment: Moment,
     out: &mut W,
 ) -> Result<(), IoFault>
-    requires { moment ≤ last_moment }
     ensures went { (state : State) (before : List Turn) → IsChain concentrator.old.house.budget (opened state) before → IsAt D.honest D.sectors D.reads D.choices concentrator.old (leads (opened state) before)
-        → Way D.honest D.sectors D.reads D.choices D.moment D.images_since concentrator.old.house.budget state before moment meter.now (record { due = to_start; link = link_by gateway.old.lost })
+        → Way D.honest D.sectors D.reads D.choices D.moment D.images_since concentrator.old.house.budget state before moment.seconds meter.now (record { due = to_start; link = link_by gateway.old.lost })
         (λ happened last. OnOk result (IsEnd happened last.due × (last.link ≡ link_by gateway.new.lost)))
         (λ text. OnOk result (Puts (W.written out.old) (W.written out.new) text)) concentrator.old concentrator.new }
     ensures fault { OnErr result (HasRisen (W.put_failures out.old) (W.put_failures out.new)) }
@@ -61,12 +60,11 @@ pub fn poll<D: Disk + Drop, A: Allocator + Copy, GR: Source + Drop, GW: Sink + D
 fn read_parts<D: Disk + Drop, A: Allocator + Copy, GR: Source + Drop, GW: Sink + Drop, W: Sink>(
     concentrator: &mut Concentrator<D, A>,
     gateway: &mut Gateway<GR, GW>,
-    moment: u64,
+    moment: Moment,
     out: &mut W,
 ) -> Result<(), IoFault>
-    requires { moment ≤ last_moment }
     ensures went { (meter : Meter) (state : State) (before : List Turn) → IsChain concentrator.old.house.budget (opened state) before → IsAt D.honest D.sectors D.reads D.choices concentrator.old (leads (opened state) before)
-        → Way D.honest D.sectors D.reads D.choices D.moment D.images_since concentrator.old.house.budget state before moment meter (record { due = to_ask; link = link_by gateway.old.lost })
+        → Way D.honest D.sectors D.reads D.choices D.moment D.images_since concentrator.old.house.budget state before moment.seconds meter (record { due = to_ask; link = link_by gateway.old.lost })
         (λ happened last. OnOk result (IsEnd happened last.due × (last.link ≡ link_by gateway.new.lost)))
         (λ text. OnOk result (Puts (W.written out.old) (W.written out.new) text)) concentrator.old concentrator.new }
     ensures fault { OnErr result (HasRisen (W.put_failures out.old) (W.put_failures out.new)) }
@@ -90,12 +88,11 @@ fn read_parts<D: Disk + Drop, A: Allocator + Copy, GR: Source + Drop, GW: Sink +
 fn ask_and_hear<D: Disk + Drop, A: Allocator + Copy, GR: Source + Drop, GW: Sink + Drop, W: Sink>(
     concentrator: &mut Concentrator<D, A>,
     gateway: &mut Gateway<GR, GW>,
-    moment: u64,
+    moment: Moment,
     out: &mut W,
 ) -> Result<bool, IoFault>
-    requires { moment ≤ last_moment }
     ensures went { (meter : Meter) (state : State) (before : List Turn) → IsChain concentrator.old.house.budget (opened state) before → IsAt D.honest D.sectors D.reads D.choices concentrator.old (leads (opened state) before)
-        → Way D.honest D.sectors D.reads D.choices D.moment D.images_since concentrator.old.house.budget state before moment meter (record { due = to_ask; link = link_by gateway.old.lost })
+        → Way D.honest D.sectors D.reads D.choices D.moment D.images_since concentrator.old.house.budget state before moment.seconds meter (record { due = to_ask; link = link_by gateway.old.lost })
         (λ happened last. IfOk result (λ more. IsRound more (link_by gateway.new.lost) 1 happened last))
         (λ text. OnOk result (Puts (W.written out.old) (W.written out.new) text)) concentrator.old concentrator.new }
     ensures fault { OnErr result (HasRisen (W.put_failures out.old) (W.put_failures out.new)) }
@@ -116,13 +113,12 @@ fn exchange<D: Disk + Drop, A: Allocator + Copy, GR: Source + Drop, GW: Sink + D
     concentrator: &mut Concentrator<D, A>,
     gateway: &mut Gateway<GR, GW>,
     request: &FrameBuf,
-    moment: u64,
+    moment: Moment,
     out: &mut W,
 ) -> Result<bool, IoFault>
-    requires moment { moment ≤ last_moment }
-    requires short { length request.now ≤ longest_request }
+    requires { length request.now ≤ longest_request }
     ensures went { (meter : Meter) (state : State) (before : List Turn) → IsChain concentrator.old.house.budget (opened state) before → IsAt D.honest D.sectors D.reads D.choices concentrator.old (leads (opened state) before)
-        → Way D.honest D.sectors D.reads D.choices D.moment D.images_since concentrator.old.house.budget state before moment meter (record { due = to_hear; link = link_by gateway.old.lost })
+        → Way D.honest D.sectors D.reads D.choices D.moment D.images_since concentrator.old.house.budget state before moment.seconds meter (record { due = to_hear; link = link_by gateway.old.lost })
         (λ happened last. IfOk result (λ more. IsRound more (link_by gateway.new.lost) 0 happened last))
         (λ text. OnOk result (Puts (W.written out.old) (W.written out.new) text)) concentrator.old concentrator.new }
     ensures fault { OnErr result (HasRisen (W.put_failures out.old) (W.put_failures out.new)) }
@@ -162,14 +158,13 @@ fn ask_gateway<GR: Source + Drop, GW: Sink + Drop, W: Sink>(
 // Hears an answer. Where too much waits, that is committed, and the answer is heard once more.
 fn hear<D: Disk + Drop, A: Allocator + Copy, W: Sink>(
     concentrator: &mut Concentrator<D, A>,
-    moment: u64,
+    moment: Moment,
     bytes: &[u8],
     out: &mut W,
 ) -> Result<bool, IoFault>
-    requires moment { moment ≤ last_moment }
-    requires fits { length bytes.now ≤ most_answer }
+    requires { length bytes.now ≤ most_answer }
     ensures went { (meter : Meter) (link : Link) → IsHeardOver link bytes.now → (state : State) (before : List Turn) → IsChain concentrator.old.house.budget (opened state) before → IsAt D.honest D.sectors D.reads D.choices concentrator.old (leads (opened state) before)
-        → Way D.honest D.sectors D.reads D.choices D.moment D.images_since concentrator.old.house.budget state before moment meter (record { due = to_hear; link = link })
+        → Way D.honest D.sectors D.reads D.choices D.moment D.images_since concentrator.old.house.budget state before moment.seconds meter (record { due = to_hear; link = link })
         (λ happened last. IfOk result (λ more. IsRound more link 0 happened last))
         (λ text. OnOk result (Puts (W.written out.old) (W.written out.new) text)) concentrator.old concentrator.new }
     ensures fault { OnErr result (HasRisen (W.put_failures out.old) (W.put_failures out.new)) }
@@ -191,13 +186,12 @@ fn hear<D: Disk + Drop, A: Allocator + Copy, W: Sink>(
 // Makes room, and hears the answer again.
 fn hear_again<D: Disk + Drop, A: Allocator + Copy, W: Sink>(
     concentrator: &mut Concentrator<D, A>,
-    moment: u64,
+    moment: Moment,
     bytes: &[u8],
     out: &mut W,
 ) -> Result<bool, IoFault>
-    requires { moment ≤ last_moment }
     ensures went { (meter : Meter) (link : Link) (state : State) (before : List Turn) → IsChain concentrator.old.house.budget (opened state) before → IsAt D.honest D.sectors D.reads D.choices concentrator.old (leads (opened state) before)
-        → Way D.honest D.sectors D.reads D.choices D.moment D.images_since concentrator.old.house.budget state before moment meter (record { due = to_make_room bytes.now; link = link })
+        → Way D.honest D.sectors D.reads D.choices D.moment D.images_since concentrator.old.house.budget state before moment.seconds meter (record { due = to_make_room bytes.now; link = link })
         (λ happened last. IfOk result (λ more. IsRound more link 0 happened last))
         (λ text. OnOk result (Puts (W.written out.old) (W.written out.new) text)) concentrator.old concentrator.new }
     ensures fault { OnErr result (HasRisen (W.put_failures out.old) (W.put_failures out.new)) }
@@ -216,13 +210,12 @@ fn hear_again<D: Disk + Drop, A: Allocator + Copy, W: Sink>(
 // The answer that there is room for now.
 fn hear_once_more<D: Disk + Drop, A: Allocator + Copy, W: Sink>(
     concentrator: &mut Concentrator<D, A>,
-    moment: u64,
+    moment: Moment,
     bytes: &[u8],
     out: &mut W,
 ) -> Result<bool, IoFault>
-    requires { moment ≤ last_moment }
     ensures went { (meter : Meter) (link : Link) (state : State) (before : List Turn) → IsChain concentrator.old.house.budget (opened state) before → IsAt D.honest D.sectors D.reads D.choices concentrator.old (leads (opened state) before)
-        → Way D.honest D.sectors D.reads D.choices D.moment D.images_since concentrator.old.house.budget state before moment meter (record { due = to_hear_again bytes.now; link = link })
+        → Way D.honest D.sectors D.reads D.choices D.moment D.images_since concentrator.old.house.budget state before moment.seconds meter (record { due = to_hear_again bytes.now; link = link })
         (λ happened last. IfOk result (λ more. IsRound more link 0 happened last))
         (λ text. OnOk result (Puts (W.written out.old) (W.written out.new) text)) concentrator.old concentrator.new }
     ensures fault { OnErr result (HasRisen (W.put_failures out.old) (W.put_failures out.new)) }

@@ -3,10 +3,9 @@
 ghost use Rattle.std.specs.Prelude.{◌≡◌, ◌≢◌, ◌≤◌, ◌*◌, ◌++◌, List, codes, length, IfOk, OnOk, OnErr};
 ghost use Rattle.dc_base.specs.Failures.{HasRisen};
 ghost use Rattle.dc_changes.specs.State.{State};
-ghost use Rattle.dc_changes.specs.Valid.{last_moment};
 ghost use Rattle.dc_core.specs.Core.{opened};
 ghost use Rattle.dc_core.specs.Images.{IsAt};
-ghost use Rattle.dc_core.specs.Run.{event_of, IsEvent};
+ghost use Rattle.dc_core.specs.Run.{event_of};
 ghost use Rattle.dc_core.specs.Text.{answer_text};
 ghost use Rattle.dc_core.specs.Transcript.{Turn, leads, IsChain};
 ghost use Rattle.dc_stream.specs.Stream.{Puts, Wrote};
@@ -23,6 +22,7 @@ use crate::halt::{Halt, written};
 use crate::poll::{GATEWAY_LINE, poll};
 use crate::script_line::ScriptLine;
 use crate::search::search;
+use dc_changes::Moment;
 use dc_core::{Concentrator, Event, WriteFault};
 use dc_gateway::Gateway;
 use dc_sectors::Disk;
@@ -53,7 +53,7 @@ pub fn run_lines<D: Disk + Drop, A: Allocator + Copy, GR: Source + Drop, GW: Sin
     ensures counted { IsCounted result (W.put_failures out.old) (W.put_failures out.new) }
 {
     let mut rest = input;
-    let mut moment = 0;
+    let mut moment = Moment { seconds: 0 };
     let mut count = 0;
     'lines: while !rest.is_empty() {
         let (line, after) = first_line(rest);
@@ -79,14 +79,13 @@ fn run_line<D: Disk + Drop, A: Allocator + Copy, GR: Source + Drop, GW: Sink + D
     concentrator: &mut Concentrator<D, A>,
     gateway: &mut Option<Gateway<GR, GW>>,
     asked: &ScriptLine<'_>,
-    moment: u64,
+    moment: Moment,
     out: &mut W,
 ) -> Result<(), Halt>
-    requires { moment ≤ last_moment }
     ensures ran { (state : State) (before : List Turn) → IsChain concentrator.old.house.budget (opened state) before → IsAt D.honest D.sectors D.reads D.choices concentrator.old (leads (opened state) before)
-        → OnOk result (LineRan D.honest D.sectors D.reads D.choices D.moment D.images_since concentrator.old.house.budget state before moment (seen asked.now) (link_of gateway.old) (link_of gateway.new) (Puts (W.written out.old) (W.written out.new)) concentrator.old concentrator.new) }
+        → OnOk result (LineRan D.honest D.sectors D.reads D.choices D.moment D.images_since concentrator.old.house.budget state before moment.seconds (seen asked.now) (link_of gateway.old) (link_of gateway.new) (Puts (W.written out.old) (W.written out.new)) concentrator.old concentrator.new) }
     ensures cut { (state : State) (before : List Turn) → IsChain concentrator.old.house.budget (opened state) before → IsAt D.honest D.sectors D.reads D.choices concentrator.old (leads (opened state) before)
-        → OnWrite result (LineCut D.honest D.sectors D.reads D.choices D.moment D.images_since concentrator.old.house.budget state before moment (seen asked.now) (link_of gateway.old) concentrator.old concentrator.new) }
+        → OnWrite result (LineCut D.honest D.sectors D.reads D.choices D.moment D.images_since concentrator.old.house.budget state before moment.seconds (seen asked.now) (link_of gateway.old) concentrator.old concentrator.new) }
     ensures starved { (state : State) (before : List Turn) → IsChain concentrator.old.house.budget (opened state) before → IsAt D.honest D.sectors D.reads D.choices concentrator.old (leads (opened state) before)
         → OnNoMemory result (LineStarved D.honest D.sectors D.reads D.choices D.moment D.images_since concentrator.old.house.budget state before (seen asked.now) (link_of gateway.old) (Puts (W.written out.old) (W.written out.new)) concentrator.old concentrator.new) }
     ensures through { OnNoMemory result (link_of gateway.old ≢ absent) }
@@ -108,15 +107,14 @@ fn run_plain<D: Disk + Drop, A: Allocator + Copy, GR: Source + Drop, GW: Sink + 
     concentrator: &mut Concentrator<D, A>,
     gateway: &mut Option<Gateway<GR, GW>>,
     asked: &ScriptLine<'_>,
-    moment: u64,
+    moment: Moment,
     out: &mut W,
 ) -> Result<(), IoFault>
-    requires moment { moment ≤ last_moment }
-    requires plain { IsPlain (seen asked.now) }
+    requires { IsPlain (seen asked.now) }
     ensures ran { (state : State) (before : List Turn) → IsChain concentrator.old.house.budget (opened state) before → IsAt D.honest D.sectors D.reads D.choices concentrator.old (leads (opened state) before)
-        → OnOk result (LineRan D.honest D.sectors D.reads D.choices D.moment D.images_since concentrator.old.house.budget state before moment (seen asked.now) (link_of gateway.old) (link_of gateway.new) (Puts (W.written out.old) (W.written out.new)) concentrator.old concentrator.new) }
+        → OnOk result (LineRan D.honest D.sectors D.reads D.choices D.moment D.images_since concentrator.old.house.budget state before moment.seconds (seen asked.now) (link_of gateway.old) (link_of gateway.new) (Puts (W.written out.old) (W.written out.new)) concentrator.old concentrator.new) }
     ensures cut { (state : State) (before : List Turn) → IsChain concentrator.old.house.budget (opened state) before → IsAt D.honest D.sectors D.reads D.choices concentrator.old (leads (opened state) before)
-        → OnErr result (LineCut D.honest D.sectors D.reads D.choices D.moment D.images_since concentrator.old.house.budget state before moment (seen asked.now) (link_of gateway.old) concentrator.old concentrator.new) }
+        → OnErr result (LineCut D.honest D.sectors D.reads D.choices D.moment D.images_since concentrator.old.house.budget state before moment.seconds (seen asked.now) (link_of gateway.old) concentrator.old concentrator.new) }
     ensures fault { OnErr result (HasRisen (W.put_failures out.old) (W.put_failures out.new)) }
     ensures well { OnOk result (W.put_failures out.new ≡ W.put_failures out.old) }
     ensures absent { link_of gateway.old ≡ absent → link_of gateway.new ≡ absent }
@@ -156,7 +154,6 @@ fn run_event<D: Disk + Drop, A: Allocator + Copy, W: Sink>(
     event: &Event<'_>,
     out: &mut W,
 ) -> Result<(), IoFault>
-    requires { IsEvent event.now }
     ensures went { (state : State) (before : List Turn) → IsChain concentrator.old.house.budget (opened state) before → IsAt D.honest D.sectors D.reads D.choices concentrator.old (leads (opened state) before)
         → TurnWent D.honest D.sectors D.reads D.choices D.moment D.images_since concentrator.old.house.budget state before (event_of event.now)
         (λ answer. OnOk result (Puts (W.written out.old) (W.written out.new) (answer_text answer))) concentrator.old concentrator.new }
@@ -171,8 +168,8 @@ fn run_event<D: Disk + Drop, A: Allocator + Copy, W: Sink>(
 }
 
 // The moment behind a line.
-fn moment_behind(asked: &ScriptLine<'_>, moment: u64) -> u64
-    ensures { result ≡ moment_behind moment (seen asked.now) }
+fn moment_behind(asked: &ScriptLine<'_>, moment: Moment) -> Moment
+    ensures { result.seconds ≡ moment_behind moment.seconds (seen asked.now) }
 {
     match *asked {
         ScriptLine::At { moment } => moment,

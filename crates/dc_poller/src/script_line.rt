@@ -10,7 +10,7 @@ ghost use Rattle.dc_text.specs.Hex.{bytes_of};
 ghost use Rattle.dc_poller.specs.ScriptLine.{LineSeen, IsLineOf, at, start, ask, hear, poll, search, seen, greatest_line, longest_line};
 
 use dc_address::Identity;
-use dc_changes::{LAST_MOMENT, parse_number, split_word};
+use dc_changes::{Moment, parse_number, split_word};
 use dc_teller::LONGEST;
 use dc_text::decode_hex;
 
@@ -20,7 +20,7 @@ pub enum ScriptLine<'a> {
     /// Nothing: the line is empty.
     Nothing,
     /// `AT seconds`: what is heard from here on is heard at that second since 1970.
-    At { moment: u64 },
+    At { moment: Moment },
     /// `START line ident`: the readout of a meter begins on its line.
     Start { line: u8, meter: Identity },
     /// `ASK line`: a line's request is asked for.
@@ -79,13 +79,13 @@ impl<'a> ScriptLine<'a> {
 
 // ---- the forms, each by its first word
 
-fn parse_at(text: &[u8]) -> Option<u64>
+fn parse_at(text: &[u8]) -> Option<Moment>
     requires { length text.now ≤ longest_line }
-    ensures found { IfSome result (λ moment. IsLineOf text.now (at moment)) }
+    ensures found { IfSome result (λ moment. IsLineOf text.now (at moment.seconds)) }
     ensures only { (moment : ℕ) → IsLineOf text.now (at moment) → IsSome result }
 {
     let word = text.strip_prefix(b"AT ".as_slice())?;
-    parse_up_to(word, LAST_MOMENT)
+    Moment::from_seconds(parse_number(word)?)
 }
 
 fn parse_start(text: &[u8]) -> Option<(u8, Identity)>

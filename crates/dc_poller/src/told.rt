@@ -3,7 +3,6 @@
 ghost use Rattle.std.specs.Prelude.{◌≡◌, ◌≤◌, List, IfOk, IfSome, OnOk, OnErr, length};
 ghost use Rattle.dc_base.specs.Failures.{HasRisen};
 ghost use Rattle.dc_changes.specs.State.{State};
-ghost use Rattle.dc_changes.specs.Valid.{last_moment};
 ghost use Rattle.dc_core.specs.Core.{opened};
 ghost use Rattle.dc_core.specs.Event.{starts, asks, hears, commits, started, asked, heard, committed};
 ghost use Rattle.dc_core.specs.Images.{IsAt};
@@ -14,6 +13,7 @@ ghost use Rattle.dc_poller.specs.Poll.{told_text};
 ghost use Rattle.dc_poller.specs.Went.{TurnWent};
 
 use dc_address::Identity;
+use dc_changes::Moment;
 use dc_core::{
     CommitFault, Concentrator, HearFault, LineHeard, StartFault, put_asked, put_committed,
     put_heard, put_started,
@@ -70,13 +70,12 @@ pub fn told_ask<D: Disk + Drop, A: Allocator + Copy, W: Sink>(
 pub fn told_hear<D: Disk + Drop, A: Allocator + Copy, W: Sink>(
     concentrator: &mut Concentrator<D, A>,
     line: u8,
-    moment: u64,
+    moment: Moment,
     bytes: &[u8],
     out: &mut W,
 ) -> Result<Result<LineHeard, HearFault>, IoFault>
-    requires { moment ≤ last_moment }
     ensures went { (state : State) (before : List Turn) → IsChain concentrator.old.house.budget (opened state) before → IsAt D.honest D.sectors D.reads D.choices concentrator.old (leads (opened state) before)
-        → TurnWent D.honest D.sectors D.reads D.choices D.moment D.images_since concentrator.old.house.budget state before (hears line moment bytes.now)
+        → TurnWent D.honest D.sectors D.reads D.choices D.moment D.images_since concentrator.old.house.budget state before (hears line moment.seconds bytes.now)
         (λ answer. IfOk result (λ told. (answer ≡ heard told) × Puts (W.written out.old) (W.written out.new) (told_text (heard told)))) concentrator.old concentrator.new }
     ensures fault { OnErr result (HasRisen (W.put_failures out.old) (W.put_failures out.new)) }
     ensures well { OnOk result (W.put_failures out.new ≡ W.put_failures out.old) }

@@ -2,19 +2,18 @@
 
 ghost use Rattle.std.specs.Prelude.{◌≡◌, ◌⊎◌, ◌≤◌, length, None, Some, Ok, Err, OnOk, OnErr};
 ghost use Rattle.dc_records.specs.Telegram.{parsed};
-ghost use Rattle.dc_changes.specs.Valid.{last_moment};
 ghost use Rattle.dc_waiting.specs.declared.fault.TakeFault.TheVariants.{NoMemory};
 ghost use Rattle.dc_waiting.specs.Taking.{change_of, refuses, IsTaken};
 
 use crate::TakeFault;
 use crate::waiting::Waiting;
-use dc_changes::{Body, Change};
+use dc_changes::{Body, Change, Moment};
 use dc_meters::House;
 use dc_records::Telegram;
 use std::alloc::Allocator;
 
-/// Takes a telegram: applies it to the register, and adds its change to what waits. The moment is in seconds since
-/// 1970. The body is copied once, into the register.
+/// Takes a telegram: applies it to the register, and adds its change to what waits. The body is copied once, into the
+/// register.
 ///
 /// # Errors
 /// `PendingFull` with four changes waiting, then `Full` where the register refuses the telegram, then `NoMemory`.
@@ -23,15 +22,14 @@ pub fn take<A: Allocator + Copy>(
     house: &mut House<A>,
     waiting: &mut Waiting,
     part: u8,
-    moment: u64,
+    moment: Moment,
     telegram: &Telegram<'_>,
 ) -> Result<(), TakeFault>
-    requires moment { moment ≤ last_moment }
-    requires fits { length (parsed telegram.now).body ≤ 252 }
+    requires { length (parsed telegram.now).body ≤ 252 }
     // What stands against it is answered, and nothing else is but want of memory.
-    ensures refused { (fault : _) → refuses house.old.budget waiting.old.count (change_of moment part (parsed telegram.now)) house.old.state ≡ Some fault → result ≡ Err fault }
-    ensures accepted { refuses house.old.budget waiting.old.count (change_of moment part (parsed telegram.now)) house.old.state ≡ None → (result ≡ Ok tt) ⊎ (result ≡ Err NoMemory) }
-    ensures ok { OnOk result (IsTaken house.old house.new waiting.old waiting.new (change_of moment part (parsed telegram.now))) }
+    ensures refused { (fault : _) → refuses house.old.budget waiting.old.count (change_of moment.seconds part (parsed telegram.now)) house.old.state ≡ Some fault → result ≡ Err fault }
+    ensures accepted { refuses house.old.budget waiting.old.count (change_of moment.seconds part (parsed telegram.now)) house.old.state ≡ None → (result ≡ Ok tt) ⊎ (result ≡ Err NoMemory) }
+    ensures ok { OnOk result (IsTaken house.old house.new waiting.old waiting.new (change_of moment.seconds part (parsed telegram.now))) }
     ensures house { OnErr result (house.new ≡ house.old) }
     ensures waiting { OnErr result (waiting.new ≡ waiting.old) }
 {
@@ -43,7 +41,11 @@ pub fn take<A: Allocator + Copy>(
         return Err(TakeFault::Full);
     };
     let _is_body = body.as_slice();
-    let change = Change::Telegram { part, moment, body };
+    let change = Change::Telegram {
+        part,
+        moment: moment.seconds,
+        body,
+    };
     if house.check(&change).is_err() {
         return Err(TakeFault::Full);
     }

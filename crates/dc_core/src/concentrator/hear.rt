@@ -1,7 +1,6 @@
 //! What is heard on a line.
 
-ghost use Rattle.std.specs.Prelude.{◌≡◌, ◌≤◌};
-ghost use Rattle.dc_changes.specs.Valid.{last_moment};
+ghost use Rattle.std.specs.Prelude.{◌≡◌};
 ghost use Rattle.dc_core.specs.Core.{Core};
 ghost use Rattle.dc_core.specs.Event.{hears, heard};
 ghost use Rattle.dc_core.specs.Step.{May, next};
@@ -9,24 +8,24 @@ ghost use Rattle.dc_core.specs.Images.{IsAt};
 
 use super::Concentrator;
 use crate::{HearFault, LineHeard};
+use dc_changes::Moment;
 use dc_readout::Heard;
 use dc_sectors::Disk;
 use dc_waiting::{is_line, take};
 use std::alloc::Allocator;
 
 impl<D: Disk + Drop, A: Allocator + Copy> Concentrator<D, A> {
-    /// Hears an answer on a line, at a moment in seconds since 1970. No byte is silence. A telegram is taken into the
-    /// register and waits for a commit; a session that failed leaves its line. Memory is taken for a telegram alone.
+    /// Hears an answer on a line, at a moment. No byte is silence. A telegram is taken into the register and waits for a
+    /// commit; a session that failed leaves its line. Memory is taken for a telegram alone.
     ///
     /// # Errors
     /// The first that stands, in the order `NoLine`, `Stopped`, `Idle`, and for a telegram `PendingFull`, `Full`,
     /// `NoMemory`; nothing has changed, and the request still waits.
-    pub fn hear(&mut self, line: u8, moment: u64, answer: &[u8]) -> Result<LineHeard, HearFault>
-        requires { moment ≤ last_moment }
+    pub fn hear(&mut self, line: u8, moment: Moment, answer: &[u8]) -> Result<LineHeard, HearFault>
         ensures may { (core : Core) → IsAt D.honest D.sectors D.reads D.choices self.old core
-            → May self.old.house.budget core (hears line moment answer.now) (heard result) }
+            → May self.old.house.budget core (hears line moment.seconds answer.now) (heard result) }
         ensures at { (core : Core) → IsAt D.honest D.sectors D.reads D.choices self.old core
-            → IsAt D.honest D.sectors D.reads D.choices self.new (next core (hears line moment answer.now) (heard result)) }
+            → IsAt D.honest D.sectors D.reads D.choices self.new (next core (hears line moment.seconds answer.now) (heard result)) }
         ensures store { self.new.store ≡ self.old.store }
         ensures budget { self.new.house.budget ≡ self.old.house.budget }
     {

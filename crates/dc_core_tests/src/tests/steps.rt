@@ -1,9 +1,7 @@
 //! Steps, and the text that each answers.
 
-ghost use Rattle.std.specs.Prelude.{IfOk};
-ghost use Rattle.dc_core.specs.Run.{IsEvent};
-
 use dc_address::Identity;
+use dc_changes::Moment;
 use dc_core::{Concentrator, Event, WriteFault, put_asked, put_committed, put_heard, put_started};
 use dc_recovery::{OpenFault, Store};
 use dc_sectors::MemoryDisk;
@@ -54,9 +52,7 @@ pub enum Way {
     Run,
 }
 
-pub fn event_of<'a>(deed: &Deed<'a>) -> Result<Event<'a>, Fail>
-    ensures { IfOk result (λ event. IsEvent event) }
-{
+pub fn event_of<'a>(deed: &Deed<'a>) -> Result<Event<'a>, Fail> {
     Ok(match *deed {
         Deed::Start(line, meter) => Event::Start {
             line,
@@ -65,7 +61,7 @@ pub fn event_of<'a>(deed: &Deed<'a>) -> Result<Event<'a>, Fail>
         Deed::Ask(line) => Event::Ask { line },
         Deed::Hear(line, answer) => Event::Hear {
             line,
-            moment: MOMENT,
+            moment: Moment { seconds: MOMENT },
             answer,
         },
         Deed::Commit => Event::Commit,
@@ -78,9 +74,7 @@ fn call<A: Allocator + Copy>(
     core: &mut OnDisk<A>,
     event: &Event<'_>,
     out: &mut Bytes<Global>,
-) -> Result<(), IoFault>
-    requires { IsEvent event.now }
-{
+) -> Result<(), IoFault> {
     match *event {
         Event::Start { line, meter } => put_started(out, core.start(line, &meter)),
         Event::Ask { line } => put_asked(out, core.ask(line)),

@@ -1,7 +1,7 @@
 //! Worked changes: what becomes of each, and the size of the state behind it.
 
 use super::told::{BUDGET, FIRST, FIT, LAST, Told, behind, figures, tell};
-use dc_changes::ChangeFault;
+use dc_changes::{ChangeFault, LAST_MOMENT, Moment};
 use dc_meters::{House, Part};
 use std::alloc::Global;
 use std::process::Abort;
@@ -158,4 +158,10 @@ fn a_full_house_has_room_once_a_reading_is_confirmed(rt: HostRuntime) -> Result<
         (line.as_slice(), Told::Done, 15_341),
     ];
     follows(&rt, &mut house, &rows)
+}
+
+#[test]
+fn a_moment_is_a_second_up_to_the_last(rt: HostRuntime) {
+    assert!(rt; Moment::from_seconds(LAST_MOMENT).is_some());
+    assert!(rt; Moment::from_seconds(LAST_MOMENT + 1).is_none());
 }

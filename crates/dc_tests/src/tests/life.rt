@@ -1,11 +1,8 @@
 //! A life: the image that it begins with, its steps, and the changes that are accepted in it.
 
-ghost use Rattle.std.specs.Prelude.{IfOk};
-ghost use Rattle.dc_core.specs.Run.{IsEvent};
-
 use super::images::rested;
 use dc_address::Identity;
-use dc_changes::Change;
+use dc_changes::{Change, Moment};
 use dc_core::Event;
 use dc_meters::House;
 use dc_recovery::Store;
@@ -55,9 +52,7 @@ impl<'a> Life<'a> {
 }
 
 /// The event of a deed.
-pub fn event_of<'a>(deed: &Deed<'a>) -> Result<Event<'a>, Fail>
-    ensures { IfOk result (λ event. IsEvent event) }
-{
+pub fn event_of<'a>(deed: &Deed<'a>) -> Result<Event<'a>, Fail> {
     Ok(match *deed {
         Deed::Start => Event::Start {
             line: 1,
@@ -65,7 +60,7 @@ pub fn event_of<'a>(deed: &Deed<'a>) -> Result<Event<'a>, Fail>
         },
         Deed::Hear(answer) => Event::Hear {
             line: 1,
-            moment: MOMENT,
+            moment: Moment { seconds: MOMENT },
             answer,
         },
         Deed::Commit => Event::Commit,

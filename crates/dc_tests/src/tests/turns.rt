@@ -1,7 +1,5 @@
 //! One step after the other, through the calls or through runs of one event.
 
-ghost use Rattle.dc_core.specs.Run.{IsEvent};
-
 use super::life::{Deed, Step, event_of};
 use dc_core::{CommitFault, Concentrator, Event, HearFault, StartFault};
 use dc_sectors::Disk;
@@ -77,9 +75,7 @@ pub fn call<D: Disk + Drop, A: Allocator + Copy, W: Sink>(
     core: &mut Concentrator<D, A>,
     event: &Event<'_>,
     out: &mut W,
-) -> Result<Told, Fail>
-    requires { IsEvent event.now }
-{
+) -> Result<Told, Fail> {
     match *event {
         Event::Start { line, meter } => match core.start(line, &meter) {
             Ok(()) => Ok(Told::Done),

@@ -15,7 +15,7 @@ returns-in-Some-clause-went g c meter state before chain at =
     let w1 = w c.told_ask.new.out in
     let w2 = w c.exchange.new.out in
     let one = c.in-Ok.ensures.went state before chain at in
-    turn_then g.D.Disk.honest g.D.Disk.sectors g.D.Disk.reads g.D.Disk.choices g.D.Disk.moment g.D.Disk.images_since c.args.concentrator.now.house.budget state before c.args.moment meter to_ask (link_by c.args.gateway.now.lost) (asks 1) _ (asked (Some c.in-Some.request)) _ _ _ _ c.args.concentrator.now c.args.concentrator.now c.exchange.new.concentrator
+    turn_then g.D.Disk.honest g.D.Disk.sectors g.D.Disk.reads g.D.Disk.choices g.D.Disk.moment g.D.Disk.images_since c.args.concentrator.now.house.budget state before c.args.moment.seconds meter to_ask (link_by c.args.gateway.now.lost) (asks 1) _ (asked (Some c.in-Some.request)) _ _ _ _ c.args.concentrator.now c.args.concentrator.now c.exchange.new.concentrator
     refl one (λ answer s. s.0 ∙ ap asked c.in-Some.is) refl (λ behind ch a. c.exchange.ensures.went meter state behind ch a)
     (λ more last e. if_round_grows c.exchange.result (link_by c.exchange.new.gateway.lost) 0 1 (does (asks 1, asked (Some c.in-Some.request))) more last refl e)
     (λ more m. on_ok c.exchange.result _ _ (λ p. puts-both w0 w1 w2 (told_text (asked (Some c.in-Some.request))) more (subst (λ (a : Option (List ℕ)). Puts w0 w1 (told_text (asked a))) c.in-Some.is one.is_such.1) p) m)
@@ -25,10 +25,10 @@ returns-in-None-clause-went g c meter state before chain at =
     let w0 = g.W.Sink.written c.args.out.now in
     let w1 = g.W.Sink.written c.told_ask.new.out in
     let one = c.in-Ok.ensures.went state before chain at in
-    turn_last g.D.Disk.honest g.D.Disk.sectors g.D.Disk.reads g.D.Disk.choices g.D.Disk.moment g.D.Disk.images_since c.args.concentrator.now.house.budget state before c.args.moment meter to_ask (link_by c.args.gateway.now.lost) (asks 1) _ (asked None) _ _ c.args.concentrator.now c.args.concentrator.now
+    turn_last g.D.Disk.honest g.D.Disk.sectors g.D.Disk.reads g.D.Disk.choices g.D.Disk.moment g.D.Disk.images_since c.args.concentrator.now.house.budget state before c.args.moment.seconds meter to_ask (link_by c.args.gateway.now.lost) (asks 1) _ (asked None) _ _ c.args.concentrator.now c.args.concentrator.now
     refl one (λ answer s. s.0 ∙ ap asked c.in-None.is) (record { last_is = refl; rounds_are = refl }) (subst (λ (a : Option (List ℕ)). Puts w0 w1 (told_text (asked a))) c.in-None.is one.is_such.1)
 
 pub returns-in-Err-clause-went : goal.returns-in-Err-clause-went
 returns-in-Err-clause-went g c meter state before chain at =
-    way_turn g.D.Disk.honest g.D.Disk.sectors g.D.Disk.reads g.D.Disk.choices g.D.Disk.moment g.D.Disk.images_since c.args.concentrator.now.house.budget state before c.args.moment meter to_ask (link_by c.args.gateway.now.lost) (asks 1) _ _ _ c.args.concentrator.now c.args.concentrator.now
+    way_turn g.D.Disk.honest g.D.Disk.sectors g.D.Disk.reads g.D.Disk.choices g.D.Disk.moment g.D.Disk.images_since c.args.concentrator.now.house.budget state before c.args.moment.seconds meter to_ask (link_by c.args.gateway.now.lost) (asks 1) _ _ _ c.args.concentrator.now c.args.concentrator.now
     refl (c.told_ask.ensures.went state before chain at) (λ answer is. tt) (λ answer is. tt)

@@ -13,7 +13,7 @@ rounds-init g c =
     record {
       budget = refl;
       well = refl;
-      so_far = λ meter state before chain at. way_none g.D.Disk.honest g.D.Disk.sectors g.D.Disk.reads g.D.Disk.choices g.D.Disk.moment g.D.Disk.images_since c.args.concentrator.now.house.budget state before c.args.moment meter _ _ _ c.args.concentrator.now (went_none g.D.Disk.honest g.D.Disk.sectors g.D.Disk.reads g.D.Disk.choices g.D.Disk.moment g.D.Disk.images_since c.args.concentrator.now.house.budget state before c.args.concentrator.now chain at (λ h image left. g.met.D.Disk.only_now h c.args.concentrator.now.store.disk image left)) (refl, refl) (puts-none (g.W.Sink.written c.args.out.now));
+      so_far = λ meter state before chain at. way_none g.D.Disk.honest g.D.Disk.sectors g.D.Disk.reads g.D.Disk.choices g.D.Disk.moment g.D.Disk.images_since c.args.concentrator.now.house.budget state before c.args.moment.seconds meter _ _ _ c.args.concentrator.now (went_none g.D.Disk.honest g.D.Disk.sectors g.D.Disk.reads g.D.Disk.choices g.D.Disk.moment g.D.Disk.images_since c.args.concentrator.now.house.budget state before c.args.concentrator.now chain at (λ h image left. g.met.D.Disk.only_now h c.args.concentrator.now.store.disk image left)) (refl, refl) (puts-none (g.W.Sink.written c.args.out.now));
     }
 
 pub rounds-preserved : goal.rounds-preserved
@@ -27,7 +27,7 @@ rounds-preserved g c =
           let old = c.rounds.concentrator in
           let new = c.ask_and_hear.new.concentrator in
           let one = c.rounds.invariant.so_far meter state before chain at in
-          way_then g.D.Disk.honest g.D.Disk.sectors g.D.Disk.reads g.D.Disk.choices g.D.Disk.moment g.D.Disk.images_since first.house.budget state before c.args.moment meter _ _ _ _ _ _ _ _ first old new
+          way_then g.D.Disk.honest g.D.Disk.sectors g.D.Disk.reads g.D.Disk.choices g.D.Disk.moment g.D.Disk.images_since first.house.budget state before c.args.moment.seconds meter _ _ _ _ _ _ _ _ first old new
           one one.ends_so.0 c.rounds.invariant.budget (λ behind ch a. c.in-Ok.ensures.went meter state behind ch a)
           (λ more last e. let r = e.rounds_are in let s = one.ends_so.1 in (e.last_is ∙ ap (λ (b : Bool). record { due = goes_on b; link = link_by c.ask_and_hear.new.gateway.lost }) c.if-not-more.false, omega (arith, r, s, rounds_append one.happened more)))
           (λ text more p q. puts-both (w c.args.out.now) (w c.rounds.out) (w c.ask_and_hear.new.out) text more p q);
@@ -40,7 +40,7 @@ returns-then-not-more-clause-went g c meter state before chain at =
     let old = c.rounds.concentrator in
     let new = c.ask_and_hear.new.concentrator in
     let one = c.rounds.invariant.so_far meter state before chain at in
-    way_then g.D.Disk.honest g.D.Disk.sectors g.D.Disk.reads g.D.Disk.choices g.D.Disk.moment g.D.Disk.images_since first.house.budget state before c.args.moment meter _ _ _ _ _ _ _ _ first old new
+    way_then g.D.Disk.honest g.D.Disk.sectors g.D.Disk.reads g.D.Disk.choices g.D.Disk.moment g.D.Disk.images_since first.house.budget state before c.args.moment.seconds meter _ _ _ _ _ _ _ _ first old new
     one one.ends_so.0 c.rounds.invariant.budget (λ behind ch a. c.in-Ok.ensures.went meter state behind ch a)
     (λ more last e. let is = e.last_is ∙ ap (λ (b : Bool). record { due = goes_on b; link = link_by c.ask_and_hear.new.gateway.lost }) c.if-not-more.true in (inl (ap (λ (p : Phase). p.due) is), ap (λ (p : Phase). p.link) is))
     (λ text more p q. puts-both (w c.args.out.now) (w c.rounds.out) (w c.ask_and_hear.new.out) text more p q)
@@ -60,7 +60,7 @@ returns-in-Err-clause-went g c meter state before chain at =
     let old = c.rounds.concentrator in
     let new = c.ask_and_hear.new.concentrator in
     let one = c.rounds.invariant.so_far meter state before chain at in
-    way_then g.D.Disk.honest g.D.Disk.sectors g.D.Disk.reads g.D.Disk.choices g.D.Disk.moment g.D.Disk.images_since first.house.budget state before c.args.moment meter _ _ _ _ _ _ _ _ first old new
+    way_then g.D.Disk.honest g.D.Disk.sectors g.D.Disk.reads g.D.Disk.choices g.D.Disk.moment g.D.Disk.images_since first.house.budget state before c.args.moment.seconds meter _ _ _ _ _ _ _ _ first old new
     one one.ends_so.0 c.rounds.invariant.budget (λ behind ch a. c.ask_and_hear.ensures.went meter state behind ch a)
     (λ more last e. tt)
     (λ text more p q. tt)
@@ -76,7 +76,7 @@ returns-in-Err-clause-budget g c =
 pub returns-clause-went : goal.returns-clause-went
 returns-clause-went g c meter state before chain at =
     let one = c.rounds.invariant.so_far meter state before chain at in
-    way_as g.D.Disk.honest g.D.Disk.sectors g.D.Disk.reads g.D.Disk.choices g.D.Disk.moment g.D.Disk.images_since c.args.concentrator.now.house.budget state before c.args.moment meter _ _ _ _ _ c.args.concentrator.now c.rounds.concentrator one
+    way_as g.D.Disk.honest g.D.Disk.sectors g.D.Disk.reads g.D.Disk.choices g.D.Disk.moment g.D.Disk.images_since c.args.concentrator.now.house.budget state before c.args.moment.seconds meter _ _ _ _ _ c.args.concentrator.now c.rounds.concentrator one
     (λ happened last e. (inr (let counted = e.1 in let at_end = c.rounds-test.false in let within = c.rounds.auto.counter-end in omega (arith, counted, at_end, within)), ap (λ (p : Phase). p.link) e.0)) (λ text p. p)
 
 pub returns-clause-well : goal.returns-clause-well

@@ -15,7 +15,7 @@ invariant-rounds g l = record {
   budget : l.concentrator.house.budget ≡ l.fn.concentrator.house.budget;
   well : g.W.Sink.put_failures l.out ≡ g.W.Sink.put_failures l.fn.out;
   so_far : (meter : Identity) (state : State) (before : List Turn) → IsChain l.fn.concentrator.house.budget (opened state) before → IsAt g.D.Disk.honest g.D.Disk.sectors g.D.Disk.reads g.D.Disk.choices l.fn.concentrator (leads (opened state) before)
-      → Way g.D.Disk.honest g.D.Disk.sectors g.D.Disk.reads g.D.Disk.choices g.D.Disk.moment g.D.Disk.images_since l.fn.concentrator.house.budget state before l.moment meter (record { due = to_ask; link = link_by l.fn.gateway.lost })
+      → Way g.D.Disk.honest g.D.Disk.sectors g.D.Disk.reads g.D.Disk.choices g.D.Disk.moment g.D.Disk.images_since l.fn.concentrator.house.budget state before l.moment.seconds meter (record { due = to_ask; link = link_by l.fn.gateway.lost })
       (λ happened last. (last ≡ record { due = to_ask; link = link_by l.gateway.lost }) × (rounds_in happened ≡ l.counter))
       (Puts (g.W.Sink.written l.fn.out) (g.W.Sink.written l.out)) l.fn.concentrator l.concentrator;
 }

@@ -12,12 +12,12 @@ use Rattle.dc_poller.proofs.script.run_line.Goals as goal
 
 pub returns-in-Some-clause-ran : goal.returns-in-Some-clause-ran
 returns-in-Some-clause-ran g c state before chain at =
-    rw c.in-Search.is (rw c.in-Some.is (searched_ran g.D.Disk.honest g.D.Disk.sectors g.D.Disk.reads g.D.Disk.choices g.D.Disk.moment g.D.Disk.images_since c.args.concentrator.now.house.budget state before c.args.moment c.in-Search.budget (link_by c.in-Some.gateway.lost) (link_by c.search.new.bus.lost)
+    rw c.in-Search.is (rw c.in-Some.is (searched_ran g.D.Disk.honest g.D.Disk.sectors g.D.Disk.reads g.D.Disk.choices g.D.Disk.moment g.D.Disk.images_since c.args.concentrator.now.house.budget state before c.args.moment.seconds c.in-Search.budget (link_by c.in-Some.gateway.lost) (link_by c.search.new.bus.lost)
     (Puts (g.W.Sink.written c.args.out.now) (g.W.Sink.written c.search.new.out)) c.args.concentrator.now c.search.new.concentrator c.search.result (is_through c.in-Some.gateway.lost gateway_line refl) (c.search.ensures.went state before chain at)))
 
 pub returns-in-Some-clause-cut : goal.returns-in-Some-clause-cut
 returns-in-Some-clause-cut g c state before chain at =
-    rw c.in-Search.is (rw c.in-Some.is (searched_cut g.D.Disk.honest g.D.Disk.sectors g.D.Disk.reads g.D.Disk.choices g.D.Disk.moment g.D.Disk.images_since c.args.concentrator.now.house.budget state before c.args.moment c.in-Search.budget (link_by c.in-Some.gateway.lost) (link_by c.search.new.bus.lost)
+    rw c.in-Search.is (rw c.in-Some.is (searched_cut g.D.Disk.honest g.D.Disk.sectors g.D.Disk.reads g.D.Disk.choices g.D.Disk.moment g.D.Disk.images_since c.args.concentrator.now.house.budget state before c.args.moment.seconds c.in-Search.budget (link_by c.in-Some.gateway.lost) (link_by c.search.new.bus.lost)
     (Puts (g.W.Sink.written c.args.out.now) (g.W.Sink.written c.search.new.out)) c.args.concentrator.now c.search.new.concentrator c.search.result (is_through c.in-Some.gateway.lost gateway_line refl) (c.search.ensures.went state before chain at)))
 
 pub returns-in-Some-clause-starved : goal.returns-in-Some-clause-starved
@@ -27,7 +27,7 @@ returns-in-Some-clause-starved g c state before chain at =
 
 pub returns-in-None-clause-ran : goal.returns-in-None-clause-ran
 returns-in-None-clause-ran g c state before chain at =
-    let m = c.args.moment in
+    let m = c.args.moment.seconds in
     let link = link_of c.args.gateway.now in
     let other : ¬ (IsThrough link gateway_line) = rw c.in-None.is (λ through. through) in
     halted_ok c.put.result c.written.result _ c.written.ensures
@@ -37,7 +37,7 @@ returns-in-None-clause-ran g c state before chain at =
 
 pub returns-in-None-clause-cut : goal.returns-in-None-clause-cut
 returns-in-None-clause-cut g c state before chain at =
-    let m = c.args.moment in
+    let m = c.args.moment.seconds in
     let link = link_of c.args.gateway.now in
     let other : ¬ (IsThrough link gateway_line) = rw c.in-None.is (λ through. through) in
     halted_write c.put.result c.written.result _ c.written.ensures

@@ -1,5 +1,4 @@
 use Rattle.std.proofs.Common.{◌≡◌, ◌≤◌, ◌+◌, ◌*◌, length}
-use Rattle.dc_changes.specs.Valid.{last_moment}
 use Rattle.dc_stream.specs.Stream.{Puts}
 use Rattle.dc_teller.specs.Lines.{lines_of}
 use Rattle.dc_poller.specs.Link.{absent, link_of}
@@ -10,12 +9,11 @@ use Rattle.dc_poller.proofs.script.run_lines.Given as goal
 abbrev pub invariant-lines : goal.invariant-lines
 invariant-lines g l = record {
   bytes : longest_line ≤ 2 * length l.bytes;
-  moment : l.moment ≤ last_moment;
   counted : l.count + length l.rest ≤ length l.input;
   budget : l.concentrator.house.budget ≡ l.fn.concentrator.house.budget;
   well : g.W.Sink.put_failures l.out ≡ g.W.Sink.put_failures l.fn.out;
   absent : link_of l.fn.gateway ≡ absent → link_of l.gateway ≡ absent;
-  so_far : SoFar g.D.Disk.honest g.D.Disk.sectors g.D.Disk.reads g.D.Disk.choices g.D.Disk.moment g.D.Disk.images_since l.fn.concentrator.house.budget (link_of l.fn.gateway) (link_of l.gateway) (lines_of l.input) (lines_of l.rest) l.moment l.count
+  so_far : SoFar g.D.Disk.honest g.D.Disk.sectors g.D.Disk.reads g.D.Disk.choices g.D.Disk.moment g.D.Disk.images_since l.fn.concentrator.house.budget (link_of l.fn.gateway) (link_of l.gateway) (lines_of l.input) (lines_of l.rest) l.moment.seconds l.count
       (Puts (g.W.Sink.written l.fn.out) (g.W.Sink.written l.out)) l.fn.concentrator l.concentrator;
 }
 

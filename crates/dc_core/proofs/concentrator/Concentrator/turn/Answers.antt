@@ -29,7 +29,7 @@ returns-in-Hear-clause-turned g c core at =
     let machine = c.args.self.now in
     rw c.in-Hear.is
     (turned_at_rest g.D.Disk.honest g.D.Disk.sectors g.D.Disk.reads g.D.Disk.choices g.D.Disk.moment g.D.Disk.images_since g.D.Disk.failures machine.house.budget
-    machine c.hear-answer.new.self core (hears c.in-Hear.line c.in-Hear.moment c.in-Hear.bytes.now) (heard c.hear-answer.result) _ refl
+    machine c.hear-answer.new.self core (hears c.in-Hear.line c.in-Hear.moment.seconds c.in-Hear.bytes.now) (heard c.hear-answer.result) _ refl
     (c.hear-answer.ensures.may core at) c.put_heard.ensures at (c.hear-answer.ensures.at core at) c.hear-answer.ensures.store (λ h. g.met.D.Disk.only_now h machine.store.disk))
 
 pub returns-in-Commit-clause-turned : goal.returns-in-Commit-clause-turned
