@@ -44,7 +44,7 @@ use Rattle.dc_readout.proofs.Taken.{taken}
 use Rattle.dc_core.proofs.Registered.{IsFollowed, FollowsAt, Follows, asks_followed, ready_follows, told_own, told_session}
 use Rattle.dc_core.proofs.Ordered.{left_on, get_left, order_follows, accepted_new}
 
--- WHAT HOLDS ALONG A CHAIN: there are eight lines, at most four changes wait, and each session follows the register. Places in the
+-- WHAT HOLDS ALONG A CHAIN: there are eight lines, no more changes wait than may, and each session follows the register. Places in the
 -- list of lines count from 0, and bus lines from 1.
 record Keeps (core : Core) : Type 0 where
   eight : length core.lines ≡ 8
@@ -112,7 +112,7 @@ asked_split : (c : Bool) (h : HearFault) (wanted rest : Result LineHeard HearFau
 asked_split true h wanted rest x e = (refl, e)
 asked_split false h wanted rest x e = absurd (x e)
 
--- a telegram that was taken: the register knows it, and less than four changes waited
+-- a telegram that was taken: the register knows it, and there was room for one more
 taken_split : (budget count : ℕ) (change : Change) (s : State) (answer accepted : LineHeard) → Ok answer ≡ unless_refused (refuses budget count change s) accepted → (nat_le most_waiting count ≡ false) × (answer ≡ accepted)
 taken_split budget count change s answer accepted e = by_tests (nat_le most_waiting count) (is_some (refusal budget change s)) e
   where
@@ -142,7 +142,7 @@ with_telegram core line moment part t s is keeps room followed at =
     let eight = keeps.eight in
     let place : line - 1 + 1 ≡ line = grind (arith, nat_tests) in
     let low : line - 1 < 8 = grind (arith, nat_tests) in
-    let less : length core.pending < 4 = grind (arith, nat_tests) in
+    let less : length core.pending < most_waiting = grind (arith, nat_tests) in
     let session : Option Summary = Some (heard_by s (new part t)) in
     record {
       eight = length-set core.lines (line - 1) session ∙ keeps.eight;
@@ -393,6 +393,6 @@ none_is_unknown budget state turns chain =
           let r = refusal_of budget core line moment answer PendingFull (λ bad. cc bad) (λ bad. cc bad) (λ bad. cc bad) e in
           let change = change_of moment r.part r.telegram in
           let yes = pending_split (nat_le most_waiting (length core.pending)) (is_some (refusal budget change (present core))) (Accepted r.part (continues r.telegram.ending)) r.by_core in
-          let four : most_waiting ≤ length core.pending = grind (arith, nat_tests) in
-          omega (arith, four, few);
+          let all : most_waiting ≤ length core.pending = grind (arith, nat_tests) in
+          omega (arith, all, few);
     }

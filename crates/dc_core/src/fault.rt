@@ -60,7 +60,7 @@ pub enum HearFault {
     Full,
     /// Memory was refused.
     NoMemory,
-    /// Four changes wait for a commit.
+    /// As many changes as may wait for a commit do.
     PendingFull,
     /// A failure of the disk has stopped the concentrator, until it is opened again.
     Stopped,

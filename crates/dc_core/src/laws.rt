@@ -13,7 +13,7 @@ pub fn what_is_promised_is_committed()
 {}
 
 /// In every such chain the register knows each telegram that is asked for. So one is refused as full only where the
-/// register is full, and four changes wait where one is refused for that.
+/// register is full, and as many changes wait as may where one is refused for that.
 pub fn no_telegram_asked_for_is_unknown()
     ensures { NoneIsUnknown }
 {}

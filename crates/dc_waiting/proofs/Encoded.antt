@@ -1,4 +1,4 @@
--- A change always fits where one is missing to four.
+-- A change always fits where one more may wait.
 use Rattle.std.proofs.Common.{◌≡◌, ◌<◌, ◌≤◌, ◌+◌, ◌-◌, ◌^◌, min, ℕ, List, [], ◌∷◌, ◌++◌, length, ap, arith, ◌∙◌, sym, append_assoc, length-append}
 use Rattle.std.proofs.lemmas.List.{append-nil}
 use Rattle.dc_address.proofs.Identities.{length-wire_of}

@@ -2,5 +2,5 @@
 
 -- a list that is mapped in place, element by element
 pub mod Changed
--- a change always fits where one is missing to four
+-- a change always fits where one more may wait
 pub mod Encoded

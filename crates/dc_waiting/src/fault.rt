@@ -6,7 +6,7 @@ use thiserror::Error;
 #[derive(Clone, Copy, Debug, PartialEq, Eq, Error)]
 #[error("the telegram wasn't taken")]
 pub enum TakeFault {
-    /// Four changes wait for a commit.
+    /// As many changes as may wait for a commit do.
     PendingFull,
     /// The register refuses the telegram.
     Full,

@@ -16,7 +16,7 @@ use std::alloc::Allocator;
 /// register.
 ///
 /// # Errors
-/// `PendingFull` with four changes waiting, then `Full` where the register refuses the telegram, then `NoMemory`.
+/// `PendingFull` where no more changes may wait, then `Full` where the register refuses the telegram, then `NoMemory`.
 /// Nothing has changed then.
 pub fn take<A: Allocator + Copy>(
     house: &mut House<A>,

@@ -16,7 +16,7 @@ const MOST: u8 = 4;
 // Room for as many of the longest change.
 const ROOM: usize = 1052;
 
-/// At most four changes, encoded one after the other, in a buffer of fixed room.
+/// The changes that wait, [`MOST`] at most, encoded one after the other in a buffer of fixed room.
 #[derive(Drop)]
 pub struct Waiting {
     bytes: FixedSink<ROOM>,
@@ -53,7 +53,7 @@ impl Waiting {
         usize::from(self.count)
     }
 
-    /// Whether four wait, and so no more may.
+    /// Whether as many wait as may.
     pub fn is_full(&self) -> bool
         ensures { result ≡ nat_le most_waiting self.now.count }
     {
