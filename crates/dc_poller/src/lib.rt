@@ -24,7 +24,7 @@ mod report;
 mod run;
 mod script;
 mod script_line;
-mod search;
+mod searching;
 mod told;
 
 pub use fault::ProgramFault;
@@ -33,4 +33,4 @@ pub use laws::a_script_line_asks_for_one_thing;
 pub use report::{Report, report_on};
 pub use run::run_script;
 pub use script_line::ScriptLine;
-pub use search::search;
+pub use searching::search;

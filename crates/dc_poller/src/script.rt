@@ -21,7 +21,7 @@ ghost use Rattle.dc_poller.specs.Went.{TurnWent};
 use crate::halt::{Halt, written};
 use crate::poll::{GATEWAY_LINE, poll};
 use crate::script_line::ScriptLine;
-use crate::search::search;
+use crate::searching::search;
 use dc_changes::Moment;
 use dc_core::{Concentrator, Event, WriteFault};
 use dc_gateway::Gateway;

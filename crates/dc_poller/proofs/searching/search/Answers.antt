@@ -4,7 +4,7 @@ use Rattle.dc_core.specs.Event.{asks, asked}
 use Rattle.dc_poller.specs.Link.{link_by}
 use Rattle.dc_poller.specs.Search.{Comes}
 use Rattle.dc_poller.proofs.Searches.{commit_and_look, busy_halts, talked_comes}
-use Rattle.dc_poller.proofs.search.search.Goals as goal
+use Rattle.dc_poller.proofs.searching.search.Goals as goal
 
 pub returns-in-Some-clause-went : goal.returns-in-Some-clause-went
 returns-in-Some-clause-went g c state before chain at =
