@@ -22,6 +22,7 @@ lines-init g c = record {
   counted = omega arith;
   budget = refl;
   well = refl;
+  moment = omega arith;
   absent = λ is. is;
   so_far = record {
     done = [];
@@ -46,11 +47,11 @@ lines-preserved g c =
     let old = c.lines.concentrator in
     let new = c.run_line.new.concentrator in
     let piece : List ℕ → Type 0 = Puts (w c.lines.out) (w c.run_line.new.out) in
-    let here = subst (λ (rest : List (List ℕ)). SoFar g.D.Disk.honest g.D.Disk.sectors g.D.Disk.reads g.D.Disk.choices g.D.Disk.moment g.D.Disk.images_since first.house.budget (link_of c.args.gateway.now) (link_of c.lines.gateway) (lines_of c.args.input.now) rest c.lines.moment.seconds c.lines.count (Puts (w c.args.out.now) (w c.lines.out)) first old)
+    let here = subst (λ (rest : List (List ℕ)). SoFar g.D.Disk.honest g.D.Disk.sectors g.D.Disk.reads g.D.Disk.choices g.D.Disk.moment g.D.Disk.images_since first.house.budget (link_of c.args.gateway.now) (link_of c.lines.gateway) (lines_of c.args.input.now) rest c.lines.moment.0 c.lines.count (Puts (w c.args.out.now) (w c.lines.out)) first old)
     c.first_line.ensures.lines so_far in
-    let more = one_more g.D.Disk.honest g.D.Disk.sectors g.D.Disk.reads g.D.Disk.choices g.D.Disk.moment g.D.Disk.images_since first.house.budget (link_of c.args.gateway.now) (link_of c.lines.gateway) (link_of c.run_line.new.gateway) (lines_of c.args.input.now) c.first_line.result.0.now (lines_of c.first_line.result.1.now) asked c.lines.moment.seconds c.lines.count
+    let more = one_more g.D.Disk.honest g.D.Disk.sectors g.D.Disk.reads g.D.Disk.choices g.D.Disk.moment g.D.Disk.images_since first.house.budget (link_of c.args.gateway.now) (link_of c.lines.gateway) (link_of c.run_line.new.gateway) (lines_of c.args.input.now) c.first_line.result.0.now (lines_of c.first_line.result.1.now) asked c.lines.moment.0 c.lines.count
     (Puts (w c.args.out.now) (w c.lines.out)) piece (Puts (w c.args.out.now) (w c.run_line.new.out)) first old new here c.in-Some.ensures.found
-    (λ state before chain at. subst (λ (b : ℕ). LineRan g.D.Disk.honest g.D.Disk.sectors g.D.Disk.reads g.D.Disk.choices g.D.Disk.moment g.D.Disk.images_since b state before c.lines.moment.seconds asked (link_of c.lines.gateway) (link_of c.run_line.new.gateway) piece old new) b_is
+    (λ state before chain at. subst (λ (b : ℕ). LineRan g.D.Disk.honest g.D.Disk.sectors g.D.Disk.reads g.D.Disk.choices g.D.Disk.moment g.D.Disk.images_since b state before c.lines.moment.0 asked (link_of c.lines.gateway) (link_of c.run_line.new.gateway) piece old new) b_is
     (c.in_default-run_line.ensures.ran state before (subst (λ (b : ℕ). IsChain b (opened state) before) (sym b_is) chain) at))
     (λ text more wrote put. puts-both (w c.args.out.now) (w c.lines.out) (w c.run_line.new.out) text more wrote put) in
     record {
@@ -58,6 +59,7 @@ lines-preserved g c =
       counted = omega (arith, counted, shorter);
       budget = c.run_line.ensures.budget ∙ b_is;
       well = c.in_default-run_line.ensures.counted ∙ c.lines.invariant.well;
+      moment = c.moment_behind-moment.result.fits;
       absent = λ is. c.run_line.ensures.absent (c.lines.invariant.absent is);
       so_far = subst (λ (m : ℕ). SoFar g.D.Disk.honest g.D.Disk.sectors g.D.Disk.reads g.D.Disk.choices g.D.Disk.moment g.D.Disk.images_since first.house.budget (link_of c.args.gateway.now) (link_of c.run_line.new.gateway) (lines_of c.args.input.now) (lines_of c.first_line.result.1.now) m (c.lines.count + 1) (Puts (w c.args.out.now) (w c.run_line.new.out)) first new)
           (sym c.moment_behind-moment.ensures) more;
@@ -73,15 +75,15 @@ returns-in-Err-run_line-clause-cut g c state before chain at =
     let old = c.lines.concentrator in
     let line = c.first_line.result.0.now in
     let rest = lines_of c.first_line.result.1.now in
-    let here = subst (λ (rest : List (List ℕ)). SoFar g.D.Disk.honest g.D.Disk.sectors g.D.Disk.reads g.D.Disk.choices g.D.Disk.moment g.D.Disk.images_since first.house.budget (link_of c.args.gateway.now) (link_of c.lines.gateway) (lines_of c.args.input.now) rest c.lines.moment.seconds c.lines.count (Puts (w c.args.out.now) (w c.lines.out)) first old)
+    let here = subst (λ (rest : List (List ℕ)). SoFar g.D.Disk.honest g.D.Disk.sectors g.D.Disk.reads g.D.Disk.choices g.D.Disk.moment g.D.Disk.images_since first.house.budget (link_of c.args.gateway.now) (link_of c.lines.gateway) (lines_of c.args.input.now) rest c.lines.moment.0 c.lines.count (Puts (w c.args.out.now) (w c.lines.out)) first old)
     c.first_line.ensures.lines c.lines.invariant.so_far in
     let ran = here.ran state before chain at in
     let turns = deeds_turns ran.lines.deeds in
-    on_write (Unit {0}) Bool c.in-Err-run_line.halt (LineCut g.D.Disk.honest g.D.Disk.sectors g.D.Disk.reads g.D.Disk.choices g.D.Disk.moment g.D.Disk.images_since old.house.budget state (before ++ turns) c.lines.moment.seconds asked (link_of c.lines.gateway) old new)
+    on_write (Unit {0}) Bool c.in-Err-run_line.halt (LineCut g.D.Disk.honest g.D.Disk.sectors g.D.Disk.reads g.D.Disk.choices g.D.Disk.moment g.D.Disk.images_since old.house.budget state (before ++ turns) c.lines.moment.0 asked (link_of c.lines.gateway) old new)
     (ScriptCut g.D.Disk.honest g.D.Disk.sectors g.D.Disk.reads g.D.Disk.choices g.D.Disk.moment g.D.Disk.images_since first.house.budget state before (link_of c.args.gateway.now) (lines_of c.args.input.now) first new)
     (λ here_cut.
-    let cut = subst (λ (b : ℕ). LineCut g.D.Disk.honest g.D.Disk.sectors g.D.Disk.reads g.D.Disk.choices g.D.Disk.moment g.D.Disk.images_since b state (before ++ turns) c.lines.moment.seconds asked (link_of c.lines.gateway) old new) b_is here_cut in
-    cut_here g.D.Disk.honest g.D.Disk.sectors g.D.Disk.reads g.D.Disk.choices g.D.Disk.moment g.D.Disk.images_since first.house.budget (link_of c.args.gateway.now) (link_of c.lines.gateway) (lines_of c.args.input.now) line rest c.lines.moment.seconds c.lines.count (Puts (w c.args.out.now) (w c.lines.out)) cut.turns first old new here state before chain at
+    let cut = subst (λ (b : ℕ). LineCut g.D.Disk.honest g.D.Disk.sectors g.D.Disk.reads g.D.Disk.choices g.D.Disk.moment g.D.Disk.images_since b state (before ++ turns) c.lines.moment.0 asked (link_of c.lines.gateway) old new) b_is here_cut in
+    cut_here g.D.Disk.honest g.D.Disk.sectors g.D.Disk.reads g.D.Disk.choices g.D.Disk.moment g.D.Disk.images_since first.house.budget (link_of c.args.gateway.now) (link_of c.lines.gateway) (lines_of c.args.input.now) line rest c.lines.moment.0 c.lines.count (Puts (w c.args.out.now) (w c.lines.out)) cut.turns first old new here state before chain at
     (inl (asked, c.in-Some.ensures.found, cut.does)) cut.went)
     (c.in-Err-run_line.ensures.cut state (before ++ turns)
     (subst (λ (b : ℕ). IsChain b (opened state) (before ++ turns)) (sym b_is) (went_chain g.D.Disk.honest g.D.Disk.sectors g.D.Disk.reads g.D.Disk.choices g.D.Disk.moment g.D.Disk.images_since first.house.budget state before turns first old ran.lines.went))
@@ -97,14 +99,14 @@ returns-in-Err-run_line-clause-starved g c state before chain at =
     let old = c.lines.concentrator in
     let line = c.first_line.result.0.now in
     let rest = lines_of c.first_line.result.1.now in
-    let here = subst (λ (rest : List (List ℕ)). SoFar g.D.Disk.honest g.D.Disk.sectors g.D.Disk.reads g.D.Disk.choices g.D.Disk.moment g.D.Disk.images_since first.house.budget (link_of c.args.gateway.now) (link_of c.lines.gateway) (lines_of c.args.input.now) rest c.lines.moment.seconds c.lines.count (Puts (w c.args.out.now) (w c.lines.out)) first old)
+    let here = subst (λ (rest : List (List ℕ)). SoFar g.D.Disk.honest g.D.Disk.sectors g.D.Disk.reads g.D.Disk.choices g.D.Disk.moment g.D.Disk.images_since first.house.budget (link_of c.args.gateway.now) (link_of c.lines.gateway) (lines_of c.args.input.now) rest c.lines.moment.0 c.lines.count (Puts (w c.args.out.now) (w c.lines.out)) first old)
     c.first_line.ensures.lines c.lines.invariant.so_far in
     let ran = here.ran state before chain at in
     let turns = deeds_turns ran.lines.deeds in
     let piece : List ℕ → Type 0 = Puts (w c.lines.out) (w c.run_line.new.out) in
     on_no_memory (Unit {0}) Bool c.in-Err-run_line.halt (LineStarved g.D.Disk.honest g.D.Disk.sectors g.D.Disk.reads g.D.Disk.choices g.D.Disk.moment g.D.Disk.images_since old.house.budget state (before ++ turns) asked (link_of c.lines.gateway) piece old new)
     (ScriptStarved g.D.Disk.honest g.D.Disk.sectors g.D.Disk.reads g.D.Disk.choices g.D.Disk.moment g.D.Disk.images_since first.house.budget state before (link_of c.args.gateway.now) (lines_of c.args.input.now) (Puts (w c.args.out.now) (w c.run_line.new.out)) first new)
-    (λ starved. starved_here g.D.Disk.honest g.D.Disk.sectors g.D.Disk.reads g.D.Disk.choices g.D.Disk.moment g.D.Disk.images_since first.house.budget (link_of c.args.gateway.now) (link_of c.lines.gateway) (lines_of c.args.input.now) line rest asked c.lines.moment.seconds c.lines.count
+    (λ starved. starved_here g.D.Disk.honest g.D.Disk.sectors g.D.Disk.reads g.D.Disk.choices g.D.Disk.moment g.D.Disk.images_since first.house.budget (link_of c.args.gateway.now) (link_of c.lines.gateway) (lines_of c.args.input.now) line rest asked c.lines.moment.0 c.lines.count
     (Puts (w c.args.out.now) (w c.lines.out)) piece (Puts (w c.args.out.now) (w c.run_line.new.out)) first old new here c.in-Some.ensures.found b_is
     (λ text more wrote put. puts-both (w c.args.out.now) (w c.lines.out) (w c.run_line.new.out) text more wrote put) state before chain at starved)
     (c.in-Err-run_line.ensures.starved state (before ++ turns)
@@ -137,11 +139,11 @@ returns-in-Err-clause-cut g c state before chain at =
     let old = c.lines.concentrator in
     let line = c.first_line.result.0.now in
     let rest = lines_of c.first_line.result.1.now in
-    let here = subst (λ (rest : List (List ℕ)). SoFar g.D.Disk.honest g.D.Disk.sectors g.D.Disk.reads g.D.Disk.choices g.D.Disk.moment g.D.Disk.images_since first.house.budget (link_of c.args.gateway.now) (link_of c.lines.gateway) (lines_of c.args.input.now) rest c.lines.moment.seconds c.lines.count (Puts (w c.args.out.now) (w c.lines.out)) first old)
+    let here = subst (λ (rest : List (List ℕ)). SoFar g.D.Disk.honest g.D.Disk.sectors g.D.Disk.reads g.D.Disk.choices g.D.Disk.moment g.D.Disk.images_since first.house.budget (link_of c.args.gateway.now) (link_of c.lines.gateway) (lines_of c.args.input.now) rest c.lines.moment.0 c.lines.count (Puts (w c.args.out.now) (w c.lines.out)) first old)
     c.first_line.ensures.lines c.lines.invariant.so_far in
     let ran = here.ran state before chain at in
     let turns = deeds_turns ran.lines.deeds in
-    cut_here g.D.Disk.honest g.D.Disk.sectors g.D.Disk.reads g.D.Disk.choices g.D.Disk.moment g.D.Disk.images_since first.house.budget (link_of c.args.gateway.now) (link_of c.lines.gateway) (lines_of c.args.input.now) line rest c.lines.moment.seconds c.lines.count (Puts (w c.args.out.now) (w c.lines.out)) [] first old old here state before chain at
+    cut_here g.D.Disk.honest g.D.Disk.sectors g.D.Disk.reads g.D.Disk.choices g.D.Disk.moment g.D.Disk.images_since first.house.budget (link_of c.args.gateway.now) (link_of c.lines.gateway) (lines_of c.args.input.now) line rest c.lines.moment.0 c.lines.count (Puts (w c.args.out.now) (w c.lines.out)) [] first old old here state before chain at
     (inr (c.in_default.ensures.only, refl))
     (went_none g.D.Disk.honest g.D.Disk.sectors g.D.Disk.reads g.D.Disk.choices g.D.Disk.moment g.D.Disk.images_since first.house.budget state (before ++ turns) old (went_chain g.D.Disk.honest g.D.Disk.sectors g.D.Disk.reads g.D.Disk.choices g.D.Disk.moment g.D.Disk.images_since first.house.budget state before turns first old ran.lines.went) (went_at g.D.Disk.honest g.D.Disk.sectors g.D.Disk.reads g.D.Disk.choices g.D.Disk.moment g.D.Disk.images_since first.house.budget state before turns first old ran.lines.went)
     (λ h image left. g.met.D.Disk.only_now h old.store.disk image left))
@@ -163,3 +165,6 @@ returns-clause-ran g c state before chain at =
         text = subst (Puts (g.W.Sink.written c.args.out.now) (g.W.Sink.written c.lines.out)) (sym (append-nil (deeds_text ran.deeds))) ran.text;
       };
     }
+
+pub invariant_of-moment : goal.invariant_of-moment
+invariant_of-moment g c = record { fits = c.lines.invariant.moment }

@@ -1,4 +1,5 @@
 use Rattle.std.proofs.Common.{◌≡◌, ◌≤◌, ◌+◌, ◌*◌, length}
+use Rattle.dc_changes.specs.Valid.{last_moment}
 use Rattle.dc_stream.specs.Stream.{Puts}
 use Rattle.dc_teller.specs.Lines.{lines_of}
 use Rattle.dc_poller.specs.Link.{absent, link_of}
@@ -12,8 +13,9 @@ invariant-lines g l = record {
   counted : l.count + length l.rest ≤ length l.input;
   budget : l.concentrator.house.budget ≡ l.fn.concentrator.house.budget;
   well : g.W.Sink.put_failures l.out ≡ g.W.Sink.put_failures l.fn.out;
+  moment : l.moment.0 ≤ last_moment;
   absent : link_of l.fn.gateway ≡ absent → link_of l.gateway ≡ absent;
-  so_far : SoFar g.D.Disk.honest g.D.Disk.sectors g.D.Disk.reads g.D.Disk.choices g.D.Disk.moment g.D.Disk.images_since l.fn.concentrator.house.budget (link_of l.fn.gateway) (link_of l.gateway) (lines_of l.input) (lines_of l.rest) l.moment.seconds l.count
+  so_far : SoFar g.D.Disk.honest g.D.Disk.sectors g.D.Disk.reads g.D.Disk.choices g.D.Disk.moment g.D.Disk.images_since l.fn.concentrator.house.budget (link_of l.fn.gateway) (link_of l.gateway) (lines_of l.input) (lines_of l.rest) l.moment.0 l.count
       (Puts (g.W.Sink.written l.fn.out) (g.W.Sink.written l.out)) l.fn.concentrator l.concentrator;
 }
 
