@@ -6,7 +6,7 @@ mod linkframe;
 mod lives;
 mod readout;
 mod records;
-mod refusing_alloc;
+mod refusals;
 mod search;
 mod simulated;
 mod stream;
