@@ -32,11 +32,14 @@ spelling ack = 0xE5 ∷ []
 spelling (short control address) = 0x10 ∷ closed (control ∷ address ∷ [])
 spelling (long control address ci body) = counted (control ∷ address ∷ ci ∷ body)
 
--- a count is a byte, so a body has at most 252
+-- the longest body: a count is a byte, and counts control, address and control information too
+abbrev pub longest_body : ℕ
+longest_body = 252
+
 abbrev pub HasRoom : FrameSeen → Type 0
 HasRoom ack = Unit {0}
 HasRoom (short control address) = Unit {0}
-HasRoom (long control address ci body) = length body ≤ 252
+HasRoom (long control address ci body) = length body ≤ longest_body
 
 -- the whole text is the frame
 pub record Spells (text : List ℕ) (frame : FrameSeen) : Type 0 where

@@ -44,14 +44,14 @@ impl FrameBuf {
     /// Its bytes.
     pub fn as_slice(&self) -> &[u8]
         ensures bytes { result.now ≡ self.now }
-        ensures fits { length self.now ≤ 261 }
+        ensures fits { length self.now ≤ capacity }
     {
         &self.bytes[..usize::from(self.len)]
     }
 
     // Adds bytes at the end.
     pub(crate) fn append(&mut self, more: &[u8])
-        requires { length self.old + length more.now ≤ 261 }
+        requires { length self.old + length more.now ≤ capacity }
         ensures { self.new ≡ self.old ++ more.now }
     {
         let len = usize::from(self.len);

@@ -1,7 +1,7 @@
 //! Frames are written as they are spelled.
 
 ghost use Rattle.std.specs.Prelude.{◌≡◌, ◌≤◌, length};
-ghost use Rattle.dc_linkframe.specs.Frame.{spelling, short, long};
+ghost use Rattle.dc_linkframe.specs.Frame.{spelling, short, long, longest_body};
 
 use crate::buffer::FrameBuf;
 use crate::checksum::checksum;
@@ -17,7 +17,7 @@ pub fn write_short(control: u8, address: u8, buf: &mut FrameBuf)
 
 /// Writes a long frame in place of what the buffer held.
 pub fn write_long(control: u8, address: u8, ci: u8, body: &[u8], buf: &mut FrameBuf)
-    requires { length body.now ≤ 252 }
+    requires { length body.now ≤ longest_body }
     ensures { buf.new ≡ spelling (long control address ci body.now) }
 {
     let len = 3 + body.len() as u8;

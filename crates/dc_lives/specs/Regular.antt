@@ -3,11 +3,11 @@ use Rattle.std.specs.Prelude.{◌≡◌, ◌≢◌, ℕ, ◌≤◌, Bool, true, 
 use Rattle.dc_linkframe.specs.Control.{selected}
 use Rattle.dc_address.specs.Mask.{mask_of, matches}
 use Rattle.dc_lives.specs.Meter.{Meter}
-use Rattle.dc_lives.specs.World.{max_body}
+use Rattle.dc_linkframe.specs.Frame.{longest_body}
 
 -- each body fits one frame
 abbrev pub Fits : List (List ℕ) → Type 0
-Fits bodies = (j : ℕ) (body : List ℕ) → slice_get bodies j ≡ Some body → length body ≤ max_body
+Fits bodies = (j : ℕ) (body : List ℕ) → slice_get bodies j ≡ Some body → length body ≤ longest_body
 
 -- an own address isn't that of the selected meters
 abbrev pub IsOwnOnly : Option ℕ → Type 0

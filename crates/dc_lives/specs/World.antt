@@ -2,7 +2,7 @@
 use Rattle.std.specs.Prelude.{◌≡◌, ◌≢◌, ℕ, ◌+◌, ◌≤◌, Bool, true, false, List, [], ◌∷◌, ◌++◌, length, map, Option, Some, None, slice_get, slice_set, unwrap_or, take, Result, Ok, Err, option_map, ◌==◌, if◌then◌else◌}
 use Rattle.std.specs.List.{filter_map, zip}
 use Rattle.dc_linkframe.specs.Control.{selected}
-use Rattle.dc_linkframe.specs.Frame.{FrameSeen, spelling}
+use Rattle.dc_linkframe.specs.Frame.{FrameSeen, spelling, longest_body}
 use Rattle.dc_address.specs.Mask.{mask_of, matches}
 use Rattle.dc_records.specs.declared.fault.BodyFault.{BodyFault}
 use Rattle.dc_records.specs.Body.{continues}
@@ -147,15 +147,11 @@ world_after meters events = world_from meters (new_world meters) events
 
 -- ---- premise and statements
 
--- the bytes of a body that fits one frame
-abbrev pub max_body : ℕ
-max_body = 252
-
 -- Each body fits one frame, no primary address is that of the selected meters, primary addresses differ, and no
 -- meter's selection matches another: so identities differ too. Nothing arrives late: a reply comes in its exchange or
 -- never.
 pub record AreRegular (meters : List Meter) : Type 0 where
-  pub fit : (i j : ℕ) (meter : Meter) (body : List ℕ) → slice_get meters i ≡ Some meter → slice_get meter.bodies j ≡ Some body → length body ≤ max_body
+  pub fit : (i j : ℕ) (meter : Meter) (body : List ℕ) → slice_get meters i ≡ Some meter → slice_get meter.bodies j ≡ Some body → length body ≤ longest_body
   pub primary : (i address : ℕ) (meter : Meter) → slice_get meters i ≡ Some meter → meter.address ≡ Some address → address ≢ selected
   pub addresses : (i j address : ℕ) (one other : Meter) → slice_get meters i ≡ Some one → slice_get meters j ≡ Some other → one.address ≡ Some address → other.address ≡ Some address → i ≡ j
   pub apart : (i j : ℕ) (one other : Meter) → slice_get meters i ≡ Some one → slice_get meters j ≡ Some other → matches (mask_of one.identity) other.identity ≡ true → i ≡ j

@@ -19,24 +19,26 @@ pub record IsOpened {D : Type 0} (honest : Type 0) (sectors : D → ℕ) (reads 
   pub reads_as : honest → Reads (half_len_of (sectors disk)) state (reads disk)
   pub leaves : honest → LeavesOnly moment images_since disk first.store.disk (StandsForOne (half_len_of (sectors disk)) (choices disk))
 
--- A whole run, from the disk to the disk: the gateway is found like this, and `left` is what the reader had left, where it tells that.
-pub record ImageRan {D : Type 0} (honest : Type 0) (sectors : D → ℕ) (reads : D → Image) (choices : D → Choices) (moment : D → ℕ) (images_since : D → ℕ → Image → Type 0) (link : Link) (left : Option (List ℕ)) (faulty : Bool) (wrote : List ℕ → Type 0) (disk new : D) : Type 0 where
+-- A run from the disk to the disk: `left` is what the reader had left, where it tells that, and `script` what the lines of
+-- the input did to the concentrator that was opened.
+pub record ImageWent {D : Type 0} (honest : Type 0) (sectors : D → ℕ) (reads : D → Image) (choices : D → Choices) (moment : D → ℕ) (images_since : D → ℕ → Image → Type 0) (left : Option (List ℕ)) (script : List (List ℕ) → State → Machine D → Machine D → Type 0) (disk new : D) : Type 0 where
   pub input : List ℕ
   pub input_is : IfSome left (λ known. input ≡ known)
   pub state : State
   pub first : Machine D
   pub last : Machine D
   pub opening : IsOpened honest sectors reads choices moment images_since disk state first
-  pub script : ScriptRan honest sectors reads choices moment images_since first.house.budget state [] link (lines_of input) faulty wrote first last
+  pub went : script (lines_of input) state first last
   pub disk_is : new ≡ last.store.disk
 
--- A run that a failed write ended.
-pub record ImageCut {D : Type 0} (honest : Type 0) (sectors : D → ℕ) (reads : D → Image) (choices : D → Choices) (moment : D → ℕ) (images_since : D → ℕ → Image → Type 0) (link : Link) (left : Option (List ℕ)) (disk new : D) : Type 0 where
-  pub input : List ℕ
-  pub input_is : IfSome left (λ known. input ≡ known)
-  pub state : State
-  pub first : Machine D
-  pub last : Machine D
-  pub opening : IsOpened honest sectors reads choices moment images_since disk state first
-  pub script : ScriptCut honest sectors reads choices moment images_since first.house.budget state [] link (lines_of input) first last
-  pub disk_is : new ≡ last.store.disk
+-- Its lines are done; the gateway is found like this.
+abbrev pub ImageRan : {D : Type 0} → (honest : Type 0) → (sectors : D → ℕ) → (reads : D → Image) → (choices : D → Choices) → (moment : D → ℕ) → (images_since : D → ℕ → Image → Type 0) → Link → Option (List ℕ) → Bool → (List ℕ → Type 0) → D → D → Type 0
+ImageRan honest sectors reads choices moment images_since link left faulty wrote =
+    ImageWent honest sectors reads choices moment images_since left (λ lines state first last.
+    ScriptRan honest sectors reads choices moment images_since first.house.budget state [] link lines faulty wrote first last)
+
+-- A failed write ended it.
+abbrev pub ImageCut : {D : Type 0} → (honest : Type 0) → (sectors : D → ℕ) → (reads : D → Image) → (choices : D → Choices) → (moment : D → ℕ) → (images_since : D → ℕ → Image → Type 0) → Link → Option (List ℕ) → D → D → Type 0
+ImageCut honest sectors reads choices moment images_since link left =
+    ImageWent honest sectors reads choices moment images_since left (λ lines state first last.
+    ScriptCut honest sectors reads choices moment images_since first.house.budget state [] link lines first last)

@@ -7,6 +7,7 @@ use Rattle.dc_address.specs.declared.identity.Identity.{Identity}
 use Rattle.dc_changes.specs.Line.{IsOfBytes}
 use Rattle.dc_changes.specs.Valid.{last_moment}
 use Rattle.dc_text.specs.Hex.{bytes_of}
+use Rattle.dc_teller.specs.Lines.{longest_input_line}
 use Rattle.dc_poller.specs.declared.script_line.ScriptLine.{ScriptLine}
 use Rattle.dc_poller.specs.declared.script_line.ScriptLine.TheVariants.{Nothing, At, Start, Ask, Hear, Commit, Office, Poll, Search}
 
@@ -86,12 +87,8 @@ Spells text (office line) = text ≡ join_with_byte 32 (codes "OFFICE" ∷ line 
 Spells text (poll line meter) = text ≡ join_with_byte 32 (codes "POLL" ∷ decimal line ∷ text_of meter ∷ [])
 Spells text (search budget) = text ≡ join_with_byte 32 (codes "SEARCH" ∷ decimal budget ∷ [])
 
--- the bytes of the longest line
-abbrev pub longest_line : ℕ
-longest_line = 4096
-
 -- a line that isn't too long and spells this
 pub record IsLineOf (text : List ℕ) (asked : LineSeen) : Type 0 where
-  pub fits : length text ≤ longest_line
+  pub fits : length text ≤ longest_input_line
   pub has_bounds : HasBounds asked
   pub spells : Spells text asked

@@ -1,11 +1,10 @@
 -- A script that ended at a search to which memory was refused (this product).
-use Rattle.std.specs.Prelude.{◌≡◌, ℕ, List, [], ◌∷◌, ◌++◌, Option, IfSome}
+use Rattle.std.specs.Prelude.{◌≡◌, ℕ, List, [], ◌∷◌, ◌++◌, Option}
 use Rattle.dc_changes.specs.State.{State}
 use Rattle.dc_core.specs.Images.{Machine}
 use Rattle.dc_core.specs.Transcript.{Turn}
 use Rattle.dc_sectors.specs.Disk.{Image, Choices}
-use Rattle.dc_poller.specs.ImageRun.{IsOpened}
-use Rattle.dc_teller.specs.Lines.{lines_of}
+use Rattle.dc_poller.specs.ImageRun.{ImageWent}
 use Rattle.dc_poller.specs.Link.{Link}
 use Rattle.dc_poller.specs.Poll.{gateway_line}
 use Rattle.dc_poller.specs.Script.{AskFor, AreDone, Deed, IsThrough, deeds_text, deeds_turns, link_after}
@@ -45,12 +44,7 @@ pub record LineStarved {D : Type 0} (honest : Type 0) (sectors : D → ℕ) (rea
   pub text : wrote last.text
 
 -- A run from the disk to the disk that ended so.
-pub record ImageStarved {D : Type 0} (honest : Type 0) (sectors : D → ℕ) (reads : D → Image) (choices : D → Choices) (moment : D → ℕ) (images_since : D → ℕ → Image → Type 0) (link : Link) (left : Option (List ℕ)) (wrote : List ℕ → Type 0) (disk new : D) : Type 0 where
-  pub input : List ℕ
-  pub input_is : IfSome left (λ known. input ≡ known)
-  pub state : State
-  pub first : Machine D
-  pub last : Machine D
-  pub opening : IsOpened honest sectors reads choices moment images_since disk state first
-  pub script : ScriptStarved honest sectors reads choices moment images_since first.house.budget state [] link (lines_of input) wrote first last
-  pub disk_is : new ≡ last.store.disk
+abbrev pub ImageStarved : {D : Type 0} → (honest : Type 0) → (sectors : D → ℕ) → (reads : D → Image) → (choices : D → Choices) → (moment : D → ℕ) → (images_since : D → ℕ → Image → Type 0) → Link → Option (List ℕ) → (List ℕ → Type 0) → D → D → Type 0
+ImageStarved honest sectors reads choices moment images_since link left wrote =
+    ImageWent honest sectors reads choices moment images_since left (λ lines state first last.
+    ScriptStarved honest sectors reads choices moment images_since first.house.budget state [] link lines wrote first last)

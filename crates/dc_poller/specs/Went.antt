@@ -2,10 +2,16 @@
 use Rattle.std.specs.Prelude.{◌≡◌, ℕ, List, [], ◌∷◌, map}
 use Rattle.dc_changes.specs.State.{State}
 use Rattle.dc_core.specs.Event.{Event, Answer}
-use Rattle.dc_core.specs.Images.{Machine}
+use Rattle.dc_core.specs.Core.{opened}
+use Rattle.dc_core.specs.Images.{Machine, IsAt}
 use Rattle.dc_core.specs.Run.{Ran}
-use Rattle.dc_core.specs.Transcript.{Turn}
+use Rattle.dc_core.specs.Transcript.{Turn, leads, IsChain}
 use Rattle.dc_sectors.specs.Disk.{Image, Choices}
+
+-- This stands BEHIND ANY RUN: from whatever state the concentrator was opened with, and whatever turns led to where it is.
+abbrev pub BehindAnyRun : {D : Type 0} → (honest : Type 0) → (sectors : D → ℕ) → (reads : D → Image) → (choices : D → Choices) → Machine D → (State → List Turn → Type 0) → Type 0
+BehindAnyRun honest sectors reads choices first stands =
+    (state : State) (before : List Turn) → IsChain first.house.budget (opened state) before → IsAt honest sectors reads choices first (leads (opened state) before) → stands state before
 
 -- THESE TURNS ARE RUN, behind the turns that were before: they are those of a run of their events.
 pub record Went {D : Type 0} (honest : Type 0) (sectors : D → ℕ) (reads : D → Image) (choices : D → Choices) (moment : D → ℕ) (images_since : D → ℕ → Image → Type 0) (budget : ℕ) (state : State) (before turns : List Turn) (first new : Machine D) : Type 0 where

@@ -1,18 +1,15 @@
 //! `POLL`: the readout of a meter through the gateway.
 
-ghost use Rattle.std.specs.Prelude.{◌≡◌, ◌≤◌, ℕ, true, List, IfOk, OnOk, OnErr, length};
+ghost use Rattle.std.specs.Prelude.{◌≡◌, ◌≤◌, ℕ, true, IfOk, OnOk, OnErr, length};
 ghost use Rattle.dc_address.specs.declared.identity.Identity.{Identity as Meter};
 ghost use Rattle.dc_base.specs.Failures.{HasRisen};
-ghost use Rattle.dc_changes.specs.State.{State};
-ghost use Rattle.dc_core.specs.Core.{opened};
-ghost use Rattle.dc_core.specs.Images.{IsAt};
 ghost use Rattle.dc_core.specs.Step.{longest_request};
-ghost use Rattle.dc_core.specs.Transcript.{Turn, leads, IsChain};
 ghost use Rattle.dc_gateway.specs.Blocks.{most_answer};
 ghost use Rattle.dc_stream.specs.Stream.{Puts, Wrote};
 ghost use Rattle.dc_poller.specs.Link.{Link, link_by, loss_text, IsHeardOver};
 ghost use Rattle.dc_poller.specs.Poll.{IsEnd, to_start, to_ask, to_hear, to_commit, to_make_room, to_hear_again, behind_heard};
 ghost use Rattle.dc_poller.specs.Way.{Way, IsRound};
+ghost use Rattle.dc_poller.specs.Went.{BehindAnyRun};
 
 use crate::told::{told_ask, told_commit, told_hear, told_start};
 use dc_address::Identity;
@@ -39,10 +36,10 @@ pub fn poll<D: Disk + Drop, A: Allocator + Copy, GR: Source + Drop, GW: Sink + D
     moment: Moment,
     out: &mut W,
 ) -> Result<(), IoFault>
-    ensures went { (state : State) (before : List Turn) → IsChain concentrator.old.house.budget (opened state) before → IsAt D.honest D.sectors D.reads D.choices concentrator.old (leads (opened state) before)
-        → Way D.honest D.sectors D.reads D.choices D.moment D.images_since concentrator.old.house.budget state before moment.seconds meter.now (record { due = to_start; link = link_by gateway.old.lost })
+    ensures went { BehindAnyRun D.honest D.sectors D.reads D.choices concentrator.old (λ state before.
+        Way D.honest D.sectors D.reads D.choices D.moment D.images_since concentrator.old.house.budget state before moment.seconds meter.now (record { due = to_start; link = link_by gateway.old.lost })
         (λ happened last. OnOk result (IsEnd happened last.due × (last.link ≡ link_by gateway.new.lost)))
-        (λ text. OnOk result (Puts (W.written out.old) (W.written out.new) text)) concentrator.old concentrator.new }
+        (λ text. OnOk result (Puts (W.written out.old) (W.written out.new) text)) concentrator.old concentrator.new) }
     ensures fault { OnErr result (HasRisen (W.put_failures out.old) (W.put_failures out.new)) }
     ensures well { OnOk result (W.put_failures out.new ≡ W.put_failures out.old) }
     ensures budget { concentrator.new.house.budget ≡ concentrator.old.house.budget }
@@ -63,10 +60,10 @@ fn read_parts<D: Disk + Drop, A: Allocator + Copy, GR: Source + Drop, GW: Sink +
     moment: Moment,
     out: &mut W,
 ) -> Result<(), IoFault>
-    ensures went { (meter : Meter) (state : State) (before : List Turn) → IsChain concentrator.old.house.budget (opened state) before → IsAt D.honest D.sectors D.reads D.choices concentrator.old (leads (opened state) before)
-        → Way D.honest D.sectors D.reads D.choices D.moment D.images_since concentrator.old.house.budget state before moment.seconds meter (record { due = to_ask; link = link_by gateway.old.lost })
+    ensures went { (meter : Meter) → BehindAnyRun D.honest D.sectors D.reads D.choices concentrator.old (λ state before.
+        Way D.honest D.sectors D.reads D.choices D.moment D.images_since concentrator.old.house.budget state before moment.seconds meter (record { due = to_ask; link = link_by gateway.old.lost })
         (λ happened last. OnOk result (IsEnd happened last.due × (last.link ≡ link_by gateway.new.lost)))
-        (λ text. OnOk result (Puts (W.written out.old) (W.written out.new) text)) concentrator.old concentrator.new }
+        (λ text. OnOk result (Puts (W.written out.old) (W.written out.new) text)) concentrator.old concentrator.new) }
     ensures fault { OnErr result (HasRisen (W.put_failures out.old) (W.put_failures out.new)) }
     ensures well { OnOk result (W.put_failures out.new ≡ W.put_failures out.old) }
     ensures budget { concentrator.new.house.budget ≡ concentrator.old.house.budget }
@@ -91,10 +88,10 @@ fn ask_and_hear<D: Disk + Drop, A: Allocator + Copy, GR: Source + Drop, GW: Sink
     moment: Moment,
     out: &mut W,
 ) -> Result<bool, IoFault>
-    ensures went { (meter : Meter) (state : State) (before : List Turn) → IsChain concentrator.old.house.budget (opened state) before → IsAt D.honest D.sectors D.reads D.choices concentrator.old (leads (opened state) before)
-        → Way D.honest D.sectors D.reads D.choices D.moment D.images_since concentrator.old.house.budget state before moment.seconds meter (record { due = to_ask; link = link_by gateway.old.lost })
+    ensures went { (meter : Meter) → BehindAnyRun D.honest D.sectors D.reads D.choices concentrator.old (λ state before.
+        Way D.honest D.sectors D.reads D.choices D.moment D.images_since concentrator.old.house.budget state before moment.seconds meter (record { due = to_ask; link = link_by gateway.old.lost })
         (λ happened last. IfOk result (λ more. IsRound more (link_by gateway.new.lost) 1 happened last))
-        (λ text. OnOk result (Puts (W.written out.old) (W.written out.new) text)) concentrator.old concentrator.new }
+        (λ text. OnOk result (Puts (W.written out.old) (W.written out.new) text)) concentrator.old concentrator.new) }
     ensures fault { OnErr result (HasRisen (W.put_failures out.old) (W.put_failures out.new)) }
     ensures well { OnOk result (W.put_failures out.new ≡ W.put_failures out.old) }
     ensures budget { concentrator.new.house.budget ≡ concentrator.old.house.budget }
@@ -117,10 +114,10 @@ fn exchange<D: Disk + Drop, A: Allocator + Copy, GR: Source + Drop, GW: Sink + D
     out: &mut W,
 ) -> Result<bool, IoFault>
     requires { length request.now ≤ longest_request }
-    ensures went { (meter : Meter) (state : State) (before : List Turn) → IsChain concentrator.old.house.budget (opened state) before → IsAt D.honest D.sectors D.reads D.choices concentrator.old (leads (opened state) before)
-        → Way D.honest D.sectors D.reads D.choices D.moment D.images_since concentrator.old.house.budget state before moment.seconds meter (record { due = to_hear; link = link_by gateway.old.lost })
+    ensures went { (meter : Meter) → BehindAnyRun D.honest D.sectors D.reads D.choices concentrator.old (λ state before.
+        Way D.honest D.sectors D.reads D.choices D.moment D.images_since concentrator.old.house.budget state before moment.seconds meter (record { due = to_hear; link = link_by gateway.old.lost })
         (λ happened last. IfOk result (λ more. IsRound more (link_by gateway.new.lost) 0 happened last))
-        (λ text. OnOk result (Puts (W.written out.old) (W.written out.new) text)) concentrator.old concentrator.new }
+        (λ text. OnOk result (Puts (W.written out.old) (W.written out.new) text)) concentrator.old concentrator.new) }
     ensures fault { OnErr result (HasRisen (W.put_failures out.old) (W.put_failures out.new)) }
     ensures well { OnOk result (W.put_failures out.new ≡ W.put_failures out.old) }
     ensures budget { concentrator.new.house.budget ≡ concentrator.old.house.budget }
@@ -163,10 +160,10 @@ fn hear<D: Disk + Drop, A: Allocator + Copy, W: Sink>(
     out: &mut W,
 ) -> Result<bool, IoFault>
     requires { length bytes.now ≤ most_answer }
-    ensures went { (meter : Meter) (link : Link) → IsHeardOver link bytes.now → (state : State) (before : List Turn) → IsChain concentrator.old.house.budget (opened state) before → IsAt D.honest D.sectors D.reads D.choices concentrator.old (leads (opened state) before)
-        → Way D.honest D.sectors D.reads D.choices D.moment D.images_since concentrator.old.house.budget state before moment.seconds meter (record { due = to_hear; link = link })
+    ensures went { (meter : Meter) (link : Link) → IsHeardOver link bytes.now → BehindAnyRun D.honest D.sectors D.reads D.choices concentrator.old (λ state before.
+        Way D.honest D.sectors D.reads D.choices D.moment D.images_since concentrator.old.house.budget state before moment.seconds meter (record { due = to_hear; link = link })
         (λ happened last. IfOk result (λ more. IsRound more link 0 happened last))
-        (λ text. OnOk result (Puts (W.written out.old) (W.written out.new) text)) concentrator.old concentrator.new }
+        (λ text. OnOk result (Puts (W.written out.old) (W.written out.new) text)) concentrator.old concentrator.new) }
     ensures fault { OnErr result (HasRisen (W.put_failures out.old) (W.put_failures out.new)) }
     ensures well { OnOk result (W.put_failures out.new ≡ W.put_failures out.old) }
     ensures budget { concentrator.new.house.budget ≡ concentrator.old.house.budget }
@@ -190,10 +187,10 @@ fn hear_again<D: Disk + Drop, A: Allocator + Copy, W: Sink>(
     bytes: &[u8],
     out: &mut W,
 ) -> Result<bool, IoFault>
-    ensures went { (meter : Meter) (link : Link) (state : State) (before : List Turn) → IsChain concentrator.old.house.budget (opened state) before → IsAt D.honest D.sectors D.reads D.choices concentrator.old (leads (opened state) before)
-        → Way D.honest D.sectors D.reads D.choices D.moment D.images_since concentrator.old.house.budget state before moment.seconds meter (record { due = to_make_room bytes.now; link = link })
+    ensures went { (meter : Meter) (link : Link) → BehindAnyRun D.honest D.sectors D.reads D.choices concentrator.old (λ state before.
+        Way D.honest D.sectors D.reads D.choices D.moment D.images_since concentrator.old.house.budget state before moment.seconds meter (record { due = to_make_room bytes.now; link = link })
         (λ happened last. IfOk result (λ more. IsRound more link 0 happened last))
-        (λ text. OnOk result (Puts (W.written out.old) (W.written out.new) text)) concentrator.old concentrator.new }
+        (λ text. OnOk result (Puts (W.written out.old) (W.written out.new) text)) concentrator.old concentrator.new) }
     ensures fault { OnErr result (HasRisen (W.put_failures out.old) (W.put_failures out.new)) }
     ensures well { OnOk result (W.put_failures out.new ≡ W.put_failures out.old) }
     ensures budget { concentrator.new.house.budget ≡ concentrator.old.house.budget }
@@ -214,10 +211,10 @@ fn hear_once_more<D: Disk + Drop, A: Allocator + Copy, W: Sink>(
     bytes: &[u8],
     out: &mut W,
 ) -> Result<bool, IoFault>
-    ensures went { (meter : Meter) (link : Link) (state : State) (before : List Turn) → IsChain concentrator.old.house.budget (opened state) before → IsAt D.honest D.sectors D.reads D.choices concentrator.old (leads (opened state) before)
-        → Way D.honest D.sectors D.reads D.choices D.moment D.images_since concentrator.old.house.budget state before moment.seconds meter (record { due = to_hear_again bytes.now; link = link })
+    ensures went { (meter : Meter) (link : Link) → BehindAnyRun D.honest D.sectors D.reads D.choices concentrator.old (λ state before.
+        Way D.honest D.sectors D.reads D.choices D.moment D.images_since concentrator.old.house.budget state before moment.seconds meter (record { due = to_hear_again bytes.now; link = link })
         (λ happened last. IfOk result (λ more. IsRound more link 0 happened last))
-        (λ text. OnOk result (Puts (W.written out.old) (W.written out.new) text)) concentrator.old concentrator.new }
+        (λ text. OnOk result (Puts (W.written out.old) (W.written out.new) text)) concentrator.old concentrator.new) }
     ensures fault { OnErr result (HasRisen (W.put_failures out.old) (W.put_failures out.new)) }
     ensures well { OnOk result (W.put_failures out.new ≡ W.put_failures out.old) }
     ensures budget { concentrator.new.house.budget ≡ concentrator.old.house.budget }
@@ -234,10 +231,10 @@ fn settle<D: Disk + Drop, A: Allocator + Copy, W: Sink>(
     answer: Result<LineHeard, HearFault>,
     out: &mut W,
 ) -> Result<bool, IoFault>
-    ensures went { (moment : ℕ) (meter : Meter) (link : Link) (state : State) (before : List Turn) → IsChain concentrator.old.house.budget (opened state) before → IsAt D.honest D.sectors D.reads D.choices concentrator.old (leads (opened state) before)
-        → Way D.honest D.sectors D.reads D.choices D.moment D.images_since concentrator.old.house.budget state before moment meter (record { due = behind_heard answer; link = link })
+    ensures went { (moment : ℕ) (meter : Meter) (link : Link) → BehindAnyRun D.honest D.sectors D.reads D.choices concentrator.old (λ state before.
+        Way D.honest D.sectors D.reads D.choices D.moment D.images_since concentrator.old.house.budget state before moment meter (record { due = behind_heard answer; link = link })
         (λ happened last. IfOk result (λ more. IsRound more link 0 happened last))
-        (λ text. OnOk result (Puts (W.written out.old) (W.written out.new) text)) concentrator.old concentrator.new }
+        (λ text. OnOk result (Puts (W.written out.old) (W.written out.new) text)) concentrator.old concentrator.new) }
     ensures fault { OnErr result (HasRisen (W.put_failures out.old) (W.put_failures out.new)) }
     ensures well { OnOk result (W.put_failures out.new ≡ W.put_failures out.old) }
     ensures budget { concentrator.new.house.budget ≡ concentrator.old.house.budget }
@@ -257,10 +254,10 @@ fn commit_part<D: Disk + Drop, A: Allocator + Copy, W: Sink>(
     concentrator: &mut Concentrator<D, A>,
     out: &mut W,
 ) -> Result<bool, IoFault>
-    ensures went { (moment : ℕ) (meter : Meter) (link : Link) (state : State) (before : List Turn) → IsChain concentrator.old.house.budget (opened state) before → IsAt D.honest D.sectors D.reads D.choices concentrator.old (leads (opened state) before)
-        → Way D.honest D.sectors D.reads D.choices D.moment D.images_since concentrator.old.house.budget state before moment meter (record { due = to_commit; link = link })
+    ensures went { (moment : ℕ) (meter : Meter) (link : Link) → BehindAnyRun D.honest D.sectors D.reads D.choices concentrator.old (λ state before.
+        Way D.honest D.sectors D.reads D.choices D.moment D.images_since concentrator.old.house.budget state before moment meter (record { due = to_commit; link = link })
         (λ happened last. IfOk result (λ more. IsRound more link 0 happened last))
-        (λ text. OnOk result (Puts (W.written out.old) (W.written out.new) text)) concentrator.old concentrator.new }
+        (λ text. OnOk result (Puts (W.written out.old) (W.written out.new) text)) concentrator.old concentrator.new) }
     ensures fault { OnErr result (HasRisen (W.put_failures out.old) (W.put_failures out.new)) }
     ensures well { OnOk result (W.put_failures out.new ≡ W.put_failures out.old) }
     ensures budget { concentrator.new.house.budget ≡ concentrator.old.house.budget }

@@ -8,10 +8,10 @@ ghost use Rattle.dc_recovery.specs.Stands.{EachStands, StandsForOne};
 ghost use Rattle.dc_recovery.specs.declared.fault.OpenFault.TheVariants.{NotImage, Worn, Device};
 ghost use Rattle.dc_sectors.specs.Disk.{LeavesOnly};
 ghost use Rattle.dc_stream.specs.Stream.{Puts};
+ghost use Rattle.dc_teller.specs.Lines.{longest_input_line, most_input};
 ghost use Rattle.dc_poller.specs.Fault.{IfOpen, IsOfReading, IsOfSearch};
 ghost use Rattle.dc_poller.specs.ImageRun.{ImageRan, ImageCut};
 ghost use Rattle.dc_poller.specs.Link.{link_at_first, link_of};
-ghost use Rattle.dc_poller.specs.ScriptLine.{longest_line};
 ghost use Rattle.dc_poller.specs.Starved.{ImageStarved};
 
 use crate::fault::ProgramFault;
@@ -84,8 +84,8 @@ pub fn run_script<
         → IfErr result.1 (λ fault. IfOpen fault (λ e. LeavesOnly D.moment D.images_since disk result.0 (StandsForOne (half_len_of (D.sectors disk)) (D.choices disk)))) }
 
     // A script over the limit is refused, and no other is refused for its length.
-    ensures fits { OnOk result.1 (IfSome (R.left reader.old) (λ input. length input ≤ 1048576)) }
-    ensures too_long { IsErrOf result.1 ProgramFault.TooLong → IfSome (R.left reader.old) (λ input. 1048576 < length input) }
+    ensures fits { OnOk result.1 (IfSome (R.left reader.old) (λ input. length input ≤ most_input)) }
+    ensures too_long { IsErrOf result.1 ProgramFault.TooLong → IfSome (R.left reader.old) (λ input. most_input < length input) }
 
     // A fault of an end is told only where that end counted a failure.
     ensures read { IsErrOf result.1 ProgramFault.Read → HasRisen (R.take_failures reader.old) (R.take_failures reader.new) }
@@ -129,9 +129,9 @@ fn read_script<A: Allocator + Copy, R: Source>(
     reader: &mut R,
 ) -> Result<(Vec<u8, A>, Vec<u8, A>), ProgramFault>
     ensures whole { IfOk result (λ script. IfSome (R.left reader.old) (λ known. script.0.items ≡ known)) }
-    ensures room { IfOk result (λ script. longest_line ≤ 2 * vec_len script.1) }
-    ensures fits { OnOk result (IfSome (R.left reader.old) (λ input. length input ≤ 1048576)) }
-    ensures too_long { IsErrOf result ProgramFault.TooLong → IfSome (R.left reader.old) (λ input. 1048576 < length input) }
+    ensures room { IfOk result (λ script. longest_input_line ≤ 2 * vec_len script.1) }
+    ensures fits { OnOk result (IfSome (R.left reader.old) (λ input. length input ≤ most_input)) }
+    ensures too_long { IsErrOf result ProgramFault.TooLong → IfSome (R.left reader.old) (λ input. most_input < length input) }
     ensures faults { IfErr result IsOfReading }
     ensures ok { OnOk result (R.take_failures reader.new ≡ R.take_failures reader.old) }
     ensures read { IsErrOf result ProgramFault.Read → HasRisen (R.take_failures reader.old) (R.take_failures reader.new) }

@@ -1,22 +1,18 @@
 //! The lines of a script, one by one through a concentrator.
 
-ghost use Rattle.std.specs.Prelude.{◌≡◌, ◌≢◌, ◌≤◌, ◌*◌, ◌++◌, List, codes, length, IfOk, OnOk, OnErr};
+ghost use Rattle.std.specs.Prelude.{◌≡◌, ◌≢◌, ◌≤◌, ◌*◌, ◌++◌, codes, length, IfOk, OnOk, OnErr};
 ghost use Rattle.dc_base.specs.Failures.{HasRisen};
-ghost use Rattle.dc_changes.specs.State.{State};
-ghost use Rattle.dc_core.specs.Core.{opened};
-ghost use Rattle.dc_core.specs.Images.{IsAt};
 ghost use Rattle.dc_core.specs.Run.{event_of};
 ghost use Rattle.dc_core.specs.Text.{answer_text};
-ghost use Rattle.dc_core.specs.Transcript.{Turn, leads, IsChain};
 ghost use Rattle.dc_stream.specs.Stream.{Puts, Wrote};
 ghost use Rattle.dc_text.specs.Words.{number_word};
-ghost use Rattle.dc_teller.specs.Lines.{lines_of};
+ghost use Rattle.dc_teller.specs.Lines.{lines_of, longest_input_line};
 ghost use Rattle.dc_poller.specs.Halt.{IsCounted, OnNoMemory, OnWrite};
 ghost use Rattle.dc_poller.specs.Link.{absent, link_of};
 ghost use Rattle.dc_poller.specs.Script.{ScriptCut, ScriptRan, LineCut, LineRan, moment_behind};
-ghost use Rattle.dc_poller.specs.ScriptLine.{IsPlain, longest_line, seen};
+ghost use Rattle.dc_poller.specs.ScriptLine.{IsPlain, seen};
 ghost use Rattle.dc_poller.specs.Starved.{LineStarved, ScriptStarved};
-ghost use Rattle.dc_poller.specs.Went.{TurnWent};
+ghost use Rattle.dc_poller.specs.Went.{BehindAnyRun, TurnWent};
 
 use crate::halt::{Halt, written};
 use crate::poll::{GATEWAY_LINE, poll};
@@ -41,13 +37,13 @@ pub fn run_lines<D: Disk + Drop, A: Allocator + Copy, GR: Source + Drop, GW: Sin
     bytes: &mut [u8],
     out: &mut W,
 ) -> Result<bool, Halt>
-    requires { longest_line ≤ 2 * length bytes.old }
-    ensures ran { (state : State) (before : List Turn) → IsChain concentrator.old.house.budget (opened state) before → IsAt D.honest D.sectors D.reads D.choices concentrator.old (leads (opened state) before)
-        → IfOk result (λ faulty. ScriptRan D.honest D.sectors D.reads D.choices D.moment D.images_since concentrator.old.house.budget state before (link_of gateway.old) (lines_of input.now) faulty (Puts (W.written out.old) (W.written out.new)) concentrator.old concentrator.new) }
-    ensures cut { (state : State) (before : List Turn) → IsChain concentrator.old.house.budget (opened state) before → IsAt D.honest D.sectors D.reads D.choices concentrator.old (leads (opened state) before)
-        → OnWrite result (ScriptCut D.honest D.sectors D.reads D.choices D.moment D.images_since concentrator.old.house.budget state before (link_of gateway.old) (lines_of input.now) concentrator.old concentrator.new) }
-    ensures starved { (state : State) (before : List Turn) → IsChain concentrator.old.house.budget (opened state) before → IsAt D.honest D.sectors D.reads D.choices concentrator.old (leads (opened state) before)
-        → OnNoMemory result (ScriptStarved D.honest D.sectors D.reads D.choices D.moment D.images_since concentrator.old.house.budget state before (link_of gateway.old) (lines_of input.now) (Puts (W.written out.old) (W.written out.new)) concentrator.old concentrator.new) }
+    requires { longest_input_line ≤ 2 * length bytes.old }
+    ensures ran { BehindAnyRun D.honest D.sectors D.reads D.choices concentrator.old (λ state before.
+        IfOk result (λ faulty. ScriptRan D.honest D.sectors D.reads D.choices D.moment D.images_since concentrator.old.house.budget state before (link_of gateway.old) (lines_of input.now) faulty (Puts (W.written out.old) (W.written out.new)) concentrator.old concentrator.new)) }
+    ensures cut { BehindAnyRun D.honest D.sectors D.reads D.choices concentrator.old (λ state before.
+        OnWrite result (ScriptCut D.honest D.sectors D.reads D.choices D.moment D.images_since concentrator.old.house.budget state before (link_of gateway.old) (lines_of input.now) concentrator.old concentrator.new)) }
+    ensures starved { BehindAnyRun D.honest D.sectors D.reads D.choices concentrator.old (λ state before.
+        OnNoMemory result (ScriptStarved D.honest D.sectors D.reads D.choices D.moment D.images_since concentrator.old.house.budget state before (link_of gateway.old) (lines_of input.now) (Puts (W.written out.old) (W.written out.new)) concentrator.old concentrator.new)) }
     // Memory is refused to a search alone, which needs a gateway.
     ensures through { OnNoMemory result (link_of gateway.old ≢ absent) }
     ensures counted { IsCounted result (W.put_failures out.old) (W.put_failures out.new) }
@@ -82,12 +78,12 @@ fn run_line<D: Disk + Drop, A: Allocator + Copy, GR: Source + Drop, GW: Sink + D
     moment: Moment,
     out: &mut W,
 ) -> Result<(), Halt>
-    ensures ran { (state : State) (before : List Turn) → IsChain concentrator.old.house.budget (opened state) before → IsAt D.honest D.sectors D.reads D.choices concentrator.old (leads (opened state) before)
-        → OnOk result (LineRan D.honest D.sectors D.reads D.choices D.moment D.images_since concentrator.old.house.budget state before moment.seconds (seen asked.now) (link_of gateway.old) (link_of gateway.new) (Puts (W.written out.old) (W.written out.new)) concentrator.old concentrator.new) }
-    ensures cut { (state : State) (before : List Turn) → IsChain concentrator.old.house.budget (opened state) before → IsAt D.honest D.sectors D.reads D.choices concentrator.old (leads (opened state) before)
-        → OnWrite result (LineCut D.honest D.sectors D.reads D.choices D.moment D.images_since concentrator.old.house.budget state before moment.seconds (seen asked.now) (link_of gateway.old) concentrator.old concentrator.new) }
-    ensures starved { (state : State) (before : List Turn) → IsChain concentrator.old.house.budget (opened state) before → IsAt D.honest D.sectors D.reads D.choices concentrator.old (leads (opened state) before)
-        → OnNoMemory result (LineStarved D.honest D.sectors D.reads D.choices D.moment D.images_since concentrator.old.house.budget state before (seen asked.now) (link_of gateway.old) (Puts (W.written out.old) (W.written out.new)) concentrator.old concentrator.new) }
+    ensures ran { BehindAnyRun D.honest D.sectors D.reads D.choices concentrator.old (λ state before.
+        OnOk result (LineRan D.honest D.sectors D.reads D.choices D.moment D.images_since concentrator.old.house.budget state before moment.seconds (seen asked.now) (link_of gateway.old) (link_of gateway.new) (Puts (W.written out.old) (W.written out.new)) concentrator.old concentrator.new)) }
+    ensures cut { BehindAnyRun D.honest D.sectors D.reads D.choices concentrator.old (λ state before.
+        OnWrite result (LineCut D.honest D.sectors D.reads D.choices D.moment D.images_since concentrator.old.house.budget state before moment.seconds (seen asked.now) (link_of gateway.old) concentrator.old concentrator.new)) }
+    ensures starved { BehindAnyRun D.honest D.sectors D.reads D.choices concentrator.old (λ state before.
+        OnNoMemory result (LineStarved D.honest D.sectors D.reads D.choices D.moment D.images_since concentrator.old.house.budget state before (seen asked.now) (link_of gateway.old) (Puts (W.written out.old) (W.written out.new)) concentrator.old concentrator.new)) }
     ensures through { OnNoMemory result (link_of gateway.old ≢ absent) }
     ensures absent { link_of gateway.old ≡ absent → link_of gateway.new ≡ absent }
     ensures counted { IsCounted result (W.put_failures out.old) (W.put_failures out.new) }
@@ -111,10 +107,10 @@ fn run_plain<D: Disk + Drop, A: Allocator + Copy, GR: Source + Drop, GW: Sink + 
     out: &mut W,
 ) -> Result<(), IoFault>
     requires { IsPlain (seen asked.now) }
-    ensures ran { (state : State) (before : List Turn) → IsChain concentrator.old.house.budget (opened state) before → IsAt D.honest D.sectors D.reads D.choices concentrator.old (leads (opened state) before)
-        → OnOk result (LineRan D.honest D.sectors D.reads D.choices D.moment D.images_since concentrator.old.house.budget state before moment.seconds (seen asked.now) (link_of gateway.old) (link_of gateway.new) (Puts (W.written out.old) (W.written out.new)) concentrator.old concentrator.new) }
-    ensures cut { (state : State) (before : List Turn) → IsChain concentrator.old.house.budget (opened state) before → IsAt D.honest D.sectors D.reads D.choices concentrator.old (leads (opened state) before)
-        → OnErr result (LineCut D.honest D.sectors D.reads D.choices D.moment D.images_since concentrator.old.house.budget state before moment.seconds (seen asked.now) (link_of gateway.old) concentrator.old concentrator.new) }
+    ensures ran { BehindAnyRun D.honest D.sectors D.reads D.choices concentrator.old (λ state before.
+        OnOk result (LineRan D.honest D.sectors D.reads D.choices D.moment D.images_since concentrator.old.house.budget state before moment.seconds (seen asked.now) (link_of gateway.old) (link_of gateway.new) (Puts (W.written out.old) (W.written out.new)) concentrator.old concentrator.new)) }
+    ensures cut { BehindAnyRun D.honest D.sectors D.reads D.choices concentrator.old (λ state before.
+        OnErr result (LineCut D.honest D.sectors D.reads D.choices D.moment D.images_since concentrator.old.house.budget state before moment.seconds (seen asked.now) (link_of gateway.old) concentrator.old concentrator.new)) }
     ensures fault { OnErr result (HasRisen (W.put_failures out.old) (W.put_failures out.new)) }
     ensures well { OnOk result (W.put_failures out.new ≡ W.put_failures out.old) }
     ensures absent { link_of gateway.old ≡ absent → link_of gateway.new ≡ absent }
@@ -154,9 +150,9 @@ fn run_event<D: Disk + Drop, A: Allocator + Copy, W: Sink>(
     event: &Event<'_>,
     out: &mut W,
 ) -> Result<(), IoFault>
-    ensures went { (state : State) (before : List Turn) → IsChain concentrator.old.house.budget (opened state) before → IsAt D.honest D.sectors D.reads D.choices concentrator.old (leads (opened state) before)
-        → TurnWent D.honest D.sectors D.reads D.choices D.moment D.images_since concentrator.old.house.budget state before (event_of event.now)
-        (λ answer. OnOk result (Puts (W.written out.old) (W.written out.new) (answer_text answer))) concentrator.old concentrator.new }
+    ensures went { BehindAnyRun D.honest D.sectors D.reads D.choices concentrator.old (λ state before.
+        TurnWent D.honest D.sectors D.reads D.choices D.moment D.images_since concentrator.old.house.budget state before (event_of event.now)
+        (λ answer. OnOk result (Puts (W.written out.old) (W.written out.new) (answer_text answer))) concentrator.old concentrator.new) }
     ensures fault { OnErr result (HasRisen (W.put_failures out.old) (W.put_failures out.new)) }
     ensures well { OnOk result (W.put_failures out.new ≡ W.put_failures out.old) }
     ensures budget { concentrator.new.house.budget ≡ concentrator.old.house.budget }

@@ -7,7 +7,8 @@ ghost use Rattle.dc_address.specs.declared.identity.Identity.{Identity};
 ghost use Rattle.dc_changes.specs.Line.{IsOfBytes};
 ghost use Rattle.dc_changes.specs.Valid.{end_of_numbers};
 ghost use Rattle.dc_text.specs.Hex.{bytes_of};
-ghost use Rattle.dc_poller.specs.ScriptLine.{LineSeen, IsLineOf, at, start, ask, hear, poll, search, seen, greatest_line, longest_line};
+ghost use Rattle.dc_teller.specs.Lines.{longest_input_line};
+ghost use Rattle.dc_poller.specs.ScriptLine.{LineSeen, IsLineOf, at, start, ask, hear, poll, search, seen, greatest_line};
 
 use dc_address::Identity;
 use dc_changes::{Moment, parse_number, split_word};
@@ -41,7 +42,7 @@ impl<'a> ScriptLine<'a> {
     /// What a line asks for; none where it spells nothing, or has more than 4,096 bytes. The bytes of an answer are put
     /// into `room`, of at least half as many bytes.
     pub fn parse(text: &'a [u8], room: &'a mut [u8]) -> Option<ScriptLine<'a>>
-        requires { longest_line ≤ 2 * length room.old }
+        requires { longest_input_line ≤ 2 * length room.old }
         ensures found { IfSome result (λ read. IsLineOf text.now (seen read)) }
         ensures only { (asked : LineSeen) → IsLineOf text.now asked → MatchOption result ⊥ (λ read. seen read ≡ asked) }
     {
@@ -80,7 +81,7 @@ impl<'a> ScriptLine<'a> {
 // ---- the forms, each by its first word
 
 fn parse_at(text: &[u8]) -> Option<Moment>
-    requires { length text.now ≤ longest_line }
+    requires { length text.now ≤ longest_input_line }
     ensures found { IfSome result (λ moment. IsLineOf text.now (at moment.seconds)) }
     ensures only { (moment : ℕ) → IsLineOf text.now (at moment) → IsSome result }
 {
@@ -89,7 +90,7 @@ fn parse_at(text: &[u8]) -> Option<Moment>
 }
 
 fn parse_start(text: &[u8]) -> Option<(u8, Identity)>
-    requires { length text.now ≤ longest_line }
+    requires { length text.now ≤ longest_input_line }
     ensures found { IfSome result (λ told. IsLineOf text.now (start told.0 told.1)) }
     ensures only { (line : ℕ) (meter : Identity) → IsLineOf text.now (start line meter) → IsSome result }
 {
@@ -98,7 +99,7 @@ fn parse_start(text: &[u8]) -> Option<(u8, Identity)>
 }
 
 fn parse_ask(text: &[u8]) -> Option<u8>
-    requires { length text.now ≤ longest_line }
+    requires { length text.now ≤ longest_input_line }
     ensures found { IfSome result (λ line. IsLineOf text.now (ask line)) }
     ensures only { (line : ℕ) → IsLineOf text.now (ask line) → IsSome result }
 {
@@ -107,7 +108,7 @@ fn parse_ask(text: &[u8]) -> Option<u8>
 }
 
 fn parse_poll(text: &[u8]) -> Option<(u8, Identity)>
-    requires { length text.now ≤ longest_line }
+    requires { length text.now ≤ longest_input_line }
     ensures found { IfSome result (λ told. IsLineOf text.now (poll told.0 told.1)) }
     ensures only { (line : ℕ) (meter : Identity) → IsLineOf text.now (poll line meter) → IsSome result }
 {
@@ -116,7 +117,7 @@ fn parse_poll(text: &[u8]) -> Option<(u8, Identity)>
 }
 
 fn parse_search(text: &[u8]) -> Option<u32>
-    requires { length text.now ≤ longest_line }
+    requires { length text.now ≤ longest_input_line }
     ensures found { IfSome result (λ budget. IsLineOf text.now (search budget)) }
     ensures only { (budget : ℕ) → IsLineOf text.now (search budget) → IsSome result }
 {
@@ -126,8 +127,8 @@ fn parse_search(text: &[u8]) -> Option<u32>
 }
 
 fn parse_hear<'a>(text: &[u8], room: &'a mut [u8]) -> Option<(u8, &'a [u8])>
-    requires fits { length text.now ≤ longest_line }
-    requires room { longest_line ≤ 2 * length room.old }
+    requires fits { length text.now ≤ longest_input_line }
+    requires room { longest_input_line ≤ 2 * length room.old }
     ensures found { IfSome result (λ told. IsLineOf text.now (hear told.0 told.1.now)) }
     ensures only { (line : ℕ) (answer : List ℕ) → IsLineOf text.now (hear line answer) → IsSome result }
 {

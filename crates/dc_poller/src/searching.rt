@@ -1,15 +1,11 @@
 //! `SEARCH`: meters are searched for through the gateway.
 
-ghost use Rattle.std.specs.Prelude.{◌≡◌, List};
-ghost use Rattle.dc_changes.specs.State.{State};
-ghost use Rattle.dc_core.specs.Core.{opened};
-ghost use Rattle.dc_core.specs.Images.{IsAt};
-ghost use Rattle.dc_core.specs.Transcript.{Turn, leads, IsChain};
+ghost use Rattle.std.specs.Prelude.{◌≡◌};
 ghost use Rattle.dc_stream.specs.Stream.{Puts, Wrote};
 ghost use Rattle.dc_poller.specs.Halt.{IsCounted};
 ghost use Rattle.dc_poller.specs.Link.{link_by, loss_text};
 ghost use Rattle.dc_poller.specs.Search.{Comes, Talked};
-ghost use Rattle.dc_poller.specs.Went.{TurnsWent};
+ghost use Rattle.dc_poller.specs.Went.{BehindAnyRun, TurnsWent};
 
 use crate::found::put_search;
 use crate::halt::{Halt, written};
@@ -31,9 +27,9 @@ pub fn search<D: Disk + Drop, A: Allocator + Copy, B: Bus, W: Sink>(
     budget: u32,
     out: &mut W,
 ) -> Result<(), Halt>
-    ensures went { (state : State) (before : List Turn) → IsChain concentrator.old.house.budget (opened state) before → IsAt D.honest D.sectors D.reads D.choices concentrator.old (leads (opened state) before)
-        → TurnsWent D.honest D.sectors D.reads D.choices D.moment D.images_since concentrator.old.house.budget state before
-        (Comes (B.meters bus.old) budget (link_by (B.lost bus.old)) (link_by (B.lost bus.new)) (Puts (W.written out.old) (W.written out.new)) result) concentrator.old concentrator.new }
+    ensures went { BehindAnyRun D.honest D.sectors D.reads D.choices concentrator.old (λ state before.
+        TurnsWent D.honest D.sectors D.reads D.choices D.moment D.images_since concentrator.old.house.budget state before
+        (Comes (B.meters bus.old) budget (link_by (B.lost bus.old)) (link_by (B.lost bus.new)) (Puts (W.written out.old) (W.written out.new)) result) concentrator.old concentrator.new) }
     ensures counted { IsCounted result (W.put_failures out.old) (W.put_failures out.new) }
     ensures budget { concentrator.new.house.budget ≡ concentrator.old.house.budget }
 {

@@ -1,16 +1,12 @@
 //! Single events of a concentrator: each answer is written as a line of text, and handed on.
 
-ghost use Rattle.std.specs.Prelude.{◌≡◌, ◌≤◌, List, IfOk, IfSome, OnOk, OnErr, length};
+ghost use Rattle.std.specs.Prelude.{◌≡◌, ◌≤◌, IfOk, IfSome, OnOk, OnErr, length};
 ghost use Rattle.dc_base.specs.Failures.{HasRisen};
-ghost use Rattle.dc_changes.specs.State.{State};
-ghost use Rattle.dc_core.specs.Core.{opened};
 ghost use Rattle.dc_core.specs.Event.{starts, asks, hears, commits, started, asked, heard, committed};
-ghost use Rattle.dc_core.specs.Images.{IsAt};
 ghost use Rattle.dc_core.specs.Step.{longest_request};
-ghost use Rattle.dc_core.specs.Transcript.{Turn, leads, IsChain};
 ghost use Rattle.dc_stream.specs.Stream.{Puts};
 ghost use Rattle.dc_poller.specs.Poll.{told_text};
-ghost use Rattle.dc_poller.specs.Went.{TurnWent};
+ghost use Rattle.dc_poller.specs.Went.{BehindAnyRun, TurnWent};
 
 use dc_address::Identity;
 use dc_changes::Moment;
@@ -30,9 +26,9 @@ pub fn told_start<D: Disk + Drop, A: Allocator + Copy, W: Sink>(
     meter: &Identity,
     out: &mut W,
 ) -> Result<Result<(), StartFault>, IoFault>
-    ensures went { (state : State) (before : List Turn) → IsChain concentrator.old.house.budget (opened state) before → IsAt D.honest D.sectors D.reads D.choices concentrator.old (leads (opened state) before)
-        → TurnWent D.honest D.sectors D.reads D.choices D.moment D.images_since concentrator.old.house.budget state before (starts line meter.now)
-        (λ answer. IfOk result (λ told. (answer ≡ started told) × Puts (W.written out.old) (W.written out.new) (told_text (started told)))) concentrator.old concentrator.new }
+    ensures went { BehindAnyRun D.honest D.sectors D.reads D.choices concentrator.old (λ state before.
+        TurnWent D.honest D.sectors D.reads D.choices D.moment D.images_since concentrator.old.house.budget state before (starts line meter.now)
+        (λ answer. IfOk result (λ told. (answer ≡ started told) × Puts (W.written out.old) (W.written out.new) (told_text (started told)))) concentrator.old concentrator.new) }
     ensures fault { OnErr result (HasRisen (W.put_failures out.old) (W.put_failures out.new)) }
     ensures well { OnOk result (W.put_failures out.new ≡ W.put_failures out.old) }
     ensures budget { concentrator.new.house.budget ≡ concentrator.old.house.budget }
@@ -50,9 +46,9 @@ pub fn told_ask<D: Disk + Drop, A: Allocator + Copy, W: Sink>(
     line: u8,
     out: &mut W,
 ) -> Result<Option<FrameBuf>, IoFault>
-    ensures went { (state : State) (before : List Turn) → IsChain concentrator.now.house.budget (opened state) before → IsAt D.honest D.sectors D.reads D.choices concentrator.now (leads (opened state) before)
-        → TurnWent D.honest D.sectors D.reads D.choices D.moment D.images_since concentrator.now.house.budget state before (asks line)
-        (λ answer. IfOk result (λ told. (answer ≡ asked told) × Puts (W.written out.old) (W.written out.new) (told_text (asked told)))) concentrator.now concentrator.now }
+    ensures went { BehindAnyRun D.honest D.sectors D.reads D.choices concentrator.now (λ state before.
+        TurnWent D.honest D.sectors D.reads D.choices D.moment D.images_since concentrator.now.house.budget state before (asks line)
+        (λ answer. IfOk result (λ told. (answer ≡ asked told) × Puts (W.written out.old) (W.written out.new) (told_text (asked told)))) concentrator.now concentrator.now) }
     ensures short { IfOk result (λ told. IfSome told (λ request. length request ≤ longest_request)) }
     ensures fault { OnErr result (HasRisen (W.put_failures out.old) (W.put_failures out.new)) }
     ensures well { OnOk result (W.put_failures out.new ≡ W.put_failures out.old) }
@@ -74,9 +70,9 @@ pub fn told_hear<D: Disk + Drop, A: Allocator + Copy, W: Sink>(
     bytes: &[u8],
     out: &mut W,
 ) -> Result<Result<LineHeard, HearFault>, IoFault>
-    ensures went { (state : State) (before : List Turn) → IsChain concentrator.old.house.budget (opened state) before → IsAt D.honest D.sectors D.reads D.choices concentrator.old (leads (opened state) before)
-        → TurnWent D.honest D.sectors D.reads D.choices D.moment D.images_since concentrator.old.house.budget state before (hears line moment.seconds bytes.now)
-        (λ answer. IfOk result (λ told. (answer ≡ heard told) × Puts (W.written out.old) (W.written out.new) (told_text (heard told)))) concentrator.old concentrator.new }
+    ensures went { BehindAnyRun D.honest D.sectors D.reads D.choices concentrator.old (λ state before.
+        TurnWent D.honest D.sectors D.reads D.choices D.moment D.images_since concentrator.old.house.budget state before (hears line moment.seconds bytes.now)
+        (λ answer. IfOk result (λ told. (answer ≡ heard told) × Puts (W.written out.old) (W.written out.new) (told_text (heard told)))) concentrator.old concentrator.new) }
     ensures fault { OnErr result (HasRisen (W.put_failures out.old) (W.put_failures out.new)) }
     ensures well { OnOk result (W.put_failures out.new ≡ W.put_failures out.old) }
     ensures budget { concentrator.new.house.budget ≡ concentrator.old.house.budget }
@@ -93,9 +89,9 @@ pub fn told_commit<D: Disk + Drop, A: Allocator + Copy, W: Sink>(
     concentrator: &mut Concentrator<D, A>,
     out: &mut W,
 ) -> Result<Result<usize, CommitFault>, IoFault>
-    ensures went { (state : State) (before : List Turn) → IsChain concentrator.old.house.budget (opened state) before → IsAt D.honest D.sectors D.reads D.choices concentrator.old (leads (opened state) before)
-        → TurnWent D.honest D.sectors D.reads D.choices D.moment D.images_since concentrator.old.house.budget state before commits
-        (λ answer. IfOk result (λ told. (answer ≡ committed told) × Puts (W.written out.old) (W.written out.new) (told_text (committed told)))) concentrator.old concentrator.new }
+    ensures went { BehindAnyRun D.honest D.sectors D.reads D.choices concentrator.old (λ state before.
+        TurnWent D.honest D.sectors D.reads D.choices D.moment D.images_since concentrator.old.house.budget state before commits
+        (λ answer. IfOk result (λ told. (answer ≡ committed told) × Puts (W.written out.old) (W.written out.new) (told_text (committed told)))) concentrator.old concentrator.new) }
     ensures fault { OnErr result (HasRisen (W.put_failures out.old) (W.put_failures out.new)) }
     ensures well { OnOk result (W.put_failures out.new ≡ W.put_failures out.old) }
     ensures budget { concentrator.new.house.budget ≡ concentrator.old.house.budget }

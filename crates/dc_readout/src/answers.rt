@@ -1,6 +1,7 @@
 //! What an answer is to the request that waits for it.
 
 ghost use Rattle.std.specs.Prelude.{◌≡◌, ◌≤◌, length};
+ghost use Rattle.dc_linkframe.specs.Frame.{longest_body};
 ghost use Rattle.dc_linkframe.specs.Reading.{frame_of};
 ghost use Rattle.dc_records.specs.Telegram.{Parsed, telegram_at};
 ghost use Rattle.dc_readout.specs.Answer.{answered, to_command, to_request, by_body, is_understood, is_from};
@@ -55,7 +56,7 @@ pub(crate) fn to_request<'a>(
     answer: &'a [u8],
 ) -> Meaning<'a>
     ensures exact { meaning result ≡ to_request meter.now address part (frame_of answer.now) }
-    ensures fits { (t : Parsed) → meaning result ≡ answered t → length t.body ≤ 252 }
+    ensures fits { (t : Parsed) → meaning result ≡ answered t → length t.body ≤ longest_body }
 {
     let Ok(frame) = parse(answer) else {
         return Meaning::Missed(Why::NoAnswer);
@@ -83,9 +84,9 @@ pub(crate) fn to_request<'a>(
 
 // The body of a part.
 fn by_body<'a>(meter: &Identity, part: u8, body: &'a [u8]) -> Meaning<'a>
-    requires { length body.now ≤ 252 }
+    requires { length body.now ≤ longest_body }
     ensures exact { meaning result ≡ by_body meter.now part (telegram_at body.now) }
-    ensures fits { (t : Parsed) → meaning result ≡ answered t → length t.body ≤ 252 }
+    ensures fits { (t : Parsed) → meaning result ≡ answered t → length t.body ≤ longest_body }
 {
     match Telegram::parse(body) {
         Err(fault) => Meaning::Broken(Why::Content(fault)),

@@ -1,7 +1,7 @@
 //! One session: what it asks, how it judges what it hears, and what it then knows.
 
 ghost use Rattle.std.specs.Prelude.{◌≡◌, ◌+◌, ◌<◌, ◌≤◌, ◌↔◌, ℕ, length, false, IsSome, IsTrue, option_map};
-ghost use Rattle.dc_linkframe.specs.Frame.{spelling};
+ghost use Rattle.dc_linkframe.specs.Frame.{spelling, longest_body};
 ghost use Rattle.dc_linkframe.specs.Reading.{frame_of};
 ghost use Rattle.dc_records.specs.Body.{continues};
 ghost use Rattle.dc_records.specs.Telegram.{Parsed, parsed};
@@ -85,7 +85,7 @@ impl Session {
         ensures exact { verdict result ≡ verdict_by self.old answer.now }
         ensures after { self.new ≡ heard_by self.old (verdict result) }
         // A telegram came in one frame.
-        ensures fits { (part : ℕ) (t : Parsed) → verdict result ≡ new part t → length t.body ≤ 252 }
+        ensures fits { (part : ℕ) (t : Parsed) → verdict result ≡ new part t → length t.body ≤ longest_body }
         ensures past { (past : Past) → SumsUp past self.old
             → (verdict result ≡ judged past answer.now) × SumsUp (and_heard answer.now past) self.new }
     {
@@ -153,7 +153,7 @@ impl Session {
         requires { IsSome (asked_by self.old) }
         ensures exact { verdict result ≡ verdict_by self.old answer.now }
         ensures after { self.new ≡ heard_by self.old (verdict result) }
-        ensures fits { (part : ℕ) (t : Parsed) → verdict result ≡ new part t → length t.body ≤ 252 }
+        ensures fits { (part : ℕ) (t : Parsed) → verdict result ≡ new part t → length t.body ≤ longest_body }
     {
         match self.meaning_of(answer) {
             Meaning::Acknowledged => self.go_on(),
@@ -166,7 +166,7 @@ impl Session {
     fn meaning_of<'a>(&self, answer: &'a [u8]) -> Meaning<'a>
         requires { IsSome (asked_by self.now) }
         ensures exact { meaning result ≡ meaning_at self.now.stage self.now.meter self.now.address self.now.settled (frame_of answer.now) }
-        ensures fits { (t : Parsed) → meaning result ≡ answered t → length t.body ≤ 252 }
+        ensures fits { (t : Parsed) → meaning result ≡ answered t → length t.body ≤ longest_body }
     {
         match self.stage {
             // Whatever answers the reset of every selected meter will do.

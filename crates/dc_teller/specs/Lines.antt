@@ -1,6 +1,18 @@
 -- The lines of an input (this product).
 use Rattle.std.specs.Prelude.{◌≢◌, ℕ, ◌<◌, slice_index, length, ◌==◌, Bool, not, if◌then◌else◌, List, [], ◌∷◌}
 
+-- the most bytes of an input: 1 MiB
+abbrev pub most_input : ℕ
+most_input = 1048576
+
+-- the most characters of an input line
+abbrev pub longest_input_line : ℕ
+longest_input_line = 4096
+
+-- the most bytes that the digits of an input line spell
+abbrev pub most_spelled : ℕ
+most_spelled = 2048
+
 -- a byte in front of the first line
 abbrev pub onto_first : ℕ → List (List ℕ) → List (List ℕ)
 onto_first b [] = (b ∷ []) ∷ []

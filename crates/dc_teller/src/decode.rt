@@ -3,6 +3,7 @@
 ghost use Rattle.std.specs.Prelude.{◌≡◌, ◌≢◌, ◌<◌, ◌≤◌, [], length, take, Some, None, MatchOption, IfSome, IfOk, IfErr, OnOk, OnErr, IsErrOf};
 ghost use Rattle.dc_base.specs.Failures.{HasRisen};
 ghost use Rattle.dc_stream.specs.Stream.{Puts, Wrote};
+ghost use Rattle.dc_teller.specs.Lines.{longest_input_line, most_input, most_spelled};
 ghost use Rattle.dc_teller.specs.Text.{decoded, line_text, is_bad_line, text_of, has_fault};
 
 use crate::fault::TellFault;
@@ -17,9 +18,9 @@ use std::alloc::Allocator;
 // The bytes of a line's digits, and how many. `digits` is room for the line without its spaces.
 #[tactic(auto, unfolding(crate::specs::Text::decoded))]
 fn decode_line(line: &[u8], digits: &mut [u8], bytes: &mut [u8]) -> Option<usize>
-    requires digits { 4096 ≤ length digits.old }
-    requires bytes { 2048 ≤ length bytes.old }
-    ensures count { IfSome result (λ n. n ≤ 2048) }
+    requires digits { longest_input_line ≤ length digits.old }
+    requires bytes { most_spelled ≤ length bytes.old }
+    ensures count { IfSome result (λ n. n ≤ most_spelled) }
     ensures value { MatchOption result (decoded line.now ≡ None) (λ n. decoded line.now ≡ Some (take n bytes.new)) }
 {
     if line.len() > LONGEST {
@@ -40,8 +41,8 @@ fn put_line<W: Sink>(
     bytes: &mut [u8],
     out: &mut W,
 ) -> Result<bool, IoFault>
-    requires digits { 4096 ≤ length digits.old }
-    requires bytes { 2048 ≤ length bytes.old }
+    requires digits { longest_input_line ≤ length digits.old }
+    requires bytes { most_spelled ≤ length bytes.old }
     ensures wrote { Wrote W.written W.put_failures result out.old out.new (line_text line.now) }
     ensures fault { IfOk result (λ bad. bad ≡ is_bad_line line.now) }
 {
@@ -62,8 +63,8 @@ fn put_lines<W: Sink>(
     bytes: &mut [u8],
     out: &mut W,
 ) -> Result<bool, IoFault>
-    requires digits { 4096 ≤ length digits.old }
-    requires bytes { 2048 ≤ length bytes.old }
+    requires digits { longest_input_line ≤ length digits.old }
+    requires bytes { most_spelled ≤ length bytes.old }
     ensures wrote { Wrote W.written W.put_failures result out.old out.new (text_of input.now) }
     ensures fault { IfOk result (λ bad. bad ≡ has_fault input.now) }
 {
@@ -98,8 +99,8 @@ pub fn decode_lines<A: Allocator + Copy, R: Source, W: Sink>(
     ensures fault { IfOk result (λ found. IfSome (R.left reader.old) (λ input. found ≡ has_fault input)) }
 
     // An input over the limit is refused, and no other is refused for its length.
-    ensures fits { OnOk result (IfSome (R.left reader.old) (λ input. length input ≤ 1048576)) }
-    ensures too_long { IsErrOf result TellFault.TooLong → IfSome (R.left reader.old) (λ input. 1048576 < length input) }
+    ensures fits { OnOk result (IfSome (R.left reader.old) (λ input. length input ≤ most_input)) }
+    ensures too_long { IsErrOf result TellFault.TooLong → IfSome (R.left reader.old) (λ input. most_input < length input) }
 
     // A fault of an end is told only where that end counted a failure.
     ensures read { IsErrOf result TellFault.Read → HasRisen (R.take_failures reader.old) (R.take_failures reader.new) }

@@ -6,7 +6,7 @@ ghost use Rattle.dc_changes.specs.ChangeLine.{longest_change_line};
 ghost use Rattle.dc_changes.specs.Valid.{IsChange};
 ghost use Rattle.dc_stream.specs.Stream.{Puts, Wrote};
 ghost use Rattle.dc_teller.specs.Fold.{IsFolded, IsStep, AreSteps, change_answer, after_change, order_line};
-ghost use Rattle.dc_teller.specs.Lines.{lines_of};
+ghost use Rattle.dc_teller.specs.Lines.{lines_of, most_input};
 
 use crate::fault::TellFault;
 use crate::input::{CHUNK, MOST, read_input};
@@ -142,8 +142,8 @@ pub fn fold_lines<A: Allocator + Copy, R: Source, W: Sink>(
     ensures text { IfOk result (λ found. IfSome (R.left reader.old) (λ input. (text : List ℕ) × IsFolded input text found × Puts (W.written writer.old) (W.written writer.new) text)) }
 
     // An input over the limit is refused, and no other is refused for its length.
-    ensures fits { OnOk result (IfSome (R.left reader.old) (λ input. length input ≤ 1048576)) }
-    ensures too_long { IsErrOf result TellFault.TooLong → IfSome (R.left reader.old) (λ input. 1048576 < length input) }
+    ensures fits { OnOk result (IfSome (R.left reader.old) (λ input. length input ≤ most_input)) }
+    ensures too_long { IsErrOf result TellFault.TooLong → IfSome (R.left reader.old) (λ input. most_input < length input) }
 
     // A fault of an end is told only where that end counted a failure.
     ensures read { IsErrOf result TellFault.Read → HasRisen (R.take_failures reader.old) (R.take_failures reader.new) }

@@ -3,6 +3,7 @@
 ghost use Rattle.std.specs.Prelude.{◌≡◌, ◌⊎◌, ◌<◌, ◌≤◌, length, vec_len, IfOk, IfErr, OnOk, IsErrOf};
 ghost use Rattle.dc_base.specs.Failures.{HasRisen};
 ghost use Rattle.dc_stream.specs.Stream.{Takes, IsAtEnd};
+ghost use Rattle.dc_teller.specs.Lines.{most_input};
 
 use crate::fault::TellFault;
 use dc_stream::Source;
@@ -22,7 +23,7 @@ pub fn read_input<A: Allocator, R: Source>(
 ) -> Result<Vec<u8, A>, TellFault>
     requires { 0 < length chunk.old }
     ensures bytes { IfOk result (λ input. Takes (R.left reader.old) (R.left reader.new) input.items) }
-    ensures end { IfOk result (λ input. vec_len input ≤ 1048576 → IsAtEnd (R.left reader.new)) }
+    ensures end { IfOk result (λ input. vec_len input ≤ most_input → IsAtEnd (R.left reader.new)) }
     ensures faults { IfErr result (λ fault. (fault ≡ TellFault.Read) ⊎ (fault ≡ TellFault.NoMemory)) }
     ensures ok { OnOk result (R.take_failures reader.new ≡ R.take_failures reader.old) }
     ensures read { IsErrOf result TellFault.Read → HasRisen (R.take_failures reader.old) (R.take_failures reader.new) }

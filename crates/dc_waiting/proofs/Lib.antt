@@ -1,6 +1,6 @@
 -- lemmas by topic
 
+-- what has room goes in whole
+pub mod Broken
 -- a list that is mapped in place, element by element
 pub mod Changed
--- a change always fits where one more may wait
-pub mod Encoded

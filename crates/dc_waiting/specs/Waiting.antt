@@ -1,5 +1,6 @@
 -- What is kept of the changes that aren't committed yet (this product).
 use Rattle.std.specs.Prelude.{ℕ, ◌≤◌, ◌*◌, List, length}
+use Rattle.dc_changes.specs.Encoding.{longest_change}
 use Rattle.dc_stream.specs.Bytes.{Filled}
 
 -- the changes' spellings, one after the other, and how many changes they are
@@ -11,13 +12,9 @@ pub record Waiting : Type 0 where
 abbrev pub most_waiting : ℕ
 most_waiting = 4
 
--- No change is spelled in more bytes: a telegram's tag, part and moment, and a body of 252 bytes behind its length.
-abbrev pub longest_change : ℕ
-longest_change = 263
-
 -- room for as many changes as may wait
 abbrev pub waiting_room : ℕ
-waiting_room = 1052
+waiting_room = longest_change * most_waiting
 
 pub record IsWaiting (filled : Filled) (count : ℕ) : Type 0 where
   pub few : count ≤ most_waiting

@@ -1,6 +1,7 @@
 //! The taking of a telegram: into the register, and among what waits.
 
 ghost use Rattle.std.specs.Prelude.{◌≡◌, ◌⊎◌, ◌≤◌, length, None, Some, Ok, Err, OnOk, OnErr};
+ghost use Rattle.dc_changes.specs.Body.{longest_body};
 ghost use Rattle.dc_records.specs.Telegram.{parsed};
 ghost use Rattle.dc_waiting.specs.declared.fault.TakeFault.TheVariants.{NoMemory};
 ghost use Rattle.dc_waiting.specs.Taking.{change_of, refuses, IsTaken};
@@ -25,7 +26,7 @@ pub fn take<A: Allocator + Copy>(
     moment: Moment,
     telegram: &Telegram<'_>,
 ) -> Result<(), TakeFault>
-    requires { length (parsed telegram.now).body ≤ 252 }
+    requires { length (parsed telegram.now).body ≤ longest_body }
     // What stands against it is answered, and nothing else is but want of memory.
     ensures refused { (fault : _) → refuses house.old.budget waiting.old.count (change_of moment.seconds part (parsed telegram.now)) house.old.state ≡ Some fault → result ≡ Err fault }
     ensures accepted { refuses house.old.budget waiting.old.count (change_of moment.seconds part (parsed telegram.now)) house.old.state ≡ None → (result ≡ Ok tt) ⊎ (result ≡ Err NoMemory) }

@@ -1,6 +1,6 @@
 //! A script over gateways that fail, stall or lie: it goes on, and says once that the gateway is lost.
-use super::common::{blank, joined};
-use super::poll::{ANSWERS, FIT, POLL};
+use super::common::{FIT, blank, joined};
+use super::poll::{ANSWERS, POLL};
 use super::streams::{FailingSink, FailingSource};
 use dc_poller::run_script;
 use dc_stream::{Bytes, Sink, Source};

@@ -1,11 +1,7 @@
 //! What no clause says: worked polls byte by byte, over gateways in memory.
-use super::common::{blank, joined};
-use dc_poller::run_script;
-use dc_stream::Bytes;
+use super::common::{FIT, is_told, joined};
 use std::process::Abort;
 use std::test::Fail;
-
-pub const FIT: &[u8] = b"AT 1735689600\nOFFICE 1 FIT 12345678.PAD.01.07 1 1 A1\n";
 
 pub const POLL: &[u8] = b"POLL 1 12345678.PAD.01.07\n";
 
@@ -19,31 +15,8 @@ pub const ANSWERS: &[u8] = &[
     0,
 ];
 
-// The script writes this text over a gateway that gives these blocks.
-fn is_polled(
-    rt: &(impl Abort + AllocGlobal),
-    answers: &[u8],
-    lines: &[u8],
-    text: &[u8],
-) -> Result<(), Fail> {
-    let heap = rt.alloc();
-    let lines = joined(heap, FIT, lines)?;
-    let mut reader = Bytes::from_slice(heap, lines.as_slice())?;
-    let mut writer = Bytes::new(heap);
-    let gateway = Some((Bytes::from_slice(heap, answers)?, Bytes::new(heap)));
-    let (_, outcome) = run_script(heap, blank(heap)?, &mut reader, &mut writer, gateway);
-    assert_eq!(rt; outcome, Ok(false));
-    assert_eq!(rt; writer.as_slice(), text);
-    Ok(())
-}
-
-#[test]
-fn a_meter_is_polled(rt: HostRuntime) -> Result<(), Fail> {
-    is_polled(
-        &rt,
-        ANSWERS,
-        POLL,
-        b"OK 1
+// What its poll writes.
+const POLLED: &[u8] = b"OK 1
 STARTED
 SEND 1040014116
 READY
@@ -53,8 +26,22 @@ COMMITTED 1
 SEND 105B015C16
 PART 2 LAST
 COMMITTED 1
-",
-    )
+";
+
+// The meter is fitted first.
+fn is_polled(
+    rt: &(impl Abort + AllocGlobal),
+    answers: &[u8],
+    lines: &[u8],
+    text: &[u8],
+) -> Result<(), Fail> {
+    let lines = joined(rt.alloc(), FIT, lines)?;
+    is_told(rt, answers, lines.as_slice(), text)
+}
+
+#[test]
+fn a_meter_is_polled(rt: HostRuntime) -> Result<(), Fail> {
+    is_polled(&rt, ANSWERS, POLL, POLLED)
 }
 
 // What a poll read is shown to the office, and reported.
@@ -65,21 +52,10 @@ fn a_polled_reading_is_shown(rt: HostRuntime) -> Result<(), Fail> {
         POLL,
         b"OFFICE REPORT 2024-12-31\nOFFICE WINDOW 1 1\n",
     )?;
-    is_polled(
-        &rt,
-        ANSWERS,
-        lines.as_slice(),
-        b"OK 1
-STARTED
-SEND 1040014116
-READY
-SEND 107B017C16
-PART 1 MORE
-COMMITTED 1
-SEND 105B015C16
-PART 2 LAST
-COMMITTED 1
-flat,meter,serial,storage,function,tariff,subunit,value,unit
+    let text = joined(
+        rt.alloc(),
+        POLLED,
+        b"flat,meter,serial,storage,function,tariff,subunit,value,unit
 A1,12345678.PAD.01.07,1,1,0,0,0,12345.000,m3
 END 1
 READING 1 12345678.PAD.01.07 A1 2
@@ -87,7 +63,8 @@ PART 1 1735689600 7856341224400107010000000C13785634121F
 PART 2 1735689600 785634122440010702000000426C1F3C4C1300503412
 END 1
 ",
-    )
+    )?;
+    is_polled(&rt, ANSWERS, lines.as_slice(), text.as_slice())
 }
 
 #[test]

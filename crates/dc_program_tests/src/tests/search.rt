@@ -1,5 +1,5 @@
 //! What no clause says: worked searches byte by byte, over gateways in memory and listed meters.
-use super::common::{blank, joined};
+use super::common::{FIT, blank, is_told, joined};
 use super::streams::FailingSink;
 use dc_address::Identity;
 use dc_core::Concentrator;
@@ -13,32 +13,13 @@ use std::alloc::{Allocator, Global};
 use std::process::Abort;
 use std::test::Fail;
 
-const FIT: &[u8] = b"AT 1735689600\nOFFICE 1 FIT 12345678.PAD.01.07 1 1 A1\n";
-
 // A meter acknowledges the selection of all, and sends its telegram.
 const ALONE: &[u8] =
     b"\x01\xE5\x00\x15\x68\x0F\x0F\x68\x08\x00\x72\x78\x56\x34\x12\x24\x40\x01\x07\x00\x00\x00\x00\xFA\x16\x00";
 
-// The script writes this text over a gateway that gives these blocks.
-fn is_searched(
-    rt: &(impl Abort + AllocGlobal),
-    answers: &[u8],
-    lines: &[u8],
-    text: &[u8],
-) -> Result<(), Fail> {
-    let heap = rt.alloc();
-    let mut reader = Bytes::from_slice(heap, lines)?;
-    let mut writer = Bytes::new(heap);
-    let gateway = Some((Bytes::from_slice(heap, answers)?, Bytes::new(heap)));
-    let (_, outcome) = run_script(heap, blank(heap)?, &mut reader, &mut writer, gateway);
-    assert_eq!(rt; outcome, Ok(false));
-    assert_eq!(rt; writer.as_slice(), text);
-    Ok(())
-}
-
 #[test]
 fn a_meter_is_found(rt: HostRuntime) -> Result<(), Fail> {
-    is_searched(
+    is_told(
         &rt,
         ALONE,
         b"SEARCH 9\n",
@@ -48,13 +29,13 @@ fn a_meter_is_found(rt: HostRuntime) -> Result<(), Fail> {
 
 #[test]
 fn a_budget_of_none_selects_nothing(rt: HostRuntime) -> Result<(), Fail> {
-    is_searched(&rt, &[], b"SEARCH 0\n", b"BUDGET\nSELECTIONS 0\n")
+    is_told(&rt, &[], b"SEARCH 0\n", b"BUDGET\nSELECTIONS 0\n")
 }
 
 // The gateway ends behind the acknowledgement: that is one collision, and silence for ten masks and the next search.
 #[test]
 fn a_loss_is_told_once_and_before_what_is_found(rt: HostRuntime) -> Result<(), Fail> {
-    is_searched(
+    is_told(
         &rt,
         b"\x01\xE5\x00",
         b"SEARCH 99\nSEARCH 99\n",
@@ -70,7 +51,7 @@ fn a_search_lets_a_readout_be(rt: HostRuntime) -> Result<(), Fail> {
         FIT,
         b"START 1 12345678.PAD.01.07\nSEARCH 9\nSTART 2 12345678.PAD.01.07\nSEARCH 0\n",
     )?;
-    is_searched(
+    is_told(
         &rt,
         &[],
         lines.as_slice(),
@@ -91,7 +72,7 @@ SEARCH 9
 COMMIT
 ",
     )?;
-    is_searched(
+    is_told(
         &rt,
         &[],
         lines.as_slice(),

@@ -210,65 +210,44 @@ fn powers_of_ten_reach_as_far_as_the_table(rt: HostRuntime) {
     expect(&rt, record(1, b"\xFB\x10", b"\x05"), "500", "m3");
 }
 
+// A date of type G, and a time of type F.
+fn is_day(rt: &impl Abort, content: &[u8], text: &str) {
+    expect(rt, record(2, b"\x6C", content), text, "");
+}
+
+fn is_minute(rt: &impl Abort, content: &[u8], text: &str) {
+    expect(rt, record(4, b"\x6D", content), text, "");
+}
+
 #[test]
 fn dates_print_as_days_and_minutes(rt: HostRuntime) {
-    expect(&rt, record(2, b"\x6C", b"\x1F\x3C"), "2024-12-31", "");
-    expect(
-        &rt,
-        record(4, b"\x6D", b"\x3B\x17\x3F\x31"),
-        "2025-01-31T23:59",
-        "",
-    );
-    expect(
-        &rt,
-        record(4, b"\x6D", b"\x3B\x37\x3F\x31"),
-        "2025-01-31T23:59",
-        "",
-    );
-    expect(&rt, record(2, b"\x6C", b"\x1E\x32"), "none", "");
-    expect(&rt, record(4, b"\x6D", b"\xBB\x17\x3F\x31"), "none", "");
+    is_day(&rt, b"\x1F\x3C", "2024-12-31");
+    is_minute(&rt, b"\x3B\x17\x3F\x31", "2025-01-31T23:59");
+    is_minute(&rt, b"\x3B\x37\x3F\x31", "2025-01-31T23:59");
+    is_day(&rt, b"\x1E\x32", "none");
+    is_minute(&rt, b"\xBB\x17\x3F\x31", "none");
     // leap days
-    expect(&rt, record(2, b"\x6C", b"\x1D\x32"), "2024-02-29", "");
-    expect(&rt, record(2, b"\x6C", b"\xFD\x22"), "none", "");
-    expect(&rt, record(2, b"\x6C", b"\x1D\x02"), "2000-02-29", "");
-    expect(
-        &rt,
-        record(4, b"\x6D", b"\x00\x20\x1D\x02"),
-        "2000-02-29T00:00",
-        "",
-    );
-    expect(&rt, record(4, b"\x6D", b"\x00\x40\x1D\x02"), "none", "");
+    is_day(&rt, b"\x1D\x32", "2024-02-29");
+    is_day(&rt, b"\xFD\x22", "none");
+    is_day(&rt, b"\x1D\x02", "2000-02-29");
+    is_minute(&rt, b"\x00\x20\x1D\x02", "2000-02-29T00:00");
+    is_minute(&rt, b"\x00\x40\x1D\x02", "none");
     // two digits of a year: 80, 81, 99 and 100
-    expect(&rt, record(2, b"\x6C", b"\x01\xA1"), "2080-01-01", "");
-    expect(&rt, record(2, b"\x6C", b"\x21\xA1"), "1981-01-01", "");
-    expect(&rt, record(2, b"\x6C", b"\x61\xC1"), "1999-01-01", "");
-    expect(&rt, record(2, b"\x6C", b"\x81\xC1"), "none", "");
+    is_day(&rt, b"\x01\xA1", "2080-01-01");
+    is_day(&rt, b"\x21\xA1", "1981-01-01");
+    is_day(&rt, b"\x61\xC1", "1999-01-01");
+    is_day(&rt, b"\x81\xC1", "none");
     // centuries
-    expect(
-        &rt,
-        record(4, b"\x6D", b"\x00\x20\x61\xC1"),
-        "2099-01-01T00:00",
-        "",
-    );
-    expect(
-        &rt,
-        record(4, b"\x6D", b"\x00\x60\x61\xC1"),
-        "2299-01-01T00:00",
-        "",
-    );
-    expect(&rt, record(4, b"\x6D", b"\x00\x60\x81\xC1"), "none", "");
+    is_minute(&rt, b"\x00\x20\x61\xC1", "2099-01-01T00:00");
+    is_minute(&rt, b"\x00\x60\x61\xC1", "2299-01-01T00:00");
+    is_minute(&rt, b"\x00\x60\x81\xC1", "none");
     // hour 24, minute 60; summer time and the reserved bit are not looked at
-    expect(&rt, record(4, b"\x6D", b"\x00\x18\x3F\x31"), "none", "");
-    expect(&rt, record(4, b"\x6D", b"\x3C\x00\x3F\x31"), "none", "");
-    expect(
-        &rt,
-        record(4, b"\x6D", b"\x7B\x97\x3F\x31"),
-        "2025-01-31T23:59",
-        "",
-    );
+    is_minute(&rt, b"\x00\x18\x3F\x31", "none");
+    is_minute(&rt, b"\x3C\x00\x3F\x31", "none");
+    is_minute(&rt, b"\x7B\x97\x3F\x31", "2025-01-31T23:59");
     // month 13, day 0
-    expect(&rt, record(2, b"\x6C", b"\x01\x3D"), "none", "");
-    expect(&rt, record(2, b"\x6C", b"\x00\x31"), "none", "");
+    is_day(&rt, b"\x01\x3D", "none");
+    is_day(&rt, b"\x00\x31", "none");
 }
 
 #[test]

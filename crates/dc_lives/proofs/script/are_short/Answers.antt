@@ -2,7 +2,7 @@ use Rattle.std.proofs.Common.{◌≡◌, ◌<◌, ◌≤◌, ℕ, List, length, 
 use Rattle.std.specs.Prelude.{slice_get}
 use Rattle.std.proofs.lemmas.Option.{slice_get_within}
 use borrow.Author.Count.{below_more}
-use Rattle.dc_lives.specs.World.{max_body}
+use Rattle.dc_linkframe.specs.Frame.{longest_body}
 use Rattle.dc_lives.proofs.Lists.{there, get_there}
 use Rattle.dc_lives.proofs.script.are_short.Goals as goal
 
@@ -14,8 +14,8 @@ returns-then-at-gt-MAX_BODY g c =
 
 pub loop-place-preserved : goal.loop-place-preserved
 loop-place-preserved g c =
-    below_more (λ (k : ℕ). (body : List ℕ) → slice_get c.args.bodies.now k ≡ Some body → length body ≤ max_body) c.loop-place.place c.loop-place.invariant
-    (λ body at. subst (λ (b : List ℕ). length b ≤ max_body) (c.at.ensures ∙ get_there c.args.bodies.now c.loop-place.place c.at.result.now body at) c.if-at-gt-MAX_BODY.false)
+    below_more (λ (k : ℕ). (body : List ℕ) → slice_get c.args.bodies.now k ≡ Some body → length body ≤ longest_body) c.loop-place.place c.loop-place.invariant
+    (λ body at. subst (λ (b : List ℕ). length b ≤ longest_body) (c.at.ensures ∙ get_there c.args.bodies.now c.loop-place.place c.at.result.now body at) c.if-at-gt-MAX_BODY.false)
 
 pub returns : goal.returns
 returns g c = (

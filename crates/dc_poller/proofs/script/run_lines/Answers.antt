@@ -2,8 +2,10 @@ use Rattle.std.proofs.Common.{Bool, ◌≡◌, ◌≤◌, ◌+◌, ◌++◌, ◌
 use Rattle.dc_stream.specs.Stream.{Puts}
 use Rattle.dc_stream.proofs.Pieces.{puts-both, puts-none}
 use Rattle.dc_text.specs.Words.{number_word}
+use Rattle.dc_changes.specs.State.{State}
 use Rattle.dc_core.specs.Core.{opened}
-use Rattle.dc_core.specs.Transcript.{IsChain}
+use Rattle.dc_core.specs.Images.{IsAt}
+use Rattle.dc_core.specs.Transcript.{Turn, leads, IsChain}
 use Rattle.dc_teller.specs.Lines.{lines_of}
 use Rattle.dc_poller.specs.Link.{link_of}
 use Rattle.dc_poller.specs.Script.{AskFor, LineRan, LineCut, ScriptCut, deeds_turns, deeds_text}
@@ -14,7 +16,39 @@ use Rattle.dc_teller.proofs.Inputs.{no_line}
 use Rattle.dc_poller.proofs.LineRuns.{SoFar, one_more, cut_here, lines_none}
 use Rattle.dc_poller.proofs.Starvings.{starved_here}
 use Rattle.dc_poller.proofs.Wents.{went_none, went_chain, went_at}
+use Rattle.dc_poller.proofs.script.run_lines.Given.{Over}
+use Rattle.dc_poller.proofs.script.run_lines.Goals.{After-first_line}
 use Rattle.dc_poller.proofs.script.run_lines.Goals as goal
+
+-- ---- THE LINES BEFORE THIS ONE
+
+-- the loop's own, with these lines to come
+abbrev SoFarWith : (g : Over) → After-first_line g → List (List ℕ) → Type 0
+SoFarWith g c rest = SoFar g.D.Disk.honest g.D.Disk.sectors g.D.Disk.reads g.D.Disk.choices g.D.Disk.moment g.D.Disk.images_since c.args.concentrator.now.house.budget (link_of c.args.gateway.now) (link_of c.lines.gateway) (lines_of c.args.input.now) rest
+    c.lines.moment.0 c.lines.count (Puts (g.W.Sink.written c.args.out.now) (g.W.Sink.written c.lines.out)) c.args.concentrator.now c.lines.concentrator
+
+here : (g : Over) (c : After-first_line g) → SoFarWith g c (c.first_line.result.0.now ∷ lines_of c.first_line.result.1.now)
+here g c = subst (SoFarWith g c) c.first_line.ensures.lines c.lines.invariant.so_far
+
+-- any run before the script, behind which the concentrator is as it came
+abbrev IsChainBefore : (g : Over) → After-first_line g → State → List Turn → Type 0
+IsChainBefore g c state before = IsChain c.args.concentrator.now.house.budget (opened state) before
+
+abbrev IsAtBefore : (g : Over) → After-first_line g → State → List Turn → Type 0
+IsAtBefore g c state before = IsAt g.D.Disk.honest g.D.Disk.sectors g.D.Disk.reads g.D.Disk.choices c.args.concentrator.now (leads (opened state) before)
+
+abbrev turns_here : (g : Over) (c : After-first_line g) (state : State) (before : List Turn) → IsChainBefore g c state before → IsAtBefore g c state before → List Turn
+turns_here g c state before chain at = deeds_turns ((here g c).ran state before chain at).lines.deeds
+
+chain_here : (g : Over) (c : After-first_line g) (state : State) (before : List Turn) (chain : IsChainBefore g c state before) (at : IsAtBefore g c state before)
+    → IsChain c.args.concentrator.now.house.budget (opened state) (before ++ turns_here g c state before chain at)
+chain_here g c state before chain at =
+    went_chain g.D.Disk.honest g.D.Disk.sectors g.D.Disk.reads g.D.Disk.choices g.D.Disk.moment g.D.Disk.images_since c.args.concentrator.now.house.budget state before (turns_here g c state before chain at) c.args.concentrator.now c.lines.concentrator ((here g c).ran state before chain at).lines.went
+
+at_here : (g : Over) (c : After-first_line g) (state : State) (before : List Turn) (chain : IsChainBefore g c state before) (at : IsAtBefore g c state before)
+    → IsAt g.D.Disk.honest g.D.Disk.sectors g.D.Disk.reads g.D.Disk.choices c.lines.concentrator (leads (opened state) (before ++ turns_here g c state before chain at))
+at_here g c state before chain at =
+    went_at g.D.Disk.honest g.D.Disk.sectors g.D.Disk.reads g.D.Disk.choices g.D.Disk.moment g.D.Disk.images_since c.args.concentrator.now.house.budget state before (turns_here g c state before chain at) c.args.concentrator.now c.lines.concentrator ((here g c).ran state before chain at).lines.went
 
 pub lines-init : goal.lines-init
 lines-init g c = record {
@@ -41,16 +75,13 @@ lines-preserved g c =
     let w = g.W.Sink.written in
     let counted = c.lines.invariant.counted in
     let shorter = c.first_line.ensures.shorter in
-    let so_far = c.lines.invariant.so_far in
     let b_is = c.lines.invariant.budget in
     let first = c.args.concentrator.now in
     let old = c.lines.concentrator in
     let new = c.run_line.new.concentrator in
     let piece : List ℕ → Type 0 = Puts (w c.lines.out) (w c.run_line.new.out) in
-    let here = subst (λ (rest : List (List ℕ)). SoFar g.D.Disk.honest g.D.Disk.sectors g.D.Disk.reads g.D.Disk.choices g.D.Disk.moment g.D.Disk.images_since first.house.budget (link_of c.args.gateway.now) (link_of c.lines.gateway) (lines_of c.args.input.now) rest c.lines.moment.0 c.lines.count (Puts (w c.args.out.now) (w c.lines.out)) first old)
-    c.first_line.ensures.lines so_far in
     let more = one_more g.D.Disk.honest g.D.Disk.sectors g.D.Disk.reads g.D.Disk.choices g.D.Disk.moment g.D.Disk.images_since first.house.budget (link_of c.args.gateway.now) (link_of c.lines.gateway) (link_of c.run_line.new.gateway) (lines_of c.args.input.now) c.first_line.result.0.now (lines_of c.first_line.result.1.now) asked c.lines.moment.0 c.lines.count
-    (Puts (w c.args.out.now) (w c.lines.out)) piece (Puts (w c.args.out.now) (w c.run_line.new.out)) first old new here c.in-Some.ensures.found
+    (Puts (w c.args.out.now) (w c.lines.out)) piece (Puts (w c.args.out.now) (w c.run_line.new.out)) first old new (here g (goal.at.lines-preserved g c).After-first_line) c.in-Some.ensures.found
     (λ state before chain at. subst (λ (b : ℕ). LineRan g.D.Disk.honest g.D.Disk.sectors g.D.Disk.reads g.D.Disk.choices g.D.Disk.moment g.D.Disk.images_since b state before c.lines.moment.0 asked (link_of c.lines.gateway) (link_of c.run_line.new.gateway) piece old new) b_is
     (c.in_default-run_line.ensures.ran state before (subst (λ (b : ℕ). IsChain b (opened state) before) (sym b_is) chain) at))
     (λ text more wrote put. puts-both (w c.args.out.now) (w c.lines.out) (w c.run_line.new.out) text more wrote put) in
@@ -67,51 +98,38 @@ lines-preserved g c =
 
 pub returns-in-Err-run_line-clause-cut : goal.returns-in-Err-run_line-clause-cut
 returns-in-Err-run_line-clause-cut g c state before chain at =
+    let from = (goal.at.returns-in-Err-run_line-clause-cut g c).After-first_line in
     let asked = seen c.in-Some.asked in
-    let new = c.run_line.new.concentrator in
-    let w = g.W.Sink.written in
     let b_is = c.lines.invariant.budget in
     let first = c.args.concentrator.now in
     let old = c.lines.concentrator in
-    let line = c.first_line.result.0.now in
-    let rest = lines_of c.first_line.result.1.now in
-    let here = subst (λ (rest : List (List ℕ)). SoFar g.D.Disk.honest g.D.Disk.sectors g.D.Disk.reads g.D.Disk.choices g.D.Disk.moment g.D.Disk.images_since first.house.budget (link_of c.args.gateway.now) (link_of c.lines.gateway) (lines_of c.args.input.now) rest c.lines.moment.0 c.lines.count (Puts (w c.args.out.now) (w c.lines.out)) first old)
-    c.first_line.ensures.lines c.lines.invariant.so_far in
-    let ran = here.ran state before chain at in
-    let turns = deeds_turns ran.lines.deeds in
+    let new = c.run_line.new.concentrator in
+    let turns = turns_here g from state before chain at in
     on_write (Unit {0}) Bool c.in-Err-run_line.halt (LineCut g.D.Disk.honest g.D.Disk.sectors g.D.Disk.reads g.D.Disk.choices g.D.Disk.moment g.D.Disk.images_since old.house.budget state (before ++ turns) c.lines.moment.0 asked (link_of c.lines.gateway) old new)
     (ScriptCut g.D.Disk.honest g.D.Disk.sectors g.D.Disk.reads g.D.Disk.choices g.D.Disk.moment g.D.Disk.images_since first.house.budget state before (link_of c.args.gateway.now) (lines_of c.args.input.now) first new)
     (λ here_cut.
     let cut = subst (λ (b : ℕ). LineCut g.D.Disk.honest g.D.Disk.sectors g.D.Disk.reads g.D.Disk.choices g.D.Disk.moment g.D.Disk.images_since b state (before ++ turns) c.lines.moment.0 asked (link_of c.lines.gateway) old new) b_is here_cut in
-    cut_here g.D.Disk.honest g.D.Disk.sectors g.D.Disk.reads g.D.Disk.choices g.D.Disk.moment g.D.Disk.images_since first.house.budget (link_of c.args.gateway.now) (link_of c.lines.gateway) (lines_of c.args.input.now) line rest c.lines.moment.0 c.lines.count (Puts (w c.args.out.now) (w c.lines.out)) cut.turns first old new here state before chain at
+    cut_here g.D.Disk.honest g.D.Disk.sectors g.D.Disk.reads g.D.Disk.choices g.D.Disk.moment g.D.Disk.images_since first.house.budget (link_of c.args.gateway.now) (link_of c.lines.gateway) (lines_of c.args.input.now) c.first_line.result.0.now (lines_of c.first_line.result.1.now) c.lines.moment.0 c.lines.count (Puts (g.W.Sink.written c.args.out.now) (g.W.Sink.written c.lines.out)) cut.turns first old new (here g from) state before chain at
     (inl (asked, c.in-Some.ensures.found, cut.does)) cut.went)
-    (c.in-Err-run_line.ensures.cut state (before ++ turns)
-    (subst (λ (b : ℕ). IsChain b (opened state) (before ++ turns)) (sym b_is) (went_chain g.D.Disk.honest g.D.Disk.sectors g.D.Disk.reads g.D.Disk.choices g.D.Disk.moment g.D.Disk.images_since first.house.budget state before turns first old ran.lines.went))
-    (went_at g.D.Disk.honest g.D.Disk.sectors g.D.Disk.reads g.D.Disk.choices g.D.Disk.moment g.D.Disk.images_since first.house.budget state before turns first old ran.lines.went))
+    (c.in-Err-run_line.ensures.cut state (before ++ turns) (subst (λ (b : ℕ). IsChain b (opened state) (before ++ turns)) (sym b_is) (chain_here g from state before chain at)) (at_here g from state before chain at))
 
 pub returns-in-Err-run_line-clause-starved : goal.returns-in-Err-run_line-clause-starved
 returns-in-Err-run_line-clause-starved g c state before chain at =
+    let from = (goal.at.returns-in-Err-run_line-clause-starved g c).After-first_line in
     let asked = seen c.in-Some.asked in
-    let new = c.run_line.new.concentrator in
     let w = g.W.Sink.written in
     let b_is = c.lines.invariant.budget in
     let first = c.args.concentrator.now in
     let old = c.lines.concentrator in
-    let line = c.first_line.result.0.now in
-    let rest = lines_of c.first_line.result.1.now in
-    let here = subst (λ (rest : List (List ℕ)). SoFar g.D.Disk.honest g.D.Disk.sectors g.D.Disk.reads g.D.Disk.choices g.D.Disk.moment g.D.Disk.images_since first.house.budget (link_of c.args.gateway.now) (link_of c.lines.gateway) (lines_of c.args.input.now) rest c.lines.moment.0 c.lines.count (Puts (w c.args.out.now) (w c.lines.out)) first old)
-    c.first_line.ensures.lines c.lines.invariant.so_far in
-    let ran = here.ran state before chain at in
-    let turns = deeds_turns ran.lines.deeds in
+    let new = c.run_line.new.concentrator in
+    let turns = turns_here g from state before chain at in
     let piece : List ℕ → Type 0 = Puts (w c.lines.out) (w c.run_line.new.out) in
     on_no_memory (Unit {0}) Bool c.in-Err-run_line.halt (LineStarved g.D.Disk.honest g.D.Disk.sectors g.D.Disk.reads g.D.Disk.choices g.D.Disk.moment g.D.Disk.images_since old.house.budget state (before ++ turns) asked (link_of c.lines.gateway) piece old new)
     (ScriptStarved g.D.Disk.honest g.D.Disk.sectors g.D.Disk.reads g.D.Disk.choices g.D.Disk.moment g.D.Disk.images_since first.house.budget state before (link_of c.args.gateway.now) (lines_of c.args.input.now) (Puts (w c.args.out.now) (w c.run_line.new.out)) first new)
-    (λ starved. starved_here g.D.Disk.honest g.D.Disk.sectors g.D.Disk.reads g.D.Disk.choices g.D.Disk.moment g.D.Disk.images_since first.house.budget (link_of c.args.gateway.now) (link_of c.lines.gateway) (lines_of c.args.input.now) line rest asked c.lines.moment.0 c.lines.count
-    (Puts (w c.args.out.now) (w c.lines.out)) piece (Puts (w c.args.out.now) (w c.run_line.new.out)) first old new here c.in-Some.ensures.found b_is
+    (λ starved. starved_here g.D.Disk.honest g.D.Disk.sectors g.D.Disk.reads g.D.Disk.choices g.D.Disk.moment g.D.Disk.images_since first.house.budget (link_of c.args.gateway.now) (link_of c.lines.gateway) (lines_of c.args.input.now) c.first_line.result.0.now (lines_of c.first_line.result.1.now) asked c.lines.moment.0 c.lines.count
+    (Puts (w c.args.out.now) (w c.lines.out)) piece (Puts (w c.args.out.now) (w c.run_line.new.out)) first old new (here g from) c.in-Some.ensures.found b_is
     (λ text more wrote put. puts-both (w c.args.out.now) (w c.lines.out) (w c.run_line.new.out) text more wrote put) state before chain at starved)
-    (c.in-Err-run_line.ensures.starved state (before ++ turns)
-    (subst (λ (b : ℕ). IsChain b (opened state) (before ++ turns)) (sym b_is) (went_chain g.D.Disk.honest g.D.Disk.sectors g.D.Disk.reads g.D.Disk.choices g.D.Disk.moment g.D.Disk.images_since first.house.budget state before turns first old ran.lines.went))
-    (went_at g.D.Disk.honest g.D.Disk.sectors g.D.Disk.reads g.D.Disk.choices g.D.Disk.moment g.D.Disk.images_since first.house.budget state before turns first old ran.lines.went))
+    (c.in-Err-run_line.ensures.starved state (before ++ turns) (subst (λ (b : ℕ). IsChain b (opened state) (before ++ turns)) (sym b_is) (chain_here g from state before chain at)) (at_here g from state before chain at))
 
 pub returns-in-Ok-clause-ran : goal.returns-in-Ok-clause-ran
 returns-in-Ok-clause-ran g c state before chain at =
@@ -134,18 +152,12 @@ returns-in-Ok-clause-ran g c state before chain at =
 
 pub returns-in-Err-clause-cut : goal.returns-in-Err-clause-cut
 returns-in-Err-clause-cut g c state before chain at =
-    let w = g.W.Sink.written in
+    let from = (goal.at.returns-in-Err-clause-cut g c).After-first_line in
     let first = c.args.concentrator.now in
     let old = c.lines.concentrator in
-    let line = c.first_line.result.0.now in
-    let rest = lines_of c.first_line.result.1.now in
-    let here = subst (λ (rest : List (List ℕ)). SoFar g.D.Disk.honest g.D.Disk.sectors g.D.Disk.reads g.D.Disk.choices g.D.Disk.moment g.D.Disk.images_since first.house.budget (link_of c.args.gateway.now) (link_of c.lines.gateway) (lines_of c.args.input.now) rest c.lines.moment.0 c.lines.count (Puts (w c.args.out.now) (w c.lines.out)) first old)
-    c.first_line.ensures.lines c.lines.invariant.so_far in
-    let ran = here.ran state before chain at in
-    let turns = deeds_turns ran.lines.deeds in
-    cut_here g.D.Disk.honest g.D.Disk.sectors g.D.Disk.reads g.D.Disk.choices g.D.Disk.moment g.D.Disk.images_since first.house.budget (link_of c.args.gateway.now) (link_of c.lines.gateway) (lines_of c.args.input.now) line rest c.lines.moment.0 c.lines.count (Puts (w c.args.out.now) (w c.lines.out)) [] first old old here state before chain at
+    cut_here g.D.Disk.honest g.D.Disk.sectors g.D.Disk.reads g.D.Disk.choices g.D.Disk.moment g.D.Disk.images_since first.house.budget (link_of c.args.gateway.now) (link_of c.lines.gateway) (lines_of c.args.input.now) c.first_line.result.0.now (lines_of c.first_line.result.1.now) c.lines.moment.0 c.lines.count (Puts (g.W.Sink.written c.args.out.now) (g.W.Sink.written c.lines.out)) [] first old old (here g from) state before chain at
     (inr (c.in_default.ensures.only, refl))
-    (went_none g.D.Disk.honest g.D.Disk.sectors g.D.Disk.reads g.D.Disk.choices g.D.Disk.moment g.D.Disk.images_since first.house.budget state (before ++ turns) old (went_chain g.D.Disk.honest g.D.Disk.sectors g.D.Disk.reads g.D.Disk.choices g.D.Disk.moment g.D.Disk.images_since first.house.budget state before turns first old ran.lines.went) (went_at g.D.Disk.honest g.D.Disk.sectors g.D.Disk.reads g.D.Disk.choices g.D.Disk.moment g.D.Disk.images_since first.house.budget state before turns first old ran.lines.went)
+    (went_none g.D.Disk.honest g.D.Disk.sectors g.D.Disk.reads g.D.Disk.choices g.D.Disk.moment g.D.Disk.images_since first.house.budget state (before ++ turns_here g from state before chain at) old (chain_here g from state before chain at) (at_here g from state before chain at)
     (λ h image left. g.met.D.Disk.only_now h old.store.disk image left))
 
 pub returns-clause-ran : goal.returns-clause-ran

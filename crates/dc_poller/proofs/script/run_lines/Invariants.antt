@@ -1,15 +1,14 @@
 use Rattle.std.proofs.Common.{◌≡◌, ◌≤◌, ◌+◌, ◌*◌, length}
 use Rattle.dc_changes.specs.Valid.{last_moment}
 use Rattle.dc_stream.specs.Stream.{Puts}
-use Rattle.dc_teller.specs.Lines.{lines_of}
+use Rattle.dc_teller.specs.Lines.{lines_of, longest_input_line}
 use Rattle.dc_poller.specs.Link.{absent, link_of}
-use Rattle.dc_poller.specs.ScriptLine.{longest_line}
 use Rattle.dc_poller.proofs.LineRuns.{SoFar}
 use Rattle.dc_poller.proofs.script.run_lines.Given as goal
 
 abbrev pub invariant-lines : goal.invariant-lines
 invariant-lines g l = record {
-  bytes : longest_line ≤ 2 * length l.bytes;
+  bytes : longest_input_line ≤ 2 * length l.bytes;
   counted : l.count + length l.rest ≤ length l.input;
   budget : l.concentrator.house.budget ≡ l.fn.concentrator.house.budget;
   well : g.W.Sink.put_failures l.out ≡ g.W.Sink.put_failures l.fn.out;

@@ -1,7 +1,8 @@
 use Rattle.std.proofs.Common.{◌≡◌, ◌≤◌, ◌+◌, ◌*◌, ◌++◌, length, ap, arith, length-append}
-use Rattle.dc_changes.specs.Encoding.{change_bytes}
-use Rattle.dc_waiting.specs.Waiting.{Waiting, most_waiting, longest_change}
-use Rattle.dc_waiting.proofs.Encoded.{no_break, change_len, change_some}
+use Rattle.dc_changes.specs.Encoding.{change_bytes, longest_change}
+use Rattle.dc_changes.proofs.ChangeSpellings.{change_len, change_some}
+use Rattle.dc_waiting.specs.Waiting.{Waiting, most_waiting}
+use Rattle.dc_waiting.proofs.Broken.{no_break}
 use Rattle.dc_waiting.proofs.waiting.Waiting.push.Goals.{After-encode_change}
 use Rattle.dc_waiting.proofs.waiting.Waiting.push.Goals as goal
 
