@@ -16,10 +16,14 @@ pub fn put_number<W: Sink>(out: &mut W, number: u64) -> Result<(), IoFault>
 }
 
 /// Puts a space and a number in decimal.
-#[tactic(auto, using(dc_stream::proofs::Pieces::written))]
+#[tactic(auto, using(dc_stream::proofs::Pieces::written, std::proofs::lemmas::Fmt::decimal_digit))]
 pub fn put_number_word<W: Sink>(out: &mut W, number: u64) -> Result<(), IoFault>
     ensures { Wrote W.written W.put_failures result out.old out.new (number_word number) }
 {
+    // Most numbers of a telegram have one digit.
+    if number < 10 {
+        return out.put(&[b' ', b'0' + number as u8]);
+    }
     out.put(b" ")?;
     put_number(out, number)
 }
