@@ -24,9 +24,12 @@ last_moment = 253402300799
 abbrev pub most_parts : ℕ
 most_parts = 255
 
--- numbers and serials have at most 18 digits
+-- of a number or a serial
+abbrev pub most_digits : ℕ
+most_digits = 18
+
 abbrev pub end_of_numbers : ℕ
-end_of_numbers = 10 ^ 18
+end_of_numbers = 10 ^ most_digits
 
 abbrev pub IsAddress : Option ℕ → Type 0
 IsAddress None = Unit {0}

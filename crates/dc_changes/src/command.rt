@@ -3,7 +3,7 @@
 ghost use Rattle.std.specs.Prelude.{◌≡◌, ◌+◌, ◌<◌, ◌≤◌, ◌++◌, ◌∷◌, length};
 ghost use Rattle.std.specs.List.{join_with_byte};
 ghost use Rattle.dc_changes.specs.Line.{line_of, command_words, address_word, longest_line};
-ghost use Rattle.dc_changes.specs.Valid.{IsCommand, IsNumber, end_of_numbers};
+ghost use Rattle.dc_changes.specs.Valid.{IsCommand, IsNumber, most_digits, end_of_numbers};
 
 use crate::{CommandLine, Flat};
 use dc_address::{Identity, Primary};
@@ -93,7 +93,7 @@ fn fit_line(
     address: Option<Primary>,
     flat: Flat,
 ) -> CommandLine
-    requires { length line ≤ 18 }
+    requires { length line ≤ most_digits }
     ensures words { result ≡ join_with_byte 32 (line ∷ command_words (Command.Fit meter.now bus_line address flat)) }
     ensures fits { length result ≤ longest_line }
 {
@@ -108,7 +108,7 @@ fn fit_line(
 
 #[tactic(auto, using(crate::proofs::Lines::regroup))]
 fn move_line(line: CommandLine, meter: &Identity, flat: Flat) -> CommandLine
-    requires { length line ≤ 18 }
+    requires { length line ≤ most_digits }
     ensures words { result ≡ join_with_byte 32 (line ∷ command_words (Command.Move meter.now flat)) }
     ensures fits { length result ≤ longest_line }
 {
@@ -121,7 +121,7 @@ fn move_line(line: CommandLine, meter: &Identity, flat: Flat) -> CommandLine
 
 #[tactic(auto, using(crate::proofs::Lines::regroup))]
 fn out_line(line: CommandLine, meter: &Identity) -> CommandLine
-    requires { length line ≤ 18 }
+    requires { length line ≤ most_digits }
     ensures words { result ≡ join_with_byte 32 (line ∷ command_words (Command.Out meter.now)) }
     ensures fits { length result ≤ longest_line }
 {
@@ -133,7 +133,7 @@ fn out_line(line: CommandLine, meter: &Identity) -> CommandLine
 
 #[tactic(auto, using(crate::proofs::Lines::regroup))]
 fn confirm_line(line: CommandLine, serial: u64) -> CommandLine
-    requires room { length line ≤ 18 }
+    requires room { length line ≤ most_digits }
     requires serial { serial < end_of_numbers }
     ensures words { result ≡ join_with_byte 32 (line ∷ command_words (Command.Confirm serial)) }
     ensures fits { length result ≤ longest_line }
@@ -151,7 +151,7 @@ fn swap_line(
     new: &Identity,
     address: Option<Primary>,
 ) -> CommandLine
-    requires { length line ≤ 18 }
+    requires { length line ≤ most_digits }
     ensures words { result ≡ join_with_byte 32 (line ∷ command_words (Command.Swap old.now new.now address)) }
     ensures fits { length result ≤ longest_line }
 {
@@ -164,9 +164,9 @@ fn swap_line(
 }
 
 fn push_address(line: &mut CommandLine, address: Option<Primary>)
-    requires { length line.old ≤ 100 }
+    requires { length line.old + 1 + most_digits ≤ longest_line }
     ensures line { line.new ≡ line.old ++ 32 ∷ address_word address }
-    ensures len { length line.new ≤ length line.old + 19 }
+    ensures len { length line.new ≤ length line.old + 1 + most_digits }
 {
     match address {
         Some(address) => line.push_number(u64::from(address.get())),

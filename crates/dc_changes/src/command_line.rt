@@ -3,7 +3,7 @@
 ghost use Rattle.std.specs.Prelude.{◌≡◌, ◌+◌, ◌≤◌, ◌<◌, ◌++◌, ◌∷◌, SomeIff, [], length};
 ghost use Rattle.std.specs.Fmt.{decimal};
 ghost use Rattle.dc_changes.specs.Line.{longest_line};
-ghost use Rattle.dc_changes.specs.Valid.{end_of_numbers};
+ghost use Rattle.dc_changes.specs.Valid.{most_digits, end_of_numbers};
 
 use crate::LONGEST_LINE;
 use crate::kept::padded;
@@ -91,7 +91,7 @@ impl CommandLine {
     pub(crate) fn of_number(number: u64) -> CommandLine
         requires { number < end_of_numbers }
         ensures line { result ≡ decimal number }
-        ensures len { length result ≤ 18 }
+        ensures len { length result ≤ most_digits }
     {
         let mut line = CommandLine::empty();
         line.push(Buffer::new().format(number).as_bytes());
@@ -101,9 +101,9 @@ impl CommandLine {
     /// A space and a number come behind the line.
     pub(crate) fn push_number(&mut self, number: u64)
         requires number { number < end_of_numbers }
-        requires room { length self.old ≤ 100 }
+        requires room { length self.old + 1 + most_digits ≤ longest_line }
         ensures line { self.new ≡ self.old ++ 32 ∷ decimal number }
-        ensures len { length self.new ≤ length self.old + 19 }
+        ensures len { length self.new ≤ length self.old + 1 + most_digits }
     {
         let number = CommandLine::of_number(number);
         self.push_word(number.as_slice());

@@ -24,7 +24,7 @@ use std::mem::replace;
 pub(crate) struct World<A: Allocator> {
     positions: Vec<Position, A>,
     running: Option<Running<A>>,
-    open: Vec<Bodies<A>, A>,
+    open_parts: Vec<Bodies<A>, A>,
     held: Vec<Held<A>, A>,
 }
 
@@ -33,7 +33,7 @@ impl<A: Allocator> Model for World<A> {
 
     ghost Value = { World };
 
-    ghost view = { λ w. record { positions = w.positions.items; running = w.running; parts_open = w.open.items; held = w.held.items } };
+    ghost view = { λ w. record { positions = w.positions.items; running = w.running; parts_open = w.open_parts.items; held = w.held.items } };
 }
 
 impl<A: Allocator + Copy> World<A> {
@@ -41,15 +41,15 @@ impl<A: Allocator + Copy> World<A> {
         ensures { IfOk result (λ w. w ≡ new_world scripts.now) }
     {
         let mut positions = Vec::new(alloc);
-        let mut open = Vec::new(alloc);
+        let mut open_parts = Vec::new(alloc);
         for i in 0..scripts.len() {
             positions.push(Position::first())?;
-            open.push(Bodies::new(alloc))?;
+            open_parts.push(Bodies::new(alloc))?;
         }
         Ok(World {
             positions,
             running: None,
-            open,
+            open_parts,
             held: Vec::new(alloc),
         })
     }
@@ -142,13 +142,13 @@ impl<A: Allocator + Copy> World<A> {
             });
             return Ok(());
         };
-        let before = replace(&mut self.open[meter], Bodies::new(alloc));
+        let before = replace(&mut self.open_parts[meter], Bodies::new(alloc));
         let parts = joined(alloc, session.has_settled(), before, body)?;
         session.settle();
         if session.is_over() {
             self.held.push(Held { meter, parts })?;
         } else {
-            self.open[meter] = parts;
+            self.open_parts[meter] = parts;
             self.running = Some(Running {
                 meter,
                 session,

@@ -126,9 +126,8 @@ fn demo_command<'a>(alloc: Global) -> Result<Command<'a>, AllocError> {
     Ok(command)
 }
 
-/// The task that the words name. The first word is the program's name.
-pub fn task_of<'a>(alloc: Global, words: &'a [String]) -> Result<Task<'a>, Error> {
-    let command = Command::new(alloc, "mbdc")
+fn program<'a>(alloc: Global) -> Result<Command<'a>, AllocError> {
+    Command::new(alloc, "mbdc")
         .version(help::VERSION)
         .about(
             "Data concentrator of wired M-Bus submeters; without a command it decodes standard input",
@@ -139,8 +138,12 @@ pub fn task_of<'a>(alloc: Global, words: &'a [String]) -> Result<Task<'a>, Error
         .subcommand(format_command(alloc)?)?
         .subcommand(run_command(alloc)?)?
         .subcommand(report_command(alloc)?)?
-        .subcommand(demo_command(alloc)?)?;
-    let matches = command.try_get_matches_from(words)?;
+        .subcommand(demo_command(alloc)?)
+}
+
+/// The task that the words name. The first word is the program's name.
+pub fn task_of<'a>(alloc: Global, words: &'a [String]) -> Result<Task<'a>, Error> {
+    let matches = program(alloc)?.try_get_matches_from(words)?;
     match matches.subcommand() {
         Some(("format", inner)) => Ok(Task::Format {
             image: inner.get_str("IMAGE").unwrap_or_default(),

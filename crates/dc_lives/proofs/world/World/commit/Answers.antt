@@ -17,12 +17,12 @@ abbrev session_of : (g : Over) → In-Some-waiting g → Running
 session_of g c = record { meter = c.running.inside.meter; session = c.running.inside.session; waiting = c.running.inside.waiting }
 
 abbrev world_before : (g : Over) → In-Some-waiting g → World
-world_before g c = record { positions = c.self.inside.positions.items; running = c.self.inside.running; parts_open = c.self.inside.open.items; held = c.self.inside.held.items }
+world_before g c = record { positions = c.self.inside.positions.items; running = c.self.inside.running; parts_open = c.self.inside.open_parts.items; held = c.self.inside.held.items }
 
 -- A BODY WAITS: the session that runs has a meter of this world, and is pending with it.
 record IsWaiting (g : Over) (c : In-Some-waiting g) : Type 0 where
   runs : (world_before g c).running ≡ Some (session_of g c)
-  within : c.running.inside.meter < length c.self.inside.open.items
+  within : c.running.inside.meter < length c.self.inside.open_parts.items
   pending : IsPending c.running.inside.session.stage
   stage : c.running.inside.session.stage ≡ Pending (more_after c.in-Some-waiting.body)
 
@@ -41,15 +41,15 @@ is_waiting g c =
 
 -- THE BODY HAS JOINED the meter's parts, which were taken out of those that are open.
 record IsJoined (g : Over) (c : After-is_over g) : Type 0 where
-  are : c.in_ok-parts.parts ≡ joined (c.running.inside.session.settled + 1) c.in-Some-waiting.body (unwrap_or (slice_get c.self.inside.open.items c.running.inside.meter) [])
+  are : c.in_ok-parts.parts ≡ joined (c.running.inside.session.settled + 1) c.in-Some-waiting.body (unwrap_or (slice_get c.self.inside.open_parts.items c.running.inside.meter) [])
   emptied : c.replace-before.new.dest ≡ []
 
-is_joined : (g : Over) (c : After-is_over g) → c.running.inside.meter < length c.self.inside.open.items → IsJoined g c
+is_joined : (g : Over) (c : After-is_over g) → c.running.inside.meter < length c.self.inside.open_parts.items → IsJoined g c
 is_joined g c within =
-    let before : slice_get c.self.inside.open.items c.running.inside.meter ≡ Some c.replace-before.result
-    = there c.self.inside.open.items c.running.inside.meter c.index_mut.result.now within c.index_mut.ensures.value ∙ ap Some (sym c.replace-before.ensures.value) in
+    let before : slice_get c.self.inside.open_parts.items c.running.inside.meter ≡ Some c.replace-before.result
+    = there c.self.inside.open_parts.items c.running.inside.meter c.index_mut.result.now within c.index_mut.ensures.value ∙ ap Some (sym c.replace-before.ensures.value) in
     record {
-      are = c.in_ok-parts.ensures ∙ parts_joined c.has_settled.result c.running.inside.session.settled c.in-Some-waiting.body c.replace-before.result (slice_get c.self.inside.open.items c.running.inside.meter) c.has_settled.ensures.0 c.has_settled.ensures.1 before;
+      are = c.in_ok-parts.ensures ∙ parts_joined c.has_settled.result c.running.inside.session.settled c.in-Some-waiting.body c.replace-before.result (slice_get c.self.inside.open_parts.items c.running.inside.meter) c.has_settled.ensures.0 c.has_settled.ensures.1 before;
       emptied = c.replace-before.ensures.after ∙ c.new.ensures;
     }
 
@@ -57,7 +57,7 @@ pub index_mut-requires : goal.index_mut-requires
 index_mut-requires g c =
     let is = is_waiting g (goal.at.index_mut-requires g c).In-Some-waiting in
     let within = is.within in
-    omega (arith, within, c.self.inside.open.ok.0)
+    omega (arith, within, c.self.inside.open_parts.ok.0)
 
 pub settle-requires : goal.settle-requires
 settle-requires g c = (is_waiting g (goal.at.settle-requires g c).In-Some-waiting).pending
@@ -66,7 +66,7 @@ pub index_mut-requires-else-is_over : goal.index_mut-requires-else-is_over
 index_mut-requires-else-is_over g c =
     let is = is_waiting g (goal.at.index_mut-requires-else-is_over g c).In-Some-waiting in
     let within = is.within in
-    omega (arith, within, c.self.inside.open.ok.0)
+    omega (arith, within, c.self.inside.open_parts.ok.0)
 
 pub returns-in_ok-push : goal.returns-in_ok-push
 returns-in_ok-push g c =
@@ -74,11 +74,11 @@ returns-in_ok-push g c =
     let is = is_waiting g at.In-Some-waiting in
     let joins = is_joined g at.After-is_over is.within in
     let w = world_before g at.In-Some-waiting in
-    let opened = slice_set c.self.inside.open.items c.running.inside.meter c.replace-before.new.dest in
+    let opened = slice_set c.self.inside.open_parts.items c.running.inside.meter c.replace-before.new.dest in
     let ended = sym (ap (λ s. s.stage) c.settle.ensures.exact) ∙ c.is_over.ensures.0 c.if-is_over.true in
     let last = none_follow c.running.inside.session.stage (more_after c.in-Some-waiting.body) is.stage ended in
     let done = last_held w (session_of g at.In-Some-waiting) c.in-Some-waiting.body c.in_ok-parts.parts is.runs c.in-Some-waiting.is joins.are c.take.new.self opened c.push.new.self.items last
-    c.take.ensures.after (ap (slice_set c.self.inside.open.items c.running.inside.meter) joins.emptied) c.in_ok-push.ensures.items in
+    c.take.ensures.after (ap (slice_set c.self.inside.open_parts.items c.running.inside.meter) joins.emptied) c.in_ok-push.ensures.items in
     subst (λ (x : World). world_of w.positions c.take.new.self opened c.push.new.self.items ≡ committed x.running x) c.self.view_is done
 
 pub returns-else-is_over : goal.returns-else-is_over
@@ -88,10 +88,10 @@ returns-else-is_over g c =
     let joins = is_joined g at.After-is_over is.within in
     let w = world_before g at.In-Some-waiting in
     let goes = more_follow c.running.inside.session.stage (more_after c.in-Some-waiting.body) is.stage (λ e. false≢true (sym c.if-is_over.false ∙ c.is_over.ensures.1 (ap (λ s. s.stage) c.settle.ensures.exact ∙ e))) in
-    let opened : List (List (List ℕ)) = slice_set (slice_set c.self.inside.open.items c.running.inside.meter c.replace-before.new.dest) c.running.inside.meter c.in_ok-parts.parts in
+    let opened : List (List (List ℕ)) = slice_set (slice_set c.self.inside.open_parts.items c.running.inside.meter c.replace-before.new.dest) c.running.inside.meter c.in_ok-parts.parts in
     let next : Option Running = Some (record { meter = c.running.inside.meter; session = c.settle.new.self; waiting = None }) in
     let done = more_open w (session_of g at.In-Some-waiting) c.in-Some-waiting.body c.in_ok-parts.parts is.runs c.in-Some-waiting.is joins.are next opened goes
-    (ap (λ s. Some (record { meter = c.running.inside.meter; session = s; waiting = None })) c.settle.ensures.exact) (set_again c.self.inside.open.items c.running.inside.meter c.replace-before.new.dest c.in_ok-parts.parts) in
+    (ap (λ s. Some (record { meter = c.running.inside.meter; session = s; waiting = None })) c.settle.ensures.exact) (set_again c.self.inside.open_parts.items c.running.inside.meter c.replace-before.new.dest c.in_ok-parts.parts) in
     let rest = subst (λ (x : World). world_of w.positions next opened w.held ≡ committed x.running x) c.self.view_is done in
     elim c.match-self-3.branch [
       | in-Some+in-Some-self-4 v ↦ v.self-is ∙ rest
