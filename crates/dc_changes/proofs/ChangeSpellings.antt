@@ -14,7 +14,7 @@ use Rattle.dc_changes.specs.Body.{BodyRow}
 use Rattle.dc_changes.specs.Body.{IsBody}
 use Rattle.dc_changes.specs.Flat.{IsFlat}
 use Rattle.dc_changes.specs.Valid.{IsChange, IsNumber, IsBusLine, IsAddress, last_moment, end_of_numbers}
-use Rattle.dc_changes.specs.Encoding.{long_bytes, byte, counted, address_byte, part_bytes, change_bytes, changes_bytes, longest_change}
+use Rattle.dc_changes.specs.Encoding.{long_bytes, byte, counted, address_byte, part_bytes, change_bytes, longest_change}
 use Rattle.dc_changes.proofs.Lengths.{length-byte, length-long_bytes, length-counted, length-part_bytes}
 use Rattle.dc_changes.specs.Spelled.{SpellsChanges}
 use Rattle.dc_changes.specs.Reading.{byte_at, telegram_of, telegram_change_at, fit_of, fit_at, move_of, move_at, out_of, out_at, confirm_of, confirm_at, swap_of, swap_at, fields_at, change_at}

@@ -1,5 +1,5 @@
 -- No space stands in a number.
-use Rattle.std.specs.Prelude.{◌≡◌, ◌≢◌, ℕ, ◌<◌, not, List, length}
+use Rattle.std.specs.Prelude.{◌≡◌, ◌≢◌, ℕ, ◌<◌, not, length}
 use Rattle.std.specs.Fmt.{decimal}
 use Rattle.std.proofs.Common.{◌^◌, true, get_or, ap, arith}
 use Rattle.std.proofs.lemmas.Bool.{ne_eqb}

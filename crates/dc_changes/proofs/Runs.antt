@@ -11,7 +11,7 @@ use Rattle.dc_changes.specs.Valid.{IsChange}
 use Rattle.dc_changes.specs.Encoding.{change_bytes, changes_bytes}
 use Rattle.dc_changes.specs.Spelled.{SpellsChanges}
 use Rattle.dc_changes.specs.Reading.{Fails, change_at}
-use Rattle.dc_changes.proofs.Exact.{IsBytes, IsBytes-behind, Next, next_of, some_is}
+use Rattle.dc_changes.proofs.Exact.{IsBytes, IsBytes-behind, Next, next_of}
 use Rattle.dc_changes.proofs.ChangeSpellings.{Exact-change, change_some}
 
 -- the bytes spell these changes, and the rest follows

@@ -11,6 +11,10 @@ use Rattle.dc_changes.specs.declared.command.Command.TheVariants.{Fit, Move, Out
 abbrev pub longest_line : ℕ
 longest_line = 120
 
+-- the digits of the longest number or serial
+abbrev pub most_digits : ℕ
+most_digits = 18
+
 -- a primary address, or S where the meter is selected by its identity
 abbrev pub address_word : Option ℕ → List ℕ
 address_word None = codes "S"

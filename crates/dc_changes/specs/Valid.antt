@@ -1,5 +1,5 @@
 -- Which values are changes and states: what the encodings accept.
-use Rattle.std.specs.Prelude.{◌≡◌, ℕ, ◌<◌, ◌≤◌, ◌^◌, Bool, Option, None, Some, List, length, map, All}
+use Rattle.std.specs.Prelude.{ℕ, ◌<◌, ◌≤◌, ◌^◌, Bool, Option, None, Some, List, length, map, All}
 use Rattle.std.specs.Map.{keys_of, values_of}
 use Rattle.std.specs.List.Sorted.{IsStrictlySortedBy}
 use Rattle.std.specs.Ordering.{nat_cmp}
@@ -24,12 +24,9 @@ last_moment = 253402300799
 abbrev pub most_parts : ℕ
 most_parts = 255
 
--- of a number or a serial
-abbrev pub most_digits : ℕ
-most_digits = 18
-
+-- numbers and serials have at most 18 digits
 abbrev pub end_of_numbers : ℕ
-end_of_numbers = 10 ^ most_digits
+end_of_numbers = 10 ^ 18
 
 abbrev pub IsAddress : Option ℕ → Type 0
 IsAddress None = Unit {0}

@@ -1,7 +1,6 @@
 -- The words of a line of the office (this product): single spaces stand between them, and a number has one spelling.
 use Rattle.std.specs.Prelude.{◌≡◌, ◌≢◌, ℕ, ◌<◌, ◌==◌, Bool, not, List, length, slice_index, IsTrue}
 use Rattle.std.specs.List.{list_all}
-use Rattle.std.specs.Fmt.{decimal}
 
 abbrev pub is_space : ℕ → Bool
 is_space byte = byte == 32

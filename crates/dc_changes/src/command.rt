@@ -2,8 +2,8 @@
 
 ghost use Rattle.std.specs.Prelude.{◌≡◌, ◌+◌, ◌<◌, ◌≤◌, ◌++◌, ◌∷◌, length};
 ghost use Rattle.std.specs.List.{join_with_byte};
-ghost use Rattle.dc_changes.specs.Line.{line_of, command_words, address_word, longest_line};
-ghost use Rattle.dc_changes.specs.Valid.{IsCommand, IsNumber, most_digits, end_of_numbers};
+ghost use Rattle.dc_changes.specs.Line.{line_of, command_words, address_word, longest_line, most_digits};
+ghost use Rattle.dc_changes.specs.Valid.{IsCommand, IsNumber, end_of_numbers};
 
 use crate::{CommandLine, Flat};
 use dc_address::{Identity, Primary};

@@ -2,8 +2,8 @@
 
 ghost use Rattle.std.specs.Prelude.{◌≡◌, ◌+◌, ◌≤◌, ◌<◌, ◌++◌, ◌∷◌, SomeIff, [], length};
 ghost use Rattle.std.specs.Fmt.{decimal};
-ghost use Rattle.dc_changes.specs.Line.{longest_line};
-ghost use Rattle.dc_changes.specs.Valid.{most_digits, end_of_numbers};
+ghost use Rattle.dc_changes.specs.Line.{longest_line, most_digits};
+ghost use Rattle.dc_changes.specs.Valid.{end_of_numbers};
 
 use crate::LONGEST_LINE;
 use crate::kept::padded;

@@ -1,4 +1,3 @@
-use Rattle.std.proofs.Common.{◌≡◌}
 use Rattle.dc_changes.proofs.change_line.parse_body.Goals as goal
 
 pub returns-clause-only : goal.returns-clause-only
