@@ -1,13 +1,13 @@
 -- Fields that need no quotes: each of their bytes comes after the comma.
-use Rattle.std.proofs.Common.{◌≡◌, ℕ, zero, suc, ◌+◌, ◌*◌, ◌/◌, ◌%◌, ◌^◌, ◌<◌, ◌≤◌, Bool, true, false, cond, List, [], ◌∷◌, ◌++◌, map, length, replicate, refl, sym, ap, subst, ◌∙◌, append_assoc, arith, ℤ, pos, negsuc, Option, Some, None}
-use Rattle.std.specs.Prelude.{◌&&◌, ◌||◌, ◌==◌, nat_le, nat_lt, codes, unsigned_abs}
-use Rattle.std.specs.List.{list_any, list_all, join_with_byte, AllByRecursion}
+use Rattle.std.proofs.Common.{◌≡◌, ℕ, zero, suc, ◌+◌, ◌*◌, ◌/◌, ◌%◌, ◌^◌, ◌≤◌, Bool, true, false, cond, List, [], ◌∷◌, ◌++◌, map, length, replicate, refl, sym, ap, subst, ◌∙◌, arith, ℤ, pos, negsuc, Option, Some, None}
+use Rattle.std.specs.Prelude.{◌||◌, ◌==◌, nat_le, codes, unsigned_abs}
+use Rattle.std.specs.List.{list_any, list_all, join_with_byte}
 use Rattle.std.specs.Fmt.{decimal, digits, digits_onto, digit_glyph}
 use Rattle.std.proofs.lemmas.List.{append-nil}
 use Rattle.std.proofs.lemmas.List.Folds.{list_all-append}
 use Rattle.std.proofs.lemmas.Bool.{and_parts, and_from}
 use Rattle.std.proofs.lemmas.Bool.Decides.{nat_tests}
-use Rattle.csv.specs.Writing.{default_writer, row_text, row_body, fields_text, field_text, quoted, is_blank, needs_quotes, needs_byte}
+use Rattle.csv.specs.Writing.{default_writer, row_text, fields_text, field_text, quoted, is_blank, needs_byte}
 use Rattle.dc_address.specs.declared.identity.Identity.{Identity}
 use Rattle.dc_address.specs.Digits.{decimal_digits}
 use Rattle.dc_address.specs.Maker.{first_letter, second_letter, third_letter}
@@ -19,7 +19,7 @@ use Rattle.dc_units.specs.Quantity.{unit_of}
 use Rattle.dc_units.specs.declared.value.Value.{Value}
 use Rattle.dc_units.specs.declared.value.Value.TheVariants.{Number, Flags, Day as OnDay, Minute, None as NoValue}
 use Rattle.dc_units.specs.Date.{Day}
-use Rattle.dc_units.specs.Text.{last_digits, sign, whole_text, fraction_text, magnitude_text, decimal_text, day_text, minute_text, value_text}
+use Rattle.dc_units.specs.Text.{last_digits, sign, magnitude_text, day_text, value_text}
 use Rattle.dc_changes.specs.Flat.{IsFlat, is_flat_byte}
 use Rattle.dc_changes.specs.Line.{address_word}
 use Rattle.dc_report.specs.Line.{line_text}

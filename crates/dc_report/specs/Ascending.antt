@@ -1,6 +1,6 @@
 -- Any items in the order of their keys (this product's lists).
 use Rattle.std.specs.Prelude.{List, map}
-use Rattle.std.specs.FinMap.{FinMap, entries, from_entries}
+use Rattle.std.specs.FinMap.{entries, from_entries}
 use Rattle.std.specs.declared.cmp.Ordering.{Ordering}
 
 -- an item at its key

@@ -2,7 +2,7 @@
 
 use dc_address::Mask;
 use dc_linkframe::control::{RSP_UD, SELECTED, SELECTION, SND_NKE, SND_UD, VARIABLE_DATA, req_ud2};
-use dc_linkframe::{ACK, Frame, FrameBuf, parse, write_long};
+use dc_linkframe::{Frame, FrameBuf, parse, write_long};
 use dc_lives::MeterScript;
 use std::alloc::Allocator;
 

@@ -1,9 +1,9 @@
-use Rattle.std.proofs.Common.{[], ℕ, List, inr, refl, sym, subst}
+use Rattle.std.proofs.Common.{inr, refl}
 use Rattle.dc_stream.specs.Stream.{Puts}
-use Rattle.dc_poller.specs.Link.{Link, link_by, link_of}
+use Rattle.dc_poller.specs.Link.{link_by, link_of}
 use Rattle.dc_poller.specs.Poll.{gateway_line}
 use Rattle.dc_poller.specs.Script.{IsThrough, no_gateway}
-use Rattle.dc_poller.specs.ScriptLine.{search, seen}
+use Rattle.dc_poller.specs.ScriptLine.{search}
 use Rattle.dc_poller.proofs.Halts.{halted_ok, halted_write}
 use Rattle.dc_poller.proofs.LineRuns.{said_ran, said_cut, is_through}
 use Rattle.dc_poller.proofs.Searches.{searched_ran, searched_cut, searched_starved}

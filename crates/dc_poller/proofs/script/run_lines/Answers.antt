@@ -1,4 +1,4 @@
-use Rattle.std.proofs.Common.{Bool, ◌≡◌, ◌≤◌, ◌+◌, ◌++◌, ◌∷◌, [], ℕ, List, inl, inr, append-nil, eqb-true, refl, sym, subst, ◌∙◌, arith, codes}
+use Rattle.std.proofs.Common.{Bool, ◌≡◌, ◌+◌, ◌++◌, ◌∷◌, [], ℕ, List, inl, inr, append-nil, eqb-true, refl, sym, subst, ◌∙◌, arith, codes}
 use Rattle.dc_stream.specs.Stream.{Puts}
 use Rattle.dc_stream.proofs.Pieces.{puts-both, puts-none}
 use Rattle.dc_text.specs.Words.{number_word}

@@ -1,6 +1,5 @@
-use Rattle.std.proofs.Common.{List, ℕ, Option, Some, None, refl, subst, ap, sym}
+use Rattle.std.proofs.Common.{List, ℕ, Some, None, sym}
 use Rattle.dc_stream.specs.Stream.{Puts}
-use Rattle.dc_core.specs.Event.{asks, asked}
 use Rattle.dc_poller.specs.Link.{link_by}
 use Rattle.dc_poller.specs.Search.{Comes}
 use Rattle.dc_poller.proofs.Searches.{commit_and_look, busy_halts, talked_comes}

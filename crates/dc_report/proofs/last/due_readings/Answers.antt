@@ -1,17 +1,15 @@
-use Rattle.std.proofs.Common.{rules, ◌≡◌, ◌∷◌, List, [], map, sym, ap, subst, ◌∙◌, Bor, Option}
+use Rattle.std.proofs.Common.{rules, ◌≡◌, ◌∷◌, [], map, sym, ap, subst, ◌∙◌, Bor}
 use Rattle.std.specs.Option.{option_or}
 use Rattle.std.specs.List.Sorted.{IsStrictlySortedBy}
-use Rattle.std.specs.Map.{lookup}
-use Rattle.std.specs.BTreeMap.{get, is_at}
+use Rattle.std.specs.BTreeMap.{get}
 use Rattle.std.specs.FinMap.{find}
 use Rattle.dc_address.specs.declared.identity.Identity.{Identity}
-use Rattle.dc_address.specs.Identity.{identity_cmp}
 use Rattle.dc_changes.specs.State.{ReadingRow}
 use Rattle.dc_meters.specs.declared.place.Place.{Place}
 use Rattle.dc_report.specs.Ascending.{at_key}
 use Rattle.dc_meters.specs.Places.{place_cmp}
 use Rattle.dc_report.specs.DueTable.{last_readings, reading_place}
-use Rattle.dc_meters.proofs.InOrder.{entries_in_order, keys_of}
+use Rattle.dc_meters.proofs.InOrder.{entries_in_order}
 use Rattle.dc_report.proofs.Viewed.{found_at, keys_viewed, seconds_viewed, viewed}
 use Rattle.dc_meters.proofs.PlaceOrder.{places_total, places_same}
 use Rattle.dc_report.proofs.LastReadings.{entry_at, entry_found, entry_more, if_at, at_flat, last_at, seen}

@@ -1,9 +1,7 @@
-use Rattle.std.proofs.Common.{rules, ◌≡◌, ◌∷◌, ℕ, List, [], sym, ap, ◌∙◌, BTreeMap, Bor}
+use Rattle.std.proofs.Common.{rules, ◌≡◌, ◌∷◌, ℕ, List, sym, ap, ◌∙◌}
 use Rattle.std.specs.Option.{option_or}
 use Rattle.std.specs.BTreeMap.{get}
-use Rattle.dc_address.specs.declared.identity.Identity.{Identity}
 use Rattle.dc_address.specs.Identity.{identity_cmp}
-use Rattle.dc_changes.specs.State.{ReadingRow}
 use Rattle.dc_report.proofs.LastReadings.{last_serial, last_run, serial_found, serial_missed, seen}
 use Rattle.dc_report.proofs.last.last_readings.Goals as goal
 
