@@ -13,7 +13,7 @@ use Rattle.dc_poller.specs.Link.{Link, absent, linked, lost, link_by}
 use Rattle.dc_poller.specs.Poll.{gateway_line, Phase, Happening, IsEnd, to_start, happened_turns, happened_text}
 use Rattle.dc_poller.specs.Way.{Way}
 use Rattle.dc_poller.specs.Script.{AskFor, FailsAt, ScriptCut, LinesRan, LineRan, LineCut, IsThrough, Deed, Does, DoesPart, IsOneTurn, IsTurnOf, AreDone, deeds_turns, deeds_text, link_after, moment_behind, moment_after}
-use Rattle.dc_poller.specs.ScriptLine.{LineSeen, at, poll, IsLineOf}
+use Rattle.dc_poller.specs.ScriptLine.{LineSeen, poll, IsLineOf}
 use Rattle.dc_poller.specs.Went.{Went, TurnWent}
 use Rattle.dc_poller.proofs.Wents.{went_both, went_chain, went_at}
 
