@@ -5,6 +5,7 @@ use dc_address::Identity;
 use dc_core::Concentrator;
 use dc_gateway::ListedBus;
 use dc_poller::{Halt, ProgramFault, run_script, search};
+use dc_recovery::Store;
 use dc_sectors::MemoryDisk;
 use dc_stream::{Bytes, IoFault, Source};
 use refusing_alloc::Refusing;

@@ -2,7 +2,7 @@
 //! the register into the other half.
 
 use super::images::rested;
-use super::life::{Deed, Step, blank};
+use super::life::{Deed, Life, Step, blank};
 use dc_core::Concentrator;
 use dc_sectors::{Disk, MemoryDisk};
 use dc_stream::FixedSink;
