@@ -12,3 +12,5 @@ pub mod Regular
 pub mod Request
 -- the bytes of what is heard in answer to a request
 pub mod Reply
+-- a meter on a line, and what it makes of the frames that come over it
+pub mod Standing

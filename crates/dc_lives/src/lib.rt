@@ -10,6 +10,8 @@
 //! The premises are one definition, which [`are_regular`] tests: each body fits one frame, primary addresses differ,
 //! no meter's selection matches another; and nothing arrives late. That a readout begins anew with the reset or the
 //! selection is part of the meter's definition.
+//!
+//! A [`SimulatedMeter`] is such a meter by itself, as the bytes of a line come to it.
 #![tactic(auto)]
 
 mod body;
@@ -17,6 +19,7 @@ mod event;
 mod held;
 mod laws;
 mod lives;
+mod meter;
 mod position;
 mod reply;
 mod request;
@@ -29,4 +32,6 @@ pub use event::{Outcome, WorldEvent};
 pub use held::Held;
 pub use laws::{a_meter_goes_on_from_what_is_committed, what_is_held_is_whole};
 pub use lives::play;
+pub use meter::SimulatedMeter;
+pub use reply::Reply;
 pub use script::{MeterScript, are_regular};

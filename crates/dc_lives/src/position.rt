@@ -1,12 +1,12 @@
 //! Where a meter stands in its readout: the frame count bit at the secondary station (EN 13757-2), and selection.
 
-ghost use Rattle.std.specs.Prelude.{◌≡◌, ◌≤◌, Some, ℕ, length, slice_get};
+ghost use Rattle.std.specs.Prelude.{◌≡◌, ◌<◌, Some, ℕ, length, slice_get};
 ghost use Rattle.dc_address.specs.Mask.{mask_of, matches};
 ghost use Rattle.dc_lives.specs.Meter.{Meter, first_position, begun_anew, gone_on, hears_at, at_reset, at_selection, moved_by};
 ghost use Rattle.dc_lives.specs.Meter.{Position as Stand};
 ghost use Rattle.dc_lives.specs.Request.{frame_asked, MayGoOn};
+ghost use Rattle.dc_lives.specs.Standing.{last_place};
 ghost use Rattle.dc_lives.specs.World.{all_moved};
-ghost use Rattle.dc_readout.specs.Answer.{max_parts};
 
 use crate::request::Request;
 use crate::script::MeterScript;
@@ -67,9 +67,9 @@ impl Position {
         self.bit = None;
     }
 
-    // The same bit again repeats, the other goes one body on.
-    fn go_on(&mut self, bit: bool)
-        requires { self.old.place ≤ max_parts }
+    /// The same bit again repeats, the other goes one body on.
+    pub(crate) fn go_on(&mut self, bit: bool)
+        requires { self.old.place < last_place }
         ensures { self.new ≡ gone_on (Some bit) self.old }
     {
         match self.bit {
@@ -81,7 +81,8 @@ impl Position {
         }
     }
 
-    fn reset(&mut self, own: Option<Primary>, address: u8)
+    /// The reset at its own address begins its readout anew; that of the selected meters deselects it.
+    pub(crate) fn reset(&mut self, own: Option<Primary>, address: u8)
         ensures { self.new ≡ at_reset own address self.old }
     {
         match own {
@@ -94,7 +95,8 @@ impl Position {
         }
     }
 
-    fn select(&mut self, matches: bool)
+    /// A selection that matches begins its readout anew.
+    pub(crate) fn select(&mut self, matches: bool)
         ensures { self.new ≡ at_selection matches self.old }
     {
         if matches {

@@ -1,6 +1,7 @@
 //! What a meter answers, and what is heard of it.
 
-ghost use Rattle.std.specs.Prelude.{◌≡◌, Some, None, unwrap_or, if◌then◌else◌};
+ghost use Rattle.std.specs.Prelude.{◌≡◌, ◌≤◌, length, Some, None, unwrap_or, if◌then◌else◌};
+ghost use Rattle.dc_linkframe.specs.Buffer.{capacity};
 ghost use Rattle.dc_linkframe.specs.Frame.{ack};
 ghost use Rattle.dc_lives.specs.Meter.{answer_to, response, body_at, is_own};
 ghost use Rattle.dc_lives.specs.Request.{frame_asked};
@@ -9,7 +10,7 @@ ghost use Rattle.dc_lives.specs.Regular.{Fits};
 
 use crate::position::Position;
 use crate::request::Request;
-use crate::script::MeterScript;
+use crate::script::{MAX_BODY, MeterScript};
 use dc_address::{Mask, Primary};
 use dc_linkframe::control::{RSP_UD, VARIABLE_DATA};
 use dc_linkframe::{ACK, FrameBuf, write_long};
@@ -20,17 +21,22 @@ const NOISE: u8 = 0x00;
 
 /// What is heard in answer to a request.
 #[derive(Clone, Copy)]
-pub(crate) enum Reply {
+pub enum Reply {
+    /// Nothing: the request isn't for the meter, or it has no more telegrams.
     Silence,
+    /// A byte that is no frame.
     Noise,
+    /// The acknowledgement.
     Acknowledged,
+    /// A telegram, as a frame.
     Telegram(FrameBuf),
 }
 
 impl Reply {
     /// Its bytes; silence has none.
-    pub(crate) fn as_slice(&self) -> &[u8]
-        ensures { result.now ≡ bytes_heard self.now }
+    pub fn as_slice(&self) -> &[u8]
+        ensures bytes { result.now ≡ bytes_heard self.now }
+        ensures fits { length (bytes_heard self.now) ≤ capacity }
     {
         match self {
             Reply::Silence => &[],
@@ -41,7 +47,8 @@ impl Reply {
     }
 }
 
-fn acknowledged_if(answers: bool) -> Reply
+/// The acknowledgement of whoever answers.
+pub(crate) fn acknowledged_if(answers: bool) -> Reply
     ensures { bytes_heard result ≡ bytes_of (if answers then Some ack else None) }
 {
     if answers {
@@ -61,7 +68,8 @@ fn sender_of(own: Option<Primary>) -> u8
     }
 }
 
-fn is_own(own: Option<Primary>, address: u8) -> bool
+/// Whether it is the meter's own address.
+pub(crate) fn is_own(own: Option<Primary>, address: u8) -> bool
     ensures { result ≡ is_own own address }
 {
     match own {
@@ -70,12 +78,16 @@ fn is_own(own: Option<Primary>, address: u8) -> bool
     }
 }
 
-// The telegram with the body that the meter stands at; past the last it is silent.
-fn respond<A: Allocator>(script: &MeterScript<A>, place: usize) -> Reply
-    requires { Fits script.now.bodies }
-    ensures { bytes_heard result ≡ bytes_of (response script.now (body_at place script.now.bodies)) }
+/// The telegram with the body that the meter stands at; past the last it is silent, and so it is with a body that no
+/// frame has room for.
+pub(crate) fn respond<A: Allocator>(script: &MeterScript<A>, place: usize) -> Reply
+    ensures { Fits script.now.bodies → bytes_heard result ≡ bytes_of (response script.now (body_at place script.now.bodies)) }
 {
     if place == 0 || place > script.bodies.len() {
+        return Reply::Silence;
+    }
+    let body = script.bodies.at(place - 1);
+    if body.len() > MAX_BODY {
         return Reply::Silence;
     }
     let mut frame = FrameBuf::new();
@@ -83,7 +95,7 @@ fn respond<A: Allocator>(script: &MeterScript<A>, place: usize) -> Reply
         RSP_UD,
         sender_of(script.address),
         VARIABLE_DATA,
-        script.bodies.at(place - 1),
+        body,
         &mut frame,
     );
     Reply::Telegram(frame)

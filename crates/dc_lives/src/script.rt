@@ -10,8 +10,8 @@ use dc_linkframe::control::SELECTED;
 use std::alloc::Allocator;
 use std::marker::Model;
 
-// The bytes of a body that fits one frame.
-const MAX_BODY: usize = 252;
+/// The most bytes of a body that fits one frame.
+pub(crate) const MAX_BODY: usize = 252;
 
 /// Who a meter is, and the bodies of one readout of it.
 #[derive(Drop)]

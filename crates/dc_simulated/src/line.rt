@@ -1,13 +1,18 @@
 //! Several meters on one line.
 
-use crate::meter::{Reply, SimulatedMeter};
+ghost use Rattle.std.specs.Prelude.{◌≡◌, ◌++◌, ◌∷◌, [], OnOk, OnErr, None, Some, bytes_eq, map};
+ghost use Rattle.dc_linkframe.specs.Frame.{FrameSeen, ack, spelling};
+ghost use Rattle.dc_linkframe.specs.Reading.{frame_of};
+ghost use Rattle.dc_lives.specs.Reply.{bytes_heard};
+ghost use Rattle.dc_lives.specs.Standing.{SelectsByMask};
+ghost use Rattle.dc_simulated.specs.Line.{AreAble, Hears, heard_both, heard_of, seen_by};
+
 use dc_base::NoMemory;
 use dc_gateway::{AnswerBuf, Bus};
 use dc_linkframe::{ACK, FrameBuf};
+use dc_lives::{Reply, SimulatedMeter};
 use std::alloc::Allocator;
-
-// A byte that is no frame, as colliding telegrams make it.
-const NOISE: u8 = 0x00;
+use std::marker::Model;
 
 /// The meters on one line.
 #[derive(Drop)]
@@ -15,9 +20,20 @@ pub struct SimulatedBus<A: Allocator> {
     meters: Vec<SimulatedMeter<A>, A>,
 }
 
+impl<A: Allocator> Model for SimulatedBus<A> {
+    ghost use Rattle.std.specs.Prelude.{List};
+    ghost use Rattle.dc_lives.specs.Standing.{Standing};
+
+    ghost Value = { List Standing };
+
+    ghost view = { λ bus. bus.meters.items };
+}
+
 impl<A: Allocator> SimulatedBus<A> {
     /// No meter.
-    pub fn new(alloc: A) -> Self {
+    pub fn new(alloc: A) -> Self
+        ensures { result ≡ [] }
+    {
         SimulatedBus {
             meters: Vec::new(alloc),
         }
@@ -27,35 +43,65 @@ impl<A: Allocator> SimulatedBus<A> {
     ///
     /// # Errors
     /// Where memory is refused.
-    pub fn add(&mut self, meter: SimulatedMeter<A>) -> Result<(), NoMemory> {
+    pub fn add(&mut self, meter: SimulatedMeter<A>) -> Result<(), NoMemory>
+        ensures ok { OnOk result (self.new ≡ self.old ++ meter ∷ []) }
+        ensures err { OnErr result (self.new ≡ self.old) }
+    {
         self.meters.push(meter)?;
         Ok(())
     }
 
-    /// What is heard in answer to a request: nothing, what one meter sends, acknowledgements as one, or noise where
-    /// telegrams collide.
-    pub fn hear(&mut self, request: &[u8]) -> AnswerBuf {
-        let mut heard = Reply::Silence;
-        let mut collides = false;
-        for i in 0..self.meters.len() {
-            let reply = self.meters[i].hear(request);
-            collides = collides || is_collision(&heard, &reply);
-            if !matches!(reply, Reply::Silence) {
-                heard = reply;
-            }
-        }
-        let mut answer = AnswerBuf::new();
-        if collides {
-            answer.append(&[NOISE]);
-            return answer;
-        }
-        match &heard {
-            Reply::Silence => {}
-            Reply::Acknowledged => answer.append(&[ACK]),
-            Reply::Telegram(frame) => answer.append(frame.as_slice()),
-        }
-        answer
+    /// What is heard in answer to a request: nothing, what one meter sends, acknowledgements as one, or noise
+    /// where telegrams collide.
+    pub fn hear(&mut self, request: &[u8]) -> AnswerBuf
+        ensures { Hears request.now self.old self.new result }
+    {
+        let heard = hear_all(&mut self.meters, request);
+        answer_of(&heard)
     }
+}
+
+// What is heard of these meters, each of which takes the request.
+fn hear_all<A: Allocator>(meters: &mut [SimulatedMeter<A>], request: &[u8]) -> Reply
+    ensures sees { (frame : FrameSeen) → frame_of request.now ≡ Some frame → SelectsByMask frame → AreAble meters.old → meters.new ≡ map (seen_by frame) meters.old }
+    ensures heard { (frame : FrameSeen) → frame_of request.now ≡ Some frame → SelectsByMask frame → AreAble meters.old → bytes_heard result ≡ heard_of frame meters.new }
+    ensures unseen { frame_of request.now ≡ None → meters.new ≡ meters.old }
+    ensures silent { frame_of request.now ≡ None → bytes_heard result ≡ [] }
+{
+    match meters.split_first_mut() {
+        None => Reply::Silence,
+        Some((meter, others)) => {
+            let reply = meter.hear(request);
+            both(reply, hear_all(others, request))
+        }
+    }
+}
+
+fn answer_of(heard: &Reply) -> AnswerBuf
+    ensures { result ≡ bytes_heard heard.now }
+{
+    let mut answer = AnswerBuf::new();
+    answer.append(heard.as_slice());
+    answer
+}
+
+fn is_ack(reply: &Reply) -> bool
+    ensures { result ≡ bytes_eq (bytes_heard reply.now) (spelling ack) }
+{
+    reply.as_slice() == [ACK].as_slice()
+}
+
+// What is heard of two at once.
+fn both(one: Reply, other: Reply) -> Reply
+    ensures { bytes_heard result ≡ heard_both (bytes_heard one) (bytes_heard other) }
+{
+    if one.as_slice().is_empty() {
+        return other;
+    }
+    if other.as_slice().is_empty() || (is_ack(&one) && is_ack(&other)) {
+        return one;
+    }
+    Reply::Noise
 }
 
 impl<A: Allocator> Bus for SimulatedBus<A> {
@@ -75,14 +121,5 @@ impl<A: Allocator> Bus for SimulatedBus<A> {
 
     fn ask(&mut self, request: &FrameBuf) -> AnswerBuf {
         self.hear(request.as_slice())
-    }
-}
-
-// Two acknowledgements are one byte at once; anything else beside an answer collides with it.
-fn is_collision(heard: &Reply, reply: &Reply) -> bool {
-    match (heard, reply) {
-        (Reply::Silence, _) | (_, Reply::Silence) => false,
-        (Reply::Acknowledged, Reply::Acknowledged) => false,
-        _ => true,
     }
 }

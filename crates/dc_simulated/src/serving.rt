@@ -1,7 +1,9 @@
 //! The gateway's end of an exchange.
 
-ghost use Rattle.std.specs.Prelude.{◌≤◌, length};
-ghost use Rattle.dc_gateway.specs.Blocks.{most_block};
+ghost use Rattle.std.specs.Prelude.{◌≡◌, ◌+◌, ◌≤◌, length, IfOk, OnOk};
+ghost use Rattle.dc_gateway.specs.Blocks.{blocks_bytes, most_block};
+ghost use Rattle.dc_simulated.specs.Serving.{PutsAnswer, Serves, blocks_with};
+ghost use Rattle.dc_stream.specs.Stream.{Puts};
 
 use crate::line::SimulatedBus;
 use dc_gateway::{AnswerBuf, MOST_BLOCK, put_block, take_content, take_length};
@@ -16,29 +18,38 @@ pub fn serve<R: Source, W: Sink, A: Allocator>(
     reader: &mut R,
     writer: &mut W,
     bus: &mut SimulatedBus<A>,
-) -> Result<usize, IoFault> {
+) -> Result<usize, IoFault>
+    ensures { IfOk result (Serves (R.left reader.old) (R.left reader.new) (W.written writer.old) (W.written writer.new) bus.old bus.new) }
+{
     let count = take_length(reader)?;
     let mut request = AnswerBuf::new();
     take_content(reader, count, &mut request)?;
-    put_answer(writer, &bus.hear(request.as_slice()))
+    let answer = bus.hear(request.as_slice());
+    let put = put_answer(writer, &answer)?;
+    Ok(put)
 }
 
 // The blocks of an answer, and the one of length 0.
-fn put_answer<W: Sink>(writer: &mut W, answer: &AnswerBuf) -> Result<usize, IoFault> {
+fn put_answer<W: Sink>(writer: &mut W, answer: &AnswerBuf) -> Result<usize, IoFault>
+    ensures { IfOk result (PutsAnswer (W.written writer.old) (W.written writer.new) answer.now) }
+{
     let bytes = answer.as_slice();
     let (front, back) = bytes.split_at(bytes.len().min(MOST_BLOCK));
-    let count = put_some(writer, front)?.saturating_add(put_some(writer, back)?);
+    let count = put_some(writer, front)? + put_some(writer, back)?;
     put_block(writer, &[])?;
-    Ok(count.saturating_add(1))
+    Ok(count + 1)
 }
 
 // A block with these bytes and its length, or none where there are none.
 fn put_some<W: Sink>(writer: &mut W, bytes: &[u8]) -> Result<usize, IoFault>
     requires { length bytes.now ≤ most_block }
+    ensures puts { OnOk result (Puts (W.written writer.old) (W.written writer.new) (blocks_bytes (blocks_with bytes.now))) }
+    ensures count { IfOk result (λ count. count ≡ length (blocks_bytes (blocks_with bytes.now))) }
+    ensures most { IfOk result (λ count. count ≤ length bytes.now + 1) }
 {
     if bytes.is_empty() {
         return Ok(0);
     }
     put_block(writer, bytes)?;
-    Ok(bytes.len().saturating_add(1))
+    Ok(bytes.len() + 1)
 }

@@ -1,5 +1,11 @@
 //! How a run ends, told to the outside: the line on standard error and the status, which `dc_ending` decides.
 
+ghost use Rattle.std.specs.Prelude.{◌≡◌, ◌≢◌, ◌⊎◌};
+ghost use Rattle.std.specs.Process.{exit_status};
+ghost use Rattle.clap.specs.Values.{kind_of};
+ghost use Rattle.clap.specs.declared.error.kind.ErrorKind.TheVariants.{DisplayHelp, DisplayVersion, OutOfMemory};
+ghost use Rattle.dc_ending.specs.Ending.{status_of};
+
 use clap::Error;
 use clap::error::ErrorKind;
 use dc_ending::{Ending, STREAM};
@@ -14,7 +20,9 @@ use std::process::ExitCode;
 const LINE: usize = 8_192;
 
 /// Tells how the run ended, and gives its status.
-pub fn told(rt: &HostRuntime, ending: &Ending) -> ExitCode {
+pub fn told(rt: &HostRuntime, ending: &Ending) -> ExitCode
+    ensures { exit_status result ≡ status_of ending.now }
+{
     // A status stands where the line can't be written, too: there is nowhere left to say so.
     let _ = put_line(rt, ending);
     ExitCode::from(ending.status())
@@ -30,7 +38,11 @@ fn put_line(rt: &HostRuntime, ending: &Ending) -> Result<(), IoFault> {
 
 /// Tells what `clap` says of the words, and gives the status. Help and the version go to standard output, which may fail
 /// as any output may.
-pub fn told_words(rt: &HostRuntime, error: &Error) -> ExitCode {
+pub fn told_words(rt: &HostRuntime, error: &Error) -> ExitCode
+    ensures memory { kind_of error.now ≡ OutOfMemory → exit_status result ≡ 4 }
+    ensures shown { (kind_of error.now ≡ DisplayHelp) ⊎ (kind_of error.now ≡ DisplayVersion) → (exit_status result ≡ 0) ⊎ (exit_status result ≡ 4) }
+    ensures mistake { kind_of error.now ≢ DisplayHelp → kind_of error.now ≢ DisplayVersion → (exit_status result ≡ 2) ⊎ (exit_status result ≡ 4) }
+{
     if error.kind() == ErrorKind::OutOfMemory {
         return told(rt, &Ending::Memory);
     }

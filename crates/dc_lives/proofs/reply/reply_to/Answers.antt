@@ -31,7 +31,7 @@ returns-then-hears g c =
     let p : Position = c.args.position.now in
     let hears : hears_at m.address c.in-Data.address p ≡ true =
     ap (λ (x : Meter). hears_at x.address c.in-Data.address p) (sym c.script.view_is) ∙ sym c.hears.ensures ∙ c.if-hears.true in
-    c.respond.ensures ∙ ap (λ k. bytes_of (response m (body_at k m.bodies))) c.place.ensures
+    c.respond.ensures c.requires ∙ ap (λ k. bytes_of (response m (body_at k m.bodies))) c.place.ensures
     ∙ ap bytes_of (sym (answer_to-data c.in-Data.bit c.in-Data.address m p ∙ ap (λ b. cond b (response m (body_at p.place m.bodies)) None) hears))
     ∙ ap (λ r. bytes_of (answer_to (frame_asked r) m p)) (sym c.in-Data.is)
 

@@ -8,21 +8,13 @@ use Rattle.dc_lives.proofs.Asked.{body_there}
 use Rattle.dc_lives.proofs.Lists.{there}
 use Rattle.dc_lives.proofs.reply.respond.Goals as goal
 
-pub write_long-requires : goal.write_long-requires
-write_long-requires g c =
-    let bodies = c.script.inside.bodies in
-    let place = c.args.place in
-    let within : place - 1 < length bodies = omega (arith, c.if-place-len.false, c.len.ensures) in
-    let at = there bodies (place - 1) c.at.result.now within c.at.ensures in
-    c.requires (place - 1) c.at.result.now (ap (λ (m : Meter). slice_get m.bodies (place - 1)) (sym c.script.view_is) ∙ at)
-
 pub returns : goal.returns
-returns g c =
+returns g c = λ fits.
     let bodies = c.script.inside.bodies in
     let place = c.args.place in
     let within : place - 1 < length bodies = omega (arith, c.if-place-len.false, c.len.ensures) in
-    let at = there bodies (place - 1) c.at.result.now within c.at.ensures in
-    let found = body_there place c.args.script.now.bodies c.at.result.now c.if-place-eq0.false (ap (λ (m : Meter). slice_get m.bodies (place - 1)) (sym c.script.view_is) ∙ at) in
+    let at = there bodies (place - 1) c.at-body.result.now within c.at-body.ensures in
+    let found = body_there place c.args.script.now.bodies c.at-body.result.now c.if-place-eq0.false (ap (λ (m : Meter). slice_get m.bodies (place - 1)) (sym c.script.view_is) ∙ at) in
     c.write_long.ensures
-    ∙ ap (λ sender. spelling (long rsp_ud sender variable_data c.at.result.now)) (c.sender_of.ensures ∙ ap (λ (m : Meter). unwrap_or m.address 0) c.script.view_is)
+    ∙ ap (λ sender. spelling (long rsp_ud sender variable_data c.at-body.result.now)) (c.sender_of.ensures ∙ ap (λ (m : Meter). unwrap_or m.address 0) c.script.view_is)
     ∙ ap (λ o. bytes_of (response c.args.script.now o)) (sym found)

@@ -1,0 +1,4 @@
+-- lemmas by topic
+
+-- the blocks that an answer is cut into
+pub mod Blocks
