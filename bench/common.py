@@ -9,7 +9,7 @@ import tempfile
 from datetime import date, timedelta
 
 HERE = os.path.dirname(os.path.abspath(__file__))
-MBDC = os.environ.get("MBDC", f"{HERE}/../crates/mbdc/out/run/mbdc")
+MBDC = os.environ.get("MBDC", f"{HERE}/../out/run/mbdc")
 # Scripts stay below the 1 MiB that an input may have.
 SCRIPT = 2**20 - 4096
 
@@ -68,7 +68,7 @@ class Bench:
 
     def __init__(self, folder=None):
         if not os.access(MBDC, os.X_OK):
-            sys.exit("the program isn't built: run ./mbdc --version first, or name it as MBDC=")
+            sys.exit("the program isn't built: run ./mbdc --build first, or name it as MBDC=")
         self.folder = tempfile.mkdtemp(dir=folder or None)
         self.peer, self.launch = f"{self.folder}/peer", f"{self.folder}/launch"
         subprocess.run(["gcc", "-O2", "-o", self.peer, f"{HERE}/peer.c", "-lsqlite3"], check=True)

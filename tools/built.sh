@@ -1,0 +1,27 @@
+# The built program, and what it was built from. mbdc and check source this file, with the checkout's folder in $root.
+# It lies beside the crates, and not in one's out/, which `rt ci` empties.
+built=$root/out/run
+
+# One sum of all that the program is made of, and the gate proves of it: no edits, and no crates of tests.
+sources() {
+    local others=(-name out -o -name must-fail -o -name mutants -o -name '*_tests')
+    (cd -- "$root" && find crates.txt crates -type d \( "${others[@]}" \) -prune -o -type f -print0 \
+        | LC_ALL=C sort -z | xargs -0 sha256sum -- | sha256sum)
+}
+
+# The toolchain, where there is one. A built program runs without it.
+toolchain() {
+    stat -L -c '%n %s %Y' "$(command -v rt)"
+}
+
+is_built() {
+    [ -x "$built/mbdc" ] && [ "$(sources)" = "$(cat -- "$built/sources" 2>/dev/null)" ] || return 1
+    ! command -v rt >/dev/null || [ "$(toolchain)" = "$(cat -- "$built/toolchain" 2>/dev/null)" ]
+}
+
+# Takes the program that was just proved and linked, from these sources by this toolchain.
+keep_program() {
+    mkdir -p -- "$built" && cp -- "$root/crates/mbdc/out/mbdc" "$built/mbdc.new" \
+        && mv -f -- "$built/mbdc.new" "$built/mbdc" \
+        && printf '%s\n' "$2" >"$built/toolchain" && printf '%s\n' "$1" >"$built/sources"
+}
