@@ -8,7 +8,7 @@ use Rattle.dc_recovery.specs.Stands.{Reads, Stands}
 use Rattle.dc_recovery.proofs.Once.{reads_once}
 use Rattle.dc_core.specs.Lives.{LivesFollow}
 
-stands_reads : (half_len : ℕ) (state : State) (image : Image) → Stands half_len state image → Reads half_len state image
+pub stands_reads : (half_len : ℕ) (state : State) (image : Image) → Stands half_len state image → Reads half_len state image
 stands_reads half_len state image stands = record { root = stands.root; m = stands.m; place = stands.place; by = stands.by.reads }
 
 pub lives_follow : LivesFollow

@@ -393,6 +393,16 @@ holds_along budget state turns chain =
 pub accepted_counted : (budget : ℕ) (state : State) (turns : List Turn) → IsChain budget (opened state) turns → (seen_from nothing_seen turns).accepted ≡ length (accepted_in (opened state) turns)
 accepted_counted budget state turns chain = (holds_along budget state turns chain).counted
 
+-- the latest telegram of each line is one of those accepted
+pub latest_within : (budget : ℕ) (state : State) (turns : List Turn) → IsChain budget (opened state) turns → (line : ℕ) → get_or (seen_from nothing_seen turns).latest line 0 ≤ (seen_from nothing_seen turns).accepted
+latest_within budget state turns chain = (holds_along budget state turns chain).latest
+
+-- what is heard on no line isn't taken
+pub heard_on_line : (budget : ℕ) (core : Core) (line moment : ℕ) (bytes : List ℕ) (answer : LineHeard) → May budget core (hears line moment bytes) (heard (Ok answer)) → is_line line ≡ true
+heard_on_line budget core line moment bytes answer may =
+    let right : Ok answer ≡ hear_answer budget core line moment bytes = ⊎_elim (λ e. e) (λ bad. absurd (cc bad.0)) may in
+    (heard_split answer (is_line line) core.stopped NoLine HearStopped (answer_on budget core moment bytes (session_of core line)) right).0
+
 -- no more is promised than was accepted
 pub promised_within : (budget : ℕ) (state : State) (turns : List Turn) → IsChain budget (opened state) turns → (seen_from nothing_seen turns).promised ≤ (seen_from nothing_seen turns).accepted
 promised_within budget state turns chain =

@@ -21,7 +21,7 @@ use Rattle.dc_core.specs.Transcript.{Turn, leads, IsChain, accepted_by, accepted
 use Rattle.dc_core.specs.Promised.{Seen, nothing_seen, and_seen, seen_from, promised_in, HoldsFront}
 use Rattle.dc_core.specs.Images.{Machine, IsAt, StandsForPromised}
 use Rattle.dc_core.specs.Text.{answer_text, run_text}
-use Rattle.dc_core.specs.Run.{fault_in, IsShown, Turned, Ran}
+use Rattle.dc_core.specs.Run.{fault_in, IsShown, Turned, Did, DidAll, Ran}
 use Rattle.dc_core.proofs.Fronts.{promised_is_committed, promised_within}
 use Rattle.dc_core.proofs.Followed.{none_is_unknown}
 
@@ -31,15 +31,19 @@ pub leads_push : (core : Core) (turns : List Turn) (t : Turn) → leads core (tu
 leads_push core [] t = refl
 leads_push core (u ∷ turns) t = leads_push (next core u.0 u.1) turns t
 
-chain_push : (budget : ℕ) (core : Core) (turns : List Turn) (t : Turn) → IsChain budget core turns → May budget (leads core turns) t.0 t.1 → IsChain budget core (turns ++ t ∷ [])
+pub chain_push : (budget : ℕ) (core : Core) (turns : List Turn) (t : Turn) → IsChain budget core turns → May budget (leads core turns) t.0 t.1 → IsChain budget core (turns ++ t ∷ [])
 chain_push budget core [] t chain may = (may, tt)
 chain_push budget core (u ∷ turns) t chain may = (chain.0, chain_push budget (next core u.0 u.1) turns t chain.1 may)
 
-accepted_push : (core : Core) (turns : List Turn) (t : Turn) → accepted_in core (turns ++ t ∷ []) ≡ accepted_in core turns ++ accepted_by (leads core turns) t.0 t.1
+pub accepted_push : (core : Core) (turns : List Turn) (t : Turn) → accepted_in core (turns ++ t ∷ []) ≡ accepted_in core turns ++ accepted_by (leads core turns) t.0 t.1
 accepted_push core [] t = append-nil (accepted_by core t.0 t.1)
 accepted_push core (u ∷ turns) t =
     ap (λ (x : List Change). accepted_by core u.0 u.1 ++ x) (accepted_push (next core u.0 u.1) turns t)
     ∙ sym (append_assoc (accepted_by core u.0 u.1) (accepted_in (next core u.0 u.1) turns) (accepted_by (leads (next core u.0 u.1) turns) t.0 t.1))
+
+pub leads_append : (core : Core) (turns more : List Turn) → leads core (turns ++ more) ≡ leads (leads core turns) more
+leads_append core [] more = refl
+leads_append core (t ∷ turns) more = leads_append (next core t.0 t.1) turns more
 
 pub seen_push : (seen : Seen) (turns : List Turn) (t : Turn) → seen_from seen (turns ++ t ∷ []) ≡ and_seen t.0 t.1 (seen_from seen turns)
 seen_push seen [] t = refl
@@ -92,7 +96,7 @@ promised_push budget state turns t chain =
 
 -- ---- what images stand for
 
-grown : (half_len : ℕ) (state : State) (promised : ℕ) (changes more : List Change) (image : Image) → StandsForPromised half_len state promised changes image → StandsForPromised half_len state promised (changes ++ more) image
+pub grown : (half_len : ℕ) (state : State) (promised : ℕ) (changes more : List Change) (image : Image) → StandsForPromised half_len state promised changes image → StandsForPromised half_len state promised (changes ++ more) image
 grown half_len state promised changes more image stands =
     let within = stands.front.within in
     record {
@@ -100,11 +104,11 @@ grown half_len state promised changes more image stands =
       all_promised = stands.all_promised;
     }
 
-fewer : (half_len : ℕ) (state : State) (few promised : ℕ) (changes : List Change) (image : Image) → few ≤ promised → StandsForPromised half_len state promised changes image → StandsForPromised half_len state few changes image
+pub fewer : (half_len : ℕ) (state : State) (few promised : ℕ) (changes : List Change) (image : Image) → few ≤ promised → StandsForPromised half_len state promised changes image → StandsForPromised half_len state few changes image
 fewer half_len state few promised changes image less stands = let all = stands.all_promised in record { front = stands.front; all_promised = omega (arith, less, all) }
 
 -- What is committed and a front of what is pending, and of what comes then, is the first state and a front of all that was accepted, with all that is promised.
-from_first : (half_len : ℕ) (state : State) (turns : List Turn) (core : Core) (more : List Change) (image : Image) → HoldsFront state turns core → StandsForFront half_len core.committed (core.pending ++ more) image
+pub from_first : (half_len : ℕ) (state : State) (turns : List Turn) (core : Core) (more : List Change) (image : Image) → HoldsFront state turns core → StandsForFront half_len core.committed (core.pending ++ more) image
     → StandsForPromised half_len state (promised_in turns) (accepted_in (opened state) turns ++ more) image
 from_first half_len state turns core more image holds stands =
     let all = accepted_in (opened state) turns in
@@ -127,15 +131,15 @@ from_first half_len state turns core more image holds stands =
     }
 
 -- where nothing comes
-now_first : (half_len : ℕ) (state : State) (turns : List Turn) (core : Core) (image : Image) → HoldsFront state turns core → StandsForFront half_len core.committed core.pending image
+pub now_first : (half_len : ℕ) (state : State) (turns : List Turn) (core : Core) (image : Image) → HoldsFront state turns core → StandsForFront half_len core.committed core.pending image
     → StandsForPromised half_len state (promised_in turns) (accepted_in (opened state) turns) image
 now_first half_len state turns core image holds stands =
     subst (λ (x : List Change). StandsForPromised half_len state (promised_in turns) x image) (append-nil (accepted_in (opened state) turns))
     (from_first half_len state turns core [] image holds (subst (λ (x : List Change). StandsForFront half_len core.committed x image) (sym (append-nil core.pending)) stands))
 
-module _ {D : Type 0} (honest : Type 0) (sectors : D → ℕ) (reads : D → Image) (choices : D → Choices) (moment : D → ℕ) (images_since : D → ℕ → Image → Type 0) where
+module _ {D : Type 0} (known : Type 0) (sectors failures : D → ℕ) (reads : D → Image) (choices : D → Choices) (moment : D → ℕ) (images_since : D → ℕ → Image → Type 0) where
   -- a call that leaves the store, whatever it accepts
-  pub at_rest : (machine new : Machine D) (core : Core) (more : List Change) → IsAt honest sectors reads choices machine core → honest → new.store ≡ machine.store
+  pub at_rest : (machine new : Machine D) (core : Core) (more : List Change) → IsAt known sectors reads choices machine core → known → new.store ≡ machine.store
       → ((image : Image) → images_since machine.store.disk (moment machine.store.disk) image → IsImage (choices machine.store.disk) image)
       → LeavesOnly moment images_since machine.store.disk new.store.disk (StandsForFront (half_len_of (sectors machine.store.disk)) core.committed (core.pending ++ more))
   at_rest machine new core more at h same only =
@@ -145,11 +149,11 @@ module _ {D : Type 0} (honest : Type 0) (sectors : D → ℕ) (reads : D → Ima
       (begun moment images_since machine.store.disk P (λ image left. longer_front H core.committed core.pending more image (at.leaves h image (only image left))))
 
   -- AN EVENT THAT LEAVES THE STORE as it was
-  pub turned_at_rest : (failures : D → ℕ) (budget : ℕ) (machine new : Machine D) (core : Core) (event : Event) (answer : Answer) (wrote : List ℕ → Type 0) → fault_in answer ≡ None
-      → May budget core event answer → wrote (answer_text answer) → IsAt honest sectors reads choices machine core → IsAt honest sectors reads choices new (next core event answer) → new.store ≡ machine.store
-      → (honest → (image : Image) → images_since machine.store.disk (moment machine.store.disk) image → IsImage (choices machine.store.disk) image)
-      → Turned honest sectors failures reads choices moment images_since budget core event wrote machine new
-  turned_at_rest failures budget machine new core event answer wrote none may text at after same only = record {
+  pub turned_at_rest : (budget : ℕ) (machine new : Machine D) (core : Core) (event : Event) (answer : Answer) (wrote : List ℕ → Type 0) → fault_in answer ≡ None
+      → May budget core event answer → wrote (answer_text answer) → IsAt known sectors reads choices machine core → IsAt known sectors reads choices new (next core event answer) → new.store ≡ machine.store
+      → (known → (image : Image) → images_since machine.store.disk (moment machine.store.disk) image → IsImage (choices machine.store.disk) image)
+      → Turned known sectors failures reads choices moment images_since budget core event wrote machine new
+  turned_at_rest budget machine new core event answer wrote none may text at after same only = record {
     answer = answer;
     may = may;
     text = text;
@@ -158,23 +162,30 @@ module _ {D : Type 0} (honest : Type 0) (sectors : D → ℕ) (reads : D → Ima
     leaves = λ h. at_rest machine new core (accepted_by core event answer) at h same (only h);
   }
 
+  -- some turns, and then others
+  pub did_both : (budget : ℕ) (core : Core) (turns more : List Turn) (first mid new : Machine D) → DidAll known sectors failures reads choices moment images_since budget core turns first mid
+      → DidAll known sectors failures reads choices moment images_since budget (leads core turns) more mid new → DidAll known sectors failures reads choices moment images_since budget core (turns ++ more) first new
+  did_both budget core [] more first mid new same rest = subst (λ (m : Machine D). DidAll known sectors failures reads choices moment images_since budget core more m new) same rest
+  did_both budget core (t ∷ turns) more first mid new past rest = (past.0, past.1, did_both budget (next core t.0 t.1) turns more past.0 mid new past.2 rest)
+
   -- no event yet
-  pub ran_none : (budget : ℕ) (state : State) (before : List Turn) (wrote : List ℕ → Type 0) (machine : Machine D) → IsChain budget (opened state) before → IsAt honest sectors reads choices machine (leads (opened state) before)
-      → (honest → (image : Image) → images_since machine.store.disk (moment machine.store.disk) image → IsImage (choices machine.store.disk) image) → wrote []
-      → Ran honest sectors reads choices moment images_since budget state before [] wrote machine machine
+  pub ran_none : (budget : ℕ) (state : State) (before : List Turn) (wrote : List ℕ → Type 0) (machine : Machine D) → IsChain budget (opened state) before → IsAt known sectors reads choices machine (leads (opened state) before)
+      → (known → (image : Image) → images_since machine.store.disk (moment machine.store.disk) image → IsImage (choices machine.store.disk) image) → wrote []
+      → Ran known sectors failures reads choices moment images_since budget state before [] wrote machine machine
   ran_none budget state before wrote machine chain at only text =
       let e = sym (append-nil before) in
       let H = half_len_of (sectors machine.store.disk) in
       let all = accepted_in (opened state) before in
       let core = leads (opened state) before in
-      let stands : honest → (image : Image) → IsImage (choices machine.store.disk) image → StandsForPromised H state (promised_in before) all image =
+      let stands : known → (image : Image) → IsImage (choices machine.store.disk) image → StandsForPromised H state (promised_in before) all image =
       λ h image is. now_first H state before core image (promised_is_committed budget state before chain) (at.leaves h image is) in
       record {
         turns = [];
         events_are = refl;
+        steps = refl;
         chain = subst (IsChain budget (opened state)) e chain;
         text = text;
-        at = subst (λ (ts : List Turn). IsAt honest sectors reads choices machine (leads (opened state) ts)) e at;
+        at = subst (λ (ts : List Turn). IsAt known sectors reads choices machine (leads (opened state) ts)) e at;
         holds = promised_is_committed budget state (before ++ []) (subst (IsChain budget (opened state)) e chain);
         knows = none_is_unknown budget state (before ++ []) (subst (IsChain budget (opened state)) e chain);
         count = refl;
@@ -185,12 +196,12 @@ module _ {D : Type 0} (honest : Type 0) (sectors : D → ℕ) (reads : D → Ima
       }
 
   -- one event more
-  pub ran_more : (failures : D → ℕ) (budget : ℕ) (state : State) (before : List Turn) (events : List Event) (event : Event) (wrote piece all_wrote : List ℕ → Type 0) (first old new : Machine D)
-      → (ran : Ran honest sectors reads choices moment images_since budget state before events wrote first old)
-      → (turned : Turned honest sectors failures reads choices moment images_since budget (leads (opened state) (before ++ ran.turns)) event piece old new) → sectors new.store.disk ≡ sectors old.store.disk
+  unfoldable pub ran_more : (budget : ℕ) (state : State) (before : List Turn) (events : List Event) (event : Event) (wrote piece all_wrote : List ℕ → Type 0) (first old new : Machine D)
+      → (ran : Ran known sectors failures reads choices moment images_since budget state before events wrote first old)
+      → (turned : Turned known sectors failures reads choices moment images_since budget (leads (opened state) (before ++ ran.turns)) event piece old new) → sectors new.store.disk ≡ sectors old.store.disk
       → ((text more : List ℕ) → wrote text → piece more → all_wrote (text ++ more))
-      → Ran honest sectors reads choices moment images_since budget state before (events ++ event ∷ []) all_wrote first new
-  ran_more failures budget state before events event wrote piece all_wrote first old new ran turned count joins =
+      → Ran known sectors failures reads choices moment images_since budget state before (events ++ event ∷ []) all_wrote first new
+  ran_more budget state before events event wrote piece all_wrote first old new ran turned count joins =
       let t : Turn = (event, turned.answer) in
       let past = before ++ ran.turns in
       let e : past ++ t ∷ [] ≡ before ++ (ran.turns ++ t ∷ []) = append_assoc before ran.turns (t ∷ []) in
@@ -199,7 +210,9 @@ module _ {D : Type 0} (honest : Type 0) (sectors : D → ℕ) (reads : D → Ima
       let all = accepted_in (opened state) past in
       let more = accepted_by core event turned.answer in
       let chain : IsChain budget (opened state) (past ++ t ∷ []) = chain_push budget (opened state) past t ran.chain turned.may in
-      let at : IsAt honest sectors reads choices new (leads (opened state) (past ++ t ∷ [])) = subst (λ (c : Core). IsAt honest sectors reads choices new c) (sym (leads_push (opened state) past t)) turned.at in
+      let at : IsAt known sectors reads choices new (leads (opened state) (past ++ t ∷ [])) = subst (λ (c : Core). IsAt known sectors reads choices new c) (sym (leads_push (opened state) past t)) turned.at in
+      let did : Did known sectors failures reads choices moment images_since budget (leads (leads (opened state) before) ran.turns) t old new =
+      subst (λ (c : Core). Did known sectors failures reads choices moment images_since budget c t old new) (leads_append (opened state) before ran.turns) (record { may = turned.may; at = turned.at; count = count; failed = turned.failed; leaves = turned.leaves }) in
       let chain' = subst (IsChain budget (opened state)) e chain in
       let kept = ran.kept in
       let now = promised_push budget state past t ran.chain in
@@ -213,9 +226,10 @@ module _ {D : Type 0} (honest : Type 0) (sectors : D → ℕ) (reads : D → Ima
       record {
         turns = ran.turns ++ t ∷ [];
         events_are = map-append (λ (t : Turn). t.0) ran.turns (t ∷ []) ∙ ap (λ (es : List Event). es ++ event ∷ []) ran.events_are;
+        steps = did_both budget (leads (opened state) before) ran.turns (t ∷ []) first old new ran.steps (new, did, refl);
         chain = chain';
         text = subst all_wrote (flat_map_more (λ (turn : Turn). answer_text turn.1) [] ran.turns t) (joins (run_text ran.turns) (answer_text turned.answer) ran.text turned.text);
-        at = subst (λ (ts : List Turn). IsAt honest sectors reads choices new (leads (opened state) ts)) e at;
+        at = subst (λ (ts : List Turn). IsAt known sectors reads choices new (leads (opened state) ts)) e at;
         holds = promised_is_committed budget state (before ++ (ran.turns ++ t ∷ [])) chain';
         knows = none_is_unknown budget state (before ++ (ran.turns ++ t ∷ [])) chain';
         count = same_size;
@@ -230,22 +244,22 @@ module _ {D : Type 0} (honest : Type 0) (sectors : D → ℕ) (reads : D → Ima
       }
 
   -- a run of one event, and which turn it is
-  pub one_turn : (failures : D → ℕ) (budget : ℕ) (state : State) (before : List Turn) (event : Event) (piece : List ℕ → Type 0) (old new : Machine D)
-      → IsChain budget (opened state) before → IsAt honest sectors reads choices old (leads (opened state) before)
-      → (honest → (image : Image) → images_since old.store.disk (moment old.store.disk) image → IsImage (choices old.store.disk) image)
-      → (turned : Turned honest sectors failures reads choices moment images_since budget (leads (opened state) before) event piece old new) → sectors new.store.disk ≡ sectors old.store.disk
-      → (ran : Ran honest sectors reads choices moment images_since budget state before (event ∷ []) (λ text. Unit {0}) old new) × (ran.turns ≡ (event, turned.answer) ∷ [])
+  pub one_turn : (budget : ℕ) (state : State) (before : List Turn) (event : Event) (piece : List ℕ → Type 0) (old new : Machine D)
+      → IsChain budget (opened state) before → IsAt known sectors reads choices old (leads (opened state) before)
+      → (known → (image : Image) → images_since old.store.disk (moment old.store.disk) image → IsImage (choices old.store.disk) image)
+      → (turned : Turned known sectors failures reads choices moment images_since budget (leads (opened state) before) event piece old new) → sectors new.store.disk ≡ sectors old.store.disk
+      → (ran : Ran known sectors failures reads choices moment images_since budget state before (event ∷ []) (λ text. Unit {0}) old new) × (ran.turns ≡ (event, turned.answer) ∷ [])
   unfolding ran_none ran_more
-  one_turn failures budget state before event piece old new chain at only turned count =
+  one_turn budget state before event piece old new chain at only turned count =
       let e = sym (append-nil before) in
       let answer = turned.answer in
       let none = ran_none budget state before (λ text. Unit {0}) old chain at only tt in
-      let behind : Turned honest sectors failures reads choices moment images_since budget (leads (opened state) (before ++ [])) event piece old new = record {
+      let behind : Turned known sectors failures reads choices moment images_since budget (leads (opened state) (before ++ [])) event piece old new = record {
         answer = answer;
         may = subst (λ (ts : List Turn). May budget (leads (opened state) ts) event answer) e turned.may;
         text = turned.text;
-        at = subst (λ (ts : List Turn). IsAt honest sectors reads choices new (next (leads (opened state) ts) event answer)) e turned.at;
+        at = subst (λ (ts : List Turn). IsAt known sectors reads choices new (next (leads (opened state) ts) event answer)) e turned.at;
         failed = turned.failed;
         leaves = λ h. subst (λ (ts : List Turn). LeavesOnly moment images_since old.store.disk new.store.disk (StandsForFront (half_len_of (sectors old.store.disk)) (leads (opened state) ts).committed ((leads (opened state) ts).pending ++ accepted_by (leads (opened state) ts) event answer))) e (turned.leaves h);
       } in
-      (ran_more failures budget state before [] event (λ text. Unit {0}) piece (λ text. Unit {0}) old old new none behind count (λ text more wrote put. tt), refl)
+      (ran_more budget state before [] event (λ text. Unit {0}) piece (λ text. Unit {0}) old old new none behind count (λ text more wrote put. tt), refl)

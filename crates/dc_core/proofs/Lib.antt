@@ -24,3 +24,5 @@ pub mod Following
 pub mod Told
 -- how long a request is
 pub mod Requests
+-- stopped at any moment and opened again (the clause `the_headline` of `Concentrator::open`)
+pub mod Headline

@@ -29,15 +29,15 @@ abbrev pub IsWithin : {D : Type 0} → ℕ → Machine D → Type 0
 IsWithin sectors machine = machine.house.budget ≡ budget_of (half_len_of sectors)
 
 -- THE CONCENTRATOR IS IN THIS STATE. In memory: its register is what is present, what waits spells what is pending and
--- is accepted behind what is committed, and its lines are those. On an honest disk: each image that a stop may leave
+-- is accepted behind what is committed, and its lines are those. Where what the disk held is known: each image that a stop may leave
 -- stands for what is committed and a front of what is pending, and where the store isn't stopped, for what is committed.
-pub record IsAt {D : Type 0} (honest : Type 0) (sectors : D → ℕ) (reads : D → Image) (choices : D → Choices) (machine : Machine D) (core : Core) : Type 0 where
+pub record IsAt {D : Type 0} (known : Type 0) (sectors : D → ℕ) (reads : D → Image) (choices : D → Choices) (machine : Machine D) (core : Core) : Type 0 where
   pub house_is : machine.house.state ≡ present core
   pub spells : SpellsChanges machine.waiting.bytes core.pending
   pub count_is : machine.waiting.count ≡ length core.pending
   pub accepted : AcceptsAll machine.house.budget core.committed core.pending
   pub lines_are : machine.lines ≡ core.lines
   pub stopped_is : machine.store.is_stopped ≡ core.stopped
-  pub keeps : honest → core.stopped ≡ false → Keeps sectors reads choices machine.store core.committed
-  pub stands : honest → core.stopped ≡ false → (image : Image) → IsImage (choices machine.store.disk) image → Stands (half_len_of (sectors machine.store.disk)) core.committed image
-  pub leaves : honest → (image : Image) → IsImage (choices machine.store.disk) image → StandsForFront (half_len_of (sectors machine.store.disk)) core.committed core.pending image
+  pub keeps : known → core.stopped ≡ false → Keeps sectors reads choices machine.store core.committed
+  pub stands : known → core.stopped ≡ false → (image : Image) → IsImage (choices machine.store.disk) image → Stands (half_len_of (sectors machine.store.disk)) core.committed image
+  pub leaves : known → (image : Image) → IsImage (choices machine.store.disk) image → StandsForFront (half_len_of (sectors machine.store.disk)) core.committed core.pending image

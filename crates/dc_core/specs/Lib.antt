@@ -26,3 +26,5 @@ pub mod Told
 pub mod Text
 -- events in code, and what a run of them leaves
 pub mod Run
+-- the headline: how a concentrator was stopped, and what it holds when it is opened again
+pub mod Headline

@@ -1,14 +1,13 @@
 -- What the office was told is kept by every state that may be found later (this product).
-use Rattle.std.specs.Prelude.{◌≡◌, ℕ, List, ◌∷◌, ◌++◌}
+use Rattle.std.specs.Prelude.{◌≡◌, ℕ, List, [], ◌∷◌, ◌++◌}
 use Rattle.dc_changes.specs.State.{State}
 use Rattle.dc_changes.specs.declared.change.Change.{Change}
-use Rattle.dc_changes.specs.History.{after}
 use Rattle.dc_upload.specs.declared.line.OfficeLine.{OfficeLine}
 use Rattle.dc_upload.specs.Reply.{shown_text}
 use Rattle.dc_core.specs.Core.{opened}
 use Rattle.dc_core.specs.Event.{Reply, offices, replied, repeated, shown, obeyed}
 use Rattle.dc_core.specs.Step.{Spells}
-use Rattle.dc_core.specs.Transcript.{Turn, IsChain, accepted_in}
+use Rattle.dc_core.specs.Transcript.{Turn, leads, IsChain, accepted_in}
 use Rattle.dc_core.specs.Promised.{promised_in}
 use Rattle.dc_core.specs.Lives.{IsFront}
 
@@ -19,12 +18,17 @@ Tells text (obeyed number change) s = s.last_number ≡ number
 Tells text (shown bytes) s = (line : OfficeLine) × (Spells text line × (bytes ≡ shown_text line s))
 Tells text reply s = Unit {0}
 
--- the state comes, by further changes, from one of which the reply tells
-pub record ComesFrom (text : List ℕ) (reply : Reply) (found : State) : Type 0 where
-  pub told : State
-  pub tells : Tells text reply told
-  pub since : List Change
-  pub found_is : found ≡ after told since
+-- The reply tells of what was committed when it was given, and the state is that after a front of what was accepted since.
+pub record ComesFrom (text : List ℕ) (reply : Reply) (answered : State) (since : List Change) (found : State) : Type 0 where
+  pub tells : Tells text reply answered
+  pub front : IsFront answered 0 since found
+
+-- where the reply tells of a state
+abbrev pub IfTelling : Reply → Type 0 → Type 0
+IfTelling (repeated number) P = P
+IfTelling (obeyed number change) P = P
+IfTelling (shown bytes) P = P
+IfTelling reply P = Unit {0}
 
 -- WHAT THE OFFICE IS TOLD IS KEPT, in every chain of steps from a concentrator that was just opened: whatever state may be
 -- found after it, or after a stop within the next event, which may accept more, has every command acknowledged and every
@@ -33,4 +37,5 @@ abbrev pub ToldIsKept : Type 0
 ToldIsKept = (budget : ℕ) (state : State) (before : List Turn) (text : List ℕ) (reply : Reply) (later : List Turn) (more : List Change) (found : State)
     → IsChain budget (opened state) (before ++ (offices text, replied reply) ∷ later)
     → IsFront state (promised_in (before ++ (offices text, replied reply) ∷ later)) (accepted_in (opened state) (before ++ (offices text, replied reply) ∷ later) ++ more) found
-    → ComesFrom text reply found
+    → IfTelling reply (ComesFrom text reply (leads (opened state) (before ++ (offices text, replied reply) ∷ [])).committed
+    (accepted_in (leads (opened state) (before ++ (offices text, replied reply) ∷ [])) later ++ more) found)

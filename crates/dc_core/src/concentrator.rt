@@ -1,6 +1,6 @@
 //! The concentrator: a store, the register that it keeps, what waits for a commit, and the lines.
 
-ghost use Rattle.std.specs.Prelude.{◌≡◌, ◌≢◌, ◌≤◌, ◌<◌, ℕ, Err, OnOk, IfOk, IfErr, IfSome, MatchResult, false, length};
+ghost use Rattle.std.specs.Prelude.{◌≡◌, ◌≢◌, ◌≤◌, ◌<◌, ℕ, List, Err, OnOk, IfOk, IfErr, IfSome, MatchResult, false, length};
 ghost use Rattle.dc_base.specs.Failures.{HasRisen};
 ghost use Rattle.dc_sectors.specs.Disk.{Image, IsImage, LeavesOnly, settled};
 ghost use Rattle.dc_changes.specs.State.{State};
@@ -8,10 +8,13 @@ ghost use Rattle.dc_recovery.specs.Halves.{budget_of, half_len_of, fewest_sector
 ghost use Rattle.dc_recovery.specs.Stands.{EachStands, Reads, Stands, StandsForOne};
 ghost use Rattle.dc_recovery.specs.Refusal.{IsRefused, IsWorn, TellsOfImage};
 ghost use Rattle.dc_recovery.specs.declared.fault.OpenFault.TheVariants.{NotImage, Worn, Device};
+ghost use Rattle.dc_waiting.specs.Lines.{no_sessions};
 ghost use Rattle.dc_core.specs.Core.{Core, opened};
 ghost use Rattle.dc_core.specs.Event.{starts, asks, started, asked};
 ghost use Rattle.dc_core.specs.Step.{May, next, longest_request};
 ghost use Rattle.dc_core.specs.Images.{IsAt};
+ghost use Rattle.dc_core.specs.Transcript.{Turn};
+ghost use Rattle.dc_core.specs.Headline.{IsOpened, WasStopped, IsKept};
 
 mod commit;
 mod hear;
@@ -55,32 +58,48 @@ impl<D: Disk + Drop, A: Allocator + Copy> Concentrator<D, A> {
     /// # Errors
     /// The first that stands in the order of the steps: [`OpenFault`]. The disk comes back.
     pub fn open(alloc: A, disk: D) -> Result<Concentrator<D, A>, (OpenFault, D)>
+        // THE HEADLINE. Stopped before or within any disk call of any run of line answers, office lines and
+        // commits, and opened again, the concentrator holds exactly the register and readings of a prefix of the
+        // accepted telegrams and commands, and that prefix includes every telegram after which a frame count bit
+        // was toggled, every command acknowledged and every reading uploaded. Its next life begins with that. Such an
+        // image is refused only as worn, where the device failed, or out of memory.
+        ensures the_headline { (state : State) (done more : List Turn)
+            → WasStopped D.Disk state done more disk
+            → EachStands (half_len_of (D.sectors disk)) (D.choices disk)
+            × IfOk result (λ c. D.keeps c.store.disk
+            → IsKept state done more c.house.state × IsOpened D.Disk c.house.state c)
+            × (fewest_sectors ≤ D.sectors disk
+            → IfErr result (λ e. D.keeps e.1 → TellsOfImage e.0 → e.0 ≡ Worn)) }
+
         ensures small { D.sectors disk < fewest_sectors → result ≡ Err (NotImage, disk) }
 
         // Ok gives exactly the state that the image reads as, and a refusal is a fact of the image.
-        ensures reads { D.honest → IfOk result (λ c. Reads (half_len_of (D.sectors disk)) c.house.state (D.reads disk)) }
-        ensures refused { D.honest → fewest_sectors ≤ D.sectors disk → IfErr result (λ e. IsRefused (half_len_of (D.sectors disk)) (D.reads disk) e.0) }
+        ensures reads { IfOk result (λ c. D.keeps c.store.disk → Reads (half_len_of (D.sectors disk)) c.house.state (D.reads disk)) }
+        ensures refused { fewest_sectors ≤ D.sectors disk → IfErr result (λ e. D.keeps e.1 → IsRefused (half_len_of (D.sectors disk)) (D.reads disk) e.0) }
 
         // Unless the device failed, a refusal wrote nothing: the disk reads as before, and so does each image of every moment.
-        ensures unwritten { D.honest → IfErr result (λ e. e.0 ≢ Device → D.reads e.1 ≡ D.reads disk) }
-        ensures spares_images { D.honest → IfErr result (λ e. e.0 ≢ Device → LeavesOnly D.moment D.images_since disk e.1 (IsImage (D.choices disk))) }
-        ensures not_worn { D.honest → OnOk result (IsWorn (half_len_of (D.sectors disk)) (D.reads disk) → ⊥) }
+        ensures unwritten { IfErr result (λ e. e.0 ≢ Device → D.reads e.1 ≡ D.reads disk) }
+        ensures spares_images { IfErr result (λ e. e.0 ≢ Device → LeavesOnly D.moment D.images_since disk e.1 (IsImage (D.choices disk))) }
+        ensures not_worn { IfOk result (λ c. D.keeps c.store.disk → IsWorn (half_len_of (D.sectors disk)) (D.reads disk) → ⊥) }
         ensures device { IfErr result (λ e. e.0 ≡ Device → HasRisen (D.failures disk) (D.failures e.1)) }
         ensures passed { IfErr result (λ e. e.0 ≢ Device → D.failures e.1 ≡ D.failures disk) }
         ensures failures { MatchResult result (λ c. D.failures disk ≤ D.failures c.store.disk) (λ e. D.failures disk ≤ D.failures e.1) }
-        ensures durable { D.honest → IfOk result (λ c. D.choices c.store.disk ≡ settled (D.reads c.store.disk)) }
+        ensures durable { IfOk result (λ c. D.choices c.store.disk ≡ settled (D.reads c.store.disk)) }
 
         // Where each image stands for some state, the concentrator is in the opened state, and a stop leaves an image that
         // stands for a state that one of them stood for.
-        ensures at { (D.honest → EachStands (half_len_of (D.sectors disk)) (D.choices disk))
-            → IfOk result (λ c. IsAt D.honest D.sectors D.reads D.choices c (opened c.house.state)) }
-        ensures any_moment { D.honest → EachStands (half_len_of (D.sectors disk)) (D.choices disk)
-            → MatchResult result (λ c. LeavesOnly D.moment D.images_since disk c.store.disk (StandsForOne (half_len_of (D.sectors disk)) (D.choices disk)))
-            (λ e. LeavesOnly D.moment D.images_since disk e.1 (StandsForOne (half_len_of (D.sectors disk)) (D.choices disk))) }
-        ensures premise { D.honest → fewest_sectors ≤ D.sectors disk → EachStands (half_len_of (D.sectors disk)) (D.choices disk)
-            → IfErr result (λ e. TellsOfImage e.0 → e.0 ≡ Worn) }
+        ensures at { IfOk result (λ c. (D.keeps c.store.disk → EachStands (half_len_of (D.sectors disk)) (D.choices disk))
+            → IsAt (D.keeps c.store.disk) D.sectors D.reads D.choices c (opened c.house.state)) }
+        ensures any_moment { EachStands (half_len_of (D.sectors disk)) (D.choices disk)
+            → MatchResult result (λ c. D.keeps c.store.disk → LeavesOnly D.moment D.images_since disk c.store.disk (StandsForOne (half_len_of (D.sectors disk)) (D.choices disk)))
+            (λ e. D.keeps e.1 → LeavesOnly D.moment D.images_since disk e.1 (StandsForOne (half_len_of (D.sectors disk)) (D.choices disk))) }
+        ensures premise { fewest_sectors ≤ D.sectors disk → EachStands (half_len_of (D.sectors disk)) (D.choices disk)
+            → IfErr result (λ e. D.keeps e.1 → TellsOfImage e.0 → e.0 ≡ Worn) }
+        ensures before { MatchResult result (λ c. D.keeps c.store.disk → D.keeps disk) (λ e. D.keeps e.1 → D.keeps disk) }
         ensures count { MatchResult result (λ c. D.sectors c.store.disk ≡ D.sectors disk) (λ e. D.sectors e.1 ≡ D.sectors disk) }
         ensures running { IfOk result (λ c. c.store.is_stopped ≡ false) }
+        ensures empty { IfOk result (λ c. c.waiting.count ≡ 0) }
+        ensures idle { IfOk result (λ c. c.lines ≡ no_sessions) }
         ensures budget { IfOk result (λ c. c.house.budget ≡ budget_of (half_len_of (D.sectors disk))) }
     {
         let (store, house) = Store::open(alloc, disk)?;
@@ -98,10 +117,10 @@ impl<D: Disk + Drop, A: Allocator + Copy> Concentrator<D, A> {
     /// # Errors
     /// The first that stands, in the order `NoLine`, `Stopped`, `Unknown`, `Busy`; nothing has changed.
     pub fn start(&mut self, line: u8, meter: &Identity) -> Result<(), StartFault>
-        ensures may { (core : Core) → IsAt D.honest D.sectors D.reads D.choices self.old core
+        ensures may { (origin : D) (core : Core) → IsAt (D.keeps origin) D.sectors D.reads D.choices self.old core
             → May self.old.house.budget core (starts line meter.now) (started result) }
-        ensures at { (core : Core) → IsAt D.honest D.sectors D.reads D.choices self.old core
-            → IsAt D.honest D.sectors D.reads D.choices self.new (next core (starts line meter.now) (started result)) }
+        ensures at { (origin : D) (core : Core) → IsAt (D.keeps origin) D.sectors D.reads D.choices self.old core
+            → IsAt (D.keeps origin) D.sectors D.reads D.choices self.new (next core (starts line meter.now) (started result)) }
         ensures store { self.new.store ≡ self.old.store }
         ensures house { self.new.house ≡ self.old.house }
     {
@@ -125,7 +144,7 @@ impl<D: Disk + Drop, A: Allocator + Copy> Concentrator<D, A> {
     /// The request that is asked on a line. None where there is no such line, no session on it, where its telegram waits
     /// for a commit, and where the disk has stopped the concentrator. A selection is the longest request, of 17 bytes.
     pub fn ask(&self, line: u8) -> Option<FrameBuf>
-        ensures may { (core : Core) → IsAt D.honest D.sectors D.reads D.choices self.now core
+        ensures may { (origin : D) (core : Core) → IsAt (D.keeps origin) D.sectors D.reads D.choices self.now core
             → May self.now.house.budget core (asks line) (asked result) }
         ensures short { IfSome result (λ request. length request ≤ longest_request) }
     {
@@ -140,9 +159,9 @@ impl<D: Disk + Drop, A: Allocator + Copy> Concentrator<D, A> {
     /// image that it may leave stands for what is committed, and so that is what opening it again gives.
     pub fn close(self) -> D
         ensures disk { result ≡ self.store.disk }
-        ensures holds { D.honest → (core : Core) → IsAt D.honest D.sectors D.reads D.choices self core → core.stopped ≡ false → (image : Image) → IsImage (D.choices result) image
+        ensures holds { (origin : D) → D.keeps origin → (core : Core) → IsAt (D.keeps origin) D.sectors D.reads D.choices self core → core.stopped ≡ false → (image : Image) → IsImage (D.choices result) image
             → Stands (half_len_of (D.sectors result)) core.committed image }
-        ensures reads { D.honest → (core : Core) → IsAt D.honest D.sectors D.reads D.choices self core → core.stopped ≡ false → (state : State) → Reads (half_len_of (D.sectors result)) state (D.reads result)
+        ensures reads { (origin : D) → D.keeps origin → (core : Core) → IsAt (D.keeps origin) D.sectors D.reads D.choices self core → core.stopped ≡ false → (state : State) → Reads (half_len_of (D.sectors result)) state (D.reads result)
             → state ≡ core.committed }
     {
         let Concentrator { store, .. } = self;

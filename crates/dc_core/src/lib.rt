@@ -12,7 +12,8 @@
 //! Stopped before or within any call of the disk, what is opened again is the register after a front of what was
 //! accepted, which has every telegram after which another request was asked on its line, every command acknowledged and
 //! every reading shown to the office, and all that was accepted before a commit that answered a number
-//! ([`what_is_promised_is_committed`], [`what_the_office_is_told_is_kept`], [`Concentrator::run`]).
+//! (in one clause: [`Concentrator::open`], `the_headline`; [`what_is_promised_is_committed`],
+//! [`what_the_office_is_told_is_kept`], [`Concentrator::run`]).
 //!
 //! Only [`Concentrator::open`] takes memory, [`Concentrator::hear`] for a new telegram, and [`Concentrator::office`] for a
 //! new command.

@@ -1,7 +1,8 @@
 //! The line of text of each answer.
 
-ghost use Rattle.std.specs.Prelude.{◌≡◌};
+ghost use Rattle.std.specs.Prelude.{◌≡◌, ◌++◌, codes};
 ghost use Rattle.dc_stream.specs.Stream.{Wrote};
+ghost use Rattle.dc_text.specs.Words.{fault_text};
 ghost use Rattle.dc_core.specs.declared.line_heard.LineHeard.TheVariants.{Accepted};
 ghost use Rattle.dc_core.specs.Text.{started_text, asked_text, failed_text, line_text, heard_text, committed_text, refused_text};
 
@@ -40,18 +41,23 @@ pub fn put_asked<W: Sink>(out: &mut W, answer: Option<FrameBuf>) -> Result<(), I
     out.put(b"\n")
 }
 
-#[tactic(auto, using(dc_stream::proofs::Pieces::written))]
+#[tactic(auto, using(dc_stream::proofs::Pieces::written), unfolding(dc_text::specs::Words::fault_line))]
 fn put_failed<W: Sink>(out: &mut W, why: Why) -> Result<(), IoFault>
     ensures { Wrote W.written W.put_failures result out.old out.new (failed_text why) }
 {
     let Why::Content(fault) = why else {
         return put_fault_line(out, b"FAILED", why.number(), why.name());
     };
+    put_failure(out, why.number(), why.name())?;
+    put_fault_line(out, b"", fault.number(), fault.name())
+}
+
+#[tactic(auto, using(dc_stream::proofs::Pieces::written))]
+fn put_failure<W: Sink>(out: &mut W, number: u8, name: &str) -> Result<(), IoFault>
+    ensures { Wrote W.written W.put_failures result out.old out.new (codes "FAILED " ++ fault_text number name.now) }
+{
     out.put(b"FAILED ")?;
-    put_fault(out, why.number(), why.name())?;
-    out.put(b" ")?;
-    put_fault(out, fault.number(), fault.name())?;
-    out.put(b"\n")
+    put_fault(out, number, name)
 }
 
 #[tactic(auto, using(dc_stream::proofs::Pieces::written))]

@@ -1,5 +1,7 @@
 -- What an engine's answer makes of a run (this product).
 use Rattle.std.specs.Prelude.{◌≡◌, ℕ, Bool, true, false, List, codes, Result, Ok, Err}
+use Rattle.dc_recovery.specs.declared.fault.OpenFault.{OpenFault}
+use Rattle.dc_recovery.specs.declared.fault.OpenFault.TheVariants.{NotImage, Damaged, Version, Worn, Device, NoMemory as NoMemoryToOpen}
 use Rattle.dc_poller.specs.declared.fault.ProgramFault.{ProgramFault}
 use Rattle.dc_poller.specs.declared.fault.ProgramFault.TheVariants.{Read, TooLong, Write, NoMemory, Open as NotOpened}
 use Rattle.dc_ending.specs.declared.ending.Ending.{Ending}
@@ -16,13 +18,22 @@ IsOfFile (File name) wanted = name.now ≡ wanted
 IsOfFile Gateway wanted = ⊥
 IsOfFile Memory wanted = ⊥
 
+-- an image that isn't opened is at fault, unless there was no memory to open it
+abbrev pub opening_ended : OpenFault → Ending
+opening_ended NotImage = Open NotImage
+opening_ended (Damaged sector) = Open (Damaged sector)
+opening_ended Version = Open Version
+opening_ended Worn = Open Worn
+opening_ended Device = Open Device
+opening_ended NoMemoryToOpen = Memory
+
 -- a fault of reading is one of the input, a fault of writing one of the output
 abbrev pub StopsAs : ProgramFault → List ℕ → Ending → Type 0
 StopsAs Read input ending = IsOfFile ending input
 StopsAs TooLong input ending = IsOfFile ending input
 StopsAs Write input ending = IsOfFile ending (codes "-")
 StopsAs NoMemory input ending = ending ≡ Memory
-StopsAs (NotOpened fault) input ending = ending ≡ Open fault
+StopsAs (NotOpened fault) input ending = ending ≡ opening_ended fault
 
 -- an engine answers whether a line was at fault, or what stopped it
 abbrev pub EndsAs : Result Bool ProgramFault → List ℕ → Ending → Type 0

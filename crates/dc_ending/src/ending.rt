@@ -54,7 +54,7 @@ impl Ending<'_> {
     /// nothing is put. No memory.
     ///
     /// # Errors
-    /// A put failed; how much of the line was written then isn't known.
+    /// A put failed; a prefix of the line is written then.
     pub fn put_line<W: Sink>(&self, out: &mut W) -> Result<(), IoFault>
         ensures { Wrote W.written W.put_failures result out.old out.new (line_of self.now) }
     {
@@ -132,7 +132,7 @@ pub fn ending_of<'a>(outcome: Result<bool, ProgramFault>, input: &'a str) -> End
         Ok(true) => Ending::Faulty,
         Err(ProgramFault::Read | ProgramFault::TooLong) => Ending::File(input),
         Err(ProgramFault::Write) => Ending::File(STREAM),
-        Err(ProgramFault::NoMemory) => Ending::Memory,
+        Err(ProgramFault::NoMemory | ProgramFault::Open(OpenFault::NoMemory)) => Ending::Memory,
         Err(ProgramFault::Open(fault)) => Ending::Open(fault),
     }
 }

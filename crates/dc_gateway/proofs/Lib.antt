@@ -16,3 +16,7 @@ pub mod Searching
 pub mod Budgets
 -- masks as they are sent
 pub mod Orders
+-- exchanges one after the other
+pub mod Exchanges
+-- a search asks once more
+pub mod Asked

@@ -1,11 +1,12 @@
 -- A bus as the list of its meters, by what is heard on it (EN 13757-3, selection with wildcards; EN 13757-2, REQ_UD2).
 -- The meters that match a selection acknowledge it at once, and answer the request that follows together.
-use Rattle.std.specs.Prelude.{◌≡◌, ℕ, ◌≤◌, true, List, [], ◌∷◌, Option, Some, None, filter, length, min, take, if◌then◌else◌, nat_le}
+use Rattle.std.specs.Prelude.{◌≡◌, ℕ, ◌≤◌, true, List, [], ◌∷◌, Option, Some, None, filter, length, min, option_map, take, if◌then◌else◌, nat_le}
 use Rattle.dc_address.specs.Mask.{IsMask, MaskParts, mask_wire, matches}
 use Rattle.dc_address.specs.declared.identity.Identity.{Identity}
 use Rattle.dc_linkframe.specs.Control.{request_to, selected, selection_by}
 use Rattle.dc_linkframe.specs.Frame.{ack, spelling}
 use Rattle.dc_search.specs.Answer.{answer_of}
+use Rattle.dc_search.specs.Request.{request_by}
 use Rattle.dc_search.specs.State.{SearchState, after, new_search, step_of}
 use Rattle.dc_search.specs.Walk.{FindsAll, found_of, shared_of, walk_of}
 use Rattle.dc_search.specs.declared.step.Step.TheVariants.{Done, Budget}
@@ -55,6 +56,27 @@ heard_all (answer ∷ more) search = heard_all more (after answer search)
 pub record HasHeard (budget : ℕ) (search : SearchState) : Type 0 where
   pub answers : List (List ℕ)
   pub state : search ≡ heard_all answers (new_search budget)
+
+-- A request, and what is heard of it.
+pub record Exchange : Type 0 where
+  pub request : List ℕ
+  pub answer : List ℕ
+
+-- These exchanges happened one after the other between a bus and what they left of it, and nothing else was asked.
+abbrev pub AreExchanged : {B : Type 0} → (B → List ℕ → List ℕ → B → Type 0) → B → List Exchange → B → Type 0
+AreExchanged asks old [] new = new ≡ old
+AreExchanged {B} asks old (exchange ∷ more) new = (between : B) × asks old exchange.request exchange.answer between × AreExchanged asks between more new
+
+-- Each request is that of the search's next step, each answer is heard by the search, and this is the search after them.
+abbrev pub AreAskedBy : SearchState → List Exchange → SearchState → Type 0
+AreAskedBy search [] last = last ≡ search
+AreAskedBy search (exchange ∷ more) last = (option_map spelling (request_by (step_of search)) ≡ Some exchange.request) × AreAskedBy (after exchange.answer search) more last
+
+-- A search with this budget: its exchanges are all that happened to the bus.
+pub record HasAsked {B : Type 0} (asks : B → List ℕ → List ℕ → B → Type 0) (budget : ℕ) (old new : B) (search : SearchState) : Type 0 where
+  pub exchanges : List Exchange
+  pub happened : AreExchanged asks old exchanges new
+  pub asked : AreAskedBy (new_search budget) exchanges search
 
 -- A search over these meters made the selections of the walk, as far as the budget went.
 pub record IsSearched (meters : List Identity) (budget : ℕ) (search : SearchState) : Type 0 where

@@ -4,5 +4,7 @@
 pub mod Blocks
 -- what an exchange may give, and what it leaves
 pub mod Talk
+-- what a request to a gateway does
+pub mod Asking
 -- a bus of meters, by what is heard on it
 pub mod Bus

@@ -1,10 +1,10 @@
 //! A bus of meters, whatever it is reached over, and a search on it.
 
-ghost use Rattle.std.specs.Prelude.{◌≡◌, ◌≤◌, ℕ, Bool, true, List, [], Option, IfSome, IfOk, IsTrue, length};
+ghost use Rattle.std.specs.Prelude.{◌≡◌, ◌≤◌, ℕ, Bool, true, List, [], Option, IfSome, IfOk, OnErr, IsTrue, length};
 ghost use Rattle.dc_address.specs.declared.identity.Identity.{Identity as Meter};
 ghost use Rattle.dc_gateway.specs.Blocks.{most_block};
-ghost use Rattle.dc_gateway.specs.Bus.{HasHeard, IsHeard, IsSearched};
-ghost use Rattle.dc_search.specs.State.{is_idle, step_of};
+ghost use Rattle.dc_gateway.specs.Bus.{HasAsked, HasHeard, IsHeard, IsSearched};
+ghost use Rattle.dc_search.specs.State.{SearchState, is_idle, step_of};
 
 use crate::answer_buf::AnswerBuf;
 use crate::gateway::Gateway;
@@ -24,6 +24,9 @@ pub trait Bus {
     // Whether all is silence from here on.
     ghost lost: { Self → Bool };
 
+    // What a request and the answer that is heard of it do to the bus.
+    ghost asks: { Self → List ℕ → List ℕ → Self → Type 0 };
+
     /// Whether the bus is lost, and all is silence from here on.
     fn is_lost(&self) -> bool
         ensures { result ≡ lost self.now };
@@ -33,6 +36,7 @@ pub trait Bus {
         requires { length request.now ≤ most_block }
         ensures meters { meters self.new ≡ meters self.old }
         ensures heard { IfSome (meters self.old) (λ told. IsHeard told (selected self.old) (selected self.new) request.now result) }
+        ensures asked { asks self.old request.now result self.new }
         // A lost bus is silent and untouched.
         ensures silence { lost self.old ≡ true → result ≡ [] }
         ensures untouched { lost self.old ≡ true → self.new ≡ self.old };
@@ -40,6 +44,7 @@ pub trait Bus {
 
 impl<R: Source + Drop, W: Sink + Drop> Bus for Gateway<R, W> {
     ghost use Rattle.std.specs.Prelude.{None, []};
+    ghost use Rattle.dc_gateway.specs.Asking.{Asks};
 
     // Whom a gateway leads to isn't told.
     ghost meters = { λ _. None };
@@ -47,6 +52,8 @@ impl<R: Source + Drop, W: Sink + Drop> Bus for Gateway<R, W> {
     ghost selected = { λ _. [] };
 
     ghost lost = { λ gateway. gateway.lost };
+
+    ghost asks = { Asks R.Source W.Sink };
 
     fn is_lost(&self) -> bool {
         Gateway::is_lost(self)
@@ -73,6 +80,10 @@ pub fn search_over<A: Allocator + Copy, B: Bus>(
 
     // It is what the answers that were heard lead to.
     ensures heard { IfOk result (λ search. HasHeard budget search) }
+    // Its steps' requests and their answers are all that happened to the bus, also where memory was refused to the last
+    // answer.
+    ensures asked { IfOk result (λ search. HasAsked B.asks budget bus.old bus.new search) }
+    ensures stopped { OnErr result ((search : SearchState) × HasAsked B.asks budget bus.old bus.new search) }
     // Where the bus tells its meters, it follows their walk.
     ensures walk { IfOk result (λ search. IfSome (B.meters bus.old) (λ told. IsSearched told budget search)) }
     ensures meters { B.meters bus.new ≡ B.meters bus.old }

@@ -1,7 +1,7 @@
 //! A bus in memory: a list of meters, each with one telegram.
 
 ghost use Rattle.std.specs.Prelude.{◌≡◌, None, Some};
-ghost use Rattle.dc_gateway.specs.Bus.{Acknowledge, Respond, chosen};
+ghost use Rattle.dc_gateway.specs.Bus.{Acknowledge, IsHeard, Respond, chosen};
 ghost use Rattle.dc_search.specs.Bus.{IsMatching};
 
 use crate::answer_buf::AnswerBuf;
@@ -88,6 +88,8 @@ impl<'a> Bus for ListedBus<'a> {
 
     // It is never lost.
     ghost lost = { λ _. false };
+
+    ghost asks = { λ old request answer new. IsHeard old.meters (chosen old) (chosen new) request answer };
 
     fn is_lost(&self) -> bool {
         false

@@ -1,5 +1,5 @@
 -- Changes that are read one after the other and applied as they come.
-use Rattle.std.proofs.Common.{◌≡◌, ℕ, ◌<◌, List, [], ◌∷◌, ◌++◌, length, Some, refl, sym, ap, subst, ◌∙◌}
+use Rattle.std.proofs.Common.{◌≡◌, ℕ, ◌<◌, List, [], ◌∷◌, ◌++◌, length, Some, None, refl, sym, ap, subst, ◌∙◌}
 use Rattle.std.specs.List.{flat_map}
 use Rattle.dc_changes.specs.declared.change.Change.{Change}
 use Rattle.dc_changes.specs.Encoding.{change_bytes, changes_bytes}
@@ -14,7 +14,7 @@ use Rattle.dc_changes.proofs.Exact.{IsBytes, IsBytes-behind, some_is}
 use Rattle.dc_changes.proofs.ChangeSpellings.{Exact-change}
 use Rattle.dc_changes.proofs.Runs.{IsReadUpTo, read_on, next_spelled}
 use Rattle.dc_changes.specs.Valid.{IsChange}
-use Rattle.dc_meters.specs.Replay.{IsApplied, IsHeldUp}
+use Rattle.dc_meters.specs.Replay.{BeginsUnaccepted, IsApplied, IsHeldUp}
 use Rattle.std.proofs.lemmas.List.Elements.{All-nil}
 
 pub none_applied : (old : Held) (bytes : List ℕ) → IsApplied old old bytes bytes
@@ -55,3 +55,25 @@ held_up old mid bytes rest change then are so_far found accepts =
     let rest_are : IsBytes rest = IsBytes-behind (changes_bytes so_far.changes) rest (subst IsBytes so_far.spelled are) in
     let taken = Exact-change.takes rest change then rest_are found in
     record { next = change; behind = then; so_far = subst (IsApplied old mid bytes) taken.spelled so_far; is_change = taken.is; accepted = accepts }
+
+-- where no change is read, the bytes begin with none
+unread_begins : (held : Held) (bytes : List ℕ) → change_at bytes ≡ None → BeginsUnaccepted held bytes
+unread_begins held bytes missing next others spelled is accepts =
+    let found : change_at bytes ≡ Some (next, others) = ap change_at spelled ∙ Exact-change.again next others is in
+    cc
+
+-- where the change that is read isn't accepted, the bytes begin with no other
+refused_begins : (held : Held) (bytes : List ℕ) (change : Change) (then : List ℕ) → change_at bytes ≡ Some (change, then) → (Accepts held.budget change held.state → ⊥) → BeginsUnaccepted held bytes
+refused_begins held bytes change then found refused next others spelled is accepts =
+    let again : change_at bytes ≡ Some (next, others) = ap change_at spelled ∙ Exact-change.again next others is in
+    let same : change ≡ next = ap (λ (p : Change × List ℕ). p.0) (some_is (change, then) (next, others) (sym found ∙ again)) in
+    refused (subst (λ (c : Change). Accepts held.budget c held.state) (sym same) accepts)
+
+-- a replay ended where no change is read
+pub left_unread : (old new : Held) (bytes rest : List ℕ) → IsApplied old new bytes rest → change_at rest ≡ None → (rest : List ℕ) × IsApplied old new bytes rest × BeginsUnaccepted new rest
+left_unread old new bytes rest so_far missing = (rest, so_far, unread_begins new rest missing)
+
+-- a replay ended at a change that isn't accepted
+pub left_refused : (old new : Held) (bytes rest : List ℕ) (change : Change) (then : List ℕ) → IsApplied old new bytes rest → change_at rest ≡ Some (change, then) → (Accepts new.budget change new.state → ⊥)
+    → (rest : List ℕ) × IsApplied old new bytes rest × BeginsUnaccepted new rest
+left_refused old new bytes rest change then so_far found refused = (rest, so_far, refused_begins new rest change then found refused)

@@ -22,3 +22,7 @@ pub record IsHeldUp (old new : Held) (bytes : List ℕ) : Type 0 where
   pub so_far : IsApplied old new bytes (change_bytes next ++ behind)
   pub is_change : IsChange next
   pub accepted : Accepts new.budget next new.state
+
+-- the bytes begin with no change that is accepted
+abbrev pub BeginsUnaccepted : Held → List ℕ → Type 0
+BeginsUnaccepted held bytes = (next : Change) → (others : List ℕ) → bytes ≡ change_bytes next ++ others → IsChange next → Accepts held.budget next held.state → ⊥

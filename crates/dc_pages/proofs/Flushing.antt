@@ -1,5 +1,5 @@
 -- The page in the buffer goes to the disk.
-use Rattle.std.proofs.Common.{◌≡◌, ℕ, ◌<◌, ◌+◌, ◌^◌, List, ◌++◌, length, take, drop, arith, ap, sym, subst}
+use Rattle.std.proofs.Common.{⊎_elim, ◌≡◌, ◌≢◌, ℕ, ◌<◌, ◌≤◌, ◌+◌, ◌^◌, List, ◌++◌, length, take, drop, arith, ap, sym, subst}
 use Rattle.std.proofs.lemmas.List.{length-drop, length-take-le}
 use Rattle.dc_sectors.specs.declared.sector.Sector.{Sector}
 use Rattle.dc_sectors.specs.declared.sector.Sector.TheVariants.{Bytes}
@@ -8,10 +8,15 @@ use Rattle.dc_pages.specs.Buffer.{IsBuffer}
 use Rattle.dc_pages.specs.Draft.{Draft}
 use Rattle.dc_pages.specs.Group.{IsPage, piece, head_bytes, page_bytes}
 use Rattle.dc_pages.proofs.Stamped.{page_bytes-is_page}
-use Rattle.dc_pages.specs.Writing.{IsPageWritten, IsPartOf, IsOnDisk}
+use Rattle.dc_pages.specs.Writing.{SameOutside, IsPageWritten, IsPartOf, IsOnDisk}
 use Rattle.dc_pages.proofs.Buffers.{sealed}
 use Rattle.dc_pages.proofs.Turning.{flush_left, flushed}
 use Rattle.dc_pages.specs.declared.site.Site.{Site}
+
+-- a sector of the site was written, and no other
+pub same_outside : (site : Site) (old new : Image) (at : ℕ) → site.first ≤ at → at < site.limit → ((m : ℕ) → m ≢ at → new m ≡ old m) → SameOutside site old new
+same_outside site old new at low high elsewhere m out =
+    elsewhere m (⊎_elim (λ (before : m < site.first) (same : m ≡ at). absurd (omega arith)) (λ (after : site.limit ≤ m) (same : m ≡ at). absurd (omega arith)) out)
 
 -- a head over the buffer makes the sector of its page
 pub page_written : (site : Site) (session index used : ℕ) (page sector content : List ℕ) → IsBuffer used page

@@ -1,6 +1,6 @@
 -- For the crates above: stamps alone decide that a group is complete only as it was written, so that one
 -- sync makes the whole group durable.
-use Rattle.std.proofs.Common.{◌≡◌, inl, inr, ⊎_elim, ℕ, ◌<◌, ◌≤◌, ◌+◌, ◌-◌, List, arith, ap, sym, subst, ◌∙◌, ◌≢◌}
+use Rattle.std.proofs.Common.{◌≡◌, ◌⊎◌, inl, inr, ⊎_elim, ℕ, ◌<◌, ◌≤◌, ◌+◌, ◌-◌, List, arith, ap, sym, subst, ◌∙◌, ◌≢◌}
 use Rattle.std.proofs.lemmas.Bool.{cases_eq, cases_lt}
 use Rattle.dc_sectors.specs.declared.sector.Sector.{Sector}
 use Rattle.dc_sectors.specs.declared.sector.Sector.TheVariants.{Unreadable}
@@ -61,97 +61,109 @@ member site session payload pages image is known group m le up =
     before : (m ≡ site.first + pages → ⊥) → m - site.first < pages
     before not = ⊎_elim (λ (lt : m < site.first + pages). omega arith) (λ (ge : site.first + pages ≤ m). absurd (not (omega arith))) (cases_lt m (site.first + pages))
 
--- WHERE NO SECTOR OF THE RANGE CARRIED THE STAMP, and no group of that kind and sequence was complete, a
--- torn image in which one is complete has each of its sectors as written.
+-- WHERE NO SECTOR OF THE RANGE CARRIED THE STAMP, a group that is complete in a torn image was complete before, or each sector
+-- of the range is as written.
+pub old_or_as_written : (site : Site) (session : ℕ) (payload : List ℕ) (pages : ℕ) (old written image : Image) → IsPageKind site.kind → IsKnown site.version
+    → IsGroup site session payload pages written → IsTorn site.first (pages + 1) old written image
+    → ((m : ℕ) → site.first ≤ m → m ≤ site.first + pages → Carries session site.sequence (old m) → ⊥)
+    → (session' : ℕ) (payload' : List ℕ) (pages' : ℕ) → IsGroup site session' payload' pages' image
+    → IsGroup site session' payload' pages' old ⊎ ((m : ℕ) → site.first ≤ m → m ≤ site.first + pages → image m ≡ written m)
+old_or_as_written site session payload pages old written image is known group torn unused session' payload' pages' complete =
+    ⊎_elim (λ same. inr (as_written same)) (λ (other : session' ≡ session → ⊥). inl (same_group site session' payload' pages' image old (all_old other) complete)) (cases_eq session' session)
+  where
+    of : (m : ℕ) → site.first ≤ m → m ≤ site.first + pages' → Carries session' site.sequence (image m)
+    of m le up = member site session' payload' pages' image is known complete m le up
+
+    of_written : (m : ℕ) → site.first ≤ m → m ≤ site.first + pages → Carries session site.sequence (written m)
+    of_written m le up = member site session payload pages written is known group m le up
+
+    -- another session's sectors are all old
+    all_old : (session' ≡ session → ⊥) → (m : ℕ) → site.first ≤ m → m ≤ site.first + pages' → image m ≡ old m
+    all_old other m le up = ⊎_elim
+        (λ (lt : m < site.first + (pages + 1)). ⊎_elim
+        (λ either. ⊎_elim (λ (e : image m ≡ old m). e) (λ (lost : image m ≡ Unreadable). absurd (lost_carries_none session' site.sequence (image m) lost (of m le up))) either)
+        (λ (e : image m ≡ written m). absurd (other (sym (one_stamp session site.sequence session' site.sequence (written m) (of_written m le (omega arith)) (subst (Carries session' site.sequence) e (of m le up))).0)))
+        (torn.inside m le lt))
+        (λ (ge : site.first + (pages + 1) ≤ m). torn.outside m (inr ge))
+        (cases_lt m (site.first + (pages + 1)))
+
+    -- this session's sectors are all written
+    here : session' ≡ session → (m : ℕ) → site.first ≤ m → m ≤ site.first + pages' → m ≤ site.first + pages → image m ≡ written m
+    here same m le up in_range = ⊎_elim
+        (λ either. ⊎_elim
+        (λ (e : image m ≡ old m). absurd (unused m le in_range (subst (λ (s : ℕ). Carries s site.sequence (old m)) same (subst (Carries session' site.sequence) e (of m le up)))))
+        (λ (lost : image m ≡ Unreadable). absurd (lost_carries_none session' site.sequence (image m) lost (of m le up))) either)
+        (λ (e : image m ≡ written m). e)
+        (torn.inside m le (omega arith))
+
+    no_longer : session' ≡ session → pages' ≤ pages
+    no_longer same = ⊎_elim
+        (λ (lt : pages < pages'). absurd (page_or_commit site site session' pages session pages (piece pages payload') (image (site.first + pages)) (not_commit site.kind is)
+        (complete.page pages lt)
+        (subst (IsCommit site session pages) (sym (here same (site.first + pages) (omega arith) (omega arith) (omega arith))) group.commit)))
+        (λ le. le) (cases_lt pages pages')
+
+    no_shorter : session' ≡ session → pages ≤ pages'
+    no_shorter same = ⊎_elim
+        (λ (lt : pages' < pages). absurd (page_or_commit site site session pages' session' pages' (piece pages' payload) (written (site.first + pages')) (not_commit site.kind is)
+        (group.page pages' lt)
+        (subst (IsCommit site session' pages') (here same (site.first + pages') (omega arith) (omega arith) (omega arith)) complete.commit)))
+        (λ le. le) (cases_lt pages' pages)
+
+    as_written : session' ≡ session → (m : ℕ) → site.first ≤ m → m ≤ site.first + pages → image m ≡ written m
+    as_written same m le up = let ge = no_shorter same in here same m le (omega arith) up
+
+-- and where no group of that kind and sequence was complete, it is as written
 pub one_sync : (site : Site) (session : ℕ) (payload : List ℕ) (pages : ℕ) (old written image : Image) → IsPageKind site.kind → IsKnown site.version
     → IsGroup site session payload pages written → IsTorn site.first (pages + 1) old written image
     → ((m : ℕ) → site.first ≤ m → m ≤ site.first + pages → Carries session site.sequence (old m) → ⊥)
     → (IsComplete site old → ⊥) → IsComplete site image
     → (m : ℕ) → site.first ≤ m → m ≤ site.first + pages → image m ≡ written m
 one_sync site session payload pages old written image is known group torn unused not_old complete =
-    ⊎_elim as_written (λ (other : complete.session ≡ session → ⊥). absurd (not_old (record {
-      session = complete.session;
-      payload = complete.payload;
-      pages = complete.pages;
-      group = same_group site complete.session complete.payload complete.pages image old (all_old other) complete.group;
-    }))) (cases_eq complete.session session)
+    ⊎_elim (λ was. absurd (not_old (record { session = complete.session; payload = complete.payload; pages = complete.pages; group = was }))) (λ as_written. as_written)
+    (old_or_as_written site session payload pages old written image is known group torn unused complete.session complete.payload complete.pages complete.group)
+
+-- With pages alone written, a group that is complete was complete before.
+pub complete_before : (site : Site) (session : ℕ) (old image : Image) → IsPageKind site.kind → IsKnown site.version
+    → IsPartOf site session old image
+    → ((m : ℕ) → site.first ≤ m → m < site.limit → Carries session site.sequence (old m) → ⊥)
+    → (session' : ℕ) (payload' : List ℕ) (pages' : ℕ) → IsGroup site session' payload' pages' image → IsGroup site session' payload' pages' old
+complete_before site session old image is known part unused session' payload' pages' complete =
+    ⊎_elim (λ same. absurd (of_session same)) (λ (other : session' ≡ session → ⊥). same_group site session' payload' pages' image old (all_old other) complete) (cases_eq session' session)
   where
-    of : (m : ℕ) → site.first ≤ m → m ≤ site.first + complete.pages → Carries complete.session site.sequence (image m)
-    of m le up = member site complete.session complete.payload complete.pages image is known complete.group m le up
+    of : (m : ℕ) → site.first ≤ m → m ≤ site.first + pages' → Carries session' site.sequence (image m)
+    of m le up = member site session' payload' pages' image is known complete m le up
 
-    of_written : (m : ℕ) → site.first ≤ m → m ≤ site.first + pages → Carries session site.sequence (written m)
-    of_written m le up = member site session payload pages written is known group m le up
+    all_old : (session' ≡ session → ⊥) → (m : ℕ) → site.first ≤ m → m ≤ site.first + pages' → image m ≡ old m
+    all_old other m le up =
+        let fits = complete.fits in
+        let at : site.first + (m - site.first) ≡ m = omega arith in
+        subst (λ (k : ℕ). image k ≡ old k) at (⊎_elim
+        (λ either. ⊎_elim (λ (e : image (site.first + (m - site.first)) ≡ old (site.first + (m - site.first))). e)
+        (λ (lost : image (site.first + (m - site.first)) ≡ Unreadable). absurd (lost_carries_none session' site.sequence (image (site.first + (m - site.first))) lost (of (site.first + (m - site.first)) (omega arith) (omega arith)))) either)
+        (λ page. absurd (other (sym (one_stamp session site.sequence session' site.sequence (image (site.first + (m - site.first))) (page_carries site session (m - site.first) page.0 _ is known page.1) (of (site.first + (m - site.first)) (omega arith) (omega arith))).0)))
+        (part.inside (m - site.first) (omega arith)))
 
-    -- another session's sectors are all old
-    all_old : (complete.session ≡ session → ⊥) → (m : ℕ) → site.first ≤ m → m ≤ site.first + complete.pages → image m ≡ old m
-    all_old other m le up = ⊎_elim
-        (λ (lt : m < site.first + (pages + 1)). ⊎_elim
-        (λ either. ⊎_elim (λ (e : image m ≡ old m). e) (λ (lost : image m ≡ Unreadable). absurd (lost_carries_none complete.session site.sequence (image m) lost (of m le up))) either)
-        (λ (e : image m ≡ written m). absurd (other (sym (one_stamp session site.sequence complete.session site.sequence (written m) (of_written m le (omega arith)) (subst (Carries complete.session site.sequence) e (of m le up))).0)))
-        (torn.inside m le lt))
-        (λ (ge : site.first + (pages + 1) ≤ m). torn.outside m (inr ge))
-        (cases_lt m (site.first + (pages + 1)))
-
-    -- this session's sectors are all written
-    here : complete.session ≡ session → (m : ℕ) → site.first ≤ m → m ≤ site.first + complete.pages → m ≤ site.first + pages → image m ≡ written m
-    here same m le up in_range = ⊎_elim
+    of_session : session' ≡ session → ⊥
+    of_session same =
+        let fits = complete.fits in
+        let commit = complete.commit in
+        ⊎_elim
         (λ either. ⊎_elim
-        (λ (e : image m ≡ old m). absurd (unused m le in_range (subst (λ (s : ℕ). Carries s site.sequence (old m)) same (subst (Carries complete.session site.sequence) e (of m le up)))))
-        (λ (lost : image m ≡ Unreadable). absurd (lost_carries_none complete.session site.sequence (image m) lost (of m le up))) either)
-        (λ (e : image m ≡ written m). e)
-        (torn.inside m le (omega arith))
+        (λ (e : image (site.first + pages') ≡ old (site.first + pages')). unused (site.first + pages') (omega arith) fits
+        (subst (λ (s : ℕ). Carries s site.sequence (old (site.first + pages'))) same (subst (Carries session' site.sequence) e (of (site.first + pages') (omega arith) (omega arith)))))
+        (λ (lost : image (site.first + pages') ≡ Unreadable). lost_carries_none session' site.sequence (image (site.first + pages')) lost (of (site.first + pages') (omega arith) (omega arith))) either)
+        (λ page. page_or_commit site site session pages' session' pages' page.0 (image (site.first + pages')) (not_commit site.kind is) page.1 commit)
+        (part.inside pages' fits)
 
-    no_longer : complete.session ≡ session → complete.pages ≤ pages
-    no_longer same = ⊎_elim
-        (λ (lt : pages < complete.pages). absurd (page_or_commit site site complete.session pages session pages (piece pages complete.payload) (image (site.first + pages)) (not_commit site.kind is)
-        (complete.group.page pages lt)
-        (subst (IsCommit site session pages) (sym (here same (site.first + pages) (omega arith) (omega arith) (omega arith))) group.commit)))
-        (λ le. le) (cases_lt pages complete.pages)
-
-    no_shorter : complete.session ≡ session → pages ≤ complete.pages
-    no_shorter same = ⊎_elim
-        (λ (lt : complete.pages < pages). absurd (page_or_commit site site session complete.pages complete.session complete.pages (piece complete.pages payload) (written (site.first + complete.pages)) (not_commit site.kind is)
-        (group.page complete.pages lt)
-        (subst (IsCommit site complete.session complete.pages) (here same (site.first + complete.pages) (omega arith) (omega arith) (omega arith)) complete.group.commit)))
-        (λ le. le) (cases_lt complete.pages pages)
-
-    as_written : complete.session ≡ session → (m : ℕ) → site.first ≤ m → m ≤ site.first + pages → image m ≡ written m
-    as_written same m le up = let ge = no_shorter same in here same m le (omega arith) up
-
--- With pages alone written, none is complete.
+-- and where none was, none is
 pub part_incomplete : (site : Site) (session : ℕ) (old image : Image) → IsPageKind site.kind → IsKnown site.version
     → IsPartOf site session old image
     → ((m : ℕ) → site.first ≤ m → m < site.limit → Carries session site.sequence (old m) → ⊥)
     → (IsComplete site old → ⊥) → IsComplete site image → ⊥
-part_incomplete site session old image is known part unused not_old complete =
-    ⊎_elim as_written (λ (other : complete.session ≡ session → ⊥). not_old (record {
-      session = complete.session;
-      payload = complete.payload;
-      pages = complete.pages;
-      group = same_group site complete.session complete.payload complete.pages image old (all_old other) complete.group;
-    })) (cases_eq complete.session session)
-  where
-    of : (m : ℕ) → site.first ≤ m → m ≤ site.first + complete.pages → Carries complete.session site.sequence (image m)
-    of m le up = member site complete.session complete.payload complete.pages image is known complete.group m le up
-
-    all_old : (complete.session ≡ session → ⊥) → (m : ℕ) → site.first ≤ m → m ≤ site.first + complete.pages → image m ≡ old m
-    all_old other m le up =
-        let fits = complete.group.fits in
-        let at : site.first + (m - site.first) ≡ m = omega arith in
-        subst (λ (k : ℕ). image k ≡ old k) at (⊎_elim
-        (λ either. ⊎_elim (λ (e : image (site.first + (m - site.first)) ≡ old (site.first + (m - site.first))). e)
-        (λ (lost : image (site.first + (m - site.first)) ≡ Unreadable). absurd (lost_carries_none complete.session site.sequence (image (site.first + (m - site.first))) lost (of (site.first + (m - site.first)) (omega arith) (omega arith)))) either)
-        (λ page. absurd (other (sym (one_stamp session site.sequence complete.session site.sequence (image (site.first + (m - site.first))) (page_carries site session (m - site.first) page.0 _ is known page.1) (of (site.first + (m - site.first)) (omega arith) (omega arith))).0)))
-        (part.inside (m - site.first) (omega arith)))
-
-    as_written : complete.session ≡ session → ⊥
-    as_written same =
-        let fits = complete.group.fits in
-        let commit = complete.group.commit in
-        ⊎_elim
-        (λ either. ⊎_elim
-        (λ (e : image (site.first + complete.pages) ≡ old (site.first + complete.pages)). unused (site.first + complete.pages) (omega arith) fits
-        (subst (λ (s : ℕ). Carries s site.sequence (old (site.first + complete.pages))) same (subst (Carries complete.session site.sequence) e (of (site.first + complete.pages) (omega arith) (omega arith)))))
-        (λ (lost : image (site.first + complete.pages) ≡ Unreadable). lost_carries_none complete.session site.sequence (image (site.first + complete.pages)) lost (of (site.first + complete.pages) (omega arith) (omega arith))) either)
-        (λ page. page_or_commit site site session complete.pages complete.session complete.pages page.0 (image (site.first + complete.pages)) (not_commit site.kind is) page.1 commit)
-        (part.inside complete.pages fits)
+part_incomplete site session old image is known part unused not_old complete = not_old (record {
+  session = complete.session;
+  payload = complete.payload;
+  pages = complete.pages;
+  group = complete_before site session old image is known part unused complete.session complete.payload complete.pages complete.group;
+})

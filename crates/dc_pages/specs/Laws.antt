@@ -1,29 +1,29 @@
 -- What is promised of groups and images (this product's image format), each proved by the lemma that is
 -- named beside it.
-use Rattle.std.specs.Prelude.{◌≡◌, ◌≢◌, ◌<◌, ℕ, ◌+◌, ◌≤◌, List}
+use Rattle.std.specs.Prelude.{◌≡◌, ◌≢◌, ◌⊎◌, ◌<◌, ℕ, ◌+◌, ◌≤◌, List}
 use Rattle.dc_sectors.specs.Disk.{Image}
 use Rattle.dc_pages.specs.Group.{IsGroup, IsComplete, Carries, IsPageKind, IsKnown, commit_kind}
 use Rattle.dc_pages.specs.Reading.{IsCutAt}
 use Rattle.dc_pages.specs.Writing.{IsTorn, IsPartOf}
 use Rattle.dc_pages.specs.declared.site.Site.{Site}
 
--- A group is complete only as it was written: where no sector of its range carried the stamp before, and
--- no group of that kind and sequence, of any session, was complete there (one_sync).
+-- Where no sector of its range carried the stamp before, a group is complete only as it was before, or with each sector of the
+-- range as it was written (old_or_as_written).
 abbrev pub CompleteAsWritten : Type 0
 CompleteAsWritten =
     (site : Site) (session : ℕ) (payload : List ℕ) (pages : ℕ) (old written image : Image) → IsPageKind site.kind → IsKnown site.version
     → IsGroup site session payload pages written → IsTorn site.first (pages + 1) old written image
     → ((m : ℕ) → site.first ≤ m → m ≤ site.first + pages → Carries session site.sequence (old m) → ⊥)
-    → (IsComplete site old → ⊥) → IsComplete site image
-    → (m : ℕ) → site.first ≤ m → m ≤ site.first + pages → image m ≡ written m
+    → (session' : ℕ) (payload' : List ℕ) (pages' : ℕ) → IsGroup site session' payload' pages' image
+    → IsGroup site session' payload' pages' old ⊎ ((m : ℕ) → site.first ≤ m → m ≤ site.first + pages → image m ≡ written m)
 
--- Before the commit sector is written, none is complete (part_incomplete).
+-- Before the commit sector is written, a group is complete only as it was before (complete_before).
 abbrev pub PartIsIncomplete : Type 0
 PartIsIncomplete =
     (site : Site) (session : ℕ) (old image : Image) → IsPageKind site.kind → IsKnown site.version
     → IsPartOf site session old image
     → ((m : ℕ) → site.first ≤ m → m < site.limit → Carries session site.sequence (old m) → ⊥)
-    → (IsComplete site old → ⊥) → IsComplete site image → ⊥
+    → (session' : ℕ) (payload' : List ℕ) (pages' : ℕ) → IsGroup site session' payload' pages' image → IsGroup site session' payload' pages' old
 
 -- Where a sector doesn't fit, none is complete (cut_incomplete).
 abbrev pub CutIsIncomplete : Type 0

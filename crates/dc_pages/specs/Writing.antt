@@ -18,6 +18,10 @@ pub record IsPartOf (site : Site) (session : ℕ) (old image : Image) : Type 0 w
   pub inside : (i : ℕ) → site.first + i < site.limit → ((image (site.first + i) ≡ old (site.first + i)) ⊎ (image (site.first + i) ≡ Unreadable)) ⊎ ((content : List ℕ) × IsPage site session i content (image (site.first + i)))
   pub outside : (m : ℕ) → (m < site.first) ⊎ (site.limit ≤ m) → image m ≡ old m
 
+-- each sector outside the site reads as before
+abbrev pub SameOutside : Site → Image → Image → Type 0
+SameOutside site old image = (m : ℕ) → (m < site.first) ⊎ (site.limit ≤ m) → image m ≡ old m
+
 -- after the commit sector's write, or before it
 abbrev pub PartOrTorn : (site : Site) (session pages : ℕ) → Image → Image → Image → Type 0
 PartOrTorn site session pages old written image =

@@ -2,12 +2,12 @@
 
 ghost use Rattle.dc_pages.specs.Laws.{CompleteAsWritten, PartIsIncomplete, CutIsIncomplete, OneCut, OneGroup};
 
-/// Stamps alone decide that a group is complete only as it was written.
+/// Stamps alone decide that a group is complete only as it was before, or as it was written.
 pub fn complete_as_written()
     ensures { CompleteAsWritten }
 {}
 
-/// While no commit sector was written, no group is complete.
+/// While no commit sector was written, a group is complete only as it was before.
 pub fn part_is_incomplete()
     ensures { PartIsIncomplete }
 {}

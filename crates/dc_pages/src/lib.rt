@@ -7,7 +7,7 @@
 //!
 //! [`GroupWriter`] streams a payload into sectors through the buffer of one page. It takes no memory and
 //! doesn't sync. It says of every moment which sectors a stop may leave; and [`complete_as_written`]
-//! says of such an image that the group is complete there only where each of its sectors is as written.
+//! says of such an image that a group is complete there only as it was before, or with each of its sectors as written.
 //! [`GroupSink`] is that writer with its disk, as a sink that an encoder puts its pieces into.
 //!
 //! [`read_group`] answers the payload exactly where a group is complete, and names the first sector that

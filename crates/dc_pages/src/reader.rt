@@ -108,16 +108,17 @@ impl<A: Allocator> Reading<A> {
         requires kind { self.old.site.kind ≢ commit_kind }
         requires more { self.old.pages < 2 ^ 32 - 1 }
         requires within { at < D.sectors disk.old }
-        ensures step { D.honest → at ≡ self.old.site.first + self.old.pages → at < self.old.site.limit
+        ensures step { D.keeps disk.new → at ≡ self.old.site.first + self.old.pages → at < self.old.site.limit
             → IsBegun self.old.site self.old.session self.old.payload.items self.old.pages (D.reads disk.old)
             → IsStep self.old.site (D.reads disk.old) self.new.session self.new.pages self.new.payload.items result }
         ensures site { self.new.site ≡ self.old.site }
         ensures pages { IfOk result (λ done. self.new.pages ≡ (if done then self.old.pages else self.old.pages + 1)) }
         ensures device { IsErrOf result GroupFault.Device → HasRisen (D.failures disk.old) (D.failures disk.new) }
         ensures passed { (IsErrOf result GroupFault.Device → ⊥) → D.failures disk.new ≡ D.failures disk.old }
-        ensures reads { D.honest → D.reads disk.new ≡ D.reads disk.old }
-        ensures choices { D.honest → D.choices disk.new ≡ D.choices disk.old }
-        ensures time { D.honest → Elapses (D.moment disk.old) (D.moment disk.new) (D.images_since disk.old) (D.images_since disk.new) (IsImage (D.choices disk.old)) }
+        ensures reads { D.reads disk.new ≡ D.reads disk.old }
+        ensures choices { D.choices disk.new ≡ D.choices disk.old }
+        ensures time { Elapses (D.moment disk.old) (D.moment disk.new) (D.images_since disk.old) (D.images_since disk.new) (IsImage (D.choices disk.old)) }
+        ensures before { D.keeps disk.new → D.keeps disk.old }
         ensures count { D.sectors disk.new ≡ D.sectors disk.old }
         ensures failures { D.failures disk.old ≤ D.failures disk.new }
     {
@@ -156,14 +157,15 @@ pub fn read_group<A: Allocator, D: Disk>(
     requires kind { site.kind ≢ commit_kind }
     requires first { site.first ≤ site.limit }
     requires limit { site.limit ≤ D.sectors disk.old }
-    ensures group { D.honest → IfOk result (λ group. (session : ℕ) × (pages : ℕ) × IsGroup site session group.payload.items pages (D.reads disk.old) × (group.sectors ≡ pages + 1)) }
-    ensures incomplete { D.honest → (n : ℕ) → IsErrOf result (GroupFault.Incomplete n) → IsCutAt site n (D.reads disk.old) }
+    ensures group { D.keeps disk.new → IfOk result (λ group. (session : ℕ) × (pages : ℕ) × IsGroup site session group.payload.items pages (D.reads disk.old) × (group.sectors ≡ pages + 1)) }
+    ensures incomplete { D.keeps disk.new → (n : ℕ) → IsErrOf result (GroupFault.Incomplete n) → IsCutAt site n (D.reads disk.old) }
     ensures within { IfOk result (λ group. (1 ≤ group.sectors) × (site.first + group.sectors ≤ site.limit)) }
     ensures device { IsErrOf result GroupFault.Device → HasRisen (D.failures disk.old) (D.failures disk.new) }
     ensures passed { (IsErrOf result GroupFault.Device → ⊥) → D.failures disk.new ≡ D.failures disk.old }
-    ensures reads { D.honest → D.reads disk.new ≡ D.reads disk.old }
-    ensures choices { D.honest → D.choices disk.new ≡ D.choices disk.old }
-    ensures any_moment { D.honest → LeavesOnly D.moment D.images_since disk.old disk.new (IsImage (D.choices disk.old)) }
+    ensures reads { D.reads disk.new ≡ D.reads disk.old }
+    ensures choices { D.choices disk.new ≡ D.choices disk.old }
+    ensures any_moment { LeavesOnly D.moment D.images_since disk.old disk.new (IsImage (D.choices disk.old)) }
+    ensures before { D.keeps disk.new → D.keeps disk.old }
     ensures count { D.sectors disk.new ≡ D.sectors disk.old }
     ensures failures { D.failures disk.old ≤ D.failures disk.new }
 {

@@ -5,7 +5,7 @@ ghost use Rattle.dc_base.specs.Failures.{HasRisen};
 ghost use Rattle.dc_sectors.specs.Disk.{Image, LeavesOnly};
 ghost use Rattle.dc_pages.specs.Draft.{draft_len, HasRoom};
 ghost use Rattle.dc_pages.specs.Group.{piece, page_payload};
-ghost use Rattle.dc_pages.specs.Writing.{IsPartOf, IsOnDisk, IsGoing, IsClosed};
+ghost use Rattle.dc_pages.specs.Writing.{SameOutside, IsPartOf, IsOnDisk, IsGoing, IsClosed};
 
 use crate::Site;
 use crate::head::{COMMIT, HEAD, Head, PAYLOAD, write_head};
@@ -87,12 +87,14 @@ impl GroupWriter {
         requires room { self.old.site.first + self.old.pages + 1 < self.old.site.limit }
         requires limit { self.old.site.limit ≤ D.sectors disk.old }
         ensures flushed { OnOk result (self.new ≡ record self.old { pages = self.old.pages + 1; buffer = [] }) }
-        ensures on_disk { D.honest → (start : D) (payload : List ℕ) → self.old.buffer ≡ piece self.old.pages payload
+        ensures on_disk { (start : D) (payload : List ℕ) → self.old.buffer ≡ piece self.old.pages payload
             → IsOnDisk D.reads D.choices D.moment D.images_since start disk.old self.old.site self.old.session self.old.pages payload
             → OnOk result (IsOnDisk D.reads D.choices D.moment D.images_since start disk.new self.old.site self.old.session (self.old.pages + 1) payload) }
-        ensures any_moment { D.honest → (start : D) (payload : List ℕ) → self.old.buffer ≡ piece self.old.pages payload
+        ensures any_moment { (start : D) (payload : List ℕ) → self.old.buffer ≡ piece self.old.pages payload
             → IsOnDisk D.reads D.choices D.moment D.images_since start disk.old self.old.site self.old.session self.old.pages payload
             → LeavesOnly D.moment D.images_since start disk.new (IsPartOf self.old.site self.old.session (D.reads start)) }
+        ensures elsewhere { SameOutside self.old.site (D.reads disk.old) (D.reads disk.new) }
+        ensures before { D.keeps disk.new → D.keeps disk.old }
         ensures count { D.sectors disk.new ≡ D.sectors disk.old }
         ensures failures { D.failures disk.old ≤ D.failures disk.new }
         ensures passed { OnOk result (D.failures disk.new ≡ D.failures disk.old) }
@@ -122,10 +124,12 @@ impl GroupWriter {
         ensures room { OnOk result (length self.new.buffer < page_payload) }
         ensures length { OnOk result (draft_len self.new ≡ draft_len self.old) }
         ensures same { OnOk result (self.new ≡ record self.old { pages = self.new.pages; buffer = self.new.buffer }) }
-        ensures going { D.honest → (start : D) (payload : List ℕ) → IsGoing D.reads D.choices D.moment D.images_since start disk.old self.old payload
+        ensures going { (start : D) (payload : List ℕ) → IsGoing D.reads D.choices D.moment D.images_since start disk.old self.old payload
             → OnOk result (IsGoing D.reads D.choices D.moment D.images_since start disk.new self.new payload) }
-        ensures any_moment { D.honest → (start : D) (payload : List ℕ) → IsGoing D.reads D.choices D.moment D.images_since start disk.old self.old payload
+        ensures any_moment { (start : D) (payload : List ℕ) → IsGoing D.reads D.choices D.moment D.images_since start disk.old self.old payload
             → LeavesOnly D.moment D.images_since start disk.new (IsPartOf self.old.site self.old.session (D.reads start)) }
+        ensures elsewhere { SameOutside self.old.site (D.reads disk.old) (D.reads disk.new) }
+        ensures before { D.keeps disk.new → D.keeps disk.old }
         ensures count { D.sectors disk.new ≡ D.sectors disk.old }
         ensures failures { D.failures disk.old ≤ D.failures disk.new }
         ensures passed { OnOk result (D.failures disk.new ≡ D.failures disk.old) }
@@ -146,10 +150,12 @@ impl GroupWriter {
         ensures some { 0 < length bytes.now → OnOk result (0 < length self.new.buffer) }
         ensures still_some { 0 < length self.old.buffer → OnOk result (0 < length self.new.buffer) }
         ensures same { OnOk result (self.new ≡ record self.old { pages = self.new.pages; buffer = self.new.buffer }) }
-        ensures going { D.honest → (start : D) (payload : List ℕ) → IsGoing D.reads D.choices D.moment D.images_since start disk.old self.old payload
+        ensures going { (start : D) (payload : List ℕ) → IsGoing D.reads D.choices D.moment D.images_since start disk.old self.old payload
             → OnOk result (IsGoing D.reads D.choices D.moment D.images_since start disk.new self.new (payload ++ bytes.now)) }
-        ensures any_moment { D.honest → (start : D) (payload : List ℕ) → IsGoing D.reads D.choices D.moment D.images_since start disk.old self.old payload
+        ensures any_moment { (start : D) (payload : List ℕ) → IsGoing D.reads D.choices D.moment D.images_since start disk.old self.old payload
             → LeavesOnly D.moment D.images_since start disk.new (IsPartOf self.old.site self.old.session (D.reads start)) }
+        ensures elsewhere { SameOutside self.old.site (D.reads disk.old) (D.reads disk.new) }
+        ensures before { D.keeps disk.new → D.keeps disk.old }
         ensures count { D.sectors disk.new ≡ D.sectors disk.old }
         ensures failures { D.failures disk.old ≤ D.failures disk.new }
         ensures passed { OnOk result (D.failures disk.new ≡ D.failures disk.old) }
@@ -170,13 +176,15 @@ impl GroupWriter {
         requires room { HasRoom self 0 }
         requires limit { self.site.limit ≤ D.sectors disk.old }
         ensures sectors { IfOk result (λ n. n ≡ self.pages + 2) }
-        ensures closed { D.honest → (start : D) (payload : List ℕ) → IsGoing D.reads D.choices D.moment D.images_since start disk.old self payload
+        ensures closed { (start : D) (payload : List ℕ) → IsGoing D.reads D.choices D.moment D.images_since start disk.old self payload
             → OnOk result (IsClosed D.moment D.images_since start disk.new (D.reads start) self.site self.session (self.pages + 1) payload (D.reads disk.new)) }
 
         // Where a write failed, a stop leaves a part of the group without its commit sector, or the group torn.
-        ensures any_moment { D.honest → (start : D) (payload : List ℕ) → IsGoing D.reads D.choices D.moment D.images_since start disk.old self payload
+        ensures any_moment { (start : D) (payload : List ℕ) → IsGoing D.reads D.choices D.moment D.images_since start disk.old self payload
             → OnErr result (LeavesOnly D.moment D.images_since start disk.new (IsPartOf self.site self.session (D.reads start))
             ⊎ ((written : Image) × IsClosed D.moment D.images_since start disk.new (D.reads start) self.site self.session (self.pages + 1) payload written)) }
+        ensures elsewhere { SameOutside self.site (D.reads disk.old) (D.reads disk.new) }
+        ensures before { D.keeps disk.new → D.keeps disk.old }
         ensures count { D.sectors disk.new ≡ D.sectors disk.old }
         ensures failures { D.failures disk.old ≤ D.failures disk.new }
         ensures passed { OnOk result (D.failures disk.new ≡ D.failures disk.old) }

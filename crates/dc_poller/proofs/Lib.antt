@@ -4,6 +4,8 @@ pub mod LineRuns
 pub mod Reports
 -- a line of a script asks for one thing
 pub mod Scripts
+-- the turns of a run are one life
+pub mod Lives
 -- turns that were run, one after the other
 pub mod Wents
 -- what happens in a poll, one thing after the other
@@ -18,3 +20,5 @@ pub mod Founds
 pub mod Searches
 -- lines of a script up to a search that found no memory
 pub mod Starvings
+-- a prefix of one piece of a text is one of the text
+mod Prefixes

@@ -68,15 +68,15 @@ pub is_through : (was_lost : Bool) (line : ℕ) → line ≡ gateway_line → Is
 is_through true line is = is
 is_through false line is = is
 
-module _ {D : Type 0} (honest : Type 0) (sectors : D → ℕ) (reads : D → Image) (choices : D → Choices) (moment_of : D → ℕ) (images_since : D → ℕ → Image → Type 0) where
+module _ {D : Type 0} (known : Type 0) (sectors failures : D → ℕ) (reads : D → Image) (choices : D → Choices) (moment_of : D → ℕ) (images_since : D → ℕ → Image → Type 0) where
   -- the lines so far, and how the gateway is behind them
   pub record LinesSoFar (budget : ℕ) (state : State) (before : List Turn) (link now : Link) (done : List LineSeen) (wrote : List ℕ → Type 0) (first new : Machine D) : Type 0 where
-    pub lines : LinesRan honest sectors reads choices moment_of images_since budget state before link done wrote first new
+    pub lines : LinesRan known sectors failures reads choices moment_of images_since budget state before link done wrote first new
     pub link_is : link_after link lines.deeds ≡ now
 
   -- no line yet
   pub lines_none : (budget : ℕ) (state : State) (before : List Turn) (link : Link) (wrote : List ℕ → Type 0) (machine : Machine D)
-      → Went honest sectors reads choices moment_of images_since budget state before [] machine machine → wrote []
+      → Went known sectors failures reads choices moment_of images_since budget state before [] machine machine → wrote []
       → LinesSoFar budget state before link link [] wrote machine machine
   lines_none budget state before link wrote machine went text = record {
     lines = record { deeds = []; done = tt; went = went; text = text };
@@ -87,7 +87,7 @@ module _ {D : Type 0} (honest : Type 0) (sectors : D → ℕ) (reads : D → Ima
   pub lines_more : (budget : ℕ) (state : State) (before : List Turn) (link now left : Link) (done : List LineSeen) (asked : LineSeen) (moment : ℕ) (wrote piece all : List ℕ → Type 0) (first old new : Machine D)
       → moment ≡ moment_after 0 done
       → (so_far : LinesSoFar budget state before link now done wrote first old)
-      → LineRan honest sectors reads choices moment_of images_since budget state (before ++ deeds_turns so_far.lines.deeds) moment asked now left piece old new
+      → LineRan known sectors failures reads choices moment_of images_since budget state (before ++ deeds_turns so_far.lines.deeds) moment asked now left piece old new
       → ((text more : List ℕ) → wrote text → piece more → all (text ++ more))
       → LinesSoFar budget state before link left (done ++ asked ∷ []) all first new
   lines_more budget state before link now left done asked moment wrote piece all first old new is so_far one joins =
@@ -98,8 +98,8 @@ module _ {D : Type 0} (honest : Type 0) (sectors : D → ℕ) (reads : D → Ima
           deeds = deeds ++ deed ∷ [];
           done = done_push 0 link done deeds asked deed so_far.lines.done
               (subst (λ (l : Link). Does (moment_after 0 done) asked l left one.turns one.line) (sym so_far.link_is) (subst (λ (m : ℕ). Does m asked now left one.turns one.line) is one.does));
-          went = subst (λ (ts : List Turn). Went honest sectors reads choices moment_of images_since budget state before ts first new) (sym (turns_push deeds deed))
-              (went_both honest sectors reads choices moment_of images_since budget state before (deeds_turns deeds) one.turns first old new so_far.lines.went one.went);
+          went = subst (λ (ts : List Turn). Went known sectors failures reads choices moment_of images_since budget state before ts first new) (sym (turns_push deeds deed))
+              (went_both known sectors failures reads choices moment_of images_since budget state before (deeds_turns deeds) one.turns first old new so_far.lines.went one.went);
           text = subst all (sym (text_push deeds deed)) (joins (deeds_text deeds) one.line so_far.lines.text one.text);
         };
         link_is = link_push link deeds deed;
@@ -111,13 +111,13 @@ module _ {D : Type 0} (honest : Type 0) (sectors : D → ℕ) (reads : D → Ima
     pub are_read : AskFor input done rest
     pub moment_is : moment ≡ moment_after 0 done
     pub count_is : count ≡ length done
-    pub ran : (state : State) (before : List Turn) → IsChain budget (opened state) before → IsAt honest sectors reads choices first (leads (opened state) before)
+    pub ran : (state : State) (before : List Turn) → IsChain budget (opened state) before → IsAt known sectors reads choices first (leads (opened state) before)
         → LinesSoFar budget state before link now done wrote first new
 
   pub one_more : (budget : ℕ) (link now left : Link) (input : List (List ℕ)) (line : List ℕ) (rest : List (List ℕ)) (asked : LineSeen) (moment count : ℕ) (wrote piece all : List ℕ → Type 0) (first old new : Machine D)
       → SoFar budget link now input (line ∷ rest) moment count wrote first old → IsLineOf line asked
-      → ((state : State) (before : List Turn) → IsChain budget (opened state) before → IsAt honest sectors reads choices old (leads (opened state) before)
-      → LineRan honest sectors reads choices moment_of images_since budget state before moment asked now left piece old new)
+      → ((state : State) (before : List Turn) → IsChain budget (opened state) before → IsAt known sectors reads choices old (leads (opened state) before)
+      → LineRan known sectors failures reads choices moment_of images_since budget state before moment asked now left piece old new)
       → ((text more : List ℕ) → wrote text → piece more → all (text ++ more))
       → SoFar budget link left input rest (moment_behind moment asked) (count + 1) all first new
   one_more budget link now left input line rest asked moment count wrote piece all first old new so_far is one joins =
@@ -131,16 +131,16 @@ module _ {D : Type 0} (honest : Type 0) (sectors : D → ℕ) (reads : D → Ima
             let ran = so_far.ran state before chain at in
             let turns = deeds_turns ran.lines.deeds in
             lines_more budget state before link now left so_far.done asked moment wrote piece all first old new so_far.moment_is ran
-            (one state (before ++ turns) (went_chain honest sectors reads choices moment_of images_since budget state before turns first old ran.lines.went) (went_at honest sectors reads choices moment_of images_since budget state before turns first old ran.lines.went)) joins;
+            (one state (before ++ turns) (went_chain known sectors failures reads choices moment_of images_since budget state before turns first old ran.lines.went) (went_at known sectors failures reads choices moment_of images_since budget state before turns first old ran.lines.went)) joins;
       }
 
   -- a write failed at the next line
   pub cut_here : (budget : ℕ) (link now : Link) (input : List (List ℕ)) (line : List ℕ) (rest : List (List ℕ)) (moment count : ℕ) (wrote : List ℕ → Type 0) (part : List Turn) (first old new : Machine D)
       → (so_far : SoFar budget link now input (line ∷ rest) moment count wrote first old)
-      → (state : State) (before : List Turn) (chain : IsChain budget (opened state) before) (is_at : IsAt honest sectors reads choices first (leads (opened state) before))
+      → (state : State) (before : List Turn) (chain : IsChain budget (opened state) before) (is_at : IsAt known sectors reads choices first (leads (opened state) before))
       → FailsAt moment now (line ∷ rest) part
-      → Went honest sectors reads choices moment_of images_since budget state (before ++ deeds_turns (so_far.ran state before chain is_at).lines.deeds) part old new
-      → ScriptCut honest sectors reads choices moment_of images_since budget state before link input first new
+      → Went known sectors failures reads choices moment_of images_since budget state (before ++ deeds_turns (so_far.ran state before chain is_at).lines.deeds) part old new
+      → ScriptCut known sectors failures reads choices moment_of images_since budget state before link input first new
   cut_here budget link now input line rest moment count wrote part first old new so_far state before chain is_at fails went =
       let ran = so_far.ran state before chain is_at in
       record {
@@ -151,18 +151,18 @@ module _ {D : Type 0} (honest : Type 0) (sectors : D → ℕ) (reads : D → Ima
         done = ran.lines.done;
         part = part;
         fails = subst (λ (l : Link). FailsAt (moment_after 0 so_far.done) l (line ∷ rest) part) (sym ran.link_is) (subst (λ (m : ℕ). FailsAt m now (line ∷ rest) part) so_far.moment_is fails);
-        went = went_both honest sectors reads choices moment_of images_since budget state before (deeds_turns ran.lines.deeds) part first old new ran.lines.went went;
+        went = went_both known sectors failures reads choices moment_of images_since budget state before (deeds_turns ran.lines.deeds) part first old new ran.lines.went went;
       }
 
   -- ---- one line
 
   -- a line that is one event
   pub event_ran : {X E : Type 0} (budget : ℕ) (state : State) (before : List Turn) (event : Event) (moment : ℕ) (asked : LineSeen) (link : Link) (wrote : List ℕ → Type 0) (first new : Machine D) (result : Result X E)
-      → TurnWent honest sectors reads choices moment_of images_since budget state before event (λ answer. OnOk result (wrote (answer_text answer))) first new
+      → TurnWent known sectors failures reads choices moment_of images_since budget state before event (λ answer. OnOk result (wrote (answer_text answer))) first new
       → ((turns : List Turn) (text : List ℕ) → IsOneTurn event turns text → Does moment asked link link turns text)
-      → OnOk result (LineRan honest sectors reads choices moment_of images_since budget state before moment asked link link wrote first new)
+      → OnOk result (LineRan known sectors failures reads choices moment_of images_since budget state before moment asked link link wrote first new)
   event_ran budget state before event moment asked link wrote first new result one does =
-      on_ok result (wrote (answer_text one.answer)) (LineRan honest sectors reads choices moment_of images_since budget state before moment asked link link wrote first new)
+      on_ok result (wrote (answer_text one.answer)) (LineRan known sectors failures reads choices moment_of images_since budget state before moment asked link link wrote first new)
       (λ text. record {
         turns = (event, one.answer) ∷ [];
         line = answer_text one.answer;
@@ -172,43 +172,44 @@ module _ {D : Type 0} (honest : Type 0) (sectors : D → ℕ) (reads : D → Ima
       }) one.is_such
 
   pub event_cut : {X E : Type 0} (budget : ℕ) (state : State) (before : List Turn) (event : Event) (moment : ℕ) (asked : LineSeen) (link : Link) (such : Answer → Type 0) (first new : Machine D) (result : Result X E)
-      → TurnWent honest sectors reads choices moment_of images_since budget state before event such first new
+      → TurnWent known sectors failures reads choices moment_of images_since budget state before event such first new
       → ((turns : List Turn) → IsTurnOf event turns → DoesPart moment asked link turns)
-      → OnErr result (LineCut honest sectors reads choices moment_of images_since budget state before moment asked link first new)
+      → OnErr result (LineCut known sectors failures reads choices moment_of images_since budget state before moment asked link first new)
   event_cut budget state before event moment asked link such first new result one does =
-      on_err result (LineCut honest sectors reads choices moment_of images_since budget state before moment asked link first new)
+      on_err result (LineCut known sectors failures reads choices moment_of images_since budget state before moment asked link first new)
       (record { turns = (event, one.answer) ∷ []; does = does ((event, one.answer) ∷ []) (one.answer, refl); went = one.went })
 
   -- a line that is no event, and what it writes
   pub said_ran : {X E : Type 0} (budget : ℕ) (state : State) (before : List Turn) (moment : ℕ) (asked : LineSeen) (link left : Link) (said : List ℕ) (wrote : List ℕ → Type 0) (machine : Machine D) (result : Result X E)
-      → Does moment asked link left [] said → Went honest sectors reads choices moment_of images_since budget state before [] machine machine → OnOk result (wrote said)
-      → OnOk result (LineRan honest sectors reads choices moment_of images_since budget state before moment asked link left wrote machine machine)
+      → Does moment asked link left [] said → Went known sectors failures reads choices moment_of images_since budget state before [] machine machine → OnOk result (wrote said)
+      → OnOk result (LineRan known sectors failures reads choices moment_of images_since budget state before moment asked link left wrote machine machine)
   said_ran budget state before moment asked link left said wrote machine result does went text =
-      on_ok result (wrote said) (LineRan honest sectors reads choices moment_of images_since budget state before moment asked link left wrote machine machine)
+      on_ok result (wrote said) (LineRan known sectors failures reads choices moment_of images_since budget state before moment asked link left wrote machine machine)
       (λ text. record { turns = []; line = said; does = does; went = went; text = text }) text
 
   pub said_cut : {X E : Type 0} (budget : ℕ) (state : State) (before : List Turn) (moment : ℕ) (asked : LineSeen) (link : Link) (machine : Machine D) (result : Result X E)
-      → DoesPart moment asked link [] → Went honest sectors reads choices moment_of images_since budget state before [] machine machine
-      → OnErr result (LineCut honest sectors reads choices moment_of images_since budget state before moment asked link machine machine)
+      → DoesPart moment asked link [] → Went known sectors failures reads choices moment_of images_since budget state before [] machine machine
+      → OnErr result (LineCut known sectors failures reads choices moment_of images_since budget state before moment asked link machine machine)
   said_cut budget state before moment asked link machine result does went =
-      on_err result (LineCut honest sectors reads choices moment_of images_since budget state before moment asked link machine machine) (record { turns = []; does = does; went = went })
+      on_err result (LineCut known sectors failures reads choices moment_of images_since budget state before moment asked link machine machine) (record { turns = []; does = does; went = went })
 
   -- a poll through the gateway
-  pub polled_ran : {X E : Type 0} (budget : ℕ) (state : State) (before : List Turn) (moment line : ℕ) (meter : Identity) (link left : Link) (wrote : List ℕ → Type 0) (first new : Machine D) (result : Result X E) → IsThrough link line
-      → Way honest sectors reads choices moment_of images_since budget state before moment meter (record { due = to_start; link = link }) (λ happened last. OnOk result (IsEnd happened last.due × (last.link ≡ left))) (λ text. OnOk result (wrote text)) first new
-      → OnOk result (LineRan honest sectors reads choices moment_of images_since budget state before moment (poll line meter) link left wrote first new)
-  polled_ran budget state before moment line meter link left wrote first new (Ok x) through way = record {
+  pub polled_ran : {X E : Type 0} (budget : ℕ) (state : State) (before : List Turn) (moment line : ℕ) (meter : Identity) (link left : Link) (ends : List Happening → Phase → Type 0) (wrote : List ℕ → Type 0) (first new : Machine D) (result : Result X E) → IsThrough link line
+      → Way known sectors failures reads choices moment_of images_since budget state before moment meter (record { due = to_start; link = link }) ends (λ text. OnOk result (wrote text)) first new
+      → ((happened : List Happening) (last : Phase) → ends happened last → OnOk result (IsEnd happened last.due × (last.link ≡ left)))
+      → OnOk result (LineRan known sectors failures reads choices moment_of images_since budget state before moment (poll line meter) link left wrote first new)
+  polled_ran budget state before moment line meter link left ends wrote first new (Ok x) through way ends_so = record {
     turns = happened_turns way.happened;
     line = happened_text way.happened;
-    does = inl (through, record { happened = way.happened; last = way.last; way = way.way; ends = way.ends_so.0; left_is = sym way.ends_so.1; turns_are = refl; text_is = refl });
+    does = inl (through, record { happened = way.happened; last = way.last; way = way.way; ends = (ends_so way.happened way.last way.ends_so).0; left_is = sym (ends_so way.happened way.last way.ends_so).1; turns_are = refl; text_is = refl });
     went = way.went;
     text = way.text;
   }
-  polled_ran budget state before moment line meter link left wrote first new (Err e) through way = tt
+  polled_ran budget state before moment line meter link left ends wrote first new (Err e) through way ends_so = tt
 
   pub polled_cut : {X E : Type 0} (budget : ℕ) (state : State) (before : List Turn) (moment line : ℕ) (meter : Identity) (link : Link) (ends : List Happening → Phase → Type 0) (wrote : List ℕ → Type 0) (first new : Machine D) (result : Result X E) → IsThrough link line
-      → Way honest sectors reads choices moment_of images_since budget state before moment meter (record { due = to_start; link = link }) ends wrote first new
-      → OnErr result (LineCut honest sectors reads choices moment_of images_since budget state before moment (poll line meter) link first new)
+      → Way known sectors failures reads choices moment_of images_since budget state before moment meter (record { due = to_start; link = link }) ends wrote first new
+      → OnErr result (LineCut known sectors failures reads choices moment_of images_since budget state before moment (poll line meter) link first new)
   polled_cut budget state before moment line meter link ends wrote first new result through way =
-      on_err result (LineCut honest sectors reads choices moment_of images_since budget state before moment (poll line meter) link first new)
+      on_err result (LineCut known sectors failures reads choices moment_of images_since budget state before moment (poll line meter) link first new)
       (record { turns = happened_turns way.happened; does = inl (through, record { happened = way.happened; last = way.last; way = way.way; turns_are = refl }); went = way.went })

@@ -12,18 +12,18 @@ use Rattle.dc_poller.specs.Starved.{LineStarved, ScriptStarved, StarvesAt}
 use Rattle.dc_poller.proofs.LineRuns.{SoFar}
 use Rattle.dc_poller.proofs.Wents.{went_both}
 
-module _ {D : Type 0} (honest : Type 0) (sectors : D → ℕ) (reads : D → Image) (choices : D → Choices) (moment_of : D → ℕ) (images_since : D → ℕ → Image → Type 0) where
+module _ {D : Type 0} (known : Type 0) (sectors failures : D → ℕ) (reads : D → Image) (choices : D → Choices) (moment_of : D → ℕ) (images_since : D → ℕ → Image → Type 0) where
   -- the next line is that search
   pub starved_here : (budget : ℕ) (link now : Link) (input : List (List ℕ)) (line : List ℕ) (rest : List (List ℕ)) (asked : LineSeen) (moment count : ℕ) (wrote piece all : List ℕ → Type 0) (first old new : Machine D)
-      → (so_far : SoFar honest sectors reads choices moment_of images_since budget link now input (line ∷ rest) moment count wrote first old) → IsLineOf line asked → old.house.budget ≡ budget
+      → (so_far : SoFar known sectors failures reads choices moment_of images_since budget link now input (line ∷ rest) moment count wrote first old) → IsLineOf line asked → old.house.budget ≡ budget
       → ((text more : List ℕ) → wrote text → piece more → all (text ++ more))
-      → (state : State) (before : List Turn) (chain : IsChain budget (opened state) before) (is_at : IsAt honest sectors reads choices first (leads (opened state) before))
-      → LineStarved honest sectors reads choices moment_of images_since old.house.budget state (before ++ deeds_turns (so_far.ran state before chain is_at).lines.deeds) asked now piece old new
-      → ScriptStarved honest sectors reads choices moment_of images_since budget state before link input all first new
+      → (state : State) (before : List Turn) (chain : IsChain budget (opened state) before) (is_at : IsAt known sectors reads choices first (leads (opened state) before))
+      → LineStarved known sectors failures reads choices moment_of images_since old.house.budget state (before ++ deeds_turns (so_far.ran state before chain is_at).lines.deeds) asked now piece old new
+      → ScriptStarved known sectors failures reads choices moment_of images_since budget state before link input all first new
   starved_here budget link now input line rest asked moment count wrote piece all first old new so_far is same joins state before chain is_at one =
       let ran = so_far.ran state before chain is_at in
       let turns = deeds_turns ran.lines.deeds in
-      let starved = subst (λ (b : ℕ). LineStarved honest sectors reads choices moment_of images_since b state (before ++ turns) asked now piece old new) same one in
+      let starved = subst (λ (b : ℕ). LineStarved known sectors failures reads choices moment_of images_since b state (before ++ turns) asked now piece old new) same one in
       record {
         asked = so_far.done;
         rest = line ∷ rest;
@@ -32,6 +32,6 @@ module _ {D : Type 0} (honest : Type 0) (sectors : D → ℕ) (reads : D → Ima
         done = ran.lines.done;
         last = starved.last;
         starves = subst (λ (l : Link). StarvesAt l (line ∷ rest) starved.last) (sym ran.link_is) (asked, is, starved.starves);
-        went = went_both honest sectors reads choices moment_of images_since budget state before turns starved.last.turns first old new ran.lines.went starved.went;
+        went = went_both known sectors failures reads choices moment_of images_since budget state before turns starved.last.turns first old new ran.lines.went starved.went;
         text = joins (deeds_text ran.lines.deeds) starved.last.text ran.lines.text starved.text;
       }

@@ -15,8 +15,8 @@ use Rattle.dc_core.specs.Promised.{promised_in, HoldsFront}
 use Rattle.dc_core.specs.Known.{KnowsItsMeters}
 use Rattle.dc_core.specs.Images.{Machine, IsAt, StandsForPromised}
 use Rattle.dc_core.specs.Text.{answer_text, run_text}
-use Rattle.dc_core.specs.Run.{Turned, Ran}
-use Rattle.dc_core.proofs.Going.{ran_none, one_turn}
+use Rattle.dc_core.specs.Run.{Turned, DidAll, Ran}
+use Rattle.dc_core.proofs.Going.{leads_append, did_both, ran_none, one_turn}
 use Rattle.dc_poller.specs.Went.{Went, TurnWent}
 
 -- ---- what two runs leave, one after the other
@@ -44,41 +44,41 @@ one_of [] event e = let counted = ap length e in absurd (omega (arith, counted))
 one_of (t ∷ []) event e = (t.1, ap (λ (x : Event). (x, t.1) ∷ []) (ap (λ (es : List Event). get_or es 0 event) e))
 one_of (t ∷ u ∷ more) event e = let counted = ap length e in absurd (omega (arith, counted))
 
-module _ {D : Type 0} (honest : Type 0) (sectors : D → ℕ) (reads : D → Image) (choices : D → Choices) (moment : D → ℕ) (images_since : D → ℕ → Image → Type 0) where
+module _ {D : Type 0} (known : Type 0) (sectors failures : D → ℕ) (reads : D → Image) (choices : D → Choices) (moment : D → ℕ) (images_since : D → ℕ → Image → Type 0) where
   -- the concentrator is where they lead
-  pub went_chain : (budget : ℕ) (state : State) (before turns : List Turn) (first new : Machine D) → Went honest sectors reads choices moment images_since budget state before turns first new → IsChain budget (opened state) (before ++ turns)
+  pub went_chain : (budget : ℕ) (state : State) (before turns : List Turn) (first new : Machine D) → Went known sectors failures reads choices moment images_since budget state before turns first new → IsChain budget (opened state) (before ++ turns)
   went_chain budget state before turns first new went = subst (λ (ts : List Turn). IsChain budget (opened state) (before ++ ts)) went.turns_are went.ran.chain
 
-  pub went_at : (budget : ℕ) (state : State) (before turns : List Turn) (first new : Machine D) → Went honest sectors reads choices moment images_since budget state before turns first new → IsAt honest sectors reads choices new (leads (opened state) (before ++ turns))
-  went_at budget state before turns first new went = subst (λ (ts : List Turn). IsAt honest sectors reads choices new (leads (opened state) (before ++ ts))) went.turns_are went.ran.at
+  pub went_at : (budget : ℕ) (state : State) (before turns : List Turn) (first new : Machine D) → Went known sectors failures reads choices moment images_since budget state before turns first new → IsAt known sectors reads choices new (leads (opened state) (before ++ turns))
+  went_at budget state before turns first new went = subst (λ (ts : List Turn). IsAt known sectors reads choices new (leads (opened state) (before ++ ts))) went.turns_are went.ran.at
 
   -- no turn
   no_turns_are : (turns : List Turn) → map (λ (t : Turn). t.0) turns ≡ [] → turns ≡ []
   no_turns_are [] e = refl
   no_turns_are (t ∷ turns) e = let counted = ap length e in absurd (omega (arith, counted))
 
-  pub went_none : (budget : ℕ) (state : State) (before : List Turn) (machine : Machine D) → IsChain budget (opened state) before → IsAt honest sectors reads choices machine (leads (opened state) before)
-      → (honest → (image : Image) → images_since machine.store.disk (moment machine.store.disk) image → IsImage (choices machine.store.disk) image)
-      → Went honest sectors reads choices moment images_since budget state before [] machine machine
+  pub went_none : (budget : ℕ) (state : State) (before : List Turn) (machine : Machine D) → IsChain budget (opened state) before → IsAt known sectors reads choices machine (leads (opened state) before)
+      → (known → (image : Image) → images_since machine.store.disk (moment machine.store.disk) image → IsImage (choices machine.store.disk) image)
+      → Went known sectors failures reads choices moment images_since budget state before [] machine machine
   went_none budget state before machine chain at only =
-      let ran = ran_none honest sectors reads choices moment images_since budget state before (λ text. Unit {0}) machine chain at only tt in
+      let ran = ran_none known sectors failures reads choices moment images_since budget state before (λ text. Unit {0}) machine chain at only tt in
       record { ran = ran; turns_are = no_turns_are ran.turns ran.events_are }
 
   -- one turn
-  pub turn_went : (failures : D → ℕ) (budget : ℕ) (state : State) (before : List Turn) (event : Event) (such : Answer → Type 0) (piece : List ℕ → Type 0) (old new : Machine D)
-      → IsChain budget (opened state) before → IsAt honest sectors reads choices old (leads (opened state) before)
-      → (honest → (image : Image) → images_since old.store.disk (moment old.store.disk) image → IsImage (choices old.store.disk) image)
-      → (turned : Turned honest sectors failures reads choices moment images_since budget (leads (opened state) before) event piece old new) → sectors new.store.disk ≡ sectors old.store.disk
-      → such turned.answer → TurnWent honest sectors reads choices moment images_since budget state before event such old new
-  turn_went failures budget state before event such piece old new chain at only turned count is_such =
-      let ran = one_turn honest sectors reads choices moment images_since failures budget state before event piece old new chain at only turned count in
+  pub turn_went : (budget : ℕ) (state : State) (before : List Turn) (event : Event) (such : Answer → Type 0) (piece : List ℕ → Type 0) (old new : Machine D)
+      → IsChain budget (opened state) before → IsAt known sectors reads choices old (leads (opened state) before)
+      → (known → (image : Image) → images_since old.store.disk (moment old.store.disk) image → IsImage (choices old.store.disk) image)
+      → (turned : Turned known sectors failures reads choices moment images_since budget (leads (opened state) before) event piece old new) → sectors new.store.disk ≡ sectors old.store.disk
+      → such turned.answer → TurnWent known sectors failures reads choices moment images_since budget state before event such old new
+  turn_went budget state before event such piece old new chain at only turned count is_such =
+      let ran = one_turn known sectors failures reads choices moment images_since budget state before event piece old new chain at only turned count in
       record { answer = turned.answer; is_such = is_such; went = record { ran = ran.0; turns_are = ran.1 } }
 
   -- a run of one event is its turn
   pub event_went : (budget : ℕ) (state : State) (before : List Turn) (event : Event) (such : Answer → Type 0) (wrote : List ℕ → Type 0) (first new : Machine D)
-      → (ran : Ran honest sectors reads choices moment images_since budget state before (event ∷ []) wrote first new)
+      → (ran : Ran known sectors failures reads choices moment images_since budget state before (event ∷ []) wrote first new)
       → ((answer : Answer) → wrote (answer_text answer ++ []) → such answer)
-      → TurnWent honest sectors reads choices moment images_since budget state before event such first new
+      → TurnWent known sectors failures reads choices moment images_since budget state before event such first new
   event_went budget state before event such wrote first new ran goes =
       let one = one_of ran.turns event ran.events_are in
       record {
@@ -88,6 +88,7 @@ module _ {D : Type 0} (honest : Type 0) (sectors : D → ℕ) (reads : D → Ima
           ran = record {
             turns = ran.turns;
             events_are = ran.events_are;
+            steps = ran.steps;
             chain = ran.chain;
             text = tt;
             at = ran.at;
@@ -103,9 +104,9 @@ module _ {D : Type 0} (honest : Type 0) (sectors : D → ℕ) (reads : D → Ima
       }
 
   both_ran : (budget : ℕ) (state : State) (before : List Turn) (events more : List Event) (first old new : Machine D)
-      → (a : Ran honest sectors reads choices moment images_since budget state before events (λ text. Unit {0}) first old)
-      → (one : Ran honest sectors reads choices moment images_since budget state (before ++ a.turns) more (λ text. Unit {0}) old new)
-      → Went honest sectors reads choices moment images_since budget state before (a.turns ++ one.turns) first new
+      → (a : Ran known sectors failures reads choices moment images_since budget state before events (λ text. Unit {0}) first old)
+      → (one : Ran known sectors failures reads choices moment images_since budget state (before ++ a.turns) more (λ text. Unit {0}) old new)
+      → Went known sectors failures reads choices moment images_since budget state before (a.turns ++ one.turns) first new
   both_ran budget state before events more first old new a one =
       let e : (before ++ a.turns) ++ one.turns ≡ before ++ (a.turns ++ one.turns) = append_assoc before a.turns one.turns in
       let H = half_len_of (sectors first.store.disk) in
@@ -118,9 +119,11 @@ module _ {D : Type 0} (honest : Type 0) (sectors : D → ℕ) (reads : D → Ima
         ran = record {
           turns = a.turns ++ one.turns;
           events_are = refl;
+          steps = did_both known sectors failures reads choices moment images_since budget (leads (opened state) before) a.turns one.turns first old new a.steps
+              (subst (λ (c : Core). DidAll known sectors failures reads choices moment images_since budget c one.turns old new) (leads_append (opened state) before a.turns) one.steps);
           chain = subst (IsChain budget (opened state)) e one.chain;
           text = tt;
-          at = subst (λ (ts : List Turn). IsAt honest sectors reads choices new (leads (opened state) ts)) e one.at;
+          at = subst (λ (ts : List Turn). IsAt known sectors reads choices new (leads (opened state) ts)) e one.at;
           holds = subst (λ (ts : List Turn). HoldsFront state ts (leads (opened state) ts)) e one.holds;
           knows = subst (λ (ts : List Turn). KnowsItsMeters budget (leads (opened state) ts)) e one.knows;
           count = one.count ∙ a.count;
@@ -141,10 +144,10 @@ module _ {D : Type 0} (honest : Type 0) (sectors : D → ℕ) (reads : D → Ima
 
   -- some turns, and then others
   pub went_both : (budget : ℕ) (state : State) (before one more : List Turn) (first old new : Machine D)
-      → Went honest sectors reads choices moment images_since budget state before one first old → Went honest sectors reads choices moment images_since budget state (before ++ one) more old new
-      → Went honest sectors reads choices moment images_since budget state before (one ++ more) first new
+      → Went known sectors failures reads choices moment images_since budget state before one first old → Went known sectors failures reads choices moment images_since budget state (before ++ one) more old new
+      → Went known sectors failures reads choices moment images_since budget state before (one ++ more) first new
   went_both budget state before one more first old new p q =
-      let behind = subst (λ (ts : List Turn). Went honest sectors reads choices moment images_since budget state (before ++ ts) more old new) (sym p.turns_are) q in
+      let behind = subst (λ (ts : List Turn). Went known sectors failures reads choices moment images_since budget state (before ++ ts) more old new) (sym p.turns_are) q in
       let both = both_ran budget state before (map (λ (t : Turn). t.0) one) (map (λ (t : Turn). t.0) more) first old new p.ran behind.ran in
-      subst (λ (ts : List Turn). Went honest sectors reads choices moment images_since budget state before ts first new)
+      subst (λ (ts : List Turn). Went known sectors failures reads choices moment images_since budget state before ts first new)
       (ap (λ (ts : List Turn). ts ++ behind.ran.turns) p.turns_are ∙ ap (λ (ts : List Turn). one ++ ts) behind.turns_are) both

@@ -1,44 +1,54 @@
 -- What `run` does to an image (this product): the concentrator is opened, runs the script, and is closed.
-use Rattle.std.specs.Prelude.{◌≡◌, ℕ, Bool, Option, IfSome, List, []}
+use Rattle.std.specs.Prelude.{◌≡◌, ℕ, Bool, Option, IfSome, List, [], ◌++◌}
+use Rattle.dc_sectors.specs.declared.device.Disk.{Ghosts}
+use Rattle.dc_sectors.specs.Disk.{LeavesOnly}
 use Rattle.dc_changes.specs.State.{State}
-use Rattle.dc_core.specs.Core.{opened}
-use Rattle.dc_core.specs.Images.{Machine, IsAt}
 use Rattle.dc_recovery.specs.Halves.{budget_of, half_len_of}
 use Rattle.dc_recovery.specs.Stands.{Reads, StandsForOne}
-use Rattle.dc_sectors.specs.Disk.{Image, Choices, LeavesOnly}
+use Rattle.dc_core.specs.Headline.{IsOpened, WasLeft, WasStopped, IsKept}
+use Rattle.dc_core.specs.Images.{Machine}
+use Rattle.dc_core.specs.Transcript.{Turn}
 use Rattle.dc_teller.specs.Lines.{lines_of}
 use Rattle.dc_poller.specs.Link.{Link}
 use Rattle.dc_poller.specs.Script.{ScriptRan, ScriptCut}
 
 -- The concentrator that was opened on the disk has the state that the image reads as. A stop within the opening leaves
--- an image that stands for a state that one of the disk's images stood for.
-pub record IsOpened {D : Type 0} (honest : Type 0) (sectors : D → ℕ) (reads : D → Image) (choices : D → Choices) (moment : D → ℕ) (images_since : D → ℕ → Image → Type 0) (disk : D) (state : State) (first : Machine D) : Type 0 where
-  pub budget_is : first.house.budget ≡ budget_of (half_len_of (sectors disk))
-  pub count : sectors first.store.disk ≡ sectors disk
-  pub at : IsAt honest sectors reads choices first (opened state)
-  pub reads_as : honest → Reads (half_len_of (sectors disk)) state (reads disk)
-  pub leaves : honest → LeavesOnly moment images_since disk first.store.disk (StandsForOne (half_len_of (sectors disk)) (choices disk))
+-- an image that stands for a state that one of the disk's images stood for. Where the disk is what was left of an earlier life
+-- that was stopped, the state is what of that life is kept.
+pub record IsOpenedOn {D : Type 0} (g : Ghosts D) (disk : D) (state : State) (first : Machine D) : Type 0 where
+  pub budget_is : first.house.budget ≡ budget_of (half_len_of (g.sectors disk))
+  pub count : g.sectors first.store.disk ≡ g.sectors disk
+  pub at : IsOpened g state first
+  pub reads_as : g.keeps first.store.disk → Reads (half_len_of (g.sectors disk)) state (g.reads disk)
+  pub leaves : g.keeps first.store.disk → LeavesOnly g.moment g.images_since disk first.store.disk (StandsForOne (half_len_of (g.sectors disk)) (g.choices disk))
+  pub kept : (was : State) (done more : List Turn) → WasStopped g was done more disk → g.keeps first.store.disk → IsKept was done more state
 
 -- A run from the disk to the disk: `left` is what the reader had left, where it tells that, and `script` what the lines of
--- the input did to the concentrator that was opened.
-pub record ImageWent {D : Type 0} (honest : Type 0) (sectors : D → ℕ) (reads : D → Image) (choices : D → Choices) (moment : D → ℕ) (images_since : D → ℕ → Image → Type 0) (left : Option (List ℕ)) (script : List (List ℕ) → State → Machine D → Machine D → Type 0) (disk new : D) : Type 0 where
+-- the input did to the concentrator that was opened. The turns of the script are one life (law `a_run_is_one_life`).
+pub record ImageWent {D : Type 0} (g : Ghosts D) (left : Option (List ℕ)) (script : List (List ℕ) → State → Machine D → Machine D → Type 0) (disk new : D) : Type 0 where
   pub input : List ℕ
   pub input_is : IfSome left (λ known. input ≡ known)
   pub state : State
   pub first : Machine D
   pub last : Machine D
-  pub opening : IsOpened honest sectors reads choices moment images_since disk state first
+  pub opening : IsOpenedOn g disk state first
   pub went : script (lines_of input) state first last
   pub disk_is : new ≡ last.store.disk
 
 -- Its lines are done; the gateway is found like this.
-abbrev pub ImageRan : {D : Type 0} → (honest : Type 0) → (sectors : D → ℕ) → (reads : D → Image) → (choices : D → Choices) → (moment : D → ℕ) → (images_since : D → ℕ → Image → Type 0) → Link → Option (List ℕ) → Bool → (List ℕ → Type 0) → D → D → Type 0
-ImageRan honest sectors reads choices moment images_since link left faulty wrote =
-    ImageWent honest sectors reads choices moment images_since left (λ lines state first last.
-    ScriptRan honest sectors reads choices moment images_since first.house.budget state [] link lines faulty wrote first last)
+abbrev pub ImageRan : {D : Type 0} → Ghosts D → Link → Option (List ℕ) → Bool → (List ℕ → Type 0) → D → D → Type 0
+ImageRan g link left faulty wrote =
+    ImageWent g left (λ lines state first last.
+    ScriptRan (g.keeps first.store.disk) g.sectors g.failures g.reads g.choices g.moment g.images_since first.house.budget state [] link lines faulty wrote first last)
 
 -- A failed write ended it.
-abbrev pub ImageCut : {D : Type 0} → (honest : Type 0) → (sectors : D → ℕ) → (reads : D → Image) → (choices : D → Choices) → (moment : D → ℕ) → (images_since : D → ℕ → Image → Type 0) → Link → Option (List ℕ) → D → D → Type 0
-ImageCut honest sectors reads choices moment images_since link left =
-    ImageWent honest sectors reads choices moment images_since left (λ lines state first last.
-    ScriptCut honest sectors reads choices moment images_since first.house.budget state [] link lines first last)
+abbrev pub ImageCut : {D : Type 0} → Ghosts D → Link → Option (List ℕ) → D → D → Type 0
+ImageCut g link left =
+    ImageWent g left (λ lines state first last.
+    ScriptCut (g.keeps first.store.disk) g.sectors g.failures g.reads g.choices g.moment g.images_since first.house.budget state [] link lines first last)
+
+-- THE TURNS ARE ONE LIFE, which began with the state and ended at the last machine. Wherever the turns are split, a machine
+-- was between the two parts, and a disk that has what a power cut left at any moment after that `WasStopped`.
+abbrev pub IsOneLife : {D : Type 0} → Ghosts D → State → List Turn → Machine D → Type 0
+IsOneLife {D} g state turns last = (done more : List Turn) → done ++ more ≡ turns
+    → (now : Machine D) × ((disk : D) → WasLeft g now.store.disk last.store.disk disk → WasStopped g state done more disk)

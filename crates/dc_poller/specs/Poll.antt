@@ -9,6 +9,7 @@ use Rattle.dc_core.specs.declared.fault.HearFault.TheVariants.{PendingFull}
 use Rattle.dc_core.specs.declared.line_heard.LineHeard.{LineHeard}
 use Rattle.dc_core.specs.declared.line_heard.LineHeard.TheVariants.{Again, Ready, Accepted, Failed}
 use Rattle.dc_gateway.specs.Blocks.{most_answer}
+use Rattle.dc_gateway.specs.Bus.{Exchange}
 use Rattle.dc_poller.specs.Link.{Link, linked, lost, IsHeardOver, gateway_lost}
 
 -- the bus line behind the gateway
@@ -19,16 +20,20 @@ gateway_line = 1
 abbrev pub most_rounds : ℕ
 most_rounds = 103
 
--- a turn of the concentrator, or the gateway is lost
+-- a turn of the concentrator, an exchange over the gateway, or the gateway's loss
 pub data Happening : Type 0 where
   does : Turn → Happening
+  talks : Exchange → Happening
   loses : Happening
 
 -- what is to be done next
 pub data Due : Type 0 where
   to_start : Due
   to_ask : Due
-  to_hear : Due
+  -- this request goes to the gateway
+  to_send : List ℕ → Due
+  -- this is what came to it
+  to_hear : List ℕ → Due
   to_commit : Due
   -- too much waits for what was heard: it is committed, and then that is heard once more
   to_make_room : List ℕ → Due
@@ -42,20 +47,21 @@ pub record Phase : Type 0 where
 
 -- ---- which event is due
 
--- what is heard is the gateway's answer, and silence from a lost one
-abbrev pub IsDueEvent : ℕ → Identity → Link → Due → Event → Type 0
-IsDueEvent moment meter link to_start event = event ≡ starts gateway_line meter
-IsDueEvent moment meter link to_ask event = event ≡ asks gateway_line
-IsDueEvent moment meter link to_hear event = (bytes : List ℕ) × (length bytes ≤ most_answer) × IsHeardOver link bytes × (event ≡ hears gateway_line moment bytes)
-IsDueEvent moment meter link to_commit event = event ≡ commits
-IsDueEvent moment meter link (to_make_room bytes) event = event ≡ commits
-IsDueEvent moment meter link (to_hear_again bytes) event = event ≡ hears gateway_line moment bytes
-IsDueEvent moment meter link is_over event = ⊥
+abbrev pub IsDueEvent : ℕ → Identity → Due → Event → Type 0
+IsDueEvent moment meter to_start event = event ≡ starts gateway_line meter
+IsDueEvent moment meter to_ask event = event ≡ asks gateway_line
+IsDueEvent moment meter (to_send request) event = ⊥
+IsDueEvent moment meter (to_hear bytes) event = event ≡ hears gateway_line moment bytes
+IsDueEvent moment meter to_commit event = event ≡ commits
+IsDueEvent moment meter (to_make_room bytes) event = event ≡ commits
+IsDueEvent moment meter (to_hear_again bytes) event = event ≡ hears gateway_line moment bytes
+IsDueEvent moment meter is_over event = ⊥
 
--- the gateway is lost at most once, where its answer is due
+-- The request that was asked for is sent. A lost gateway answers with silence, and it is lost at most once, over silence.
 abbrev pub IsDue : ℕ → Identity → Phase → Happening → Type 0
-IsDue moment meter phase (does turn) = IsDueEvent moment meter phase.link phase.due turn.0
-IsDue moment meter phase loses = (phase.link ≡ linked) × (phase.due ≡ to_hear)
+IsDue moment meter phase (does turn) = IsDueEvent moment meter phase.due turn.0
+IsDue moment meter phase (talks exchange) = (phase.due ≡ to_send exchange.request) × (length exchange.answer ≤ most_answer) × IsHeardOver phase.link exchange.answer
+IsDue moment meter phase loses = (phase.link ≡ linked) × (phase.due ≡ to_hear [])
 
 -- ---- what is due behind it
 
@@ -73,14 +79,10 @@ behind_first_heard bytes (Ok answer) = behind_heard (Ok answer)
 behind_first_heard bytes (Err PendingFull) = to_make_room bytes
 behind_first_heard bytes (Err fault) = is_over
 
-abbrev pub bytes_in : Event → List ℕ
-bytes_in (hears line moment bytes) = bytes
-bytes_in event = []
-
 abbrev pub behind_turn : Due → Event → Answer → Due
 behind_turn to_start event (started (Ok done)) = to_ask
-behind_turn to_ask event (asked (Some request)) = to_hear
-behind_turn to_hear event (heard answer) = behind_first_heard (bytes_in event) answer
+behind_turn to_ask event (asked (Some request)) = to_send request
+behind_turn (to_hear bytes) event (heard answer) = behind_first_heard bytes answer
 behind_turn to_commit event (committed (Ok count)) = to_ask
 behind_turn (to_make_room bytes) event (committed (Ok count)) = to_hear_again bytes
 behind_turn (to_hear_again bytes) event (heard answer) = behind_heard answer
@@ -88,6 +90,7 @@ behind_turn due event answer = is_over
 
 abbrev pub behind : Phase → Happening → Phase
 behind phase (does turn) = record { due = behind_turn phase.due turn.0 turn.1; link = phase.link }
+behind phase (talks exchange) = record { due = to_hear exchange.answer; link = phase.link }
 behind phase loses = record { due = phase.due; link = lost }
 
 -- ---- all that happens
@@ -99,10 +102,19 @@ IsWay moment meter phase (happening ∷ more) last = IsDue moment meter phase ha
 
 abbrev pub turns_of : Happening → List Turn
 turns_of (does turn) = turn ∷ []
+turns_of (talks exchange) = []
 turns_of loses = []
 
 abbrev pub happened_turns : List Happening → List Turn
 happened_turns happened = flat_map turns_of happened
+
+abbrev pub exchanges_of : Happening → List Exchange
+exchanges_of (does turn) = []
+exchanges_of (talks exchange) = exchange ∷ []
+exchanges_of loses = []
+
+abbrev pub happened_exchanges : List Happening → List Exchange
+happened_exchanges happened = flat_map exchanges_of happened
 
 -- the text of an answer: that nothing is to be asked isn't told
 abbrev pub told_text : Answer → List ℕ
@@ -115,6 +127,7 @@ told_text (replied reply) = answer_text (replied reply)
 
 abbrev pub happening_text : Happening → List ℕ
 happening_text (does turn) = told_text turn.1
+happening_text (talks exchange) = []
 happening_text loses = gateway_lost
 
 abbrev pub happened_text : List Happening → List ℕ
@@ -127,6 +140,7 @@ asks_by event = 0
 
 abbrev pub count_of : Happening → ℕ
 count_of (does turn) = asks_by turn.0
+count_of (talks exchange) = 0
 count_of loses = 0
 
 abbrev pub rounds_in : List Happening → ℕ

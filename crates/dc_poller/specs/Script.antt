@@ -5,6 +5,7 @@ use Rattle.dc_core.specs.Event.{Event, Answer, starts, asks, hears, commits, off
 use Rattle.dc_core.specs.Images.{Machine}
 use Rattle.dc_core.specs.Text.{answer_text}
 use Rattle.dc_core.specs.Transcript.{Turn}
+use Rattle.dc_gateway.specs.Bus.{Exchange}
 use Rattle.dc_sectors.specs.Disk.{Image, Choices}
 use Rattle.dc_text.specs.Words.{number_word}
 use Rattle.dc_poller.specs.Link.{Link, absent, linked, lost}
@@ -83,7 +84,7 @@ Does moment (office line) link left turns text = IsOneTurn (offices line) turns 
 Does moment (poll line meter) link left turns text =
     (IsThrough link line × Polls moment meter link left turns text) ⊎ (¬ (IsThrough link line) × SaysOnly no_gateway turns text × (left ≡ link))
 Does moment (search budget) link left turns text =
-    (IsThrough link gateway_line × Searches None budget link left turns text) ⊎ (¬ (IsThrough link gateway_line) × SaysOnly no_gateway turns text × (left ≡ link))
+    ((exchanges : List Exchange) × IsThrough link gateway_line × Searches None budget link left turns exchanges text) ⊎ (¬ (IsThrough link gateway_line) × SaysOnly no_gateway turns text × (left ≡ link))
 
 -- what was done for a line
 pub record Deed : Type 0 where
@@ -116,19 +117,19 @@ ending true count = codes "LINE" ++ number_word (count + 1) ++ codes " SYNTAX\n"
 -- ---- the run
 
 -- These lines are done one after the other, their turns are run behind those that were before, and what was written is their text.
-pub record LinesRan {D : Type 0} (honest : Type 0) (sectors : D → ℕ) (reads : D → Image) (choices : D → Choices) (moment : D → ℕ) (images_since : D → ℕ → Image → Type 0) (budget : ℕ) (state : State) (before : List Turn) (link : Link) (asked : List LineSeen) (wrote : List ℕ → Type 0) (first new : Machine D) : Type 0 where
+pub record LinesRan {D : Type 0} (known : Type 0) (sectors failures : D → ℕ) (reads : D → Image) (choices : D → Choices) (moment : D → ℕ) (images_since : D → ℕ → Image → Type 0) (budget : ℕ) (state : State) (before : List Turn) (link : Link) (asked : List LineSeen) (wrote : List ℕ → Type 0) (first new : Machine D) : Type 0 where
   pub deeds : List Deed
   pub done : AreDone 0 link asked deeds
-  pub went : Went honest sectors reads choices moment images_since budget state before (deeds_turns deeds) first new
+  pub went : Went known sectors failures reads choices moment images_since budget state before (deeds_turns deeds) first new
   pub text : wrote (deeds_text deeds)
 
 -- A script of these lines: those up to its end are done.
-pub record ScriptRan {D : Type 0} (honest : Type 0) (sectors : D → ℕ) (reads : D → Image) (choices : D → Choices) (moment : D → ℕ) (images_since : D → ℕ → Image → Type 0) (budget : ℕ) (state : State) (before : List Turn) (link : Link) (lines : List (List ℕ)) (faulty : Bool) (wrote : List ℕ → Type 0) (first new : Machine D) : Type 0 where
+pub record ScriptRan {D : Type 0} (known : Type 0) (sectors failures : D → ℕ) (reads : D → Image) (choices : D → Choices) (moment : D → ℕ) (images_since : D → ℕ → Image → Type 0) (budget : ℕ) (state : State) (before : List Turn) (link : Link) (lines : List (List ℕ)) (faulty : Bool) (wrote : List ℕ → Type 0) (first new : Machine D) : Type 0 where
   pub asked : List LineSeen
   pub rest : List (List ℕ)
   pub are_read : AskFor lines asked rest
   pub ends : EndsAt rest faulty
-  pub done : LinesRan honest sectors reads choices moment images_since budget state before link asked (λ text. wrote (text ++ ending faulty (length asked))) first new
+  pub done : LinesRan known sectors failures reads choices moment images_since budget state before link asked (λ text. wrote (text ++ ending faulty (length asked))) first new
 
 -- ---- a write failed
 
@@ -143,7 +144,7 @@ DoesPart moment (hear line answer) link turns = IsTurnOf (hears line moment answ
 DoesPart moment commit link turns = IsTurnOf commits turns
 DoesPart moment (office line) link turns = IsTurnOf (offices line) turns
 DoesPart moment (poll line meter) link turns = (IsThrough link line × PollsPart moment meter link turns) ⊎ (¬ (IsThrough link line) × (turns ≡ []))
-DoesPart moment (search budget) link turns = (IsThrough link gateway_line × SearchesPart turns) ⊎ (¬ (IsThrough link gateway_line) × (turns ≡ []))
+DoesPart moment (search budget) link turns = ((exchanges : List Exchange) × IsThrough link gateway_line × SearchesPart budget turns exchanges) ⊎ (¬ (IsThrough link gateway_line) × (turns ≡ []))
 
 -- It failed at the first of these lines: the line asks for this, or it spells nothing, and was to be told.
 abbrev pub FailsAt : ℕ → Link → List (List ℕ) → List Turn → Type 0
@@ -151,7 +152,7 @@ FailsAt moment link [] turns = ⊥
 FailsAt moment link (line ∷ rest) turns = ((asked : LineSeen) × IsLineOf line asked × DoesPart moment asked link turns) ⊎ (((asked : LineSeen) → ¬ (IsLineOf line asked)) × (turns ≡ []))
 
 -- A script that a failed write ended: the lines before the one at which it failed are done, and of that one some turns.
-pub record ScriptCut {D : Type 0} (honest : Type 0) (sectors : D → ℕ) (reads : D → Image) (choices : D → Choices) (moment : D → ℕ) (images_since : D → ℕ → Image → Type 0) (budget : ℕ) (state : State) (before : List Turn) (link : Link) (lines : List (List ℕ)) (first new : Machine D) : Type 0 where
+pub record ScriptCut {D : Type 0} (known : Type 0) (sectors failures : D → ℕ) (reads : D → Image) (choices : D → Choices) (moment : D → ℕ) (images_since : D → ℕ → Image → Type 0) (budget : ℕ) (state : State) (before : List Turn) (link : Link) (lines : List (List ℕ)) (first new : Machine D) : Type 0 where
   pub asked : List LineSeen
   pub rest : List (List ℕ)
   pub are_read : AskFor lines asked rest
@@ -159,20 +160,20 @@ pub record ScriptCut {D : Type 0} (honest : Type 0) (sectors : D → ℕ) (reads
   pub done : AreDone 0 link asked deeds
   pub part : List Turn
   pub fails : FailsAt (moment_after 0 asked) (link_after link deeds) rest part
-  pub went : Went honest sectors reads choices moment images_since budget state before (deeds_turns deeds ++ part) first new
+  pub went : Went known sectors failures reads choices moment images_since budget state before (deeds_turns deeds ++ part) first new
 
 -- ---- one line
 
 -- A line is done, and this was written; the gateway is left like that.
-pub record LineRan {D : Type 0} (honest : Type 0) (sectors : D → ℕ) (reads : D → Image) (choices : D → Choices) (moment_of : D → ℕ) (images_since : D → ℕ → Image → Type 0) (budget : ℕ) (state : State) (before : List Turn) (moment : ℕ) (asked : LineSeen) (link left : Link) (wrote : List ℕ → Type 0) (first new : Machine D) : Type 0 where
+pub record LineRan {D : Type 0} (known : Type 0) (sectors failures : D → ℕ) (reads : D → Image) (choices : D → Choices) (moment_of : D → ℕ) (images_since : D → ℕ → Image → Type 0) (budget : ℕ) (state : State) (before : List Turn) (moment : ℕ) (asked : LineSeen) (link left : Link) (wrote : List ℕ → Type 0) (first new : Machine D) : Type 0 where
   pub turns : List Turn
   pub line : List ℕ
   pub does : Does moment asked link left turns line
-  pub went : Went honest sectors reads choices moment_of images_since budget state before turns first new
+  pub went : Went known sectors failures reads choices moment_of images_since budget state before turns first new
   pub text : wrote line
 
 -- A write failed on a line.
-pub record LineCut {D : Type 0} (honest : Type 0) (sectors : D → ℕ) (reads : D → Image) (choices : D → Choices) (moment_of : D → ℕ) (images_since : D → ℕ → Image → Type 0) (budget : ℕ) (state : State) (before : List Turn) (moment : ℕ) (asked : LineSeen) (link : Link) (first new : Machine D) : Type 0 where
+pub record LineCut {D : Type 0} (known : Type 0) (sectors failures : D → ℕ) (reads : D → Image) (choices : D → Choices) (moment_of : D → ℕ) (images_since : D → ℕ → Image → Type 0) (budget : ℕ) (state : State) (before : List Turn) (moment : ℕ) (asked : LineSeen) (link : Link) (first new : Machine D) : Type 0 where
   pub turns : List Turn
   pub does : DoesPart moment asked link turns
-  pub went : Went honest sectors reads choices moment_of images_since budget state before turns first new
+  pub went : Went known sectors failures reads choices moment_of images_since budget state before turns first new

@@ -8,8 +8,8 @@ use Rattle.dc_core.specs.Text.{answer_text}
 use Rattle.dc_core.specs.Transcript.{Turn}
 use Rattle.dc_core.specs.declared.fault.CommitFault.{CommitFault}
 use Rattle.dc_core.specs.declared.fault.StartFault.TheVariants.{Busy}
-use Rattle.dc_gateway.specs.Bus.{HasHeard, IsSearched}
-use Rattle.dc_search.specs.State.{SearchState, is_idle, step_of}
+use Rattle.dc_gateway.specs.Bus.{AreAskedBy, Exchange, IsSearched}
+use Rattle.dc_search.specs.State.{SearchState, is_idle, new_search, step_of}
 use Rattle.dc_search.specs.declared.step.Step.{Step}
 use Rattle.dc_search.specs.declared.step.Step.TheVariants.{Select, Request, Done, Budget}
 use Rattle.dc_text.specs.Words.{number_word}
@@ -42,14 +42,18 @@ search_text search = flat_map found_line search.found ++ (flat_map shared_line s
 
 -- ---- what was searched
 
--- A search that is over, within its budget: it is what the answers that were heard lead to. Where the bus tells its meters, it follows their
--- walk, and over a lost one that of none.
-pub record IsOver (meters : Option (List Identity)) (budget : ℕ) (link : Link) (search : SearchState) : Type 0 where
+-- A search that is over, within its budget: the exchanges are those of its steps, and it is what their answers lead to. Where the bus tells
+-- its meters, it follows their walk, and over a lost one that of none.
+pub record IsOver (meters : Option (List Identity)) (budget : ℕ) (link : Link) (exchanges : List Exchange) (search : SearchState) : Type 0 where
   pub ended : IsTrue (is_idle (step_of search))
   pub within : search.selections ≤ budget
-  pub heard : HasHeard budget search
+  pub asked : AreAskedBy (new_search budget) exchanges search
   pub walk : IfSome meters (λ told. IsSearched told budget search)
   pub nobody : link ≡ lost → IsSearched [] budget search
+
+-- the exchanges are some first ones of a search
+abbrev pub AreOfSearch : ℕ → List Exchange → Type 0
+AreOfSearch budget exchanges = (search : SearchState) × AreAskedBy (new_search budget) exchanges search
 
 -- what may become of the gateway meanwhile
 abbrev pub IsLeft : Link → Link → Type 0
@@ -67,56 +71,66 @@ refused_turns fault = (commits, committed (Err fault)) ∷ []
 abbrev pub looked_turns : ℕ → Option (List ℕ) → List Turn
 looked_turns count request = (commits, committed (Ok count)) ∷ (asks gateway_line, asked request) ∷ []
 
-pub record IsRefused (link left : Link) (turns : List Turn) (text : List ℕ) : Type 0 where
+pub record IsRefused (link left : Link) (turns : List Turn) (exchanges : List Exchange) (text : List ℕ) : Type 0 where
   pub fault : CommitFault
   pub turns_are : turns ≡ refused_turns fault
   pub text_is : text ≡ answer_text (committed (Err fault))
+  pub unasked : exchanges ≡ []
   pub left_is : left ≡ link
 
 -- a readout of the line waits, which a selection would begin anew
-pub record IsBusy (link left : Link) (turns : List Turn) (text : List ℕ) : Type 0 where
+pub record IsBusy (link left : Link) (turns : List Turn) (exchanges : List Exchange) (text : List ℕ) : Type 0 where
   pub count : ℕ
   pub request : List ℕ
   pub turns_are : turns ≡ looked_turns count (Some request)
   pub text_is : text ≡ answer_text (started (Err Busy))
+  pub unasked : exchanges ≡ []
   pub left_is : left ≡ link
 
 -- none does: that the gateway was lost is told first
-pub record Finds (meters : Option (List Identity)) (budget : ℕ) (link left : Link) (turns : List Turn) (text : List ℕ) : Type 0 where
+pub record Finds (meters : Option (List Identity)) (budget : ℕ) (link left : Link) (turns : List Turn) (exchanges : List Exchange) (text : List ℕ) : Type 0 where
   pub count : ℕ
   pub search : SearchState
   pub turns_are : turns ≡ looked_turns count None
-  pub over : IsOver meters budget link search
+  pub over : IsOver meters budget link exchanges search
   pub text_is : text ≡ loss_text link left ++ search_text search
   pub left_is : IsLeft link left
 
 -- A SEARCH, over a bus that tells these meters or none.
-abbrev pub Searches : Option (List Identity) → ℕ → Link → Link → List Turn → List ℕ → Type 0
-Searches meters budget link left turns text = IsRefused link left turns text ⊎ (IsBusy link left turns text ⊎ Finds meters budget link left turns text)
+abbrev pub Searches : Option (List Identity) → ℕ → Link → Link → List Turn → List Exchange → List ℕ → Type 0
+Searches meters budget link left turns exchanges text =
+    IsRefused link left turns exchanges text ⊎ (IsBusy link left turns exchanges text ⊎ Finds meters budget link left turns exchanges text)
 
 -- ---- where it ends the script
 
--- A write failed: all its turns are done, as it writes behind them.
-abbrev pub SearchesPart : List Turn → Type 0
-SearchesPart turns = ((fault : CommitFault) × (turns ≡ refused_turns fault)) ⊎ ((count : ℕ) × (request : Option (List ℕ)) × (turns ≡ looked_turns count request))
+-- A write failed: all its turns are done, as it writes after them, and where it searched, the search is done.
+abbrev pub SearchesPart : ℕ → List Turn → List Exchange → Type 0
+SearchesPart budget turns exchanges =
+    ((fault : CommitFault) × (turns ≡ refused_turns fault) × (exchanges ≡ []))
+    ⊎ (((count : ℕ) × (request : List ℕ) × (turns ≡ looked_turns count (Some request)) × (exchanges ≡ []))
+    ⊎ ((count : ℕ) × (turns ≡ looked_turns count None) × AreOfSearch budget exchanges))
 
--- Memory was refused to it: nothing that it found is told.
-pub record Starves (link left : Link) (turns : List Turn) (text : List ℕ) : Type 0 where
+-- Memory was refused to it: nothing that it found is written.
+pub record Starves (budget : ℕ) (link left : Link) (turns : List Turn) (exchanges : List Exchange) (text : List ℕ) : Type 0 where
   pub count : ℕ
   pub turns_are : turns ≡ looked_turns count None
+  pub asked : AreOfSearch budget exchanges
   pub text_is : text ≡ loss_text link left
   pub left_is : IsLeft link left
 
 -- ---- what a call of it comes to
 
--- over the bus, which is left like that
-abbrev pub Talked : Option (List Identity) → ℕ → Link → Link → (List ℕ → Type 0) → Result (Unit {0}) Halt → Type 0
-Talked meters budget link left wrote (Ok done) = (search : SearchState) × IsOver meters budget link search × IsLeft link left × wrote (loss_text link left ++ search_text search)
-Talked meters budget link left wrote (Err Write) = Unit {0}
-Talked meters budget link left wrote (Err NoMemory) = IsLeft link left × wrote (loss_text link left)
+-- Over the bus, which is left like that: `talked` holds of the exchanges that happened to it.
+abbrev pub Talked : Option (List Identity) → ℕ → Link → Link → (List Exchange → Type 0) → (List ℕ → Type 0) → Result (Unit {0}) Halt → Type 0
+Talked meters budget link left talked wrote (Ok done) =
+    (exchanges : List Exchange) × (search : SearchState) × IsOver meters budget link exchanges search × IsLeft link left × talked exchanges × wrote (loss_text link left ++ search_text search)
+Talked meters budget link left talked wrote (Err Write) = (exchanges : List Exchange) × AreOfSearch budget exchanges × talked exchanges
+Talked meters budget link left talked wrote (Err NoMemory) = (exchanges : List Exchange) × AreOfSearch budget exchanges × IsLeft link left × talked exchanges × wrote (loss_text link left)
 
 -- with its turns
-abbrev pub Comes : Option (List Identity) → ℕ → Link → Link → (List ℕ → Type 0) → Result (Unit {0}) Halt → List Turn → Type 0
-Comes meters budget link left wrote (Ok done) turns = (text : List ℕ) × Searches meters budget link left turns text × wrote text
-Comes meters budget link left wrote (Err Write) turns = SearchesPart turns
-Comes meters budget link left wrote (Err NoMemory) turns = (text : List ℕ) × Starves link left turns text × wrote text
+abbrev pub Comes : Option (List Identity) → ℕ → Link → Link → (List Exchange → Type 0) → (List ℕ → Type 0) → Result (Unit {0}) Halt → List Turn → Type 0
+Comes meters budget link left talked wrote (Ok done) turns =
+    (text : List ℕ) × (exchanges : List Exchange) × Searches meters budget link left turns exchanges text × talked exchanges × wrote text
+Comes meters budget link left talked wrote (Err Write) turns = (exchanges : List Exchange) × SearchesPart budget turns exchanges × talked exchanges
+Comes meters budget link left talked wrote (Err NoMemory) turns =
+    (text : List ℕ) × (exchanges : List Exchange) × Starves budget link left turns exchanges text × talked exchanges × wrote text

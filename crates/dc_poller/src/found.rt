@@ -14,6 +14,7 @@ use dc_text::put_number_word;
 use std::alloc::Allocator;
 
 /// Puts what a search found, which numbers are shared, whether the budget was spent, and how many selections it made.
+#[tactic(auto, using(dc_stream::proofs::Pieces::written))]
 pub fn put_search<A: Allocator + Copy, W: Sink>(
     search: &Search<A>,
     out: &mut W,
@@ -25,6 +26,7 @@ pub fn put_search<A: Allocator + Copy, W: Sink>(
 }
 
 // What stands behind the meters found.
+#[tactic(auto, using(dc_stream::proofs::Pieces::written))]
 fn put_rest<A: Allocator + Copy, W: Sink>(search: &Search<A>, out: &mut W) -> Result<(), IoFault>
     ensures { Wrote W.written W.put_failures result out.old out.new (flat_map shared_line search.now.shared ++ (budget_line (step_of search.now) ++ selections_line search.now.selections)) }
 {
@@ -87,7 +89,7 @@ fn put_budget<W: Sink>(step: Step, out: &mut W) -> Result<(), IoFault>
     }
 }
 
-#[tactic(auto, using(dc_stream::proofs::Pieces::written))]
+#[tactic(auto, using(dc_stream::proofs::Pieces::joined))]
 fn put_selections<W: Sink>(count: u32, out: &mut W) -> Result<(), IoFault>
     ensures { Wrote W.written W.put_failures result out.old out.new (selections_line count) }
 {

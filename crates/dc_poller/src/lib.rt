@@ -29,7 +29,7 @@ mod told;
 
 pub use fault::ProgramFault;
 pub use halt::Halt;
-pub use laws::a_script_line_asks_for_one_thing;
+pub use laws::{a_run_is_one_life, a_script_line_asks_for_one_thing};
 pub use report::{Report, report_on};
 pub use run::run_script;
 pub use script_line::ScriptLine;

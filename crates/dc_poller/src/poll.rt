@@ -1,14 +1,16 @@
 //! `POLL`: the readout of a meter through the gateway.
 
-ghost use Rattle.std.specs.Prelude.{◌≡◌, ◌≤◌, ℕ, true, IfOk, OnOk, OnErr, length};
+ghost use Rattle.std.specs.Prelude.{◌≡◌, ◌≤◌, ℕ, true, false, [], IfOk, OnOk, OnErr, length};
 ghost use Rattle.dc_address.specs.declared.identity.Identity.{Identity as Meter};
 ghost use Rattle.dc_base.specs.Failures.{HasRisen};
 ghost use Rattle.dc_core.specs.Step.{longest_request};
+ghost use Rattle.dc_gateway.specs.Asking.{Asks};
 ghost use Rattle.dc_gateway.specs.Blocks.{most_answer};
+ghost use Rattle.dc_gateway.specs.Bus.{AreExchanged};
 ghost use Rattle.dc_stream.specs.Stream.{Puts, Wrote};
 ghost use Rattle.dc_poller.specs.Link.{Link, link_by, loss_text, IsHeardOver};
-ghost use Rattle.dc_poller.specs.Poll.{IsEnd, to_start, to_ask, to_hear, to_commit, to_make_room, to_hear_again, behind_heard};
-ghost use Rattle.dc_poller.specs.Way.{Way, IsRound};
+ghost use Rattle.dc_poller.specs.Poll.{IsEnd, to_start, to_ask, to_send, to_hear, to_commit, to_make_room, to_hear_again, behind_heard, happened_exchanges};
+ghost use Rattle.dc_poller.specs.Way.{FailsInLast, IsRound, Way};
 ghost use Rattle.dc_poller.specs.Went.{BehindAnyRun};
 
 use crate::told::{told_ask, told_commit, told_hear, told_start};
@@ -36,9 +38,10 @@ pub fn poll<D: Disk + Drop, A: Allocator + Copy, GR: Source + Drop, GW: Sink + D
     moment: Moment,
     out: &mut W,
 ) -> Result<(), IoFault>
-    ensures went { BehindAnyRun D.honest D.sectors D.reads D.choices concentrator.old (λ state before.
-        Way D.honest D.sectors D.reads D.choices D.moment D.images_since concentrator.old.house.budget state before moment.seconds meter.now (record { due = to_start; link = link_by gateway.old.lost })
-        (λ happened last. OnOk result (IsEnd happened last.due × (last.link ≡ link_by gateway.new.lost)))
+    ensures went { BehindAnyRun D.keeps D.sectors D.reads D.choices concentrator.old (λ origin state before.
+        Way (D.keeps origin) D.sectors D.failures D.reads D.choices D.moment D.images_since concentrator.old.house.budget state before moment.seconds meter.now (record { due = to_start; link = link_by gateway.old.lost })
+        (λ happened last. OnOk result (IsEnd happened last.due × (last.link ≡ link_by gateway.new.lost)) × OnErr result (FailsInLast W.Sink out.old out.new happened)
+        × AreExchanged (Asks GR.Source GW.Sink) gateway.old (happened_exchanges happened) gateway.new)
         (λ text. OnOk result (Puts (W.written out.old) (W.written out.new) text)) concentrator.old concentrator.new) }
     ensures fault { OnErr result (HasRisen (W.put_failures out.old) (W.put_failures out.new)) }
     ensures well { OnOk result (W.put_failures out.new ≡ W.put_failures out.old) }
@@ -60,9 +63,10 @@ fn read_parts<D: Disk + Drop, A: Allocator + Copy, GR: Source + Drop, GW: Sink +
     moment: Moment,
     out: &mut W,
 ) -> Result<(), IoFault>
-    ensures went { (meter : Meter) → BehindAnyRun D.honest D.sectors D.reads D.choices concentrator.old (λ state before.
-        Way D.honest D.sectors D.reads D.choices D.moment D.images_since concentrator.old.house.budget state before moment.seconds meter (record { due = to_ask; link = link_by gateway.old.lost })
-        (λ happened last. OnOk result (IsEnd happened last.due × (last.link ≡ link_by gateway.new.lost)))
+    ensures went { (meter : Meter) → BehindAnyRun D.keeps D.sectors D.reads D.choices concentrator.old (λ origin state before.
+        Way (D.keeps origin) D.sectors D.failures D.reads D.choices D.moment D.images_since concentrator.old.house.budget state before moment.seconds meter (record { due = to_ask; link = link_by gateway.old.lost })
+        (λ happened last. OnOk result (IsEnd happened last.due × (last.link ≡ link_by gateway.new.lost)) × OnErr result (FailsInLast W.Sink out.old out.new happened)
+        × AreExchanged (Asks GR.Source GW.Sink) gateway.old (happened_exchanges happened) gateway.new)
         (λ text. OnOk result (Puts (W.written out.old) (W.written out.new) text)) concentrator.old concentrator.new) }
     ensures fault { OnErr result (HasRisen (W.put_failures out.old) (W.put_failures out.new)) }
     ensures well { OnOk result (W.put_failures out.new ≡ W.put_failures out.old) }
@@ -88,9 +92,10 @@ fn ask_and_hear<D: Disk + Drop, A: Allocator + Copy, GR: Source + Drop, GW: Sink
     moment: Moment,
     out: &mut W,
 ) -> Result<bool, IoFault>
-    ensures went { (meter : Meter) → BehindAnyRun D.honest D.sectors D.reads D.choices concentrator.old (λ state before.
-        Way D.honest D.sectors D.reads D.choices D.moment D.images_since concentrator.old.house.budget state before moment.seconds meter (record { due = to_ask; link = link_by gateway.old.lost })
-        (λ happened last. IfOk result (λ more. IsRound more (link_by gateway.new.lost) 1 happened last))
+    ensures went { (meter : Meter) → BehindAnyRun D.keeps D.sectors D.reads D.choices concentrator.old (λ origin state before.
+        Way (D.keeps origin) D.sectors D.failures D.reads D.choices D.moment D.images_since concentrator.old.house.budget state before moment.seconds meter (record { due = to_ask; link = link_by gateway.old.lost })
+        (λ happened last. IfOk result (λ more. IsRound more (link_by gateway.new.lost) 1 happened last) × OnErr result (FailsInLast W.Sink out.old out.new happened)
+        × AreExchanged (Asks GR.Source GW.Sink) gateway.old (happened_exchanges happened) gateway.new)
         (λ text. OnOk result (Puts (W.written out.old) (W.written out.new) text)) concentrator.old concentrator.new) }
     ensures fault { OnErr result (HasRisen (W.put_failures out.old) (W.put_failures out.new)) }
     ensures well { OnOk result (W.put_failures out.new ≡ W.put_failures out.old) }
@@ -114,9 +119,10 @@ fn exchange<D: Disk + Drop, A: Allocator + Copy, GR: Source + Drop, GW: Sink + D
     out: &mut W,
 ) -> Result<bool, IoFault>
     requires { length request.now ≤ longest_request }
-    ensures went { (meter : Meter) → BehindAnyRun D.honest D.sectors D.reads D.choices concentrator.old (λ state before.
-        Way D.honest D.sectors D.reads D.choices D.moment D.images_since concentrator.old.house.budget state before moment.seconds meter (record { due = to_hear; link = link_by gateway.old.lost })
-        (λ happened last. IfOk result (λ more. IsRound more (link_by gateway.new.lost) 0 happened last))
+    ensures went { (meter : Meter) → BehindAnyRun D.keeps D.sectors D.reads D.choices concentrator.old (λ origin state before.
+        Way (D.keeps origin) D.sectors D.failures D.reads D.choices D.moment D.images_since concentrator.old.house.budget state before moment.seconds meter (record { due = to_send request.now; link = link_by gateway.old.lost })
+        (λ happened last. IfOk result (λ more. IsRound more (link_by gateway.new.lost) 0 happened last) × OnErr result (FailsInLast W.Sink out.old out.new happened)
+        × AreExchanged (Asks GR.Source GW.Sink) gateway.old (happened_exchanges happened) gateway.new)
         (λ text. OnOk result (Puts (W.written out.old) (W.written out.new) text)) concentrator.old concentrator.new) }
     ensures fault { OnErr result (HasRisen (W.put_failures out.old) (W.put_failures out.new)) }
     ensures well { OnOk result (W.put_failures out.new ≡ W.put_failures out.old) }
@@ -137,6 +143,9 @@ fn ask_gateway<GR: Source + Drop, GW: Sink + Drop, W: Sink>(
     requires { length request.now ≤ longest_request }
     ensures lost { gateway.old.lost ≡ true → gateway.new.lost ≡ true }
     ensures heard { IfOk result (λ answer. (length answer ≤ most_answer) × IsHeardOver (link_by gateway.new.lost) answer) }
+    // The request goes out as it is, and the answer is what came to it; also where the loss isn't written.
+    ensures asked { IfOk result (λ answer. Asks GR.Source GW.Sink gateway.old request.now answer gateway.new) }
+    ensures unwritten { OnErr result ((gateway.old.lost ≡ false) × (gateway.new.lost ≡ true) × Asks GR.Source GW.Sink gateway.old request.now [] gateway.new) }
     ensures told { Wrote W.written W.put_failures result out.old out.new (loss_text (link_by gateway.old.lost) (link_by gateway.new.lost)) }
 {
     if gateway.is_lost() {
@@ -159,10 +168,10 @@ fn hear<D: Disk + Drop, A: Allocator + Copy, W: Sink>(
     bytes: &[u8],
     out: &mut W,
 ) -> Result<bool, IoFault>
-    requires { length bytes.now ≤ most_answer }
-    ensures went { (meter : Meter) (link : Link) → IsHeardOver link bytes.now → BehindAnyRun D.honest D.sectors D.reads D.choices concentrator.old (λ state before.
-        Way D.honest D.sectors D.reads D.choices D.moment D.images_since concentrator.old.house.budget state before moment.seconds meter (record { due = to_hear; link = link })
-        (λ happened last. IfOk result (λ more. IsRound more link 0 happened last))
+    ensures went { (meter : Meter) (link : Link) → BehindAnyRun D.keeps D.sectors D.reads D.choices concentrator.old (λ origin state before.
+        Way (D.keeps origin) D.sectors D.failures D.reads D.choices D.moment D.images_since concentrator.old.house.budget state before moment.seconds meter (record { due = to_hear bytes.now; link = link })
+        (λ happened last. IfOk result (λ more. IsRound more link 0 happened last) × OnErr result (FailsInLast W.Sink out.old out.new happened)
+        × (happened_exchanges happened ≡ []))
         (λ text. OnOk result (Puts (W.written out.old) (W.written out.new) text)) concentrator.old concentrator.new) }
     ensures fault { OnErr result (HasRisen (W.put_failures out.old) (W.put_failures out.new)) }
     ensures well { OnOk result (W.put_failures out.new ≡ W.put_failures out.old) }
@@ -187,9 +196,10 @@ fn hear_again<D: Disk + Drop, A: Allocator + Copy, W: Sink>(
     bytes: &[u8],
     out: &mut W,
 ) -> Result<bool, IoFault>
-    ensures went { (meter : Meter) (link : Link) → BehindAnyRun D.honest D.sectors D.reads D.choices concentrator.old (λ state before.
-        Way D.honest D.sectors D.reads D.choices D.moment D.images_since concentrator.old.house.budget state before moment.seconds meter (record { due = to_make_room bytes.now; link = link })
-        (λ happened last. IfOk result (λ more. IsRound more link 0 happened last))
+    ensures went { (meter : Meter) (link : Link) → BehindAnyRun D.keeps D.sectors D.reads D.choices concentrator.old (λ origin state before.
+        Way (D.keeps origin) D.sectors D.failures D.reads D.choices D.moment D.images_since concentrator.old.house.budget state before moment.seconds meter (record { due = to_make_room bytes.now; link = link })
+        (λ happened last. IfOk result (λ more. IsRound more link 0 happened last) × OnErr result (FailsInLast W.Sink out.old out.new happened)
+        × (happened_exchanges happened ≡ []))
         (λ text. OnOk result (Puts (W.written out.old) (W.written out.new) text)) concentrator.old concentrator.new) }
     ensures fault { OnErr result (HasRisen (W.put_failures out.old) (W.put_failures out.new)) }
     ensures well { OnOk result (W.put_failures out.new ≡ W.put_failures out.old) }
@@ -211,9 +221,10 @@ fn hear_once_more<D: Disk + Drop, A: Allocator + Copy, W: Sink>(
     bytes: &[u8],
     out: &mut W,
 ) -> Result<bool, IoFault>
-    ensures went { (meter : Meter) (link : Link) → BehindAnyRun D.honest D.sectors D.reads D.choices concentrator.old (λ state before.
-        Way D.honest D.sectors D.reads D.choices D.moment D.images_since concentrator.old.house.budget state before moment.seconds meter (record { due = to_hear_again bytes.now; link = link })
-        (λ happened last. IfOk result (λ more. IsRound more link 0 happened last))
+    ensures went { (meter : Meter) (link : Link) → BehindAnyRun D.keeps D.sectors D.reads D.choices concentrator.old (λ origin state before.
+        Way (D.keeps origin) D.sectors D.failures D.reads D.choices D.moment D.images_since concentrator.old.house.budget state before moment.seconds meter (record { due = to_hear_again bytes.now; link = link })
+        (λ happened last. IfOk result (λ more. IsRound more link 0 happened last) × OnErr result (FailsInLast W.Sink out.old out.new happened)
+        × (happened_exchanges happened ≡ []))
         (λ text. OnOk result (Puts (W.written out.old) (W.written out.new) text)) concentrator.old concentrator.new) }
     ensures fault { OnErr result (HasRisen (W.put_failures out.old) (W.put_failures out.new)) }
     ensures well { OnOk result (W.put_failures out.new ≡ W.put_failures out.old) }
@@ -231,9 +242,10 @@ fn settle<D: Disk + Drop, A: Allocator + Copy, W: Sink>(
     answer: Result<LineHeard, HearFault>,
     out: &mut W,
 ) -> Result<bool, IoFault>
-    ensures went { (moment : ℕ) (meter : Meter) (link : Link) → BehindAnyRun D.honest D.sectors D.reads D.choices concentrator.old (λ state before.
-        Way D.honest D.sectors D.reads D.choices D.moment D.images_since concentrator.old.house.budget state before moment meter (record { due = behind_heard answer; link = link })
-        (λ happened last. IfOk result (λ more. IsRound more link 0 happened last))
+    ensures went { (moment : ℕ) (meter : Meter) (link : Link) → BehindAnyRun D.keeps D.sectors D.reads D.choices concentrator.old (λ origin state before.
+        Way (D.keeps origin) D.sectors D.failures D.reads D.choices D.moment D.images_since concentrator.old.house.budget state before moment meter (record { due = behind_heard answer; link = link })
+        (λ happened last. IfOk result (λ more. IsRound more link 0 happened last) × OnErr result (FailsInLast W.Sink out.old out.new happened)
+        × (happened_exchanges happened ≡ []))
         (λ text. OnOk result (Puts (W.written out.old) (W.written out.new) text)) concentrator.old concentrator.new) }
     ensures fault { OnErr result (HasRisen (W.put_failures out.old) (W.put_failures out.new)) }
     ensures well { OnOk result (W.put_failures out.new ≡ W.put_failures out.old) }
@@ -254,9 +266,10 @@ fn commit_part<D: Disk + Drop, A: Allocator + Copy, W: Sink>(
     concentrator: &mut Concentrator<D, A>,
     out: &mut W,
 ) -> Result<bool, IoFault>
-    ensures went { (moment : ℕ) (meter : Meter) (link : Link) → BehindAnyRun D.honest D.sectors D.reads D.choices concentrator.old (λ state before.
-        Way D.honest D.sectors D.reads D.choices D.moment D.images_since concentrator.old.house.budget state before moment meter (record { due = to_commit; link = link })
-        (λ happened last. IfOk result (λ more. IsRound more link 0 happened last))
+    ensures went { (moment : ℕ) (meter : Meter) (link : Link) → BehindAnyRun D.keeps D.sectors D.reads D.choices concentrator.old (λ origin state before.
+        Way (D.keeps origin) D.sectors D.failures D.reads D.choices D.moment D.images_since concentrator.old.house.budget state before moment meter (record { due = to_commit; link = link })
+        (λ happened last. IfOk result (λ more. IsRound more link 0 happened last) × OnErr result (FailsInLast W.Sink out.old out.new happened)
+        × (happened_exchanges happened ≡ []))
         (λ text. OnOk result (Puts (W.written out.old) (W.written out.new) text)) concentrator.old concentrator.new) }
     ensures fault { OnErr result (HasRisen (W.put_failures out.old) (W.put_failures out.new)) }
     ensures well { OnOk result (W.put_failures out.new ≡ W.put_failures out.old) }

@@ -13,8 +13,8 @@ use std::alloc::Allocator;
 pub fn quiet_commit<D: Disk + Drop, A: Allocator + Copy>(
     concentrator: &mut Concentrator<D, A>,
 ) -> Result<usize, CommitFault>
-    ensures went { BehindAnyRun D.honest D.sectors D.reads D.choices concentrator.old (λ state before.
-        TurnWent D.honest D.sectors D.reads D.choices D.moment D.images_since concentrator.old.house.budget state before commits (λ answer. answer ≡ committed result) concentrator.old concentrator.new) }
+    ensures went { BehindAnyRun D.keeps D.sectors D.reads D.choices concentrator.old (λ origin state before.
+        TurnWent (D.keeps origin) D.sectors D.failures D.reads D.choices D.moment D.images_since concentrator.old.house.budget state before commits (λ answer. answer ≡ committed result) concentrator.old concentrator.new) }
     ensures budget { concentrator.new.house.budget ≡ concentrator.old.house.budget }
 {
     concentrator.commit()
@@ -25,8 +25,8 @@ pub fn quiet_ask<D: Disk + Drop, A: Allocator + Copy>(
     concentrator: &Concentrator<D, A>,
     line: u8,
 ) -> Option<FrameBuf>
-    ensures went { BehindAnyRun D.honest D.sectors D.reads D.choices concentrator.now (λ state before.
-        TurnWent D.honest D.sectors D.reads D.choices D.moment D.images_since concentrator.now.house.budget state before (asks line) (λ answer. answer ≡ asked result) concentrator.now concentrator.now) }
+    ensures went { BehindAnyRun D.keeps D.sectors D.reads D.choices concentrator.now (λ origin state before.
+        TurnWent (D.keeps origin) D.sectors D.failures D.reads D.choices D.moment D.images_since concentrator.now.house.budget state before (asks line) (λ answer. answer ≡ asked result) concentrator.now concentrator.now) }
 {
     concentrator.ask(line)
 }

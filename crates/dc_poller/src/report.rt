@@ -61,17 +61,17 @@ pub fn report_on<D: Disk + Drop, A: Allocator + Copy, W: Sink>(
     writer: &mut W,
 ) -> (D, Result<(), ProgramFault>)
     // The table is that of the state which the image reads as.
-    ensures told { D.honest → OnOk result.1 (IsTold (half_len_of (D.sectors disk)) report (D.reads disk) (Puts (W.written writer.old) (W.written writer.new))) }
+    ensures told { D.keeps result.0 → OnOk result.1 (IsTold (half_len_of (D.sectors disk)) report (D.reads disk) (Puts (W.written writer.old) (W.written writer.new))) }
     ensures well { OnOk result.1 (W.put_failures writer.new ≡ W.put_failures writer.old) }
 
     // An image that isn't opened is refused as the store refuses it; one that stands is refused only as worn.
     ensures small { D.sectors disk < fewest_sectors → result.1 ≡ Err (ProgramFault.Open NotImage) }
-    ensures refused { D.honest → fewest_sectors ≤ D.sectors disk → IfErr result.1 (λ fault. IfOpen fault (λ e. IsRefused (half_len_of (D.sectors disk)) (D.reads disk) e)) }
-    ensures premise { D.honest → fewest_sectors ≤ D.sectors disk → EachStands (half_len_of (D.sectors disk)) (D.choices disk) → IfErr result.1 (λ fault. IfOpen fault (λ e. TellsOfImage e → e ≡ Worn)) }
+    ensures refused { D.keeps result.0 → fewest_sectors ≤ D.sectors disk → IfErr result.1 (λ fault. IfOpen fault (λ e. IsRefused (half_len_of (D.sectors disk)) (D.reads disk) e)) }
+    ensures premise { D.keeps result.0 → fewest_sectors ≤ D.sectors disk → EachStands (half_len_of (D.sectors disk)) (D.choices disk) → IfErr result.1 (λ fault. IfOpen fault (λ e. TellsOfImage e → e ≡ Worn)) }
     ensures device { IfErr result.1 (λ fault. IfOpen fault (λ e. e ≡ Device → HasRisen (D.failures disk) (D.failures result.0))) }
 
     // Whatever happens, a stop leaves an image that stands for a state that one of the disk's images stood for.
-    ensures any_moment { D.honest → EachStands (half_len_of (D.sectors disk)) (D.choices disk)
+    ensures any_moment { D.keeps result.0 → EachStands (half_len_of (D.sectors disk)) (D.choices disk)
         → LeavesOnly D.moment D.images_since disk result.0 (StandsForOne (half_len_of (D.sectors disk)) (D.choices disk)) }
 
     // Nothing is read but the image, and only a failed write touches the writer.

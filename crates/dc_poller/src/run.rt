@@ -7,7 +7,7 @@ ghost use Rattle.dc_recovery.specs.Refusal.{IsRefused, TellsOfImage};
 ghost use Rattle.dc_recovery.specs.Stands.{EachStands, StandsForOne};
 ghost use Rattle.dc_recovery.specs.declared.fault.OpenFault.TheVariants.{NotImage, Worn, Device};
 ghost use Rattle.dc_sectors.specs.Disk.{LeavesOnly};
-ghost use Rattle.dc_stream.specs.Stream.{Puts};
+ghost use Rattle.dc_stream.specs.Stream.{IsAtEnd, Puts};
 ghost use Rattle.dc_teller.specs.Lines.{longest_input_line, most_input};
 ghost use Rattle.dc_poller.specs.Fault.{IfOpen, IsOfReading, IsOfSearch};
 ghost use Rattle.dc_poller.specs.ImageRun.{ImageRan, ImageCut};
@@ -64,28 +64,30 @@ pub fn run_script<
 ) -> (D, Result<bool, ProgramFault>)
     // Where each image of the disk stands for some state: the run is that of the script's lines, of which exactly the text
     // is written, and the image is left as that run leaves it.
-    ensures ran { (D.honest → EachStands (half_len_of (D.sectors disk)) (D.choices disk))
-        → IfOk result.1 (λ faulty. ImageRan D.honest D.sectors D.reads D.choices D.moment D.images_since (link_at_first gateway) (R.left reader.old) faulty (Puts (W.written writer.old) (W.written writer.new)) disk result.0) }
-    ensures cut { (D.honest → EachStands (half_len_of (D.sectors disk)) (D.choices disk))
-        → IsErrOf result.1 ProgramFault.Write → ImageCut D.honest D.sectors D.reads D.choices D.moment D.images_since (link_at_first gateway) (R.left reader.old) disk result.0 }
+    ensures ran { (D.keeps disk → EachStands (half_len_of (D.sectors disk)) (D.choices disk))
+        → IfOk result.1 (λ faulty. ImageRan D.Disk (link_at_first gateway) (R.left reader.old) faulty (Puts (W.written writer.old) (W.written writer.new)) disk result.0) }
+    ensures cut { (D.keeps disk → EachStands (half_len_of (D.sectors disk)) (D.choices disk))
+        → IsErrOf result.1 ProgramFault.Write → ImageCut D.Disk (link_at_first gateway) (R.left reader.old) disk result.0 }
     // Memory is refused before the image is opened, or to a search: then what is left of the image and the text are those of
     // the run up to it.
-    ensures starved { (D.honest → EachStands (half_len_of (D.sectors disk)) (D.choices disk))
+    ensures starved { (D.keeps disk → EachStands (half_len_of (D.sectors disk)) (D.choices disk))
         → IsErrOf result.1 ProgramFault.NoMemory → ((result.0 ≡ disk) × (writer.new ≡ writer.old))
-        ⊎ ImageStarved D.honest D.sectors D.reads D.choices D.moment D.images_since (link_at_first gateway) (R.left reader.old) (Puts (W.written writer.old) (W.written writer.new)) disk result.0 }
+        ⊎ ImageStarved D.Disk (link_at_first gateway) (R.left reader.old) (Puts (W.written writer.old) (W.written writer.new)) disk result.0 }
 
     // An image that isn't opened is refused as the store refuses it; one that stands is refused only as worn.
     ensures small { D.sectors disk < 131 → MatchResult result.1 (λ faulty. ⊥) (λ fault. IfOpen fault (λ e. (e ≡ NotImage) × (result.0 ≡ disk))) }
-    ensures refused { D.honest → 131 ≤ D.sectors disk → IfErr result.1 (λ fault. IfOpen fault (λ e. IsRefused (half_len_of (D.sectors disk)) (D.reads disk) e)) }
-    ensures premise { D.honest → 131 ≤ D.sectors disk → EachStands (half_len_of (D.sectors disk)) (D.choices disk) → IfErr result.1 (λ fault. IfOpen fault (λ e. TellsOfImage e → e ≡ Worn)) }
-    ensures unwritten { D.honest → IfErr result.1 (λ fault. IfOpen fault (λ e. TellsOfImage e → D.reads result.0 ≡ D.reads disk)) }
+    ensures refused { D.keeps result.0 → 131 ≤ D.sectors disk → IfErr result.1 (λ fault. IfOpen fault (λ e. IsRefused (half_len_of (D.sectors disk)) (D.reads disk) e)) }
+    ensures premise { D.keeps result.0 → 131 ≤ D.sectors disk → EachStands (half_len_of (D.sectors disk)) (D.choices disk) → IfErr result.1 (λ fault. IfOpen fault (λ e. TellsOfImage e → e ≡ Worn)) }
+    ensures unwritten { IfErr result.1 (λ fault. IfOpen fault (λ e. TellsOfImage e → D.reads result.0 ≡ D.reads disk)) }
     ensures device { IfErr result.1 (λ fault. IfOpen fault (λ e. e ≡ Device → HasRisen (D.failures disk) (D.failures result.0))) }
-    ensures any_moment { D.honest → EachStands (half_len_of (D.sectors disk)) (D.choices disk)
+    ensures any_moment { D.keeps result.0 → EachStands (half_len_of (D.sectors disk)) (D.choices disk)
         → IfErr result.1 (λ fault. IfOpen fault (λ e. LeavesOnly D.moment D.images_since disk result.0 (StandsForOne (half_len_of (D.sectors disk)) (D.choices disk)))) }
 
     // A script over the limit is refused, and no other is refused for its length.
     ensures fits { OnOk result.1 (IfSome (R.left reader.old) (λ input. length input ≤ most_input)) }
     ensures too_long { IsErrOf result.1 ProgramFault.TooLong → IfSome (R.left reader.old) (λ input. most_input < length input) }
+    // The image is opened after the whole script was read, and found within the limit.
+    ensures read_first { IfErr result.1 (λ fault. IfOpen fault (λ e. (R.take_failures reader.new ≡ R.take_failures reader.old) × IsAtEnd (R.left reader.new) × IfSome (R.left reader.old) (λ input. length input ≤ most_input))) }
 
     // A fault of an end is told only where that end counted a failure.
     ensures read { IsErrOf result.1 ProgramFault.Read → HasRisen (R.take_failures reader.old) (R.take_failures reader.new) }
@@ -132,6 +134,7 @@ fn read_script<A: Allocator + Copy, R: Source>(
     ensures room { IfOk result (λ script. longest_input_line ≤ 2 * vec_len script.1) }
     ensures fits { OnOk result (IfSome (R.left reader.old) (λ input. length input ≤ most_input)) }
     ensures too_long { IsErrOf result ProgramFault.TooLong → IfSome (R.left reader.old) (λ input. most_input < length input) }
+    ensures end { OnOk result (IsAtEnd (R.left reader.new)) }
     ensures faults { IfErr result IsOfReading }
     ensures ok { OnOk result (R.take_failures reader.new ≡ R.take_failures reader.old) }
     ensures read { IsErrOf result ProgramFault.Read → HasRisen (R.take_failures reader.old) (R.take_failures reader.new) }

@@ -38,12 +38,12 @@ pub fn run_lines<D: Disk + Drop, A: Allocator + Copy, GR: Source + Drop, GW: Sin
     out: &mut W,
 ) -> Result<bool, Halt>
     requires { longest_input_line ≤ 2 * length bytes.old }
-    ensures ran { BehindAnyRun D.honest D.sectors D.reads D.choices concentrator.old (λ state before.
-        IfOk result (λ faulty. ScriptRan D.honest D.sectors D.reads D.choices D.moment D.images_since concentrator.old.house.budget state before (link_of gateway.old) (lines_of input.now) faulty (Puts (W.written out.old) (W.written out.new)) concentrator.old concentrator.new)) }
-    ensures cut { BehindAnyRun D.honest D.sectors D.reads D.choices concentrator.old (λ state before.
-        OnWrite result (ScriptCut D.honest D.sectors D.reads D.choices D.moment D.images_since concentrator.old.house.budget state before (link_of gateway.old) (lines_of input.now) concentrator.old concentrator.new)) }
-    ensures starved { BehindAnyRun D.honest D.sectors D.reads D.choices concentrator.old (λ state before.
-        OnNoMemory result (ScriptStarved D.honest D.sectors D.reads D.choices D.moment D.images_since concentrator.old.house.budget state before (link_of gateway.old) (lines_of input.now) (Puts (W.written out.old) (W.written out.new)) concentrator.old concentrator.new)) }
+    ensures ran { BehindAnyRun D.keeps D.sectors D.reads D.choices concentrator.old (λ origin state before.
+        IfOk result (λ faulty. ScriptRan (D.keeps origin) D.sectors D.failures D.reads D.choices D.moment D.images_since concentrator.old.house.budget state before (link_of gateway.old) (lines_of input.now) faulty (Puts (W.written out.old) (W.written out.new)) concentrator.old concentrator.new)) }
+    ensures cut { BehindAnyRun D.keeps D.sectors D.reads D.choices concentrator.old (λ origin state before.
+        OnWrite result (ScriptCut (D.keeps origin) D.sectors D.failures D.reads D.choices D.moment D.images_since concentrator.old.house.budget state before (link_of gateway.old) (lines_of input.now) concentrator.old concentrator.new)) }
+    ensures starved { BehindAnyRun D.keeps D.sectors D.reads D.choices concentrator.old (λ origin state before.
+        OnNoMemory result (ScriptStarved (D.keeps origin) D.sectors D.failures D.reads D.choices D.moment D.images_since concentrator.old.house.budget state before (link_of gateway.old) (lines_of input.now) (Puts (W.written out.old) (W.written out.new)) concentrator.old concentrator.new)) }
     // Memory is refused to a search alone, which needs a gateway.
     ensures through { OnNoMemory result (link_of gateway.old ≢ absent) }
     ensures counted { IsCounted result (W.put_failures out.old) (W.put_failures out.new) }
@@ -78,12 +78,12 @@ fn run_line<D: Disk + Drop, A: Allocator + Copy, GR: Source + Drop, GW: Sink + D
     moment: Moment,
     out: &mut W,
 ) -> Result<(), Halt>
-    ensures ran { BehindAnyRun D.honest D.sectors D.reads D.choices concentrator.old (λ state before.
-        OnOk result (LineRan D.honest D.sectors D.reads D.choices D.moment D.images_since concentrator.old.house.budget state before moment.seconds (seen asked.now) (link_of gateway.old) (link_of gateway.new) (Puts (W.written out.old) (W.written out.new)) concentrator.old concentrator.new)) }
-    ensures cut { BehindAnyRun D.honest D.sectors D.reads D.choices concentrator.old (λ state before.
-        OnWrite result (LineCut D.honest D.sectors D.reads D.choices D.moment D.images_since concentrator.old.house.budget state before moment.seconds (seen asked.now) (link_of gateway.old) concentrator.old concentrator.new)) }
-    ensures starved { BehindAnyRun D.honest D.sectors D.reads D.choices concentrator.old (λ state before.
-        OnNoMemory result (LineStarved D.honest D.sectors D.reads D.choices D.moment D.images_since concentrator.old.house.budget state before (seen asked.now) (link_of gateway.old) (Puts (W.written out.old) (W.written out.new)) concentrator.old concentrator.new)) }
+    ensures ran { BehindAnyRun D.keeps D.sectors D.reads D.choices concentrator.old (λ origin state before.
+        OnOk result (LineRan (D.keeps origin) D.sectors D.failures D.reads D.choices D.moment D.images_since concentrator.old.house.budget state before moment.seconds (seen asked.now) (link_of gateway.old) (link_of gateway.new) (Puts (W.written out.old) (W.written out.new)) concentrator.old concentrator.new)) }
+    ensures cut { BehindAnyRun D.keeps D.sectors D.reads D.choices concentrator.old (λ origin state before.
+        OnWrite result (LineCut (D.keeps origin) D.sectors D.failures D.reads D.choices D.moment D.images_since concentrator.old.house.budget state before moment.seconds (seen asked.now) (link_of gateway.old) concentrator.old concentrator.new)) }
+    ensures starved { BehindAnyRun D.keeps D.sectors D.reads D.choices concentrator.old (λ origin state before.
+        OnNoMemory result (LineStarved (D.keeps origin) D.sectors D.failures D.reads D.choices D.moment D.images_since concentrator.old.house.budget state before (seen asked.now) (link_of gateway.old) (Puts (W.written out.old) (W.written out.new)) concentrator.old concentrator.new)) }
     ensures through { OnNoMemory result (link_of gateway.old ≢ absent) }
     ensures absent { link_of gateway.old ≡ absent → link_of gateway.new ≡ absent }
     ensures counted { IsCounted result (W.put_failures out.old) (W.put_failures out.new) }
@@ -107,10 +107,10 @@ fn run_plain<D: Disk + Drop, A: Allocator + Copy, GR: Source + Drop, GW: Sink + 
     out: &mut W,
 ) -> Result<(), IoFault>
     requires { IsPlain (seen asked.now) }
-    ensures ran { BehindAnyRun D.honest D.sectors D.reads D.choices concentrator.old (λ state before.
-        OnOk result (LineRan D.honest D.sectors D.reads D.choices D.moment D.images_since concentrator.old.house.budget state before moment.seconds (seen asked.now) (link_of gateway.old) (link_of gateway.new) (Puts (W.written out.old) (W.written out.new)) concentrator.old concentrator.new)) }
-    ensures cut { BehindAnyRun D.honest D.sectors D.reads D.choices concentrator.old (λ state before.
-        OnErr result (LineCut D.honest D.sectors D.reads D.choices D.moment D.images_since concentrator.old.house.budget state before moment.seconds (seen asked.now) (link_of gateway.old) concentrator.old concentrator.new)) }
+    ensures ran { BehindAnyRun D.keeps D.sectors D.reads D.choices concentrator.old (λ origin state before.
+        OnOk result (LineRan (D.keeps origin) D.sectors D.failures D.reads D.choices D.moment D.images_since concentrator.old.house.budget state before moment.seconds (seen asked.now) (link_of gateway.old) (link_of gateway.new) (Puts (W.written out.old) (W.written out.new)) concentrator.old concentrator.new)) }
+    ensures cut { BehindAnyRun D.keeps D.sectors D.reads D.choices concentrator.old (λ origin state before.
+        OnErr result (LineCut (D.keeps origin) D.sectors D.failures D.reads D.choices D.moment D.images_since concentrator.old.house.budget state before moment.seconds (seen asked.now) (link_of gateway.old) concentrator.old concentrator.new)) }
     ensures fault { OnErr result (HasRisen (W.put_failures out.old) (W.put_failures out.new)) }
     ensures well { OnOk result (W.put_failures out.new ≡ W.put_failures out.old) }
     ensures absent { link_of gateway.old ≡ absent → link_of gateway.new ≡ absent }
@@ -150,8 +150,8 @@ fn run_event<D: Disk + Drop, A: Allocator + Copy, W: Sink>(
     event: &Event<'_>,
     out: &mut W,
 ) -> Result<(), IoFault>
-    ensures went { BehindAnyRun D.honest D.sectors D.reads D.choices concentrator.old (λ state before.
-        TurnWent D.honest D.sectors D.reads D.choices D.moment D.images_since concentrator.old.house.budget state before (event_of event.now)
+    ensures went { BehindAnyRun D.keeps D.sectors D.reads D.choices concentrator.old (λ origin state before.
+        TurnWent (D.keeps origin) D.sectors D.failures D.reads D.choices D.moment D.images_since concentrator.old.house.budget state before (event_of event.now)
         (λ answer. OnOk result (Puts (W.written out.old) (W.written out.new) (answer_text answer))) concentrator.old concentrator.new) }
     ensures fault { OnErr result (HasRisen (W.put_failures out.old) (W.put_failures out.new)) }
     ensures well { OnOk result (W.put_failures out.new ≡ W.put_failures out.old) }

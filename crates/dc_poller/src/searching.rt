@@ -1,6 +1,7 @@
 //! `SEARCH`: meters are searched for through the gateway.
 
 ghost use Rattle.std.specs.Prelude.{◌≡◌};
+ghost use Rattle.dc_gateway.specs.Bus.{AreExchanged};
 ghost use Rattle.dc_stream.specs.Stream.{Puts, Wrote};
 ghost use Rattle.dc_poller.specs.Halt.{IsCounted};
 ghost use Rattle.dc_poller.specs.Link.{link_by, loss_text};
@@ -27,9 +28,10 @@ pub fn search<D: Disk + Drop, A: Allocator + Copy, B: Bus, W: Sink>(
     budget: u32,
     out: &mut W,
 ) -> Result<(), Halt>
-    ensures went { BehindAnyRun D.honest D.sectors D.reads D.choices concentrator.old (λ state before.
-        TurnsWent D.honest D.sectors D.reads D.choices D.moment D.images_since concentrator.old.house.budget state before
-        (Comes (B.meters bus.old) budget (link_by (B.lost bus.old)) (link_by (B.lost bus.new)) (Puts (W.written out.old) (W.written out.new)) result) concentrator.old concentrator.new) }
+    ensures went { BehindAnyRun D.keeps D.sectors D.reads D.choices concentrator.old (λ origin state before.
+        TurnsWent (D.keeps origin) D.sectors D.failures D.reads D.choices D.moment D.images_since concentrator.old.house.budget state before
+        (Comes (B.meters bus.old) budget (link_by (B.lost bus.old)) (link_by (B.lost bus.new))
+        (λ exchanges. AreExchanged B.asks bus.old exchanges bus.new) (Puts (W.written out.old) (W.written out.new)) result) concentrator.old concentrator.new) }
     ensures counted { IsCounted result (W.put_failures out.old) (W.put_failures out.new) }
     ensures budget { concentrator.new.house.budget ≡ concentrator.old.house.budget }
 {
@@ -49,7 +51,8 @@ fn search_bus<A: Allocator + Copy, B: Bus, W: Sink>(
     budget: u32,
     out: &mut W,
 ) -> Result<(), Halt>
-    ensures talked { Talked (B.meters bus.old) budget (link_by (B.lost bus.old)) (link_by (B.lost bus.new)) (Puts (W.written out.old) (W.written out.new)) result }
+    ensures talked { Talked (B.meters bus.old) budget (link_by (B.lost bus.old)) (link_by (B.lost bus.new))
+        (λ exchanges. AreExchanged B.asks bus.old exchanges bus.new) (Puts (W.written out.old) (W.written out.new)) result }
     ensures counted { IsCounted result (W.put_failures out.old) (W.put_failures out.new) }
 {
     let was_lost = bus.is_lost();

@@ -30,6 +30,8 @@ pub mod Refusals
 pub mod RootWrite
 -- what opening's root leaves: the state that the image stood for
 pub mod Session
+-- which writes leave the sectors outside an image as they read
+pub mod Spared
 -- the bytes that formatting writes spell the empty register
 pub mod Spellings
 -- one step of reading an image, and why it stops

@@ -45,14 +45,15 @@ module _ {D : Type 0} (moment : D → ℕ) (images_since : D → ℕ → Image �
         let same : image ≡ reads old = settled_image (reads old) image (subst (λ (c : Choices). IsImage c image) is_settled is) in
         subst (IsImage (choices old)) (sym same) reads_a_choice)
 
-module _ {D : Type 0} (honest : Type 0) (reads : D → Image) (choices : D → Choices) (moment : D → ℕ) (images_since : D → ℕ → Image → Type 0) (sectors failures : D → ℕ) where
+module _ {D : Type 0} (keeps : D → Type 0) (reads : D → Image) (choices : D → Choices) (moment : D → ℕ) (images_since : D → ℕ → Image → Type 0) (sectors failures : D → ℕ) where
   -- one call more that only looked
-  pub looked_on : (old mid new : D) → OnlyLooked honest reads choices moment images_since sectors failures old mid → OnlyLooked honest reads choices moment images_since sectors failures mid new
-      → OnlyLooked honest reads choices moment images_since sectors failures old new
+  pub looked_on : (old mid new : D) → OnlyLooked keeps reads choices moment images_since sectors failures old mid → OnlyLooked keeps reads choices moment images_since sectors failures mid new
+      → OnlyLooked keeps reads choices moment images_since sectors failures old new
   looked_on old mid new first second = record {
-    reads_same = λ h. second.reads_same h ∙ first.reads_same h;
-    choices_same = λ h. second.choices_same h ∙ first.choices_same h;
-    any_moment = λ h. read_on moment images_since choices old mid new (first.any_moment h) (first.choices_same h) (second.any_moment h);
+    reads_same = second.reads_same ∙ first.reads_same;
+    choices_same = second.choices_same ∙ first.choices_same;
+    any_moment = read_on moment images_since choices old mid new first.any_moment first.choices_same second.any_moment;
+    before = λ kept. first.before (second.before kept);
     count = second.count ∙ first.count;
     later = omega (arith, first.later, second.later);
   }

@@ -1,5 +1,6 @@
 -- Where the two halves of an image lie, and what a half can hold: this product's image format.
-use Rattle.std.specs.Prelude.{ℕ, ◌+◌, ◌-◌, ◌*◌, ◌/◌, min}
+use Rattle.std.specs.Prelude.{◌≡◌, ◌⊎◌, ◌<◌, ◌≤◌, ℕ, ◌+◌, ◌-◌, ◌*◌, ◌/◌, min}
+use Rattle.dc_sectors.specs.Disk.{Image}
 use Rattle.dc_pages.specs.Group.{page_payload}
 
 -- the fewest sectors that an image has, and how many a half has, at least and at most
@@ -26,3 +27,7 @@ half_end half_len half = 3 + half_len * half + half_len
 -- the greatest size of a state: the payload of half of the half's sectors
 abbrev pub budget_of : ℕ → ℕ
 budget_of half_len = page_payload * (half_len / 2)
+
+-- the sectors that are no part of the disk's image, sector 0 and those after the second half, read as before
+abbrev pub SparesRest : ℕ → Image → Image → Type 0
+SparesRest half_len old image = (m : ℕ) → (m < 1) ⊎ (3 + 2 * half_len ≤ m) → image m ≡ old m

@@ -3,7 +3,7 @@ use Rattle.std.specs.Prelude.{◌≡◌, ◌≤◌, ◌+◌, ℕ, Bool, false}
 use Rattle.dc_sectors.specs.Disk.{Image, Choices, settled}
 use Rattle.dc_roots.specs.declared.root.Root.{Root}
 use Rattle.dc_pages.specs.Draft.{FitsAt}
-use Rattle.dc_recovery.specs.Halves.{half_len_of, half_end, fewest_sectors}
+use Rattle.dc_recovery.specs.Halves.{half_len_of, half_start, half_end, fewest_sectors}
 use Rattle.dc_recovery.specs.Language.{State}
 use Rattle.dc_recovery.specs.Stands.{image_version, IsReady}
 
@@ -19,6 +19,7 @@ pub record Kept (D : Type 0) : Type 0 where
 pub record IsLaidOut (sectors : ℕ) (root : Root) (place : ℕ) : Type 0 where
   pub enough : fewest_sectors ≤ sectors
   pub half : root.half ≤ 1
+  pub from : half_start (half_len_of sectors) root.half ≤ place
   pub within : place ≤ half_end (half_len_of sectors) root.half
 
 -- a group of so many bytes fits behind the place

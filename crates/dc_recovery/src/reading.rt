@@ -6,7 +6,7 @@ ghost use Rattle.dc_recovery.specs.Looked.{OnlyLooked};
 ghost use Rattle.dc_roots.specs.declared.root.Root.{Root};
 ghost use Rattle.dc_recovery.specs.declared.fault.OpenFault.{OpenFault};
 ghost use Rattle.dc_recovery.specs.declared.fault.OpenFault.TheVariants.{Device};
-ghost use Rattle.dc_recovery.specs.Halves.{half_end, budget_of, longest_half};
+ghost use Rattle.dc_recovery.specs.Halves.{half_start, half_end, budget_of, longest_half};
 ghost use Rattle.dc_recovery.specs.Language.{State};
 ghost use Rattle.dc_recovery.specs.Stands.{IsSequence, IsCurrent, IsReached, IsRead, Holds, ReadsBy, Reads};
 ghost use Rattle.dc_pages.specs.Group.{IsKnown, IsComplete};
@@ -32,13 +32,13 @@ const FIRST_VERSION: u8 = 1;
 /// Chooses the root in force, which has to be of a known version and for halves of this length.
 fn current_root<D: Disk>(disk: &mut D, half_len: u32) -> Result<Root, OpenFault>
     requires { 2 < D.sectors disk.old }
-    ensures current { D.honest → IfOk result (λ root. IsCurrent half_len root (D.reads disk.old)) }
+    ensures current { D.keeps disk.new → IfOk result (λ root. IsCurrent half_len root (D.reads disk.old)) }
     ensures half { IfOk result (λ root. root.half ≤ 1) }
     ensures known { IfOk result (λ root. IsKnown root.version) }
-    ensures refused { D.honest → IfErr result (λ fault. IsRefused half_len (D.reads disk.old) fault) }
+    ensures refused { D.keeps disk.new → IfErr result (λ fault. IsRefused half_len (D.reads disk.old) fault) }
     ensures device { IsErrOf result Device → HasRisen (D.failures disk.old) (D.failures disk.new) }
     ensures passed { (IsErrOf result Device → ⊥) → D.failures disk.new ≡ D.failures disk.old }
-    ensures looked { OnlyLooked D.honest D.reads D.choices D.moment D.images_since D.sectors D.failures disk.old disk.new }
+    ensures looked { OnlyLooked D.keeps D.reads D.choices D.moment D.images_since D.sectors D.failures disk.old disk.new }
 {
     match choose(disk) {
         Ok(root) => {
@@ -75,14 +75,15 @@ fn read_base<A: Allocator + Copy, D: Disk>(
     requires half { root.half ≤ 1 }
     requires most { half_len ≤ longest_half }
     requires fits { 3 + 2 * half_len ≤ D.sectors disk.old }
-    ensures reached { D.honest → IsCurrent half_len root (D.reads disk.old) → IfOk result (λ found. IsReached half_len root found.place found.last found.house.state (D.reads disk.old)) }
+    ensures reached { D.keeps disk.new → IsCurrent half_len root (D.reads disk.old) → IfOk result (λ found. IsReached half_len root found.place found.last found.house.state (D.reads disk.old)) }
     ensures root { IfOk result (λ found. found.root ≡ root) }
     ensures budget { IfOk result (λ found. found.house.budget ≡ budget_of half_len) }
+    ensures from { IfOk result (λ found. half_start half_len root.half ≤ found.place) }
     ensures within { IfOk result (λ found. found.place ≤ half_end half_len root.half) }
-    ensures refused { D.honest → IsCurrent half_len root (D.reads disk.old) → IfErr result (λ fault. IsRefused half_len (D.reads disk.old) fault) }
+    ensures refused { D.keeps disk.new → IsCurrent half_len root (D.reads disk.old) → IfErr result (λ fault. IsRefused half_len (D.reads disk.old) fault) }
     ensures device { IsErrOf result Device → HasRisen (D.failures disk.old) (D.failures disk.new) }
     ensures passed { (IsErrOf result Device → ⊥) → D.failures disk.new ≡ D.failures disk.old }
-    ensures looked { OnlyLooked D.honest D.reads D.choices D.moment D.images_since D.sectors D.failures disk.old disk.new }
+    ensures looked { OnlyLooked D.keeps D.reads D.choices D.moment D.images_since D.sectors D.failures disk.old disk.new }
 {
     let site = base_site(half_len, &root);
     let group = match read_group(alloc, disk, site) {
@@ -114,17 +115,18 @@ fn read_next<A: Allocator + Copy, D: Disk>(
     requires most { half_len ≤ longest_half }
     requires fits { 3 + 2 * half_len ≤ D.sectors disk.old }
     requires within { found.old.place ≤ half_end half_len found.old.root.half }
-    ensures more { D.honest → found.old.house.budget ≡ budget_of half_len → IsReached half_len found.old.root found.old.place found.old.last found.old.house.state (D.reads disk.old)
+    ensures more { D.keeps disk.new → found.old.house.budget ≡ budget_of half_len → IsReached half_len found.old.root found.old.place found.old.last found.old.house.state (D.reads disk.old)
         → OnOk result (IsReached half_len found.new.root found.new.place found.new.last found.new.house.state (D.reads disk.old)) }
-    ensures none { D.honest → result ≡ Ok false → (sequence : ℕ) → sequence ≡ found.new.last + 1 → IsSequence sequence → IsComplete (change_site half_len found.new.root sequence found.new.place) (D.reads disk.old) → ⊥ }
-    ensures refused { D.honest → found.old.house.budget ≡ budget_of half_len → IsReached half_len found.old.root found.old.place found.old.last found.old.house.state (D.reads disk.old)
+    ensures none { D.keeps disk.new → result ≡ Ok false → (sequence : ℕ) → sequence ≡ found.new.last + 1 → IsSequence sequence → IsComplete (change_site half_len found.new.root sequence found.new.place) (D.reads disk.old) → ⊥ }
+    ensures refused { D.keeps disk.new → found.old.house.budget ≡ budget_of half_len → IsReached half_len found.old.root found.old.place found.old.last found.old.house.state (D.reads disk.old)
         → IfErr result (λ fault. IsRefused half_len (D.reads disk.old) fault) }
+    ensures from { found.old.place ≤ found.new.place }
     ensures further { result ≡ Ok true → found.old.place < found.new.place }
     ensures within { OnOk result (found.new.place ≤ half_end half_len found.new.root.half) }
     ensures kept { (found.new.root ≡ found.old.root) × (found.new.house.budget ≡ found.old.house.budget) }
     ensures device { IsErrOf result Device → HasRisen (D.failures disk.old) (D.failures disk.new) }
     ensures passed { (IsErrOf result Device → ⊥) → D.failures disk.new ≡ D.failures disk.old }
-    ensures looked { OnlyLooked D.honest D.reads D.choices D.moment D.images_since D.sectors D.failures disk.old disk.new }
+    ensures looked { OnlyLooked D.keeps D.reads D.choices D.moment D.images_since D.sectors D.failures disk.old disk.new }
 {
     if found.last == u64::MAX {
         return Ok(false);
@@ -158,16 +160,17 @@ fn read_groups<A: Allocator + Copy, D: Disk>(
     requires most { half_len ≤ longest_half }
     requires fits { 3 + 2 * half_len ≤ D.sectors disk.old }
     requires within { found.old.place ≤ half_end half_len found.old.root.half }
-    ensures all { D.honest → found.old.house.budget ≡ budget_of half_len → IsReached half_len found.old.root found.old.place found.old.last found.old.house.state (D.reads disk.old)
+    ensures all { D.keeps disk.new → found.old.house.budget ≡ budget_of half_len → IsReached half_len found.old.root found.old.place found.old.last found.old.house.state (D.reads disk.old)
         → OnOk result (IsRead half_len found.new.root found.new.place found.new.last found.new.house.state (D.reads disk.old)) }
-    ensures refused { D.honest → found.old.house.budget ≡ budget_of half_len → IsReached half_len found.old.root found.old.place found.old.last found.old.house.state (D.reads disk.old)
+    ensures refused { D.keeps disk.new → found.old.house.budget ≡ budget_of half_len → IsReached half_len found.old.root found.old.place found.old.last found.old.house.state (D.reads disk.old)
         → IfErr result (λ fault. IsRefused half_len (D.reads disk.old) fault) }
+    ensures from { found.old.place ≤ found.new.place }
     ensures within { OnOk result (found.new.place ≤ half_end half_len found.new.root.half) }
     ensures root { found.new.root ≡ found.old.root }
     ensures budget { found.new.house.budget ≡ found.old.house.budget }
     ensures device { IsErrOf result Device → HasRisen (D.failures disk.old) (D.failures disk.new) }
     ensures passed { (IsErrOf result Device → ⊥) → D.failures disk.new ≡ D.failures disk.old }
-    ensures looked { OnlyLooked D.honest D.reads D.choices D.moment D.images_since D.sectors D.failures disk.old disk.new }
+    ensures looked { OnlyLooked D.keeps D.reads D.choices D.moment D.images_since D.sectors D.failures disk.old disk.new }
 {
     'groups: while read_next(alloc, disk, found, half_len)? {}
     Ok(())
@@ -181,15 +184,16 @@ pub(crate) fn read_image<A: Allocator + Copy, D: Disk>(
 ) -> Result<Found<A>, OpenFault>
     requires most { half_len ≤ longest_half }
     requires fits { 3 + 2 * half_len ≤ D.sectors disk.old }
-    ensures all { D.honest → IfOk result (λ found. IsRead half_len found.root found.place found.last found.house.state (D.reads disk.old)) }
-    ensures refused { D.honest → IfErr result (λ fault. IsRefused half_len (D.reads disk.old) fault) }
+    ensures all { D.keeps disk.new → IfOk result (λ found. IsRead half_len found.root found.place found.last found.house.state (D.reads disk.old)) }
+    ensures refused { D.keeps disk.new → IfErr result (λ fault. IsRefused half_len (D.reads disk.old) fault) }
     ensures budget { IfOk result (λ found. found.house.budget ≡ budget_of half_len) }
     ensures half { IfOk result (λ found. found.root.half ≤ 1) }
     ensures known { IfOk result (λ found. IsKnown found.root.version) }
+    ensures from { IfOk result (λ found. half_start half_len found.root.half ≤ found.place) }
     ensures within { IfOk result (λ found. found.place ≤ half_end half_len found.root.half) }
     ensures device { IsErrOf result Device → HasRisen (D.failures disk.old) (D.failures disk.new) }
     ensures passed { (IsErrOf result Device → ⊥) → D.failures disk.new ≡ D.failures disk.old }
-    ensures looked { OnlyLooked D.honest D.reads D.choices D.moment D.images_since D.sectors D.failures disk.old disk.new }
+    ensures looked { OnlyLooked D.keeps D.reads D.choices D.moment D.images_since D.sectors D.failures disk.old disk.new }
 {
     let root = current_root(disk, half_len)?;
     let mut found = read_base(alloc, disk, root, half_len)?;

@@ -42,11 +42,12 @@ fn held_by(bytes: &[u8; 512], slot: u32) -> Held
 /// Reads a slot.
 fn read_slot<D: Disk>(disk: &mut D, slot: u32) -> Result<Held, Failed>
     requires { slot < D.sectors disk.old }
-    ensures held { D.honest → IfOk result (IsHeld slot (D.reads disk.old slot)) }
+    ensures held { D.keeps disk.new → IfOk result (IsHeld slot (D.reads disk.old slot)) }
     ensures half { IfOk result NamesHalf }
-    ensures reads { D.honest → D.reads disk.new ≡ D.reads disk.old }
-    ensures choices { D.honest → D.choices disk.new ≡ D.choices disk.old }
-    ensures time { D.honest → Elapses (D.moment disk.old) (D.moment disk.new) (D.images_since disk.old) (D.images_since disk.new) (IsImage (D.choices disk.old)) }
+    ensures reads { D.reads disk.new ≡ D.reads disk.old }
+    ensures choices { D.choices disk.new ≡ D.choices disk.old }
+    ensures time { Elapses (D.moment disk.old) (D.moment disk.new) (D.images_since disk.old) (D.images_since disk.new) (IsImage (D.choices disk.old)) }
+    ensures before { D.keeps disk.new → D.keeps disk.old }
     ensures count { D.sectors disk.new ≡ D.sectors disk.old }
     ensures failures { D.failures disk.old ≤ D.failures disk.new }
     ensures passed { OnOk result (D.failures disk.new ≡ D.failures disk.old) }
@@ -99,14 +100,15 @@ fn newer(first: Held, second: Held) -> Result<Root, RootFault>
 /// where a read failed.
 pub fn choose<D: Disk>(disk: &mut D) -> Result<Root, RootFault>
     requires { 2 < D.sectors disk.old }
-    ensures choice { D.honest → IsChoice (D.reads disk.old) result }
+    ensures choice { D.keeps disk.new → IsChoice (D.reads disk.old) result }
     ensures half { IfOk result (λ root. root.half ≤ 1) }
     ensures device { IsErrOf result RootFault.Device → HasRisen (D.failures disk.old) (D.failures disk.new) }
     ensures passed { (IsErrOf result RootFault.Device → ⊥) → D.failures disk.new ≡ D.failures disk.old }
     ensures not_worn { IsErrOf result RootFault.Worn → ⊥ }
-    ensures reads { D.honest → D.reads disk.new ≡ D.reads disk.old }
-    ensures choices { D.honest → D.choices disk.new ≡ D.choices disk.old }
-    ensures any_moment { D.honest → LeavesOnly D.moment D.images_since disk.old disk.new (IsImage (D.choices disk.old)) }
+    ensures reads { D.reads disk.new ≡ D.reads disk.old }
+    ensures choices { D.choices disk.new ≡ D.choices disk.old }
+    ensures any_moment { LeavesOnly D.moment D.images_since disk.old disk.new (IsImage (D.choices disk.old)) }
+    ensures before { D.keeps disk.new → D.keeps disk.old }
     ensures count { D.sectors disk.new ≡ D.sectors disk.old }
     ensures failures { D.failures disk.old ≤ D.failures disk.new }
 {

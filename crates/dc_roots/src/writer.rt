@@ -23,12 +23,13 @@ pub fn write_next<D: Disk>(disk: &mut D, root: &Root) -> Result<Root, RootFault>
     ensures is_root { root.now.generation < 2 ^ 64 - 1 → IsRoot (next_of root.now) (Bytes (root_bytes (next_of root.now))) }
     ensures worn { IsErrOf result RootFault.Worn ↔ (root.now.generation ≡ 2 ^ 64 - 1) }
     ensures unchanged { IsErrOf result RootFault.Worn → disk.new ≡ disk.old }
-    ensures reads { D.honest → OnOk result (D.reads disk.new ≡ put (D.reads disk.old) (slot (next_of root.now).generation) (root_bytes (next_of root.now))) }
-    ensures elsewhere { D.honest → (m : ℕ) → m ≢ slot (next_of root.now).generation → D.reads disk.new m ≡ D.reads disk.old m }
-    ensures choices { D.honest → OnOk result (D.choices disk.new ≡ added (D.choices disk.old) (slot (next_of root.now).generation) (root_bytes (next_of root.now))) }
-    ensures any_moment { D.honest → LeavesOnly D.moment D.images_since disk.old disk.new (IsImage (added (D.choices disk.old) (slot (next_of root.now).generation) (root_bytes (next_of root.now)))) }
+    ensures reads { OnOk result (D.reads disk.new ≡ put (D.reads disk.old) (slot (next_of root.now).generation) (root_bytes (next_of root.now))) }
+    ensures elsewhere { (m : ℕ) → m ≢ slot (next_of root.now).generation → D.reads disk.new m ≡ D.reads disk.old m }
+    ensures choices { OnOk result (D.choices disk.new ≡ added (D.choices disk.old) (slot (next_of root.now).generation) (root_bytes (next_of root.now))) }
+    ensures any_moment { LeavesOnly D.moment D.images_since disk.old disk.new (IsImage (added (D.choices disk.old) (slot (next_of root.now).generation) (root_bytes (next_of root.now)))) }
     ensures device { IsErrOf result RootFault.Device → HasRisen (D.failures disk.old) (D.failures disk.new) }
     ensures not_rootless { (unreadable : Option ℕ) → IsErrOf result (RootFault.NoRoot unreadable) → ⊥ }
+    ensures before { D.keeps disk.new → D.keeps disk.old }
     ensures count { D.sectors disk.new ≡ D.sectors disk.old }
     ensures failures { D.failures disk.old ≤ D.failures disk.new }
 {

@@ -4,6 +4,8 @@
 pub mod Moments
 -- the text of a sector
 pub mod Texts
+-- a disk over a file, and that its hypothesis can be met
+pub mod Filed
 -- of this crate alone
 mod Kept
 -- the pending sectors, one sector more

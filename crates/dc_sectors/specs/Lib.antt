@@ -12,5 +12,9 @@ pub mod Memory
 pub mod Record
 -- what is known of one sector on the way over a record
 pub mod Scan
--- a disk over a file
+-- the calls of a file, with their results
+pub mod FileCalls
+-- a call as the record of a file has it
+pub mod Note
+-- a disk over a file, and the hypothesis on its calls
 pub mod File

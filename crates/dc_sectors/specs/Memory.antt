@@ -1,6 +1,6 @@
 -- A disk in memory, as contracts see it: the image that its record began with, the record, and the
 -- failures that a test sets.
-use Rattle.std.specs.Prelude.{◌≡◌, ◌⊎◌, ◌==◌, ◌<◌, ◌+◌, ◌*◌, ◌^◌, ℕ, zero, suc, slice_index_or, List, [], ◌∷◌, true, false, ◌++◌, length, replicate, if◌then◌else◌, None, Result, Ok, Err}
+use Rattle.std.specs.Prelude.{◌≡◌, ◌⊎◌, ◌==◌, ◌<◌, ◌≤◌, ◌+◌, ◌*◌, ◌^◌, ℕ, zero, suc, slice_index_or, List, [], ◌∷◌, true, false, ◌++◌, length, replicate, if◌then◌else◌, None, Result, Ok, Err}
 use Rattle.dc_sectors.specs.declared.sector.Sector.{Sector}
 use Rattle.dc_sectors.specs.declared.sector.Sector.TheVariants.{Bytes, Unreadable}
 use Rattle.dc_sectors.specs.declared.sector.ReadFault.{ReadFault}
@@ -20,12 +20,19 @@ pub record Memory : Type 0 where
   pub start : List Sector
   -- each write, also one that a test made fail, and each sync that succeeded
   pub events : List Event
+  -- how many events the record has memory for
+  pub capacity : ℕ
   -- the calls so far, and those to come that are to fail
   pub calls : Calls
 
 -- a new disk, of zeros
 abbrev pub blank : ℕ → Memory
-blank count = record { start = replicate count (Bytes (replicate 512 0)); events = []; calls = record { made = 0; failed = 0; fuse = None; fails_at = None } }
+blank count = record {
+  start = replicate count (Bytes (replicate 512 0));
+  events = [];
+  capacity = 0;
+  calls = record { made = 0; failed = 0; fuse = None; fails_at = None };
+}
 
 -- what a read of a sector answers, where the call passes
 abbrev pub answer_of : Sector → Result (List ℕ) ReadFault
@@ -38,7 +45,7 @@ reads_of disk = reads_after (image_of disk.start) disk.events
 abbrev pub choices_of : Memory → Choices
 choices_of disk = choices_after (image_of disk.start) disk.events
 
--- A call passes, or fails because a test wants it to, or because memory for the record was refused.
+-- A call passes, or fails because a test makes it fail, or because the record is full and gets no more memory.
 
 abbrev pub after_pass : Memory → Memory
 after_pass disk = record disk { calls = counted disk.calls }
@@ -46,20 +53,31 @@ after_pass disk = record disk { calls = counted disk.calls }
 abbrev pub after_failure : Memory → Memory
 after_failure disk = record disk { calls = failed_once_more (counted disk.calls) }
 
+-- the disk after this event, in a record that may have got more memory
+abbrev pub recorded : Memory → Event → Memory → Memory
+recorded disk event new = record disk { events = disk.events ++ event ∷ []; capacity = new.capacity }
+
+-- the record has no memory for another event
+abbrev pub IsFull : Memory → Type 0
+IsFull disk = disk.capacity ≤ length disk.events
+
 -- a read takes no memory
 abbrev pub IsRead : Memory → ℕ → Result (List ℕ) ReadFault → Memory → Type 0
 IsRead old n result new =
-    (result ≡ (if passes old.calls then answer_of (reads_of old n) else Err ReadFailed)) × (new ≡ (if passes old.calls then after_pass old else after_failure old))
+    (result ≡ (if passes old.calls then answer_of (reads_of old n) else Err ReadFailed))
+    × (new ≡ (if passes old.calls then after_pass old else after_failure old))
 
--- a write that a test made fail is recorded, and one whose record was refused isn't
+-- A write that a test makes fail is recorded. One isn't recorded only where the record is full.
 abbrev pub IsWrite : Memory → ℕ → List ℕ → Result (Unit {0}) Failed → Memory → Type 0
-IsWrite old n bytes (Ok _) new = (passes old.calls ≡ true) × (new ≡ record (after_pass old) { events = old.events ++ Write n bytes true ∷ [] })
-IsWrite old n bytes (Err _) new = ((passes old.calls ≡ false) × (new ≡ record (after_failure old) { events = old.events ++ Write n bytes false ∷ [] })) ⊎ (new ≡ after_failure old)
+IsWrite old n bytes (Ok _) new = (passes old.calls ≡ true) × (new ≡ recorded (after_pass old) (Write n bytes true) new)
+IsWrite old n bytes (Err _) new =
+    ((passes old.calls ≡ false) × (new ≡ recorded (after_failure old) (Write n bytes false) new))
+    ⊎ (IsFull old × (new ≡ record (after_failure old) { capacity = new.capacity }))
 
--- a sync that failed isn't recorded
+-- A sync that fails isn't recorded: a test makes it fail, or the record is full.
 abbrev pub IsSync : Memory → Result (Unit {0}) Failed → Memory → Type 0
-IsSync old (Ok _) new = (passes old.calls ≡ true) × (new ≡ record (after_pass old) { events = old.events ++ Sync ∷ [] })
-IsSync old (Err _) new = new ≡ after_failure old
+IsSync old (Ok _) new = (passes old.calls ≡ true) × (new ≡ recorded (after_pass old) Sync new)
+IsSync old (Err _) new = ((passes old.calls ≡ false) ⊎ IsFull old) × (new ≡ record (after_failure old) { capacity = new.capacity })
 
 -- the sectors below n that were written since the sync, ascending, each with its number of writes
 abbrev pub pending_below : (ℕ → ℕ) → ℕ → List (ℕ × ℕ)

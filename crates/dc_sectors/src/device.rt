@@ -10,10 +10,11 @@ use crate::{Failed, ReadFault};
 
 /// A disk of sectors of 512 bytes, numbered from 0.
 ///
-/// The count of sectors and the count of failures hold of every disk, and all else of an honest one.
+/// What a read returns is said under a premise, `keeps`: all that the disk has returned until then is what the rule
+/// says. All else holds of every disk.
 pub trait Disk {
-    /// The disk keeps to what is said of readings and images.
-    ghost honest: { Type 0 };
+    /// What this disk's reads have returned until now is what the disk rule says.
+    ghost keeps: { Self → Type 0 };
 
     /// How many sectors it has.
     ghost sectors: { Self → ℕ };
@@ -40,10 +41,11 @@ pub trait Disk {
     /// Reads a sector. A failure leaves everything as it was, but for the count of failures.
     fn read(&mut self, n: u32) -> Result<[u8; 512], ReadFault>
         requires { n < sectors self.old }
-        ensures answer { honest → Answers (reads self.old n) result }
-        ensures reads { honest → reads self.new ≡ reads self.old }
-        ensures choices { honest → choices self.new ≡ choices self.old }
-        ensures time { honest → Elapses (moment self.old) (moment self.new) (images_since self.old) (images_since self.new) (IsImage (choices self.old)) }
+        ensures answer { keeps self.new → Answers (reads self.old n) result }
+        ensures before { keeps self.new → keeps self.old }
+        ensures reads { reads self.new ≡ reads self.old }
+        ensures choices { choices self.new ≡ choices self.old }
+        ensures time { Elapses (moment self.old) (moment self.new) (images_since self.old) (images_since self.new) (IsImage (choices self.old)) }
         ensures count { sectors self.new ≡ sectors self.old }
         ensures failures { failures self.old ≤ failures self.new }
         ensures passed { OnOk result (failures self.new ≡ failures self.old) }
@@ -54,11 +56,12 @@ pub trait Disk {
     /// have been made, in part too.
     fn write(&mut self, n: u32, bytes: &[u8; 512]) -> Result<(), Failed>
         requires { n < sectors self.old }
-        ensures reads { honest → OnOk result (reads self.new ≡ put (reads self.old) n bytes.now) }
-        ensures elsewhere { honest → (m : ℕ) → m ≢ n → reads self.new m ≡ reads self.old m }
-        ensures choices { honest → OnOk result (choices self.new ≡ added (choices self.old) n bytes.now) }
-        ensures choices_err { honest → OnErr result ((choices self.new ≡ added (choices self.old) n bytes.now) ⊎ (choices self.new ≡ choices self.old)) }
-        ensures time { honest → Elapses (moment self.old) (moment self.new) (images_since self.old) (images_since self.new) (IsImage (added (choices self.old) n bytes.now)) }
+        ensures before { keeps self.new → keeps self.old }
+        ensures reads { OnOk result (reads self.new ≡ put (reads self.old) n bytes.now) }
+        ensures elsewhere { (m : ℕ) → m ≢ n → reads self.new m ≡ reads self.old m }
+        ensures choices { OnOk result (choices self.new ≡ added (choices self.old) n bytes.now) }
+        ensures choices_err { OnErr result ((choices self.new ≡ added (choices self.old) n bytes.now) ⊎ (choices self.new ≡ choices self.old)) }
+        ensures time { Elapses (moment self.old) (moment self.new) (images_since self.old) (images_since self.new) (IsImage (added (choices self.old) n bytes.now)) }
         ensures count { sectors self.new ≡ sectors self.old }
         ensures failures { failures self.old ≤ failures self.new }
         ensures passed { OnOk result (failures self.new ≡ failures self.old) }
@@ -67,21 +70,22 @@ pub trait Disk {
     /// Leaves what each sector reads as its only choice. One that failed changes nothing, but for the
     /// count of failures.
     fn sync(&mut self) -> Result<(), Failed>
-        ensures reads { honest → reads self.new ≡ reads self.old }
-        ensures choices { honest → OnOk result (choices self.new ≡ settled (reads self.old)) }
-        ensures choices_err { honest → OnErr result (choices self.new ≡ choices self.old) }
-        ensures time { honest → Elapses (moment self.old) (moment self.new) (images_since self.old) (images_since self.new) (IsImage (choices self.old)) }
+        ensures before { keeps self.new → keeps self.old }
+        ensures reads { reads self.new ≡ reads self.old }
+        ensures choices { OnOk result (choices self.new ≡ settled (reads self.old)) }
+        ensures choices_err { OnErr result (choices self.new ≡ choices self.old) }
+        ensures time { Elapses (moment self.old) (moment self.new) (images_since self.old) (images_since self.new) (IsImage (choices self.old)) }
         ensures count { sectors self.new ≡ sectors self.old }
         ensures failures { failures self.old ≤ failures self.new }
         ensures passed { OnOk result (failures self.new ≡ failures self.old) }
         ensures failed { OnErr result (HasRisen (failures self.old) (failures self.new)) };
 
     /// What a sector reads is one of its choices.
-    ghost reads_a_choice: { honest → (disk : Self) (n : ℕ) → Contains (choices disk n) (reads disk n) };
+    ghost reads_a_choice: { (disk : Self) (n : ℕ) → Contains (choices disk n) (reads disk n) };
 
     /// The images of this moment are among those since an earlier one.
-    ghost counts_now: { honest → (disk : Self) (t : ℕ) (image : ℕ → Sector) → t ≤ moment disk → IsImage (choices disk) image → images_since disk t image };
+    ghost counts_now: { (disk : Self) (t : ℕ) (image : ℕ → Sector) → t ≤ moment disk → IsImage (choices disk) image → images_since disk t image };
 
     /// Since this moment there is no other image than its own.
-    ghost only_now: { honest → (disk : Self) (image : ℕ → Sector) → images_since disk (moment disk) image → IsImage (choices disk) image };
+    ghost only_now: { (disk : Self) (image : ℕ → Sector) → images_since disk (moment disk) image → IsImage (choices disk) image };
 }

@@ -1,11 +1,14 @@
 //! A disk over a file.
 
-ghost use Rattle.std.specs.Prelude.{◌≡◌, ◌<◌, ◌≤◌, ◌*◌, ◌/◌, ◌-◌, ◌^◌, [], min, true, false, IfOk, OnOk, OnErr, IsErr, IsErrOf};
+ghost use Rattle.std.specs.Prelude.{◌≡◌, ◌≢◌, ◌⊎◌, ◌<◌, ◌≤◌, ◌*◌, ◌/◌, ◌-◌, ◌^◌, ◌==◌, ℕ, List, [], min, true, false, IfOk, OnOk, OnErr, IsErr, IsErrOf, length};
 ghost use Rattle.dc_base.specs.Failures.{HasRisen};
+ghost use Rattle.dc_sectors.specs.declared.sector.Sector.{Sector};
 ghost use Rattle.dc_sectors.specs.declared.sector.ReadFault.TheVariants.{Unreadable as CannotRead, Failed as ReadFailed};
-ghost use Rattle.dc_sectors.specs.File.{unknown, failed_once_more};
+ghost use Rattle.dc_sectors.specs.FileCalls.{value_of};
+ghost use Rattle.dc_sectors.specs.Disk.{Answers, Elapses, IsImage, put, added, settled};
+ghost use Rattle.dc_sectors.specs.File.{failed_once_more, IsOpened, is_all, IsReadOf, IsWriteOf, IsSyncOf, reads_in, choices_in, moment_in, images_in, KeepsRule};
 
-use crate::{Disk, Failed, ReadFault};
+use crate::{Disk, Failed, FileCalls, Logged, ReadFault, Start, Unknown};
 use dc_base::one_failure_more;
 use std::fs::{OpenFile, OpenOptions};
 use std::io;
@@ -16,40 +19,59 @@ use std::rt::Files;
 
 /// A disk over a file: sector n is the 512 bytes from byte 512 n on.
 ///
-/// Each call reads or writes one whole sector at its place, and every fault of the file is a failure:
-/// also a read that ends early and a write that can't be finished, so no half sector is taken for a whole
-/// one. A sector of a file is never `Unreadable`. After a sync that failed every call fails.
+/// A read, a write or a sync is one call of the file. Each fault of the file is a counted failure, also a short read and
+/// a short write. A sector of a file is never `Unreadable`. After a sync that failed every call fails.
+///
+/// That the file keeps the disk rule is a hypothesis on its calls so far: `KeepsRule` of specs/File.
 #[derive(Drop)]
-pub struct FileDisk<F: FileExt + OpenFile + Drop> {
-    file: F,
+pub struct DiskOver<C: FileCalls + Drop> {
+    file: C,
     count: u32,
     failures: u64,
     lost: bool,
 }
 
-impl<F: FileExt + OpenFile + Drop> Model for FileDisk<F> {
+/// A disk over a file of std that held `S.image` before its first call.
+pub type FileDiskFrom<F, S> = DiskOver<Logged<F, S>>;
+
+/// A disk over a file of std, for `main` to name.
+pub type FileDisk<F> = DiskOver<Logged<F, Unknown>>;
+
+impl<C: FileCalls + Drop> Model for DiskOver<C> {
     ghost use Rattle.dc_sectors.specs.File.{FileState};
 
     ghost Value = { FileState };
 
-    ghost view = { λ d. record { sectors = d.count; failures = d.failures; lost = d.lost } };
+    ghost view = { λ d. record { sectors = d.count; failures = d.failures; lost = d.lost; calls = C.history d.file } };
 }
 
-impl<F: FileExt + OpenFile + Drop> FileDisk<F> {
+impl<F: FileExt + OpenFile + Drop, S: Start> DiskOver<Logged<F, S>> {
     /// A disk over the file at that path, which has to be there and to be open to reading and writing.
-    pub fn open<R: Files<File = F>, P: AsPath>(rt: &R, path: P) -> io::Result<FileDisk<F>>
-        ensures { IfOk result (λ disk. (disk.failures ≡ 0) × (disk.lost ≡ false)) }
+    pub fn open<R: Files<File = F>, P: AsPath>(
+        rt: &R,
+        path: P,
+    ) -> io::Result<DiskOver<Logged<F, S>>>
+        ensures { IfOk result (λ disk. IsOpened [] disk) }
     {
-        FileDisk::new(OpenOptions::new().read(true).write(true).open(rt, path)?)
+        Self::new(OpenOptions::new().read(true).write(true).open(rt, path)?)
     }
 
     /// A disk over an open file, which has a sector for each 512 bytes of the file's length now, and at
     /// most `u32::MAX`. Bytes past the last whole sector are left alone.
-    pub fn new(file: F) -> io::Result<FileDisk<F>>
-        ensures { IfOk result (λ disk. (disk.failures ≡ 0) × (disk.lost ≡ false)) }
+    pub fn new(file: F) -> io::Result<DiskOver<Logged<F, S>>>
+        ensures { IfOk result (λ disk. IsOpened [] disk) }
     {
-        let count = whole_sectors(file.metadata()?.len());
-        Ok(FileDisk {
+        Self::over(Logged::new(file))
+    }
+}
+
+impl<C: FileCalls + Drop> DiskOver<C> {
+    /// A disk over a file, which has a sector for each 512 bytes of the file's length now, and at most `u32::MAX`.
+    pub fn over(mut file: C) -> io::Result<DiskOver<C>>
+        ensures { IfOk result (λ disk. IsOpened (C.history file) disk) }
+    {
+        let count = whole_sectors(file.measure()?);
+        Ok(DiskOver {
             file,
             count,
             failures: 0,
@@ -63,6 +85,78 @@ impl<F: FileExt + OpenFile + Drop> FileDisk<F> {
     {
         self.failures = one_failure_more(self.failures);
         Failed
+    }
+
+    fn unread(&mut self) -> ReadFault
+        ensures counted { self.new ≡ failed_once_more self.old }
+        ensures later { self.old.failures ≤ self.new.failures }
+        ensures fault { result ≡ ReadFailed }
+    {
+        let _ = self.fail();
+        ReadFault::Failed
+    }
+
+    fn read_sector(&mut self, n: u32) -> Result<[u8; 512], ReadFault>
+        ensures made { IsReadOf self.old n result self.new.calls }
+        ensures ok { OnOk result (self.new ≡ record self.old { calls = self.new.calls }) }
+        ensures err { OnErr result (self.new ≡ record (failed_once_more self.old) { calls = self.new.calls }) }
+        ensures readable { IsErrOf result CannotRead → ⊥ }
+        ensures lost { self.old.lost ≡ true → IsErr result }
+        ensures count { self.new.sectors ≡ self.old.sectors }
+        ensures failures { self.old.failures ≤ self.new.failures }
+        ensures passed { OnOk result (self.new.failures ≡ self.old.failures) }
+        ensures failed { IsErrOf result ReadFailed → HasRisen self.old.failures self.new.failures }
+    {
+        if self.lost {
+            return Err(self.unread());
+        }
+        let mut bytes = [0; 512];
+        let came = self.file.read_some(position(n), &mut bytes);
+        if !is_whole(&came) {
+            return Err(self.unread());
+        }
+        Ok(bytes)
+    }
+
+    fn write_sector(&mut self, n: u32, bytes: &[u8; 512]) -> Result<(), Failed>
+        ensures made { IsWriteOf self.old n bytes.now result self.new.calls }
+        ensures ok { OnOk result (self.new ≡ record self.old { calls = self.new.calls }) }
+        ensures err { OnErr result (self.new ≡ record (failed_once_more self.old) { calls = self.new.calls }) }
+        ensures lost { self.old.lost ≡ true → IsErr result }
+        ensures count { self.new.sectors ≡ self.old.sectors }
+        ensures failures { self.old.failures ≤ self.new.failures }
+        ensures passed { OnOk result (self.new.failures ≡ self.old.failures) }
+        ensures failed { OnErr result (HasRisen self.old.failures self.new.failures) }
+    {
+        let is_lost = self.lost;
+        if is_lost {
+            return Err(self.fail());
+        }
+        let taken = self.file.write_some(position(n), bytes);
+        if !is_whole(&taken) {
+            return Err(self.fail());
+        }
+        Ok(())
+    }
+
+    fn sync_sectors(&mut self) -> Result<(), Failed>
+        ensures made { IsSyncOf self.old result self.new.calls }
+        ensures ok { OnOk result (self.new ≡ record self.old { calls = self.new.calls }) }
+        ensures err { OnErr result (self.new ≡ record (failed_once_more self.old) { lost = true; calls = self.new.calls }) }
+        ensures lost { self.old.lost ≡ true → IsErr result }
+        ensures count { self.new.sectors ≡ self.old.sectors }
+        ensures failures { self.old.failures ≤ self.new.failures }
+        ensures passed { OnOk result (self.new.failures ≡ self.old.failures) }
+        ensures failed { OnErr result (HasRisen self.old.failures self.new.failures) }
+    {
+        if self.lost {
+            return Err(self.fail());
+        }
+        if self.file.sync_once().is_err() {
+            self.lost = true;
+            return Err(self.fail());
+        }
+        Ok(())
     }
 }
 
@@ -78,26 +172,39 @@ fn position(n: u32) -> u64
     512 * u64::from(n)
 }
 
-impl<F: FileExt + OpenFile + Drop> Disk for FileDisk<F> {
-    ghost honest = { ⊥ };
+// A call of the file took or gave all 512 bytes.
+fn is_whole(answer: &io::Result<usize>) -> bool
+    ensures { result ≡ is_all (value_of answer.now) }
+{
+    match answer {
+        Ok(n) => *n == 512,
+        Err(_) => false,
+    }
+}
+
+impl<C: FileCalls + Drop> Disk for DiskOver<C> {
+    ghost use Rattle.dc_sectors.specs.File.{events_of};
+    ghost use Rattle.dc_sectors.specs.Record.{reads_a_choice, counts_now, only_now};
+
+    ghost keeps = { λ disk. KeepsRule C.start disk.calls };
 
     ghost sectors = { λ disk. disk.sectors };
 
-    ghost reads = { λ _ _. unknown };
+    ghost reads = { reads_in C.start };
 
-    ghost choices = { λ _ _. [] };
+    ghost choices = { choices_in C.start };
 
-    ghost moment = { λ _. 0 };
+    ghost moment = { moment_in };
 
-    ghost images_since = { λ _ _ _. Unit {0} };
+    ghost images_since = { images_in C.start };
 
     ghost failures = { λ disk. disk.failures };
 
-    ghost reads_a_choice = { λ honest. absurd honest };
+    ghost reads_a_choice = { λ disk. reads_a_choice C.start (events_of disk.calls) };
 
-    ghost counts_now = { λ honest. absurd honest };
+    ghost counts_now = { λ disk. counts_now C.start (events_of disk.calls) };
 
-    ghost only_now = { λ honest. absurd honest };
+    ghost only_now = { λ disk. only_now C.start (events_of disk.calls) };
 
     fn count(&self) -> u32 {
         self.count
@@ -105,56 +212,64 @@ impl<F: FileExt + OpenFile + Drop> Disk for FileDisk<F> {
 
     fn read(&mut self, n: u32) -> Result<[u8; 512], ReadFault>
         requires { n < self.old.sectors }
-        ensures ok { OnOk result (self.new ≡ self.old) }
-        ensures err { OnErr result (self.new ≡ failed_once_more self.old) }
+        ensures made { IsReadOf self.old n result self.new.calls }
+        ensures any_start { (start : ℕ → Sector) → KeepsRule start self.new.calls → Answers (reads_in start self.old n) result }
+        ensures ok { OnOk result (self.new ≡ record self.old { calls = self.new.calls }) }
+        ensures err { OnErr result (self.new ≡ record (failed_once_more self.old) { calls = self.new.calls }) }
         ensures readable { IsErrOf result CannotRead → ⊥ }
         ensures lost { self.old.lost ≡ true → IsErr result }
+        ensures answer { KeepsRule C.start self.new.calls → Answers (reads_in C.start self.old n) result }
+        ensures before { KeepsRule C.start self.new.calls → KeepsRule C.start self.old.calls }
+        ensures reads { reads_in C.start self.new ≡ reads_in C.start self.old }
+        ensures choices { choices_in C.start self.new ≡ choices_in C.start self.old }
+        ensures time { Elapses (moment_in self.old) (moment_in self.new) (images_in C.start self.old) (images_in C.start self.new) (IsImage (choices_in C.start self.old)) }
         ensures count { self.new.sectors ≡ self.old.sectors }
         ensures failures { self.old.failures ≤ self.new.failures }
         ensures passed { OnOk result (self.new.failures ≡ self.old.failures) }
         ensures unreadable { IsErrOf result CannotRead → self.new.failures ≡ self.old.failures }
         ensures failed { IsErrOf result ReadFailed → HasRisen self.old.failures self.new.failures }
     {
-        let mut bytes = [0; 512];
-        if self.lost || self.file.read_exact_at(&mut bytes, position(n)).is_err() {
-            let _ = self.fail();
-            return Err(ReadFault::Failed);
-        }
-        Ok(bytes)
+        self.read_sector(n)
     }
 
     fn write(&mut self, n: u32, bytes: &[u8; 512]) -> Result<(), Failed>
         requires { n < self.old.sectors }
-        ensures ok { OnOk result (self.new ≡ self.old) }
-        ensures err { OnErr result (self.new ≡ failed_once_more self.old) }
+        ensures made { IsWriteOf self.old n bytes.now result self.new.calls }
+        ensures ok { OnOk result (self.new ≡ record self.old { calls = self.new.calls }) }
+        ensures err { OnErr result (self.new ≡ record (failed_once_more self.old) { calls = self.new.calls }) }
         ensures lost { self.old.lost ≡ true → IsErr result }
+        ensures before { KeepsRule C.start self.new.calls → KeepsRule C.start self.old.calls }
+        ensures reads { OnOk result (reads_in C.start self.new ≡ put (reads_in C.start self.old) n bytes.now) }
+        ensures elsewhere { (m : ℕ) → m ≢ n → reads_in C.start self.new m ≡ reads_in C.start self.old m }
+        ensures choices { OnOk result (choices_in C.start self.new ≡ added (choices_in C.start self.old) n bytes.now) }
+        ensures choices_err { OnErr result ((choices_in C.start self.new ≡ added (choices_in C.start self.old) n bytes.now) ⊎ (choices_in C.start self.new ≡ choices_in C.start self.old)) }
+        ensures time { Elapses (moment_in self.old) (moment_in self.new) (images_in C.start self.old) (images_in C.start self.new) (IsImage (added (choices_in C.start self.old) n bytes.now)) }
         ensures count { self.new.sectors ≡ self.old.sectors }
         ensures failures { self.old.failures ≤ self.new.failures }
         ensures passed { OnOk result (self.new.failures ≡ self.old.failures) }
         ensures failed { OnErr result (HasRisen self.old.failures self.new.failures) }
     {
-        if self.lost || self.file.write_all_at(bytes, position(n)).is_err() {
-            return Err(self.fail());
-        }
-        Ok(())
+        self.write_sector(n, bytes)
     }
 
     /// `sync_data` is enough: it makes all durable that a later read of the sectors needs, and leaves out
     /// the file's times alone, as the file keeps its length. After a sync that failed every call fails,
     /// since the system may then have dropped what was written, and say so only once.
     fn sync(&mut self) -> Result<(), Failed>
-        ensures ok { OnOk result (self.new ≡ self.old) }
-        ensures err { OnErr result (self.new ≡ record (failed_once_more self.old) { lost = true }) }
+        ensures made { IsSyncOf self.old result self.new.calls }
+        ensures ok { OnOk result (self.new ≡ record self.old { calls = self.new.calls }) }
+        ensures err { OnErr result (self.new ≡ record (failed_once_more self.old) { lost = true; calls = self.new.calls }) }
         ensures lost { self.old.lost ≡ true → IsErr result }
+        ensures before { KeepsRule C.start self.new.calls → KeepsRule C.start self.old.calls }
+        ensures reads { reads_in C.start self.new ≡ reads_in C.start self.old }
+        ensures choices { OnOk result (choices_in C.start self.new ≡ settled (reads_in C.start self.old)) }
+        ensures choices_err { OnErr result (choices_in C.start self.new ≡ choices_in C.start self.old) }
+        ensures time { Elapses (moment_in self.old) (moment_in self.new) (images_in C.start self.old) (images_in C.start self.new) (IsImage (choices_in C.start self.old)) }
         ensures count { self.new.sectors ≡ self.old.sectors }
         ensures failures { self.old.failures ≤ self.new.failures }
         ensures passed { OnOk result (self.new.failures ≡ self.old.failures) }
         ensures failed { OnErr result (HasRisen self.old.failures self.new.failures) }
     {
-        if self.lost || self.file.sync_data().is_err() {
-            self.lost = true;
-            return Err(self.fail());
-        }
-        Ok(())
+        self.sync_sectors()
     }
 }

@@ -5,33 +5,43 @@
 //! unreadable, each sector by itself; what is synced stays. A write that failed counts as written.
 //!
 //! [`Disk`] is that rule as a contract: what each sector reads now, its choices after a stop at this
-//! moment, the images that a stop at any earlier moment might have left, and a count of failures. All but
-//! the count is said of an honest disk. A stop may come within a call: within a write the choices are
-//! those after it, within a sync those before it.
+//! moment, the images that a stop at any earlier moment might have left, and a count of failures. What a read
+//! returns is said where the disk `keeps` the rule: where all that its reads returned until then is what the rule
+//! says. All else needs no premise. A stop may come within a call: within a write the choices are those after it,
+//! within a sync those before it.
 //!
-//! [`MemoryDisk`] is an honest disk. Its choices and images are read off a record of its writes and
-//! syncs, it fails where it is told to, and its stop leaves the image that was picked: one of those that
+//! [`MemoryDisk`] always keeps the rule. Its choices and images are read off a record of its writes and
+//! syncs, it fails where a test says so, and its stop leaves the image that was picked: one of those that
 //! the rule allows, and the only one from then on.
 //!
-//! [`FileDisk`] is a disk over a file. That it is honest is a premise: what a file keeps no contract can
-//! say. It reads and writes whole sectors, each fault of its file is a counted failure, and after a sync
-//! that failed every call fails.
+//! [`FileDisk`] is a disk over a file. Its contract says which call of the file each of its calls makes, and what it
+//! returns by that call's result: the file's calls are in a history that only clauses read. No contract can say what a
+//! file keeps, so the disk rule is a hypothesis on that history, `KeepsRule` of specs/File: that is its `keeps`. What
+//! the file held before the first call is the image of a [`Start`], which no code reads. Each fault of the file is a
+//! counted failure, and after a sync that failed every call fails.
 //!
 //! Callers state what they leave for every moment, and prove it from the trait alone. The lemmas for that are
 //! `proofs/Moments` on runs of calls and `specs/Images` on choices.
 #![tactic(auto)]
 
+mod call_log;
 mod calls;
 mod device;
 mod event;
 mod file;
+mod file_calls;
+mod logged;
 mod memory;
 mod pick;
 mod scan;
 mod sector;
+mod start;
 
 pub use device::Disk;
-pub use file::FileDisk;
+pub use file::{DiskOver, FileDisk, FileDiskFrom};
+pub use file_calls::FileCalls;
+pub use logged::Logged;
 pub use memory::MemoryDisk;
 pub use pick::Pick;
 pub use sector::{Failed, ReadFault, Sector};
+pub use start::{Start, Unknown};

@@ -16,8 +16,8 @@ use dc_base::NoMemory;
 use std::alloc::Allocator;
 use std::marker::Model;
 
-/// A disk in memory, which records each write and each sync, fails where it is told to, and can be
-/// stopped: an honest disk for tests and demonstrations.
+/// A disk in memory, for tests and demonstrations. It keeps the disk rule, records each write and each sync, fails
+/// where a test says so, and can be stopped.
 #[derive(Drop)]
 pub struct MemoryDisk<A: Allocator + Copy> {
     start: Vec<Sector, A>,
@@ -28,11 +28,17 @@ pub struct MemoryDisk<A: Allocator + Copy> {
 }
 
 impl<A: Allocator + Copy> Model for MemoryDisk<A> {
+    ghost use Rattle.std.specs.Prelude.{vec_capacity};
     ghost use Rattle.dc_sectors.specs.Memory.{Memory, IsKept};
 
     ghost Value = { Memory };
 
-    ghost view = { λ d. record { start = d.start.items; events = d.events.items; calls = d.calls } };
+    ghost view = { λ d. record {
+      start = d.start.items;
+      events = d.events.items;
+      capacity = vec_capacity d.events;
+      calls = d.calls;
+    } };
 
     ghost invariant = { λ d. IsKept d.start.items d.reads.items d.writes.items d.events.items };
 }
@@ -76,9 +82,9 @@ impl<A: Allocator + Copy> MemoryDisk<A> {
         self.calls.made
     }
 
-    /// An equal disk, which goes on by itself.
+    /// A copy of the disk, which shares nothing with it.
     pub fn copy(&self) -> Result<MemoryDisk<A>, NoMemory>
-        ensures { IfOk result (λ disk. disk ≡ self.now) }
+        ensures { IfOk result (λ disk. disk ≡ record self.now { capacity = disk.capacity }) }
     {
         let alloc = *self.events.allocator();
         Ok(MemoryDisk {
@@ -114,7 +120,12 @@ impl<A: Allocator + Copy> MemoryDisk<A> {
         ensures picked { reads_of self.new ≡ image_picked self.old picks.now }
         ensures choice { IsImage (choices_of self.old) (reads_of self.new) }
         ensures only { choices_of self.new ≡ settled (reads_of self.new) }
-        ensures rest { self.new ≡ record { start = self.new.start; events = []; calls = record self.old.calls { fuse = None; fails_at = None } } }
+        ensures rest { self.new ≡ record {
+          start = self.new.start;
+          events = [];
+          capacity = self.new.capacity;
+          calls = record self.old.calls { fuse = None; fails_at = None };
+        } }
         ensures count { length self.new.start ≡ length self.old.start }
     {
         pick_each(
@@ -155,7 +166,7 @@ fn pick_each(
 impl<A: Allocator + Copy> Disk for MemoryDisk<A> {
     ghost use Rattle.dc_sectors.specs.Record.{reads_a_choice, counts_now, only_now};
 
-    ghost honest = { Unit {0} };
+    ghost keeps = { λ _. Unit {0} };
 
     ghost sectors = { λ disk. length disk.start };
 
@@ -169,11 +180,11 @@ impl<A: Allocator + Copy> Disk for MemoryDisk<A> {
 
     ghost failures = { λ disk. disk.calls.failed };
 
-    ghost reads_a_choice = { λ _ disk. reads_a_choice (image_of disk.start) disk.events };
+    ghost reads_a_choice = { λ disk. reads_a_choice (image_of disk.start) disk.events };
 
-    ghost counts_now = { λ _ disk. counts_now (image_of disk.start) disk.events };
+    ghost counts_now = { λ disk. counts_now (image_of disk.start) disk.events };
 
-    ghost only_now = { λ _ disk. only_now (image_of disk.start) disk.events };
+    ghost only_now = { λ disk. only_now (image_of disk.start) disk.events };
 
     fn count(&self) -> u32 {
         self.reads.len() as u32

@@ -115,6 +115,8 @@ impl<A: Allocator> Bus for SimulatedBus<A> {
     // It is never lost.
     ghost lost = { λ _. false };
 
+    ghost asks = { λ old request answer new. Hears request old new answer };
+
     fn is_lost(&self) -> bool {
         false
     }

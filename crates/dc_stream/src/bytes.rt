@@ -1,7 +1,7 @@
 //! Bytes in memory, as a source and as a sink.
 
 ghost use Rattle.std.specs.Prelude.{◌≡◌, ◌+◌, ◌-◌, ◌^◌, ◌<◌, ◌≤◌, min, ◌++◌, [], length, take, drop, Some, Ok, IfOk, OnOk, OnErr};
-ghost use Rattle.dc_stream.specs.Stream.{Takes, IsAtEnd};
+ghost use Rattle.dc_stream.specs.Stream.{Takes, PutsFront, IsAtEnd};
 
 use crate::stream::{IoFault, Sink, Source};
 use dc_base::{NoMemory, one_failure_more};
@@ -89,11 +89,13 @@ impl<A: Allocator> Sink for Bytes<A> {
 
     ghost breaks = { λ old _ new. new ≡ record old { failures = min (old.failures + 1) (2 ^ 64 - 1) } };
 
+    #[tactic(auto, using(crate::proofs::Pieces::told))]
     fn put(&mut self, bytes: &[u8]) -> Result<(), IoFault>
         ensures ok { OnOk result (self.new ≡ record self.old { bytes = self.old.bytes ++ bytes.now }) }
 
         // A failed put adds nothing, and is counted.
         ensures err { OnErr result (self.new ≡ record self.old { failures = min (self.old.failures + 1) (2 ^ 64 - 1) }) }
+        ensures front { OnErr result (PutsFront (Some self.old.bytes) (Some self.new.bytes) bytes.now) }
     {
         if self.items.extend_from_slice(bytes).is_err() {
             self.failures = one_failure_more(self.failures);

@@ -63,7 +63,7 @@ impl<const N: usize> Sink for FixedSink<N> {
 
     ghost breaks = { λ old bytes new. (N < length old.bytes + length bytes) × (new ≡ record old { failures = min (old.failures + 1) (2 ^ 64 - 1) }) };
 
-    #[tactic(auto, using(crate::proofs::Pieces::nothing_put))]
+    #[tactic(auto, using(crate::proofs::Pieces::told))]
     fn put(&mut self, bytes: &[u8]) -> Result<(), IoFault> {
         if bytes.len() > N - self.len {
             self.failures = one_failure_more(self.failures);

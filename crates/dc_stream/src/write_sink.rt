@@ -3,6 +3,7 @@
 ghost use Rattle.std.specs.Prelude.{◌≡◌, ◌≤◌, None, length, IfOk, OnOk, OnErr};
 ghost use Rattle.std.specs.Io.KnownBytes.{Keeps, Appends};
 ghost use Rattle.dc_base.specs.Failures.{HasRisen};
+ghost use Rattle.dc_stream.specs.Stream.{PutsFront};
 
 use crate::stream::{IoFault, Sink};
 use dc_base::one_failure_more;
@@ -48,8 +49,10 @@ impl<W: Write + Drop> Sink for WriteSink<W> {
     ghost put_failures = { λ s. s.failures };
 
     // The last clause says of the writer what a sink doesn't tell.
+    #[tactic(auto, using(crate::proofs::Pieces::told))]
     fn put(&mut self, bytes: &[u8]) -> Result<(), IoFault>
         ensures well { OnOk result (self.new.failures ≡ self.old.failures) }
+        ensures front { OnErr result (PutsFront None None bytes.now) }
         ensures failed { OnErr result (HasRisen self.old.failures self.new.failures) }
         ensures writer { OnOk result (Appends (W.contents self.old.writer) (W.contents self.new.writer) bytes.now) }
     {

@@ -4,6 +4,8 @@ pub mod Cuts
 pub mod Feeds
 -- the lines of an input, one by one
 pub mod Inputs
+-- a prefix of one piece of a text is one of the text
+mod Prefixes
 -- a line is read as one thing
 pub mod Readings
 -- the text of records

@@ -8,5 +8,5 @@ use Rattle.dc_upload.specs.Register.{meter_lines}
 -- the meters by identity as the office is shown them, how many readings there are, and what the state is counted as
 unfoldable pub register_text : State → List ℕ
 register_text s =
-    meter_lines s ++ codes "READINGS" ++ number_word (length s.readings)
-    ++ codes "\nSIZE" ++ number_word (size_of s) ++ codes "\n"
+    meter_lines s
+    ++ (codes "READINGS" ++ (number_word (length s.readings) ++ (codes "\nSIZE" ++ (number_word (size_of s) ++ codes "\n"))))

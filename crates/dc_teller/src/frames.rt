@@ -63,9 +63,9 @@ fn put_content<W: Sink>(ci: u8, body: &[u8], out: &mut W) -> Result<bool, IoFaul
 }
 
 // Writes the line of a short frame.
-#[tactic(auto, using(dc_stream::proofs::Pieces::written), unfolding(crate::specs::Frames::short_line))]
+#[tactic(auto, using(dc_stream::proofs::Pieces::joined), unfolding(crate::specs::Frames::short_line))]
 fn put_short<W: Sink>(control: u8, address: u8, out: &mut W) -> Result<(), IoFault>
-    ensures wrote { Wrote W.written W.put_failures result out.old out.new (short_line control address) }
+    ensures { Wrote W.written W.put_failures result out.old out.new (short_line control address) }
 {
     out.put(b"SHORT")?;
     put_byte_word(out, control)?;
@@ -74,7 +74,7 @@ fn put_short<W: Sink>(control: u8, address: u8, out: &mut W) -> Result<(), IoFau
 }
 
 // Writes the line of a long frame.
-#[tactic(auto, using(dc_stream::proofs::Pieces::written), unfolding(crate::specs::Frames::long_line))]
+#[tactic(auto, using(dc_stream::proofs::Pieces::joined), unfolding(crate::specs::Frames::long_line))]
 fn put_long<W: Sink>(
     control: u8,
     address: u8,
@@ -82,7 +82,7 @@ fn put_long<W: Sink>(
     body: &[u8],
     out: &mut W,
 ) -> Result<(), IoFault>
-    ensures wrote { Wrote W.written W.put_failures result out.old out.new (long_line control address ci body.now) }
+    ensures { Wrote W.written W.put_failures result out.old out.new (long_line control address ci body.now) }
 {
     out.put(b"LONG")?;
     put_byte_word(out, control)?;

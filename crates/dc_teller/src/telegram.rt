@@ -15,7 +15,7 @@ use dc_text::{put_hex_word, put_number_word};
 // Writes the line of the meter.
 #[tactic(auto, using(dc_stream::proofs::Pieces::written), unfolding(crate::specs::Telegram::meter_line))]
 fn put_meter<W: Sink>(header: &Header, out: &mut W) -> Result<(), IoFault>
-    ensures wrote { Wrote W.written W.put_failures result out.old out.new (meter_line header.now) }
+    ensures { Wrote W.written W.put_failures result out.old out.new (meter_line header.now) }
 {
     out.put(b"METER ")?;
     out.put(&header.identity.text())?;
@@ -27,7 +27,7 @@ fn put_meter<W: Sink>(header: &Header, out: &mut W) -> Result<(), IoFault>
 // Writes the numbers of what a record is about.
 #[tactic(auto, using(dc_stream::proofs::Pieces::written), unfolding(crate::specs::Telegram::record_words))]
 fn put_numbers<W: Sink>(found: &Record<'_>, out: &mut W) -> Result<(), IoFault>
-    ensures wrote { Wrote W.written W.put_failures result out.old out.new (record_words (view found.now)) }
+    ensures { Wrote W.written W.put_failures result out.old out.new (record_words (view found.now)) }
 {
     put_number_word(out, found.storage)?;
     put_number_word(out, u64::from(found.tariff))?;
@@ -38,7 +38,7 @@ fn put_numbers<W: Sink>(found: &Record<'_>, out: &mut W) -> Result<(), IoFault>
 // Writes the line of a record.
 #[tactic(auto, using(dc_stream::proofs::Pieces::written), unfolding(crate::specs::Telegram::record_line))]
 fn put_record<W: Sink>(found: &Record<'_>, out: &mut W) -> Result<(), IoFault>
-    ensures wrote { Wrote W.written W.put_failures result out.old out.new (record_line (view found.now)) }
+    ensures { Wrote W.written W.put_failures result out.old out.new (record_line (view found.now)) }
 {
     out.put(b"RECORD")?;
     put_numbers(found, out)?;
@@ -51,7 +51,7 @@ fn put_record<W: Sink>(found: &Record<'_>, out: &mut W) -> Result<(), IoFault>
 // Writes the lines of records.
 #[tactic(auto, using(dc_stream::proofs::Pieces::written, crate::proofs::Records::records))]
 fn put_records<W: Sink>(records: Records<'_>, out: &mut W) -> Result<(), IoFault>
-    ensures wrote { Wrote W.written W.put_failures result out.old out.new (record_lines records.entry) }
+    ensures { Wrote W.written W.put_failures result out.old out.new (record_lines records.entry) }
 {
     'records: for found in records {
         put_record(&found, out)?;
@@ -62,7 +62,7 @@ fn put_records<W: Sink>(records: Records<'_>, out: &mut W) -> Result<(), IoFault
 // Writes the line of a body's end.
 #[tactic(auto, using(dc_stream::proofs::Pieces::written))]
 fn put_end<W: Sink>(end: End<'_>, out: &mut W) -> Result<(), IoFault>
-    ensures wrote { Wrote W.written W.put_failures result out.old out.new (end_line (ending end.entry)) }
+    ensures { Wrote W.written W.put_failures result out.old out.new (end_line (ending end.entry)) }
 {
     match end {
         End::Plain => out.put(b"END\n"),
@@ -82,7 +82,7 @@ fn put_end<W: Sink>(end: End<'_>, out: &mut W) -> Result<(), IoFault>
 /// Writes the lines of a telegram.
 #[tactic(auto, using(dc_stream::proofs::Pieces::written), unfolding(crate::specs::Telegram::telegram_text))]
 pub fn put_telegram<W: Sink>(telegram: &Telegram<'_>, out: &mut W) -> Result<(), IoFault>
-    ensures wrote { Wrote W.written W.put_failures result out.old out.new (telegram_text (parsed telegram.now)) }
+    ensures { Wrote W.written W.put_failures result out.old out.new (telegram_text (parsed telegram.now)) }
 {
     put_meter(&telegram.header(), out)?;
     put_records(telegram.records(), out)?;

@@ -1,5 +1,5 @@
 -- Bytes in hex digits, one byte more.
-use Rattle.std.proofs.Common.{◌≡◌, ℕ, ◌+◌, ◌*◌, ◌/◌, ◌%◌, ◌<◌, ◌∙◌, Option, Some, List, [], ◌∷◌, ◌++◌, length, take, get_or, refl, ap, arith, append-nil}
+use Rattle.std.proofs.Common.{◌≡◌, ℕ, ◌+◌, ◌*◌, ◌/◌, ◌%◌, ◌<◌, ◌∙◌, Option, Some, List, [], ◌∷◌, ◌++◌, length, take, drop, get_or, refl, sym, ap, arith, append-nil}
 use Rattle.std.proofs.lemmas.Grind.{common_steps}
 use Rattle.std.proofs.lemmas.List.Concat.{flat_map-append}
 use Rattle.std.proofs.lemmas.Bool.Decides.{nat_tests}
@@ -18,6 +18,12 @@ unfolding upper_hex
 hex_of_one_more bytes i below =
     let more : take (i + 1) bytes ≡ take i bytes ++ (get_or bytes i 0 ∷ []) = grind (arith, common_steps) in
     rw (more, flat_map-append upper_pair (take i bytes) (get_or bytes i 0 ∷ [])) (ap (λ (t : List ℕ). upper_hex (take i bytes) ++ t) (append-nil (upper_pair (get_or bytes i 0))))
+
+pub hex_of_rest : (bytes : List ℕ) (i : ℕ) → i < length bytes → upper_hex (take i bytes) ++ (upper_pair (get_or bytes i 0) ++ upper_hex (drop (i + 1) bytes)) ≡ upper_hex bytes
+unfolding upper_hex
+hex_of_rest bytes i below =
+    let parts : bytes ≡ take i bytes ++ (get_or bytes i 0 ∷ drop (i + 1) bytes) = grind (arith, common_steps) in
+    sym (ap upper_hex parts ∙ flat_map-append upper_pair (take i bytes) (get_or bytes i 0 ∷ drop (i + 1) bytes))
 
 pub word_of_none : (bytes : List ℕ) → length bytes ≡ 0 → hex_word bytes ≡ codes " -"
 unfolding hex_word

@@ -1,8 +1,8 @@
 //! A sink that goes on to its writer in large pieces.
 
-ghost use Rattle.std.specs.Prelude.{◌≡◌, ◌+◌, ◌≤◌, ◌↔◌, ◌++◌, [], length, take, IsTrue, IfOk, OnErr};
+ghost use Rattle.std.specs.Prelude.{◌≡◌, ◌+◌, ◌≤◌, ◌↔◌, ◌++◌, [], length, take, IsTrue, IfOk};
 ghost use Rattle.std.specs.Io.KnownBytes.{append_known};
-ghost use Rattle.dc_stream.specs.Stream.{PutsFront, Wrote};
+ghost use Rattle.dc_stream.specs.Stream.{Wrote};
 
 use dc_base::NoMemory;
 use dc_stream::{IoFault, Sink, room};
@@ -50,7 +50,6 @@ impl<W: Sink + Drop, A: Allocator> Buffered<W, A> {
     /// Puts what waits.
     pub fn flush(&mut self) -> Result<(), IoFault>
         ensures wrote { Wrote W.written W.put_failures result self.old.writer self.new.writer self.old.held }
-        ensures front { OnErr result (PutsFront (W.written self.old.writer) (W.written self.new.writer) self.old.held) }
         ensures empty { self.new.held ≡ [] }
     {
         let (waiting, _) = self.room.as_slice().split_at(self.used);
@@ -61,8 +60,7 @@ impl<W: Sink + Drop, A: Allocator> Buffered<W, A> {
 
     /// Puts what waits, and gives the writer back with the answer.
     pub fn finish(self) -> (W, Result<(), IoFault>)
-        ensures wrote { Wrote W.written W.put_failures result.1 self.writer result.0 self.held }
-        ensures front { OnErr result.1 (PutsFront (W.written self.writer) (W.written result.0) self.held) }
+        ensures { Wrote W.written W.put_failures result.1 self.writer result.0 self.held }
     {
         let mut all = self;
         let put = all.flush();
@@ -90,10 +88,9 @@ impl<W: Sink + Drop, A: Allocator> Buffered<W, A> {
 
     // Puts what waits, and then a piece that had no place behind it.
     #[cold]
-    #[tactic(auto, using(dc_stream::proofs::Pieces::written, crate::proofs::Fronts::fronts))]
+    #[tactic(auto, using(dc_stream::proofs::Pieces::written))]
     fn put_past(&mut self, piece: &[u8]) -> Result<(), IoFault>
-        ensures wrote { Wrote (λ b. append_known (W.written b.writer) b.held) (λ b. W.put_failures b.writer) result self.old self.new piece.now }
-        ensures front { OnErr result (PutsFront (append_known (W.written self.old.writer) self.old.held) (append_known (W.written self.new.writer) self.new.held) piece.now) }
+        ensures { Wrote (λ b. append_known (W.written b.writer) b.held) (λ b. W.put_failures b.writer) result self.old self.new piece.now }
     {
         self.flush()?;
         if self.has_place(piece.len()) {

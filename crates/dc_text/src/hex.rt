@@ -79,7 +79,7 @@ pub fn put_byte<W: Sink>(out: &mut W, byte: u8) -> Result<(), IoFault>
 }
 
 /// Puts bytes in capital hex digits.
-#[tactic(auto, using(dc_stream::proofs::Pieces::written, crate::proofs::Digits::digits))]
+#[tactic(auto, using(dc_stream::proofs::Pieces::joined, crate::proofs::Digits::digits))]
 pub fn put_hex<W: Sink>(out: &mut W, bytes: &[u8]) -> Result<(), IoFault>
     ensures { Wrote W.written W.put_failures result out.old out.new (upper_hex bytes.now) }
 {

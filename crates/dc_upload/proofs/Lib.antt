@@ -2,3 +2,5 @@
 pub mod Texts
 -- the codes against a command are its faults
 pub mod Verdicts
+-- a prefix of one piece of a text is one of the text
+mod Prefixes

@@ -1,6 +1,7 @@
 -- The replies to the office's lines (this product): words with single spaces, each line ended by LF.
-use Rattle.std.specs.Prelude.{◌≡◌, ℕ, List, [], ◌++◌, codes, length, flat_map}
+use Rattle.std.specs.Prelude.{◌≡◌, ℕ, List, [], ◌++◌, codes, length, flat_map, Option}
 use Rattle.dc_base.specs.Failures.{HasRisen}
+use Rattle.dc_stream.specs.Stream.{PutsFront}
 use Rattle.dc_units.specs.Date.{Day}
 use Rattle.dc_changes.specs.State.{State, Held}
 use Rattle.dc_report.specs.DueTable.{due_rows, due_text}
@@ -81,7 +82,7 @@ TakesMemory (Window from count) = ⊥
 TakesMemory Register = ⊥
 TakesMemory (Report date) = Unit {0}
 
--- Where memory was refused, the writer is as it was; else a write failed.
-abbrev pub Tells : {W : Type 0} → (W → ℕ) → OfficeLine → W → W → ReplyFault → Type 0
-Tells failures line old new NoMemory = TakesMemory line × (new ≡ old)
-Tells failures line old new Write = HasRisen (failures old) (failures new)
+-- Where memory was refused, the writer is as it was; else a write failed, and a prefix of the reply is written.
+abbrev pub Tells : {W : Type 0} → (W → Option (List ℕ)) → (W → ℕ) → OfficeLine → List ℕ → W → W → ReplyFault → Type 0
+Tells written failures line text old new NoMemory = TakesMemory line × (new ≡ old)
+Tells written failures line text old new Write = PutsFront (written old) (written new) text × HasRisen (failures old) (failures new)

@@ -16,11 +16,13 @@ abbrev pub part_lines : ℕ → List PartRow → List ℕ
 part_lines place [] = []
 part_lines place (part ∷ parts) = part_line place part ++ part_lines (place + 1) parts
 
--- `READING serial ident flat parts`, the last being how many parts it has
+-- ` ident flat parts`: whose reading it is, and how many parts it has
+unfoldable pub owner_words : ReadingRow → List ℕ
+owner_words reading = codes " " ++ text_of reading.meter ++ codes " " ++ reading.flat ++ number_word (length reading.parts)
+
+-- `READING serial ident flat parts`
 unfoldable pub reading_line : ReadingRow → List ℕ
-reading_line reading =
-    codes "READING" ++ number_word reading.serial ++ codes " " ++ text_of reading.meter ++ codes " " ++ reading.flat
-    ++ number_word (length reading.parts) ++ codes "\n"
+reading_line reading = codes "READING" ++ number_word reading.serial ++ owner_words reading ++ codes "\n"
 
 -- that line, and its parts from 1 on
 unfoldable pub reading_lines : ReadingRow → List ℕ

@@ -20,8 +20,8 @@ use std::alloc::Allocator;
 /// table, which is made before anything is written; no other line takes any, and a WINDOW costs what it shows.
 ///
 /// # Errors
-/// NoMemory where memory was refused for a REPORT's table; nothing was written. Write where a write failed; how much of
-/// the reply was written then isn't known.
+/// NoMemory where memory was refused for a REPORT's table; nothing was written. Write where a write failed; a prefix of
+/// the reply is written then.
 #[tactic(auto, unfolding(crate::specs::Reply::reply_text))]
 pub fn write_reply<A: Allocator + Copy, W: Sink>(
     alloc: A,
@@ -33,7 +33,7 @@ pub fn write_reply<A: Allocator + Copy, W: Sink>(
     requires answered { IfDo (verdict_of house.now line.now) (λ _. ⊥) }
     ensures text { OnOk result (Puts (W.written out.old) (W.written out.new) (reply_text house.now line.now)) }
     ensures well { OnOk result (W.put_failures out.new ≡ W.put_failures out.old) }
-    ensures fault { IfErr result (λ fault. Tells W.put_failures line.now out.old out.new fault) }
+    ensures fault { IfErr result (λ fault. Tells W.written W.put_failures line.now (reply_text house.now line.now) out.old out.new fault) }
 {
     match judge(house, line) {
         Verdict::Repeat => Ok(write_done(house.last_number(), out)?),
@@ -56,7 +56,7 @@ fn write_done<W: Sink>(number: u64, out: &mut W) -> Result<(), IoFault>
 /// Writes `ERR`, the code's word and its number, if it has one.
 ///
 /// # Errors
-/// A write failed; how much of the line was written then isn't known.
+/// A write failed; a prefix of the line is written then.
 #[tactic(auto, using(dc_stream::proofs::Pieces::written), unfolding(crate::specs::Reply::refusal_line))]
 pub fn write_refusal<W: Sink>(code: Code, out: &mut W) -> Result<(), IoFault>
     ensures { Wrote W.written W.put_failures result out.old out.new (refusal_line code) }
@@ -85,7 +85,7 @@ fn write_shown<A: Allocator + Copy, W: Sink>(
 ) -> Result<(), ReplyFault>
     ensures text { OnOk result (Puts (W.written out.old) (W.written out.new) (shown_text line.now house.now.state)) }
     ensures well { OnOk result (W.put_failures out.new ≡ W.put_failures out.old) }
-    ensures fault { IfErr result (λ fault. Tells W.put_failures line.now out.old out.new fault) }
+    ensures fault { IfErr result (λ fault. Tells W.written W.put_failures line.now (shown_text line.now house.now.state) out.old out.new fault) }
 {
     match *line {
         OfficeLine::Command(_) => {}
@@ -117,7 +117,7 @@ fn write_report<A: Allocator + Copy, W: Sink>(
 ) -> Result<(), ReplyFault>
     ensures text { OnOk result (Puts (W.written out.old) (W.written out.new) (report_text date house.now.state)) }
     ensures well { OnOk result (W.put_failures out.new ≡ W.put_failures out.old) }
-    ensures fault { IfErr result (λ fault. Tells W.put_failures (OfficeLine.Report date) out.old out.new fault) }
+    ensures fault { IfErr result (λ fault. Tells W.written W.put_failures (OfficeLine.Report date) (report_text date house.now.state) out.old out.new fault) }
 {
     let table = counted_due_table(alloc, house, date)?;
     Ok(put_table(&table.bytes, table.rows, out)?)

@@ -4,7 +4,7 @@ ghost use Rattle.std.specs.Prelude.{flat_map, take};
 ghost use Rattle.std.specs.VecDeque.Iter.{deque_iter_rest};
 ghost use Rattle.dc_stream.specs.Stream.{Wrote};
 ghost use Rattle.dc_upload.specs.Reply.{window_text};
-ghost use Rattle.dc_upload.specs.Window.{part_line, part_lines, reading_line, reading_lines};
+ghost use Rattle.dc_upload.specs.Window.{owner_words, part_line, part_lines, reading_line, reading_lines};
 
 use crate::reply::write_end;
 use crate::words::put_word;
@@ -64,10 +64,18 @@ fn write_head<A: Allocator, W: Sink>(reading: &Reading<A>, out: &mut W) -> Resul
 {
     out.put(b"READING")?;
     put_number_word(out, reading.serial())?;
+    put_owner(out, reading)?;
+    out.put(b"\n")
+}
+
+// The meter, its flat, and how many parts the reading has.
+#[tactic(auto, using(dc_stream::proofs::Pieces::written), unfolding(crate::specs::Window::owner_words))]
+fn put_owner<A: Allocator, W: Sink>(out: &mut W, reading: &Reading<A>) -> Result<(), IoFault>
+    ensures { Wrote W.written W.put_failures result out.old out.new (owner_words reading.now) }
+{
     put_word(out, &reading.meter().text())?;
     put_word(out, reading.flat().as_slice())?;
-    put_number_word(out, reading.parts().len() as u64)?;
-    out.put(b"\n")
+    put_number_word(out, reading.parts().len() as u64)
 }
 
 #[tactic(auto, using(dc_stream::proofs::Pieces::written))]

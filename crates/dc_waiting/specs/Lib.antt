@@ -6,3 +6,5 @@ pub mod Lines
 pub mod Waiting
 -- a telegram that is taken into the register and into what waits
 pub mod Taking
+-- when what waits can't be written
+pub mod Writing

@@ -1,6 +1,6 @@
 //! The write of a commit.
 
-ghost use Rattle.std.specs.Prelude.{◌≡◌, ◌⊎◌, ◌≤◌, ◌<◌, ◌+◌, ◌-◌, ◌^◌, ℕ, List, true, false, length, IsErrOf, OnOk};
+ghost use Rattle.std.specs.Prelude.{◌≡◌, ◌⊎◌, ◌≤◌, ◌<◌, List, true, false, length, IsErrOf, OnOk};
 ghost use Rattle.dc_base.specs.Failures.{HasRisen};
 ghost use Rattle.dc_sectors.specs.Disk.{LeavesOnly};
 ghost use Rattle.dc_changes.specs.declared.change.Change.{Change};
@@ -9,8 +9,9 @@ ghost use Rattle.dc_changes.specs.History.{after, AcceptsAll};
 ghost use Rattle.dc_changes.specs.Spelled.{SpellsChanges};
 ghost use Rattle.dc_recovery.specs.Halves.{half_len_of, budget_of};
 ghost use Rattle.dc_recovery.specs.Stands.{StandsForEither};
-ghost use Rattle.dc_recovery.specs.Store.{Keeps};
+ghost use Rattle.dc_recovery.specs.Store.{Fits, Keeps};
 ghost use Rattle.dc_recovery.specs.declared.fault.StoreFault.TheVariants.{Device, Worn, Stopped};
+ghost use Rattle.dc_waiting.specs.Writing.{IsWornFor};
 
 use crate::waiting::Waiting;
 use dc_meters::House;
@@ -32,19 +33,25 @@ pub fn write_waiting<D: Disk + Drop, A: Allocator + Copy>(
     requires budget { house.now.budget ≡ budget_of (half_len_of (D.sectors store.old.disk)) }
     ensures stopped { IsErrOf result Stopped → store.old.is_stopped ≡ true }
     ensures running { IsErrOf result Stopped ⊎ (store.old.is_stopped ≡ false) }
-    ensures worn { IsErrOf result Worn → (2 ^ 64 - 1 ≤ store.old.last + 1) ⊎ (store.old.root.generation ≡ 2 ^ 64 - 1) }
+    ensures worn { IsErrOf result Worn
+        → IsWornFor (D.sectors store.old.disk) store.old (length waiting.now.bytes) }
+
+    // What fits in the half is one group more, under the same root.
+    ensures one_group { Fits (D.sectors store.old.disk) store.old (length waiting.now.bytes)
+        → store.new.root ≡ store.old.root }
     ensures unchanged { IsErrOf result Stopped ⊎ IsErrOf result Worn → store.new ≡ store.old }
     ensures device { IsErrOf result Device → HasRisen (D.failures store.old.disk) (D.failures store.new.disk) }
     ensures stops { IsErrOf result Device → store.new.is_stopped ≡ true }
     ensures goes_on { OnOk result (store.new.is_stopped ≡ false) }
 
-    // The register is what the store keeps, after what waits. Of an honest disk: the store keeps that then, and a stop at
+    // The register is what the store keeps, after what waits. The store keeps that then, and a stop at
     // any moment leaves an image that stands for what was kept before or for that.
-    ensures kept { D.honest → (was : State) (changes : List Change) → Keeps D.sectors D.reads D.choices store.old was → SpellsChanges waiting.now.bytes changes
+    ensures kept { (was : State) (changes : List Change) → Keeps D.sectors D.reads D.choices store.old was → SpellsChanges waiting.now.bytes changes
         → AcceptsAll (budget_of (half_len_of (D.sectors store.old.disk))) was changes → house.now.state ≡ after was changes → OnOk result (Keeps D.sectors D.reads D.choices store.new (after was changes)) }
-    ensures any_moment { D.honest → (was : State) (changes : List Change) → Keeps D.sectors D.reads D.choices store.old was → SpellsChanges waiting.now.bytes changes
+    ensures any_moment { (was : State) (changes : List Change) → Keeps D.sectors D.reads D.choices store.old was → SpellsChanges waiting.now.bytes changes
         → AcceptsAll (budget_of (half_len_of (D.sectors store.old.disk))) was changes → house.now.state ≡ after was changes
         → LeavesOnly D.moment D.images_since store.old.disk store.new.disk (StandsForEither (half_len_of (D.sectors store.old.disk)) was (after was changes)) }
+    ensures before { D.keeps store.new.disk → D.keeps store.old.disk }
     ensures count { D.sectors store.new.disk ≡ D.sectors store.old.disk }
     ensures failures { D.failures store.old.disk ≤ D.failures store.new.disk }
 {

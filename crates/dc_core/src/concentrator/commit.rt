@@ -1,6 +1,6 @@
 //! The commit of what waits.
 
-ghost use Rattle.std.specs.Prelude.{◌≡◌, ◌⊎◌, ◌≤◌, ◌+◌, ◌-◌, ◌^◌, IsErrOf, OnOk};
+ghost use Rattle.std.specs.Prelude.{◌≡◌, ◌≤◌, length, IsErrOf, OnOk};
 ghost use Rattle.dc_base.specs.Failures.{HasRisen};
 ghost use Rattle.dc_sectors.specs.Disk.{LeavesOnly};
 ghost use Rattle.dc_recovery.specs.Halves.{half_len_of};
@@ -9,6 +9,8 @@ ghost use Rattle.dc_core.specs.Core.{Core};
 ghost use Rattle.dc_core.specs.Event.{commits, committed};
 ghost use Rattle.dc_core.specs.Step.{May, next};
 ghost use Rattle.dc_recovery.specs.Stands.{StandsForFront};
+ghost use Rattle.dc_recovery.specs.Store.{Fits};
+ghost use Rattle.dc_waiting.specs.Writing.{IsWornFor};
 ghost use Rattle.dc_core.specs.Images.{IsAt};
 
 use super::Concentrator;
@@ -27,16 +29,21 @@ impl<D: Disk + Drop, A: Allocator + Copy> Concentrator<D, A> {
     /// `Stopped` after a failure; `Worn` where there is no next sequence or generation, and nothing has changed; `Device`
     /// where the disk failed: what waits may be on the disk or not, and nothing more is asked or written.
     pub fn commit(&mut self) -> Result<usize, CommitFault>
-        ensures may { (core : Core) → IsAt D.honest D.sectors D.reads D.choices self.old core
+        ensures may { (origin : D) (core : Core) → IsAt (D.keeps origin) D.sectors D.reads D.choices self.old core
             → May self.old.house.budget core commits (committed result) }
-        ensures at { (core : Core) → IsAt D.honest D.sectors D.reads D.choices self.old core
-            → IsAt D.honest D.sectors D.reads D.choices self.new (next core commits (committed result)) }
+        ensures at { (origin : D) (core : Core) → IsAt (D.keeps origin) D.sectors D.reads D.choices self.old core
+            → IsAt (D.keeps origin) D.sectors D.reads D.choices self.new (next core commits (committed result)) }
 
         // A stop within it leaves what is committed and a front of what waits.
-        ensures any_moment { D.honest → (core : Core) → IsAt D.honest D.sectors D.reads D.choices self.old core
+        ensures any_moment { (origin : D) → D.keeps origin → (core : Core) → IsAt (D.keeps origin) D.sectors D.reads D.choices self.old core
             → LeavesOnly D.moment D.images_since self.old.store.disk self.new.store.disk (StandsForFront (half_len_of (D.sectors self.old.store.disk)) core.committed core.pending) }
         ensures device { IsErrOf result Device → HasRisen (D.failures self.old.store.disk) (D.failures self.new.store.disk) }
-        ensures worn { IsErrOf result Worn → (2 ^ 64 - 1 ≤ self.old.store.last + 1) ⊎ (self.old.store.root.generation ≡ 2 ^ 64 - 1) }
+        ensures worn { IsErrOf result Worn
+            → IsWornFor (D.sectors self.old.store.disk) self.old.store (length self.old.waiting.bytes) }
+
+        // What fits in the half is one group more, under the same root.
+        ensures one_group { Fits (D.sectors self.old.store.disk) self.old.store (length self.old.waiting.bytes)
+            → self.new.store.root ≡ self.old.store.root }
         ensures unchanged { IsErrOf result Worn → self.new ≡ self.old }
         ensures empty { OnOk result (self.new.waiting.count ≡ 0) }
         ensures nothing { self.old.waiting.count ≡ 0 → self.new ≡ self.old }

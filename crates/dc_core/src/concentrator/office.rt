@@ -40,11 +40,11 @@ impl<D: Disk + Drop, A: Allocator + Copy> Concentrator<D, A> {
     /// ends its session. Memory is taken for a new command, and for the table of a REPORT.
     ///
     /// # Errors
-    /// `WriteFault` where the writer failed. What the line did stands then, and a command's repeat answers `OK`; how much
-    /// of the reply was written isn't known.
+    /// `WriteFault` where the writer failed. What the line did stands then, and a command's repeat answers `OK`; a
+    /// prefix of the reply is written.
     pub fn office<W: Sink>(&mut self, line: &[u8], out: &mut W) -> Result<(), WriteFault>
-        ensures turned { (core : Core) → IsAt D.honest D.sectors D.reads D.choices self.old core
-            → Turned D.honest D.sectors D.failures D.reads D.choices D.moment D.images_since self.old.house.budget core (offices line.now) (Wrote W.written W.put_failures result out.old out.new) self.old self.new }
+        ensures turned { (origin : D) (core : Core) → IsAt (D.keeps origin) D.sectors D.reads D.choices self.old core
+            → Turned (D.keeps origin) D.sectors D.failures D.reads D.choices D.moment D.images_since self.old.house.budget core (offices line.now) (Wrote W.written W.put_failures result out.old out.new) self.old self.new }
         ensures count { D.sectors self.new.store.disk ≡ D.sectors self.old.store.disk }
         ensures budget { self.new.house.budget ≡ self.old.house.budget }
         ensures fault { OnErr result (HasRisen (W.put_failures out.old) (W.put_failures out.new)) }
@@ -58,8 +58,8 @@ impl<D: Disk + Drop, A: Allocator + Copy> Concentrator<D, A> {
 
     // Reads a line and answers it.
     fn reply<W: Sink>(&mut self, text: &[u8], out: &mut W) -> Result<(), IoFault>
-        ensures turned { (core : Core) → IsAt D.honest D.sectors D.reads D.choices self.old core
-            → Turned D.honest D.sectors D.failures D.reads D.choices D.moment D.images_since self.old.house.budget core (offices text.now) (Wrote W.written W.put_failures result out.old out.new) self.old self.new }
+        ensures turned { (origin : D) (core : Core) → IsAt (D.keeps origin) D.sectors D.reads D.choices self.old core
+            → Turned (D.keeps origin) D.sectors D.failures D.reads D.choices D.moment D.images_since self.old.house.budget core (offices text.now) (Wrote W.written W.put_failures result out.old out.new) self.old self.new }
         ensures count { D.sectors self.new.store.disk ≡ D.sectors self.old.store.disk }
         ensures budget { self.new.house.budget ≡ self.old.house.budget }
         ensures fault { OnErr result (HasRisen (W.put_failures out.old) (W.put_failures out.new)) }
@@ -77,11 +77,11 @@ impl<D: Disk + Drop, A: Allocator + Copy> Concentrator<D, A> {
 
     // Commits what waits; a store that has stopped takes no line.
     fn settle(&mut self) -> Result<(), CommitFault>
-        ensures ok { (core : Core) → IsAt D.honest D.sectors D.reads D.choices self.old core
-            → OnOk result ((core.stopped ≡ false) × IsAt D.honest D.sectors D.reads D.choices self.new (settled core)) }
-        ensures err { (core : Core) → IsAt D.honest D.sectors D.reads D.choices self.old core
-            → IfErr result (λ fault. IsUnstored core fault × IsAt D.honest D.sectors D.reads D.choices self.new (after_commit core (Err fault))) }
-        ensures any_moment { D.honest → (core : Core) → IsAt D.honest D.sectors D.reads D.choices self.old core
+        ensures ok { (origin : D) (core : Core) → IsAt (D.keeps origin) D.sectors D.reads D.choices self.old core
+            → OnOk result ((core.stopped ≡ false) × IsAt (D.keeps origin) D.sectors D.reads D.choices self.new (settled core)) }
+        ensures err { (origin : D) (core : Core) → IsAt (D.keeps origin) D.sectors D.reads D.choices self.old core
+            → IfErr result (λ fault. IsUnstored core fault × IsAt (D.keeps origin) D.sectors D.reads D.choices self.new (after_commit core (Err fault))) }
+        ensures any_moment { (origin : D) → D.keeps origin → (core : Core) → IsAt (D.keeps origin) D.sectors D.reads D.choices self.old core
             → LeavesOnly D.moment D.images_since self.old.store.disk self.new.store.disk (StandsForFront (half_len_of (D.sectors self.old.store.disk)) core.committed core.pending) }
         ensures failed { IfErr result (λ fault. IsShown D.failures self.old self.new (Some fault)) }
         ensures empty { OnOk result (self.new.waiting.count ≡ 0) }
@@ -102,8 +102,8 @@ impl<D: Disk + Drop, A: Allocator + Copy> Concentrator<D, A> {
     fn answer<W: Sink>(&mut self, line: &OfficeLine, out: &mut W) -> Result<(), IoFault>
         requires line { IsOfficeLine line.now }
         requires empty { self.old.waiting.count ≡ 0 }
-        ensures answered { (core : Core) → IsAt D.honest D.sectors D.reads D.choices self.old core → core.stopped ≡ false
-            → Answered D.honest D.sectors D.failures D.reads D.choices D.moment D.images_since self.old.house.budget core line.now (Wrote W.written W.put_failures result out.old out.new) self.old self.new }
+        ensures answered { (origin : D) (core : Core) → IsAt (D.keeps origin) D.sectors D.reads D.choices self.old core → core.stopped ≡ false
+            → Answered (D.keeps origin) D.sectors D.failures D.reads D.choices D.moment D.images_since self.old.house.budget core line.now (Wrote W.written W.put_failures result out.old out.new) self.old self.new }
         ensures count { D.sectors self.new.store.disk ≡ D.sectors self.old.store.disk }
         ensures budget { self.new.house.budget ≡ self.old.house.budget }
         ensures fault { OnErr result (HasRisen (W.put_failures out.old) (W.put_failures out.new)) }
@@ -129,8 +129,8 @@ impl<D: Disk + Drop, A: Allocator + Copy> Concentrator<D, A> {
         requires is_change { IsChange change.now }
         requires accepted { Accepts self.old.house.budget change.now self.old.house.state }
         requires verdict { verdict_of self.old.house line.now ≡ Do change.now }
-        ensures answered { (core : Core) → IsAt D.honest D.sectors D.reads D.choices self.old core → core.stopped ≡ false
-            → Answered D.honest D.sectors D.failures D.reads D.choices D.moment D.images_since self.old.house.budget core line.now (Wrote W.written W.put_failures result out.old out.new) self.old self.new }
+        ensures answered { (origin : D) (core : Core) → IsAt (D.keeps origin) D.sectors D.reads D.choices self.old core → core.stopped ≡ false
+            → Answered (D.keeps origin) D.sectors D.failures D.reads D.choices D.moment D.images_since self.old.house.budget core line.now (Wrote W.written W.put_failures result out.old out.new) self.old self.new }
         ensures count { D.sectors self.new.store.disk ≡ D.sectors self.old.store.disk }
         ensures budget { self.new.house.budget ≡ self.old.house.budget }
         ensures fault { OnErr result (HasRisen (W.put_failures out.old) (W.put_failures out.new)) }
@@ -153,7 +153,7 @@ impl<D: Disk + Drop, A: Allocator + Copy> Concentrator<D, A> {
         requires empty { self.old.waiting.count ≡ 0 }
         requires is_change { IsChange change.now }
         requires accepted { Accepts self.old.house.budget change.now self.old.house.state }
-        ensures at { (core : Core) → IsAt D.honest D.sectors D.reads D.choices self.old core → OnOk result (IsAt D.honest D.sectors D.reads D.choices self.new (ordered change.now core)) }
+        ensures at { (origin : D) (core : Core) → IsAt (D.keeps origin) D.sectors D.reads D.choices self.old core → OnOk result (IsAt (D.keeps origin) D.sectors D.reads D.choices self.new (ordered change.now core)) }
         ensures house { OnOk result (self.new.house ≡ record self.old.house { state = applied change.now self.old.house.state }) }
         ensures err { OnErr result (self.new ≡ self.old) }
         ensures store { self.new.store ≡ self.old.store }

@@ -7,21 +7,21 @@ ghost use Rattle.dc_changes.specs.Accepts.{Accepts};
 ghost use Rattle.dc_changes.specs.History.{after, AcceptsAll};
 ghost use Rattle.dc_changes.specs.Spelled.{SpellsChanges};
 ghost use Rattle.dc_changes.specs.Valid.{IsChange};
-ghost use Rattle.dc_meters.specs.Replay.{IsApplied, IsHeldUp};
+ghost use Rattle.dc_meters.specs.Replay.{BeginsUnaccepted, IsApplied, IsHeldUp};
 
 use super::House;
 use dc_changes::{Change, DecodeFault, change_at};
 use std::alloc::Allocator;
 
 impl<A: Allocator + Copy> House<A> {
-    /// Applies the changes that the bytes spell, each as it is read. At the first that isn't accepted it ends with
-    /// `Bad`, as where the bytes spell no changes, and with `NoMemory` at one that is accepted and finds no memory.
-    /// Those before it are a front of the bytes, and stay applied.
+    /// Applies the changes that the bytes spell, each as it is read. It returns `Bad` at the first bytes that spell no
+    /// accepted change, and `NoMemory` at a change that is accepted and finds no memory. All changes before that one
+    /// stay applied.
     pub fn replay(&mut self, bytes: &[u8]) -> Result<(), DecodeFault>
         ensures ok { OnOk result ((changes : List Change) × SpellsChanges bytes.now changes × AcceptsAll self.old.budget self.old.state changes × (self.new.state ≡ after self.old.state changes)) }
         ensures bad { IsErrOf result DecodeFault.Bad → (changes : List Change) → SpellsChanges bytes.now changes → AcceptsAll self.old.budget self.old.state changes → ⊥ }
         ensures no_memory { IsErrOf result DecodeFault.NoMemory → IsHeldUp self.old self.new bytes.now }
-        ensures left { OnErr result ((rest : List ℕ) × IsApplied self.old self.new bytes.now rest) }
+        ensures left { IsErrOf result DecodeFault.Bad → (rest : List ℕ) × IsApplied self.old self.new bytes.now rest × BeginsUnaccepted self.new rest }
         ensures budget { self.new.budget ≡ self.old.budget }
     {
         let mut rest = bytes;

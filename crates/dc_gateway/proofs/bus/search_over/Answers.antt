@@ -1,13 +1,14 @@
-use Rattle.std.proofs.Common.{◌≡◌, ◌<◌, ℕ, Bool, false, List, [], ◌∷◌, ◌++◌, Option, Some, None, Result, Ok, Err, ap, sym, ◌∙◌, subst, refl}
+use Rattle.std.proofs.Common.{◌≡◌, ◌<◌, ℕ, Bool, false, List, [], Option, Some, None, Result, Ok, Err, ap, sym, ◌∙◌, subst, refl}
 use Rattle.std.specs.Prelude.{IfSome, option_map}
 use Rattle.std.specs.Result.{OnOk, is_err}
 use Rattle.dc_address.specs.declared.identity.Identity.{Identity}
 use Rattle.dc_linkframe.specs.Frame.{spelling}
 use Rattle.dc_search.specs.Request.{request_by}
-use Rattle.dc_search.specs.State.{SearchState, after, new_search, rounds_left, step_of}
+use Rattle.dc_search.specs.State.{SearchState, after, rounds_left, step_of}
 use Rattle.dc_search.specs.declared.step.Step.{Step}
 use Rattle.dc_search.proofs.Rounds.{rounds_left-after}
-use Rattle.dc_gateway.specs.Bus.{IsHeard, IsSearched, heard_all}
+use Rattle.dc_gateway.specs.Bus.{HasAsked, IsHeard, IsSearched}
+use Rattle.dc_gateway.proofs.Asked.{asked_heard, asked_more}
 use Rattle.dc_gateway.proofs.Budgets.{IsWithin, within_step}
 use Rattle.dc_gateway.proofs.Searching.{Searching, busy, searched, searching_step}
 use Rattle.dc_gateway.proofs.bus.search_over.Goals as goal
@@ -31,11 +32,6 @@ both_told P Q R (Some x) m1 same step p q = step x p (subst (λ (m : Option (Lis
 each_told : (P R : List Identity → Type 0) (m : Option (List Identity)) → ((x : List Identity) → P x → R x) → IfSome m P → IfSome m R
 each_told P R None step p = tt
 each_told P R (Some x) step p = step x p
-
--- one answer more
-heard_push : (answers : List (List ℕ)) (answer : List ℕ) (s : SearchState) → heard_all (answers ++ answer ∷ []) s ≡ after answer (heard_all answers s)
-heard_push [] answer s = refl
-heard_push (first ∷ answers) answer s = heard_push answers answer (after first s)
 
 -- a bus without meters is silent
 nobody_heard : (request : List ℕ) → IsHeard [] [] [] request []
@@ -64,10 +60,8 @@ steps-preserved g c =
           (g.B.Bus.meters c.args.bus.now) (g.B.Bus.meters c.steps.bus) c.steps.invariant.meters
           (λ told searching heard. searching_step told budget s next old new c.in-Some.request c.ask-answer.result asks searching heard by)
           c.steps.invariant.walk c.ask-answer.ensures.heard;
-      heard = record {
-        answers = c.steps.invariant.heard.answers ++ c.ask-answer.result ∷ [];
-        state = by ∙ ap (after c.ask-answer.result) c.steps.invariant.heard.state ∙ sym (heard_push c.steps.invariant.heard.answers c.ask-answer.result (new_search budget));
-      };
+      asked = subst (HasAsked g.B.Bus.asks budget c.args.bus.now c.ask-answer.new.self) (sym by)
+          (asked_more g.B.Bus.asks budget c.args.bus.now c.steps.bus c.ask-answer.new.self s c.in-Some.request c.ask-answer.result c.steps.invariant.asked asks c.ask-answer.ensures.asked);
       silent = λ is.
           let old_is = c.steps.invariant.silent is in
           let still = ap g.B.Bus.lost old_is.0 ∙ is in (
@@ -75,6 +69,15 @@ steps-preserved g c =
             searching_step [] budget s next [] [] c.in-Some.request [] asks old_is.1 (nobody_heard c.in-Some.request) (by ∙ ap (λ (bytes : List ℕ). after bytes s) (c.ask-answer.ensures.silence still)),
           );
     }
+
+pub returns-then-is_err-clause-stopped : goal.returns-then-is_err-clause-stopped
+returns-then-is_err-clause-stopped g c =
+    let s : SearchState = c.steps.search in
+    let asks = asked s c.next.result c.in-Some.request c.next.ensures c.in-Some.ensures.exact in
+    (after c.ask-answer.result s, asked_more g.B.Bus.asks c.args.budget c.args.bus.now c.steps.bus c.ask-answer.new.self s c.in-Some.request c.ask-answer.result c.steps.invariant.asked asks c.ask-answer.ensures.asked)
+
+pub returns-clause-heard : goal.returns-clause-heard
+returns-clause-heard g c = asked_heard g.B.Bus.asks c.args.budget c.args.bus.now c.steps.bus c.steps.search c.steps.invariant.asked
 
 pub returns-clause-nobody : goal.returns-clause-nobody
 returns-clause-nobody g c is =

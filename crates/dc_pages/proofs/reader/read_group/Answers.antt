@@ -15,8 +15,8 @@ returns-in_err-read_next-clause-incomplete g c h n e =
     let reading = c.loop-at.reading in
     let after = c.read_next.new.self in
     let step = step_read reading.site c.args.site (g.D.Disk.reads c.loop-at.disk) (g.D.Disk.reads c.args.disk.now)
-    c.loop-at.at reading.session reading.pages after.session after.pages reading.payload.items after.payload.items (Err c.in_err-read_next.field-0.0) so_far.site (so_far.reads h)
-    (c.in_err-read_next.ensures.step h) so_far.at (omega arith) (so_far.begun h) in
+    c.loop-at.at reading.session reading.pages after.session after.pages reading.payload.items after.payload.items (Err c.in_err-read_next.field-0.0) so_far.site so_far.reads
+    (c.in_err-read_next.ensures.step h) so_far.at (omega arith) (so_far.begun (c.in_err-read_next.ensures.before h)) in
     let p = err_from_is_err_and c.from_residual.result c.from_residual.ensures.1 in
     let same : c.in_err-read_next.field-0.0 ≡ Incomplete n = cc (p.1, p.2, e) in
     subst (λ (f : GroupFault). IsStep c.args.site (g.D.Disk.reads c.args.disk.now) after.session after.pages after.payload.items (Err f)) same step
@@ -27,16 +27,16 @@ returns-then-branch-clause-group g c h =
     let reading = c.loop-at.reading in
     let after = c.read_next.new.self in
     let step = step_read reading.site c.args.site (g.D.Disk.reads c.loop-at.disk) (g.D.Disk.reads c.args.disk.now)
-    c.loop-at.at reading.session reading.pages after.session after.pages reading.payload.items after.payload.items (Ok c.in_ok-read_next.field-0) so_far.site (so_far.reads h)
-    (c.in_ok-read_next.ensures.step h) so_far.at (omega arith) (so_far.begun h) in
+    c.loop-at.at reading.session reading.pages after.session after.pages reading.payload.items after.payload.items (Ok c.in_ok-read_next.field-0) so_far.site so_far.reads
+    (c.in_ok-read_next.ensures.step h) so_far.at (omega arith) (so_far.begun (c.in_ok-read_next.ensures.before h)) in
     let whole = subst (λ (b : Bool). IsStep c.args.site (g.D.Disk.reads c.args.disk.now) after.session after.pages after.payload.items (Ok b)) c.if-branch.true step in
     (after.session, after.pages, whole, refl)
 
 pub returns-then-branch-clause-any_moment : goal.returns-then-branch-clause-any_moment
-returns-then-branch-clause-any_moment g c h =
+returns-then-branch-clause-any_moment g c =
     let so_far = c.loop-at.invariant in
-    goes_on g.D.Disk.moment g.D.Disk.images_since c.args.disk.now c.loop-at.disk c.read_next.new.disk (IsImage (g.D.Disk.choices c.args.disk.now)) _ (so_far.any_moment h) (c.in_ok-read_next.ensures.time h)
-    (λ image is. subst (λ (d : Choices). IsImage d image) (so_far.choices h) is)
+    goes_on g.D.Disk.moment g.D.Disk.images_since c.args.disk.now c.loop-at.disk c.read_next.new.disk (IsImage (g.D.Disk.choices c.args.disk.now)) _ so_far.any_moment c.in_ok-read_next.ensures.time
+    (λ image is. subst (λ (d : Choices). IsImage d image) so_far.choices is)
 
 pub loop-at-preserved : goal.loop-at-preserved
 loop-at-preserved g c =
@@ -51,13 +51,14 @@ loop-at-preserved g c =
       site = next.site ∙ so_far.site;
       begun = λ h.
           let step = step_read reading.site c.args.site (g.D.Disk.reads c.loop-at.disk) (g.D.Disk.reads c.args.disk.now)
-          c.loop-at.at reading.session reading.pages after.session after.pages reading.payload.items after.payload.items (Ok c.in_ok-read_next.field-0) so_far.site (so_far.reads h)
-          (next.step h) so_far.at (omega arith) (so_far.begun h) in
+          c.loop-at.at reading.session reading.pages after.session after.pages reading.payload.items after.payload.items (Ok c.in_ok-read_next.field-0) so_far.site so_far.reads
+          (next.step h) so_far.at (omega arith) (so_far.begun (next.before h)) in
           subst (λ (b : Bool). IsStep c.args.site (g.D.Disk.reads c.args.disk.now) after.session after.pages after.payload.items (Ok b)) not_done step;
-      reads = λ h. next.reads h ∙ so_far.reads h;
-      choices = λ h. next.choices h ∙ so_far.choices h;
-      any_moment = λ h. goes_on g.D.Disk.moment g.D.Disk.images_since c.args.disk.now c.loop-at.disk c.read_next.new.disk (IsImage (g.D.Disk.choices c.args.disk.now)) _ (so_far.any_moment h) (next.time h)
-          (λ image is. subst (λ (d : Choices). IsImage d image) (so_far.choices h) is);
+      reads = next.reads ∙ so_far.reads;
+      choices = next.choices ∙ so_far.choices;
+      any_moment = goes_on g.D.Disk.moment g.D.Disk.images_since c.args.disk.now c.loop-at.disk c.read_next.new.disk (IsImage (g.D.Disk.choices c.args.disk.now)) _ so_far.any_moment next.time
+          (λ image is. subst (λ (d : Choices). IsImage d image) so_far.choices is);
+      before = λ h. so_far.before (next.before h);
       count = next.count ∙ so_far.count;
       failures = next.passed (λ is. absurd (cc is)) ∙ so_far.failures;
     }

@@ -7,10 +7,11 @@ abbrev pub invariant-loop-at : goal.invariant-loop-at
 invariant-loop-at g l = record {
   at : l.at ≡ l.site.first + l.reading.pages;
   site : l.reading.site ≡ l.site;
-  begun : g.D.Disk.honest → IsBegun l.site l.reading.session l.reading.payload.items l.reading.pages (g.D.Disk.reads l.fn.disk);
-  reads : g.D.Disk.honest → g.D.Disk.reads l.disk ≡ g.D.Disk.reads l.fn.disk;
-  choices : g.D.Disk.honest → g.D.Disk.choices l.disk ≡ g.D.Disk.choices l.fn.disk;
-  any_moment : g.D.Disk.honest → LeavesOnly g.D.Disk.moment g.D.Disk.images_since l.fn.disk l.disk (IsImage (g.D.Disk.choices l.fn.disk));
+  begun : g.D.Disk.keeps l.disk → IsBegun l.site l.reading.session l.reading.payload.items l.reading.pages (g.D.Disk.reads l.fn.disk);
+  reads : g.D.Disk.reads l.disk ≡ g.D.Disk.reads l.fn.disk;
+  choices : g.D.Disk.choices l.disk ≡ g.D.Disk.choices l.fn.disk;
+  any_moment : LeavesOnly g.D.Disk.moment g.D.Disk.images_since l.fn.disk l.disk (IsImage (g.D.Disk.choices l.fn.disk));
+  before : g.D.Disk.keeps l.disk → g.D.Disk.keeps l.fn.disk;
   count : g.D.Disk.sectors l.disk ≡ g.D.Disk.sectors l.fn.disk;
   failures : g.D.Disk.failures l.disk ≡ g.D.Disk.failures l.fn.disk;
 }

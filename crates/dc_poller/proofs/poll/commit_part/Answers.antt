@@ -6,7 +6,7 @@ use Rattle.dc_core.specs.declared.fault.CommitFault.{CommitFault}
 use Rattle.dc_poller.specs.Link.{Link}
 use Rattle.dc_poller.specs.Poll.{does, to_commit, behind_turn, told_text}
 use Rattle.dc_poller.specs.Way.{IsRound}
-use Rattle.dc_poller.proofs.Ways.{way_turn}
+use Rattle.dc_poller.proofs.Ways.{way_turn, fails_in_one}
 use Rattle.dc_poller.proofs.poll.commit_part.Goals as goal
 
 round : (link : Link) (told : Result ℕ CommitFault) → IsRound (is_ok told) link 0 (does (commits, committed told) ∷ []) (record { due = behind_turn to_commit commits (committed told); link = link })
@@ -14,14 +14,18 @@ round link (Ok count) = record { last_is = refl; rounds_are = refl }
 round link (Err fault) = record { last_is = refl; rounds_are = refl }
 
 pub returns-in-Ok-clause-went : goal.returns-in-Ok-clause-went
-returns-in-Ok-clause-went g c moment meter link state before chain at =
-    way_turn g.D.Disk.honest g.D.Disk.sectors g.D.Disk.reads g.D.Disk.choices g.D.Disk.moment g.D.Disk.images_since c.args.concentrator.now.house.budget state before moment meter to_commit link commits _ _ _ c.args.concentrator.now c.told_commit.new.concentrator
-    refl (c.in-Ok.ensures.went state before chain at)
-    (λ answer is. subst (λ (a : Answer). IsRound c.is_ok.result link 0 (does (commits, a) ∷ []) (record { due = behind_turn to_commit commits a; link = link })) (sym is.0)
-    (subst (λ (more : Bool). IsRound more link 0 (does (commits, committed c.in-Ok.answer) ∷ []) (record { due = behind_turn to_commit commits (committed c.in-Ok.answer); link = link })) (sym c.is_ok.ensures.value) (round link c.in-Ok.answer)))
+returns-in-Ok-clause-went g c moment meter link origin state before chain at =
+    way_turn (g.D.Disk.keeps origin) g.D.Disk.sectors g.D.Disk.failures g.D.Disk.reads g.D.Disk.choices g.D.Disk.moment g.D.Disk.images_since c.args.concentrator.now.house.budget state before moment meter to_commit link commits _ _ _ c.args.concentrator.now c.told_commit.new.concentrator
+    refl (c.in-Ok.ensures.went origin state before chain at)
+    (λ answer is. (
+      subst (λ (a : Answer). IsRound c.is_ok.result link 0 (does (commits, a) ∷ []) (record { due = behind_turn to_commit commits a; link = link })) (sym is.0)
+          (subst (λ (more : Bool). IsRound more link 0 (does (commits, committed c.in-Ok.answer) ∷ []) (record { due = behind_turn to_commit commits (committed c.in-Ok.answer); link = link })) (sym c.is_ok.ensures.value) (round link c.in-Ok.answer)),
+      tt,
+      refl,
+    ))
     (λ answer is. subst (λ (a : Answer). Puts (g.W.Sink.written c.args.out.now) (g.W.Sink.written c.told_commit.new.out) (told_text a)) (sym is.0) is.1)
 
 pub returns-in-Err-clause-went : goal.returns-in-Err-clause-went
-returns-in-Err-clause-went g c moment meter link state before chain at =
-    way_turn g.D.Disk.honest g.D.Disk.sectors g.D.Disk.reads g.D.Disk.choices g.D.Disk.moment g.D.Disk.images_since c.args.concentrator.now.house.budget state before moment meter to_commit link commits _ _ _ c.args.concentrator.now c.told_commit.new.concentrator
-    refl (c.told_commit.ensures.went state before chain at) (λ answer is. tt) (λ answer is. tt)
+returns-in-Err-clause-went g c moment meter link origin state before chain at =
+    way_turn (g.D.Disk.keeps origin) g.D.Disk.sectors g.D.Disk.failures g.D.Disk.reads g.D.Disk.choices g.D.Disk.moment g.D.Disk.images_since c.args.concentrator.now.house.budget state before moment meter to_commit link commits _ _ _ c.args.concentrator.now c.told_commit.new.concentrator
+    refl (c.told_commit.ensures.went origin state before chain at) (λ answer is. (tt, fails_in_one g.W.Sink c.args.out.now c.told_commit.new.out (does (commits, answer)) c.in-Err.ensures.fault, refl)) (λ answer is. tt)

@@ -23,32 +23,32 @@ use Rattle.dc_poller.proofs.script.run_lines.Goals as goal
 -- ---- THE LINES BEFORE THIS ONE
 
 -- the loop's own, with these lines to come
-abbrev SoFarWith : (g : Over) → After-first_line g → List (List ℕ) → Type 0
-SoFarWith g c rest = SoFar g.D.Disk.honest g.D.Disk.sectors g.D.Disk.reads g.D.Disk.choices g.D.Disk.moment g.D.Disk.images_since c.args.concentrator.now.house.budget (link_of c.args.gateway.now) (link_of c.lines.gateway) (lines_of c.args.input.now) rest
+abbrev SoFarWith : (g : Over) → g.row.D.Denot → After-first_line g → List (List ℕ) → Type 0
+SoFarWith g origin c rest = SoFar (g.D.Disk.keeps origin) g.D.Disk.sectors g.D.Disk.failures g.D.Disk.reads g.D.Disk.choices g.D.Disk.moment g.D.Disk.images_since c.args.concentrator.now.house.budget (link_of c.args.gateway.now) (link_of c.lines.gateway) (lines_of c.args.input.now) rest
     c.lines.moment.0 c.lines.count (Puts (g.W.Sink.written c.args.out.now) (g.W.Sink.written c.lines.out)) c.args.concentrator.now c.lines.concentrator
 
-here : (g : Over) (c : After-first_line g) → SoFarWith g c (c.first_line.result.0.now ∷ lines_of c.first_line.result.1.now)
-here g c = subst (SoFarWith g c) c.first_line.ensures.lines c.lines.invariant.so_far
+here : (g : Over) (origin : g.row.D.Denot) (c : After-first_line g) → SoFarWith g origin c (c.first_line.result.0.now ∷ lines_of c.first_line.result.1.now)
+here g origin c = subst (SoFarWith g origin c) c.first_line.ensures.lines (c.lines.invariant.so_far origin)
 
 -- any run before the script, behind which the concentrator is as it came
 abbrev IsChainBefore : (g : Over) → After-first_line g → State → List Turn → Type 0
 IsChainBefore g c state before = IsChain c.args.concentrator.now.house.budget (opened state) before
 
-abbrev IsAtBefore : (g : Over) → After-first_line g → State → List Turn → Type 0
-IsAtBefore g c state before = IsAt g.D.Disk.honest g.D.Disk.sectors g.D.Disk.reads g.D.Disk.choices c.args.concentrator.now (leads (opened state) before)
+abbrev IsAtBefore : (g : Over) → g.row.D.Denot → After-first_line g → State → List Turn → Type 0
+IsAtBefore g origin c state before = IsAt (g.D.Disk.keeps origin) g.D.Disk.sectors g.D.Disk.reads g.D.Disk.choices c.args.concentrator.now (leads (opened state) before)
 
-abbrev turns_here : (g : Over) (c : After-first_line g) (state : State) (before : List Turn) → IsChainBefore g c state before → IsAtBefore g c state before → List Turn
-turns_here g c state before chain at = deeds_turns ((here g c).ran state before chain at).lines.deeds
+abbrev turns_here : (g : Over) (c : After-first_line g) (origin : g.row.D.Denot) (state : State) (before : List Turn) → IsChainBefore g c state before → IsAtBefore g origin c state before → List Turn
+turns_here g c origin state before chain at = deeds_turns ((here g origin c).ran state before chain at).lines.deeds
 
-chain_here : (g : Over) (c : After-first_line g) (state : State) (before : List Turn) (chain : IsChainBefore g c state before) (at : IsAtBefore g c state before)
-    → IsChain c.args.concentrator.now.house.budget (opened state) (before ++ turns_here g c state before chain at)
-chain_here g c state before chain at =
-    went_chain g.D.Disk.honest g.D.Disk.sectors g.D.Disk.reads g.D.Disk.choices g.D.Disk.moment g.D.Disk.images_since c.args.concentrator.now.house.budget state before (turns_here g c state before chain at) c.args.concentrator.now c.lines.concentrator ((here g c).ran state before chain at).lines.went
+chain_here : (g : Over) (c : After-first_line g) (origin : g.row.D.Denot) (state : State) (before : List Turn) (chain : IsChainBefore g c state before) (at : IsAtBefore g origin c state before)
+    → IsChain c.args.concentrator.now.house.budget (opened state) (before ++ turns_here g c origin state before chain at)
+chain_here g c origin state before chain at =
+    went_chain (g.D.Disk.keeps origin) g.D.Disk.sectors g.D.Disk.failures g.D.Disk.reads g.D.Disk.choices g.D.Disk.moment g.D.Disk.images_since c.args.concentrator.now.house.budget state before (turns_here g c origin state before chain at) c.args.concentrator.now c.lines.concentrator ((here g origin c).ran state before chain at).lines.went
 
-at_here : (g : Over) (c : After-first_line g) (state : State) (before : List Turn) (chain : IsChainBefore g c state before) (at : IsAtBefore g c state before)
-    → IsAt g.D.Disk.honest g.D.Disk.sectors g.D.Disk.reads g.D.Disk.choices c.lines.concentrator (leads (opened state) (before ++ turns_here g c state before chain at))
-at_here g c state before chain at =
-    went_at g.D.Disk.honest g.D.Disk.sectors g.D.Disk.reads g.D.Disk.choices g.D.Disk.moment g.D.Disk.images_since c.args.concentrator.now.house.budget state before (turns_here g c state before chain at) c.args.concentrator.now c.lines.concentrator ((here g c).ran state before chain at).lines.went
+at_here : (g : Over) (c : After-first_line g) (origin : g.row.D.Denot) (state : State) (before : List Turn) (chain : IsChainBefore g c state before) (at : IsAtBefore g origin c state before)
+    → IsAt (g.D.Disk.keeps origin) g.D.Disk.sectors g.D.Disk.reads g.D.Disk.choices c.lines.concentrator (leads (opened state) (before ++ turns_here g c origin state before chain at))
+at_here g c origin state before chain at =
+    went_at (g.D.Disk.keeps origin) g.D.Disk.sectors g.D.Disk.failures g.D.Disk.reads g.D.Disk.choices g.D.Disk.moment g.D.Disk.images_since c.args.concentrator.now.house.budget state before (turns_here g c origin state before chain at) c.args.concentrator.now c.lines.concentrator ((here g origin c).ran state before chain at).lines.went
 
 pub lines-init : goal.lines-init
 lines-init g c = record {
@@ -58,13 +58,13 @@ lines-init g c = record {
   well = refl;
   moment = omega arith;
   absent = λ is. is;
-  so_far = record {
+  so_far = λ origin. record {
     done = [];
     are_read = refl;
     moment_is = refl;
     count_is = refl;
-    ran = λ state before chain at. lines_none g.D.Disk.honest g.D.Disk.sectors g.D.Disk.reads g.D.Disk.choices g.D.Disk.moment g.D.Disk.images_since c.args.concentrator.now.house.budget state before (link_of c.args.gateway.now) (Puts (g.W.Sink.written c.args.out.now) (g.W.Sink.written c.args.out.now)) c.args.concentrator.now
-        (went_none g.D.Disk.honest g.D.Disk.sectors g.D.Disk.reads g.D.Disk.choices g.D.Disk.moment g.D.Disk.images_since c.args.concentrator.now.house.budget state before c.args.concentrator.now chain at (λ h image left. g.met.D.Disk.only_now h c.args.concentrator.now.store.disk image left))
+    ran = λ state before chain at. lines_none (g.D.Disk.keeps origin) g.D.Disk.sectors g.D.Disk.failures g.D.Disk.reads g.D.Disk.choices g.D.Disk.moment g.D.Disk.images_since c.args.concentrator.now.house.budget state before (link_of c.args.gateway.now) (Puts (g.W.Sink.written c.args.out.now) (g.W.Sink.written c.args.out.now)) c.args.concentrator.now
+        (went_none (g.D.Disk.keeps origin) g.D.Disk.sectors g.D.Disk.failures g.D.Disk.reads g.D.Disk.choices g.D.Disk.moment g.D.Disk.images_since c.args.concentrator.now.house.budget state before c.args.concentrator.now chain at (λ h image left. g.met.D.Disk.only_now c.args.concentrator.now.store.disk image left))
         (puts-none (g.W.Sink.written c.args.out.now));
   };
 }
@@ -80,11 +80,6 @@ lines-preserved g c =
     let old = c.lines.concentrator in
     let new = c.run_line.new.concentrator in
     let piece : List ℕ → Type 0 = Puts (w c.lines.out) (w c.run_line.new.out) in
-    let more = one_more g.D.Disk.honest g.D.Disk.sectors g.D.Disk.reads g.D.Disk.choices g.D.Disk.moment g.D.Disk.images_since first.house.budget (link_of c.args.gateway.now) (link_of c.lines.gateway) (link_of c.run_line.new.gateway) (lines_of c.args.input.now) c.first_line.result.0.now (lines_of c.first_line.result.1.now) asked c.lines.moment.0 c.lines.count
-    (Puts (w c.args.out.now) (w c.lines.out)) piece (Puts (w c.args.out.now) (w c.run_line.new.out)) first old new (here g (goal.at.lines-preserved g c).After-first_line) c.in-Some.ensures.found
-    (λ state before chain at. subst (λ (b : ℕ). LineRan g.D.Disk.honest g.D.Disk.sectors g.D.Disk.reads g.D.Disk.choices g.D.Disk.moment g.D.Disk.images_since b state before c.lines.moment.0 asked (link_of c.lines.gateway) (link_of c.run_line.new.gateway) piece old new) b_is
-    (c.in_default-run_line.ensures.ran state before (subst (λ (b : ℕ). IsChain b (opened state) before) (sym b_is) chain) at))
-    (λ text more wrote put. puts-both (w c.args.out.now) (w c.lines.out) (w c.run_line.new.out) text more wrote put) in
     record {
       bytes = omega arith;
       counted = omega (arith, counted, shorter);
@@ -92,29 +87,34 @@ lines-preserved g c =
       well = c.in_default-run_line.ensures.counted ∙ c.lines.invariant.well;
       moment = c.moment_behind-moment.result.fits;
       absent = λ is. c.run_line.ensures.absent (c.lines.invariant.absent is);
-      so_far = subst (λ (m : ℕ). SoFar g.D.Disk.honest g.D.Disk.sectors g.D.Disk.reads g.D.Disk.choices g.D.Disk.moment g.D.Disk.images_since first.house.budget (link_of c.args.gateway.now) (link_of c.run_line.new.gateway) (lines_of c.args.input.now) (lines_of c.first_line.result.1.now) m (c.lines.count + 1) (Puts (w c.args.out.now) (w c.run_line.new.out)) first new)
-          (sym c.moment_behind-moment.ensures) more;
+      so_far = λ origin. subst (λ (m : ℕ). SoFar (g.D.Disk.keeps origin) g.D.Disk.sectors g.D.Disk.failures g.D.Disk.reads g.D.Disk.choices g.D.Disk.moment g.D.Disk.images_since first.house.budget (link_of c.args.gateway.now) (link_of c.run_line.new.gateway) (lines_of c.args.input.now) (lines_of c.first_line.result.1.now) m (c.lines.count + 1) (Puts (w c.args.out.now) (w c.run_line.new.out)) first new)
+          (sym c.moment_behind-moment.ensures)
+          (one_more (g.D.Disk.keeps origin) g.D.Disk.sectors g.D.Disk.failures g.D.Disk.reads g.D.Disk.choices g.D.Disk.moment g.D.Disk.images_since first.house.budget (link_of c.args.gateway.now) (link_of c.lines.gateway) (link_of c.run_line.new.gateway) (lines_of c.args.input.now) c.first_line.result.0.now (lines_of c.first_line.result.1.now) asked c.lines.moment.0 c.lines.count
+          (Puts (w c.args.out.now) (w c.lines.out)) piece (Puts (w c.args.out.now) (w c.run_line.new.out)) first old new (here g origin (goal.at.lines-preserved g c).After-first_line) c.in-Some.ensures.found
+          (λ state before chain at. subst (λ (b : ℕ). LineRan (g.D.Disk.keeps origin) g.D.Disk.sectors g.D.Disk.failures g.D.Disk.reads g.D.Disk.choices g.D.Disk.moment g.D.Disk.images_since b state before c.lines.moment.0 asked (link_of c.lines.gateway) (link_of c.run_line.new.gateway) piece old new) b_is
+          (c.in_default-run_line.ensures.ran origin state before (subst (λ (b : ℕ). IsChain b (opened state) before) (sym b_is) chain) at))
+          (λ text more wrote put. puts-both (w c.args.out.now) (w c.lines.out) (w c.run_line.new.out) text more wrote put));
     }
 
 pub returns-in-Err-run_line-clause-cut : goal.returns-in-Err-run_line-clause-cut
-returns-in-Err-run_line-clause-cut g c state before chain at =
+returns-in-Err-run_line-clause-cut g c origin state before chain at =
     let from = (goal.at.returns-in-Err-run_line-clause-cut g c).After-first_line in
     let asked = seen c.in-Some.asked in
     let b_is = c.lines.invariant.budget in
     let first = c.args.concentrator.now in
     let old = c.lines.concentrator in
     let new = c.run_line.new.concentrator in
-    let turns = turns_here g from state before chain at in
-    on_write (Unit {0}) Bool c.in-Err-run_line.halt (LineCut g.D.Disk.honest g.D.Disk.sectors g.D.Disk.reads g.D.Disk.choices g.D.Disk.moment g.D.Disk.images_since old.house.budget state (before ++ turns) c.lines.moment.0 asked (link_of c.lines.gateway) old new)
-    (ScriptCut g.D.Disk.honest g.D.Disk.sectors g.D.Disk.reads g.D.Disk.choices g.D.Disk.moment g.D.Disk.images_since first.house.budget state before (link_of c.args.gateway.now) (lines_of c.args.input.now) first new)
+    let turns = turns_here g from origin state before chain at in
+    on_write (Unit {0}) Bool c.in-Err-run_line.halt (LineCut (g.D.Disk.keeps origin) g.D.Disk.sectors g.D.Disk.failures g.D.Disk.reads g.D.Disk.choices g.D.Disk.moment g.D.Disk.images_since old.house.budget state (before ++ turns) c.lines.moment.0 asked (link_of c.lines.gateway) old new)
+    (ScriptCut (g.D.Disk.keeps origin) g.D.Disk.sectors g.D.Disk.failures g.D.Disk.reads g.D.Disk.choices g.D.Disk.moment g.D.Disk.images_since first.house.budget state before (link_of c.args.gateway.now) (lines_of c.args.input.now) first new)
     (λ here_cut.
-    let cut = subst (λ (b : ℕ). LineCut g.D.Disk.honest g.D.Disk.sectors g.D.Disk.reads g.D.Disk.choices g.D.Disk.moment g.D.Disk.images_since b state (before ++ turns) c.lines.moment.0 asked (link_of c.lines.gateway) old new) b_is here_cut in
-    cut_here g.D.Disk.honest g.D.Disk.sectors g.D.Disk.reads g.D.Disk.choices g.D.Disk.moment g.D.Disk.images_since first.house.budget (link_of c.args.gateway.now) (link_of c.lines.gateway) (lines_of c.args.input.now) c.first_line.result.0.now (lines_of c.first_line.result.1.now) c.lines.moment.0 c.lines.count (Puts (g.W.Sink.written c.args.out.now) (g.W.Sink.written c.lines.out)) cut.turns first old new (here g from) state before chain at
+    let cut = subst (λ (b : ℕ). LineCut (g.D.Disk.keeps origin) g.D.Disk.sectors g.D.Disk.failures g.D.Disk.reads g.D.Disk.choices g.D.Disk.moment g.D.Disk.images_since b state (before ++ turns) c.lines.moment.0 asked (link_of c.lines.gateway) old new) b_is here_cut in
+    cut_here (g.D.Disk.keeps origin) g.D.Disk.sectors g.D.Disk.failures g.D.Disk.reads g.D.Disk.choices g.D.Disk.moment g.D.Disk.images_since first.house.budget (link_of c.args.gateway.now) (link_of c.lines.gateway) (lines_of c.args.input.now) c.first_line.result.0.now (lines_of c.first_line.result.1.now) c.lines.moment.0 c.lines.count (Puts (g.W.Sink.written c.args.out.now) (g.W.Sink.written c.lines.out)) cut.turns first old new (here g origin from) state before chain at
     (inl (asked, c.in-Some.ensures.found, cut.does)) cut.went)
-    (c.in-Err-run_line.ensures.cut state (before ++ turns) (subst (λ (b : ℕ). IsChain b (opened state) (before ++ turns)) (sym b_is) (chain_here g from state before chain at)) (at_here g from state before chain at))
+    (c.in-Err-run_line.ensures.cut origin state (before ++ turns) (subst (λ (b : ℕ). IsChain b (opened state) (before ++ turns)) (sym b_is) (chain_here g from origin state before chain at)) (at_here g from origin state before chain at))
 
 pub returns-in-Err-run_line-clause-starved : goal.returns-in-Err-run_line-clause-starved
-returns-in-Err-run_line-clause-starved g c state before chain at =
+returns-in-Err-run_line-clause-starved g c origin state before chain at =
     let from = (goal.at.returns-in-Err-run_line-clause-starved g c).After-first_line in
     let asked = seen c.in-Some.asked in
     let w = g.W.Sink.written in
@@ -122,18 +122,18 @@ returns-in-Err-run_line-clause-starved g c state before chain at =
     let first = c.args.concentrator.now in
     let old = c.lines.concentrator in
     let new = c.run_line.new.concentrator in
-    let turns = turns_here g from state before chain at in
+    let turns = turns_here g from origin state before chain at in
     let piece : List ℕ → Type 0 = Puts (w c.lines.out) (w c.run_line.new.out) in
-    on_no_memory (Unit {0}) Bool c.in-Err-run_line.halt (LineStarved g.D.Disk.honest g.D.Disk.sectors g.D.Disk.reads g.D.Disk.choices g.D.Disk.moment g.D.Disk.images_since old.house.budget state (before ++ turns) asked (link_of c.lines.gateway) piece old new)
-    (ScriptStarved g.D.Disk.honest g.D.Disk.sectors g.D.Disk.reads g.D.Disk.choices g.D.Disk.moment g.D.Disk.images_since first.house.budget state before (link_of c.args.gateway.now) (lines_of c.args.input.now) (Puts (w c.args.out.now) (w c.run_line.new.out)) first new)
-    (λ starved. starved_here g.D.Disk.honest g.D.Disk.sectors g.D.Disk.reads g.D.Disk.choices g.D.Disk.moment g.D.Disk.images_since first.house.budget (link_of c.args.gateway.now) (link_of c.lines.gateway) (lines_of c.args.input.now) c.first_line.result.0.now (lines_of c.first_line.result.1.now) asked c.lines.moment.0 c.lines.count
-    (Puts (w c.args.out.now) (w c.lines.out)) piece (Puts (w c.args.out.now) (w c.run_line.new.out)) first old new (here g from) c.in-Some.ensures.found b_is
+    on_no_memory (Unit {0}) Bool c.in-Err-run_line.halt (LineStarved (g.D.Disk.keeps origin) g.D.Disk.sectors g.D.Disk.failures g.D.Disk.reads g.D.Disk.choices g.D.Disk.moment g.D.Disk.images_since old.house.budget state (before ++ turns) asked (link_of c.lines.gateway) piece old new)
+    (ScriptStarved (g.D.Disk.keeps origin) g.D.Disk.sectors g.D.Disk.failures g.D.Disk.reads g.D.Disk.choices g.D.Disk.moment g.D.Disk.images_since first.house.budget state before (link_of c.args.gateway.now) (lines_of c.args.input.now) (Puts (w c.args.out.now) (w c.run_line.new.out)) first new)
+    (λ starved. starved_here (g.D.Disk.keeps origin) g.D.Disk.sectors g.D.Disk.failures g.D.Disk.reads g.D.Disk.choices g.D.Disk.moment g.D.Disk.images_since first.house.budget (link_of c.args.gateway.now) (link_of c.lines.gateway) (lines_of c.args.input.now) c.first_line.result.0.now (lines_of c.first_line.result.1.now) asked c.lines.moment.0 c.lines.count
+    (Puts (w c.args.out.now) (w c.lines.out)) piece (Puts (w c.args.out.now) (w c.run_line.new.out)) first old new (here g origin from) c.in-Some.ensures.found b_is
     (λ text more wrote put. puts-both (w c.args.out.now) (w c.lines.out) (w c.run_line.new.out) text more wrote put) state before chain at starved)
-    (c.in-Err-run_line.ensures.starved state (before ++ turns) (subst (λ (b : ℕ). IsChain b (opened state) (before ++ turns)) (sym b_is) (chain_here g from state before chain at)) (at_here g from state before chain at))
+    (c.in-Err-run_line.ensures.starved origin state (before ++ turns) (subst (λ (b : ℕ). IsChain b (opened state) (before ++ turns)) (sym b_is) (chain_here g from origin state before chain at)) (at_here g from origin state before chain at))
 
 pub returns-in-Ok-clause-ran : goal.returns-in-Ok-clause-ran
-returns-in-Ok-clause-ran g c state before chain at =
-    let so_far = c.lines.invariant.so_far in
+returns-in-Ok-clause-ran g c origin state before chain at =
+    let so_far = c.lines.invariant.so_far origin in
     let ran = (so_far.ran state before chain at).lines in
     let w = g.W.Sink.written in
     record {
@@ -151,18 +151,18 @@ returns-in-Ok-clause-ran g c state before chain at =
     }
 
 pub returns-in-Err-clause-cut : goal.returns-in-Err-clause-cut
-returns-in-Err-clause-cut g c state before chain at =
+returns-in-Err-clause-cut g c origin state before chain at =
     let from = (goal.at.returns-in-Err-clause-cut g c).After-first_line in
     let first = c.args.concentrator.now in
     let old = c.lines.concentrator in
-    cut_here g.D.Disk.honest g.D.Disk.sectors g.D.Disk.reads g.D.Disk.choices g.D.Disk.moment g.D.Disk.images_since first.house.budget (link_of c.args.gateway.now) (link_of c.lines.gateway) (lines_of c.args.input.now) c.first_line.result.0.now (lines_of c.first_line.result.1.now) c.lines.moment.0 c.lines.count (Puts (g.W.Sink.written c.args.out.now) (g.W.Sink.written c.lines.out)) [] first old old (here g from) state before chain at
+    cut_here (g.D.Disk.keeps origin) g.D.Disk.sectors g.D.Disk.failures g.D.Disk.reads g.D.Disk.choices g.D.Disk.moment g.D.Disk.images_since first.house.budget (link_of c.args.gateway.now) (link_of c.lines.gateway) (lines_of c.args.input.now) c.first_line.result.0.now (lines_of c.first_line.result.1.now) c.lines.moment.0 c.lines.count (Puts (g.W.Sink.written c.args.out.now) (g.W.Sink.written c.lines.out)) [] first old old (here g origin from) state before chain at
     (inr (c.in_default.ensures.only, refl))
-    (went_none g.D.Disk.honest g.D.Disk.sectors g.D.Disk.reads g.D.Disk.choices g.D.Disk.moment g.D.Disk.images_since first.house.budget state (before ++ turns_here g from state before chain at) old (chain_here g from state before chain at) (at_here g from state before chain at)
-    (λ h image left. g.met.D.Disk.only_now h old.store.disk image left))
+    (went_none (g.D.Disk.keeps origin) g.D.Disk.sectors g.D.Disk.failures g.D.Disk.reads g.D.Disk.choices g.D.Disk.moment g.D.Disk.images_since first.house.budget state (before ++ turns_here g from origin state before chain at) old (chain_here g from origin state before chain at) (at_here g from origin state before chain at)
+    (λ h image left. g.met.D.Disk.only_now old.store.disk image left))
 
 pub returns-clause-ran : goal.returns-clause-ran
-returns-clause-ran g c state before chain at =
-    let so_far = c.lines.invariant.so_far in
+returns-clause-ran g c origin state before chain at =
+    let so_far = c.lines.invariant.so_far origin in
     let ran = (so_far.ran state before chain at).lines in
     let none : lines_of c.lines.rest.now ≡ [] = no_line c.lines.rest.now (eqb-true _ _ (sym c.lines-test.ensures)) in
     record {

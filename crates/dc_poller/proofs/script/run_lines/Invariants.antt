@@ -14,7 +14,7 @@ invariant-lines g l = record {
   well : g.W.Sink.put_failures l.out ≡ g.W.Sink.put_failures l.fn.out;
   moment : l.moment.0 ≤ last_moment;
   absent : link_of l.fn.gateway ≡ absent → link_of l.gateway ≡ absent;
-  so_far : SoFar g.D.Disk.honest g.D.Disk.sectors g.D.Disk.reads g.D.Disk.choices g.D.Disk.moment g.D.Disk.images_since l.fn.concentrator.house.budget (link_of l.fn.gateway) (link_of l.gateway) (lines_of l.input) (lines_of l.rest) l.moment.0 l.count
+  so_far : (origin : g.row.D.Denot) → SoFar (g.D.Disk.keeps origin) g.D.Disk.sectors g.D.Disk.failures g.D.Disk.reads g.D.Disk.choices g.D.Disk.moment g.D.Disk.images_since l.fn.concentrator.house.budget (link_of l.fn.gateway) (link_of l.gateway) (lines_of l.input) (lines_of l.rest) l.moment.0 l.count
       (Puts (g.W.Sink.written l.fn.out) (g.W.Sink.written l.out)) l.fn.concentrator l.concentrator;
 }
 

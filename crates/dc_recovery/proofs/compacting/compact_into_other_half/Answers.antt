@@ -3,13 +3,14 @@ use Rattle.dc_sectors.specs.Disk.{Image, LeavesOnly, settled}
 use Rattle.dc_pages.specs.declared.site.Site.{Site}
 use Rattle.dc_changes.proofs.Lengths.{state_some, state_fits}
 use Rattle.dc_roots.specs.declared.root.Root.{Root}
-use Rattle.dc_recovery.specs.Halves.{budget_of}
+use Rattle.dc_recovery.specs.Halves.{budget_of, SparesRest}
 use Rattle.dc_recovery.specs.Language.{State, SpellsState, state_bytes}
 use Rattle.dc_recovery.specs.Roots.{compacted}
 use Rattle.dc_recovery.specs.Sites.{base_site}
 use Rattle.dc_recovery.specs.Stands.{IsReady, StandsForEither}
 use Rattle.dc_recovery.specs.Writing.{IsAttempt, IsWritten}
 use Rattle.dc_recovery.proofs.Compacted.{IsCompactable, wider, compacting_done, base_written, base_synced, root_put}
+use Rattle.dc_recovery.proofs.Spared.{spared_same, spared_through, spared_slot, spared_site}
 use Rattle.dc_recovery.proofs.compacting.compact_into_other_half.Given.{Over}
 use Rattle.dc_recovery.proofs.compacting.compact_into_other_half.Goals.{After-write_state, After-put_root}
 use Rattle.dc_recovery.proofs.compacting.compact_into_other_half.Goals as goal
@@ -26,23 +27,23 @@ write_state-requires-clause-room g c =
     omega (arith, fits, first, limit, budget, c.requires.some)
 
 -- while the base group is written
-basing : (g : Over) (c : After-write_state g) → g.D.Disk.honest → g.D.Disk.choices c.args.disk.now ≡ settled (g.D.Disk.reads c.args.disk.now)
+basing : (g : Over) (c : After-write_state g) → g.D.Disk.choices c.args.disk.now ≡ settled (g.D.Disk.reads c.args.disk.now)
     → LeavesOnly g.D.Disk.moment g.D.Disk.images_since c.args.disk.now c.write_state.new.disk
     (IsAttempt (base_site c.args.half_len (compacted c.args.root.now c.args.sequence)) c.args.root.now.session (state_bytes c.args.house.now.state) (g.D.Disk.reads c.args.disk.now))
-basing g c h is_settled =
+basing g c is_settled =
     subst (λ (s : Site). LeavesOnly g.D.Disk.moment g.D.Disk.images_since c.args.disk.now c.write_state.new.disk (IsAttempt s c.args.root.now.session (state_bytes c.args.house.now.state) (g.D.Disk.reads c.args.disk.now)))
-    c.base_site-site.ensures.exact (c.write_state.ensures.any_moment h is_settled)
+    c.base_site-site.ensures.exact (c.write_state.ensures.any_moment is_settled)
 
 pub returns-in_err-count-clause-any_moment : goal.returns-in_err-count-clause-any_moment
-returns-in_err-count-clause-any_moment g c h is_settled m place was ready at =
-    base_written g.D.Disk.moment g.D.Disk.images_since g.D.Disk.choices g.D.Disk.reads (g.met.D.Disk.counts_now h) c.args.disk.now c.write_state.new.disk
-    (record { ready = ready; small = c.requires.half; at_sequence = at }) c.args.house.now.state (basing g (goal.at.returns-in_err-count-clause-any_moment g c).After-write_state h is_settled)
+returns-in_err-count-clause-any_moment g c is_settled m place was ready at =
+    base_written g.D.Disk.moment g.D.Disk.images_since g.D.Disk.choices g.D.Disk.reads (g.met.D.Disk.counts_now) c.args.disk.now c.write_state.new.disk
+    (record { ready = ready; small = c.requires.half; at_sequence = at }) c.args.house.now.state (basing g (goal.at.returns-in_err-count-clause-any_moment g c).After-write_state is_settled)
 
 pub returns-in_err-sync-clause-any_moment : goal.returns-in_err-sync-clause-any_moment
-returns-in_err-sync-clause-any_moment g c h is_settled m place was ready at =
-    base_synced g.D.Disk.moment g.D.Disk.images_since g.D.Disk.choices g.D.Disk.reads (g.met.D.Disk.counts_now h) c.args.disk.now c.write_state.new.disk
-    (record { ready = ready; small = c.requires.half; at_sequence = at }) c.args.house.now.state (basing g (goal.at.returns-in_err-sync-clause-any_moment g c).After-write_state h is_settled)
-    c.sync.new.self (c.sync.ensures.time h)
+returns-in_err-sync-clause-any_moment g c is_settled m place was ready at =
+    base_synced g.D.Disk.moment g.D.Disk.images_since g.D.Disk.choices g.D.Disk.reads (g.met.D.Disk.counts_now) c.args.disk.now c.write_state.new.disk
+    (record { ready = ready; small = c.requires.half; at_sequence = at }) c.args.house.now.state (basing g (goal.at.returns-in_err-sync-clause-any_moment g c).After-write_state is_settled)
+    c.sync.new.self (c.sync.ensures.time)
 
 -- WHEN THE ROOT IS PUT: the disk is settled, and has the base group of the whole state.
 record HasBase (g : Over) (c : After-put_root g) : Type 0 where
@@ -50,47 +51,81 @@ record HasBase (g : Over) (c : After-put_root g) : Type 0 where
   done : IsWritten (base_site c.args.half_len (compacted c.args.root.now c.args.sequence)) c.args.root.now.session (state_bytes c.args.house.now.state) c.in_ok-count.count (g.D.Disk.reads c.args.disk.now) (g.D.Disk.reads c.sync.new.self)
   spells : SpellsState (budget_of c.args.half_len) (state_bytes c.args.house.now.state) c.args.house.now.state
 
-has_base : (g : Over) (c : After-put_root g) → g.D.Disk.honest → g.D.Disk.choices c.args.disk.now ≡ settled (g.D.Disk.reads c.args.disk.now) → HasBase g c
-has_base g c h is_settled =
+has_base : (g : Over) (c : After-put_root g) → g.D.Disk.choices c.args.disk.now ≡ settled (g.D.Disk.reads c.args.disk.now) → HasBase g c
+has_base g c is_settled =
     let H = c.args.half_len in
     let house = c.args.house.now in
-    let same : g.D.Disk.reads c.sync.new.self ≡ g.D.Disk.reads c.write_state.new.disk = c.sync.ensures.reads h in
+    let same : g.D.Disk.reads c.sync.new.self ≡ g.D.Disk.reads c.write_state.new.disk = c.sync.ensures.reads in
     record {
-      still = c.in_ok-sync.ensures.choices h ∙ ap settled (sym same);
+      still = c.in_ok-sync.ensures.choices ∙ ap settled (sym same);
       done = subst (λ (s : Site). IsWritten s c.args.root.now.session (state_bytes house.state) c.in_ok-count.count (g.D.Disk.reads c.args.disk.now) (g.D.Disk.reads c.sync.new.self)) c.base_site-site.ensures.exact
-          (subst (λ (i : Image). IsWritten c.base_site-site.result c.args.root.now.session (state_bytes house.state) c.in_ok-count.count (g.D.Disk.reads c.args.disk.now) i) (sym same) (c.in_ok-count.ensures.written h is_settled));
+          (subst (λ (i : Image). IsWritten c.base_site-site.result c.args.root.now.session (state_bytes house.state) c.in_ok-count.count (g.D.Disk.reads c.args.disk.now) i) (sym same) (c.in_ok-count.ensures.written is_settled));
       spells = record { spelled = refl; is_state = wider house.budget (budget_of H) house.state c.requires.budget c.size-size.ensures.is_state };
     }
 
 -- until it is in force, or can't be put
-put : (g : Over) (c : After-put_root g) → g.D.Disk.honest → g.D.Disk.choices c.args.disk.now ≡ settled (g.D.Disk.reads c.args.disk.now) → {m place : ℕ} {was : State}
+put : (g : Over) (c : After-put_root g) → g.D.Disk.choices c.args.disk.now ≡ settled (g.D.Disk.reads c.args.disk.now) → {m place : ℕ} {was : State}
     → IsCompactable c.args.half_len c.args.root.now m place c.args.sequence was (g.D.Disk.reads c.args.disk.now)
     → LeavesOnly g.D.Disk.moment g.D.Disk.images_since c.args.disk.now c.write_state.new.disk
     (IsAttempt (base_site c.args.half_len (compacted c.args.root.now c.args.sequence)) c.args.root.now.session (state_bytes c.args.house.now.state) (g.D.Disk.reads c.args.disk.now))
     → LeavesOnly g.D.Disk.moment g.D.Disk.images_since c.args.disk.now c.put_root.new.disk (StandsForEither c.args.half_len was c.args.house.now.state)
-put g c h is_settled may written =
-    let based = has_base g c h is_settled in
-    root_put g.D.Disk.moment g.D.Disk.images_since g.D.Disk.choices g.D.Disk.reads (g.met.D.Disk.counts_now h) c.args.disk.now c.write_state.new.disk
+put g c is_settled may written =
+    let based = has_base g c is_settled in
+    root_put g.D.Disk.moment g.D.Disk.images_since g.D.Disk.choices g.D.Disk.reads (g.met.D.Disk.counts_now) c.args.disk.now c.write_state.new.disk
     may c.args.house.now.state written
-    c.sync.new.self (c.sync.ensures.time h) c.put_root.new.disk c.in_ok-count.count based.done based.spells (c.put_root.ensures.any_moment h based.still)
+    c.sync.new.self (c.sync.ensures.time) c.put_root.new.disk c.in_ok-count.count based.done based.spells (c.put_root.ensures.any_moment based.still)
 
 pub returns-in-Ok-clause-any_moment : goal.returns-in-Ok-clause-any_moment
-returns-in-Ok-clause-any_moment g c h is_settled m place was ready at =
+returns-in-Ok-clause-any_moment g c is_settled m place was ready at =
     let from = goal.at.returns-in-Ok-clause-any_moment g c in
-    put g from.After-put_root h is_settled (record { ready = ready; small = c.requires.half; at_sequence = at }) (basing g from.After-write_state h is_settled)
+    put g from.After-put_root is_settled (record { ready = ready; small = c.requires.half; at_sequence = at }) (basing g from.After-write_state is_settled)
 
 pub returns-in-Err-clause-any_moment : goal.returns-in-Err-clause-any_moment
-returns-in-Err-clause-any_moment g c h is_settled m place was ready at =
+returns-in-Err-clause-any_moment g c is_settled m place was ready at =
     let from = goal.at.returns-in-Err-clause-any_moment g c in
-    put g from.After-put_root h is_settled (record { ready = ready; small = c.requires.half; at_sequence = at }) (basing g from.After-write_state h is_settled)
+    put g from.After-put_root is_settled (record { ready = ready; small = c.requires.half; at_sequence = at }) (basing g from.After-write_state is_settled)
 
 pub returns-in-Ok-clause-ready : goal.returns-in-Ok-clause-ready
-returns-in-Ok-clause-ready g c h is_settled m place was ready at =
-    let based = has_base g (goal.at.returns-in-Ok-clause-ready g c).After-put_root h is_settled in
+returns-in-Ok-clause-ready g c is_settled m place was ready at =
+    let based = has_base g (goal.at.returns-in-Ok-clause-ready g c).After-put_root is_settled in
     let image = g.D.Disk.reads c.put_root.new.disk in
     let next = compacted c.args.root.now c.args.sequence in
     let site = base_site c.args.half_len next in
     subst (λ (r : Root). IsReady c.args.half_len r zero (c.base_site-site.result.first + c.in_ok-count.count) c.args.house.now.state image) (sym c.in-Ok.ensures.next)
     (subst (λ (s : Site). IsReady c.args.half_len next zero (s.first + c.in_ok-count.count) c.args.house.now.state image) (sym c.base_site-site.ensures.exact)
     (compacting_done (record { ready = ready; small = c.requires.half; at_sequence = at })
-    c.args.house.now.state c.in_ok-count.count (g.D.Disk.reads c.sync.new.self) based.done based.spells image (c.in-Ok.ensures.done h based.still)))
+    c.args.house.now.state c.in_ok-count.count (g.D.Disk.reads c.sync.new.self) based.done based.spells image (c.in-Ok.ensures.done based.still)))
+
+-- the sectors outside stay, call by call
+
+state_spares : (g : Over) (c : After-write_state g) → SparesRest c.args.half_len (g.D.Disk.reads c.args.disk.now) (g.D.Disk.reads c.write_state.new.disk)
+state_spares g c =
+    spared_site c.args.half_len c.base_site-site.result (g.D.Disk.reads c.args.disk.now) (g.D.Disk.reads c.write_state.new.disk)
+    (omega (arith, ap (λ (s : Site). s.first) c.base_site-site.ensures.exact)) c.base_site-site.ensures.within c.write_state.ensures.elsewhere
+
+root_spares : (g : Over) (c : After-put_root g) → SparesRest c.args.half_len (g.D.Disk.reads c.args.disk.now) (g.D.Disk.reads c.write_state.new.disk)
+    → SparesRest c.args.half_len (g.D.Disk.reads c.args.disk.now) (g.D.Disk.reads c.put_root.new.disk)
+root_spares g c so_far =
+    spared_through c.args.half_len (g.D.Disk.reads c.args.disk.now) (g.D.Disk.reads c.sync.new.self) (g.D.Disk.reads c.put_root.new.disk)
+    (spared_through c.args.half_len (g.D.Disk.reads c.args.disk.now) (g.D.Disk.reads c.write_state.new.disk) (g.D.Disk.reads c.sync.new.self) so_far
+    (spared_same c.args.half_len (g.D.Disk.reads c.write_state.new.disk) (g.D.Disk.reads c.sync.new.self) c.sync.ensures.reads))
+    (spared_slot c.args.half_len _ (g.D.Disk.reads c.sync.new.self) (g.D.Disk.reads c.put_root.new.disk) c.put_root.ensures.elsewhere)
+
+pub returns-in_err-count-clause-elsewhere : goal.returns-in_err-count-clause-elsewhere
+returns-in_err-count-clause-elsewhere g c = state_spares g (goal.at.returns-in_err-count-clause-elsewhere g c).After-write_state
+
+pub returns-in_err-sync-clause-elsewhere : goal.returns-in_err-sync-clause-elsewhere
+returns-in_err-sync-clause-elsewhere g c =
+    spared_through c.args.half_len (g.D.Disk.reads c.args.disk.now) (g.D.Disk.reads c.write_state.new.disk) (g.D.Disk.reads c.sync.new.self)
+    (state_spares g (goal.at.returns-in_err-sync-clause-elsewhere g c).After-write_state)
+    (spared_same c.args.half_len (g.D.Disk.reads c.write_state.new.disk) (g.D.Disk.reads c.sync.new.self) c.sync.ensures.reads)
+
+pub returns-in-Ok-clause-elsewhere : goal.returns-in-Ok-clause-elsewhere
+returns-in-Ok-clause-elsewhere g c =
+    let at = goal.at.returns-in-Ok-clause-elsewhere g c in
+    root_spares g at.After-put_root (state_spares g at.After-write_state)
+
+pub returns-in-Err-clause-elsewhere : goal.returns-in-Err-clause-elsewhere
+returns-in-Err-clause-elsewhere g c =
+    let at = goal.at.returns-in-Err-clause-elsewhere g c in
+    root_spares g at.After-put_root (state_spares g at.After-write_state)

@@ -1,4 +1,4 @@
-use Rattle.std.proofs.Common.{◌≡◌, ◌<◌, ◌≤◌, ℕ}
+use Rattle.std.proofs.Common.{◌≡◌, ◌⊎◌, ◌<◌, ◌≤◌, ℕ}
 use Rattle.dc_sectors.specs.Disk.{LeavesOnly, settled}
 use Rattle.dc_recovery.specs.Stands.{blank, IsWiped}
 use Rattle.dc_recovery.proofs.Wiped.{WipedChoices}
@@ -6,9 +6,11 @@ use Rattle.dc_recovery.proofs.formatting.blank_sectors.Given as goal
 
 abbrev pub invariant-loop-n : goal.invariant-loop-n
 invariant-loop-n g l = record {
-  blanks : g.D.Disk.honest → (k : ℕ) → 1 ≤ k → k < l.n → g.D.Disk.reads l.disk k ≡ blank;
-  choices : g.D.Disk.honest → g.D.Disk.choices l.fn.disk ≡ settled (g.D.Disk.reads l.fn.disk) → WipedChoices (g.D.Disk.reads l.fn.disk) (g.D.Disk.choices l.disk);
-  any_moment : g.D.Disk.honest → g.D.Disk.choices l.fn.disk ≡ settled (g.D.Disk.reads l.fn.disk) → LeavesOnly g.D.Disk.moment g.D.Disk.images_since l.fn.disk l.disk (IsWiped (g.D.Disk.reads l.fn.disk));
+  blanks : (k : ℕ) → 1 ≤ k → k < l.n → g.D.Disk.reads l.disk k ≡ blank;
+  choices : g.D.Disk.choices l.fn.disk ≡ settled (g.D.Disk.reads l.fn.disk) → WipedChoices (g.D.Disk.reads l.fn.disk) (g.D.Disk.choices l.disk);
+  any_moment : g.D.Disk.choices l.fn.disk ≡ settled (g.D.Disk.reads l.fn.disk) → LeavesOnly g.D.Disk.moment g.D.Disk.images_since l.fn.disk l.disk (IsWiped (g.D.Disk.reads l.fn.disk));
+  elsewhere : (m : ℕ) → (m < 1) ⊎ (l.end ≤ m) → g.D.Disk.reads l.disk m ≡ g.D.Disk.reads l.fn.disk m;
+  before : g.D.Disk.keeps l.disk → g.D.Disk.keeps l.fn.disk;
   count : g.D.Disk.sectors l.disk ≡ g.D.Disk.sectors l.fn.disk;
   failures : g.D.Disk.failures l.fn.disk ≤ g.D.Disk.failures l.disk;
 }

@@ -1,5 +1,6 @@
 use Rattle.std.proofs.Common.{◌≡◌, ◌+◌, ℕ, ap, refl, subst, sym, ◌∙◌}
 use Rattle.dc_sectors.specs.Disk.{Image, IsImage, LeavesOnly, settled}
+use Rattle.dc_recovery.specs.Halves.{SparesRest}
 use Rattle.dc_recovery.specs.Roots.{IsOpenedRoot}
 use Rattle.dc_recovery.specs.Refusal.{IsSpent}
 use Rattle.dc_changes.specs.State.{Held}
@@ -7,22 +8,23 @@ use Rattle.dc_recovery.specs.Stands.{IsRead, IsBegun, ReadsBy, Reads, StandsBy, 
 use Rattle.dc_recovery.proofs.Opened.{before_writing, after_session, read_stands}
 use Rattle.dc_recovery.proofs.ReadMoments.{if_err, synced, synced_read}
 use Rattle.dc_recovery.proofs.Refusals.{not_worn}
+use Rattle.dc_recovery.proofs.Spared.{spared_same, spared_through}
 use Rattle.dc_recovery.proofs.opening.open_on.Given.{Over}
 use Rattle.dc_recovery.proofs.opening.open_on.Goals.{After-read_image, After-is_spent, After-begin}
 use Rattle.dc_recovery.proofs.opening.open_on.Goals as goal
 
 -- the sync and the reading wrote nothing
-looked : (g : Over) (c : After-read_image g) → g.D.Disk.honest → LeavesOnly g.D.Disk.moment g.D.Disk.images_since c.args.disk.now c.read_image.new.disk (IsImage (g.D.Disk.choices c.args.disk.now))
-looked g c h =
+looked : (g : Over) (c : After-read_image g) → LeavesOnly g.D.Disk.moment g.D.Disk.images_since c.args.disk.now c.read_image.new.disk (IsImage (g.D.Disk.choices c.args.disk.now))
+looked g c =
     let disk = c.args.disk.now in
-    synced_read g.D.Disk.moment g.D.Disk.images_since g.D.Disk.choices disk (g.met.D.Disk.only_now h disk) g.D.Disk.reads c.sync.new.self c.read_image.new.disk (g.met.D.Disk.reads_a_choice h disk) (c.sync.ensures.time h) (c.in-Ok.ensures.choices h) (c.read_image.ensures.looked.any_moment h)
+    synced_read g.D.Disk.moment g.D.Disk.images_since g.D.Disk.choices disk (g.met.D.Disk.only_now disk) g.D.Disk.reads c.sync.new.self c.read_image.new.disk (g.met.D.Disk.reads_a_choice disk) c.sync.ensures.time c.in-Ok.ensures.choices c.read_image.ensures.looked.any_moment
 
 -- what was found is what the disk read from the first
-read : (g : Over) (c : After-is_spent g) → g.D.Disk.honest
+read : (g : Over) (c : After-is_spent g) → g.D.Disk.keeps c.read_image.new.disk
     → IsRead c.args.half_len c.in_ok-found.found.root c.in_ok-found.found.place c.in_ok-found.found.last c.in_ok-found.found.house.state (g.D.Disk.reads c.args.disk.now)
 read g c h =
     let found = c.in_ok-found.found in
-    subst (λ (i : Image). IsRead c.args.half_len found.root found.place found.last found.house.state i) (c.sync.ensures.reads h) (c.in_ok-found.ensures.all h)
+    subst (λ (i : Image). IsRead c.args.half_len found.root found.place found.last found.house.state i) c.sync.ensures.reads (c.in_ok-found.ensures.all h)
 
 -- WHAT THE SESSION BEGINS ON: a settled disk that stands for the state that was read, as the old one did.
 record IsFound (g : Over) (c : After-begin g) : Type 0 where
@@ -32,15 +34,15 @@ record IsFound (g : Over) (c : After-begin g) : Type 0 where
   stands : StandsBy c.args.half_len c.in_ok-found.found.root m c.in_ok-found.found.place c.in_ok-found.found.house.state (g.D.Disk.reads c.read_image.new.disk)
   last_is : c.in_ok-found.found.last ≡ c.in_ok-found.found.root.base_sequence + m
 
-is_found : (g : Over) (c : After-begin g) → g.D.Disk.honest → EachStands c.args.half_len (g.D.Disk.choices c.args.disk.now)
+is_found : (g : Over) (c : After-begin g) → EachStands c.args.half_len (g.D.Disk.choices c.args.disk.now)
     → IsRead c.args.half_len c.in_ok-found.found.root c.in_ok-found.found.place c.in_ok-found.found.last c.in_ok-found.found.house.state (g.D.Disk.reads c.args.disk.now) → IsFound g c
-is_found g c h each was =
+is_found g c each was =
     let disk = c.args.disk.now in
     let found = c.in_ok-found.found in
-    let same : g.D.Disk.reads c.read_image.new.disk ≡ g.D.Disk.reads disk = c.read_image.ensures.looked.reads_same h ∙ c.sync.ensures.reads h in
-    let by = read_stands c.args.half_len c.requires.most found.root found.place found.last found.house.state (g.D.Disk.choices disk) (g.D.Disk.reads disk) each (g.met.D.Disk.reads_a_choice h disk) was in
+    let same : g.D.Disk.reads c.read_image.new.disk ≡ g.D.Disk.reads disk = c.read_image.ensures.looked.reads_same ∙ c.sync.ensures.reads in
+    let by = read_stands c.args.half_len c.requires.most found.root found.place found.last found.house.state (g.D.Disk.choices disk) (g.D.Disk.reads disk) each (g.met.D.Disk.reads_a_choice disk) was in
     record {
-      is_settled = c.read_image.ensures.looked.choices_same h ∙ c.in-Ok.ensures.choices h ∙ ap settled (sym same);
+      is_settled = c.read_image.ensures.looked.choices_same ∙ c.in-Ok.ensures.choices ∙ ap settled (sym same);
       m = was.m;
       stood = by;
       stands = subst (λ (i : Image). StandsBy c.args.half_len found.root was.m found.place found.house.state i) (sym same) by;
@@ -48,60 +50,60 @@ is_found g c h each was =
     }
 
 -- whatever the beginning answers
-begun : (g : Over) (c : After-begin g) → g.D.Disk.honest → EachStands c.args.half_len (g.D.Disk.choices c.args.disk.now)
+begun : (g : Over) (c : After-begin g) → EachStands c.args.half_len (g.D.Disk.choices c.args.disk.now)
     → IsRead c.args.half_len c.in_ok-found.found.root c.in_ok-found.found.place c.in_ok-found.found.last c.in_ok-found.found.house.state (g.D.Disk.reads c.args.disk.now)
     → LeavesOnly g.D.Disk.moment g.D.Disk.images_since c.args.disk.now c.read_image.new.disk (IsImage (g.D.Disk.choices c.args.disk.now))
     → LeavesOnly g.D.Disk.moment g.D.Disk.images_since c.args.disk.now c.begin.new.disk (StandsForOne c.args.half_len (g.D.Disk.choices c.args.disk.now))
-begun g c h each was reading =
+begun g c each was reading =
     let disk = c.args.disk.now in
     let found = c.in_ok-found.found in
-    let is = is_found g c h each was in
-    after_session g.D.Disk.moment g.D.Disk.images_since g.D.Disk.choices c.args.half_len disk each c.read_image.new.disk c.begin.new.disk found.house.state (g.D.Disk.reads disk) (g.met.D.Disk.reads_a_choice h disk)
-    (record { root = found.root; m = is.m; place = found.place; by = is.stood }) reading (c.begin.ensures.any_moment h is.is_settled is.m is.stands is.last_is)
+    let is = is_found g c each was in
+    after_session g.D.Disk.moment g.D.Disk.images_since g.D.Disk.choices c.args.half_len disk each c.read_image.new.disk c.begin.new.disk found.house.state (g.D.Disk.reads disk) (g.met.D.Disk.reads_a_choice disk)
+    (record { root = found.root; m = is.m; place = found.place; by = is.stood }) reading (c.begin.ensures.any_moment is.is_settled is.m is.stands is.last_is)
 
 pub returns-in-Err-clause-any_moment : goal.returns-in-Err-clause-any_moment
 returns-in-Err-clause-any_moment g c h each =
     let disk = c.args.disk.now in
     before_writing g.D.Disk.moment g.D.Disk.images_since g.D.Disk.choices c.args.half_len disk each c.sync.new.self
-    (synced g.D.Disk.moment g.D.Disk.images_since g.D.Disk.choices disk (g.met.D.Disk.only_now h disk) c.sync.new.self (c.sync.ensures.time h))
+    (synced g.D.Disk.moment g.D.Disk.images_since g.D.Disk.choices disk (g.met.D.Disk.only_now disk) c.sync.new.self c.sync.ensures.time)
 
 pub returns-in_err-found-clause-any_moment : goal.returns-in_err-found-clause-any_moment
 returns-in_err-found-clause-any_moment g c h each =
-    before_writing g.D.Disk.moment g.D.Disk.images_since g.D.Disk.choices c.args.half_len c.args.disk.now each c.read_image.new.disk (looked g (goal.at.returns-in_err-found-clause-any_moment g c).After-read_image h)
+    before_writing g.D.Disk.moment g.D.Disk.images_since g.D.Disk.choices c.args.half_len c.args.disk.now each c.read_image.new.disk (looked g (goal.at.returns-in_err-found-clause-any_moment g c).After-read_image)
 
 pub returns-then-is_spent-clause-any_moment : goal.returns-then-is_spent-clause-any_moment
 returns-then-is_spent-clause-any_moment g c h each =
-    before_writing g.D.Disk.moment g.D.Disk.images_since g.D.Disk.choices c.args.half_len c.args.disk.now each c.read_image.new.disk (looked g (goal.at.returns-then-is_spent-clause-any_moment g c).After-read_image h)
+    before_writing g.D.Disk.moment g.D.Disk.images_since g.D.Disk.choices c.args.half_len c.args.disk.now each c.read_image.new.disk (looked g (goal.at.returns-then-is_spent-clause-any_moment g c).After-read_image)
 
 pub returns-in_err-begin-clause-any_moment : goal.returns-in_err-begin-clause-any_moment
 returns-in_err-begin-clause-any_moment g c h each =
     let at = goal.at.returns-in_err-begin-clause-any_moment g c in
-    begun g at.After-begin h each (read g at.After-is_spent h) (looked g at.After-read_image h)
+    begun g at.After-begin each (read g at.After-is_spent (c.begin.ensures.before h)) (looked g at.After-read_image)
 
 pub returns-clause-any_moment : goal.returns-clause-any_moment
 returns-clause-any_moment g c h each =
     let at = goal.at.returns-clause-any_moment g c in
-    begun g at.After-begin h each (read g at.After-is_spent h) (looked g at.After-read_image h)
+    begun g at.After-begin each (read g at.After-is_spent (c.begin.ensures.before h)) (looked g at.After-read_image)
 
 pub returns-clause-ready : goal.returns-clause-ready
 returns-clause-ready g c h each =
     let at = goal.at.returns-clause-ready g c in
-    let is = is_found g at.After-begin h each (read g at.After-is_spent h) in
+    let is = is_found g at.After-begin each (read g at.After-is_spent (c.begin.ensures.before h)) in
     let house = c.begin.ensures.house in
     subst (λ (held : Held). IsBegun c.args.half_len c.begin.new.found.root c.begin.new.found.place c.begin.new.found.last held.state (g.D.Disk.reads c.begin.new.disk)) (sym house)
-    (c.in_ok-begin.ensures.ready h is.is_settled is.m is.stands is.last_is)
+    (c.in_ok-begin.ensures.ready is.is_settled is.m is.stands is.last_is)
 
 pub returns-clause-not_worn : goal.returns-clause-not_worn
 returns-clause-not_worn g c h =
     let found = c.in_ok-found.found in
-    let was = read g (goal.at.returns-clause-not_worn g c).After-is_spent h in
+    let was = read g (goal.at.returns-clause-not_worn g c).After-is_spent (c.begin.ensures.before h) in
     let fine : IsSpent found.root found.last → ⊥ = λ spent. (let yes = c.is_spent.ensures.1 spent in let no = c.if-is_spent.false in absurd (cc (yes, no))) in
     not_worn c.args.half_len c.requires.most (g.D.Disk.reads c.args.disk.now) found.root was.m found.place found.house.state was.by (λ spent. fine (subst (IsSpent found.root) (sym was.last_is) spent))
 
 pub returns-clause-root : goal.returns-clause-root
 returns-clause-root g c h =
     let found = c.in_ok-found.found in
-    let was = read g (goal.at.returns-clause-root g c).After-is_spent h in (
+    let was = read g (goal.at.returns-clause-root g c).After-is_spent (c.begin.ensures.before h) in (
       found.root,
       was.m,
       found.place,
@@ -111,14 +113,14 @@ returns-clause-root g c h =
 
 pub returns-clause-reads : goal.returns-clause-reads
 returns-clause-reads g c h =
-    let was = read g (goal.at.returns-clause-reads g c).After-is_spent h in
+    let was = read g (goal.at.returns-clause-reads g c).After-is_spent (c.begin.ensures.before h) in
     subst (λ (held : Held). Reads c.args.half_len held.state (g.D.Disk.reads c.args.disk.now)) (sym c.begin.ensures.house) (record { root = c.in_ok-found.found.root; m = was.m; place = c.in_ok-found.found.place; by = was.by })
 
 pub returns-in_err-found-clause-spares_images : goal.returns-in_err-found-clause-spares_images
-returns-in_err-found-clause-spares_images g c h = if_err _ c.from_residual.result (λ fault other. looked g (goal.at.returns-in_err-found-clause-spares_images g c).After-read_image h)
+returns-in_err-found-clause-spares_images g c = if_err _ c.from_residual.result (λ fault other. looked g (goal.at.returns-in_err-found-clause-spares_images g c).After-read_image)
 
 pub returns-then-is_spent-clause-spares_images : goal.returns-then-is_spent-clause-spares_images
-returns-then-is_spent-clause-spares_images g c h other = looked g (goal.at.returns-then-is_spent-clause-spares_images g c).After-read_image h
+returns-then-is_spent-clause-spares_images g c other = looked g (goal.at.returns-then-is_spent-clause-spares_images g c).After-read_image
 
 pub returns-then-is_spent-clause-refused : goal.returns-then-is_spent-clause-refused
 returns-then-is_spent-clause-refused g c h =
@@ -126,3 +128,32 @@ returns-then-is_spent-clause-refused g c h =
     let was = read g (goal.at.returns-then-is_spent-clause-refused g c).After-is_spent h in
     let spent : IsSpent found.root found.last = c.if-is_spent.ensures.0 refl in
     record { root = found.root; m = was.m; place = found.place; state = found.house.state; by = was.by; spent = subst (λ (n : ℕ). IsSpent found.root n) was.last_is spent }
+
+-- the sectors outside stay: while the image is read, and when a session begins
+
+read_spares : (g : Over) (c : After-read_image g) → SparesRest c.args.half_len (g.D.Disk.reads c.args.disk.now) (g.D.Disk.reads c.read_image.new.disk)
+read_spares g c = spared_same c.args.half_len (g.D.Disk.reads c.args.disk.now) (g.D.Disk.reads c.read_image.new.disk) (c.read_image.ensures.looked.reads_same ∙ c.sync.ensures.reads)
+
+begin_spares : (g : Over) (c : After-begin g) → SparesRest c.args.half_len (g.D.Disk.reads c.args.disk.now) (g.D.Disk.reads c.read_image.new.disk)
+    → SparesRest c.args.half_len (g.D.Disk.reads c.args.disk.now) (g.D.Disk.reads c.begin.new.disk)
+begin_spares g c reading =
+    spared_through c.args.half_len (g.D.Disk.reads c.args.disk.now) (g.D.Disk.reads c.read_image.new.disk) (g.D.Disk.reads c.begin.new.disk) reading c.begin.ensures.elsewhere
+
+pub returns-in-Err-clause-elsewhere : goal.returns-in-Err-clause-elsewhere
+returns-in-Err-clause-elsewhere g c = spared_same c.args.half_len (g.D.Disk.reads c.args.disk.now) (g.D.Disk.reads c.sync.new.self) c.sync.ensures.reads
+
+pub returns-in_err-found-clause-elsewhere : goal.returns-in_err-found-clause-elsewhere
+returns-in_err-found-clause-elsewhere g c = read_spares g (goal.at.returns-in_err-found-clause-elsewhere g c).After-read_image
+
+pub returns-then-is_spent-clause-elsewhere : goal.returns-then-is_spent-clause-elsewhere
+returns-then-is_spent-clause-elsewhere g c = read_spares g (goal.at.returns-then-is_spent-clause-elsewhere g c).After-read_image
+
+pub returns-in_err-begin-clause-elsewhere : goal.returns-in_err-begin-clause-elsewhere
+returns-in_err-begin-clause-elsewhere g c =
+    let at = goal.at.returns-in_err-begin-clause-elsewhere g c in
+    begin_spares g at.After-begin (read_spares g at.After-read_image)
+
+pub returns-clause-elsewhere : goal.returns-clause-elsewhere
+returns-clause-elsewhere g c =
+    let at = goal.at.returns-clause-elsewhere g c in
+    begin_spares g at.After-begin (read_spares g at.After-read_image)

@@ -1,4 +1,4 @@
-use Rattle.std.proofs.Common.{ap, subst, sym, ◌∙◌, Ok}
+use Rattle.std.proofs.Common.{arith, ap, subst, sym, ◌∙◌, Ok}
 use Rattle.dc_sectors.specs.Disk.{Image}
 use Rattle.dc_pages.specs.Group.{IsComplete}
 use Rattle.dc_recovery.specs.Sites.{change_site}
@@ -10,8 +10,8 @@ use Rattle.dc_recovery.proofs.reading.read_groups.Goals as goal
 pub returns-clause-all : goal.returns-clause-all
 returns-clause-all g c h budget reached =
     let H = c.args.half_len in
-    let so_far = c.groups.invariant.reached h budget reached in
-    let same = c.groups.invariant.looked.reads_same h in
+    let so_far = c.groups.invariant.reached (c.in_ok-read_next.ensures.looked.before h) budget reached in
+    let same = c.groups.invariant.looked.reads_same in
     let found = c.groups.found in
     let now = c.read_next.new.found in
     let before = subst (λ (i : Image). IsReached H found.root found.place found.last found.house.state i) (sym same) so_far in
@@ -29,12 +29,13 @@ groups-preserved g c =
     let now = c.read_next.new.found in
     record {
       reached = λ h budget reached.
-          let same = so_far.looked.reads_same h in
-          let before = subst (λ (i : Image). IsReached H found.root found.place found.last found.house.state i) (sym same) (so_far.reached h budget reached) in
+          let same = so_far.looked.reads_same in
+          let before = subst (λ (i : Image). IsReached H found.root found.place found.last found.house.state i) (sym same) (so_far.reached (next.looked.before h) budget reached) in
           subst (λ (i : Image). IsReached H now.root now.place now.last now.house.state i) same (next.more h (so_far.budget ∙ budget) before);
       root = next.kept.0 ∙ so_far.root;
       budget = next.kept.1 ∙ so_far.budget;
+      from = (let first = so_far.from in let second = next.from in omega arith);
       within = next.within;
-      looked = looked_on g.D.Disk.honest g.D.Disk.reads g.D.Disk.choices g.D.Disk.moment g.D.Disk.images_since g.D.Disk.sectors g.D.Disk.failures c.args.disk.now c.groups.disk c.read_next.new.disk so_far.looked next.looked;
+      looked = looked_on g.D.Disk.keeps g.D.Disk.reads g.D.Disk.choices g.D.Disk.moment g.D.Disk.images_since g.D.Disk.sectors g.D.Disk.failures c.args.disk.now c.groups.disk c.read_next.new.disk so_far.looked next.looked;
       passed = next.passed (λ is. absurd (cc is)) ∙ so_far.passed;
     }

@@ -6,13 +6,14 @@ use Rattle.dc_recovery.proofs.reading.read_groups.Given as goal
 
 abbrev pub invariant-groups : goal.invariant-groups
 invariant-groups g l = record {
-  reached : g.D.Disk.honest → l.fn.found.house.budget ≡ budget_of l.half_len
+  reached : g.D.Disk.keeps l.disk → l.fn.found.house.budget ≡ budget_of l.half_len
       → IsReached l.half_len l.fn.found.root l.fn.found.place l.fn.found.last l.fn.found.house.state (g.D.Disk.reads l.fn.disk)
       → IsReached l.half_len l.found.root l.found.place l.found.last l.found.house.state (g.D.Disk.reads l.fn.disk);
   root : l.found.root ≡ l.fn.found.root;
   budget : l.found.house.budget ≡ l.fn.found.house.budget;
+  from : l.fn.found.place ≤ l.found.place;
   within : l.found.place ≤ half_end l.half_len l.found.root.half;
-  looked : OnlyLooked g.D.Disk.honest g.D.Disk.reads g.D.Disk.choices g.D.Disk.moment g.D.Disk.images_since g.D.Disk.sectors g.D.Disk.failures l.fn.disk l.disk;
+  looked : OnlyLooked g.D.Disk.keeps g.D.Disk.reads g.D.Disk.choices g.D.Disk.moment g.D.Disk.images_since g.D.Disk.sectors g.D.Disk.failures l.fn.disk l.disk;
   passed : g.D.Disk.failures l.disk ≡ g.D.Disk.failures l.fn.disk;
 }
 

@@ -14,23 +14,23 @@ use Rattle.dc_recovery.proofs.reading.read_image.Goals as goal
 -- ---- BEFORE THE GROUPS: the root that was chosen, and the base that it led to
 
 looked_at_base : (g : Over) (c : In_ok-root g) → (base : g.row.D.Denot)
-    → OnlyLooked g.D.Disk.honest g.D.Disk.reads g.D.Disk.choices g.D.Disk.moment g.D.Disk.images_since g.D.Disk.sectors g.D.Disk.failures c.current_root.new.disk base
-    → OnlyLooked g.D.Disk.honest g.D.Disk.reads g.D.Disk.choices g.D.Disk.moment g.D.Disk.images_since g.D.Disk.sectors g.D.Disk.failures c.args.disk.now base
-looked_at_base g c base looked = looked_on g.D.Disk.honest g.D.Disk.reads g.D.Disk.choices g.D.Disk.moment g.D.Disk.images_since g.D.Disk.sectors g.D.Disk.failures c.args.disk.now c.current_root.new.disk base c.current_root.ensures.looked looked
+    → OnlyLooked g.D.Disk.keeps g.D.Disk.reads g.D.Disk.choices g.D.Disk.moment g.D.Disk.images_since g.D.Disk.sectors g.D.Disk.failures c.current_root.new.disk base
+    → OnlyLooked g.D.Disk.keeps g.D.Disk.reads g.D.Disk.choices g.D.Disk.moment g.D.Disk.images_since g.D.Disk.sectors g.D.Disk.failures c.args.disk.now base
+looked_at_base g c base looked = looked_on g.D.Disk.keeps g.D.Disk.reads g.D.Disk.choices g.D.Disk.moment g.D.Disk.images_since g.D.Disk.sectors g.D.Disk.failures c.args.disk.now c.current_root.new.disk base c.current_root.ensures.looked looked
 
 -- what the disk reads is what it read before, and the base is reached from the root in force
 record IsBased (g : Over) (c : In_ok-found g) : Type 0 where
   reads_same : g.D.Disk.reads c.read_base.new.disk ≡ g.D.Disk.reads c.args.disk.now
   reached : IsReached c.args.half_len c.in_ok-found.found.root c.in_ok-found.found.place c.in_ok-found.found.last c.in_ok-found.found.house.state (g.D.Disk.reads c.read_base.new.disk)
 
-is_based : (g : Over) (c : In_ok-found g) → g.D.Disk.honest → IsBased g c
+is_based : (g : Over) (c : In_ok-found g) → g.D.Disk.keeps c.read_base.new.disk → IsBased g c
 is_based g c h =
     let H = c.args.half_len in
-    let chosen : g.D.Disk.reads c.current_root.new.disk ≡ g.D.Disk.reads c.args.disk.now = c.current_root.ensures.looked.reads_same h in
-    let based : g.D.Disk.reads c.read_base.new.disk ≡ g.D.Disk.reads c.current_root.new.disk = c.read_base.ensures.looked.reads_same h in
+    let chosen : g.D.Disk.reads c.current_root.new.disk ≡ g.D.Disk.reads c.args.disk.now = c.current_root.ensures.looked.reads_same in
+    let based : g.D.Disk.reads c.read_base.new.disk ≡ g.D.Disk.reads c.current_root.new.disk = c.read_base.ensures.looked.reads_same in
     let root = c.in_ok-root.root in
     let found = c.in_ok-found.found in
-    let current = subst (λ (i : Image). IsCurrent H root i) (sym chosen) (c.in_ok-root.ensures.current h) in
+    let current = subst (λ (i : Image). IsCurrent H root i) (sym chosen) (c.in_ok-root.ensures.current (c.read_base.ensures.looked.before h)) in
     let reached = subst (λ (i : Image). IsReached H root found.place found.last found.house.state i) (sym based) (c.in_ok-found.ensures.reached h current) in
     record {
       reads_same = based ∙ chosen;
@@ -43,17 +43,17 @@ returns-in_err-found-clause-looked g c =
 
 pub returns-in_err-read_groups-clause-looked : goal.returns-in_err-read_groups-clause-looked
 returns-in_err-read_groups-clause-looked g c =
-    looked_on g.D.Disk.honest g.D.Disk.reads g.D.Disk.choices g.D.Disk.moment g.D.Disk.images_since g.D.Disk.sectors g.D.Disk.failures c.args.disk.now c.read_base.new.disk c.read_groups.new.disk
+    looked_on g.D.Disk.keeps g.D.Disk.reads g.D.Disk.choices g.D.Disk.moment g.D.Disk.images_since g.D.Disk.sectors g.D.Disk.failures c.args.disk.now c.read_base.new.disk c.read_groups.new.disk
     (looked_at_base g (goal.at.returns-in_err-read_groups-clause-looked g c).In_ok-root c.read_base.new.disk c.read_base.ensures.looked) c.read_groups.ensures.looked
 
 pub returns-clause-looked : goal.returns-clause-looked
 returns-clause-looked g c =
-    looked_on g.D.Disk.honest g.D.Disk.reads g.D.Disk.choices g.D.Disk.moment g.D.Disk.images_since g.D.Disk.sectors g.D.Disk.failures c.args.disk.now c.read_base.new.disk c.read_groups.new.disk
+    looked_on g.D.Disk.keeps g.D.Disk.reads g.D.Disk.choices g.D.Disk.moment g.D.Disk.images_since g.D.Disk.sectors g.D.Disk.failures c.args.disk.now c.read_base.new.disk c.read_groups.new.disk
     (looked_at_base g (goal.at.returns-clause-looked g c).In_ok-root c.read_base.new.disk c.read_base.ensures.looked) c.read_groups.ensures.looked
 
 pub returns-clause-all : goal.returns-clause-all
 returns-clause-all g c h =
-    let based = is_based g (goal.at.returns-clause-all g c).In_ok-found h in
+    let based = is_based g (goal.at.returns-clause-all g c).In_ok-found (c.read_groups.ensures.looked.before h) in
     let now = c.read_groups.new.found in
     subst (λ (i : Image). IsRead c.args.half_len now.root now.place now.last now.house.state i) based.reads_same (c.in_ok-read_groups.ensures.all h c.in_ok-found.ensures.budget based.reached)
 
@@ -68,7 +68,7 @@ returns-in_err-read_groups-clause-passed g c other =
 
 pub returns-in_err-read_groups-clause-refused : goal.returns-in_err-read_groups-clause-refused
 returns-in_err-read_groups-clause-refused g c h =
-    let based = is_based g (goal.at.returns-in_err-read_groups-clause-refused g c).In_ok-found h in
+    let based = is_based g (goal.at.returns-in_err-read_groups-clause-refused g c).In_ok-found (c.read_groups.ensures.looked.before h) in
     let told = c.from_residual-in_err-read_groups in
     let p = err_from_is_err_and told.result told.ensures.1 in
     let fault = c.in_err-read_groups.field-0.0 in

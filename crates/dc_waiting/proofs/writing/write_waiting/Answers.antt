@@ -1,9 +1,9 @@
-use Rattle.std.proofs.Common.{subst, OnOk}
+use Rattle.std.proofs.Common.{subst, OnOk, ⊎_elim, inl, inr, length, rules}
 use Rattle.dc_sectors.specs.Disk.{LeavesOnly}
 use Rattle.dc_changes.specs.State.{State}
 use Rattle.dc_recovery.specs.Halves.{half_len_of}
 use Rattle.dc_recovery.specs.Stands.{StandsForEither}
-use Rattle.dc_recovery.specs.Store.{Keeps}
+use Rattle.dc_recovery.specs.Store.{Fits, Keeps}
 use Rattle.dc_waiting.proofs.writing.write_waiting.Goals as goal
 
 pub returns-then-fits-clause-goes_on : goal.returns-then-fits-clause-goes_on
@@ -13,10 +13,18 @@ pub returns-clause-goes_on : goal.returns-clause-goes_on
 returns-clause-goes_on g c = c.compact.ensures.running
 
 pub returns-clause-kept : goal.returns-clause-kept
-returns-clause-kept g c h was changes kept spells accepted same =
-    subst (λ (s : State). OnOk c.compact.result (Keeps g.D.Disk.sectors g.D.Disk.reads g.D.Disk.choices c.compact.new.self s)) same (c.compact.ensures.kept h was kept)
+returns-clause-kept g c was changes kept spells accepted same =
+    subst (λ (s : State). OnOk c.compact.result (Keeps g.D.Disk.sectors g.D.Disk.reads g.D.Disk.choices c.compact.new.self s)) same (c.compact.ensures.kept was kept)
 
 pub returns-clause-any_moment : goal.returns-clause-any_moment
-returns-clause-any_moment g c h was changes kept spells accepted same =
+returns-clause-any_moment g c was changes kept spells accepted same =
     subst (λ (s : State). LeavesOnly g.D.Disk.moment g.D.Disk.images_since c.args.store.now.disk c.compact.new.self.disk (StandsForEither (half_len_of (g.D.Disk.sectors c.args.store.now.disk)) was s)) same
-    (c.compact.ensures.any_moment h was kept)
+    (c.compact.ensures.any_moment was kept)
+
+pub returns-then-fits-clause-worn : goal.returns-then-fits-clause-worn
+returns-then-fits-clause-worn g c worn = inl (c.append.ensures.worn.0 worn).1
+
+pub returns-clause-worn : goal.returns-clause-worn
+returns-clause-worn g c worn =
+    let no_room : ¬ (Fits (g.D.Disk.sectors c.args.store.now.disk) c.args.store.now (length c.args.waiting.now.bytes)) = search rules in
+    ⊎_elim (λ last. inl last) (λ generation. inr (no_room, generation)) (c.compact.ensures.worn.0 worn).1

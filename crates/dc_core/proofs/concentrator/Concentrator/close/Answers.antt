@@ -7,12 +7,12 @@ use Rattle.dc_recovery.proofs.Life.{close_open}
 use Rattle.dc_core.proofs.concentrator.Concentrator.close.Goals as goal
 
 pub returns-clause-holds : goal.returns-clause-holds
-returns-clause-holds g c h core at runs =
+returns-clause-holds g c origin h core at runs =
     let disk : c.close.result ≡ c.args.self.store.disk = cc in
     subst (λ (d : g.row.D.Denot). (image : Image) → IsImage (g.D.Disk.choices d) image → Stands (half_len_of (g.D.Disk.sectors d)) core.committed image) (sym disk) (at.stands h runs)
 
 pub returns-clause-reads : goal.returns-clause-reads
-returns-clause-reads g c h core at runs state read =
+returns-clause-reads g c origin h core at runs state read =
     let disk : c.close.result ≡ c.args.self.store.disk = cc in
     let there = subst (λ (d : g.row.D.Denot). Reads (half_len_of (g.D.Disk.sectors d)) state (g.D.Disk.reads d)) disk read in
     close_open g.D.Disk.sectors g.D.Disk.reads g.D.Disk.choices c.args.self.store core.committed state (at.keeps h runs) there

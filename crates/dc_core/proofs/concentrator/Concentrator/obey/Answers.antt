@@ -13,11 +13,11 @@ use Rattle.dc_core.proofs.Answering.{answered_memory, answered_obeyed, answered_
 use Rattle.dc_core.proofs.concentrator.Concentrator.obey.Goals as goal
 
 pub returns-in-Err-clause-answered : goal.returns-in-Err-clause-answered
-returns-in-Err-clause-answered g c core at running =
+returns-in-Err-clause-answered g c origin core at running =
     let wrote : List ℕ → Type 0 = Wrote g.W.Sink.written g.W.Sink.put_failures c.write_refusal.result c.args.out.now c.write_refusal.new.out in
-    answered_memory g.D.Disk.honest g.D.Disk.sectors g.D.Disk.failures g.D.Disk.reads g.D.Disk.choices g.D.Disk.moment g.D.Disk.images_since
+    answered_memory (g.D.Disk.keeps origin) g.D.Disk.sectors g.D.Disk.failures g.D.Disk.reads g.D.Disk.choices g.D.Disk.moment g.D.Disk.images_since
     c.args.self.now c.order.new.self core c.args.line.now c.args.change.now wrote at c.requires.empty
-    (λ h image left. g.met.D.Disk.only_now h c.args.self.now.store.disk image left) c.requires.verdict c.in-Err.ensures.err c.write_refusal.ensures
+    (λ h image left. g.met.D.Disk.only_now c.args.self.now.store.disk image left) c.requires.verdict c.in-Err.ensures.err c.write_refusal.ensures
 
 pub write_answer-requires-clause-answered : goal.write_answer-requires-clause-answered
 write_answer-requires-clause-answered g c =
@@ -28,26 +28,26 @@ write_answer-requires-clause-answered g c =
     subst (λ (v : Verdict). IfDo v (λ change. ⊥)) (sym is) tt
 
 pub returns-clause-answered : goal.returns-clause-answered
-returns-clause-answered g c core at running =
+returns-clause-answered g c origin core at running =
     let wrote : List ℕ → Type 0 = Wrote g.W.Sink.written g.W.Sink.put_failures c.write_answer.result c.args.out.now c.write_answer.new.out in
     let change = c.args.change.now in
-    let at_mid = c.in-Ok.ensures.at core at in
-    let done = c.in-Ok-settle.ensures.ok (ordered change core) at_mid in
-    answered_obeyed g.D.Disk.honest g.D.Disk.sectors g.D.Disk.failures g.D.Disk.reads g.D.Disk.choices g.D.Disk.moment g.D.Disk.images_since
+    let at_mid = c.in-Ok.ensures.at origin core at in
+    let done = c.in-Ok-settle.ensures.ok origin (ordered change core) at_mid in
+    answered_obeyed (g.D.Disk.keeps origin) g.D.Disk.sectors g.D.Disk.failures g.D.Disk.reads g.D.Disk.choices g.D.Disk.moment g.D.Disk.images_since
     c.args.self.now c.order.new.self c.settle.new.self core c.args.line.now change wrote at c.requires.empty c.requires.verdict c.in-Ok.ensures.store
     (c.in-Ok-settle.ensures.house ∙ c.in-Ok.ensures.house) done.1
-    (λ h. c.in-Ok-settle.ensures.any_moment h (ordered change core) at_mid)
+    (λ h. c.in-Ok-settle.ensures.any_moment origin h (ordered change core) at_mid)
     (subst (λ (b : Machine (g.row.D.Denot)). wrote (reply_text b.house c.args.line.now)) c.self.view_is
     (⊎_elim (λ text. text) (λ memory. absurd (done_without_memory c.args.self.now.house c.args.line.now change c.requires.verdict memory.0)) c.write_answer.ensures.told))
 
 pub returns-in-Err-settle-clause-answered : goal.returns-in-Err-settle-clause-answered
-returns-in-Err-settle-clause-answered g c core at running =
+returns-in-Err-settle-clause-answered g c origin core at running =
     let wrote : List ℕ → Type 0 = Wrote g.W.Sink.written g.W.Sink.put_failures c.write_refusal-in-Err-settle.result c.args.out.now c.write_refusal-in-Err-settle.new.out in
     let change = c.args.change.now in
-    let at_mid = c.in-Ok.ensures.at core at in
-    let failed = c.in-Err-settle.ensures.err (ordered change core) at_mid in
-    answered_uncommitted g.D.Disk.honest g.D.Disk.sectors g.D.Disk.failures g.D.Disk.reads g.D.Disk.choices g.D.Disk.moment g.D.Disk.images_since
+    let at_mid = c.in-Ok.ensures.at origin core at in
+    let failed = c.in-Err-settle.ensures.err origin (ordered change core) at_mid in
+    answered_uncommitted (g.D.Disk.keeps origin) g.D.Disk.sectors g.D.Disk.failures g.D.Disk.reads g.D.Disk.choices g.D.Disk.moment g.D.Disk.images_since
     c.args.self.now c.order.new.self c.settle.new.self core c.args.line.now change c.in-Err-settle.field-0 wrote at c.requires.empty c.requires.verdict c.in-Ok.ensures.store
     failed.0 failed.1 c.in-Err-settle.ensures.failed
-    (λ h. c.in-Err-settle.ensures.any_moment h (ordered change core) at_mid)
+    (λ h. c.in-Err-settle.ensures.any_moment origin h (ordered change core) at_mid)
     c.write_refusal-in-Err-settle.ensures

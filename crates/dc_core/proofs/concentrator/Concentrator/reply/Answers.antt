@@ -6,33 +6,33 @@ use Rattle.dc_core.specs.Step.{settled}
 use Rattle.dc_core.proofs.concentrator.Concentrator.reply.Goals as goal
 
 pub returns-clause-turned : goal.returns-clause-turned
-returns-clause-turned g c core at =
+returns-clause-turned g c origin core at =
     let text = c.args.text.now in
     let line = c.in-Some.line in
     let wrote : List ℕ → Type 0 = Wrote g.W.Sink.written g.W.Sink.put_failures c.answer.result c.args.out.now c.answer.new.out in
     let spells : Spells text line = record { is_line = c.in-Some.ensures.found.0; text_is = c.in-Some.ensures.found.1 } in
-    let done = c.in-Ok.ensures.ok core at in
-    let answered = c.answer.ensures.answered (settled core) done.1 (still_running core core.pending ∙ done.0) in
-    turned_answered g.D.Disk.honest g.D.Disk.sectors g.D.Disk.failures g.D.Disk.reads g.D.Disk.choices g.D.Disk.moment g.D.Disk.images_since
+    let done = c.in-Ok.ensures.ok origin core at in
+    let answered = c.answer.ensures.answered origin (settled core) done.1 (still_running core core.pending ∙ done.0) in
+    turned_answered (g.D.Disk.keeps origin) g.D.Disk.sectors g.D.Disk.failures g.D.Disk.reads g.D.Disk.choices g.D.Disk.moment g.D.Disk.images_since
     c.args.self.now c.settle.new.self c.answer.new.self core text line wrote spells done.0 (ap (λ (h : _). h.budget) c.in-Ok.ensures.house) c.in-Ok.ensures.count c.in-Ok.ensures.failures
-    (λ h. c.in-Ok.ensures.any_moment h core at) answered
+    (λ h. c.in-Ok.ensures.any_moment origin h core at) answered
 
 pub returns-in_default-clause-turned : goal.returns-in_default-clause-turned
-returns-in_default-clause-turned g c core at =
+returns-in_default-clause-turned g c origin core at =
     let text = c.args.text.now in
     let machine = c.args.self.now in
     let wrote : List ℕ → Type 0 = Wrote g.W.Sink.written g.W.Sink.put_failures c.write_refusal.result c.args.out.now c.write_refusal.new.out in
-    turned_unread g.D.Disk.honest g.D.Disk.sectors g.D.Disk.failures g.D.Disk.reads g.D.Disk.choices g.D.Disk.moment g.D.Disk.images_since
-    machine core text wrote at (λ h image left. g.met.D.Disk.only_now h machine.store.disk image left)
+    turned_unread (g.D.Disk.keeps origin) g.D.Disk.sectors g.D.Disk.failures g.D.Disk.reads g.D.Disk.choices g.D.Disk.moment g.D.Disk.images_since
+    machine core text wrote at (λ h image left. g.met.D.Disk.only_now machine.store.disk image left)
     (λ line is spelled. let found = c.parse_line.ensures.only line is spelled in let none = c.in_default.is in let bad = sym none ∙ found in cc) c.write_refusal.ensures
 
 pub returns-in-Err-clause-turned : goal.returns-in-Err-clause-turned
-returns-in-Err-clause-turned g c core at =
+returns-in-Err-clause-turned g c origin core at =
     let text = c.args.text.now in
     let line = c.in-Some.line in
     let wrote : List ℕ → Type 0 = Wrote g.W.Sink.written g.W.Sink.put_failures c.write_refusal-in-Err.result c.args.out.now c.write_refusal-in-Err.new.out in
     let spells : Spells text line = record { is_line = c.in-Some.ensures.found.0; text_is = c.in-Some.ensures.found.1 } in
-    let failed = c.in-Err.ensures.err core at in
-    turned_unstored g.D.Disk.honest g.D.Disk.sectors g.D.Disk.failures g.D.Disk.reads g.D.Disk.choices g.D.Disk.moment g.D.Disk.images_since
+    let failed = c.in-Err.ensures.err origin core at in
+    turned_unstored (g.D.Disk.keeps origin) g.D.Disk.sectors g.D.Disk.failures g.D.Disk.reads g.D.Disk.choices g.D.Disk.moment g.D.Disk.images_since
     c.args.self.now c.settle.new.self core text line c.in-Err.field-0 wrote spells failed.0 failed.1 c.in-Err.ensures.failed
-    (λ h. c.in-Err.ensures.any_moment h core at) c.write_refusal-in-Err.ensures
+    (λ h. c.in-Err.ensures.any_moment origin h core at) c.write_refusal-in-Err.ensures

@@ -9,7 +9,8 @@ use Rattle.dc_core.specs.declared.event.Event as declared
 use Rattle.dc_core.specs.Core.{opened}
 use Rattle.dc_core.specs.Event.{Event}
 use Rattle.dc_core.specs.Transcript.{leads}
-use Rattle.dc_core.specs.Run.{event_of, Turned, Ran}
+use Rattle.dc_core.specs.Text.{answer_text}
+use Rattle.dc_core.specs.Run.{event_of, Turned, Ran, FailedInLast}
 use Rattle.dc_core.proofs.Going.{ran_none, ran_more}
 use Rattle.dc_core.proofs.concentrator.Concentrator.run.Goals as goal
 
@@ -20,28 +21,28 @@ next_events events i event within is =
 
 pub loop-event-init : goal.loop-event-init
 loop-event-init g c = record {
-  ran = λ state before chain at. ran_none g.D.Disk.honest g.D.Disk.sectors g.D.Disk.reads g.D.Disk.choices g.D.Disk.moment g.D.Disk.images_since c.args.self.now.house.budget state before (Puts (g.W.Sink.written c.args.out.now) (g.W.Sink.written c.args.out.now)) c.args.self.now chain at
-      (λ h image left. g.met.D.Disk.only_now h c.args.self.now.store.disk image left) (puts-none (g.W.Sink.written c.args.out.now));
+  ran = λ origin state before chain at. ran_none (g.D.Disk.keeps origin) g.D.Disk.sectors g.D.Disk.failures g.D.Disk.reads g.D.Disk.choices g.D.Disk.moment g.D.Disk.images_since c.args.self.now.house.budget state before (Puts (g.W.Sink.written c.args.out.now) (g.W.Sink.written c.args.out.now)) c.args.self.now chain at
+      (λ h image left. g.met.D.Disk.only_now c.args.self.now.store.disk image left) (puts-none (g.W.Sink.written c.args.out.now));
   budget = refl;
   well = refl;
 }
 
 pub loop-event-preserved : goal.loop-event-preserved
 loop-event-preserved g c = record {
-  ran = λ state before chain at.
+  ran = λ origin state before chain at.
       let done : Result (Unit {0}) IoFault = Ok tt in
       let events = c.args.events.now in
       let i = c.loop-event.event-index in
       let event = c.event-item.result in
       let new = c.turn.new.self in
-      let ran = c.loop-event.invariant.ran state before chain at in
+      let ran = c.loop-event.invariant.ran origin state before chain at in
       let core = leads (opened state) (before ++ ran.turns) in
       let piece : List ℕ → Type 0 = Wrote g.W.Sink.written g.W.Sink.put_failures done c.loop-event.out c.turn.new.out in
-      let turned = subst (λ (b : ℕ). Turned g.D.Disk.honest g.D.Disk.sectors g.D.Disk.failures g.D.Disk.reads g.D.Disk.choices g.D.Disk.moment g.D.Disk.images_since b core (event_of event) piece c.loop-event.self new) c.loop-event.invariant.budget (c.in-Ok.ensures.turned core ran.at) in
-      let more = ran_more g.D.Disk.honest g.D.Disk.sectors g.D.Disk.reads g.D.Disk.choices g.D.Disk.moment g.D.Disk.images_since g.D.Disk.failures c.args.self.now.house.budget state before (map event_of (take i events)) (event_of event)
+      let turned = subst (λ (b : ℕ). Turned (g.D.Disk.keeps origin) g.D.Disk.sectors g.D.Disk.failures g.D.Disk.reads g.D.Disk.choices g.D.Disk.moment g.D.Disk.images_since b core (event_of event) piece c.loop-event.self new) c.loop-event.invariant.budget (c.in-Ok.ensures.turned origin core ran.at) in
+      let more = ran_more (g.D.Disk.keeps origin) g.D.Disk.sectors g.D.Disk.failures g.D.Disk.reads g.D.Disk.choices g.D.Disk.moment g.D.Disk.images_since c.args.self.now.house.budget state before (map event_of (take i events)) (event_of event)
       (Puts (g.W.Sink.written c.args.out.now) (g.W.Sink.written c.loop-event.out)) piece (Puts (g.W.Sink.written c.args.out.now) (g.W.Sink.written c.turn.new.out)) c.args.self.now c.loop-event.self new ran turned c.in-Ok.ensures.count
       (λ text piece_text front piece. puts-both (g.W.Sink.written c.args.out.now) (g.W.Sink.written c.loop-event.out) (g.W.Sink.written c.turn.new.out) text piece_text front piece.0) in
-      let all = subst (λ (es : List Event). Ran g.D.Disk.honest g.D.Disk.sectors g.D.Disk.reads g.D.Disk.choices g.D.Disk.moment g.D.Disk.images_since c.args.self.now.house.budget state before es (Puts (g.W.Sink.written c.args.out.now) (g.W.Sink.written c.turn.new.out)) c.args.self.now new)
+      let all = subst (λ (es : List Event). Ran (g.D.Disk.keeps origin) g.D.Disk.sectors g.D.Disk.failures g.D.Disk.reads g.D.Disk.choices g.D.Disk.moment g.D.Disk.images_since c.args.self.now.house.budget state before es (Puts (g.W.Sink.written c.args.out.now) (g.W.Sink.written c.turn.new.out)) c.args.self.now new)
       (sym (next_events events i event c.loop-event-test.true c.event-item.is)) more in
       all;
   budget = c.in-Ok.ensures.budget ∙ c.loop-event.invariant.budget;
@@ -49,32 +50,51 @@ loop-event-preserved g c = record {
 }
 
 pub returns-in-Err-clause-ended : goal.returns-in-Err-clause-ended
-returns-in-Err-clause-ended g c state before chain at =
+unfolding ran_more
+returns-in-Err-clause-ended g c origin state before chain at =
     let events = c.args.events.now in
     let i = c.loop-event.event-index in
     let event = c.event-item.result in
     let new = c.turn.new.self in
-    let ran = c.loop-event.invariant.ran state before chain at in
+    let ran = c.loop-event.invariant.ran origin state before chain at in
     let core = leads (opened state) (before ++ ran.turns) in
-    let piece : List ℕ → Type 0 = Wrote g.W.Sink.written g.W.Sink.put_failures c.turn.result c.loop-event.out c.turn.new.out in
-    let turned = subst (λ (b : ℕ). Turned g.D.Disk.honest g.D.Disk.sectors g.D.Disk.failures g.D.Disk.reads g.D.Disk.choices g.D.Disk.moment g.D.Disk.images_since b core (event_of event) piece c.loop-event.self new) c.loop-event.invariant.budget (c.turn.ensures.turned core ran.at) in
-    let more = ran_more g.D.Disk.honest g.D.Disk.sectors g.D.Disk.reads g.D.Disk.choices g.D.Disk.moment g.D.Disk.images_since g.D.Disk.failures c.args.self.now.house.budget state before (map event_of (take i events)) (event_of event)
-    (Puts (g.W.Sink.written c.args.out.now) (g.W.Sink.written c.loop-event.out)) piece (λ text. Unit {0}) c.args.self.now c.loop-event.self new ran turned c.turn.ensures.count
+    let written = g.W.Sink.written in
+    let failures = g.W.Sink.put_failures in
+    let old_out = c.args.out.now in
+    let mid_out = c.loop-event.out in
+    let new_out = c.turn.new.out in
+    let piece : List ℕ → Type 0 = Wrote written failures c.turn.result mid_out new_out in
+    let turned = subst (λ (b : ℕ). Turned (g.D.Disk.keeps origin) g.D.Disk.sectors g.D.Disk.failures g.D.Disk.reads g.D.Disk.choices g.D.Disk.moment g.D.Disk.images_since b core (event_of event) piece c.loop-event.self new) c.loop-event.invariant.budget (c.turn.ensures.turned origin core ran.at) in
+    let RanOf : List Event → Type 0 = λ es. Ran (g.D.Disk.keeps origin) g.D.Disk.sectors g.D.Disk.failures g.D.Disk.reads g.D.Disk.choices g.D.Disk.moment g.D.Disk.images_since c.args.self.now.house.budget state before es (λ text. Unit {0}) c.args.self.now new in
+    let more = ran_more (g.D.Disk.keeps origin) g.D.Disk.sectors g.D.Disk.failures g.D.Disk.reads g.D.Disk.choices g.D.Disk.moment g.D.Disk.images_since c.args.self.now.house.budget state before (map event_of (take i events)) (event_of event)
+    (Puts (written old_out) (written mid_out)) piece (λ text. Unit {0}) c.args.self.now c.loop-event.self new ran turned c.turn.ensures.count
     (λ text piece_text front piece. tt) in
-    let all = subst (λ (es : List Event). Ran g.D.Disk.honest g.D.Disk.sectors g.D.Disk.reads g.D.Disk.choices g.D.Disk.moment g.D.Disk.images_since c.args.self.now.house.budget state before es (λ text. Unit {0}) c.args.self.now new)
-    (sym (next_events events i event c.loop-event-test.true c.event-item.is)) more in
-    (i, c.loop-event-test.true, all)
+    let Whole : List Event → Type 0 = λ es. (all : RanOf es) × FailedInLast written failures all.turns old_out new_out in
+    let both : Whole (map event_of (take i events) ++ event_of event ∷ []) = (
+      more,
+      record {
+        done = ran.turns;
+        last = (event_of event, turned.answer);
+        turns_are = refl;
+        mid = mid_out;
+        put = ran.text;
+        none_failed = c.loop-event.invariant.well;
+        failed = subst (λ (r : Result (Unit {0}) IoFault). Wrote written failures r mid_out new_out (answer_text turned.answer)) c.in-Err.is turned.text;
+      },
+    ) in
+    let all = subst Whole (sym (next_events events i event c.loop-event-test.true c.event-item.is)) both in
+    (i, c.loop-event-test.true, all.0, all.1)
 
 pub returns-in-Err-clause-fault : goal.returns-in-Err-clause-fault
 returns-in-Err-clause-fault g c = subst (λ (n : ℕ). HasRisen n (g.W.Sink.put_failures c.turn.new.out)) c.loop-event.invariant.well c.in-Err.ensures.fault
 
 pub returns-clause-ran : goal.returns-clause-ran
-returns-clause-ran g c state before chain at =
+returns-clause-ran g c origin state before chain at =
     let events = c.args.events.now in
     let past = c.loop-event-test.false in
     let within = c.loop-event.auto.event-index-end in
     let i : c.loop-event.event-index ≡ length events = omega (arith, past, within) in
     let e : take c.loop-event.event-index events ≡ events = ap (λ (n : ℕ). take n events) i ∙ take-length events in
-    subst (λ (es : List declared.Event). Ran g.D.Disk.honest g.D.Disk.sectors g.D.Disk.reads g.D.Disk.choices g.D.Disk.moment g.D.Disk.images_since c.args.self.now.house.budget state before (map event_of es)
+    subst (λ (es : List declared.Event). Ran (g.D.Disk.keeps origin) g.D.Disk.sectors g.D.Disk.failures g.D.Disk.reads g.D.Disk.choices g.D.Disk.moment g.D.Disk.images_since c.args.self.now.house.budget state before (map event_of es)
     (Puts (g.W.Sink.written c.args.out.now) (g.W.Sink.written c.loop-event.out)) c.args.self.now c.loop-event.self) e
-    (c.loop-event.invariant.ran state before chain at)
+    (c.loop-event.invariant.ran origin state before chain at)

@@ -4,7 +4,7 @@ use Rattle.std.proofs.lemmas.Result.{err_from_is_err_and}
 use Rattle.dc_changes.specs.declared.decode_fault.DecodeFault.{DecodeFault}
 use Rattle.dc_changes.specs.declared.decode_fault.DecodeFault.TheVariants.{NoMemory}
 use Rattle.dc_changes.proofs.Runs.{fault_is, is_bad, none_spelled, read_on}
-use Rattle.dc_meters.proofs.Replays.{up_to, held_up, apply_on, none_accepted}
+use Rattle.dc_meters.proofs.Replays.{up_to, held_up, apply_on, none_accepted, left_unread, left_refused}
 use Rattle.dc_meters.proofs.house.House.replay.Goals as goal
 
 pub returns-in_err-change-clause-bad : goal.returns-in_err-change-clause-bad
@@ -41,3 +41,14 @@ pub loop-rest-preserved : goal.loop-rest-preserved
 loop-rest-preserved g c =
     apply_on c.args.self.now c.loop-rest.self c.accept.new.self c.args.bytes.now c.loop-rest.rest.now c.in_ok-change.change c.in_ok-change.after.now
     (λ i. omega (arith, c.type_inv.bytes i)) c.loop-rest.invariant c.in_ok-change.ensures c.in_ok-accept.ensures.accepted c.in_ok-accept.ensures.ok
+
+pub returns-in_err-change-clause-left : goal.returns-in_err-change-clause-left
+returns-in_err-change-clause-left g c = λ bad.
+    left_unread c.args.self.now c.loop-rest.self c.args.bytes.now c.loop-rest.rest.now c.loop-rest.invariant c.in_err-change.ensures.1
+
+pub returns-in_err-accept-clause-left : goal.returns-in_err-accept-clause-left
+returns-in_err-accept-clause-left g c = λ bad.
+    let p = err_from_is_err_and c.from_residual-in_err-accept.result c.from_residual-in_err-accept.ensures.1 in
+    let fault = is_bad c.from_residual-in_err-accept.result p.0 c.in_err-accept.field-0.0 p.1 p.2 bad in
+    rw c.in_err-accept.ensures.err (left_refused c.args.self.now c.loop-rest.self c.args.bytes.now c.loop-rest.rest.now c.in_ok-change.change c.in_ok-change.after.now
+    c.loop-rest.invariant c.in_ok-change.ensures (c.in_err-accept.ensures.bad (ap (λ (e : DecodeFault). Err e) fault)))

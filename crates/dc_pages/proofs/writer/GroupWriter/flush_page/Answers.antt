@@ -1,9 +1,9 @@
 use Rattle.std.proofs.Common.{◌<◌, ◌+◌, take, drop, arith, refl, sym, subst}
 use Rattle.dc_sectors.specs.declared.sector.Sector.TheVariants.{Bytes}
 use Rattle.dc_pages.specs.Draft.{Draft}
-use Rattle.dc_pages.specs.Writing.{IsPageWritten}
+use Rattle.dc_pages.specs.Writing.{SameOutside, IsPageWritten}
 use Rattle.dc_pages.proofs.Buffers.{headed_buffer}
-use Rattle.dc_pages.proofs.Flushing.{LeavesPart, Flushes, page_written, leaves_part, flushes}
+use Rattle.dc_pages.proofs.Flushing.{LeavesPart, Flushes, same_outside, page_written, leaves_part, flushes}
 use Rattle.dc_pages.proofs.writer.GroupWriter.flush_page.Given.{Over}
 use Rattle.dc_pages.proofs.writer.GroupWriter.flush_page.Goals.{After-write}
 use Rattle.dc_pages.proofs.writer.GroupWriter.flush_page.Goals as goal
@@ -34,20 +34,32 @@ page g c =
     page_written inside.site inside.session inside.index inside.used inside.page c.write_head.new.sector _ c.self.invariant c.write_head.ensures (omega arith) (omega arith) (omega arith) refl
 
 -- whatever the write answers
-leaves : (g : Over) (c : After-write g) → g.D.Disk.honest → LeavesPart g.D.Disk.reads g.D.Disk.choices g.D.Disk.moment g.D.Disk.images_since c.args.disk.now c.write.new.self c.args.self.now
-leaves g c h =
+leaves : (g : Over) (c : After-write g) → LeavesPart g.D.Disk.reads g.D.Disk.choices g.D.Disk.moment g.D.Disk.images_since c.args.disk.now c.write.new.self c.args.self.now
+leaves g c =
     subst (LeavesPart g.D.Disk.reads g.D.Disk.choices g.D.Disk.moment g.D.Disk.images_since c.args.disk.now c.write.new.self) c.self.view_is
-    (leaves_part g.D.Disk.reads g.D.Disk.choices g.D.Disk.moment g.D.Disk.images_since c.args.disk.now c.write.new.self (draft_of g c) c.write_head.new.sector (fits g c) (page g c) (c.write.ensures.time h))
+    (leaves_part g.D.Disk.reads g.D.Disk.choices g.D.Disk.moment g.D.Disk.images_since c.args.disk.now c.write.new.self (draft_of g c) c.write_head.new.sector (fits g c) (page g c) (c.write.ensures.time))
 
 pub returns-in_err-write-clause-any_moment : goal.returns-in_err-write-clause-any_moment
-returns-in_err-write-clause-any_moment g c h = leaves g (goal.at.returns-in_err-write-clause-any_moment g c).After-write h
+returns-in_err-write-clause-any_moment g c = leaves g (goal.at.returns-in_err-write-clause-any_moment g c).After-write
 
 pub returns-clause-any_moment : goal.returns-clause-any_moment
-returns-clause-any_moment g c h = leaves g (goal.at.returns-clause-any_moment g c).After-write h
+returns-clause-any_moment g c = leaves g (goal.at.returns-clause-any_moment g c).After-write
 
 pub returns-clause-on_disk : goal.returns-clause-on_disk
-returns-clause-on_disk g c h =
+returns-clause-on_disk g c =
     let c' = (goal.at.returns-clause-on_disk g c).After-write in
     subst (Flushes g.D.Disk.reads g.D.Disk.choices g.D.Disk.moment g.D.Disk.images_since c.args.disk.now c.write.new.self) c.self.view_is
     (flushes g.D.Disk.reads g.D.Disk.choices g.D.Disk.moment g.D.Disk.images_since c.args.disk.now c.write.new.self (draft_of g c') c.write_head.new.sector (fits g c') (page g c')
-    (c.write.ensures.time h) (c.in_ok-write.ensures.reads h) (c.in_ok-write.ensures.choices h))
+    (c.write.ensures.time) (c.in_ok-write.ensures.reads) (c.in_ok-write.ensures.choices))
+
+spares : (g : Over) (c : After-write g) → SameOutside c.args.self.now.site (g.D.Disk.reads c.args.disk.now) (g.D.Disk.reads c.write.new.self)
+spares g c =
+    let draft = draft_of g c in
+    subst (λ (d : Draft). SameOutside d.site (g.D.Disk.reads c.args.disk.now) (g.D.Disk.reads c.write.new.self)) c.self.view_is
+    (same_outside draft.site (g.D.Disk.reads c.args.disk.now) (g.D.Disk.reads c.write.new.self) (draft.site.first + draft.pages) (omega arith) (fits g c) c.write.ensures.elsewhere)
+
+pub returns-in_err-write-clause-elsewhere : goal.returns-in_err-write-clause-elsewhere
+returns-in_err-write-clause-elsewhere g c = spares g (goal.at.returns-in_err-write-clause-elsewhere g c).After-write
+
+pub returns-clause-elsewhere : goal.returns-clause-elsewhere
+returns-clause-elsewhere g c = spares g (goal.at.returns-clause-elsewhere g c).After-write

@@ -3,22 +3,25 @@ use Rattle.dc_sectors.specs.Disk.{Image, settled}
 use Rattle.dc_sectors.proofs.Moments.{started}
 use Rattle.dc_roots.specs.declared.root.Root.{Root}
 use Rattle.dc_pages.specs.declared.site.Site.{Site}
-use Rattle.dc_recovery.specs.Halves.{half_len_of}
+use Rattle.dc_recovery.specs.Halves.{half_len_of, SparesRest}
 use Rattle.dc_recovery.specs.Sites.{change_site}
 use Rattle.dc_recovery.specs.Store.{Kept}
 use Rattle.dc_recovery.specs.Stands.{IsAppendable, IsReady}
 use Rattle.dc_recovery.specs.Language.{after}
 use Rattle.dc_recovery.proofs.Life.{keeps_stands, keeps_appendable, keeps_after}
+use Rattle.dc_recovery.proofs.Spared.{spared_site}
+use Rattle.dc_recovery.proofs.store.Store.append.Given.{Over}
+use Rattle.dc_recovery.proofs.store.Store.append.Goals.{After-append_group}
 use Rattle.dc_recovery.proofs.store.Store.append.Goals as goal
 
 pub returns-then-self-2-clause-any_moment : goal.returns-then-self-2-clause-any_moment
-returns-then-self-2-clause-any_moment g c h was changes kept spells accepted =
+returns-then-self-2-clause-any_moment g c was changes kept spells accepted =
     let store = c.args.self.now in
     started g.D.Disk.moment g.D.Disk.images_since store.disk _
-    (λ image left. keeps_stands g.D.Disk.sectors g.D.Disk.reads g.D.Disk.choices store was (after was changes) image kept (g.met.D.Disk.only_now h store.disk image left))
+    (λ image left. keeps_stands g.D.Disk.sectors g.D.Disk.reads g.D.Disk.choices store was (after was changes) image kept (g.met.D.Disk.only_now store.disk image left))
 
 pub returns-in-Ok-clause-kept : goal.returns-in-Ok-clause-kept
-returns-in-Ok-clause-kept g c h was changes kept spells accepted =
+returns-in-Ok-clause-kept g c was changes kept spells accepted =
     let store = c.args.self.now in
     let inside = c.self.inside in
     let root : inside.root ≡ store.root = ap (λ (s : Kept (g.row.D.Denot)). s.root) c.self.view_is in
@@ -35,9 +38,30 @@ returns-in-Ok-clause-kept g c h was changes kept spells accepted =
     let at_site = subst (λ (s : Site). IsAppendable H store.root kept.m s was c.args.bytes.now changes (g.D.Disk.reads inside.disk)) site_is at_disk in
     let at_root = subst (λ (r : Root). IsAppendable H r kept.m c.change_site-site.result was c.args.bytes.now changes (g.D.Disk.reads inside.disk)) (sym root) at_site in
     let first : c.change_site-site.result.first ≡ inside.place = ap (λ (s : Site). s.first) c.change_site-site.ensures.exact in
-    let ready = c.in-Ok.ensures.ready h settled_inside H kept.m was changes at_root in
+    let ready = c.in-Ok.ensures.ready settled_inside H kept.m was changes at_root in
     let ready' = subst (λ (r : Root). IsReady H r (suc kept.m) (c.change_site-site.result.first + c.in-Ok.count) (after was changes) (g.D.Disk.reads c.append_group.new.disk)) root ready in
     let ready'' = subst (λ (p : ℕ). IsReady H store.root (suc kept.m) (p + c.in-Ok.count) (after was changes) (g.D.Disk.reads c.append_group.new.disk)) (first ∙ place) ready' in
     let new : Kept (g.row.D.Denot) = record { disk = c.append_group.new.disk; root = inside.root; place = inside.place + c.in-Ok.count; last = inside.last + 1; is_stopped = inside.is_stopped } in
     keeps_after g.D.Disk.sectors g.D.Disk.reads g.D.Disk.choices store new was c.in-Ok.count (store.last + 1) (after was changes) kept c.if-self.false root (ap (λ (p : ℕ). p + c.in-Ok.count) place) (ap (λ (n : ℕ). n + 1) last)
-    (c.append_group.ensures.count ∙ ap g.D.Disk.sectors disk) (c.in-Ok.ensures.durable h) ready''
+    (c.append_group.ensures.count ∙ ap g.D.Disk.sectors disk) (c.in-Ok.ensures.durable) ready''
+
+-- the sectors outside stay, whatever the append answers
+spares : (g : Over) (c : After-append_group g) → SparesRest (half_len_of (g.D.Disk.sectors c.args.self.now.disk)) (g.D.Disk.reads c.args.self.now.disk) (g.D.Disk.reads c.append_group.new.disk)
+spares g c =
+    let store = c.args.self.now in
+    let inside = c.self.inside in
+    let half_len = c.half_len_of-half_len.result in
+    let disk : inside.disk ≡ store.disk = ap (λ (s : Kept (g.row.D.Denot)). s.disk) c.self.view_is in
+    let at_half : half_len ≡ half_len_of (g.D.Disk.sectors inside.disk) = c.half_len_of-half_len.ensures.exact ∙ ap half_len_of c.count.ensures in
+    let site = c.change_site-site.result in
+    let first : site.first ≡ inside.place = ap (λ (s : Site). s.first) c.change_site-site.ensures.exact in
+    let from = c.self.invariant.from in
+    subst (λ (d : g.row.D.Denot). SparesRest (half_len_of (g.D.Disk.sectors d)) (g.D.Disk.reads d) (g.D.Disk.reads c.append_group.new.disk)) disk
+    (subst (λ (n : ℕ). SparesRest n (g.D.Disk.reads inside.disk) (g.D.Disk.reads c.append_group.new.disk)) at_half
+    (spared_site half_len site (g.D.Disk.reads inside.disk) (g.D.Disk.reads c.append_group.new.disk) (omega (arith, first, from)) c.change_site-site.ensures.within c.append_group.ensures.elsewhere))
+
+pub returns-in-Ok-clause-elsewhere : goal.returns-in-Ok-clause-elsewhere
+returns-in-Ok-clause-elsewhere g c = spares g (goal.at.returns-in-Ok-clause-elsewhere g c).After-append_group
+
+pub returns-in-Err-clause-elsewhere : goal.returns-in-Err-clause-elsewhere
+returns-in-Err-clause-elsewhere g c = spares g (goal.at.returns-in-Err-clause-elsewhere g c).After-append_group

@@ -2,21 +2,23 @@ use Rattle.std.proofs.Common.{◌≡◌, ◌+◌, ℕ, zero, arith, ap, subst, s
 use Rattle.dc_sectors.specs.Disk.{Image, settled}
 use Rattle.dc_sectors.proofs.Moments.{started}
 use Rattle.dc_roots.specs.declared.root.Root.{Root}
-use Rattle.dc_recovery.specs.Halves.{half_len_of}
+use Rattle.dc_recovery.specs.Halves.{half_len_of, SparesRest}
 use Rattle.dc_recovery.specs.Roots.{compacted}
 use Rattle.dc_recovery.specs.Stands.{IsReady}
 use Rattle.dc_recovery.specs.Store.{Kept}
 use Rattle.dc_recovery.proofs.Life.{keeps_stands, keeps_compacted}
+use Rattle.dc_recovery.proofs.store.Store.compact.Given.{Over}
+use Rattle.dc_recovery.proofs.store.Store.compact.Goals.{After-compact_into_other_half}
 use Rattle.dc_recovery.proofs.store.Store.compact.Goals as goal
 
 pub returns-then-self-2-clause-any_moment : goal.returns-then-self-2-clause-any_moment
-returns-then-self-2-clause-any_moment g c h was kept =
+returns-then-self-2-clause-any_moment g c was kept =
     let store = c.args.self.now in
     started g.D.Disk.moment g.D.Disk.images_since store.disk _
-    (λ image left. keeps_stands g.D.Disk.sectors g.D.Disk.reads g.D.Disk.choices store was c.args.house.now.state image kept (g.met.D.Disk.only_now h store.disk image left))
+    (λ image left. keeps_stands g.D.Disk.sectors g.D.Disk.reads g.D.Disk.choices store was c.args.house.now.state image kept (g.met.D.Disk.only_now store.disk image left))
 
 pub returns-in-Ok-clause-kept : goal.returns-in-Ok-clause-kept
-returns-in-Ok-clause-kept g c h was kept =
+returns-in-Ok-clause-kept g c was kept =
     let store = c.args.self.now in
     let inside = c.self.inside in
     let state = c.args.house.now.state in
@@ -29,12 +31,29 @@ returns-in-Ok-clause-kept g c h was kept =
     let settled_inside : g.D.Disk.choices inside.disk ≡ settled (g.D.Disk.reads inside.disk) = ap g.D.Disk.choices disk ∙ kept.is_settled ∙ ap (λ (d : g.row.D.Denot). settled (g.D.Disk.reads d)) (sym disk) in
     let at_disk = subst (λ (i : Image). IsReady H store.root kept.m store.place was i) (ap g.D.Disk.reads (sym disk)) kept.ready in
     let at_root = subst (λ (r : Root). IsReady H r kept.m store.place was (g.D.Disk.reads inside.disk)) (sym root) at_disk in
-    let before = subst (λ (h : ℕ). IsReady h inside.root kept.m store.place was (g.D.Disk.reads inside.disk)) (sym at_half) at_root in
+    let before = subst (λ (n : ℕ). IsReady n inside.root kept.m store.place was (g.D.Disk.reads inside.disk)) (sym at_half) at_root in
     let base : inside.root.base_sequence ≡ store.root.base_sequence = ap (λ (r : Root). r.base_sequence) root in
     let last_is = kept.last_is in
-    let ready = c.in-Ok.ensures.ready h settled_inside kept.m store.place was before (omega (arith, last, last_is, base)) in
-    let ready' = subst (λ (h : ℕ). IsReady h c.in-Ok.root zero c.in-Ok.place state (g.D.Disk.reads c.compact_into_other_half.new.disk)) at_half ready in
+    let ready = c.in-Ok.ensures.ready settled_inside kept.m store.place was before (omega (arith, last, last_is, base)) in
+    let ready' = subst (λ (n : ℕ). IsReady n c.in-Ok.root zero c.in-Ok.place state (g.D.Disk.reads c.compact_into_other_half.new.disk)) at_half ready in
     let new : Kept (g.row.D.Denot) = record { disk = c.compact_into_other_half.new.disk; root = c.in-Ok.root; place = c.in-Ok.place; last = inside.last + 1; is_stopped = inside.is_stopped } in
     keeps_compacted g.D.Disk.sectors g.D.Disk.reads g.D.Disk.choices store new state (inside.last + 1) c.if-self.false
     (c.in-Ok.ensures.root ∙ ap (λ (r : Root). compacted r (inside.last + 1)) root) refl
-    (c.compact_into_other_half.ensures.count ∙ ap g.D.Disk.sectors disk) (c.in-Ok.ensures.durable h) ready'
+    (c.compact_into_other_half.ensures.count ∙ ap g.D.Disk.sectors disk) (c.in-Ok.ensures.durable) ready'
+
+-- the sectors outside stay, whatever the compaction answers
+spares : (g : Over) (c : After-compact_into_other_half g)
+    → SparesRest (half_len_of (g.D.Disk.sectors c.args.self.now.disk)) (g.D.Disk.reads c.args.self.now.disk) (g.D.Disk.reads c.compact_into_other_half.new.disk)
+spares g c =
+    let store = c.args.self.now in
+    let inside = c.self.inside in
+    let disk : inside.disk ≡ store.disk = ap (λ (s : Kept (g.row.D.Denot)). s.disk) c.self.view_is in
+    let at_half : c.half_len_of-half_len.result ≡ half_len_of (g.D.Disk.sectors inside.disk) = c.half_len_of-half_len.ensures.exact ∙ ap half_len_of c.count.ensures in
+    subst (λ (d : g.row.D.Denot). SparesRest (half_len_of (g.D.Disk.sectors d)) (g.D.Disk.reads d) (g.D.Disk.reads c.compact_into_other_half.new.disk)) disk
+    (subst (λ (n : ℕ). SparesRest n (g.D.Disk.reads inside.disk) (g.D.Disk.reads c.compact_into_other_half.new.disk)) at_half c.compact_into_other_half.ensures.elsewhere)
+
+pub returns-in-Ok-clause-elsewhere : goal.returns-in-Ok-clause-elsewhere
+returns-in-Ok-clause-elsewhere g c = spares g (goal.at.returns-in-Ok-clause-elsewhere g c).After-compact_into_other_half
+
+pub returns-in-Err-clause-elsewhere : goal.returns-in-Err-clause-elsewhere
+returns-in-Err-clause-elsewhere g c = spares g (goal.at.returns-in-Err-clause-elsewhere g c).After-compact_into_other_half

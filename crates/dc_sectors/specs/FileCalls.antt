@@ -1,0 +1,23 @@
+-- The calls of a file that a disk over it makes, with their results.
+use Rattle.std.specs.Prelude.{ℕ, Bool, List, take, Option, Some, None, Result, Ok, Err}
+
+-- a call with its result
+pub data Call : Type 0 where
+  -- the file's length in bytes; none where the call failed
+  Measured : Option ℕ → Call
+  -- a read of so many bytes from this byte on, and the bytes that came: the first of them, or all
+  Got : ℕ → ℕ → Option (List ℕ) → Call
+  -- a write of these bytes from this byte on, and how many of them were taken
+  Put : ℕ → List ℕ → Option ℕ → Call
+  -- a sync, and whether it succeeded
+  Synced : Bool → Call
+
+-- what a call returned, where it succeeded
+abbrev pub value_of : {T E : Type 0} → Result T E → Option T
+value_of (Ok x) = Some x
+value_of (Err e) = None
+
+-- the bytes that a read put into a buffer, where it succeeded
+abbrev pub came : {E : Type 0} → Result ℕ E → List ℕ → Option (List ℕ)
+came (Ok n) buffer = Some (take n buffer)
+came (Err e) buffer = None

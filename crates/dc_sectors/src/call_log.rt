@@ -1,0 +1,33 @@
+//! The log of a file's calls: ghost data, which only clauses read.
+
+ghost use Rattle.std.specs.Prelude.{◌≡◌, List, [], ◌∷◌};
+ghost use Rattle.std.specs.Borrow.{ftrue};
+ghost use Rattle.dc_sectors.specs.Note.{Note};
+
+use std::marker::{Model, PhantomData};
+
+/// The calls of a file so far, the newest first. They take no memory.
+#[derive(Drop)]
+pub struct CallLog {
+    marker: PhantomData<u8>,
+    pub ghost notes: { List Note },
+}
+
+impl Model for CallLog {
+    ghost also_owns = { λ _. ftrue };
+}
+
+impl CallLog {
+    pub(crate) fn new() -> CallLog
+        ensures { result.notes ≡ [] }
+    {
+        CallLog {
+            marker: PhantomData,
+        }
+    }
+
+    /// Adds a call. The numbers are its kind, its place in the file, a count, and 1 where it succeeded.
+    pub(crate) fn note(&mut self, _numbers: &[u64], _bytes: &[u8])
+        ensures { self.new.notes ≡ (_numbers.now, _bytes.now) ∷ self.old.notes }
+    {}
+}

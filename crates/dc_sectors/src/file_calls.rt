@@ -1,0 +1,34 @@
+//! The calls of a file that a disk over it makes.
+
+ghost use Rattle.std.specs.Prelude.{◌≡◌, ◌≤◌, ℕ, List, ◌∷◌, length, is_ok, IfOk};
+ghost use Rattle.dc_sectors.specs.declared.sector.Sector.{Sector};
+ghost use Rattle.dc_sectors.specs.FileCalls.{Call, Measured, Got, Put, Synced, value_of, came};
+
+use std::io;
+
+/// A file, by the calls that a disk over it makes. Its history has each call with its result.
+pub trait FileCalls {
+    /// The calls so far with their results, the newest first.
+    ghost history: { Self → List Call };
+
+    /// What each sector held before the first call.
+    ghost start: { ℕ → Sector };
+
+    /// Returns the file's length in bytes.
+    fn measure(&mut self) -> io::Result<u64>
+        ensures noted { history self.new ≡ Measured (value_of result) ∷ history self.old };
+
+    /// Reads once from that byte on into the front of `bytes`, and returns how many bytes came.
+    fn read_some(&mut self, at: u64, bytes: &mut [u8]) -> io::Result<usize>
+        ensures count { IfOk result (λ n. n ≤ length bytes.old) }
+        ensures noted { history self.new ≡ Got at (length bytes.old) (came result bytes.new) ∷ history self.old };
+
+    /// Writes these bytes once from that byte on, and returns how many of them were taken.
+    fn write_some(&mut self, at: u64, bytes: &[u8]) -> io::Result<usize>
+        ensures count { IfOk result (λ n. n ≤ length bytes.now) }
+        ensures noted { history self.new ≡ Put at bytes.now (value_of result) ∷ history self.old };
+
+    /// Makes what was written durable, by one call.
+    fn sync_once(&mut self) -> io::Result<()>
+        ensures noted { history self.new ≡ Synced (is_ok result) ∷ history self.old };
+}

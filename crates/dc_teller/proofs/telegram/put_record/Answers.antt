@@ -1,0 +1,54 @@
+use Rattle.std.proofs.Common.{◌++◌, codes, arith}
+use Rattle.dc_records.specs.Record.{Entry, view}
+use Rattle.dc_stream.specs.Stream.{PutsFront}
+use Rattle.dc_stream.proofs.Pieces.{puts_front-first, puts_front-second}
+use Rattle.dc_text.specs.Words.{hex_word}
+use Rattle.dc_teller.specs.Seen.{seen_word}
+use Rattle.dc_teller.specs.Telegram.{record_words, record_line}
+use Rattle.dc_teller.proofs.telegram.put_record.Goals as goal
+
+pub returns-in_err-put : goal.returns-in_err-put
+unfolding record_line
+returns-in_err-put g c =
+    let r : Entry = view c.args.found.now in
+    let front : PutsFront (g.W.Sink.written c.args.out.now) (g.W.Sink.written c.put.new.self) (record_line r) =
+    puts_front-first (record_words r ++ (hex_word r.vib ++ (hex_word r.content ++ (seen_word r ++ codes "\n")))) c.in_err-put.ensures.err in
+    grind arith
+
+pub returns-in_err-put_numbers : goal.returns-in_err-put_numbers
+unfolding record_line
+returns-in_err-put_numbers g c =
+    let r : Entry = view c.args.found.now in
+    let front : PutsFront (g.W.Sink.written c.args.out.now) (g.W.Sink.written c.put_numbers.new.out) (record_line r) =
+    puts_front-second (codes "RECORD") c.in_ok-put.ensures.bytes
+    (puts_front-first (hex_word r.vib ++ (hex_word r.content ++ (seen_word r ++ codes "\n"))) c.in_err-put_numbers.ensures.2) in
+    grind arith
+
+pub returns-in_err-put_hex_word : goal.returns-in_err-put_hex_word
+unfolding record_line
+returns-in_err-put_hex_word g c =
+    let r : Entry = view c.args.found.now in
+    let front : PutsFront (g.W.Sink.written c.args.out.now) (g.W.Sink.written c.put_hex_word.new.out) (record_line r) =
+    puts_front-second (codes "RECORD") c.in_ok-put.ensures.bytes (puts_front-second (record_words r) c.in_ok-put_numbers.ensures.0
+    (puts_front-first (hex_word r.content ++ (seen_word r ++ codes "\n")) c.in_err-put_hex_word.ensures.2)) in
+    grind arith
+
+pub returns-in_err-put_hex_word-2 : goal.returns-in_err-put_hex_word-2
+unfolding record_line
+returns-in_err-put_hex_word-2 g c =
+    let r : Entry = view c.args.found.now in
+    let front : PutsFront (g.W.Sink.written c.args.out.now) (g.W.Sink.written c.put_hex_word-2.new.out) (record_line r) =
+    puts_front-second (codes "RECORD") c.in_ok-put.ensures.bytes (puts_front-second (record_words r) c.in_ok-put_numbers.ensures.0
+    (puts_front-second (hex_word r.vib) c.in_ok-put_hex_word.ensures.0
+    (puts_front-first (seen_word r ++ codes "\n") c.in_err-put_hex_word-2.ensures.2))) in
+    grind arith
+
+pub returns-in_err-put_seen : goal.returns-in_err-put_seen
+unfolding record_line
+returns-in_err-put_seen g c =
+    let r : Entry = view c.args.found.now in
+    let front : PutsFront (g.W.Sink.written c.args.out.now) (g.W.Sink.written c.put_seen.new.out) (record_line r) =
+    puts_front-second (codes "RECORD") c.in_ok-put.ensures.bytes (puts_front-second (record_words r) c.in_ok-put_numbers.ensures.0
+    (puts_front-second (hex_word r.vib) c.in_ok-put_hex_word.ensures.0 (puts_front-second (hex_word r.content) c.in_ok-put_hex_word-2.ensures.0
+    (puts_front-first (codes "\n") c.in_err-put_seen.ensures.2)))) in
+    grind arith
