@@ -28,25 +28,48 @@ Faults: 1 Unknown, 2 Known, 3 AddressTaken, 4 Beyond, 5 Full";
 
 /// Of `format`.
 pub const FORMAT: &str =
-    "A file that is an image already is never touched. A new one is made as IMAGE.half-made and then gets its name.\n\
-Faults: mbdc: format: 1 TooSmall, 2 AlreadyFormatted, 3 Device; mbdc: file: IMAGE where the file can't be made, has\n  \
-another length, or is open in another mbdc";
+    "A new image is made as IMAGE.0.half-made, readable by its owner alone, and gets its name once it is whole.\n\
+A file that is there already is formatted in place where it has exactly that length and holds zeros alone.\n\
+Faults: mbdc: format: 2 AlreadyFormatted, 3 Device; mbdc: file: IMAGE where the file can't be made, has another\n  \
+length or other content, is a link or a folder, or is open in another mbdc";
 
 /// Of `run`.
-pub const RUN: &str = "Lines of the script:\n  \
-AT seconds | START line ident | ASK line | HEAR line [hex] | COMMIT | OFFICE line | POLL line ident | SEARCH budget\n\
-Lines of the office:\n  \
-n FIT ident line addr flat | n MOVE ident flat | n OUT ident | n CONFIRM serial | n SWAP old new addr\n  \
-WINDOW from count | REGISTER | REPORT date\n\
-Faults: mbdc: open: 1 NotImage, 2 Damaged sector, 3 Version, 4 Worn, 5 Device, 6 NoMemory; mbdc: file: IMAGE where the\n  \
-file can't be opened or is open in another mbdc";
+pub const RUN: &str = "Lines of the script, and what each prints:\n  \
+AT seconds         sets the time stamp (Unix seconds) of the answers that follow: nothing\n  \
+START line ident   begins the readout of a meter: STARTED\n  \
+ASK line           asks for the line's next request: SEND hex, or NONE\n  \
+HEAR line [hex]    an answer, or silence: AGAIN, READY, PART p MORE, PART p LAST, FAILED n Name\n  \
+COMMIT             writes the pending changes to the image: COMMITTED n\n  \
+OFFICE text        a line of the billing office, see below: its reply\n  \
+POLL line ident    reads a meter through the gateway: each step as above; GATEWAY LOST, NO GATEWAY\n  \
+SEARCH budget      searches for meters with at most that many selections: FOUND ident, SHARED number,\n                     \
+BUDGET where it was spent, SELECTIONS n\n  \
+What is refused prints REFUSED n Name. Another line prints LINE i SYNTAX and ends the script.\n\
+Lines of the office, and their replies:\n  \
+n FIT ident line addr flat    adds a meter: OK n, once it is on the disk, as for each command\n  \
+n MOVE ident flat             gives it to another flat\n  \
+n OUT ident                   removes it\n  \
+n SWAP old new addr           replaces it by another meter\n  \
+n CONFIRM serial              releases the readings up to that serial\n  \
+WINDOW from count             READING serial ident flat parts, PART i moment hex; END readings\n  \
+REGISTER                      METER ident line addr flat open; END meters\n  \
+REPORT date                   the values that are dated by that date, as CSV; END rows\n  \
+Else ERR SYNTAX, STORE, ORDER last, KNOWN, UNKNOWN, ADDRESS, BEYOND, GONE confirmed, FULL or MEMORY.\n\
+Words:\n  \
+line    bus line, 1 to 8; the gateway is line 1\n  \
+ident   number, manufacturer, version and device type of a meter, as 12345678.PAD.01.07\n  \
+addr    its primary address, 1 to 250, or S for secondary addressing: it is selected by its ident\n  \
+flat    1 to 12 of A-Z a-z 0-9 . - / _\n  \
+n       the number of the last command plus 1\n\
+Faults: mbdc: open: 1 NotImage, 2 Damaged sector, 3 Version, 4 Worn, 5 Device; mbdc: memory; mbdc: gateway;\n  \
+mbdc: file: IMAGE where the file can't be opened or is open in another mbdc";
 
 /// Of `report`.
 pub const REPORT: &str =
     "Printed of the register: flat,meter,medium,line,address,open; of a date the values that are dated by it:\n  \
 flat,meter,serial,storage,function,tariff,subunit,value,unit\n\
 The image is opened as by run, so its next session is written.\n\
-Faults: mbdc: open: 1 NotImage, 2 Damaged sector, 3 Version, 4 Worn, 5 Device, 6 NoMemory; mbdc: file: IMAGE where the\n  \
+Faults: mbdc: open: 1 NotImage, 2 Damaged sector, 3 Version, 4 Worn, 5 Device; mbdc: file: IMAGE where the\n  \
 file can't be opened or is open in another mbdc; mbdc: memory";
 
 /// Of `demo`.

@@ -2,16 +2,29 @@
 
 use std::fs::{File, OpenOptions};
 use std::io;
+use std::os::fd::AsRawFd;
 use std::rt::Files;
 
-/// Opens the file to read and write, and locks it as long as it is open.
+/// Opens the file to read and write, and locks it as long as it is open. Its first read is one of the drive.
 ///
 /// # Errors
-/// The file can't be opened, or another program holds its lock. Nothing was touched then.
+/// The file can't be opened or synced, or another program holds its lock. Nothing was changed then.
 pub fn open_image<R: Files<File = File>>(rt: &R, name: &str) -> io::Result<File> {
     let mut options = OpenOptions::new();
     options.read(true).write(true);
-    open_locked(rt, &options, name)
+    let file = open_locked(rt, &options, name)?;
+    drop_cached(&file)?;
+    Ok(file)
+}
+
+// Syncs the file, and drops its pages from the system's cache. After a sync of an earlier program failed, the cache may
+// have what the drive hasn't, and no call says so.
+fn drop_cached(file: &File) -> io::Result<()> {
+    file.sync_data()?;
+    match libc::posix_fadvise(file.as_raw_fd(), 0, 0, libc::POSIX_FADV_DONTNEED) {
+        0 => Ok(()),
+        error => Err(io::Error::from_raw_os_error(error)),
+    }
 }
 
 /// Opens the file as the options say, and locks it as long as it is open: an exclusive advisory lock on the whole file

@@ -6,6 +6,7 @@ mod demo;
 mod ending;
 mod format;
 mod gateway;
+mod half_made;
 mod help;
 mod image;
 mod report;

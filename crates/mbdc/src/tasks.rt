@@ -14,7 +14,7 @@ use std::alloc::Allocator;
 use std::fs::File;
 use std::io::Write;
 use std::net::{Net, TcpListener, TcpStream};
-use std::rt::Files;
+use std::rt::{Clock, Files};
 use std::{fs, io};
 
 /// How many bytes go to standard output at once.
@@ -25,6 +25,8 @@ pub fn run<'a, R>(rt: &R, task: Task<'a>) -> Ending<'a>
 where
     R: Files<File = File>
         + Net<Stream = TcpStream, Listener = TcpListener>
+        + Clock
+        + Copy
         + Input
         + Print
         + AllocGlobal,

@@ -1,0 +1,103 @@
+//! The file in which `format` makes an image, until it is whole.
+
+use std::alloc::{AllocError, Global};
+use std::fs::{File, Metadata, OpenOptions};
+use std::io::ErrorKind;
+use std::os::unix::fs::{MetadataExt, OpenOptionsExt};
+use std::rt::Files;
+use std::{fs, io};
+
+// Read and written by its owner alone: readings are personal data.
+const MODE: u32 = 0o600;
+
+// How many names are tried. One that is taken was left by a power cut, or is being made by another `format`.
+const NAMES: u32 = 100;
+
+// The most bytes of the image's name in the name of its half-made file: the file systems of Linux take names of 255.
+const LONGEST: usize = 230;
+
+/// A file that this run created, and holds open.
+#[derive(Drop)]
+pub struct HalfMade {
+    /// The file, open to read and write.
+    pub file: File,
+    name: String,
+}
+
+impl HalfMade {
+    /// Creates an empty file beside `image`, under a name that nothing else has.
+    ///
+    /// # Errors
+    /// No file can be created there, or out of memory.
+    pub fn create<R: Files<File = File> + AllocGlobal>(rt: &R, image: &str) -> io::Result<Self> {
+        let mut options = OpenOptions::new();
+        options.read(true).write(true).create_new(true).mode(MODE);
+        for n in 0..NAMES {
+            let name = half_made_name(rt.alloc(), image, n)?;
+            match options.open(rt, name.as_str()) {
+                Ok(file) => return Ok(HalfMade { file, name }),
+                Err(error) if error.kind() == ErrorKind::AlreadyExists => {}
+                Err(error) => return Err(error),
+            }
+        }
+        Err(io::Error::from(ErrorKind::AlreadyExists))
+    }
+
+    /// Gives the file the name `image` as well, and makes that durable.
+    ///
+    /// # Errors
+    /// Something has that name, the file system has no hard links, or a call of it failed.
+    pub fn link<R: Files<File = File>>(&self, rt: &R, image: &str) -> io::Result<()> {
+        if !self.is_named(rt) {
+            return Err(io::Error::from(ErrorKind::NotFound));
+        }
+        fs::hard_link(rt, self.name.as_str(), image)?;
+        sync_folder(rt, image)
+    }
+
+    /// Removes the name under which the file was created, unless another file has it now.
+    pub fn unlink<R: Files<File = File>>(&self, rt: &R) {
+        if self.is_named(rt) {
+            let _ = fs::remove_file(rt, self.name.as_str());
+        }
+    }
+
+    // The file is open, so its number isn't given to another one.
+    fn is_named<R: Files<File = File>>(&self, rt: &R) -> bool {
+        match (
+            self.file.metadata(),
+            fs::symlink_metadata(rt, self.name.as_str()),
+        ) {
+            (Ok(own), Ok(seen)) => is_same_file(&own, &seen),
+            _ => false,
+        }
+    }
+}
+
+/// Whether both are of one file: its device and its number on it.
+pub fn is_same_file(one: &Metadata, other: &Metadata) -> bool {
+    one.dev() == other.dev() && one.ino() == other.ino()
+}
+
+// `FOLDER/IMAGE.N.half-made`.
+fn half_made_name(alloc: Global, image: &str, n: u32) -> Result<String, AllocError> {
+    match image.rsplit_once('/') {
+        Some((folder, file)) => format!(in alloc; "{folder}/{}.{n}.half-made", shortened(file)),
+        None => format!(in alloc; "{}.{n}.half-made", shortened(image)),
+    }
+}
+
+fn shortened(name: &str) -> &str {
+    name.get(..name.floor_char_boundary(LONGEST))
+        .unwrap_or(name)
+}
+
+// A name is durable once its folder is synced.
+fn sync_folder<R: Files<File = File>>(rt: &R, name: &str) -> io::Result<()> {
+    let folder = match name.rsplit_once('/') {
+        Some(("", _)) => "/",
+        Some((folder, _)) => folder,
+        None => ".",
+    };
+    fs::open(rt, folder)?.sync_all()
+}
