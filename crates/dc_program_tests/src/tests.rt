@@ -7,7 +7,6 @@ mod fold;
 mod gateway;
 mod hostile;
 mod office;
-mod poll;
 mod report;
 mod run;
 mod search;

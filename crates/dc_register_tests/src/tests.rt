@@ -4,7 +4,6 @@ mod asked;
 mod bytes;
 mod changes;
 mod coding;
-mod due;
 mod growths;
 mod lines;
 mod tables;

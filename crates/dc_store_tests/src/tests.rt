@@ -11,5 +11,6 @@ mod leftovers;
 mod life;
 mod root_slots;
 mod roots;
+mod scripted;
 mod sectors;
 mod upgrades;

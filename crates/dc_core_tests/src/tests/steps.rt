@@ -22,8 +22,6 @@ pub const MOMENT: u64 = 1_735_689_600;
 
 pub const ACK: &[u8] = b"\xE5";
 
-pub const SILENCE: &[u8] = b"";
-
 // Two telegrams of the meter at primary address 1: the first says that more follow.
 pub const FIRST: &[u8] = b"\x68\x16\x16\x68\x08\x01\x72\x78\x56\x34\x12\x24\x40\x01\x07\x01\
     \x00\x00\x00\x0C\x13\x78\x56\x34\x12\x1F\x4E\x16";
@@ -171,20 +169,4 @@ pub fn found(heap: Global, disk: MemoryDisk<Global>) -> Result<(usize, usize, u3
         }
         Err((fault, _)) => Err(Fail::from(fault)),
     }
-}
-
-/// Does the steps on a copy of the image, by calls, and again by runs; it is opened as this then.
-pub fn plays(
-    rt: &impl Abort,
-    heap: Global,
-    disk: &MemoryDisk<Global>,
-    steps: &[Step<'_>],
-    wanted: (usize, usize, u32),
-) -> Result<(), Fail> {
-    for way in [Way::Call, Way::Run] {
-        let mut core = opened(heap, disk.copy()?)?;
-        go(rt, heap, &mut core, way, steps)?;
-        assert_eq!(rt; found(heap, core.close())?, wanted);
-    }
-    Ok(())
 }

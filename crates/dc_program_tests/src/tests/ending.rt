@@ -107,10 +107,15 @@ fn an_answer_of_an_engine_ends_a_run(rt: HostRuntime) -> Result<(), Fail> {
         line_of(rt.alloc(), &ending)?.as_slice(),
         b"mbdc: open: 4 Worn\n".as_slice()
     );
-    assert_eq!(rt;
-        ending_of(Err(ProgramFault::NoMemory), "day.txt").status(),
-        4
-    );
+    let refused = ProgramFault::Open(OpenFault::NoMemory);
+    for fault in [ProgramFault::NoMemory, refused] {
+        let ending = ending_of(Err(fault), "day.txt");
+        assert_eq!(rt; ending.status(), 4);
+        assert_eq!(rt;
+            line_of(rt.alloc(), &ending)?.as_slice(),
+            b"mbdc: memory\n".as_slice()
+        );
+    }
     Ok(())
 }
 

@@ -4,7 +4,6 @@ ghost use Rattle.std.specs.Prelude.{◌≡◌};
 ghost use Rattle.dc_linkframe.specs.Control.{reset_to};
 ghost use Rattle.dc_linkframe.specs.Frame.{spelling};
 
-use super::streams::FailingSource;
 use dc_address::Identity;
 use dc_gateway::{AnswerBuf, Gateway, ListedBus, Talk, exchange, search_over};
 use dc_linkframe::FrameBuf;
@@ -51,88 +50,12 @@ impl Source for Endless {
     }
 }
 
-// So many blocks of one byte, and the block of length 0.
-fn blocks<A: std::alloc::Allocator>(alloc: A, count: u64) -> Result<Bytes<A>, IoFault> {
-    let mut bytes = Bytes::new(alloc);
-    for _ in 0..count {
-        bytes.put(&[1, 9])?;
-    }
-    bytes.put(&[0])?;
-    Ok(bytes)
-}
-
-#[test]
-fn a_request_and_its_answer_are_blocks(rt: HostRuntime) -> Result<(), Fail> {
-    let mut reader = Bytes::from_slice(rt.alloc(), &[0x01, 0xE5, 0x00, 0x07])?;
-    let mut writer = Bytes::new(rt.alloc());
-    let talk = exchange(&mut reader, &mut writer, &reset());
-    assert!(rt; is_answer(&talk, &[0xE5]));
-    assert_eq!(rt; writer.as_slice(), b"\x05\x10\x40\x01\x41\x16".as_slice());
-    // The byte behind the answer isn't read.
-    let mut room = [0; 2];
-    assert_eq!(rt; reader.take(&mut room)?, 1);
-    assert_eq!(rt; room[0], 7);
-    Ok(())
-}
-
-#[test]
-fn no_byte_is_silence_and_an_end_is_lost(rt: HostRuntime) -> Result<(), Fail> {
-    let mut silent = Bytes::from_slice(rt.alloc(), &[0x00])?;
-    let mut ended = Bytes::from_slice(rt.alloc(), &[0x02, 0xE5])?;
-    let mut empty = Bytes::new(rt.alloc());
-    let mut writer = Bytes::new(rt.alloc());
-    assert!(rt; is_answer(&exchange(&mut silent, &mut writer, &reset()), &[]));
-    assert!(rt; matches!(exchange(&mut ended, &mut writer, &reset()), Talk::Lost));
-    assert!(rt; matches!(exchange(&mut empty, &mut writer, &reset()), Talk::Lost));
-    Ok(())
-}
-
-#[test]
-fn bytes_past_the_room_are_dropped(rt: HostRuntime) -> Result<(), Fail> {
-    let mut reader = Bytes::new(rt.alloc());
-    reader.put(&[255])?;
-    reader.put(&[7; 255])?;
-    reader.put(&[255])?;
-    reader.put(&[8; 255])?;
-    reader.put(&[0])?;
-    let mut wanted = Vec::from_slice(rt.alloc(), &[7; 255])?;
-    wanted.extend_from_slice(&[8; 45])?;
-    let talk = exchange(&mut reader, &mut FixedSink::<6>::new(), &reset());
-    assert!(rt; is_answer(&talk, &wanted));
-    assert_eq!(rt; reader.take(&mut [0; 1])?, 0);
-    Ok(())
-}
-
-#[test]
-fn six_hundred_blocks_are_the_most(rt: HostRuntime) -> Result<(), Fail> {
-    let mut most = blocks(rt.alloc(), 600)?;
-    let mut more = blocks(rt.alloc(), 601)?;
-    let mut writer = Bytes::new(rt.alloc());
-    assert!(rt; is_answer(&exchange(&mut most, &mut writer, &reset()), &[9; 300]));
-    assert!(rt; matches!(exchange(&mut more, &mut writer, &reset()), Talk::Lost));
-    // Of the block past them the length alone is read.
-    let mut room = [0; 3];
-    assert_eq!(rt; more.take(&mut room)?, 2);
-    assert_eq!(rt; (room[0], room[1]), (9, 0));
-    Ok(())
-}
-
 #[test]
 fn blocks_without_an_end_are_given_up(rt: HostRuntime) {
     let mut reader = Endless { takes: 0 };
     let talk = exchange(&mut reader, &mut FixedSink::<6>::new(), &reset());
     assert!(rt; matches!(talk, Talk::Lost));
     assert_eq!(rt; reader.takes, 1201);
-}
-
-#[test]
-fn each_failing_take_is_lost(rt: HostRuntime) {
-    for takes in 0..8 {
-        let mut reader = FailingSource::after(takes, b"\x02\x07\x08\x01\x09\x00", 1);
-        let talk = exchange(&mut reader, &mut FixedSink::<6>::new(), &reset());
-        assert_eq!(rt; is_answer(&talk, &[7, 8, 9]), takes >= 6);
-        assert_eq!(rt; matches!(talk, Talk::Lost), takes < 6);
-    }
 }
 
 #[test]
@@ -206,19 +129,6 @@ fn a_search_asks_who_acknowledged(rt: HostRuntime) -> Result<(), Fail> {
             .as_slice()
             .ends_with(b"\x05\x10\x7B\xFD\x78\x16")
     );
-    Ok(())
-}
-
-#[test]
-fn a_search_ends_over_a_lost_gateway(rt: HostRuntime) -> Result<(), Fail> {
-    // All meters acknowledge, and then nothing more comes: one collision, and silence for ten masks.
-    let reader = Bytes::from_slice(rt.alloc(), b"\x01\xE5\x00")?;
-    let mut gateway = Gateway::new(reader, FixedSink::<99>::new());
-    let search = search_over(rt.alloc(), 99, &mut gateway)?;
-    assert_eq!(rt; (search.selections(), search.next()), (11, Step::Done));
-    assert!(rt; gateway.is_lost());
-    let none = search_over(rt.alloc(), 0, &mut gateway)?;
-    assert_eq!(rt; (none.selections(), none.next()), (0, Step::Budget));
     Ok(())
 }
 

@@ -1,11 +1,11 @@
-//! The office's lines as a house answers them, on worked lines.
+//! Lines of the office whose reply fails, or whose memory is refused.
 
 ghost use Rattle.std.specs.Prelude.{None};
 
 use super::streams::FailingSink;
 use dc_changes::{Body, Change};
 use dc_meters::House;
-use dc_stream::{Bytes, IoFault, Sink};
+use dc_stream::{Bytes, Sink};
 use dc_upload::{
     Code, ReplyFault, Verdict, a_done_command_is_repeated, judge, parse_line, write_refusal,
     write_reply,
@@ -82,110 +82,10 @@ fn hear<A: Allocator + Copy>(
     Ok(())
 }
 
-// One meter is fitted and read.
-fn read_out(rt: &(impl Abort + AllocGlobal), house: &mut House<Global>) -> Result<(), Fail> {
-    is_answered(rt, house, FIT, b"OK 1\n")?;
-    hear(rt, house, 1, FIRST)?;
-    hear(rt, house, 2, LAST)
-}
-
-fn are_done_once(rt: &(impl Abort + AllocGlobal), house: &mut House<Global>) -> Result<(), Fail> {
-    is_answered(rt, house, FIT, b"OK 1\n")?;
-    is_answered(rt, house, FIT, b"OK 1\n")?;
-    let other = b"1 FIT 12345678.PAD.01.07 1 1 A2";
-    is_answered(rt, house, other, b"ERR ORDER 1\n")?;
-    let later = b"3 OUT 12345678.PAD.01.07";
-    is_answered(rt, house, later, b"ERR ORDER 1\n")?;
-    let known = b"2 FIT 12345678.PAD.01.07 1 2 A1";
-    is_answered(rt, house, known, b"ERR KNOWN\n")?;
-    let taken = b"2 FIT 00000001.PAD.01.07 1 1 A1";
-    is_answered(rt, house, taken, b"ERR ADDRESS\n")?;
-    let unknown = b"2 OUT 00000001.PAD.01.07";
-    is_answered(rt, house, unknown, b"ERR UNKNOWN\n")?;
-    let zero = b"02 OUT 12345678.PAD.01.07";
-    is_answered(rt, house, zero, b"ERR SYNTAX\n")
-}
-
-#[test]
-fn commands_are_done_once(rt: HostRuntime) -> Result<(), Fail> {
-    let mut house = House::new(rt.alloc(), BUDGET);
-    are_done_once(&rt, &mut house)
-}
-
 #[test]
 fn a_meter_that_doesnt_fit_is_refused(rt: HostRuntime) -> Result<(), Fail> {
     let mut small = House::new(rt.alloc(), 166);
     is_answered(&rt, &mut small, FIT, b"ERR FULL\n")
-}
-
-fn are_gone(rt: &(impl Abort + AllocGlobal), house: &mut House<Global>) -> Result<(), Fail> {
-    is_answered(rt, house, b"WINDOW 1 100", b"END 0\n")?;
-    is_answered(rt, house, b"REGISTER", b"END 0\n")?;
-    read_out(rt, house)?;
-    is_answered(rt, house, b"2 CONFIRM 2", b"ERR BEYOND\n")?;
-    is_answered(rt, house, b"2 CONFIRM 1", b"OK 2\n")?;
-    is_answered(rt, house, b"WINDOW 1 10", b"ERR GONE 1\n")?;
-    is_answered(rt, house, b"WINDOW 2 10", b"END 0\n")
-}
-
-#[test]
-fn confirmed_readings_are_gone(rt: HostRuntime) -> Result<(), Fail> {
-    let mut house = House::new(rt.alloc(), BUDGET);
-    are_gone(&rt, &mut house)
-}
-
-fn is_shown(rt: &(impl Abort + AllocGlobal), house: &mut House<Global>) -> Result<(), Fail> {
-    let none = b"flat,meter,serial,storage,function,tariff,subunit,value,unit\nEND 0\n";
-    is_answered(rt, house, REPORT, none)?;
-    read_out(rt, house)?;
-    let shown = b"READING 1 12345678.PAD.01.07 A1 2
-PART 1 1735689600 7856341224400107010000000C13785634121F
-PART 2 1735689600 785634122440010702000000426C1F3C4C1300503412
-END 1
-";
-    is_answered(rt, house, b"WINDOW 1 1", shown)?;
-    is_answered(rt, house, REPORT, TABLE)?;
-    is_answered(rt, house, b"REPORT 2023-12-31", none)
-}
-
-#[test]
-fn a_reading_and_its_table_are_shown(rt: HostRuntime) -> Result<(), Fail> {
-    let mut house = House::new(rt.alloc(), BUDGET);
-    is_shown(&rt, &mut house)
-}
-
-fn is_swapped(rt: &(impl Abort + AllocGlobal), house: &mut House<Global>) -> Result<(), Fail> {
-    read_out(rt, house)?;
-    let swap = b"2 SWAP 12345678.PAD.01.07 00000001.PAD.01.07 2";
-    is_answered(rt, house, swap, b"OK 2\n")?;
-    assert_eq!(rt; house.size(), 246);
-    let meters = b"METER 00000001.PAD.01.07 1 2 A1 0\nEND 1\n";
-    is_answered(rt, house, b"REGISTER", meters)?;
-    let itself = b"3 SWAP 00000001.PAD.01.07 00000001.PAD.01.07 2";
-    is_answered(rt, house, itself, b"ERR KNOWN\n")?;
-    let gone = b"3 SWAP 12345678.PAD.01.07 12345678.PAD.01.07 2";
-    is_answered(rt, house, gone, b"ERR UNKNOWN\n")?;
-    let back = b"3 SWAP 00000001.PAD.01.07 12345678.PAD.01.07 2";
-    is_answered(rt, house, back, b"OK 3\n")
-}
-
-#[test]
-fn a_meter_is_swapped(rt: HostRuntime) -> Result<(), Fail> {
-    let mut house = House::new(rt.alloc(), BUDGET);
-    is_swapped(&rt, &mut house)
-}
-
-#[test]
-fn long_lines_are_none(rt: HostRuntime) {
-    assert!(rt; parse_line(&[b'1'; 120]).is_none());
-    assert!(rt; parse_line(&[b'1'; 121]).is_none());
-    assert!(rt; parse_line(b"WINDOW 0 1").is_none());
-    assert!(rt; parse_line(b"WINDOW 1 101").is_none());
-    assert!(rt; parse_line(b"WINDOW 1 1 ").is_none());
-    assert!(rt; parse_line(b"REGISTER ").is_none());
-    assert!(rt; parse_line(b"REPORT 2024-02-30").is_none());
-    assert!(rt; parse_line(b"REPORT 2024-12-31 ").is_none());
-    assert!(rt; parse_line(b"REPORT ").is_none());
 }
 
 // Each write of a reply fails in turn; the line is answered in full when it comes again.

@@ -81,6 +81,7 @@ impl Sink for FailingSink {
 
     ghost put_failures = { λ s. s.failures };
 
+    #[tactic(auto, using(dc_stream::proofs::Pieces::told))]
     fn put(&mut self, bytes: &[u8]) -> Result<(), IoFault> {
         if self.puts == 0 {
             self.failures = one_failure_more(self.failures);

@@ -1,6 +1,6 @@
-//! Changes as bytes, and out of bytes. The worked bytes are put together by hand from the format.
+//! Changes that are read back from their bytes.
 
-use dc_changes::{Body, Change, Command, DecodeFault, Flat, decode_changes, encode_change};
+use dc_changes::{Body, Change, Command, DecodeFault, decode_changes, encode_change};
 use dc_stream::Bytes;
 use refusing_alloc::Refusing;
 use std::alloc::Allocator;
@@ -27,29 +27,6 @@ fn put_command<A: Allocator>(line: &[u8], bytes: &mut Bytes<A>) -> Result<(), Fa
         command: found.command,
     };
     encode_change(&change, bytes)?;
-    Ok(())
-}
-
-#[test]
-fn changes_have_their_bytes(rt: HostRuntime) -> Result<(), Fail> {
-    let mut bytes = Bytes::new(rt.alloc());
-    put_command(b"1 FIT 12345678.PAD.01.07 1 1 A1", &mut bytes)?;
-    let fitted =
-        b"\x02\x01\x00\x00\x00\x00\x00\x00\x00\x78\x56\x34\x12\x24\x40\x01\x07\x01\x01\x02\x41\x31";
-    assert_eq!(rt; bytes.as_slice(), fitted.as_slice());
-    let mut bytes = Bytes::new(rt.alloc());
-    put_command(
-        b"2 SWAP 12345678.PAD.01.07 00000001.PAD.01.07 2",
-        &mut bytes,
-    )?;
-    let swapped =
-        b"\x06\x02\x00\x00\x00\x00\x00\x00\x00\x78\x56\x34\x12\x24\x40\x01\x07\x01\x00\x00\x00\x24\x40\x01\x07\x02";
-    assert_eq!(rt; bytes.as_slice(), swapped.as_slice());
-    let mut bytes = Bytes::new(rt.alloc());
-    put_telegram(&mut bytes)?;
-    let heard =
-        b"\x01\x01\x64\x00\x00\x00\x00\x00\x00\x00\x0C\x78\x56\x34\x12\x24\x40\x01\x07\x01\x00\x00\x00";
-    assert_eq!(rt; bytes.as_slice(), heard.as_slice());
     Ok(())
 }
 
@@ -109,13 +86,4 @@ fn each_growth_of_the_changes_is_refused_in_turn(rt: HostRuntime) -> Result<(), 
     }
     assert_eq!(rt; refused, 2);
     Ok(())
-}
-
-#[test]
-fn flats_are_ordered_as_their_bytes(rt: HostRuntime) {
-    let names = [b"-".as_slice(), b"A", b"A1", b"A10", b"A2", b"B", b"a"];
-    for pair in names.windows(2) {
-        assert!(rt; Flat::new(pair[0]) < Flat::new(pair[1]));
-    }
-    assert_eq!(rt; Flat::new(b"A1"), Flat::new(b"A1"));
 }

@@ -112,17 +112,6 @@ pub fn replayed<A: Allocator + Copy>(alloc: A, changes: &[u8]) -> (Result<(), De
     (end, house.last_number())
 }
 
-/// What a house counts: the size, how many readings there are, the next serial, the mark and the last number.
-pub fn figures<A: Allocator + Copy>(house: &House<A>) -> (u32, usize, u64, u64, u64) {
-    (
-        house.size(),
-        house.readings().len(),
-        house.next_serial(),
-        house.confirmed(),
-        house.last_number(),
-    )
-}
-
 /// The bytes of the state.
 pub fn encoded<A: Allocator + Copy>(heap: Global, house: &House<A>) -> Result<Bytes<Global>, Fail> {
     let mut bytes = Bytes::new(heap);

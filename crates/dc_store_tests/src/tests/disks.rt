@@ -1,8 +1,6 @@
-//! Reads, failures and stops of the disk in memory, and disks over files: that calls succeed where there is memory, and what
-//! a real file does.
+//! Reads and failures of the disk in memory, and disks over files: that calls succeed where there is memory, and what a real file does.
 
-use super::images::{OLD, UNREADABLE, WRITTEN, stop_at};
-use dc_sectors::{Disk, Failed, FileDisk, MemoryDisk, Pick, ReadFault};
+use dc_sectors::{Disk, Failed, FileDisk, MemoryDisk, ReadFault};
 use refusing_alloc::Refusing;
 use std::alloc::Global;
 use std::fs::File;
@@ -24,30 +22,6 @@ fn written_twice(rt: &impl Abort, alloc: Global) -> Result<MemoryDisk<Global>, F
     Ok(disk)
 }
 
-/// What the sector that was written twice reads as after a stop.
-fn read_after_stop(
-    rt: &impl Abort,
-    alloc: Global,
-    way: usize,
-) -> Result<Result<[u8; 512], ReadFault>, Fail> {
-    let mut disk = written_twice(rt, alloc)?;
-    assert!(rt; disk.pending()?.as_slice() == [(5, 2)].as_slice());
-    stop_at(alloc, &mut disk, way)?;
-    assert_eq!(rt; disk.pending()?.len(), 0);
-    assert_eq!(rt; disk.count(), 8);
-    Ok(disk.read(5))
-}
-
-#[test]
-fn a_stop_leaves_what_was_picked(rt: HostRuntime) -> Result<(), Fail> {
-    let alloc = rt.alloc();
-    assert!(rt; read_after_stop(&rt, alloc, WRITTEN)? == Ok(A));
-    assert!(rt; read_after_stop(&rt, alloc, WRITTEN + 1)? == Ok(B));
-    assert!(rt; read_after_stop(&rt, alloc, OLD)? == Ok(ZEROS));
-    assert!(rt; read_after_stop(&rt, alloc, UNREADABLE)? == Err(ReadFault::Unreadable));
-    Ok(())
-}
-
 #[test]
 fn a_copy_goes_on_by_itself(rt: HostRuntime) -> Result<(), Fail> {
     let mut disk = written_twice(&rt, rt.alloc())?;
@@ -58,45 +32,6 @@ fn a_copy_goes_on_by_itself(rt: HostRuntime) -> Result<(), Fail> {
     assert_eq!(rt; copy.calls(), 2);
     assert_eq!(rt; copy.count(), 8);
     assert!(rt; copy.read(5) == Ok(B));
-    Ok(())
-}
-
-#[test]
-fn one_call_fails(rt: HostRuntime) -> Result<(), Fail> {
-    let mut disk = MemoryDisk::new(rt.alloc(), 8)?;
-    assert_eq!(rt; disk.count(), 8);
-    disk.fail_once(1);
-    assert_eq!(rt; disk.write(5, &A), Ok(()));
-    assert_eq!(rt; disk.sync(), Err(Failed));
-    assert_eq!(rt; disk.write(5, &B), Ok(()));
-    assert_eq!(rt; disk.pending()?.as_slice(), [(5, 2)].as_slice());
-    disk.fail_once(0);
-    assert!(rt; disk.read(5) == Err(ReadFault::Failed));
-    assert!(rt; disk.read(5) == Ok(B));
-    assert_eq!(rt; disk.calls(), 5);
-    Ok(())
-}
-
-#[test]
-fn a_fuse_fails_all_that_follows(rt: HostRuntime) -> Result<(), Fail> {
-    let mut disk = MemoryDisk::new(rt.alloc(), 8)?;
-    assert_eq!(rt; disk.count(), 8);
-    disk.fuse(2);
-    assert_eq!(rt; disk.write(3, &A), Ok(()));
-    assert_eq!(rt; disk.sync(), Ok(()));
-    assert_eq!(rt; disk.write(3, &B), Err(Failed));
-    assert_eq!(rt; disk.sync(), Err(Failed));
-    assert!(rt; disk.read(3) == Err(ReadFault::Failed));
-    assert_eq!(rt; disk.calls(), 5);
-    let pending = disk.pending()?;
-    assert_eq!(rt; pending.as_slice(), [(3, 1)].as_slice());
-    let mut torn = disk.copy()?;
-    torn.stop(&[Pick::Old]);
-    assert_eq!(rt; torn.count(), 8);
-    assert!(rt; torn.read(3) == Ok(A));
-    disk.stop(&[Pick::Written(0)]);
-    assert_eq!(rt; disk.count(), 8);
-    assert!(rt; disk.read(3) == Ok(B));
     Ok(())
 }
 

@@ -2,7 +2,6 @@
 
 ghost use Rattle.std.specs.Prelude.{◌<◌};
 
-use super::images::{OLD, UNREADABLE, WRITTEN, stop_at};
 use dc_roots::{Root, RootFault, choose, write_next};
 use dc_sectors::{Disk, MemoryDisk, ReadFault};
 use std::alloc::Global;
@@ -56,56 +55,6 @@ fn a_root_sector_is_zero_behind_its_numbers(rt: HostRuntime) -> Result<(), Fail>
     sector[8] = 2;
     sector[16] = 2;
     assert!(rt; disk.read(1) == Ok(sector));
-    Ok(())
-}
-
-/// Stops a disk that has one pending sector, written once.
-fn stop_one(
-    rt: &impl Abort,
-    disk: &mut MemoryDisk<Global>,
-    alloc: Global,
-    sector: u32,
-    way: usize,
-) -> Result<(), Fail> {
-    let pending = disk.pending()?;
-    assert!(rt; pending.as_slice() == [(sector, 1)].as_slice());
-    stop_at(alloc, disk, way)?;
-    Ok(())
-}
-
-fn chosen_after_stop(
-    rt: &impl Abort,
-    alloc: Global,
-    way: usize,
-) -> Result<Result<Root, RootFault>, Fail> {
-    let mut disk = written_twice(rt, alloc)?;
-    stop_one(rt, &mut disk, alloc, 1, way)?;
-    assert_eq!(rt; disk.count(), 131);
-    Ok(choose(&mut disk))
-}
-
-#[test]
-fn a_stop_leaves_the_old_root_or_the_new_one(rt: HostRuntime) -> Result<(), Fail> {
-    let alloc = rt.alloc();
-    assert!(rt; chosen_after_stop(&rt, alloc, OLD)? == Ok(FIRST));
-    assert!(rt; chosen_after_stop(&rt, alloc, UNREADABLE)? == Ok(FIRST));
-    assert!(rt; chosen_after_stop(&rt, alloc, WRITTEN)? == Ok(SECOND));
-    Ok(())
-}
-
-#[test]
-fn the_first_unreadable_slot_is_named(rt: HostRuntime) -> Result<(), Fail> {
-    let mut disk = MemoryDisk::new(rt.alloc(), 131)?;
-    assert_eq!(rt; disk.count(), 131);
-    assert!(rt; choose(&mut disk) == Err(RootFault::NoRoot(None)));
-    assert!(rt; write_next(&mut disk, &SECOND).is_ok());
-    stop_one(&rt, &mut disk, rt.alloc(), 2, UNREADABLE)?;
-    assert_eq!(rt; disk.count(), 131);
-    assert!(rt; choose(&mut disk) == Err(RootFault::NoRoot(Some(2))));
-    assert!(rt; write_next(&mut disk, &FIRST).is_ok());
-    stop_one(&rt, &mut disk, rt.alloc(), 1, UNREADABLE)?;
-    assert_eq!(rt; disk.count(), 131);
-    assert!(rt; choose(&mut disk) == Err(RootFault::NoRoot(Some(1))));
     Ok(())
 }
 

@@ -1,7 +1,6 @@
-//! Roots: damaged ones, other versions, and the last of each number.
+//! Roots with the last of each number.
 
-use super::images::stop_at;
-use super::life::{FIT, accept, closed, compact, formatted, opened, read_as, reopened, written};
+use super::life::{FIT, accept, closed, compact, formatted, opened, reopened, written};
 use super::sectors::{put, read, reads_alike};
 use dc_recovery::{OpenFault, Store, StoreFault};
 use dc_roots::{Root, write_next};
@@ -33,67 +32,6 @@ fn with_root(rt: &impl Abort, heap: Global, root: &Root) -> Result<MemoryDisk<Gl
     let mut disk = formatted(heap, 131)?;
     put_next(rt, &mut disk, root)?;
     Ok(disk)
-}
-
-/// Both slots are written, and a stop leaves neither to be read; then a group's commit sector is missing.
-#[test]
-fn an_image_that_cannot_be_read_on_is_damaged(rt: HostRuntime) -> Result<(), Fail> {
-    let heap = rt.alloc();
-    let mut disk = formatted(heap, 131)?;
-    put(&rt, &mut disk, &[(1, [0; 512]), (2, [0; 512])])?;
-    stop_at(heap, &mut disk, 1 + 3)?;
-    assert_eq!(rt; read_as(heap, disk), Err(OpenFault::Damaged(1)));
-    let mut disk = formatted(heap, 131)?;
-    put(&rt, &mut disk, &[(4, [0; 512])])?;
-    assert_eq!(rt; read_as(heap, disk), Err(OpenFault::Damaged(4)));
-    Ok(())
-}
-
-/// The image with a byte of a sector changed.
-fn changed(
-    rt: &impl Abort,
-    mut disk: MemoryDisk<Global>,
-    n: u32,
-    at: usize,
-    byte: u8,
-) -> Result<MemoryDisk<Global>, Fail> {
-    let mut bytes = read(rt, &mut disk, n)?;
-    assert!(rt; at < 512);
-    bytes[at] = byte;
-    put(rt, &mut disk, &[(n, bytes)])?;
-    Ok(disk)
-}
-
-/// A commit sector has no used bytes.
-#[test]
-fn a_commit_sector_with_used_bytes_ends_no_group(rt: HostRuntime) -> Result<(), Fail> {
-    let heap = rt.alloc();
-    let base = changed(&rt, formatted(heap, 131)?, 4, 2, 1)?;
-    assert_eq!(rt; read_as(heap, base), Err(OpenFault::Damaged(4)));
-    let group = written(&rt, heap, formatted(heap, 131)?, &[FIT])?;
-    let cut = changed(&rt, group, 6, 3, 1)?;
-    assert_eq!(rt; read_as(heap, cut)?.number, 0);
-    Ok(())
-}
-
-#[test]
-fn another_version_is_named_first(rt: HostRuntime) -> Result<(), Fail> {
-    let heap = rt.alloc();
-    let unknown = Root {
-        version: 3,
-        half_len: 63,
-        ..FIRST_ROOT
-    };
-    let mut disk = with_root(&rt, heap, &unknown)?;
-    assert_eq!(rt; read_as(heap, disk.copy()?), Err(OpenFault::Version));
-    let other_length = Root {
-        version: 2,
-        generation: 2,
-        ..unknown
-    };
-    put_next(&rt, &mut disk, &other_length)?;
-    assert_eq!(rt; read_as(heap, disk), Err(OpenFault::Damaged(2)));
-    Ok(())
 }
 
 /// Why the image isn't opened, and its disk.

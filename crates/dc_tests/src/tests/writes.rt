@@ -25,6 +25,7 @@ impl Sink for Breaking {
 
     ghost put_failures = { λ s. s.failures };
 
+    #[tactic(auto, using(dc_stream::proofs::Pieces::told))]
     fn put(&mut self, _bytes: &[u8]) -> Result<(), IoFault> {
         self.until = self.until.saturating_sub(1);
         if self.until == 0 {

@@ -1,56 +1,11 @@
-//! Identities and masks as they are sent and printed.
+//! Masks as they are sent, the order of identities, and the texts of faults.
 
-use dc_address::{Identity, IdentityFault, Mask, Primary, order_of};
+use dc_address::{Identity, IdentityFault, Mask, order_of};
 use std::cmp::Ordering;
 use std::test::Fail;
 
 /// 12345678.PAD.01.07 as eight bytes.
 const WIRE: [u8; 8] = [0x78, 0x56, 0x34, 0x12, 0x24, 0x40, 0x01, 0x07];
-
-#[test]
-fn bytes_and_text_name_one_identity(rt: HostRuntime) -> Result<(), Fail> {
-    let identity = Identity::from_wire(&WIRE).ok_or("an identity")?;
-    assert_eq!(rt; identity.number, 12_345_678);
-    assert_eq!(rt; identity.maker, 0x4024);
-    assert_eq!(rt; identity.version, 1);
-    assert_eq!(rt; identity.kind, 7);
-    assert_eq!(rt; identity.wire(), WIRE);
-    assert_eq!(rt; identity.text(), *b"12345678.PAD.01.07");
-    assert_eq!(rt; Identity::parse_text(b"12345678.PAD.01.07"), Ok(identity));
-    Ok(())
-}
-
-#[test]
-fn other_bytes_name_none(rt: HostRuntime) {
-    let digit = [0x7A, 0x56, 0x34, 0x12, 0x24, 0x40, 0x01, 0x07];
-    assert_eq!(rt; Identity::from_wire(&digit), None);
-    let maker = [0x78, 0x56, 0x34, 0x12, 0x20, 0x40, 0x01, 0x07];
-    assert_eq!(rt; Identity::from_wire(&maker), None);
-}
-
-#[test]
-fn the_first_fault_of_a_text_is_named(rt: HostRuntime) {
-    assert_eq!(rt;
-        Identity::parse_text(b"12345678.PAD.01.7"),
-        Err(IdentityFault::Length)
-    );
-    assert_eq!(rt;
-        Identity::parse_text(b"1234567A.PAD.01.07"),
-        Err(IdentityFault::Digit)
-    );
-    assert_eq!(rt;
-        Identity::parse_text(b"12345678.PaD.01.0g"),
-        Err(IdentityFault::Letter)
-    );
-    assert_eq!(rt;
-        Identity::parse_text(b"12345678-PAD.01.0a"),
-        Err(IdentityFault::Hex)
-    );
-    assert_eq!(rt;
-        Identity::parse_text(b"12345678.PAD.01-07"),
-        Err(IdentityFault::Dot)
-    );
-}
 
 #[test]
 fn faults_print_as_number_and_name(rt: HostRuntime) -> Result<(), Fail> {
@@ -108,12 +63,4 @@ fn identities_ascend_from_the_least_to_the_greatest(rt: HostRuntime) -> Result<(
         Ordering::Greater
     );
     Ok(())
-}
-
-#[test]
-fn primary_addresses_are_1_to_250(rt: HostRuntime) {
-    assert_eq!(rt; Primary::new(0), None);
-    assert_eq!(rt; Primary::new(1).map(Primary::get), Some(1));
-    assert_eq!(rt; Primary::new(250).map(Primary::get), Some(250));
-    assert_eq!(rt; Primary::new(251), None);
 }
