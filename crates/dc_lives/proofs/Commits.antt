@@ -13,7 +13,7 @@ use Rattle.dc_lives.specs.InStep.{bit_before, HasGoneOn, HasNotGoneOn, IsInStep,
 
 -- ---- lists
 
-suc_is : (n : ℕ) → suc n ≡ n + 1
+pub suc_is : (n : ℕ) → suc n ≡ n + 1
 suc_is n = omega arith
 
 pub take_one_more : {X : Type 0} (n : ℕ) (bodies : List X) (body : X) → slice_get bodies n ≡ Some body → take (suc n) bodies ≡ take n bodies ++ body ∷ []
@@ -66,11 +66,11 @@ joined_is (suc k) bodies body parts at so_far =
 
 -- ---- a commit
 
-record Pends (stage : Stage) (n : ℕ) (body : List ℕ) (bodies : List (List ℕ)) : Type 0 where
-  stage_is : stage ≡ Pending (more_after body)
-  is_next : slice_get bodies n ≡ Some body
+pub record Pends (stage : Stage) (n : ℕ) (body : List ℕ) (bodies : List (List ℕ)) : Type 0 where
+  pub stage_is : stage ≡ Pending (more_after body)
+  pub is_next : slice_get bodies n ≡ Some body
 
-pends : (stage : Stage) (n : ℕ) (body : List ℕ) (bodies : List (List ℕ)) → IsNextBody stage n (Some body) bodies → Pends stage n body bodies
+pub pends : (stage : Stage) (n : ℕ) (body : List ℕ) (bodies : List (List ℕ)) → IsNextBody stage n (Some body) bodies → Pends stage n body bodies
 pends Resets n body bodies waits = absurd cc
 pends Selects n body bodies waits = absurd cc
 pends Requests n body bodies waits = absurd cc

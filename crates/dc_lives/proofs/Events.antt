@@ -22,7 +22,7 @@ use Rattle.dc_lives.proofs.Exchanges.{After, stays, command_done, next_body}
 
 -- ---- an exchange
 
-ready_is : (tries n : ℕ) (o : Meaning) → verdict_of_meaning tries n o ≡ ready → o ≡ acknowledged
+pub ready_is : (tries n : ℕ) (o : Meaning) → verdict_of_meaning tries n o ≡ ready → o ≡ acknowledged
 ready_is tries n acknowledged e = refl
 ready_is tries n (answered t) e = absurd cc
 ready_is tries n (missed why) e = absurd (go (nat_lt tries 2) e)
@@ -32,7 +32,7 @@ ready_is tries n (missed why) e = absurd (go (nat_lt tries 2) e)
     go false e = cc
 ready_is tries n (broken why) e = absurd cc
 
-new_is : (tries n part : ℕ) (t : Parsed) (o : Meaning) → verdict_of_meaning tries n o ≡ new part t → o ≡ answered t
+pub new_is : (tries n part : ℕ) (t : Parsed) (o : Meaning) → verdict_of_meaning tries n o ≡ new part t → o ≡ answered t
 new_is tries n part t acknowledged e = absurd cc
 new_is tries n part t (answered found) e = let same : found ≡ t = cc in ap answered same
 new_is tries n part t (missed why) e = absurd (go (nat_lt tries 2) e)
@@ -43,7 +43,7 @@ new_is tries n part t (missed why) e = absurd (go (nat_lt tries 2) e)
 new_is tries n part t (broken why) e = absurd cc
 
 -- nothing waits where something is asked for
-waits_none : (stage : Stage) (identity : Identity) (address : Option ℕ) (n : ℕ) (frame : FrameSeen) (waiting : Option (List ℕ)) (bodies : List (List ℕ))
+pub waits_none : (stage : Stage) (identity : Identity) (address : Option ℕ) (n : ℕ) (frame : FrameSeen) (waiting : Option (List ℕ)) (bodies : List (List ℕ))
     → asked_at stage identity address n ≡ Some frame → IsNextBody stage n waiting bodies → waiting ≡ None
 waits_none Resets identity address n frame waiting bodies asks waits = waits
 waits_none Selects identity address n frame waiting bodies asks waits = waits
@@ -51,7 +51,7 @@ waits_none Requests identity address n frame waiting bodies asks waits = waits
 waits_none (Pending more) identity address n frame waiting bodies asks waits = absurd cc
 waits_none Ended identity address n frame waiting bodies asks waits = waits
 
-waits_after : (stage : Stage) (identity : Identity) (address : Option ℕ) (n : ℕ) (frame : FrameSeen) (waiting : Option (List ℕ)) (bodies : List (List ℕ))
+pub waits_after : (stage : Stage) (identity : Identity) (address : Option ℕ) (n : ℕ) (frame : FrameSeen) (waiting : Option (List ℕ)) (bodies : List (List ℕ))
     → asked_at stage identity address n ≡ Some frame → waiting ≡ None → IsNextBody (after_command stage address) n waiting bodies
 waits_after Resets identity None n frame waiting bodies asks none = none
 waits_after Resets identity (Some a) n frame waiting bodies asks none = none
@@ -136,7 +136,7 @@ module _ (meters : List Meter) (regular : AreRegular meters) (w : World) (r : Ru
       })
   heard_agrees (failed why) e r' is = absurd cc
 
-length-after : (outcome : Outcome) (frame : FrameSeen) (meters : List Meter) (positions : List Position) → length positions ≡ length meters → length (positions_after outcome frame meters positions) ≡ length meters
+pub length-after : (outcome : Outcome) (frame : FrameSeen) (meters : List Meter) (positions : List Position) → length positions ≡ length meters → length (positions_after outcome frame meters positions) ≡ length meters
 length-after RequestLost frame meters positions e = e
 length-after ReplyLost frame meters positions e = length-moved frame meters positions e
 length-after ReplyUnreadable frame meters positions e = length-moved frame meters positions e
@@ -165,7 +165,7 @@ new_is_regular meters = record {
 pub stop_keeps : (meters : List Meter) (w : World) → IsRegularWorld meters w → IsRegularWorld meters (record w { running = None })
 stop_keeps meters w is = record { counted = is.counted; whole = is.whole; agrees = λ r e. absurd cc }
 
-at_place : {X Y : Type 0} (xs : List X) (ys : List Y) (i : ℕ) (x : X) → length ys ≡ length xs → slice_get xs i ≡ Some x → (y : Y) × (slice_get ys i ≡ Some y)
+pub at_place : {X Y : Type 0} (xs : List X) (ys : List Y) (i : ℕ) (x : X) → length ys ≡ length xs → slice_get xs i ≡ Some x → (y : Y) × (slice_get ys i ≡ Some y)
 at_place [] ys i x same at = absurd cc
 at_place (first ∷ xs) [] i x same at = absurd (omega arith)
 at_place (first ∷ xs) (y ∷ ys) zero x same at = (y, refl)

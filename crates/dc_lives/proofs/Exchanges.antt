@@ -58,7 +58,7 @@ hears_only meters regular (Some a) i j one other p at whom at' alone e = by (or_
     by (inl own) = regular.addresses j i a other one at' at (own_is other.address a own) whom
     by (inr group) = absurd (not_group meters regular i a one at whom (eqb-true a selected (cond_is _ _ group).0))
 
-own_hears : (address : Option ℕ) (one : Meter) (p : Position) → one.address ≡ address → (address ≡ None → p.selected ≡ true) → hears_at one.address (link_address address) p ≡ true
+pub own_hears : (address : Option ℕ) (one : Meter) (p : Position) → one.address ≡ address → (address ≡ None → p.selected ≡ true) → hears_at one.address (link_address address) p ≡ true
 own_hears None one p whom alone = rw (whom, alone refl) refl
 own_hears (Some a) one p whom alone = rw (whom, eq-eqb a a refl) refl
 
@@ -76,7 +76,7 @@ pub alone_at : (address : Option ℕ) (i : ℕ) (positions : List Position) → 
 alone_at None i positions alone j p at none = alone j p at
 alone_at (Some a) i positions alone j p at none = absurd cc
 
-own_selected : (address : Option ℕ) (i : ℕ) (positions : List Position) → IsAlone Requests address i positions
+pub own_selected : (address : Option ℕ) (i : ℕ) (positions : List Position) → IsAlone Requests address i positions
     → (p : Position) → slice_get positions i ≡ Some p → address ≡ None → p.selected ≡ true
 own_selected address i positions alone p at none = alone_at address i positions alone i p at none ∙ eq-eqb i i refl
 
@@ -87,7 +87,7 @@ alone_kept meters None n i positions alone = λ j q at.
     ap (λ x. x.selected) (sym s.moved) ∙ selected_kept n selected s.meter s.position ∙ alone j s.position s.stands
 alone_kept meters (Some a) n i positions alone = tt
 
-alone_pending : (more : Bool) (address : Option ℕ) (i : ℕ) (positions : List Position) → IsAlone Requests address i positions → IsAlone (Pending more) address i positions
+pub alone_pending : (more : Bool) (address : Option ℕ) (i : ℕ) (positions : List Position) → IsAlone Requests address i positions → IsAlone (Pending more) address i positions
 alone_pending more None i positions alone = alone
 alone_pending more (Some a) i positions alone = alone
 
@@ -230,14 +230,14 @@ command_done meters regular outcome stage identity address n i frame one p posit
 
 -- ---- a telegram
 
-record Long (heard : Option FrameSeen) (t : Parsed) : Type 0 where
-  control : ℕ
-  sender : ℕ
-  ci : ℕ
-  is : heard ≡ Some (long control sender ci t.body)
-  whole : telegram_at t.body ≡ Ok t
+pub record Long (heard : Option FrameSeen) (t : Parsed) : Type 0 where
+  pub control : ℕ
+  pub sender : ℕ
+  pub ci : ℕ
+  pub is : heard ≡ Some (long control sender ci t.body)
+  pub whole : telegram_at t.body ≡ Ok t
 
-telegram_long : (meter : Identity) (address : Option ℕ) (part : ℕ) (heard : Option FrameSeen) (t : Parsed) → to_request meter address part heard ≡ answered t → Long heard t
+pub telegram_long : (meter : Identity) (address : Option ℕ) (part : ℕ) (heard : Option FrameSeen) (t : Parsed) → to_request meter address part heard ≡ answered t → Long heard t
 telegram_long meter address part None t e = absurd cc
 telegram_long meter address part (Some ack) t e = absurd cc
 telegram_long meter address part (Some (short control sender)) t e = absurd cc
@@ -254,7 +254,7 @@ cond_some : (b : Bool) (o : Option FrameSeen) (f : FrameSeen) → cond b o None 
 cond_some true o f e = (refl, e)
 cond_some false o f e = absurd cc
 
-body_at_next : (n place : ℕ) (bodies : List (List ℕ)) → place ≡ n + 1 → body_at place bodies ≡ slice_get bodies n
+pub body_at_next : (n place : ℕ) (bodies : List (List ℕ)) → place ≡ n + 1 → body_at place bodies ≡ slice_get bodies n
 body_at_next n place bodies is =
     let more : (place == 0) ≡ false = ne_eqb place 0 (λ e. omega (arith, e, is)) in
     let back : place - 1 ≡ n = omega (arith, is) in

@@ -1,0 +1,16 @@
+-- lemmas by topic
+
+-- what may be under way on a late link, and what keeps it so
+pub mod UnderWay
+-- what an exchange puts onto a late link, and where it leaves the meter
+pub mod Sent
+-- what a session makes of what is heard on a late link
+pub mod Heard
+-- every world over a late link is regular: so what is held is whole, and a meter goes on only from what is committed
+pub mod LateWorlds
+-- the rule of copies drops no answer to the request that is out; so where nothing is late, it changes nothing
+pub mod Copies
+-- without the rule of copies a reading is wrong
+pub mod Careless
+-- without the rule of quiet a reading is wrong
+pub mod Hasty
