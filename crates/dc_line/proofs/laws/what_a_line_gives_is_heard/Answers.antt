@@ -1,0 +1,5 @@
+use Rattle.dc_line.proofs.Steps.{gives_heard}
+use Rattle.dc_line.proofs.laws.what_a_line_gives_is_heard.Goals as goal
+
+pub returns : goal.returns
+returns g c = gives_heard g.W.Wire

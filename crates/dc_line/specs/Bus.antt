@@ -1,0 +1,31 @@
+-- A bus in two halves: bounds of what it does, and what it does in several steps (this product).
+use Rattle.std.specs.Prelude.{◌≡◌, ℕ, Bool, true, List, [], ◌∷◌, Option, Some, None, length, min, nat_le}
+use Rattle.dc_gateway.specs.Blocks.{most_block}
+
+-- the most times that an answer is found not to be complete yet
+abbrev pub most_waits : ℕ
+most_waits = 65535
+
+-- a count of waits, which is never more than those
+abbrev pub waits_of : ℕ → ℕ
+waits_of count = min count most_waits
+
+-- the most steps in which a bus settles: 64 answers or silences, each of which may be waited for as often as that
+abbrev pub most_settles : ℕ
+most_settles = 4259840
+
+-- a request that one block holds, where there is one
+abbrev pub is_short : Option (List ℕ) → Bool
+is_short None = true
+is_short (Some request) = nat_le (length request) most_block
+
+-- ---- several steps
+
+-- the bus gave these answers, one after the other, and in between none was complete
+pub data Runs {B : Type 0} (gives : B → List ℕ → B → Type 0) (waits : B → B → Type 0)
+    : B → List (List ℕ) → B → Type 0 where
+  rests : {old new : B} → new ≡ old → Runs gives waits old [] new
+  gave : {old between new : B} {answer : List ℕ} {answers : List (List ℕ)} → gives old answer between
+      → Runs gives waits between answers new → Runs gives waits old (answer ∷ answers) new
+  waited : {old between new : B} {answers : List (List ℕ)} → waits old between
+      → Runs gives waits between answers new → Runs gives waits old answers new

@@ -1,0 +1,24 @@
+-- A wire in memory, as contracts see it: the bytes that are still to come, and in which steps (this product).
+use Rattle.std.specs.Prelude.{◌≡◌, ℕ, List, ◌++◌, length}
+use Rattle.dc_line.specs.Bus.{waits_of}
+use Rattle.dc_line.specs.Wire.{Sound, bytes_of}
+use Rattle.dc_line.specs.declared.tape.Event.{Event}
+
+pub record Taped : Type 0 where
+  pub bytes : List ℕ
+  pub events : List Event
+  pub failures : ℕ
+
+-- as often as events are left
+abbrev pub tape_waits : Taped → ℕ
+tape_waits tape = waits_of (length tape.events)
+
+-- what comes is the front of the bytes that are left
+abbrev pub TapeHears : Taped → Sound → Taped → Type 0
+TapeHears old sound new = old.bytes ≡ bytes_of sound ++ new.bytes
+
+abbrev pub TapeDrops : Taped → Taped → Type 0
+TapeDrops old new = (late : List ℕ) × (old.bytes ≡ late ++ new.bytes)
+
+abbrev pub TapeSends : Taped → List ℕ → Taped → Type 0
+TapeSends old request new = new ≡ old

@@ -1,0 +1,263 @@
+//! A wire over a descriptor that can be polled: a TCP stream or a terminal.
+
+ghost use Rattle.std.specs.Prelude.{◌≡◌, ◌≤◌, ◌<◌, length, take, IfOk, OnOk, OnErr};
+ghost use Rattle.std.specs.Io.KnownBytes.{Appends, Consumes};
+ghost use Rattle.dc_base.specs.Failures.{HasRisen};
+ghost use Rattle.dc_line.specs.Bus.{waits_of};
+ghost use Rattle.dc_line.specs.Wire.{FitsRoom, Wanes, bytes_of, sound_of};
+
+use crate::wire::{Came, Wire};
+use dc_base::one_failure_more;
+use dc_stream::IoFault;
+use libc::net::{POLLIN, poll};
+use libc::types::pollfd;
+use std::io;
+use std::io::{ErrorKind, Read, Write};
+use std::os::fd::AsRawFd;
+use std::rt::Clock;
+use std::time::{Duration, Instant};
+
+/// How many milliseconds without a byte end an answer that has begun.
+pub const GAP: u64 = 500;
+
+// So many reads at most drop what came late.
+const MOST_DISCARDS: usize = 64;
+
+// So often at most it is polled again where a signal broke a poll or a read off.
+const MOST_POLLS: usize = 1_000;
+
+// So often nothing may come after a request, before the wire itself waits for the rest of its
+// patience.
+const MOST_WAITS: u16 = 65_535;
+
+/// A TCP stream or a terminal as a wire, by polls that don't wait. A read that gives no byte, though
+/// there is something to read, is the end.
+#[derive(Drop)]
+pub struct PollWire<S: Read + Write + AsRawFd + Drop, C: Clock + Drop> {
+    stream: S,
+    clock: C,
+    patience: Duration,
+    // When the request went out, the last byte came or the last silence was told.
+    since: Instant,
+    // Whether a byte came since, and no gap after it was told.
+    begun: bool,
+    waits: u16,
+    failures: u64,
+}
+
+impl<S: Read + Write + AsRawFd + Drop, C: Clock + Drop> PollWire<S, C> {
+    /// The stream as a wire that is silent after so many milliseconds.
+    ///
+    /// # Errors
+    /// The clock fails.
+    pub fn new(stream: S, clock: C, patience: u16) -> io::Result<Self>
+        ensures { IfOk result (λ wire. wire.failures ≡ 0) }
+    {
+        let since = Instant::now(&clock)?;
+        Ok(PollWire {
+            stream,
+            clock,
+            patience: Duration::from_millis(u64::from(patience)),
+            since,
+            begun: false,
+            waits: MOST_WAITS,
+            failures: 0,
+        })
+    }
+
+    /// The descriptor, by which a caller can wait for bytes of several wires at once.
+    pub fn fd(&self) -> i32 {
+        self.stream.as_raw_fd()
+    }
+
+    /// How long it is until the next gap or silence, if no byte comes; none where the clock fails.
+    pub fn left(&self) -> Duration {
+        let limit = if self.begun {
+            Duration::from_millis(GAP).min(self.patience)
+        } else {
+            self.patience
+        };
+        match self.since.elapsed(&self.clock) {
+            Ok(spent) => limit.saturating_sub(spent),
+            Err(_) => Duration::ZERO,
+        }
+    }
+
+    // What has come by now. Once nothing has come too often, it waits for the rest of the patience.
+    fn look(&mut self, room: &mut [u8]) -> Result<Came, IoFault>
+        requires { 0 < length room.old }
+        ensures fits { IfOk result (λ came. FitsRoom came (length room.old)) }
+        ensures fewer { IfOk result (λ came. Wanes came
+            (waits_of self.old.waits) (waits_of self.new.waits)) }
+        ensures well { self.new.failures ≡ self.old.failures }
+        ensures reader { IfOk result (λ came. Consumes (S.remaining self.old.stream)
+            (S.remaining self.new.stream) (bytes_of (sound_of came room.new))) }
+    {
+        let spent = spent_since(self.since, &self.clock)?;
+        let millis = if self.waits == 0 {
+            millis_of(self.patience.saturating_sub(spent))
+        } else {
+            0
+        };
+        let count = read_within(&mut self.stream, millis, room)?;
+        if count == 0 {
+            return self.nothing(spent);
+        }
+        self.since = now(&self.clock)?;
+        self.begun = true;
+        Ok(Came::Bytes(count))
+    }
+
+    // Nothing has come, for so long.
+    fn nothing(&mut self, spent: Duration) -> Result<Came, IoFault>
+        ensures fits { IfOk result (λ came. FitsRoom came 0) }
+        ensures fewer { IfOk result (λ came. Wanes came
+            (waits_of self.old.waits) (waits_of self.new.waits)) }
+        ensures well { self.new.failures ≡ self.old.failures }
+        ensures stream { self.new.stream ≡ self.old.stream }
+    {
+        if self.waits == 0 || spent >= self.patience {
+            self.since = now(&self.clock)?;
+            self.begun = false;
+            return Ok(Came::Silence);
+        }
+        self.waits -= 1;
+        if self.begun && spent >= Duration::from_millis(GAP) {
+            self.begun = false;
+            return Ok(Came::Gap);
+        }
+        Ok(Came::Nothing)
+    }
+
+    fn put(&mut self, bytes: &[u8]) -> Result<(), IoFault>
+        ensures well { self.new.failures ≡ self.old.failures }
+        ensures writer { OnOk result (Appends (S.contents self.old.stream)
+            (S.contents self.new.stream) bytes.now) }
+    {
+        if self.stream.write_all(bytes).is_err() {
+            return Err(IoFault);
+        }
+        self.since = now(&self.clock)?;
+        self.begun = false;
+        self.waits = MOST_WAITS;
+        Ok(())
+    }
+}
+
+impl<S: Read + Write + AsRawFd + Drop, C: Clock + Drop> Wire for PollWire<S, C> {
+    ghost use Rattle.std.proofs.Math.Nat.{min-le_right};
+    ghost use Rattle.dc_line.specs.Bus.{most_waits, waits_of};
+
+    ghost failures = { λ wire. wire.failures };
+
+    ghost waits_left = { λ wire. waits_of wire.waits };
+
+    ghost few = { λ wire. min-le_right wire.waits most_waits };
+
+    ghost sends = { λ _ _ _. Unit {0} };
+
+    ghost hears = { λ _ _ _. Unit {0} };
+
+    ghost drops = { λ _ _. Unit {0} };
+
+    // The last clause says of the writer what a wire doesn't tell.
+    fn send(&mut self, bytes: &[u8]) -> Result<(), IoFault>
+        ensures well { OnOk result (self.new.failures ≡ self.old.failures) }
+        ensures failed { OnErr result (HasRisen self.old.failures self.new.failures) }
+        ensures writer { OnOk result (Appends (S.contents self.old.stream)
+            (S.contents self.new.stream) bytes.now) }
+    {
+        let sent = self.put(bytes);
+        if sent.is_err() {
+            self.failures = one_failure_more(self.failures);
+        }
+        sent
+    }
+
+    // The last clause says of the reader what a wire doesn't tell.
+    fn hear(&mut self, room: &mut [u8]) -> Result<Came, IoFault>
+        requires { 0 < length room.old }
+        ensures fits { IfOk result (λ came. FitsRoom came (length room.old)) }
+        ensures fewer { IfOk result (λ came. Wanes came
+            (waits_of self.old.waits) (waits_of self.new.waits)) }
+        ensures well { OnOk result (self.new.failures ≡ self.old.failures) }
+        ensures failed { OnErr result (HasRisen self.old.failures self.new.failures) }
+        ensures reader { IfOk result (λ came. Consumes (S.remaining self.old.stream)
+            (S.remaining self.new.stream) (bytes_of (sound_of came room.new))) }
+    {
+        let came = self.look(room);
+        if came.is_err() {
+            self.failures = one_failure_more(self.failures);
+        }
+        came
+    }
+
+    fn discard(&mut self) -> Result<(), IoFault> {
+        let dropped = drop_late(&mut self.stream);
+        if dropped.is_err() {
+            self.failures = one_failure_more(self.failures);
+        }
+        dropped
+    }
+}
+
+fn now<C: Clock>(clock: &C) -> Result<Instant, IoFault> {
+    Instant::now(clock).map_err(|_| IoFault)
+}
+
+fn spent_since<C: Clock>(since: Instant, clock: &C) -> Result<Duration, IoFault> {
+    since.elapsed(clock).map_err(|_| IoFault)
+}
+
+// Rounded up, so that the time is over afterwards.
+fn millis_of(time: Duration) -> i32 {
+    i32::try_from(time.as_millis()).map_or(i32::MAX, |millis| millis.saturating_add(1))
+}
+
+// What is there within so many milliseconds; no byte where there is nothing.
+fn read_within<S: Read + AsRawFd>(
+    stream: &mut S,
+    millis: i32,
+    room: &mut [u8],
+) -> Result<usize, IoFault>
+    ensures count { IfOk result (λ n. n ≤ length room.old) }
+    ensures bytes { IfOk result (λ n. Consumes (S.remaining stream.old)
+        (S.remaining stream.new) (take n room.new)) }
+{
+    for _ in 0..MOST_POLLS {
+        let mut asked = [pollfd {
+            fd: stream.as_raw_fd(),
+            events: POLLIN,
+            revents: 0,
+        }];
+        let ready = poll(&mut asked, millis);
+        if ready == 0 {
+            return Ok(0);
+        }
+        // A signal broke it off: a read might wait.
+        if ready < 0 {
+            continue;
+        }
+        match stream.read(room) {
+            Ok(0) => return Err(IoFault),
+            Ok(count) => return Ok(count),
+            Err(error) => {
+                if error.kind() != ErrorKind::Interrupted {
+                    break;
+                }
+            }
+        }
+    }
+    Err(IoFault)
+}
+
+// What is there already.
+fn drop_late<S: Read + AsRawFd>(stream: &mut S) -> Result<(), IoFault> {
+    let mut room = [0; 300];
+    for _ in 0..MOST_DISCARDS {
+        if read_within(stream, 0, &mut room)? == 0 {
+            return Ok(());
+        }
+    }
+    Ok(())
+}

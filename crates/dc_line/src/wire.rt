@@ -1,0 +1,63 @@
+//! A line's wire, as bytes go out on it and come back.
+
+ghost use Rattle.std.specs.Prelude.{◌≡◌, ℕ, ◌≤◌, ◌<◌, List, length, IfOk, OnOk, OnErr};
+ghost use Rattle.dc_base.specs.Failures.{HasRisen};
+ghost use Rattle.dc_line.specs.Bus.{most_waits};
+ghost use Rattle.dc_line.specs.Wire.{FitsRoom, Sound, Wanes, sound_of};
+
+use dc_stream::IoFault;
+
+/// What came on a wire by now.
+#[derive(Clone, Copy, Debug, PartialEq, Eq)]
+pub enum Came {
+    /// So many bytes, one at least.
+    Bytes(usize),
+    /// Nothing yet.
+    Nothing,
+    /// Nothing since the last byte, for as long as ends an answer that has begun. It comes once
+    /// after a byte.
+    Gap,
+    /// Nothing for the wire's whole patience since the request, the last byte or the last silence.
+    Silence,
+}
+
+/// A line's wire. No call waits.
+pub trait Wire {
+    // How many calls failed.
+    ghost failures: { Self → ℕ };
+
+    // How often nothing may still come.
+    ghost waits_left: { Self → ℕ };
+
+    ghost few: { (wire : Self) → waits_left wire ≤ most_waits };
+
+    // What a call that succeeds does to the wire: these bytes went out; this came; what had come
+    // late was dropped.
+    ghost sends: { Self → List ℕ → Self → Type 0 };
+
+    ghost hears: { Self → Sound → Self → Type 0 };
+
+    ghost drops: { Self → Self → Type 0 };
+
+    /// Sends all of the bytes.
+    fn send(&mut self, bytes: &[u8]) -> Result<(), IoFault>
+        ensures step { OnOk result (sends self.old bytes.now self.new) }
+        ensures well { OnOk result (failures self.new ≡ failures self.old) }
+        ensures failed { OnErr result (HasRisen (failures self.old) (failures self.new)) };
+
+    /// Takes what has come by now into the front of `room`.
+    fn hear(&mut self, room: &mut [u8]) -> Result<Came, IoFault>
+        requires { 0 < length room.old }
+        ensures fits { IfOk result (λ came. FitsRoom came (length room.old)) }
+        ensures step { IfOk result (λ came. hears self.old (sound_of came room.new) self.new) }
+        ensures fewer { IfOk result (λ came. Wanes came
+            (waits_left self.old) (waits_left self.new)) }
+        ensures well { OnOk result (failures self.new ≡ failures self.old) }
+        ensures failed { OnErr result (HasRisen (failures self.old) (failures self.new)) };
+
+    /// Drops what came late, as far as it is here already.
+    fn discard(&mut self) -> Result<(), IoFault>
+        ensures step { OnOk result (drops self.old self.new) }
+        ensures well { OnOk result (failures self.new ≡ failures self.old) }
+        ensures failed { OnErr result (HasRisen (failures self.old) (failures self.new)) };
+}
