@@ -1,0 +1,155 @@
+-- Where each answer comes in time, what the concentrator does over the line layer is what it does in dc_lives.
+use Rattle.std.proofs.Common.{◌≡◌, ℕ, Bool, true, false, ◌-◌, List, [], ◌∷◌, Option, Some, None, map, refl, ap, sym, subst, ◌∙◌, arith}
+use Rattle.dc_linkframe.specs.Frame.{FrameSeen, spelling}
+use Rattle.dc_linkframe.specs.Reading.{frame_of}
+use Rattle.dc_readout.specs.Summary.{asked_by}
+use Rattle.dc_lives.specs.declared.event.Outcome.{Outcome}
+use Rattle.dc_lives.specs.declared.event.WorldEvent.{WorldEvent}
+use Rattle.dc_lives.specs.declared.event.WorldEvent.TheVariants.{Start, Exchange, Commit, Stop}
+use Rattle.dc_lives.specs.Meter.{Meter}
+use Rattle.dc_lives.specs.World.{AreRegular, World, Running, new_world, world_after, world_step, heard_in, positions_after}
+use Rattle.dc_late.specs.Late.{AreDifferent, LateWorld, Last, Listened, and_sent, clear_after, exchanged, exchanged_by, first_of, heard_late, in_its_time, is_copy, last_after, late_from, late_step, listened, past_copies}
+use Rattle.dc_late.proofs.Copies.{same_in_time}
+use Rattle.dc_steady.specs.declared.line.Steady.{Steady}
+use Rattle.dc_steady.specs.Life.{BecomesClear, is_clear, settles_first, takes}
+use Rattle.dc_steady.specs.Steady.{Listens, and_late, copies_in, drops_it, dropped, quiet, request_of}
+use Rattle.dc_steady.specs.Link.{LinkGives, LinkWaits, Lives, line_of, settles, hears, keeps, restarts, young, older, judged, with_line}
+use Rattle.dc_steady.proofs.Events.{HasText, past_copy, silence_no_copy, text_long}
+
+-- nothing is under way
+abbrev pub at : World → Option Last → Bool → LateWorld
+at world last clear = record { world = world; under_way = []; last = last; clear = clear }
+
+-- what is heard of what is under way, all of which comes in time
+record InTime (last : Option Last) (request : List ℕ) (way : List (List ℕ)) : Type 0 where
+  heard : List ℕ
+  copies : ℕ
+  listens : Listens LinkGives last request 0 way heard copies []
+  is : listened true last request way ≡ record { heard = heard; left = [] }
+
+not_none : (answer : List ℕ) (xs : List (List ℕ)) → xs ≡ answer ∷ [] → xs ≡ [] → ⊥
+not_none answer xs some none = cons_none answer (sym some ∙ none)
+  where
+    cons_none : (x : List ℕ) → x ∷ [] ≡ [] → ⊥
+    cons_none x e = cc
+
+comes_in_time : (last : Option Last) (request bytes : List ℕ) → HasText last → InTime last request (and_sent bytes [])
+comes_in_time last request [] has =
+    let left : past_copies last request ([] ∷ []) ≡ [] ∷ [] = past_copy last request [] [] false (silence_no_copy last request has) in
+    record {
+      heard = [];
+      copies = copies_in last request ([] ∷ []);
+      listens = record { answers = [] ∷ []; gave = ([], refl, refl); first = ap first_of left; few = omega arith; bound = λ none. absurd (not_none [] (past_copies last request ([] ∷ [])) left none); counted = omega arith };
+      is = refl;
+    }
+comes_in_time last request (byte ∷ bytes) has = by_copy (is_copy last request (byte ∷ bytes)) refl
+  where
+    by_copy : (copy : Bool) → is_copy last request (byte ∷ bytes) ≡ copy → InTime last request ((byte ∷ bytes) ∷ [])
+    by_copy false copy =
+        let left : past_copies last request ((byte ∷ bytes) ∷ []) ≡ (byte ∷ bytes) ∷ [] = past_copy last request (byte ∷ bytes) [] false copy in
+        record {
+          heard = byte ∷ bytes;
+          copies = copies_in last request ((byte ∷ bytes) ∷ []);
+          listens = record { answers = (byte ∷ bytes) ∷ []; gave = ([], refl, refl); first = ap first_of left; few = omega arith; bound = λ none. absurd (not_none (byte ∷ bytes) (past_copies last request ((byte ∷ bytes) ∷ [])) left none); counted = omega arith };
+          is = ap first_of left;
+        }
+    by_copy true copy =
+        let left : past_copies last request ((byte ∷ bytes) ∷ [] ∷ []) ≡ [] ∷ [] =
+        past_copy last request (byte ∷ bytes) ([] ∷ []) true copy ∙ past_copy last request [] [] false (silence_no_copy last request has) in
+        record {
+          heard = [];
+          copies = copies_in last request ((byte ∷ bytes) ∷ [] ∷ []);
+          listens = record { answers = (byte ∷ bytes) ∷ [] ∷ []; gave = ([], refl, ([], refl, refl)); first = ap first_of left; few = omega arith; bound = λ none. absurd (not_none [] (past_copies last request ((byte ∷ bytes) ∷ [] ∷ [])) left none); counted = omega arith };
+          is = ap first_of (past_copy last request (byte ∷ bytes) [] true copy);
+        }
+
+-- a world that the line layer has too, but for whether it is clear
+record IsLived (meters : List Meter) (v : LateWorld) : Type 0 where
+  world : World
+  last : Option Last
+  clear : Bool
+  calm : Bool
+  life : Lives meters (at world last clear)
+  text : HasText last
+  is : v ≡ at world last calm
+
+-- a line over which nothing is under way becomes clear
+record IsCleared (meters : List Meter) (world : World) (last : Option Last) (clear : Bool) (place : ℕ) : Type 0 where
+  line : Steady (List (List ℕ))
+  becomes : BecomesClear LinkGives LinkWaits (line_of (at world last clear) [] []) line
+  bus : line.bus ≡ []
+  is : at (world_step meters world (Start place)) last true ≡ with_line (world_step meters world (Start place)) line
+
+abbrev settled_line : Option Last → Bool → ℕ → Bool → Steady (List (List ℕ))
+settled_line last clear count silent = record { bus = []; request = []; last = last; clear = clear; loud = false; copies = 0; settled = count; silent = silent; late = 0 }
+
+settled : (meters : List Meter) (world : World) (last : Option Last) (clear : Bool) (place : ℕ) → IsCleared meters world last clear place
+settled meters world last true place = record { line = line_of (at world last true) [] []; becomes = is_clear refl refl; bus = refl; is = refl }
+settled meters world last false place = record {
+  line = settled_line last true 0 false;
+  becomes = settles_first {between = settled_line last false 1 true} refl (drops_it [] refl (dropped refl (omega arith) refl))
+      (settles_first {between = settled_line last true 0 false} refl (drops_it [] refl (quiet refl refl)) (is_clear refl refl));
+  bus = refl;
+  is = refl;
+}
+
+module _ (meters : List Meter) (world : World) (last : Option Last) (clear calm : Bool) (life : Lives meters (at world last clear)) (text : HasText last) where
+  same : IsLived meters (at world last calm)
+  same = record { world = world; last = last; clear = clear; calm = calm; life = life; text = text; is = refl }
+
+  lived_asked : (outcome : Outcome) (r : Running) (asks : Option FrameSeen) → world.running ≡ Some r → asked_by r.session ≡ asks → IsLived meters (exchanged_by meters outcome true asks r (at world last calm))
+  lived_asked outcome r None running asked = same
+  lived_asked outcome r (Some frame) running asked =
+      let t : InTime last (spelling frame) (and_sent (heard_in outcome frame meters world.positions) []) = comes_in_time last (spelling frame) (heard_in outcome frame meters world.positions) text in
+      let line : Steady (List (List ℕ)) = record {
+        bus = [];
+        request = spelling frame;
+        last = last_after (frame_of t.heard) (spelling frame) t.heard last;
+        clear = clear_after (request_of (frame_of (spelling frame))) (frame_of t.heard) clear;
+        loud = false;
+        copies = 0;
+        settled = 0;
+        silent = false;
+        late = and_late 0 (t.copies - 0);
+      } in
+      record {
+        world = judged meters outcome frame r t.heard world;
+        last = last_after (frame_of t.heard) (spelling frame) t.heard last;
+        clear = clear_after (request_of (frame_of (spelling frame))) (frame_of t.heard) clear;
+        calm = clear_after frame (frame_of t.heard) calm;
+        life = older life (hears outcome r frame t.heard line running asked (takes (record { copies = t.copies; listens = t.listens; kept = refl })) refl);
+        text = text_long (frame_of t.heard) (spelling frame) t.heard last refl text;
+        is = ap (λ (l : Listened). heard_late l frame (positions_after outcome frame meters world.positions) r (at world last calm)) t.is;
+      }
+
+  lived_running : (outcome : Outcome) (running : Option Running) → world.running ≡ running → IsLived meters (exchanged meters outcome true running (at world last calm))
+  lived_running outcome None is = same
+  lived_running outcome (Some r) is = lived_asked outcome r (asked_by r.session) is refl
+
+  lived_one : (event : WorldEvent) → IsLived meters (late_step meters (at world last calm) (in_its_time event))
+  lived_one (Start place) =
+      let cleared : IsCleared meters world last clear place = settled meters world last clear place in
+      record {
+        world = world_step meters world (Start place);
+        last = last;
+        clear = true;
+        calm = true;
+        life = older life (settles place [] cleared.line cleared.becomes cleared.bus cleared.is);
+        text = text;
+        is = refl;
+      }
+  lived_one (Exchange outcome) = lived_running outcome world.running refl
+  lived_one Commit = record { world = world_step meters world Commit; last = last; clear = clear; calm = calm; life = older life (keeps refl); text = text; is = refl }
+  lived_one Stop = record { world = world_step meters world Stop; last = None; clear = false; calm = false; life = older life (restarts refl); text = tt; is = refl }
+
+lived_all : (meters : List Meter) (events : List WorldEvent) (world : World) (last : Option Last) (clear calm : Bool) → Lives meters (at world last clear) → HasText last → IsLived meters (late_from meters (at world last calm) (map in_its_time events))
+lived_all meters [] world last clear calm life text = same meters world last clear calm life text
+lived_all meters (event ∷ events) world last clear calm life text =
+    let one = lived_one meters world last clear calm life text event in
+    subst (λ (v : LateWorld). IsLived meters (late_from meters v (map in_its_time events))) (sym one.is)
+    (lived_all meters events one.world one.last one.clear one.calm one.life one.text)
+
+pub lives_in_time : (meters : List Meter) (events : List WorldEvent) → AreRegular meters → AreDifferent meters → (w : LateWorld) × Lives meters w × (w.world ≡ world_after meters events)
+lives_in_time meters events regular different =
+    let all = lived_all meters events (new_world meters) None false true (young refl) tt in
+    (at all.world all.last all.clear, all.life, sym (ap (λ (v : LateWorld). v.world) all.is) ∙ same_in_time meters regular different events)

@@ -1,0 +1,219 @@
+//! A line on which late answers do no harm.
+
+ghost use Rattle.std.specs.Prelude.{◌≡◌, ◌+◌, ◌-◌, ◌≤◌, ◌<◌, ◌⊎◌, [], None, true, false, IfSome, IfNone, length};
+ghost use Rattle.dc_gateway.specs.Blocks.{most_block};
+ghost use Rattle.dc_line.specs.Bus.{most_waits};
+ghost use Rattle.dc_steady.specs.Life.{SteadyGives, SteadySends, SteadySettles, SteadyWaits, is_gone, is_ready};
+ghost use Rattle.dc_steady.specs.Steady.{Drops, late_with, most_settling};
+
+use crate::last::{LastFrame, next_last, stays_clear};
+use crate::listening::listen;
+use dc_gateway::AnswerBuf;
+use dc_line::{HalfBus, QuietBus};
+use dc_linkframe::FrameBuf;
+
+// So many answers and silences at most are taken of a line that settles.
+const MOST_SETTLING: u8 = 64;
+
+/// A bus whose answers may come late, the last long frame that was heard on it, and whether it is
+/// clear.
+#[derive(Drop)]
+pub struct Steady<B: HalfBus + Drop> {
+    /// The bus.
+    pub bus: B,
+    /// The request that was sent last.
+    pub request: FrameBuf,
+    /// The last long frame that was heard, and the request that it was heard for.
+    pub last: Option<LastFrame>,
+    /// Whether no answer was missed since the bus was last quiet.
+    pub clear: bool,
+    /// Whether the bus didn't become quiet. It is given up then, as a lost one is.
+    pub loud: bool,
+    /// How many copies came since the request, or since the last answer to it.
+    pub copies: u8,
+    /// How many answers and silences were taken since the bus began to settle.
+    pub settled: u8,
+    /// Whether the last one was silence.
+    pub silent: bool,
+    /// How many late answers were dropped.
+    pub late: u64,
+}
+
+impl<B: HalfBus + Drop> Steady<B> {
+    /// A bus that was just connected: answers to others may be under way on it, so it isn't clear.
+    pub fn new(bus: B) -> Self
+        ensures { result ≡ record {
+          bus = bus;
+          request = [];
+          last = None;
+          clear = false;
+          loud = false;
+          copies = 0;
+          settled = 0;
+          silent = false;
+          late = 0;
+        } }
+    {
+        Steady {
+            bus,
+            request: FrameBuf::new(),
+            last: None,
+            clear: false,
+            loud: false,
+            copies: 0,
+            settled: 0,
+            silent: false,
+            late: 0,
+        }
+    }
+
+    /// Whether it is lost: the bus is, or didn't become quiet.
+    pub fn is_given_up(&self) -> bool
+        ensures gone { result ≡ is_gone B.lost self.now }
+        ensures few { B.waits_left self.now.bus ≤ most_waits }
+    {
+        self.bus.is_lost() || self.loud
+    }
+
+    /// Sends a request. Once it is lost, nothing changes.
+    pub fn put(&mut self, request: &FrameBuf)
+        requires { length request.now ≤ most_block }
+        ensures step { SteadySends B.HalfBus self.old request.now self.new }
+        ensures few { B.waits_left self.new.bus ≤ most_waits }
+    {
+        if self.is_given_up() {
+            return;
+        }
+        self.bus.send(request);
+        self.request = *request;
+        self.copies = 0;
+        self.settled = 0;
+        self.silent = false;
+    }
+
+    /// What is heard of it: the first answer that is no copy, or silence; nothing, where no answer
+    /// is complete yet. Once it is lost, nothing changes.
+    pub fn take(&mut self) -> Option<AnswerBuf>
+        ensures heard { IfSome result (λ heard. SteadyGives B.HalfBus self.old heard self.new) }
+        ensures waits { IfNone result (SteadyWaits B.HalfBus self.old self.new) }
+        ensures silence { is_gone B.lost self.new ≡ true → IfSome result (λ answer. answer ≡ []) }
+        ensures fewer { IfNone result (B.waits_left self.new.bus < B.waits_left self.old.bus) }
+        ensures no_more { B.waits_left self.new.bus ≤ B.waits_left self.old.bus }
+    {
+        if self.is_given_up() {
+            return Some(AnswerBuf::new());
+        }
+        let before = self.copies;
+        let heard = listen(&mut self.bus, &self.last, &self.request, &mut self.copies);
+        let copies = u64::from(self.copies - before);
+        self.late = self.late.saturating_add(copies);
+        let Some(answer) = heard else {
+            return None;
+        };
+        self.copies = 0;
+        self.clear = stays_clear(&self.request, &answer, self.clear);
+        self.last = next_last(self.last.take(), &self.request, &answer);
+        Some(answer)
+    }
+
+    /// One step toward a clear line: takes what has come by now, and drops it. Two silences in a row
+    /// make it clear; where they don't come within 64 answers and silences, it is given up. A line
+    /// that is clear or lost stays as it is.
+    pub fn calm(&mut self)
+        ensures step { SteadySettles B.HalfBus self.old self.new }
+        ensures fewer { (is_ready B.lost self.new ≡ true) ⊎
+            (most_settling - self.new.settled + B.waits_left self.new.bus
+            < most_settling - self.old.settled + B.waits_left self.old.bus) }
+    {
+        if self.clear || self.is_given_up() {
+            return;
+        }
+        if let Some(answer) = self.bus.hear() {
+            self.drop_late(answer.as_slice().is_empty());
+        }
+    }
+
+    // Drops an answer, or silence.
+    fn drop_late(&mut self, silence: bool)
+        ensures { Drops silence self.old self.new }
+    {
+        if self.silent && silence {
+            self.clear = true;
+            self.settled = 0;
+            self.silent = false;
+            return;
+        }
+        self.late = with_late(self.late, silence);
+        self.silent = silence;
+        if self.settled < MOST_SETTLING - 1 {
+            self.settled += 1;
+            return;
+        }
+        self.loud = true;
+    }
+}
+
+// An answer that is dropped while the line settles is late.
+fn with_late(late: u64, silence: bool) -> u64
+    ensures { result ≡ late_with late silence }
+{
+    if silence {
+        late
+    } else {
+        late.saturating_add(1)
+    }
+}
+
+impl<B: HalfBus + Drop> HalfBus for Steady<B> {
+    ghost use Rattle.dc_steady.specs.Life.{SteadyGives, SteadySends, SteadyWaits, is_gone};
+
+    ghost lost = { is_gone B.lost };
+
+    ghost waits_left = { λ line. B.waits_left line.bus };
+
+    ghost sends = { SteadySends B.HalfBus };
+
+    ghost waits = { SteadyWaits B.HalfBus };
+
+    ghost gives = { SteadyGives B.HalfBus };
+
+    fn is_lost(&self) -> bool {
+        self.is_given_up()
+    }
+
+    fn send(&mut self, request: &FrameBuf) {
+        self.put(request);
+    }
+
+    fn hear(&mut self) -> Option<AnswerBuf> {
+        self.take()
+    }
+}
+
+impl<B: HalfBus + Drop> QuietBus for Steady<B> {
+    ghost use Rattle.std.specs.Prelude.{◌+◌, ◌-◌};
+    ghost use Rattle.dc_steady.specs.Life.{SteadySettles, is_ready};
+    ghost use Rattle.dc_steady.specs.Steady.{most_settling};
+
+    ghost ready = { is_ready B.lost };
+
+    ghost settles = { SteadySettles B.HalfBus };
+
+    ghost settles_left = { λ line. most_settling - line.settled + B.waits_left line.bus };
+
+    ghost late = { λ line. line.late };
+
+    fn is_ready(&self) -> bool {
+        // The bus is asked in each case, so that its bound is known.
+        let gone = self.is_given_up();
+        self.clear || gone
+    }
+
+    fn settle(&mut self) {
+        self.calm();
+    }
+
+    fn late(&self) -> u64 {
+        self.late
+    }
+}

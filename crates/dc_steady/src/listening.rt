@@ -1,0 +1,41 @@
+//! A bus is listened to past copies.
+
+ghost use Rattle.std.specs.Prelude.{◌≡◌, ◌≤◌, ◌<◌, [], true, IfSome, IfNone};
+ghost use Rattle.dc_steady.specs.Steady.{Listens, Waits};
+
+use crate::last::{LastFrame, is_copy};
+use dc_gateway::AnswerBuf;
+use dc_line::HalfBus;
+use dc_linkframe::FrameBuf;
+
+// So many answers at most are taken of one request.
+const MOST_COPIES: u8 = 8;
+
+// The first answer that is no copy of the last long frame, or silence; nothing, where no answer is
+// complete yet.
+pub(crate) fn listen<B: HalfBus>(
+    bus: &mut B,
+    last: &Option<LastFrame>,
+    request: &FrameBuf,
+    copies: &mut u8,
+) -> Option<AnswerBuf>
+    ensures heard { IfSome result (λ heard.
+        Listens B.gives last.now request.now copies.old bus.old heard copies.new bus.new) }
+    ensures waits { IfNone result
+        (Waits B.gives B.waits last.now request.now copies.old bus.old copies.new bus.new) }
+    ensures more { copies.old ≤ copies.new }
+    ensures silence { B.lost bus.new ≡ true → IfSome result (λ answer. answer ≡ []) }
+    ensures fewer { IfNone result (B.waits_left bus.new < B.waits_left bus.old) }
+    ensures no_more { B.waits_left bus.new ≤ B.waits_left bus.old }
+{
+    'copies: while *copies < MOST_COPIES {
+        let Some(answer) = bus.hear() else {
+            return None;
+        };
+        if !is_copy(last, request, &answer) {
+            return Some(answer);
+        }
+        *copies += 1;
+    }
+    Some(AnswerBuf::new())
+}
