@@ -155,6 +155,13 @@ impl<D: Disk + Drop, A: Allocator + Copy> Concentrator<D, A> {
         session.ask()
     }
 
+    /// The register, with what is pending.
+    pub fn house(&self) -> &House<A>
+        ensures { result.now ≡ self.now.house }
+    {
+        &self.house
+    }
+
     /// Gives the disk back, and writes nothing: what waits is given up. Unless the disk has failed, each
     /// image that it may leave stands for what is committed, and so that is what opening it again gives.
     pub fn close(self) -> D

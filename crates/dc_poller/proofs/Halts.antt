@@ -37,3 +37,22 @@ of_write X NoMemory A is a = cc
 pub of_no_memory : (X : Type 0) (halt : Halt) (A : Type 0) → halt ≡ NoMemory → OnNoMemory {X = X} (Err halt) A → A
 of_no_memory X Write A is a = cc
 of_no_memory X NoMemory A is a = a
+
+never_by : {X : Type 0} (put : Result X IoFault) (P : Type 0) → OnNoMemory (halted_by put) P
+never_by (Ok done) P = tt
+never_by (Err fault) P = tt
+
+-- memory is never refused to a put
+pub halted_never : {X : Type 0} (put : Result X IoFault) (r : Result X Halt) (P : Type 0) → r ≡ halted_by put → OnNoMemory r P
+halted_never put r P is = subst (λ (x : Result _ Halt). OnNoMemory x P) (sym is) (never_by put P)
+
+-- what holds anyway holds there too
+pub no_memory_so : {X : Type 0} (r : Result X Halt) (P : Type 0) → P → OnNoMemory r P
+no_memory_so (Ok x) P p = tt
+no_memory_so (Err Write) P p = tt
+no_memory_so (Err NoMemory) P p = p
+
+pub on_starved : {X : Type 0} (r : Result X Halt) (A B : Type 0) → (A → B) → OnNoMemory r A → OnNoMemory r B
+on_starved (Ok x) A B f a = tt
+on_starved (Err Write) A B f a = tt
+on_starved (Err NoMemory) A B f a = f a

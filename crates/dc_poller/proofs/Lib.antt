@@ -1,3 +1,5 @@
+-- the bus lines of a script, by their slots
+pub mod Lines
 -- lines of a script, done one after the other
 pub mod LineRuns
 -- no date is spelled as the word for the register

@@ -1,6 +1,6 @@
 -- Lines of a script, done one after the other.
 use Rattle.std.proofs.Common.{◌≡◌, ◌+◌, ℕ, List, [], ◌∷◌, ◌++◌, length, refl, ap, sym, subst, ◌∙◌, arith, append_assoc, append-nil, length-append, inl}
-use Rattle.std.specs.Prelude.{Bool, true, false, Result, Ok, Err, OnOk, OnErr}
+use Rattle.std.specs.Prelude.{Result, Ok, Err, OnOk, OnErr}
 use Rattle.dc_sectors.specs.Disk.{Image, Choices}
 use Rattle.dc_changes.specs.State.{State}
 use Rattle.dc_core.specs.Core.{opened}
@@ -9,10 +9,10 @@ use Rattle.dc_core.specs.Text.{answer_text}
 use Rattle.dc_core.specs.Transcript.{Turn, leads, IsChain}
 use Rattle.dc_core.specs.Images.{Machine, IsAt}
 use Rattle.dc_address.specs.declared.identity.Identity.{Identity}
-use Rattle.dc_poller.specs.Link.{Link, absent, linked, lost, link_by}
-use Rattle.dc_poller.specs.Poll.{gateway_line, Phase, Happening, IsEnd, to_start, happened_turns, happened_text}
+use Rattle.dc_poller.specs.Link.{Link, LineLink, HasBus, line_in, port_in, with_link}
+use Rattle.dc_poller.specs.Poll.{Phase, Happening, IsEnd, to_start, happened_turns, happened_text}
 use Rattle.dc_poller.specs.Way.{Way}
-use Rattle.dc_poller.specs.Script.{AskFor, FailsAt, ScriptCut, LinesRan, LineRan, LineCut, IsThrough, Deed, Does, DoesPart, IsOneTurn, IsTurnOf, AreDone, deeds_turns, deeds_text, link_after, moment_behind, moment_after}
+use Rattle.dc_poller.specs.Script.{AskFor, FailsAt, ScriptCut, LinesRan, LineRan, LineCut, Deed, Does, DoesPart, IsOneTurn, IsTurnOf, AreDone, deeds_turns, deeds_text, links_after, moment_behind, moment_after}
 use Rattle.dc_poller.specs.ScriptLine.{LineSeen, poll, IsLineOf}
 use Rattle.dc_poller.specs.Went.{Went, TurnWent}
 use Rattle.dc_poller.proofs.Wents.{went_both, went_chain, went_at}
@@ -28,14 +28,14 @@ ask_push lines [] line rest asked before is = subst (λ (ls : List (List ℕ)). 
 ask_push [] (first ∷ done) line rest asked before is = absurd before
 ask_push (other ∷ lines) (first ∷ done) line rest asked before is = (before.0, ask_push lines done line rest asked before.1 is)
 
-done_push : (moment : ℕ) (link : Link) (done : List LineSeen) (deeds : List Deed) (asked : LineSeen) (deed : Deed) → AreDone moment link done deeds
-    → Does (moment_after moment done) asked (link_after link deeds) deed.left deed.turns deed.text → AreDone moment link (done ++ asked ∷ []) (deeds ++ deed ∷ [])
+done_push : (moment : ℕ) (link : List LineLink) (done : List LineSeen) (deeds : List Deed) (asked : LineSeen) (deed : Deed) → AreDone moment link done deeds
+    → Does (moment_after moment done) asked (links_after link deeds) deed.left deed.turns deed.text → AreDone moment link (done ++ asked ∷ []) (deeds ++ deed ∷ [])
 done_push moment link [] [] asked deed before does = (does, tt)
 done_push moment link [] (d ∷ deeds) asked deed before does = absurd before
 done_push moment link (first ∷ done) [] asked deed before does = absurd before
 done_push moment link (first ∷ done) (d ∷ deeds) asked deed before does = (before.0, done_push (moment_behind moment first) d.left done deeds asked deed before.1 does)
 
-link_push : (link : Link) (deeds : List Deed) (deed : Deed) → link_after link (deeds ++ deed ∷ []) ≡ deed.left
+link_push : (link : List LineLink) (deeds : List Deed) (deed : Deed) → links_after link (deeds ++ deed ∷ []) ≡ deed.left
 link_push link [] deed = refl
 link_push link (d ∷ deeds) deed = link_push d.left deeds deed
 
@@ -57,25 +57,14 @@ pub on_err : {X E : Type 0} (result : Result X E) (B : Type 0) → B → OnErr r
 on_err (Ok x) B b = tt
 on_err (Err e) B b = b
 
--- ---- which line a gateway is behind
-
-pub not_through : (link : Link) (line : ℕ) → ¬ (line ≡ gateway_line) → ¬ (IsThrough link line)
-not_through absent line other through = through
-not_through linked line other through = other through
-not_through lost line other through = other through
-
-pub is_through : (was_lost : Bool) (line : ℕ) → line ≡ gateway_line → IsThrough (link_by was_lost) line
-is_through true line is = is
-is_through false line is = is
-
 module _ {D : Type 0} (known : Type 0) (sectors failures : D → ℕ) (reads : D → Image) (choices : D → Choices) (moment_of : D → ℕ) (images_since : D → ℕ → Image → Type 0) where
-  -- the lines so far, and how the gateway is behind them
-  pub record LinesSoFar (budget : ℕ) (state : State) (before : List Turn) (link now : Link) (done : List LineSeen) (wrote : List ℕ → Type 0) (first new : Machine D) : Type 0 where
+  -- the lines so far, and how the bus lines are behind them
+  pub record LinesSoFar (budget : ℕ) (state : State) (before : List Turn) (link now : List LineLink) (done : List LineSeen) (wrote : List ℕ → Type 0) (first new : Machine D) : Type 0 where
     pub lines : LinesRan known sectors failures reads choices moment_of images_since budget state before link done wrote first new
-    pub link_is : link_after link lines.deeds ≡ now
+    pub link_is : links_after link lines.deeds ≡ now
 
   -- no line yet
-  pub lines_none : (budget : ℕ) (state : State) (before : List Turn) (link : Link) (wrote : List ℕ → Type 0) (machine : Machine D)
+  pub lines_none : (budget : ℕ) (state : State) (before : List Turn) (link : List LineLink) (wrote : List ℕ → Type 0) (machine : Machine D)
       → Went known sectors failures reads choices moment_of images_since budget state before [] machine machine → wrote []
       → LinesSoFar budget state before link link [] wrote machine machine
   lines_none budget state before link wrote machine went text = record {
@@ -84,7 +73,7 @@ module _ {D : Type 0} (known : Type 0) (sectors failures : D → ℕ) (reads : D
   }
 
   -- some lines, and one more
-  pub lines_more : (budget : ℕ) (state : State) (before : List Turn) (link now left : Link) (done : List LineSeen) (asked : LineSeen) (moment : ℕ) (wrote piece all : List ℕ → Type 0) (first old new : Machine D)
+  pub lines_more : (budget : ℕ) (state : State) (before : List Turn) (link now left : List LineLink) (done : List LineSeen) (asked : LineSeen) (moment : ℕ) (wrote piece all : List ℕ → Type 0) (first old new : Machine D)
       → moment ≡ moment_after 0 done
       → (so_far : LinesSoFar budget state before link now done wrote first old)
       → LineRan known sectors failures reads choices moment_of images_since budget state (before ++ deeds_turns so_far.lines.deeds) moment asked now left piece old new
@@ -97,7 +86,7 @@ module _ {D : Type 0} (known : Type 0) (sectors failures : D → ℕ) (reads : D
         lines = record {
           deeds = deeds ++ deed ∷ [];
           done = done_push 0 link done deeds asked deed so_far.lines.done
-              (subst (λ (l : Link). Does (moment_after 0 done) asked l left one.turns one.line) (sym so_far.link_is) (subst (λ (m : ℕ). Does m asked now left one.turns one.line) is one.does));
+              (subst (λ (l : List LineLink). Does (moment_after 0 done) asked l left one.turns one.line) (sym so_far.link_is) (subst (λ (m : ℕ). Does m asked now left one.turns one.line) is one.does));
           went = subst (λ (ts : List Turn). Went known sectors failures reads choices moment_of images_since budget state before ts first new) (sym (turns_push deeds deed))
               (went_both known sectors failures reads choices moment_of images_since budget state before (deeds_turns deeds) one.turns first old new so_far.lines.went one.went);
           text = subst all (sym (text_push deeds deed)) (joins (deeds_text deeds) one.line so_far.lines.text one.text);
@@ -106,7 +95,7 @@ module _ {D : Type 0} (known : Type 0) (sectors failures : D → ℕ) (reads : D
       }
 
   -- so far: the first lines are done, and the rest of the input is before them
-  pub record SoFar (budget : ℕ) (link now : Link) (input rest : List (List ℕ)) (moment count : ℕ) (wrote : List ℕ → Type 0) (first new : Machine D) : Type 0 where
+  pub record SoFar (budget : ℕ) (link now : List LineLink) (input rest : List (List ℕ)) (moment count : ℕ) (wrote : List ℕ → Type 0) (first new : Machine D) : Type 0 where
     pub done : List LineSeen
     pub are_read : AskFor input done rest
     pub moment_is : moment ≡ moment_after 0 done
@@ -114,7 +103,7 @@ module _ {D : Type 0} (known : Type 0) (sectors failures : D → ℕ) (reads : D
     pub ran : (state : State) (before : List Turn) → IsChain budget (opened state) before → IsAt known sectors reads choices first (leads (opened state) before)
         → LinesSoFar budget state before link now done wrote first new
 
-  pub one_more : (budget : ℕ) (link now left : Link) (input : List (List ℕ)) (line : List ℕ) (rest : List (List ℕ)) (asked : LineSeen) (moment count : ℕ) (wrote piece all : List ℕ → Type 0) (first old new : Machine D)
+  pub one_more : (budget : ℕ) (link now left : List LineLink) (input : List (List ℕ)) (line : List ℕ) (rest : List (List ℕ)) (asked : LineSeen) (moment count : ℕ) (wrote piece all : List ℕ → Type 0) (first old new : Machine D)
       → SoFar budget link now input (line ∷ rest) moment count wrote first old → IsLineOf line asked
       → ((state : State) (before : List Turn) → IsChain budget (opened state) before → IsAt known sectors reads choices old (leads (opened state) before)
       → LineRan known sectors failures reads choices moment_of images_since budget state before moment asked now left piece old new)
@@ -135,7 +124,7 @@ module _ {D : Type 0} (known : Type 0) (sectors failures : D → ℕ) (reads : D
       }
 
   -- a write failed at the next line
-  pub cut_here : (budget : ℕ) (link now : Link) (input : List (List ℕ)) (line : List ℕ) (rest : List (List ℕ)) (moment count : ℕ) (wrote : List ℕ → Type 0) (part : List Turn) (first old new : Machine D)
+  pub cut_here : (budget : ℕ) (link now : List LineLink) (input : List (List ℕ)) (line : List ℕ) (rest : List (List ℕ)) (moment count : ℕ) (wrote : List ℕ → Type 0) (part : List Turn) (first old new : Machine D)
       → (so_far : SoFar budget link now input (line ∷ rest) moment count wrote first old)
       → (state : State) (before : List Turn) (chain : IsChain budget (opened state) before) (is_at : IsAt known sectors reads choices first (leads (opened state) before))
       → FailsAt moment now (line ∷ rest) part
@@ -150,14 +139,14 @@ module _ {D : Type 0} (known : Type 0) (sectors failures : D → ℕ) (reads : D
         deeds = ran.lines.deeds;
         done = ran.lines.done;
         part = part;
-        fails = subst (λ (l : Link). FailsAt (moment_after 0 so_far.done) l (line ∷ rest) part) (sym ran.link_is) (subst (λ (m : ℕ). FailsAt m now (line ∷ rest) part) so_far.moment_is fails);
+        fails = subst (λ (l : List LineLink). FailsAt (moment_after 0 so_far.done) l (line ∷ rest) part) (sym ran.link_is) (subst (λ (m : ℕ). FailsAt m now (line ∷ rest) part) so_far.moment_is fails);
         went = went_both known sectors failures reads choices moment_of images_since budget state before (deeds_turns ran.lines.deeds) part first old new ran.lines.went went;
       }
 
   -- ---- one line
 
   -- a line that is one event
-  pub event_ran : {X E : Type 0} (budget : ℕ) (state : State) (before : List Turn) (event : Event) (moment : ℕ) (asked : LineSeen) (link : Link) (wrote : List ℕ → Type 0) (first new : Machine D) (result : Result X E)
+  pub event_ran : {X E : Type 0} (budget : ℕ) (state : State) (before : List Turn) (event : Event) (moment : ℕ) (asked : LineSeen) (link : List LineLink) (wrote : List ℕ → Type 0) (first new : Machine D) (result : Result X E)
       → TurnWent known sectors failures reads choices moment_of images_since budget state before event (λ answer. OnOk result (wrote (answer_text answer))) first new
       → ((turns : List Turn) (text : List ℕ) → IsOneTurn event turns text → Does moment asked link link turns text)
       → OnOk result (LineRan known sectors failures reads choices moment_of images_since budget state before moment asked link link wrote first new)
@@ -171,7 +160,7 @@ module _ {D : Type 0} (known : Type 0) (sectors failures : D → ℕ) (reads : D
         text = text;
       }) one.is_such
 
-  pub event_cut : {X E : Type 0} (budget : ℕ) (state : State) (before : List Turn) (event : Event) (moment : ℕ) (asked : LineSeen) (link : Link) (such : Answer → Type 0) (first new : Machine D) (result : Result X E)
+  pub event_cut : {X E : Type 0} (budget : ℕ) (state : State) (before : List Turn) (event : Event) (moment : ℕ) (asked : LineSeen) (link : List LineLink) (such : Answer → Type 0) (first new : Machine D) (result : Result X E)
       → TurnWent known sectors failures reads choices moment_of images_since budget state before event such first new
       → ((turns : List Turn) → IsTurnOf event turns → DoesPart moment asked link turns)
       → OnErr result (LineCut known sectors failures reads choices moment_of images_since budget state before moment asked link first new)
@@ -180,36 +169,44 @@ module _ {D : Type 0} (known : Type 0) (sectors failures : D → ℕ) (reads : D
       (record { turns = (event, one.answer) ∷ []; does = does ((event, one.answer) ∷ []) (one.answer, refl); went = one.went })
 
   -- a line that is no event, and what it writes
-  pub said_ran : {X E : Type 0} (budget : ℕ) (state : State) (before : List Turn) (moment : ℕ) (asked : LineSeen) (link left : Link) (said : List ℕ) (wrote : List ℕ → Type 0) (machine : Machine D) (result : Result X E)
+  pub said_ran : {X E : Type 0} (budget : ℕ) (state : State) (before : List Turn) (moment : ℕ) (asked : LineSeen) (link left : List LineLink) (said : List ℕ) (wrote : List ℕ → Type 0) (machine : Machine D) (result : Result X E)
       → Does moment asked link left [] said → Went known sectors failures reads choices moment_of images_since budget state before [] machine machine → OnOk result (wrote said)
       → OnOk result (LineRan known sectors failures reads choices moment_of images_since budget state before moment asked link left wrote machine machine)
   said_ran budget state before moment asked link left said wrote machine result does went text =
       on_ok result (wrote said) (LineRan known sectors failures reads choices moment_of images_since budget state before moment asked link left wrote machine machine)
       (λ text. record { turns = []; line = said; does = does; went = went; text = text }) text
 
-  pub said_cut : {X E : Type 0} (budget : ℕ) (state : State) (before : List Turn) (moment : ℕ) (asked : LineSeen) (link : Link) (machine : Machine D) (result : Result X E)
+  pub said_cut : {X E : Type 0} (budget : ℕ) (state : State) (before : List Turn) (moment : ℕ) (asked : LineSeen) (link : List LineLink) (machine : Machine D) (result : Result X E)
       → DoesPart moment asked link [] → Went known sectors failures reads choices moment_of images_since budget state before [] machine machine
       → OnErr result (LineCut known sectors failures reads choices moment_of images_since budget state before moment asked link machine machine)
   said_cut budget state before moment asked link machine result does went =
       on_err result (LineCut known sectors failures reads choices moment_of images_since budget state before moment asked link machine machine) (record { turns = []; does = does; went = went })
 
-  -- a poll through the gateway
-  pub polled_ran : {X E : Type 0} (budget : ℕ) (state : State) (before : List Turn) (moment line : ℕ) (meter : Identity) (link left : Link) (ends : List Happening → Phase → Type 0) (wrote : List ℕ → Type 0) (first new : Machine D) (result : Result X E) → IsThrough link line
-      → Way known sectors failures reads choices moment_of images_since budget state before moment meter (record { due = to_start; link = link }) ends (λ text. OnOk result (wrote text)) first new
-      → ((happened : List Happening) (last : Phase) → ends happened last → OnOk result (IsEnd happened last.due × (last.link ≡ left)))
-      → OnOk result (LineRan known sectors failures reads choices moment_of images_since budget state before moment (poll line meter) link left wrote first new)
-  polled_ran budget state before moment line meter link left ends wrote first new (Ok x) through way ends_so = record {
-    turns = happened_turns way.happened;
-    line = happened_text way.happened;
-    does = inl (through, record { happened = way.happened; last = way.last; way = way.way; ends = (ends_so way.happened way.last way.ends_so).0; left_is = sym (ends_so way.happened way.last way.ends_so).1; turns_are = refl; text_is = refl });
-    went = way.went;
-    text = way.text;
-  }
-  polled_ran budget state before moment line meter link left ends wrote first new (Err e) through way ends_so = tt
+  -- a poll over a line that is found so, and has a bus
+  pub polled_ran : {X E : Type 0} (budget : ℕ) (state : State) (before : List Turn) (moment line : ℕ) (meter : Identity) (links : List LineLink) (found : LineLink) (after : Link) (ends : List Happening → Phase → Type 0) (wrote : List ℕ → Type 0) (first new : Machine D) (result : Result X E) → line_in links line ≡ found → HasBus found.link
+      → Way known sectors failures reads choices moment_of images_since budget state before (record { line = line; is_gateway = found.is_gateway }) moment meter (record { due = to_start; link = found.link }) ends (λ text. OnOk result (wrote text)) first new
+      → ((happened : List Happening) (last : Phase) → ends happened last → OnOk result (IsEnd happened last.due × (last.link ≡ after)))
+      → OnOk result (LineRan known sectors failures reads choices moment_of images_since budget state before moment (poll line meter) links (with_link links line after) wrote first new)
+  polled_ran budget state before moment line meter links found after ends wrote first new (Ok x) is has_bus found_way ends_so =
+      let way = subst (λ (f : LineLink). Way known sectors failures reads choices moment_of images_since budget state before (record { line = line; is_gateway = f.is_gateway }) moment meter (record { due = to_start; link = f.link }) ends wrote first new) (sym is) found_way in
+      record {
+        turns = happened_turns way.happened;
+        line = happened_text (port_in links line) way.happened;
+        does = inl (record {
+          has_bus = subst (λ (f : LineLink). HasBus f.link) (sym is) has_bus;
+          after = after;
+          does_so = record { happened = way.happened; last = way.last; way = way.way; ends = (ends_so way.happened way.last way.ends_so).0; left_is = sym (ends_so way.happened way.last way.ends_so).1; turns_are = refl; text_is = refl };
+          left_is = refl;
+        });
+        went = way.went;
+        text = way.text;
+      }
+  polled_ran budget state before moment line meter links found after ends wrote first new (Err e) is has_bus found_way ends_so = tt
 
-  pub polled_cut : {X E : Type 0} (budget : ℕ) (state : State) (before : List Turn) (moment line : ℕ) (meter : Identity) (link : Link) (ends : List Happening → Phase → Type 0) (wrote : List ℕ → Type 0) (first new : Machine D) (result : Result X E) → IsThrough link line
-      → Way known sectors failures reads choices moment_of images_since budget state before moment meter (record { due = to_start; link = link }) ends wrote first new
-      → OnErr result (LineCut known sectors failures reads choices moment_of images_since budget state before moment (poll line meter) link first new)
-  polled_cut budget state before moment line meter link ends wrote first new result through way =
-      on_err result (LineCut known sectors failures reads choices moment_of images_since budget state before moment (poll line meter) link first new)
-      (record { turns = happened_turns way.happened; does = inl (through, record { happened = way.happened; last = way.last; way = way.way; turns_are = refl }); went = way.went })
+  pub polled_cut : {X E : Type 0} (budget : ℕ) (state : State) (before : List Turn) (moment line : ℕ) (meter : Identity) (links : List LineLink) (found : LineLink) (ends : List Happening → Phase → Type 0) (wrote : List ℕ → Type 0) (first new : Machine D) (result : Result X E) → line_in links line ≡ found → HasBus found.link
+      → Way known sectors failures reads choices moment_of images_since budget state before (record { line = line; is_gateway = found.is_gateway }) moment meter (record { due = to_start; link = found.link }) ends wrote first new
+      → OnErr result (LineCut known sectors failures reads choices moment_of images_since budget state before moment (poll line meter) links first new)
+  polled_cut budget state before moment line meter links found ends wrote first new result is has_bus found_way =
+      let way = subst (λ (f : LineLink). Way known sectors failures reads choices moment_of images_since budget state before (record { line = line; is_gateway = f.is_gateway }) moment meter (record { due = to_start; link = f.link }) ends wrote first new) (sym is) found_way in
+      on_err result (LineCut known sectors failures reads choices moment_of images_since budget state before moment (poll line meter) links first new)
+      (record { turns = happened_turns way.happened; does = inl (subst (λ (f : LineLink). HasBus f.link) (sym is) has_bus, record { happened = way.happened; last = way.last; way = way.way; turns_are = refl }); went = way.went })

@@ -5,7 +5,7 @@ use Rattle.dc_core.specs.Core.{opened}
 use Rattle.dc_core.specs.Images.{Machine, IsAt}
 use Rattle.dc_core.specs.Transcript.{Turn, leads, IsChain}
 use Rattle.dc_sectors.specs.Disk.{Image, Choices}
-use Rattle.dc_poller.specs.Link.{Link}
+use Rattle.dc_poller.specs.Link.{LineLink}
 use Rattle.dc_poller.specs.Script.{deeds_turns, deeds_text}
 use Rattle.dc_poller.specs.ScriptLine.{LineSeen, IsLineOf}
 use Rattle.dc_poller.specs.Starved.{LineStarved, ScriptStarved, StarvesAt}
@@ -14,7 +14,7 @@ use Rattle.dc_poller.proofs.Wents.{went_both}
 
 module _ {D : Type 0} (known : Type 0) (sectors failures : D → ℕ) (reads : D → Image) (choices : D → Choices) (moment_of : D → ℕ) (images_since : D → ℕ → Image → Type 0) where
   -- the next line is that search
-  pub starved_here : (budget : ℕ) (link now : Link) (input : List (List ℕ)) (line : List ℕ) (rest : List (List ℕ)) (asked : LineSeen) (moment count : ℕ) (wrote piece all : List ℕ → Type 0) (first old new : Machine D)
+  pub starved_here : (budget : ℕ) (link now : List LineLink) (input : List (List ℕ)) (line : List ℕ) (rest : List (List ℕ)) (asked : LineSeen) (moment count : ℕ) (wrote piece all : List ℕ → Type 0) (first old new : Machine D)
       → (so_far : SoFar known sectors failures reads choices moment_of images_since budget link now input (line ∷ rest) moment count wrote first old) → IsLineOf line asked → old.house.budget ≡ budget
       → ((text more : List ℕ) → wrote text → piece more → all (text ++ more))
       → (state : State) (before : List Turn) (chain : IsChain budget (opened state) before) (is_at : IsAt known sectors reads choices first (leads (opened state) before))
@@ -31,7 +31,7 @@ module _ {D : Type 0} (known : Type 0) (sectors failures : D → ℕ) (reads : D
         deeds = ran.lines.deeds;
         done = ran.lines.done;
         last = starved.last;
-        starves = subst (λ (l : Link). StarvesAt l (line ∷ rest) starved.last) (sym ran.link_is) (asked, is, starved.starves);
+        starves = subst (λ (l : List LineLink). StarvesAt l (line ∷ rest) starved.last) (sym ran.link_is) (asked, is, starved.starves);
         went = went_both known sectors failures reads choices moment_of images_since budget state before turns starved.last.turns first old new ran.lines.went starved.went;
         text = joins (deeds_text ran.lines.deeds) starved.last.text ran.lines.text starved.text;
       }

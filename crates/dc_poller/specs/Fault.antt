@@ -1,7 +1,7 @@
 -- The faults that stop an engine of the program, by number and by name (this product).
-use Rattle.std.specs.Prelude.{◌≡◌, ◌≢◌, ℕ, List, codes}
+use Rattle.std.specs.Prelude.{◌≡◌, ℕ, List, codes}
 use Rattle.dc_recovery.specs.declared.fault.OpenFault.{OpenFault}
-use Rattle.dc_poller.specs.Link.{Link, absent}
+use Rattle.dc_poller.specs.Link.{AreAbsent, LineLink}
 use Rattle.dc_poller.specs.declared.fault.ProgramFault.{ProgramFault}
 use Rattle.dc_poller.specs.declared.fault.ProgramFault.TheVariants.{Read, TooLong, Write, NoMemory, Open}
 use Rattle.dc_teller.specs.declared.fault.TellFault.{TellFault}
@@ -52,6 +52,6 @@ IsOfImage Write = Unit {0}
 IsOfImage NoMemory = Unit {0}
 IsOfImage (Open fault) = Unit {0}
 
--- memory was refused to a search, which goes through a gateway
-abbrev pub IsOfSearch : Link → ProgramFault → Type 0
-IsOfSearch link fault = (fault ≡ NoMemory) × (link ≢ absent)
+-- memory was refused to a search, which goes over a line that has a bus
+abbrev pub IsOfSearch : List LineLink → ProgramFault → Type 0
+IsOfSearch links fault = (fault ≡ NoMemory) × ¬ (AreAbsent links)

@@ -1,13 +1,15 @@
 -- the definitions that contracts cite
 -- which faults are of reading, and how they are numbered and named
 pub mod Fault
+-- laws of the buses of a script
+pub mod Buses
 -- what ends a script before its end
 pub mod Halt
 -- what `run` does to an image
 pub mod ImageRun
--- how a script finds the gateway
+-- how a script finds the bus lines
 pub mod Link
--- the readout of a meter through the gateway
+-- the readout of a meter over a bus line
 pub mod Poll
 -- a table of what an image holds, and its word
 pub mod Report
@@ -15,8 +17,10 @@ pub mod Report
 pub mod Script
 -- what a line of a script asks for
 pub mod ScriptLine
--- a search for meters through the gateway
+-- a search for meters over a bus line
 pub mod Search
+-- what a line does to a slot
+pub mod Slots
 -- a script that a search without memory ended
 pub mod Starved
 -- what is known of a poll between two of its calls

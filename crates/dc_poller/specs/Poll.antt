@@ -1,5 +1,5 @@
--- The readout of a meter through the gateway (this product): each thing that happens is due by the one before it.
-use Rattle.std.specs.Prelude.{◌≡◌, ◌⊎◌, ℕ, ◌+◌, ◌≤◌, None, Some, Result, Ok, Err, List, [], ◌∷◌, length, flat_map}
+-- The readout of a meter over a bus line (this product): each thing that happens is due by the one before it.
+use Rattle.std.specs.Prelude.{◌≡◌, ◌⊎◌, ℕ, Bool, true, false, ◌+◌, ◌≤◌, None, Some, Result, Ok, Err, List, [], ◌∷◌, length, flat_map}
 use Rattle.dc_address.specs.declared.identity.Identity.{Identity}
 use Rattle.dc_core.specs.Event.{Event, Answer, starts, asks, hears, commits, started, asked, heard, committed, replied}
 use Rattle.dc_core.specs.Text.{answer_text}
@@ -9,18 +9,15 @@ use Rattle.dc_core.specs.declared.fault.HearFault.TheVariants.{PendingFull}
 use Rattle.dc_core.specs.declared.line_heard.LineHeard.{LineHeard}
 use Rattle.dc_core.specs.declared.line_heard.LineHeard.TheVariants.{Again, Ready, Accepted, Failed}
 use Rattle.dc_gateway.specs.Blocks.{most_answer}
-use Rattle.dc_gateway.specs.Bus.{Exchange}
-use Rattle.dc_poller.specs.Link.{Link, linked, lost, IsHeardOver, gateway_lost}
-
--- the bus line behind the gateway
-abbrev pub gateway_line : ℕ
-gateway_line = 1
+use Rattle.dc_gateway.specs.Bus.{AreExchanged, Exchange}
+use Rattle.dc_poller.specs.Link.{Link, linked, lost, IsHeardOver, loss_line}
+use Rattle.dc_poller.specs.declared.port.Port.{Port}
 
 -- no readout asks more often: three tries at a reset, a selection and each of 32 parts, and once more where nothing is to be asked
 abbrev pub most_rounds : ℕ
 most_rounds = 103
 
--- a turn of the concentrator, an exchange over the gateway, or the gateway's loss
+-- a turn of the concentrator, an exchange over the bus, or the bus's loss
 pub data Happening : Type 0 where
   does : Turn → Happening
   talks : Exchange → Happening
@@ -30,7 +27,7 @@ pub data Happening : Type 0 where
 pub data Due : Type 0 where
   to_start : Due
   to_ask : Due
-  -- this request goes to the gateway
+  -- this request goes over the bus
   to_send : List ℕ → Due
   -- this is what came to it
   to_hear : List ℕ → Due
@@ -40,28 +37,39 @@ pub data Due : Type 0 where
   to_hear_again : List ℕ → Due
   is_over : Due
 
--- and how the gateway is found
+-- and how the bus is found
 pub record Phase : Type 0 where
   pub due : Due
   pub link : Link
 
 -- ---- which event is due
 
-abbrev pub IsDueEvent : ℕ → Identity → Due → Event → Type 0
-IsDueEvent moment meter to_start event = event ≡ starts gateway_line meter
-IsDueEvent moment meter to_ask event = event ≡ asks gateway_line
-IsDueEvent moment meter (to_send request) event = ⊥
-IsDueEvent moment meter (to_hear bytes) event = event ≡ hears gateway_line moment bytes
-IsDueEvent moment meter to_commit event = event ≡ commits
-IsDueEvent moment meter (to_make_room bytes) event = event ≡ commits
-IsDueEvent moment meter (to_hear_again bytes) event = event ≡ hears gateway_line moment bytes
-IsDueEvent moment meter is_over event = ⊥
+abbrev pub IsDueEvent : Port → ℕ → Identity → Due → Event → Type 0
+IsDueEvent port moment meter to_start event = event ≡ starts port.line meter
+IsDueEvent port moment meter to_ask event = event ≡ asks port.line
+IsDueEvent port moment meter (to_send request) event = ⊥
+IsDueEvent port moment meter (to_hear bytes) event = event ≡ hears port.line moment bytes
+IsDueEvent port moment meter to_commit event = event ≡ commits
+IsDueEvent port moment meter (to_make_room bytes) event = event ≡ commits
+IsDueEvent port moment meter (to_hear_again bytes) event = event ≡ hears port.line moment bytes
+IsDueEvent port moment meter is_over event = ⊥
 
--- The request that was asked for is sent. A lost gateway answers with silence, and it is lost at most once, over silence.
-abbrev pub IsDue : ℕ → Identity → Phase → Happening → Type 0
-IsDue moment meter phase (does turn) = IsDueEvent moment meter phase.due turn.0
-IsDue moment meter phase (talks exchange) = (phase.due ≡ to_send exchange.request) × (length exchange.answer ≤ most_answer) × IsHeardOver phase.link exchange.answer
-IsDue moment meter phase loses = (phase.link ≡ linked) × (phase.due ≡ to_hear [])
+-- A bus is lost over a request, of which silence is heard; but for a gateway also while it settles before the start.
+abbrev pub MayBeLost : Port → Due → Type 0
+MayBeLost port to_start = port.is_gateway ≡ false
+MayBeLost port to_ask = ⊥
+MayBeLost port (to_send request) = ⊥
+MayBeLost port (to_hear bytes) = bytes ≡ []
+MayBeLost port to_commit = ⊥
+MayBeLost port (to_make_room bytes) = ⊥
+MayBeLost port (to_hear_again bytes) = ⊥
+MayBeLost port is_over = ⊥
+
+-- The request that was asked for is sent. A lost bus answers with silence, and it is lost at most once.
+abbrev pub IsDue : Port → ℕ → Identity → Phase → Happening → Type 0
+IsDue port moment meter phase (does turn) = IsDueEvent port moment meter phase.due turn.0
+IsDue port moment meter phase (talks exchange) = (phase.due ≡ to_send exchange.request) × (length exchange.answer ≤ most_answer) × IsHeardOver phase.link exchange.answer
+IsDue port moment meter phase loses = (phase.link ≡ linked) × MayBeLost port phase.due
 
 -- ---- what is due behind it
 
@@ -96,9 +104,9 @@ behind phase loses = record { due = phase.due; link = lost }
 -- ---- all that happens
 
 -- each thing is due behind those before it, and this is the phase behind all
-abbrev pub IsWay : ℕ → Identity → Phase → List Happening → Phase → Type 0
-IsWay moment meter phase [] last = last ≡ phase
-IsWay moment meter phase (happening ∷ more) last = IsDue moment meter phase happening × IsWay moment meter (behind phase happening) more last
+abbrev pub IsWay : Port → ℕ → Identity → Phase → List Happening → Phase → Type 0
+IsWay port moment meter phase [] last = last ≡ phase
+IsWay port moment meter phase (happening ∷ more) last = IsDue port moment meter phase happening × IsWay port moment meter (behind phase happening) more last
 
 abbrev pub turns_of : Happening → List Turn
 turns_of (does turn) = turn ∷ []
@@ -125,13 +133,13 @@ told_text (heard answer) = answer_text (heard answer)
 told_text (committed answer) = answer_text (committed answer)
 told_text (replied reply) = answer_text (replied reply)
 
-abbrev pub happening_text : Happening → List ℕ
-happening_text (does turn) = told_text turn.1
-happening_text (talks exchange) = []
-happening_text loses = gateway_lost
+abbrev pub happening_text : Port → Happening → List ℕ
+happening_text port (does turn) = told_text turn.1
+happening_text port (talks exchange) = []
+happening_text port loses = loss_line port
 
-abbrev pub happened_text : List Happening → List ℕ
-happened_text happened = flat_map happening_text happened
+abbrev pub happened_text : Port → List Happening → List ℕ
+happened_text port happened = flat_map (happening_text port) happened
 
 -- how often a request was asked for
 abbrev pub asks_by : Event → ℕ
@@ -152,18 +160,27 @@ abbrev pub IsEnd : List Happening → Due → Type 0
 IsEnd happened due = (due ≡ is_over) ⊎ (rounds_in happened ≡ most_rounds)
 
 -- A POLL, from its start to its end: these turns and this text.
-pub record Polls (moment : ℕ) (meter : Identity) (link left : Link) (turns : List Turn) (text : List ℕ) : Type 0 where
+pub record Polls (port : Port) (moment : ℕ) (meter : Identity) (link left : Link) (turns : List Turn) (text : List ℕ) : Type 0 where
   pub happened : List Happening
   pub last : Phase
-  pub way : IsWay moment meter (record { due = to_start; link = link }) happened last
+  pub way : IsWay port moment meter (record { due = to_start; link = link }) happened last
   pub ends : IsEnd happened last.due
   pub left_is : left ≡ last.link
   pub turns_are : turns ≡ happened_turns happened
-  pub text_is : text ≡ happened_text happened
+  pub text_is : text ≡ happened_text port happened
 
 -- some first turns of a poll
-pub record PollsPart (moment : ℕ) (meter : Identity) (link : Link) (turns : List Turn) : Type 0 where
+pub record PollsPart (port : Port) (moment : ℕ) (meter : Identity) (link : Link) (turns : List Turn) : Type 0 where
   pub happened : List Happening
   pub last : Phase
-  pub way : IsWay moment meter (record { due = to_start; link = link }) happened last
+  pub way : IsWay port moment meter (record { due = to_start; link = link }) happened last
   pub turns_are : turns ≡ happened_turns happened
+
+-- ---- over the bus
+
+-- What a poll does to its bus: unless it is a gateway, it settles, so that no answer is under way; then these exchanges happen, and nothing else.
+pub record IsPolled {B : Type 0} (settles : B → B → Type 0) (ready : B → Bool) (asks_of : B → List ℕ → List ℕ → B → Type 0) (port : Port) (old : B) (exchanges : List Exchange) (new : B) : Type 0 where
+  pub between : B
+  pub gateway : port.is_gateway ≡ true → between ≡ old
+  pub settled : port.is_gateway ≡ false → settles old between × (ready between ≡ true)
+  pub exchanged : AreExchanged asks_of between exchanges new

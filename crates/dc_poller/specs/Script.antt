@@ -1,5 +1,5 @@
 -- What a script does (this product): its lines, up to the first that spells nothing, are done one after the other.
-use Rattle.std.specs.Prelude.{◌≡◌, ◌⊎◌, ℕ, ◌+◌, Bool, true, false, None, List, [], ◌∷◌, ◌++◌, codes, length, flat_map}
+use Rattle.std.specs.Prelude.{◌≡◌, ◌⊎◌, ℕ, ◌+◌, Bool, true, false, List, [], ◌∷◌, ◌++◌, codes, length, flat_map}
 use Rattle.dc_changes.specs.State.{State}
 use Rattle.dc_core.specs.Event.{Event, Answer, starts, asks, hears, commits, offices}
 use Rattle.dc_core.specs.Images.{Machine}
@@ -8,9 +8,9 @@ use Rattle.dc_core.specs.Transcript.{Turn}
 use Rattle.dc_gateway.specs.Bus.{Exchange}
 use Rattle.dc_sectors.specs.Disk.{Image, Choices}
 use Rattle.dc_text.specs.Words.{number_word}
-use Rattle.dc_poller.specs.Link.{Link, absent, linked, lost}
-use Rattle.dc_poller.specs.Poll.{gateway_line, Polls, PollsPart}
-use Rattle.dc_poller.specs.Search.{Searches, SearchesPart}
+use Rattle.dc_poller.specs.Link.{LineLink, HasBus, Through, link_in, port_in}
+use Rattle.dc_poller.specs.Poll.{Polls, PollsPart}
+use Rattle.dc_poller.specs.Search.{SearchesOn, SearchesPart}
 use Rattle.dc_poller.specs.Went.{Went}
 use Rattle.dc_poller.specs.ScriptLine.{LineSeen, nothing, at, start, ask, hear, commit, office, poll, search, IsLineOf}
 
@@ -39,7 +39,7 @@ moment_behind moment (hear line answer) = moment
 moment_behind moment commit = moment
 moment_behind moment (office line) = moment
 moment_behind moment (poll line meter) = moment
-moment_behind moment (search budget) = moment
+moment_behind moment (search budget line) = moment
 
 -- and behind some lines
 abbrev pub moment_after : ℕ → List LineSeen → ℕ
@@ -66,38 +66,38 @@ pub record SaysOnly (said : List ℕ) (turns : List Turn) (text : List ℕ) : Ty
 abbrev pub no_gateway : List ℕ
 no_gateway = codes "NO GATEWAY\n"
 
--- a bus line that a gateway is behind
-abbrev pub IsThrough : Link → ℕ → Type 0
-IsThrough absent line = ⊥
-IsThrough linked line = line ≡ gateway_line
-IsThrough lost line = line ≡ gateway_line
+-- a line has no bus
+pub record SaysNone (links left : List LineLink) (line : ℕ) (turns : List Turn) (text : List ℕ) : Type 0 where
+  pub no_bus : ¬ (HasBus (link_in links line))
+  pub says : SaysOnly no_gateway turns text
+  pub left_is : left ≡ links
 
--- THE TURNS OF A LINE AND ITS TEXT, at a moment: the gateway is found like this, and left like that.
-abbrev pub Does : ℕ → LineSeen → Link → Link → List Turn → List ℕ → Type 0
-Does moment nothing link left turns text = SaysOnly [] turns text × (left ≡ link)
-Does moment (at seconds) link left turns text = SaysOnly [] turns text × (left ≡ link)
-Does moment (start line meter) link left turns text = IsOneTurn (starts line meter) turns text × (left ≡ link)
-Does moment (ask line) link left turns text = IsOneTurn (asks line) turns text × (left ≡ link)
-Does moment (hear line answer) link left turns text = IsOneTurn (hears line moment answer) turns text × (left ≡ link)
-Does moment commit link left turns text = IsOneTurn commits turns text × (left ≡ link)
-Does moment (office line) link left turns text = IsOneTurn (offices line) turns text × (left ≡ link)
-Does moment (poll line meter) link left turns text =
-    (IsThrough link line × Polls moment meter link left turns text) ⊎ (¬ (IsThrough link line) × SaysOnly no_gateway turns text × (left ≡ link))
-Does moment (search budget) link left turns text =
-    ((exchanges : List Exchange) × IsThrough link gateway_line × Searches None budget link left turns exchanges text) ⊎ (¬ (IsThrough link gateway_line) × SaysOnly no_gateway turns text × (left ≡ link))
+-- THE TURNS OF A LINE AND ITS TEXT, at a moment: the bus lines are found like this, and left like that.
+abbrev pub Does : ℕ → LineSeen → List LineLink → List LineLink → List Turn → List ℕ → Type 0
+Does moment nothing links left turns text = SaysOnly [] turns text × (left ≡ links)
+Does moment (at seconds) links left turns text = SaysOnly [] turns text × (left ≡ links)
+Does moment (start line meter) links left turns text = IsOneTurn (starts line meter) turns text × (left ≡ links)
+Does moment (ask line) links left turns text = IsOneTurn (asks line) turns text × (left ≡ links)
+Does moment (hear line answer) links left turns text = IsOneTurn (hears line moment answer) turns text × (left ≡ links)
+Does moment commit links left turns text = IsOneTurn commits turns text × (left ≡ links)
+Does moment (office line) links left turns text = IsOneTurn (offices line) turns text × (left ≡ links)
+Does moment (poll line meter) links left turns text =
+    Through links left line (λ port before after. Polls port moment meter before after turns text) ⊎ SaysNone links left line turns text
+Does moment (search budget line) links left turns text =
+    Through links left line (λ port before after. SearchesOn port budget before after turns text) ⊎ SaysNone links left line turns text
 
 -- what was done for a line
 pub record Deed : Type 0 where
   pub turns : List Turn
   pub text : List ℕ
-  pub left : Link
+  pub left : List LineLink
 
 -- these deeds are those of the lines, each at its moment
-abbrev pub AreDone : ℕ → Link → List LineSeen → List Deed → Type 0
-AreDone moment link [] [] = Unit {0}
-AreDone moment link [] (deed ∷ deeds) = ⊥
-AreDone moment link (asked ∷ more) [] = ⊥
-AreDone moment link (asked ∷ more) (deed ∷ deeds) = Does moment asked link deed.left deed.turns deed.text × AreDone (moment_behind moment asked) deed.left more deeds
+abbrev pub AreDone : ℕ → List LineLink → List LineSeen → List Deed → Type 0
+AreDone moment links [] [] = Unit {0}
+AreDone moment links [] (deed ∷ deeds) = ⊥
+AreDone moment links (asked ∷ more) [] = ⊥
+AreDone moment links (asked ∷ more) (deed ∷ deeds) = Does moment asked links deed.left deed.turns deed.text × AreDone (moment_behind moment asked) deed.left more deeds
 
 abbrev pub deeds_turns : List Deed → List Turn
 deeds_turns deeds = flat_map (λ (deed : Deed). deed.turns) deeds
@@ -105,9 +105,9 @@ deeds_turns deeds = flat_map (λ (deed : Deed). deed.turns) deeds
 abbrev pub deeds_text : List Deed → List ℕ
 deeds_text deeds = flat_map (λ (deed : Deed). deed.text) deeds
 
-abbrev pub link_after : Link → List Deed → Link
-link_after link [] = link
-link_after link (deed ∷ deeds) = link_after deed.left deeds
+abbrev pub links_after : List LineLink → List Deed → List LineLink
+links_after links [] = links
+links_after links (deed ∷ deeds) = links_after deed.left deeds
 
 -- behind so many lines: which one spells nothing
 abbrev pub ending : Bool → ℕ → List ℕ
@@ -117,63 +117,65 @@ ending true count = codes "LINE" ++ number_word (count + 1) ++ codes " SYNTAX\n"
 -- ---- the run
 
 -- These lines are done one after the other, their turns are run behind those that were before, and what was written is their text.
-pub record LinesRan {D : Type 0} (known : Type 0) (sectors failures : D → ℕ) (reads : D → Image) (choices : D → Choices) (moment : D → ℕ) (images_since : D → ℕ → Image → Type 0) (budget : ℕ) (state : State) (before : List Turn) (link : Link) (asked : List LineSeen) (wrote : List ℕ → Type 0) (first new : Machine D) : Type 0 where
+pub record LinesRan {D : Type 0} (known : Type 0) (sectors failures : D → ℕ) (reads : D → Image) (choices : D → Choices) (moment : D → ℕ) (images_since : D → ℕ → Image → Type 0) (budget : ℕ) (state : State) (before : List Turn) (links : List LineLink) (asked : List LineSeen) (wrote : List ℕ → Type 0) (first new : Machine D) : Type 0 where
   pub deeds : List Deed
-  pub done : AreDone 0 link asked deeds
+  pub done : AreDone 0 links asked deeds
   pub went : Went known sectors failures reads choices moment images_since budget state before (deeds_turns deeds) first new
   pub text : wrote (deeds_text deeds)
 
 -- A script of these lines: those up to its end are done.
-pub record ScriptRan {D : Type 0} (known : Type 0) (sectors failures : D → ℕ) (reads : D → Image) (choices : D → Choices) (moment : D → ℕ) (images_since : D → ℕ → Image → Type 0) (budget : ℕ) (state : State) (before : List Turn) (link : Link) (lines : List (List ℕ)) (faulty : Bool) (wrote : List ℕ → Type 0) (first new : Machine D) : Type 0 where
+pub record ScriptRan {D : Type 0} (known : Type 0) (sectors failures : D → ℕ) (reads : D → Image) (choices : D → Choices) (moment : D → ℕ) (images_since : D → ℕ → Image → Type 0) (budget : ℕ) (state : State) (before : List Turn) (links : List LineLink) (lines : List (List ℕ)) (faulty : Bool) (wrote : List ℕ → Type 0) (first new : Machine D) : Type 0 where
   pub asked : List LineSeen
   pub rest : List (List ℕ)
   pub are_read : AskFor lines asked rest
   pub ends : EndsAt rest faulty
-  pub done : LinesRan known sectors failures reads choices moment images_since budget state before link asked (λ text. wrote (text ++ ending faulty (length asked))) first new
+  pub done : LinesRan known sectors failures reads choices moment images_since budget state before links asked (λ text. wrote (text ++ ending faulty (length asked))) first new
 
 -- ---- a write failed
 
 -- The turns that were done of a line on which a write failed: a line that is one event has had it, a poll some of its turns, a search all of
 -- its own. One that asks for nothing writes nothing.
-abbrev pub DoesPart : ℕ → LineSeen → Link → List Turn → Type 0
-DoesPart moment nothing link turns = ⊥
-DoesPart moment (at seconds) link turns = ⊥
-DoesPart moment (start line meter) link turns = IsTurnOf (starts line meter) turns
-DoesPart moment (ask line) link turns = IsTurnOf (asks line) turns
-DoesPart moment (hear line answer) link turns = IsTurnOf (hears line moment answer) turns
-DoesPart moment commit link turns = IsTurnOf commits turns
-DoesPart moment (office line) link turns = IsTurnOf (offices line) turns
-DoesPart moment (poll line meter) link turns = (IsThrough link line × PollsPart moment meter link turns) ⊎ (¬ (IsThrough link line) × (turns ≡ []))
-DoesPart moment (search budget) link turns = ((exchanges : List Exchange) × IsThrough link gateway_line × SearchesPart budget turns exchanges) ⊎ (¬ (IsThrough link gateway_line) × (turns ≡ []))
+abbrev pub DoesPart : ℕ → LineSeen → List LineLink → List Turn → Type 0
+DoesPart moment nothing links turns = ⊥
+DoesPart moment (at seconds) links turns = ⊥
+DoesPart moment (start line meter) links turns = IsTurnOf (starts line meter) turns
+DoesPart moment (ask line) links turns = IsTurnOf (asks line) turns
+DoesPart moment (hear line answer) links turns = IsTurnOf (hears line moment answer) turns
+DoesPart moment commit links turns = IsTurnOf commits turns
+DoesPart moment (office line) links turns = IsTurnOf (offices line) turns
+DoesPart moment (poll line meter) links turns =
+    (HasBus (link_in links line) × PollsPart (port_in links line) moment meter (link_in links line) turns) ⊎ (¬ (HasBus (link_in links line)) × (turns ≡ []))
+DoesPart moment (search budget line) links turns =
+    (HasBus (link_in links line) × ((exchanges : List Exchange) × SearchesPart line budget turns exchanges)) ⊎ (¬ (HasBus (link_in links line)) × (turns ≡ []))
 
 -- It failed at the first of these lines: the line asks for this, or it spells nothing, and was to be told.
-abbrev pub FailsAt : ℕ → Link → List (List ℕ) → List Turn → Type 0
-FailsAt moment link [] turns = ⊥
-FailsAt moment link (line ∷ rest) turns = ((asked : LineSeen) × IsLineOf line asked × DoesPart moment asked link turns) ⊎ (((asked : LineSeen) → ¬ (IsLineOf line asked)) × (turns ≡ []))
+abbrev pub FailsAt : ℕ → List LineLink → List (List ℕ) → List Turn → Type 0
+FailsAt moment links [] turns = ⊥
+FailsAt moment links (line ∷ rest) turns = ((asked : LineSeen) × IsLineOf line asked × DoesPart moment asked links turns) ⊎ (((asked : LineSeen) → ¬ (IsLineOf line asked)) × (turns ≡ []))
 
 -- A script that a failed write ended: the lines before the one at which it failed are done, and of that one some turns.
-pub record ScriptCut {D : Type 0} (known : Type 0) (sectors failures : D → ℕ) (reads : D → Image) (choices : D → Choices) (moment : D → ℕ) (images_since : D → ℕ → Image → Type 0) (budget : ℕ) (state : State) (before : List Turn) (link : Link) (lines : List (List ℕ)) (first new : Machine D) : Type 0 where
+pub record ScriptCut {D : Type 0} (known : Type 0) (sectors failures : D → ℕ) (reads : D → Image) (choices : D → Choices) (moment : D → ℕ) (images_since : D → ℕ → Image → Type 0) (budget : ℕ) (state : State) (before : List Turn) (links : List LineLink) (lines : List (List ℕ)) (first new : Machine D) : Type 0 where
   pub asked : List LineSeen
   pub rest : List (List ℕ)
   pub are_read : AskFor lines asked rest
   pub deeds : List Deed
-  pub done : AreDone 0 link asked deeds
+  pub done : AreDone 0 links asked deeds
   pub part : List Turn
-  pub fails : FailsAt (moment_after 0 asked) (link_after link deeds) rest part
+  pub fails : FailsAt (moment_after 0 asked) (links_after links deeds) rest part
   pub went : Went known sectors failures reads choices moment images_since budget state before (deeds_turns deeds ++ part) first new
 
 -- ---- one line
 
--- A line is done, and this was written; the gateway is left like that.
-pub record LineRan {D : Type 0} (known : Type 0) (sectors failures : D → ℕ) (reads : D → Image) (choices : D → Choices) (moment_of : D → ℕ) (images_since : D → ℕ → Image → Type 0) (budget : ℕ) (state : State) (before : List Turn) (moment : ℕ) (asked : LineSeen) (link left : Link) (wrote : List ℕ → Type 0) (first new : Machine D) : Type 0 where
+-- A line is done, and this was written; the bus lines are left like that.
+pub record LineRan {D : Type 0} (known : Type 0) (sectors failures : D → ℕ) (reads : D → Image) (choices : D → Choices) (moment_of : D → ℕ) (images_since : D → ℕ → Image → Type 0) (budget : ℕ) (state : State) (before : List Turn) (moment : ℕ) (asked : LineSeen) (links left : List LineLink) (wrote : List ℕ → Type 0) (first new : Machine D) : Type 0 where
   pub turns : List Turn
   pub line : List ℕ
-  pub does : Does moment asked link left turns line
+  pub does : Does moment asked links left turns line
   pub went : Went known sectors failures reads choices moment_of images_since budget state before turns first new
   pub text : wrote line
 
 -- A write failed on a line.
-pub record LineCut {D : Type 0} (known : Type 0) (sectors failures : D → ℕ) (reads : D → Image) (choices : D → Choices) (moment_of : D → ℕ) (images_since : D → ℕ → Image → Type 0) (budget : ℕ) (state : State) (before : List Turn) (moment : ℕ) (asked : LineSeen) (link : Link) (first new : Machine D) : Type 0 where
+pub record LineCut {D : Type 0} (known : Type 0) (sectors failures : D → ℕ) (reads : D → Image) (choices : D → Choices) (moment_of : D → ℕ) (images_since : D → ℕ → Image → Type 0) (budget : ℕ) (state : State) (before : List Turn) (moment : ℕ) (asked : LineSeen) (links : List LineLink) (first new : Machine D) : Type 0 where
   pub turns : List Turn
-  pub does : DoesPart moment asked link turns
+  pub does : DoesPart moment asked links turns
   pub went : Went known sectors failures reads choices moment_of images_since budget state before turns first new

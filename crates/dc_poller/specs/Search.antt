@@ -1,5 +1,5 @@
--- A search for meters through the gateway (this product): what waits is committed first, and nothing is selected while a readout of that line waits.
-use Rattle.std.specs.Prelude.{◌≡◌, ◌⊎◌, ℕ, ◌≤◌, IsTrue, Option, None, Some, IfSome, Result, Ok, Err, List, [], ◌∷◌, ◌++◌, codes, flat_map, map}
+-- A search for meters over a bus line (this product): what waits is committed first, and nothing is selected while a readout of that line waits.
+use Rattle.std.specs.Prelude.{◌≡◌, ◌⊎◌, ℕ, zero, suc, Bool, true, false, ◌-◌, ◌≤◌, IsTrue, Option, None, Some, IfSome, Result, Ok, Err, List, [], ◌∷◌, ◌++◌, codes, flat_map, map}
 use Rattle.dc_address.specs.Digits.{decimal_digits}
 use Rattle.dc_address.specs.Text.{decimal_code, text_of}
 use Rattle.dc_address.specs.declared.identity.Identity.{Identity}
@@ -16,7 +16,7 @@ use Rattle.dc_text.specs.Words.{number_word}
 use Rattle.dc_poller.specs.declared.halt.Halt.{Halt}
 use Rattle.dc_poller.specs.declared.halt.Halt.TheVariants.{Write, NoMemory}
 use Rattle.dc_poller.specs.Link.{Link, absent, linked, lost, loss_text}
-use Rattle.dc_poller.specs.Poll.{gateway_line}
+use Rattle.dc_poller.specs.declared.port.Port.{Port}
 
 -- ---- its text
 
@@ -40,6 +40,16 @@ selections_line count = codes "SELECTIONS" ++ number_word count ++ codes "\n"
 abbrev pub search_text : SearchState → List ℕ
 search_text search = flat_map found_line search.found ++ (flat_map shared_line search.shared ++ (budget_line (step_of search) ++ selections_line search.selections))
 
+-- that answers came late while it searched, where some did
+abbrev pub late_text : Port → ℕ → List ℕ
+late_text port zero = []
+late_text port (suc n) = codes "LATE" ++ number_word port.line ++ number_word (suc n) ++ codes "\n"
+
+-- how many did, by the counts of the bus before and after it; over a gateway none does
+abbrev pub late_by : Bool → ℕ → ℕ → ℕ
+late_by true before after = 0
+late_by false before after = after - before
+
 -- ---- what was searched
 
 -- A search that is over, within its budget: the exchanges are those of its steps, and it is what their answers lead to. Where the bus tells
@@ -55,7 +65,7 @@ pub record IsOver (meters : Option (List Identity)) (budget : ℕ) (link : Link)
 abbrev pub AreOfSearch : ℕ → List Exchange → Type 0
 AreOfSearch budget exchanges = (search : SearchState) × AreAskedBy (new_search budget) exchanges search
 
--- what may become of the gateway meanwhile
+-- what may become of the bus meanwhile
 abbrev pub IsLeft : Link → Link → Type 0
 IsLeft absent left = left ≡ absent
 IsLeft linked left = (left ≡ linked) ⊎ (left ≡ lost)
@@ -67,9 +77,9 @@ IsLeft lost left = left ≡ lost
 abbrev pub refused_turns : CommitFault → List Turn
 refused_turns fault = (commits, committed (Err fault)) ∷ []
 
--- it isn't, and so it is looked whether a request waits
-abbrev pub looked_turns : ℕ → Option (List ℕ) → List Turn
-looked_turns count request = (commits, committed (Ok count)) ∷ (asks gateway_line, asked request) ∷ []
+-- it isn't, and so it is looked whether a request of the line waits
+abbrev pub looked_turns : ℕ → ℕ → Option (List ℕ) → List Turn
+looked_turns line count request = (commits, committed (Ok count)) ∷ (asks line, asked request) ∷ []
 
 pub record IsRefused (link left : Link) (turns : List Turn) (exchanges : List Exchange) (text : List ℕ) : Type 0 where
   pub fault : CommitFault
@@ -79,58 +89,65 @@ pub record IsRefused (link left : Link) (turns : List Turn) (exchanges : List Ex
   pub left_is : left ≡ link
 
 -- a readout of the line waits, which a selection would begin anew
-pub record IsBusy (link left : Link) (turns : List Turn) (exchanges : List Exchange) (text : List ℕ) : Type 0 where
+pub record IsBusy (line : ℕ) (link left : Link) (turns : List Turn) (exchanges : List Exchange) (text : List ℕ) : Type 0 where
   pub count : ℕ
   pub request : List ℕ
-  pub turns_are : turns ≡ looked_turns count (Some request)
+  pub turns_are : turns ≡ looked_turns line count (Some request)
   pub text_is : text ≡ answer_text (started (Err Busy))
   pub unasked : exchanges ≡ []
   pub left_is : left ≡ link
 
--- none does: that the gateway was lost is told first
-pub record Finds (meters : Option (List Identity)) (budget : ℕ) (link left : Link) (turns : List Turn) (exchanges : List Exchange) (text : List ℕ) : Type 0 where
+-- none does: that the bus was lost is told first, and how many answers came late last
+pub record Finds (meters : Option (List Identity)) (port : Port) (budget late : ℕ) (link left : Link) (turns : List Turn) (exchanges : List Exchange) (text : List ℕ) : Type 0 where
   pub count : ℕ
   pub search : SearchState
-  pub turns_are : turns ≡ looked_turns count None
+  pub turns_are : turns ≡ looked_turns port.line count None
   pub over : IsOver meters budget link exchanges search
-  pub text_is : text ≡ loss_text link left ++ search_text search
+  pub text_is : text ≡ loss_text port link left ++ (search_text search ++ late_text port late)
   pub left_is : IsLeft link left
 
--- A SEARCH, over a bus that tells these meters or none.
-abbrev pub Searches : Option (List Identity) → ℕ → Link → Link → List Turn → List Exchange → List ℕ → Type 0
-Searches meters budget link left turns exchanges text =
-    IsRefused link left turns exchanges text ⊎ (IsBusy link left turns exchanges text ⊎ Finds meters budget link left turns exchanges text)
+-- A SEARCH, over a bus that tells these meters or none, on which so many answers came late.
+abbrev pub Searches : Option (List Identity) → Port → ℕ → ℕ → Link → Link → List Turn → List Exchange → List ℕ → Type 0
+Searches meters port budget late link left turns exchanges text =
+    IsRefused link left turns exchanges text ⊎ (IsBusy port.line link left turns exchanges text ⊎ Finds meters port budget late link left turns exchanges text)
+
+-- One over a line of a script: none comes late over a gateway.
+pub record SearchesOn (port : Port) (budget : ℕ) (link left : Link) (turns : List Turn) (text : List ℕ) : Type 0 where
+  pub late : ℕ
+  pub prompt : port.is_gateway ≡ true → late ≡ 0
+  pub exchanges : List Exchange
+  pub searches : Searches None port budget late link left turns exchanges text
 
 -- ---- where it ends the script
 
 -- A write failed: all its turns are done, as it writes after them, and where it searched, the search is done.
-abbrev pub SearchesPart : ℕ → List Turn → List Exchange → Type 0
-SearchesPart budget turns exchanges =
+abbrev pub SearchesPart : ℕ → ℕ → List Turn → List Exchange → Type 0
+SearchesPart line budget turns exchanges =
     ((fault : CommitFault) × (turns ≡ refused_turns fault) × (exchanges ≡ []))
-    ⊎ (((count : ℕ) × (request : List ℕ) × (turns ≡ looked_turns count (Some request)) × (exchanges ≡ []))
-    ⊎ ((count : ℕ) × (turns ≡ looked_turns count None) × AreOfSearch budget exchanges))
+    ⊎ (((count : ℕ) × (request : List ℕ) × (turns ≡ looked_turns line count (Some request)) × (exchanges ≡ []))
+    ⊎ ((count : ℕ) × (turns ≡ looked_turns line count None) × AreOfSearch budget exchanges))
 
 -- Memory was refused to it: nothing that it found is written.
-pub record Starves (budget : ℕ) (link left : Link) (turns : List Turn) (exchanges : List Exchange) (text : List ℕ) : Type 0 where
+pub record Starves (port : Port) (budget : ℕ) (link left : Link) (turns : List Turn) (exchanges : List Exchange) (text : List ℕ) : Type 0 where
   pub count : ℕ
-  pub turns_are : turns ≡ looked_turns count None
+  pub turns_are : turns ≡ looked_turns port.line count None
   pub asked : AreOfSearch budget exchanges
-  pub text_is : text ≡ loss_text link left
+  pub text_is : text ≡ loss_text port link left
   pub left_is : IsLeft link left
 
 -- ---- what a call of it comes to
 
 -- Over the bus, which is left like that: `talked` holds of the exchanges that happened to it.
-abbrev pub Talked : Option (List Identity) → ℕ → Link → Link → (List Exchange → Type 0) → (List ℕ → Type 0) → Result (Unit {0}) Halt → Type 0
-Talked meters budget link left talked wrote (Ok done) =
-    (exchanges : List Exchange) × (search : SearchState) × IsOver meters budget link exchanges search × IsLeft link left × talked exchanges × wrote (loss_text link left ++ search_text search)
-Talked meters budget link left talked wrote (Err Write) = (exchanges : List Exchange) × AreOfSearch budget exchanges × talked exchanges
-Talked meters budget link left talked wrote (Err NoMemory) = (exchanges : List Exchange) × AreOfSearch budget exchanges × IsLeft link left × talked exchanges × wrote (loss_text link left)
+abbrev pub Talked : Option (List Identity) → Port → ℕ → ℕ → Link → Link → (List Exchange → Type 0) → (List ℕ → Type 0) → Result (Unit {0}) Halt → Type 0
+Talked meters port budget late link left talked wrote (Ok done) =
+    (exchanges : List Exchange) × (search : SearchState) × IsOver meters budget link exchanges search × IsLeft link left × talked exchanges × wrote (loss_text port link left ++ (search_text search ++ late_text port late))
+Talked meters port budget late link left talked wrote (Err Write) = (exchanges : List Exchange) × AreOfSearch budget exchanges × talked exchanges
+Talked meters port budget late link left talked wrote (Err NoMemory) = (exchanges : List Exchange) × AreOfSearch budget exchanges × IsLeft link left × talked exchanges × wrote (loss_text port link left)
 
 -- with its turns
-abbrev pub Comes : Option (List Identity) → ℕ → Link → Link → (List Exchange → Type 0) → (List ℕ → Type 0) → Result (Unit {0}) Halt → List Turn → Type 0
-Comes meters budget link left talked wrote (Ok done) turns =
-    (text : List ℕ) × (exchanges : List Exchange) × Searches meters budget link left turns exchanges text × talked exchanges × wrote text
-Comes meters budget link left talked wrote (Err Write) turns = (exchanges : List Exchange) × SearchesPart budget turns exchanges × talked exchanges
-Comes meters budget link left talked wrote (Err NoMemory) turns =
-    (text : List ℕ) × (exchanges : List Exchange) × Starves budget link left turns exchanges text × talked exchanges × wrote text
+abbrev pub Comes : Option (List Identity) → Port → ℕ → ℕ → Link → Link → (List Exchange → Type 0) → (List ℕ → Type 0) → Result (Unit {0}) Halt → List Turn → Type 0
+Comes meters port budget late link left talked wrote (Ok done) turns =
+    (text : List ℕ) × (exchanges : List Exchange) × Searches meters port budget late link left turns exchanges text × talked exchanges × wrote text
+Comes meters port budget late link left talked wrote (Err Write) turns = (exchanges : List Exchange) × SearchesPart port.line budget turns exchanges × talked exchanges
+Comes meters port budget late link left talked wrote (Err NoMemory) turns =
+    (text : List ℕ) × (exchanges : List Exchange) × Starves port budget link left turns exchanges text × talked exchanges × wrote text

@@ -6,48 +6,47 @@ use Rattle.dc_core.specs.Transcript.{Turn}
 use Rattle.dc_sectors.specs.declared.device.Disk.{Ghosts}
 use Rattle.dc_sectors.specs.Disk.{Image, Choices}
 use Rattle.dc_poller.specs.ImageRun.{ImageWent}
-use Rattle.dc_poller.specs.Link.{Link}
-use Rattle.dc_poller.specs.Poll.{gateway_line}
-use Rattle.dc_poller.specs.Script.{AskFor, AreDone, Deed, IsThrough, deeds_text, deeds_turns, link_after}
+use Rattle.dc_poller.specs.Link.{LineLink, Through}
+use Rattle.dc_poller.specs.Script.{AskFor, AreDone, Deed, deeds_text, deeds_turns, links_after}
 use Rattle.dc_poller.specs.ScriptLine.{LineSeen, search, IsLineOf}
 use Rattle.dc_gateway.specs.Bus.{Exchange}
 use Rattle.dc_poller.specs.Search.{Starves}
 use Rattle.dc_poller.specs.Went.{Went}
 
--- the line is a search through the gateway, of which this was done
-pub record SearchStarves (asked : LineSeen) (link : Link) (deed : Deed) : Type 0 where
+-- the line is a search over a line with a bus, of which this was done
+pub record SearchStarves (asked : LineSeen) (links : List LineLink) (deed : Deed) : Type 0 where
   pub budget : ℕ
-  pub asked_is : asked ≡ search budget
-  pub through : IsThrough link gateway_line
+  pub line : ℕ
+  pub asked_is : asked ≡ search budget line
   pub exchanges : List Exchange
-  pub starves : Starves budget link deed.left deed.turns exchanges deed.text
+  pub starves : Through links deed.left line (λ port before after. Starves port budget before after deed.turns exchanges deed.text)
 
 -- it is the first of these lines
-abbrev pub StarvesAt : Link → List (List ℕ) → Deed → Type 0
-StarvesAt link [] deed = ⊥
-StarvesAt link (line ∷ rest) deed = (asked : LineSeen) × IsLineOf line asked × SearchStarves asked link deed
+abbrev pub StarvesAt : List LineLink → List (List ℕ) → Deed → Type 0
+StarvesAt links [] deed = ⊥
+StarvesAt links (line ∷ rest) deed = (asked : LineSeen) × IsLineOf line asked × SearchStarves asked links deed
 
 -- The lines before it are done, and what was written is their text and what it told.
-pub record ScriptStarved {D : Type 0} (known : Type 0) (sectors failures : D → ℕ) (reads : D → Image) (choices : D → Choices) (moment : D → ℕ) (images_since : D → ℕ → Image → Type 0) (budget : ℕ) (state : State) (before : List Turn) (link : Link) (lines : List (List ℕ)) (wrote : List ℕ → Type 0) (first new : Machine D) : Type 0 where
+pub record ScriptStarved {D : Type 0} (known : Type 0) (sectors failures : D → ℕ) (reads : D → Image) (choices : D → Choices) (moment : D → ℕ) (images_since : D → ℕ → Image → Type 0) (budget : ℕ) (state : State) (before : List Turn) (links : List LineLink) (lines : List (List ℕ)) (wrote : List ℕ → Type 0) (first new : Machine D) : Type 0 where
   pub asked : List LineSeen
   pub rest : List (List ℕ)
   pub are_read : AskFor lines asked rest
   pub deeds : List Deed
-  pub done : AreDone 0 link asked deeds
+  pub done : AreDone 0 links asked deeds
   pub last : Deed
-  pub starves : StarvesAt (link_after link deeds) rest last
+  pub starves : StarvesAt (links_after links deeds) rest last
   pub went : Went known sectors failures reads choices moment images_since budget state before (deeds_turns deeds ++ last.turns) first new
   pub text : wrote (deeds_text deeds ++ last.text)
 
 -- one line, with what it wrote
-pub record LineStarved {D : Type 0} (known : Type 0) (sectors failures : D → ℕ) (reads : D → Image) (choices : D → Choices) (moment : D → ℕ) (images_since : D → ℕ → Image → Type 0) (budget : ℕ) (state : State) (before : List Turn) (asked : LineSeen) (link : Link) (wrote : List ℕ → Type 0) (first new : Machine D) : Type 0 where
+pub record LineStarved {D : Type 0} (known : Type 0) (sectors failures : D → ℕ) (reads : D → Image) (choices : D → Choices) (moment : D → ℕ) (images_since : D → ℕ → Image → Type 0) (budget : ℕ) (state : State) (before : List Turn) (asked : LineSeen) (links : List LineLink) (wrote : List ℕ → Type 0) (first new : Machine D) : Type 0 where
   pub last : Deed
-  pub starves : SearchStarves asked link last
+  pub starves : SearchStarves asked links last
   pub went : Went known sectors failures reads choices moment images_since budget state before last.turns first new
   pub text : wrote last.text
 
 -- A run from the disk to the disk that ended so.
-abbrev pub ImageStarved : {D : Type 0} → Ghosts D → Link → Option (List ℕ) → (List ℕ → Type 0) → D → D → Type 0
-ImageStarved g link left wrote =
+abbrev pub ImageStarved : {D : Type 0} → Ghosts D → List LineLink → Option (List ℕ) → (List ℕ → Type 0) → D → D → Type 0
+ImageStarved g links left wrote =
     ImageWent g left (λ lines state first last.
-    ScriptStarved (g.keeps first.store.disk) g.sectors g.failures g.reads g.choices g.moment g.images_since first.house.budget state [] link lines wrote first last)
+    ScriptStarved (g.keeps first.store.disk) g.sectors g.failures g.reads g.choices g.moment g.images_since first.house.budget state [] links lines wrote first last)

@@ -5,8 +5,9 @@ ghost use Rattle.dc_address.specs.Digits.{decimal_digits};
 ghost use Rattle.dc_address.specs.Text.{decimal_code};
 ghost use Rattle.dc_stream.specs.Stream.{Wrote};
 ghost use Rattle.dc_search.specs.State.{step_of};
-ghost use Rattle.dc_poller.specs.Search.{budget_line, found_line, search_text, selections_line, shared_line};
+ghost use Rattle.dc_poller.specs.Search.{budget_line, found_line, late_text, search_text, selections_line, shared_line};
 
+use crate::port::Port;
 use dc_address::Identity;
 use dc_search::{Search, Step};
 use dc_stream::{IoFault, Sink};
@@ -95,6 +96,20 @@ fn put_selections<W: Sink>(count: u32, out: &mut W) -> Result<(), IoFault>
 {
     out.put(b"SELECTIONS")?;
     put_number_word(out, count as u64)?;
+    out.put(b"\n")
+}
+
+/// Puts how many answers came late, where some did.
+#[tactic(auto, using(dc_stream::proofs::Pieces::written))]
+pub fn put_late<W: Sink>(port: Port, late: u64, out: &mut W) -> Result<(), IoFault>
+    ensures { Wrote W.written W.put_failures result out.old out.new (late_text port late) }
+{
+    if late == 0 {
+        return Ok(());
+    }
+    out.put(b"LATE")?;
+    put_number_word(out, u64::from(port.line))?;
+    put_number_word(out, late)?;
     out.put(b"\n")
 }
 

@@ -1,7 +1,8 @@
 //! The engines of the program `mbdc` that work on an image, over any source and any sink of bytes.
 //!
-//! [`run_script`] reads the lines of a script ([`ScriptLine`]), opens an image and does what they ask for: a line is one
-//! event of a concentrator, the poll of a meter through a gateway, or a search for meters through it. What it writes, and
+//! [`run_script_over`] reads the lines of a script ([`ScriptLine`]), opens an image and does what they ask for: a line is one
+//! event of a concentrator, the poll of a meter over a bus line, or a search for meters over it. The buses of the lines
+//! are any [`ScriptBus`]; [`run_script`] has a gateway alone, behind line 1. What it writes, and
 //! what it leaves of the image at every moment, is what the run of these events writes and leaves (`specs/Script.antt`,
 //! `specs/Poll.antt`, `specs/Search.antt`, `specs/ImageRun.antt`).
 //!
@@ -19,18 +20,22 @@ mod found;
 mod halt;
 mod laws;
 mod poll;
+mod port;
 mod quiet;
 mod report;
 mod run;
 mod script;
+mod script_bus;
 mod script_line;
 mod searching;
 mod told;
 
 pub use fault::ProgramFault;
+pub use found::put_search;
 pub use halt::Halt;
 pub use laws::{a_run_is_one_life, a_script_line_asks_for_one_thing};
 pub use report::{Report, report_on};
-pub use run::run_script;
+pub use run::{run_script, run_script_over};
+pub use script_bus::{ScriptBus, Slot};
 pub use script_line::ScriptLine;
 pub use searching::search;

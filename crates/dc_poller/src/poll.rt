@@ -1,55 +1,102 @@
-//! `POLL`: the readout of a meter through the gateway.
+//! `POLL`: the readout of a meter over a bus line.
 
 ghost use Rattle.std.specs.Prelude.{◌≡◌, ◌≤◌, ℕ, true, false, [], IfOk, OnOk, OnErr, length};
 ghost use Rattle.dc_address.specs.declared.identity.Identity.{Identity as Meter};
 ghost use Rattle.dc_base.specs.Failures.{HasRisen};
 ghost use Rattle.dc_core.specs.Step.{longest_request};
-ghost use Rattle.dc_gateway.specs.Asking.{Asks};
 ghost use Rattle.dc_gateway.specs.Blocks.{most_answer};
 ghost use Rattle.dc_gateway.specs.Bus.{AreExchanged};
 ghost use Rattle.dc_stream.specs.Stream.{Puts, Wrote};
 ghost use Rattle.dc_poller.specs.Link.{Link, link_by, loss_text, IsHeardOver};
-ghost use Rattle.dc_poller.specs.Poll.{IsEnd, to_start, to_ask, to_send, to_hear, to_commit, to_make_room, to_hear_again, behind_heard, happened_exchanges};
+ghost use Rattle.dc_poller.specs.Poll.{IsEnd, IsPolled, to_start, to_ask, to_send, to_hear, to_commit, to_make_room, to_hear_again, behind_heard, happened_exchanges};
 ghost use Rattle.dc_poller.specs.Way.{FailsInLast, IsRound, Way};
 ghost use Rattle.dc_poller.specs.Went.{BehindAnyRun};
+ghost use Rattle.dc_poller.specs.declared.port.Port.{Port};
 
+use crate::port::{Port, put_lost};
+use crate::script_bus::ScriptBus;
 use crate::told::{told_ask, told_commit, told_hear, told_start};
 use dc_address::Identity;
 use dc_changes::Moment;
 use dc_core::{Concentrator, HearFault, LineHeard};
-use dc_gateway::{AnswerBuf, Gateway};
+use dc_gateway::AnswerBuf;
 use dc_linkframe::FrameBuf;
 use dc_sectors::Disk;
-use dc_stream::{IoFault, Sink, Source};
+use dc_stream::{IoFault, Sink};
 use std::alloc::Allocator;
-
-/// The bus line behind the gateway.
-pub const GATEWAY_LINE: u8 = 1;
 
 // No readout asks more often: three tries at a reset, a selection and each of 32 parts, and once more where nothing is to
 // be asked.
 const MOST_ROUNDS: usize = 103;
 
-/// Reads a meter through the gateway, at a moment.
-pub fn poll<D: Disk + Drop, A: Allocator + Copy, GR: Source + Drop, GW: Sink + Drop, W: Sink>(
+/// Reads a meter over a bus line, at a moment. The bus settles first, so that the readout begins where no answer is under
+/// way.
+pub fn poll<D: Disk + Drop, A: Allocator + Copy, B: ScriptBus, W: Sink>(
+    port: Port,
     concentrator: &mut Concentrator<D, A>,
-    gateway: &mut Gateway<GR, GW>,
+    bus: &mut B,
     meter: &Identity,
     moment: Moment,
     out: &mut W,
 ) -> Result<(), IoFault>
     ensures went { BehindAnyRun D.keeps D.sectors D.reads D.choices concentrator.old (λ origin state before.
-        Way (D.keeps origin) D.sectors D.failures D.reads D.choices D.moment D.images_since concentrator.old.house.budget state before moment.seconds meter.now (record { due = to_start; link = link_by gateway.old.lost })
-        (λ happened last. OnOk result (IsEnd happened last.due × (last.link ≡ link_by gateway.new.lost)) × OnErr result (FailsInLast W.Sink out.old out.new happened)
-        × AreExchanged (Asks GR.Source GW.Sink) gateway.old (happened_exchanges happened) gateway.new)
+        Way (D.keeps origin) D.sectors D.failures D.reads D.choices D.moment D.images_since concentrator.old.house.budget state before port moment.seconds meter.now (record { due = to_start; link = link_by (B.lost bus.old) })
+        (λ happened last. OnOk result (IsEnd happened last.due × (last.link ≡ link_by (B.lost bus.new))) × OnErr result (FailsInLast W.Sink port out.old out.new happened)
+        × IsPolled B.settles B.ready B.asks port bus.old (happened_exchanges happened) bus.new)
         (λ text. OnOk result (Puts (W.written out.old) (W.written out.new) text)) concentrator.old concentrator.new) }
     ensures fault { OnErr result (HasRisen (W.put_failures out.old) (W.put_failures out.new)) }
     ensures well { OnOk result (W.put_failures out.new ≡ W.put_failures out.old) }
     ensures budget { concentrator.new.house.budget ≡ concentrator.old.house.budget }
 {
-    match told_start(concentrator, GATEWAY_LINE, meter, out) {
+    match settle_bus(port, bus, out) {
+        Ok(()) => start_and_read(port, concentrator, bus, meter, moment, out),
+        Err(fault) => Err(fault),
+    }
+}
+
+// No answer of a gateway is under way, as each is ended. Where another bus is lost over it, that is printed.
+fn settle_bus<B: ScriptBus, W: Sink>(port: Port, bus: &mut B, out: &mut W) -> Result<(), IoFault>
+    ensures gateway { port.is_gateway ≡ true → bus.new ≡ bus.old }
+    ensures settled { port.is_gateway ≡ false
+        → B.settles bus.old bus.new × (B.ready bus.new ≡ true) }
+    ensures lost { B.lost bus.old ≡ true → B.lost bus.new ≡ true }
+    ensures told { Wrote W.written W.put_failures result out.old out.new
+        (loss_text port (link_by (B.lost bus.old)) (link_by (B.lost bus.new))) }
+    ensures unwritten { OnErr result ((port.is_gateway ≡ false)
+        × (B.lost bus.old ≡ false) × (B.lost bus.new ≡ true)) }
+{
+    if port.is_gateway {
+        return Ok(());
+    }
+    let was = bus.is_lost();
+    bus.settle();
+    if was || !bus.is_lost() {
+        return Ok(());
+    }
+    put_lost(port, out)
+}
+
+// The readout of a meter, over a bus that has settled.
+fn start_and_read<D: Disk + Drop, A: Allocator + Copy, B: ScriptBus, W: Sink>(
+    port: Port,
+    concentrator: &mut Concentrator<D, A>,
+    bus: &mut B,
+    meter: &Identity,
+    moment: Moment,
+    out: &mut W,
+) -> Result<(), IoFault>
+    ensures went { BehindAnyRun D.keeps D.sectors D.reads D.choices concentrator.old (λ origin state before.
+        Way (D.keeps origin) D.sectors D.failures D.reads D.choices D.moment D.images_since concentrator.old.house.budget state before port moment.seconds meter.now (record { due = to_start; link = link_by (B.lost bus.old) })
+        (λ happened last. OnOk result (IsEnd happened last.due × (last.link ≡ link_by (B.lost bus.new))) × OnErr result (FailsInLast W.Sink port out.old out.new happened)
+        × AreExchanged B.asks bus.old (happened_exchanges happened) bus.new)
+        (λ text. OnOk result (Puts (W.written out.old) (W.written out.new) text)) concentrator.old concentrator.new) }
+    ensures fault { OnErr result (HasRisen (W.put_failures out.old) (W.put_failures out.new)) }
+    ensures well { OnOk result (W.put_failures out.new ≡ W.put_failures out.old) }
+    ensures budget { concentrator.new.house.budget ≡ concentrator.old.house.budget }
+{
+    match told_start(concentrator, port.line, meter, out) {
         Ok(started) => match started {
-            Ok(()) => read_parts(concentrator, gateway, moment, out),
+            Ok(()) => read_parts(port, concentrator, bus, moment, out),
             Err(_) => Ok(()),
         },
         Err(fault) => Err(fault),
@@ -57,23 +104,24 @@ pub fn poll<D: Disk + Drop, A: Allocator + Copy, GR: Source + Drop, GW: Sink + D
 }
 
 // Round after round.
-fn read_parts<D: Disk + Drop, A: Allocator + Copy, GR: Source + Drop, GW: Sink + Drop, W: Sink>(
+fn read_parts<D: Disk + Drop, A: Allocator + Copy, B: ScriptBus, W: Sink>(
+    port: Port,
     concentrator: &mut Concentrator<D, A>,
-    gateway: &mut Gateway<GR, GW>,
+    bus: &mut B,
     moment: Moment,
     out: &mut W,
 ) -> Result<(), IoFault>
     ensures went { (meter : Meter) → BehindAnyRun D.keeps D.sectors D.reads D.choices concentrator.old (λ origin state before.
-        Way (D.keeps origin) D.sectors D.failures D.reads D.choices D.moment D.images_since concentrator.old.house.budget state before moment.seconds meter (record { due = to_ask; link = link_by gateway.old.lost })
-        (λ happened last. OnOk result (IsEnd happened last.due × (last.link ≡ link_by gateway.new.lost)) × OnErr result (FailsInLast W.Sink out.old out.new happened)
-        × AreExchanged (Asks GR.Source GW.Sink) gateway.old (happened_exchanges happened) gateway.new)
+        Way (D.keeps origin) D.sectors D.failures D.reads D.choices D.moment D.images_since concentrator.old.house.budget state before port moment.seconds meter (record { due = to_ask; link = link_by (B.lost bus.old) })
+        (λ happened last. OnOk result (IsEnd happened last.due × (last.link ≡ link_by (B.lost bus.new))) × OnErr result (FailsInLast W.Sink port out.old out.new happened)
+        × AreExchanged B.asks bus.old (happened_exchanges happened) bus.new)
         (λ text. OnOk result (Puts (W.written out.old) (W.written out.new) text)) concentrator.old concentrator.new) }
     ensures fault { OnErr result (HasRisen (W.put_failures out.old) (W.put_failures out.new)) }
     ensures well { OnOk result (W.put_failures out.new ≡ W.put_failures out.old) }
     ensures budget { concentrator.new.house.budget ≡ concentrator.old.house.budget }
 {
     'rounds: for _ in 0..MOST_ROUNDS {
-        match ask_and_hear(concentrator, gateway, moment, out) {
+        match ask_and_hear(port, concentrator, bus, moment, out) {
             Ok(more) => {
                 if !more {
                     return Ok(());
@@ -86,76 +134,80 @@ fn read_parts<D: Disk + Drop, A: Allocator + Copy, GR: Source + Drop, GW: Sink +
 }
 
 // One round: a request and its answer, which is committed where it is a part. Tells whether the poll goes on.
-fn ask_and_hear<D: Disk + Drop, A: Allocator + Copy, GR: Source + Drop, GW: Sink + Drop, W: Sink>(
+fn ask_and_hear<D: Disk + Drop, A: Allocator + Copy, B: ScriptBus, W: Sink>(
+    port: Port,
     concentrator: &mut Concentrator<D, A>,
-    gateway: &mut Gateway<GR, GW>,
+    bus: &mut B,
     moment: Moment,
     out: &mut W,
 ) -> Result<bool, IoFault>
     ensures went { (meter : Meter) → BehindAnyRun D.keeps D.sectors D.reads D.choices concentrator.old (λ origin state before.
-        Way (D.keeps origin) D.sectors D.failures D.reads D.choices D.moment D.images_since concentrator.old.house.budget state before moment.seconds meter (record { due = to_ask; link = link_by gateway.old.lost })
-        (λ happened last. IfOk result (λ more. IsRound more (link_by gateway.new.lost) 1 happened last) × OnErr result (FailsInLast W.Sink out.old out.new happened)
-        × AreExchanged (Asks GR.Source GW.Sink) gateway.old (happened_exchanges happened) gateway.new)
+        Way (D.keeps origin) D.sectors D.failures D.reads D.choices D.moment D.images_since concentrator.old.house.budget state before port moment.seconds meter (record { due = to_ask; link = link_by (B.lost bus.old) })
+        (λ happened last. IfOk result (λ more. IsRound more (link_by (B.lost bus.new)) 1 happened last) × OnErr result (FailsInLast W.Sink port out.old out.new happened)
+        × AreExchanged B.asks bus.old (happened_exchanges happened) bus.new)
         (λ text. OnOk result (Puts (W.written out.old) (W.written out.new) text)) concentrator.old concentrator.new) }
     ensures fault { OnErr result (HasRisen (W.put_failures out.old) (W.put_failures out.new)) }
     ensures well { OnOk result (W.put_failures out.new ≡ W.put_failures out.old) }
     ensures budget { concentrator.new.house.budget ≡ concentrator.old.house.budget }
 {
-    match told_ask(concentrator, GATEWAY_LINE, out) {
+    match told_ask(concentrator, port.line, out) {
         Ok(asked) => match asked {
-            Some(request) => exchange(concentrator, gateway, &request, moment, out),
+            Some(request) => exchange(port, concentrator, bus, &request, moment, out),
             None => Ok(false),
         },
         Err(fault) => Err(fault),
     }
 }
 
-// A request's way to the gateway, and the answer's way back.
-fn exchange<D: Disk + Drop, A: Allocator + Copy, GR: Source + Drop, GW: Sink + Drop, W: Sink>(
+// A request's way over the bus, and the answer's way back.
+fn exchange<D: Disk + Drop, A: Allocator + Copy, B: ScriptBus, W: Sink>(
+    port: Port,
     concentrator: &mut Concentrator<D, A>,
-    gateway: &mut Gateway<GR, GW>,
+    bus: &mut B,
     request: &FrameBuf,
     moment: Moment,
     out: &mut W,
 ) -> Result<bool, IoFault>
     requires { length request.now ≤ longest_request }
     ensures went { (meter : Meter) → BehindAnyRun D.keeps D.sectors D.reads D.choices concentrator.old (λ origin state before.
-        Way (D.keeps origin) D.sectors D.failures D.reads D.choices D.moment D.images_since concentrator.old.house.budget state before moment.seconds meter (record { due = to_send request.now; link = link_by gateway.old.lost })
-        (λ happened last. IfOk result (λ more. IsRound more (link_by gateway.new.lost) 0 happened last) × OnErr result (FailsInLast W.Sink out.old out.new happened)
-        × AreExchanged (Asks GR.Source GW.Sink) gateway.old (happened_exchanges happened) gateway.new)
+        Way (D.keeps origin) D.sectors D.failures D.reads D.choices D.moment D.images_since concentrator.old.house.budget state before port moment.seconds meter (record { due = to_send request.now; link = link_by (B.lost bus.old) })
+        (λ happened last. IfOk result (λ more. IsRound more (link_by (B.lost bus.new)) 0 happened last) × OnErr result (FailsInLast W.Sink port out.old out.new happened)
+        × AreExchanged B.asks bus.old (happened_exchanges happened) bus.new)
         (λ text. OnOk result (Puts (W.written out.old) (W.written out.new) text)) concentrator.old concentrator.new) }
     ensures fault { OnErr result (HasRisen (W.put_failures out.old) (W.put_failures out.new)) }
     ensures well { OnOk result (W.put_failures out.new ≡ W.put_failures out.old) }
     ensures budget { concentrator.new.house.budget ≡ concentrator.old.house.budget }
 {
-    match ask_gateway(gateway, request, out) {
-        Ok(answer) => hear(concentrator, moment, answer.as_slice(), out),
+    match ask_bus(port, bus, request, out) {
+        Ok(answer) => hear(port, concentrator, moment, answer.as_slice(), out),
         Err(fault) => Err(fault),
     }
 }
 
-// The gateway's answer. Where it is lost over it, that is told.
-fn ask_gateway<GR: Source + Drop, GW: Sink + Drop, W: Sink>(
-    gateway: &mut Gateway<GR, GW>,
+// The answer of the bus. Where the bus is lost over it, that is printed.
+fn ask_bus<B: ScriptBus, W: Sink>(
+    port: Port,
+    bus: &mut B,
     request: &FrameBuf,
     out: &mut W,
 ) -> Result<AnswerBuf, IoFault>
     requires { length request.now ≤ longest_request }
-    ensures lost { gateway.old.lost ≡ true → gateway.new.lost ≡ true }
-    ensures heard { IfOk result (λ answer. (length answer ≤ most_answer) × IsHeardOver (link_by gateway.new.lost) answer) }
+    ensures lost { B.lost bus.old ≡ true → B.lost bus.new ≡ true }
+    ensures heard { IfOk result (λ answer. (length answer ≤ most_answer)
+        × IsHeardOver (link_by (B.lost bus.new)) answer) }
     // The request goes out as it is, and the answer is what came to it; also where the loss isn't written.
-    ensures asked { IfOk result (λ answer. Asks GR.Source GW.Sink gateway.old request.now answer gateway.new) }
-    ensures unwritten { OnErr result ((gateway.old.lost ≡ false) × (gateway.new.lost ≡ true) × Asks GR.Source GW.Sink gateway.old request.now [] gateway.new) }
-    ensures told { Wrote W.written W.put_failures result out.old out.new (loss_text (link_by gateway.old.lost) (link_by gateway.new.lost)) }
+    ensures asked { IfOk result (λ answer. B.asks bus.old request.now answer bus.new) }
+    ensures unwritten { OnErr result ((B.lost bus.old ≡ false) × (B.lost bus.new ≡ true)
+        × B.asks bus.old request.now [] bus.new) }
+    ensures told { Wrote W.written W.put_failures result out.old out.new
+        (loss_text port (link_by (B.lost bus.old)) (link_by (B.lost bus.new))) }
 {
-    if gateway.is_lost() {
-        return Ok(AnswerBuf::new());
-    }
-    let answer = gateway.ask(request);
-    if !gateway.is_lost() {
+    let was = bus.is_lost();
+    let answer = bus.ask(request);
+    if was || !bus.is_lost() {
         return Ok(answer);
     }
-    match out.put(b"GATEWAY LOST\n") {
+    match put_lost(port, out) {
         Ok(()) => Ok(answer),
         Err(fault) => Err(fault),
     }
@@ -163,25 +215,26 @@ fn ask_gateway<GR: Source + Drop, GW: Sink + Drop, W: Sink>(
 
 // Hears an answer. Where too much waits, that is committed, and the answer is heard once more.
 fn hear<D: Disk + Drop, A: Allocator + Copy, W: Sink>(
+    port: Port,
     concentrator: &mut Concentrator<D, A>,
     moment: Moment,
     bytes: &[u8],
     out: &mut W,
 ) -> Result<bool, IoFault>
     ensures went { (meter : Meter) (link : Link) → BehindAnyRun D.keeps D.sectors D.reads D.choices concentrator.old (λ origin state before.
-        Way (D.keeps origin) D.sectors D.failures D.reads D.choices D.moment D.images_since concentrator.old.house.budget state before moment.seconds meter (record { due = to_hear bytes.now; link = link })
-        (λ happened last. IfOk result (λ more. IsRound more link 0 happened last) × OnErr result (FailsInLast W.Sink out.old out.new happened)
+        Way (D.keeps origin) D.sectors D.failures D.reads D.choices D.moment D.images_since concentrator.old.house.budget state before port moment.seconds meter (record { due = to_hear bytes.now; link = link })
+        (λ happened last. IfOk result (λ more. IsRound more link 0 happened last) × OnErr result (FailsInLast W.Sink port out.old out.new happened)
         × (happened_exchanges happened ≡ []))
         (λ text. OnOk result (Puts (W.written out.old) (W.written out.new) text)) concentrator.old concentrator.new) }
     ensures fault { OnErr result (HasRisen (W.put_failures out.old) (W.put_failures out.new)) }
     ensures well { OnOk result (W.put_failures out.new ≡ W.put_failures out.old) }
     ensures budget { concentrator.new.house.budget ≡ concentrator.old.house.budget }
 {
-    match told_hear(concentrator, GATEWAY_LINE, moment, bytes, out) {
+    match told_hear(concentrator, port.line, moment, bytes, out) {
         Ok(answer) => match answer {
-            Ok(heard) => settle(concentrator, Ok(heard), out),
+            Ok(heard) => after_heard(concentrator, Ok(heard), out),
             Err(fault) => match fault {
-                HearFault::PendingFull => hear_again(concentrator, moment, bytes, out),
+                HearFault::PendingFull => hear_again(port, concentrator, moment, bytes, out),
                 _ => Ok(false),
             },
         },
@@ -191,14 +244,15 @@ fn hear<D: Disk + Drop, A: Allocator + Copy, W: Sink>(
 
 // Makes room, and hears the answer again.
 fn hear_again<D: Disk + Drop, A: Allocator + Copy, W: Sink>(
+    port: Port,
     concentrator: &mut Concentrator<D, A>,
     moment: Moment,
     bytes: &[u8],
     out: &mut W,
 ) -> Result<bool, IoFault>
     ensures went { (meter : Meter) (link : Link) → BehindAnyRun D.keeps D.sectors D.reads D.choices concentrator.old (λ origin state before.
-        Way (D.keeps origin) D.sectors D.failures D.reads D.choices D.moment D.images_since concentrator.old.house.budget state before moment.seconds meter (record { due = to_make_room bytes.now; link = link })
-        (λ happened last. IfOk result (λ more. IsRound more link 0 happened last) × OnErr result (FailsInLast W.Sink out.old out.new happened)
+        Way (D.keeps origin) D.sectors D.failures D.reads D.choices D.moment D.images_since concentrator.old.house.budget state before port moment.seconds meter (record { due = to_make_room bytes.now; link = link })
+        (λ happened last. IfOk result (λ more. IsRound more link 0 happened last) × OnErr result (FailsInLast W.Sink port out.old out.new happened)
         × (happened_exchanges happened ≡ []))
         (λ text. OnOk result (Puts (W.written out.old) (W.written out.new) text)) concentrator.old concentrator.new) }
     ensures fault { OnErr result (HasRisen (W.put_failures out.old) (W.put_failures out.new)) }
@@ -207,7 +261,7 @@ fn hear_again<D: Disk + Drop, A: Allocator + Copy, W: Sink>(
 {
     match told_commit(concentrator, out) {
         Ok(committed) => match committed {
-            Ok(_) => hear_once_more(concentrator, moment, bytes, out),
+            Ok(_) => hear_once_more(port, concentrator, moment, bytes, out),
             Err(_) => Ok(false),
         },
         Err(fault) => Err(fault),
@@ -216,35 +270,36 @@ fn hear_again<D: Disk + Drop, A: Allocator + Copy, W: Sink>(
 
 // The answer that there is room for now.
 fn hear_once_more<D: Disk + Drop, A: Allocator + Copy, W: Sink>(
+    port: Port,
     concentrator: &mut Concentrator<D, A>,
     moment: Moment,
     bytes: &[u8],
     out: &mut W,
 ) -> Result<bool, IoFault>
     ensures went { (meter : Meter) (link : Link) → BehindAnyRun D.keeps D.sectors D.reads D.choices concentrator.old (λ origin state before.
-        Way (D.keeps origin) D.sectors D.failures D.reads D.choices D.moment D.images_since concentrator.old.house.budget state before moment.seconds meter (record { due = to_hear_again bytes.now; link = link })
-        (λ happened last. IfOk result (λ more. IsRound more link 0 happened last) × OnErr result (FailsInLast W.Sink out.old out.new happened)
+        Way (D.keeps origin) D.sectors D.failures D.reads D.choices D.moment D.images_since concentrator.old.house.budget state before port moment.seconds meter (record { due = to_hear_again bytes.now; link = link })
+        (λ happened last. IfOk result (λ more. IsRound more link 0 happened last) × OnErr result (FailsInLast W.Sink port out.old out.new happened)
         × (happened_exchanges happened ≡ []))
         (λ text. OnOk result (Puts (W.written out.old) (W.written out.new) text)) concentrator.old concentrator.new) }
     ensures fault { OnErr result (HasRisen (W.put_failures out.old) (W.put_failures out.new)) }
     ensures well { OnOk result (W.put_failures out.new ≡ W.put_failures out.old) }
     ensures budget { concentrator.new.house.budget ≡ concentrator.old.house.budget }
 {
-    match told_hear(concentrator, GATEWAY_LINE, moment, bytes, out) {
-        Ok(answer) => settle(concentrator, answer, out),
+    match told_hear(concentrator, port.line, moment, bytes, out) {
+        Ok(answer) => after_heard(concentrator, answer, out),
         Err(fault) => Err(fault),
     }
 }
 
 // Commits a part that was accepted. Tells whether the poll goes on.
-fn settle<D: Disk + Drop, A: Allocator + Copy, W: Sink>(
+fn after_heard<D: Disk + Drop, A: Allocator + Copy, W: Sink>(
     concentrator: &mut Concentrator<D, A>,
     answer: Result<LineHeard, HearFault>,
     out: &mut W,
 ) -> Result<bool, IoFault>
-    ensures went { (moment : ℕ) (meter : Meter) (link : Link) → BehindAnyRun D.keeps D.sectors D.reads D.choices concentrator.old (λ origin state before.
-        Way (D.keeps origin) D.sectors D.failures D.reads D.choices D.moment D.images_since concentrator.old.house.budget state before moment meter (record { due = behind_heard answer; link = link })
-        (λ happened last. IfOk result (λ more. IsRound more link 0 happened last) × OnErr result (FailsInLast W.Sink out.old out.new happened)
+    ensures went { (port : Port) (moment : ℕ) (meter : Meter) (link : Link) → BehindAnyRun D.keeps D.sectors D.reads D.choices concentrator.old (λ origin state before.
+        Way (D.keeps origin) D.sectors D.failures D.reads D.choices D.moment D.images_since concentrator.old.house.budget state before port moment meter (record { due = behind_heard answer; link = link })
+        (λ happened last. IfOk result (λ more. IsRound more link 0 happened last) × OnErr result (FailsInLast W.Sink port out.old out.new happened)
         × (happened_exchanges happened ≡ []))
         (λ text. OnOk result (Puts (W.written out.old) (W.written out.new) text)) concentrator.old concentrator.new) }
     ensures fault { OnErr result (HasRisen (W.put_failures out.old) (W.put_failures out.new)) }
@@ -266,9 +321,9 @@ fn commit_part<D: Disk + Drop, A: Allocator + Copy, W: Sink>(
     concentrator: &mut Concentrator<D, A>,
     out: &mut W,
 ) -> Result<bool, IoFault>
-    ensures went { (moment : ℕ) (meter : Meter) (link : Link) → BehindAnyRun D.keeps D.sectors D.reads D.choices concentrator.old (λ origin state before.
-        Way (D.keeps origin) D.sectors D.failures D.reads D.choices D.moment D.images_since concentrator.old.house.budget state before moment meter (record { due = to_commit; link = link })
-        (λ happened last. IfOk result (λ more. IsRound more link 0 happened last) × OnErr result (FailsInLast W.Sink out.old out.new happened)
+    ensures went { (port : Port) (moment : ℕ) (meter : Meter) (link : Link) → BehindAnyRun D.keeps D.sectors D.reads D.choices concentrator.old (λ origin state before.
+        Way (D.keeps origin) D.sectors D.failures D.reads D.choices D.moment D.images_since concentrator.old.house.budget state before port moment meter (record { due = to_commit; link = link })
+        (λ happened last. IfOk result (λ more. IsRound more link 0 happened last) × OnErr result (FailsInLast W.Sink port out.old out.new happened)
         × (happened_exchanges happened ≡ []))
         (λ text. OnOk result (Puts (W.written out.old) (W.written out.new) text)) concentrator.old concentrator.new) }
     ensures fault { OnErr result (HasRisen (W.put_failures out.old) (W.put_failures out.new)) }

@@ -1,6 +1,6 @@
 //! The engine of `run`: a script over an image, from a source's lines to a sink's text.
 
-ghost use Rattle.std.specs.Prelude.{◌≡◌, ◌≢◌, ◌⊎◌, ◌≤◌, ◌<◌, ◌*◌, length, vec_len, IfSome, IfOk, IfErr, MatchResult, OnOk, IsErrOf};
+ghost use Rattle.std.specs.Prelude.{◌≡◌, ◌≢◌, ◌∷◌, [], ◌⊎◌, ◌≤◌, ◌<◌, ◌*◌, length, vec_len, IfSome, IfOk, IfErr, MatchResult, OnOk, IsErrOf};
 ghost use Rattle.dc_base.specs.Failures.{HasRisen};
 ghost use Rattle.dc_recovery.specs.Halves.{half_len_of};
 ghost use Rattle.dc_recovery.specs.Refusal.{IsRefused, TellsOfImage};
@@ -11,14 +11,16 @@ ghost use Rattle.dc_stream.specs.Stream.{IsAtEnd, Puts};
 ghost use Rattle.dc_teller.specs.Lines.{longest_input_line, most_input};
 ghost use Rattle.dc_poller.specs.Fault.{IfOpen, IsOfReading, IsOfSearch};
 ghost use Rattle.dc_poller.specs.ImageRun.{ImageRan, ImageCut};
-ghost use Rattle.dc_poller.specs.Link.{link_at_first, link_of};
+ghost use Rattle.dc_poller.specs.Link.{link_at_first, links_of, only_gateway};
 ghost use Rattle.dc_poller.specs.Starved.{ImageStarved};
 
 use crate::fault::ProgramFault;
 use crate::halt::Halt;
 use crate::script::run_lines;
+use crate::script_bus::{ScriptBus, Slot};
+use dc_base::NoMemory;
 use dc_core::Concentrator;
-use dc_gateway::Gateway;
+use dc_gateway::{Bus, Gateway};
 use dc_sectors::Disk;
 use dc_stream::{Sink, Source, room};
 use dc_teller::{CHUNK, LONGEST, MOST, read_input};
@@ -29,25 +31,105 @@ use std::alloc::Allocator;
 /// spells nothing ends the script with `LINE i SYNTAX`, and the answer says whether there is one. The forms of the lines
 /// are those of [`ScriptLine`](crate::ScriptLine).
 ///
-/// Behind bus line 1 may be a gateway: the ends that its blocks are put to and taken from (their form is dc_gateway's).
-/// `POLL 1` reads a meter through it: each request goes out, its answer is heard at the script's moment, and each part that
-/// is accepted is committed; these events' answers are written like any other's. Where the gateway is lost, `GATEWAY LOST`
-/// is written once, and all is silence from then on. Without a gateway, and for another bus line, `POLL` writes `NO
-/// GATEWAY`.
+/// A bus line may have a bus: line n that of slot n - 1. `POLL n` reads a meter over it: the bus settles, each request goes
+/// out, its answer is heard at the script's moment, and each part that is accepted is committed; these events' answers are
+/// written like any other's. Where a bus is lost, `LINE n LOST` is written once, `GATEWAY LOST` for a gateway, and all is
+/// silence on that line from then on. For a line without a bus `POLL` writes `NO GATEWAY`.
 ///
-/// `SEARCH` searches for meters through the gateway, with at most so many selections. What waits is committed first; where
-/// that is refused, the refusal is written. Where a request of line 1 waits, `REFUSED 3 Busy` is written, as a selection
-/// would begin that readout anew. Else each meter found is written, each number that more than one meter has, whether the
-/// budget was spent, and how many selections were made. A meter whose answer is lost isn't found. Without a gateway
-/// `SEARCH` writes `NO GATEWAY`.
+/// `SEARCH` searches for meters over the bus of a line, with at most so many selections. What waits is committed first;
+/// where that is refused, the refusal is written. Where a request of the line waits, `REFUSED 3 Busy` is written, as a
+/// selection would begin that readout anew. Else each meter found is written, each number that more than one meter has,
+/// whether the budget was spent, how many selections were made, and as `LATE line n` how many answers came late, where
+/// some did. A meter whose answer is lost or late isn't found. For a line without a bus `SEARCH` writes `NO GATEWAY`.
 ///
-/// The whole script is read before the image is opened. The disk comes back whatever happens; the gateway's ends don't.
+/// The whole script is read before the image is opened. The disk comes back whatever happens.
 ///
 /// # Errors
 /// [`ProgramFault::Read`], [`ProgramFault::TooLong`] over 1 MiB and [`ProgramFault::NoMemory`], with disk and writer as
 /// they were; [`ProgramFault::NoMemory`] also where memory is refused to a search: the lines before it are done, what waited
-/// for a commit is committed, and of the search nothing but the gateway's loss is written; [`ProgramFault::Open`] where the image wasn't opened, with the writer as it was; [`ProgramFault::Write`]
-/// where the writer failed: the line at which it did is done, and none behind it.
+/// for a commit is committed, and of the search nothing but the loss of the bus is written; [`ProgramFault::Open`] where the
+/// image wasn't opened, with the writer as it was; [`ProgramFault::Write`] where the writer failed: the line at which it did
+/// is done, and none behind it.
+pub fn run_script_over<
+    D: Disk + Drop,
+    A: Allocator + Copy,
+    R: Source,
+    W: Sink,
+    B: ScriptBus + Drop,
+>(
+    alloc: A,
+    disk: D,
+    reader: &mut R,
+    writer: &mut W,
+    lines: &mut [Option<Slot<B>>],
+) -> (D, Result<bool, ProgramFault>)
+    // Where each image of the disk stands for some state: the run is that of the script's lines, of which exactly the text
+    // is written, and the image is left as that run leaves it.
+    ensures ran { (D.keeps disk → EachStands (half_len_of (D.sectors disk)) (D.choices disk))
+        → IfOk result.1 (λ faulty. ImageRan D.Disk (links_of B.lost lines.old) (R.left reader.old) faulty (Puts (W.written writer.old) (W.written writer.new)) disk result.0) }
+    ensures cut { (D.keeps disk → EachStands (half_len_of (D.sectors disk)) (D.choices disk))
+        → IsErrOf result.1 ProgramFault.Write → ImageCut D.Disk (links_of B.lost lines.old) (R.left reader.old) disk result.0 }
+    // Memory is refused before the image is opened, or to a search: then what is left of the image and the text are those of
+    // the run up to it.
+    ensures starved { (D.keeps disk → EachStands (half_len_of (D.sectors disk)) (D.choices disk))
+        → IsErrOf result.1 ProgramFault.NoMemory → ((result.0 ≡ disk) × (writer.new ≡ writer.old))
+        ⊎ ImageStarved D.Disk (links_of B.lost lines.old) (R.left reader.old) (Puts (W.written writer.old) (W.written writer.new)) disk result.0 }
+
+    // An image that isn't opened is refused as the store refuses it; one that stands is refused only as worn.
+    ensures small { D.sectors disk < 131 → MatchResult result.1 (λ faulty. ⊥) (λ fault. IfOpen fault (λ e. (e ≡ NotImage) × (result.0 ≡ disk))) }
+    ensures refused { D.keeps result.0 → 131 ≤ D.sectors disk → IfErr result.1 (λ fault. IfOpen fault (λ e. IsRefused (half_len_of (D.sectors disk)) (D.reads disk) e)) }
+    ensures premise { D.keeps result.0 → 131 ≤ D.sectors disk → EachStands (half_len_of (D.sectors disk)) (D.choices disk) → IfErr result.1 (λ fault. IfOpen fault (λ e. TellsOfImage e → e ≡ Worn)) }
+    ensures unwritten { IfErr result.1 (λ fault. IfOpen fault (λ e. TellsOfImage e → D.reads result.0 ≡ D.reads disk)) }
+    ensures device { IfErr result.1 (λ fault. IfOpen fault (λ e. e ≡ Device → HasRisen (D.failures disk) (D.failures result.0))) }
+    ensures any_moment { D.keeps result.0 → EachStands (half_len_of (D.sectors disk)) (D.choices disk)
+        → IfErr result.1 (λ fault. IfOpen fault (λ e. LeavesOnly D.moment D.images_since disk result.0 (StandsForOne (half_len_of (D.sectors disk)) (D.choices disk)))) }
+
+    // A script over the limit is refused, and no other is refused for its length.
+    ensures fits { OnOk result.1 (IfSome (R.left reader.old) (λ input. length input ≤ most_input)) }
+    ensures too_long { IsErrOf result.1 ProgramFault.TooLong → IfSome (R.left reader.old) (λ input. most_input < length input) }
+    // The image is opened after the whole script was read, and found within the limit.
+    ensures read_first { IfErr result.1 (λ fault. IfOpen fault (λ e. (R.take_failures reader.new ≡ R.take_failures reader.old) × IsAtEnd (R.left reader.new) × IfSome (R.left reader.old) (λ input. length input ≤ most_input))) }
+
+    // A fault of an end is told only where that end counted a failure.
+    ensures read { IsErrOf result.1 ProgramFault.Read → HasRisen (R.take_failures reader.old) (R.take_failures reader.new) }
+    ensures write { IsErrOf result.1 ProgramFault.Write → HasRisen (W.put_failures writer.old) (W.put_failures writer.new) }
+    ensures ok { OnOk result.1 ((R.take_failures reader.new ≡ R.take_failures reader.old) × (W.put_failures writer.new ≡ W.put_failures writer.old)) }
+
+    // What isn't read touches nothing, and after any fault but a failed write the writer is as it was; but for a search
+    // over a bus line, to which memory was refused.
+    ensures unread { IfErr result.1 (λ fault. IsOfReading fault → (result.0 ≡ disk) ⊎ IsOfSearch (links_of B.lost lines.old) fault) }
+    ensures untouched { IfErr result.1 (λ fault. fault ≢ ProgramFault.Write → (writer.new ≡ writer.old) ⊎ IsOfSearch (links_of B.lost lines.old) fault) }
+    ensures spared { IsErrOf result.1 ProgramFault.NoMemory → W.put_failures writer.new ≡ W.put_failures writer.old }
+{
+    let (input, mut bytes) = match read_script(alloc, reader) {
+        Ok(read) => read,
+        Err(fault) => return (disk, Err(fault)),
+    };
+    let mut concentrator = match Concentrator::open(alloc, disk) {
+        Ok(concentrator) => concentrator,
+        Err((fault, disk)) => return (disk, Err(ProgramFault::Open(fault))),
+    };
+    match run_lines(
+        alloc,
+        &mut concentrator,
+        lines,
+        input.as_slice(),
+        bytes.as_mut_slice(),
+        writer,
+    ) {
+        Ok(faulty) => (concentrator.close(), Ok(faulty)),
+        Err(halt) => match halt {
+            Halt::Write => (concentrator.close(), Err(ProgramFault::Write)),
+            Halt::NoMemory => (concentrator.close(), Err(ProgramFault::NoMemory)),
+        },
+    }
+}
+
+/// Runs a script as [`run_script_over`] does, where line 1 alone may have a bus: a gateway of these ends, that its blocks
+/// are put to and taken from (their form is dc_gateway's). The ends don't come back.
+///
+/// # Errors
+/// Those of [`run_script_over`].
 pub fn run_script<
     D: Disk + Drop,
     A: Allocator + Copy,
@@ -65,14 +147,14 @@ pub fn run_script<
     // Where each image of the disk stands for some state: the run is that of the script's lines, of which exactly the text
     // is written, and the image is left as that run leaves it.
     ensures ran { (D.keeps disk → EachStands (half_len_of (D.sectors disk)) (D.choices disk))
-        → IfOk result.1 (λ faulty. ImageRan D.Disk (link_at_first gateway) (R.left reader.old) faulty (Puts (W.written writer.old) (W.written writer.new)) disk result.0) }
+        → IfOk result.1 (λ faulty. ImageRan D.Disk (only_gateway (link_at_first gateway)) (R.left reader.old) faulty (Puts (W.written writer.old) (W.written writer.new)) disk result.0) }
     ensures cut { (D.keeps disk → EachStands (half_len_of (D.sectors disk)) (D.choices disk))
-        → IsErrOf result.1 ProgramFault.Write → ImageCut D.Disk (link_at_first gateway) (R.left reader.old) disk result.0 }
+        → IsErrOf result.1 ProgramFault.Write → ImageCut D.Disk (only_gateway (link_at_first gateway)) (R.left reader.old) disk result.0 }
     // Memory is refused before the image is opened, or to a search: then what is left of the image and the text are those of
     // the run up to it.
     ensures starved { (D.keeps disk → EachStands (half_len_of (D.sectors disk)) (D.choices disk))
         → IsErrOf result.1 ProgramFault.NoMemory → ((result.0 ≡ disk) × (writer.new ≡ writer.old))
-        ⊎ ImageStarved D.Disk (link_at_first gateway) (R.left reader.old) (Puts (W.written writer.old) (W.written writer.new)) disk result.0 }
+        ⊎ ImageStarved D.Disk (only_gateway (link_at_first gateway)) (R.left reader.old) (Puts (W.written writer.old) (W.written writer.new)) disk result.0 }
 
     // An image that isn't opened is refused as the store refuses it; one that stands is refused only as worn.
     ensures small { D.sectors disk < 131 → MatchResult result.1 (λ faulty. ⊥) (λ fault. IfOpen fault (λ e. (e ≡ NotImage) × (result.0 ≡ disk))) }
@@ -96,33 +178,15 @@ pub fn run_script<
 
     // What isn't read touches nothing, and after any fault but a failed write the writer is as it was; but for a search
     // through a gateway, to which memory was refused.
-    ensures unread { IfErr result.1 (λ fault. IsOfReading fault → (result.0 ≡ disk) ⊎ IsOfSearch (link_at_first gateway) fault) }
-    ensures untouched { IfErr result.1 (λ fault. fault ≢ ProgramFault.Write → (writer.new ≡ writer.old) ⊎ IsOfSearch (link_at_first gateway) fault) }
+    ensures unread { IfErr result.1 (λ fault. IsOfReading fault → (result.0 ≡ disk) ⊎ IsOfSearch (only_gateway (link_at_first gateway)) fault) }
+    ensures untouched { IfErr result.1 (λ fault. fault ≢ ProgramFault.Write → (writer.new ≡ writer.old) ⊎ IsOfSearch (only_gateway (link_at_first gateway)) fault) }
     ensures spared { IsErrOf result.1 ProgramFault.NoMemory → W.put_failures writer.new ≡ W.put_failures writer.old }
 {
-    let (input, mut bytes) = match read_script(alloc, reader) {
-        Ok(read) => read,
-        Err(fault) => return (disk, Err(fault)),
+    let mut lines = match only_line(alloc, gateway) {
+        Ok(lines) => lines,
+        Err(NoMemory) => return (disk, Err(ProgramFault::NoMemory)),
     };
-    let mut concentrator = match Concentrator::open(alloc, disk) {
-        Ok(concentrator) => concentrator,
-        Err((fault, disk)) => return (disk, Err(ProgramFault::Open(fault))),
-    };
-    let mut gateway = joined(gateway);
-    match run_lines(
-        alloc,
-        &mut concentrator,
-        &mut gateway,
-        input.as_slice(),
-        bytes.as_mut_slice(),
-        writer,
-    ) {
-        Ok(faulty) => (concentrator.close(), Ok(faulty)),
-        Err(halt) => match halt {
-            Halt::Write => (concentrator.close(), Err(ProgramFault::Write)),
-            Halt::NoMemory => (concentrator.close(), Err(ProgramFault::NoMemory)),
-        },
-    }
+    run_script_over(alloc, disk, reader, writer, lines.as_mut_slice())
 }
 
 // The whole script, and room for an answer's bytes.
@@ -148,12 +212,31 @@ fn read_script<A: Allocator + Copy, R: Source>(
     Ok((input, bytes))
 }
 
-// A gateway of these ends.
-fn joined<GR: Source + Drop, GW: Sink + Drop>(gateway: Option<(GR, GW)>) -> Option<Gateway<GR, GW>>
-    ensures { link_of result ≡ link_at_first gateway }
+// The lines of a script of which line 1 alone may have a bus: a gateway of these ends.
+fn only_line<A: Allocator + Copy, GR: Source + Drop, GW: Sink + Drop>(
+    alloc: A,
+    gateway: Option<(GR, GW)>,
+) -> Result<Vec<Option<Slot<Gateway<GR, GW>>>, A>, NoMemory>
+    ensures { IfOk result (λ lines. links_of ⟦<Gateway<GR, GW> as Bus>⟧.lost lines.items
+        ≡ only_gateway (link_at_first gateway)) }
+{
+    let mut lines = Vec::new(alloc);
+    lines.push(joined(gateway))?;
+    Ok(lines)
+}
+
+// The slot of a gateway of these ends.
+fn joined<GR: Source + Drop, GW: Sink + Drop>(
+    gateway: Option<(GR, GW)>,
+) -> Option<Slot<Gateway<GR, GW>>>
+    ensures { links_of ⟦<Gateway<GR, GW> as Bus>⟧.lost (result ∷ [])
+        ≡ only_gateway (link_at_first gateway) }
 {
     match gateway {
-        Some((reader, writer)) => Some(Gateway::new(reader, writer)),
+        Some((reader, writer)) => Some(Slot {
+            bus: Gateway::new(reader, writer),
+            is_gateway: true,
+        }),
         None => None,
     }
 }

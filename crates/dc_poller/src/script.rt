@@ -1,6 +1,6 @@
 //! The lines of a script, one by one through a concentrator.
 
-ghost use Rattle.std.specs.Prelude.{◌≡◌, ◌≢◌, ◌≤◌, ◌*◌, ◌++◌, codes, length, IfOk, OnOk, OnErr};
+ghost use Rattle.std.specs.Prelude.{◌≡◌, ◌⊎◌, ◌≤◌, ◌<◌, ◌*◌, ◌++◌, ℕ, suc, List, codes, length, IfOk, IfSome, IfNone, OnOk, OnErr};
 ghost use Rattle.dc_base.specs.Failures.{HasRisen};
 ghost use Rattle.dc_core.specs.Run.{event_of};
 ghost use Rattle.dc_core.specs.Text.{answer_text};
@@ -8,44 +8,47 @@ ghost use Rattle.dc_stream.specs.Stream.{Puts, Wrote};
 ghost use Rattle.dc_text.specs.Words.{number_word};
 ghost use Rattle.dc_teller.specs.Lines.{lines_of, longest_input_line};
 ghost use Rattle.dc_poller.specs.Halt.{IsCounted, OnNoMemory, OnWrite};
-ghost use Rattle.dc_poller.specs.Link.{absent, link_of};
-ghost use Rattle.dc_poller.specs.Script.{ScriptCut, ScriptRan, LineCut, LineRan, moment_behind};
-ghost use Rattle.dc_poller.specs.ScriptLine.{IsPlain, seen};
+ghost use Rattle.dc_poller.specs.Link.{AreAbsent, LineLink, absent, line_in, line_of, links_of, with_link};
+ghost use Rattle.dc_poller.specs.Slots.{IsKept};
+ghost use Rattle.dc_poller.specs.Script.{ScriptCut, ScriptRan, LineCut, LineRan, moment_behind, no_gateway};
+ghost use Rattle.dc_poller.specs.ScriptLine.{IsPlain, poll as polls, search as searches, seen};
 ghost use Rattle.dc_poller.specs.Starved.{LineStarved, ScriptStarved};
 ghost use Rattle.dc_poller.specs.Went.{BehindAnyRun, TurnWent};
 
 use crate::halt::{Halt, written};
-use crate::poll::{GATEWAY_LINE, poll};
+use crate::poll::poll;
+use crate::port::Port;
+use crate::script_bus::{ScriptBus, Slot};
 use crate::script_line::ScriptLine;
-use crate::searching::search;
+use crate::searching::search_on;
+use dc_address::Identity;
 use dc_changes::Moment;
 use dc_core::{Concentrator, Event, WriteFault};
-use dc_gateway::Gateway;
 use dc_sectors::Disk;
-use dc_stream::{IoFault, Sink, Source};
+use dc_stream::{IoFault, Sink};
 use dc_teller::first_line;
 use dc_text::put_number_word;
 use std::alloc::Allocator;
 
 /// Runs the lines of an input, up to the first that spells nothing, and says whether there is one. `bytes` is room for an
 /// answer.
-pub fn run_lines<D: Disk + Drop, A: Allocator + Copy, GR: Source + Drop, GW: Sink + Drop, W: Sink>(
+pub fn run_lines<D: Disk + Drop, A: Allocator + Copy, B: ScriptBus + Drop, W: Sink>(
     alloc: A,
     concentrator: &mut Concentrator<D, A>,
-    gateway: &mut Option<Gateway<GR, GW>>,
+    slots: &mut [Option<Slot<B>>],
     input: &[u8],
     bytes: &mut [u8],
     out: &mut W,
 ) -> Result<bool, Halt>
     requires { longest_input_line ≤ 2 * length bytes.old }
     ensures ran { BehindAnyRun D.keeps D.sectors D.reads D.choices concentrator.old (λ origin state before.
-        IfOk result (λ faulty. ScriptRan (D.keeps origin) D.sectors D.failures D.reads D.choices D.moment D.images_since concentrator.old.house.budget state before (link_of gateway.old) (lines_of input.now) faulty (Puts (W.written out.old) (W.written out.new)) concentrator.old concentrator.new)) }
+        IfOk result (λ faulty. ScriptRan (D.keeps origin) D.sectors D.failures D.reads D.choices D.moment D.images_since concentrator.old.house.budget state before (links_of B.lost slots.old) (lines_of input.now) faulty (Puts (W.written out.old) (W.written out.new)) concentrator.old concentrator.new)) }
     ensures cut { BehindAnyRun D.keeps D.sectors D.reads D.choices concentrator.old (λ origin state before.
-        OnWrite result (ScriptCut (D.keeps origin) D.sectors D.failures D.reads D.choices D.moment D.images_since concentrator.old.house.budget state before (link_of gateway.old) (lines_of input.now) concentrator.old concentrator.new)) }
+        OnWrite result (ScriptCut (D.keeps origin) D.sectors D.failures D.reads D.choices D.moment D.images_since concentrator.old.house.budget state before (links_of B.lost slots.old) (lines_of input.now) concentrator.old concentrator.new)) }
     ensures starved { BehindAnyRun D.keeps D.sectors D.reads D.choices concentrator.old (λ origin state before.
-        OnNoMemory result (ScriptStarved (D.keeps origin) D.sectors D.failures D.reads D.choices D.moment D.images_since concentrator.old.house.budget state before (link_of gateway.old) (lines_of input.now) (Puts (W.written out.old) (W.written out.new)) concentrator.old concentrator.new)) }
-    // Memory is refused to a search alone, which needs a gateway.
-    ensures through { OnNoMemory result (link_of gateway.old ≢ absent) }
+        OnNoMemory result (ScriptStarved (D.keeps origin) D.sectors D.failures D.reads D.choices D.moment D.images_since concentrator.old.house.budget state before (links_of B.lost slots.old) (lines_of input.now) (Puts (W.written out.old) (W.written out.new)) concentrator.old concentrator.new)) }
+    // Memory is refused to a search alone, which needs a line that has a bus.
+    ensures through { OnNoMemory result (¬ (AreAbsent (links_of B.lost slots.old))) }
     ensures counted { IsCounted result (W.put_failures out.old) (W.put_failures out.new) }
 {
     let mut rest = input;
@@ -59,7 +62,7 @@ pub fn run_lines<D: Disk + Drop, A: Allocator + Copy, GR: Source + Drop, GW: Sin
                 Err(IoFault) => Err(Halt::Write),
             };
         };
-        if let Err(halt) = run_line(alloc, concentrator, gateway, &asked, moment, out) {
+        if let Err(halt) = run_line(alloc, concentrator, slots, &asked, moment, out) {
             return Err(halt);
         }
         moment = moment_behind(&asked, moment);
@@ -70,62 +73,55 @@ pub fn run_lines<D: Disk + Drop, A: Allocator + Copy, GR: Source + Drop, GW: Sin
 }
 
 // Does what a line asks for, at a moment.
-fn run_line<D: Disk + Drop, A: Allocator + Copy, GR: Source + Drop, GW: Sink + Drop, W: Sink>(
+fn run_line<D: Disk + Drop, A: Allocator + Copy, B: ScriptBus + Drop, W: Sink>(
     alloc: A,
     concentrator: &mut Concentrator<D, A>,
-    gateway: &mut Option<Gateway<GR, GW>>,
+    slots: &mut [Option<Slot<B>>],
     asked: &ScriptLine<'_>,
     moment: Moment,
     out: &mut W,
 ) -> Result<(), Halt>
     ensures ran { BehindAnyRun D.keeps D.sectors D.reads D.choices concentrator.old (λ origin state before.
-        OnOk result (LineRan (D.keeps origin) D.sectors D.failures D.reads D.choices D.moment D.images_since concentrator.old.house.budget state before moment.seconds (seen asked.now) (link_of gateway.old) (link_of gateway.new) (Puts (W.written out.old) (W.written out.new)) concentrator.old concentrator.new)) }
+        OnOk result (LineRan (D.keeps origin) D.sectors D.failures D.reads D.choices D.moment D.images_since concentrator.old.house.budget state before moment.seconds (seen asked.now) (links_of B.lost slots.old) (links_of B.lost slots.new) (Puts (W.written out.old) (W.written out.new)) concentrator.old concentrator.new)) }
     ensures cut { BehindAnyRun D.keeps D.sectors D.reads D.choices concentrator.old (λ origin state before.
-        OnWrite result (LineCut (D.keeps origin) D.sectors D.failures D.reads D.choices D.moment D.images_since concentrator.old.house.budget state before moment.seconds (seen asked.now) (link_of gateway.old) concentrator.old concentrator.new)) }
+        OnWrite result (LineCut (D.keeps origin) D.sectors D.failures D.reads D.choices D.moment D.images_since concentrator.old.house.budget state before moment.seconds (seen asked.now) (links_of B.lost slots.old) concentrator.old concentrator.new)) }
     ensures starved { BehindAnyRun D.keeps D.sectors D.reads D.choices concentrator.old (λ origin state before.
-        OnNoMemory result (LineStarved (D.keeps origin) D.sectors D.failures D.reads D.choices D.moment D.images_since concentrator.old.house.budget state before (seen asked.now) (link_of gateway.old) (Puts (W.written out.old) (W.written out.new)) concentrator.old concentrator.new)) }
-    ensures through { OnNoMemory result (link_of gateway.old ≢ absent) }
-    ensures absent { link_of gateway.old ≡ absent → link_of gateway.new ≡ absent }
+        OnNoMemory result (LineStarved (D.keeps origin) D.sectors D.failures D.reads D.choices D.moment D.images_since concentrator.old.house.budget state before (seen asked.now) (links_of B.lost slots.old) (Puts (W.written out.old) (W.written out.new)) concentrator.old concentrator.new)) }
+    ensures through { OnNoMemory result (¬ (AreAbsent (links_of B.lost slots.old))) }
+    ensures absent { AreAbsent (links_of B.lost slots.old) → AreAbsent (links_of B.lost slots.new) }
     ensures counted { IsCounted result (W.put_failures out.old) (W.put_failures out.new) }
     ensures budget { concentrator.new.house.budget ≡ concentrator.old.house.budget }
 {
     match *asked {
-        ScriptLine::Search { budget } => match gateway {
-            Some(gateway) => search(alloc, concentrator, gateway, budget, out),
-            None => written(out.put(b"NO GATEWAY\n")),
-        },
-        _ => written(run_plain(concentrator, gateway, asked, moment, out)),
+        ScriptLine::Search { budget, line } => {
+            search_line(alloc, concentrator, slots, budget, line, out)
+        }
+        _ => written(run_plain(concentrator, slots, asked, moment, out)),
     }
 }
 
 // Does what a line asks for that is no search, at a moment.
-fn run_plain<D: Disk + Drop, A: Allocator + Copy, GR: Source + Drop, GW: Sink + Drop, W: Sink>(
+fn run_plain<D: Disk + Drop, A: Allocator + Copy, B: ScriptBus + Drop, W: Sink>(
     concentrator: &mut Concentrator<D, A>,
-    gateway: &mut Option<Gateway<GR, GW>>,
+    slots: &mut [Option<Slot<B>>],
     asked: &ScriptLine<'_>,
     moment: Moment,
     out: &mut W,
 ) -> Result<(), IoFault>
     requires { IsPlain (seen asked.now) }
     ensures ran { BehindAnyRun D.keeps D.sectors D.reads D.choices concentrator.old (λ origin state before.
-        OnOk result (LineRan (D.keeps origin) D.sectors D.failures D.reads D.choices D.moment D.images_since concentrator.old.house.budget state before moment.seconds (seen asked.now) (link_of gateway.old) (link_of gateway.new) (Puts (W.written out.old) (W.written out.new)) concentrator.old concentrator.new)) }
+        OnOk result (LineRan (D.keeps origin) D.sectors D.failures D.reads D.choices D.moment D.images_since concentrator.old.house.budget state before moment.seconds (seen asked.now) (links_of B.lost slots.old) (links_of B.lost slots.new) (Puts (W.written out.old) (W.written out.new)) concentrator.old concentrator.new)) }
     ensures cut { BehindAnyRun D.keeps D.sectors D.reads D.choices concentrator.old (λ origin state before.
-        OnErr result (LineCut (D.keeps origin) D.sectors D.failures D.reads D.choices D.moment D.images_since concentrator.old.house.budget state before moment.seconds (seen asked.now) (link_of gateway.old) concentrator.old concentrator.new)) }
+        OnErr result (LineCut (D.keeps origin) D.sectors D.failures D.reads D.choices D.moment D.images_since concentrator.old.house.budget state before moment.seconds (seen asked.now) (links_of B.lost slots.old) concentrator.old concentrator.new)) }
     ensures fault { OnErr result (HasRisen (W.put_failures out.old) (W.put_failures out.new)) }
     ensures well { OnOk result (W.put_failures out.new ≡ W.put_failures out.old) }
-    ensures absent { link_of gateway.old ≡ absent → link_of gateway.new ≡ absent }
+    ensures absent { AreAbsent (links_of B.lost slots.old) → AreAbsent (links_of B.lost slots.new) }
     ensures budget { concentrator.new.house.budget ≡ concentrator.old.house.budget }
 {
     match *asked {
         ScriptLine::Nothing | ScriptLine::At { .. } | ScriptLine::Search { .. } => Ok(()),
         ScriptLine::Poll { line, meter } => {
-            if line != GATEWAY_LINE {
-                return out.put(b"NO GATEWAY\n");
-            }
-            match gateway {
-                Some(gateway) => poll(concentrator, gateway, &meter, moment, out),
-                None => out.put(b"NO GATEWAY\n"),
-            }
+            poll_line(concentrator, slots, line, &meter, moment, out)
         }
         ScriptLine::Start { line, meter } => {
             run_event(concentrator, &Event::Start { line, meter }, out)
@@ -143,6 +139,140 @@ fn run_plain<D: Disk + Drop, A: Allocator + Copy, GR: Source + Drop, GW: Sink + 
         ScriptLine::Office { text } => run_event(concentrator, &Event::Office { text }, out),
     }
 }
+
+// ---- over the bus of a line
+
+// A poll.
+fn poll_line<D: Disk + Drop, A: Allocator + Copy, B: ScriptBus + Drop, W: Sink>(
+    concentrator: &mut Concentrator<D, A>,
+    slots: &mut [Option<Slot<B>>],
+    line: u8,
+    meter: &Identity,
+    moment: Moment,
+    out: &mut W,
+) -> Result<(), IoFault>
+    ensures ran { BehindAnyRun D.keeps D.sectors D.reads D.choices concentrator.old (λ origin state before.
+        OnOk result (LineRan (D.keeps origin) D.sectors D.failures D.reads D.choices D.moment D.images_since concentrator.old.house.budget state before moment.seconds (polls line meter.now) (links_of B.lost slots.old) (links_of B.lost slots.new) (Puts (W.written out.old) (W.written out.new)) concentrator.old concentrator.new)) }
+    ensures cut { BehindAnyRun D.keeps D.sectors D.reads D.choices concentrator.old (λ origin state before.
+        OnErr result (LineCut (D.keeps origin) D.sectors D.failures D.reads D.choices D.moment D.images_since concentrator.old.house.budget state before moment.seconds (polls line meter.now) (links_of B.lost slots.old) concentrator.old concentrator.new)) }
+    ensures fault { OnErr result (HasRisen (W.put_failures out.old) (W.put_failures out.new)) }
+    ensures well { OnOk result (W.put_failures out.new ≡ W.put_failures out.old) }
+    ensures absent { AreAbsent (links_of B.lost slots.old) → AreAbsent (links_of B.lost slots.new) }
+    ensures budget { concentrator.new.house.budget ≡ concentrator.old.house.budget }
+{
+    match index_of(line, slots.len()) {
+        Some(at) => poll_slot(concentrator, &mut slots[at], line, meter, moment, out),
+        None => put_no_bus(out),
+    }
+}
+
+// A poll over a line that may have a bus.
+fn poll_slot<D: Disk + Drop, A: Allocator + Copy, B: ScriptBus + Drop, W: Sink>(
+    concentrator: &mut Concentrator<D, A>,
+    slot: &mut Option<Slot<B>>,
+    line: u8,
+    meter: &Identity,
+    moment: Moment,
+    out: &mut W,
+) -> Result<(), IoFault>
+    ensures ran { (links : List LineLink) → line_in links line ≡ line_of B.lost slot.old → BehindAnyRun D.keeps D.sectors D.reads D.choices concentrator.old (λ origin state before.
+        OnOk result (LineRan (D.keeps origin) D.sectors D.failures D.reads D.choices D.moment D.images_since concentrator.old.house.budget state before moment.seconds (polls line meter.now) links (with_link links line (line_of B.lost slot.new).link) (Puts (W.written out.old) (W.written out.new)) concentrator.old concentrator.new)) }
+    ensures cut { (links : List LineLink) → line_in links line ≡ line_of B.lost slot.old → BehindAnyRun D.keeps D.sectors D.reads D.choices concentrator.old (λ origin state before.
+        OnErr result (LineCut (D.keeps origin) D.sectors D.failures D.reads D.choices D.moment D.images_since concentrator.old.house.budget state before moment.seconds (polls line meter.now) links concentrator.old concentrator.new)) }
+    ensures fault { OnErr result (HasRisen (W.put_failures out.old) (W.put_failures out.new)) }
+    ensures well { OnOk result (W.put_failures out.new ≡ W.put_failures out.old) }
+    ensures kept { IsKept B.lost slot.old slot.new }
+    ensures budget { concentrator.new.house.budget ≡ concentrator.old.house.budget }
+{
+    match slot {
+        Some(slot) => {
+            let port = Port {
+                line,
+                is_gateway: slot.is_gateway,
+            };
+            poll(port, concentrator, &mut slot.bus, meter, moment, out)
+        }
+        None => put_no_bus(out),
+    }
+}
+
+// A search.
+fn search_line<D: Disk + Drop, A: Allocator + Copy, B: ScriptBus + Drop, W: Sink>(
+    alloc: A,
+    concentrator: &mut Concentrator<D, A>,
+    slots: &mut [Option<Slot<B>>],
+    budget: u32,
+    line: u8,
+    out: &mut W,
+) -> Result<(), Halt>
+    ensures ran { (moment : ℕ) → BehindAnyRun D.keeps D.sectors D.reads D.choices concentrator.old (λ origin state before.
+        OnOk result (LineRan (D.keeps origin) D.sectors D.failures D.reads D.choices D.moment D.images_since concentrator.old.house.budget state before moment (searches budget line) (links_of B.lost slots.old) (links_of B.lost slots.new) (Puts (W.written out.old) (W.written out.new)) concentrator.old concentrator.new)) }
+    ensures cut { (moment : ℕ) → BehindAnyRun D.keeps D.sectors D.reads D.choices concentrator.old (λ origin state before.
+        OnWrite result (LineCut (D.keeps origin) D.sectors D.failures D.reads D.choices D.moment D.images_since concentrator.old.house.budget state before moment (searches budget line) (links_of B.lost slots.old) concentrator.old concentrator.new)) }
+    ensures starved { BehindAnyRun D.keeps D.sectors D.reads D.choices concentrator.old (λ origin state before.
+        OnNoMemory result (LineStarved (D.keeps origin) D.sectors D.failures D.reads D.choices D.moment D.images_since concentrator.old.house.budget state before (searches budget line) (links_of B.lost slots.old) (Puts (W.written out.old) (W.written out.new)) concentrator.old concentrator.new)) }
+    ensures through { OnNoMemory result (¬ (AreAbsent (links_of B.lost slots.old))) }
+    ensures absent { AreAbsent (links_of B.lost slots.old) → AreAbsent (links_of B.lost slots.new) }
+    ensures counted { IsCounted result (W.put_failures out.old) (W.put_failures out.new) }
+    ensures budget { concentrator.new.house.budget ≡ concentrator.old.house.budget }
+{
+    match index_of(line, slots.len()) {
+        Some(at) => search_slot(alloc, concentrator, &mut slots[at], budget, line, out),
+        None => written(put_no_bus(out)),
+    }
+}
+
+// A search over a line that may have a bus.
+fn search_slot<D: Disk + Drop, A: Allocator + Copy, B: ScriptBus + Drop, W: Sink>(
+    alloc: A,
+    concentrator: &mut Concentrator<D, A>,
+    slot: &mut Option<Slot<B>>,
+    budget: u32,
+    line: u8,
+    out: &mut W,
+) -> Result<(), Halt>
+    ensures ran { (links : List LineLink) (moment : ℕ) → line_in links line ≡ line_of B.lost slot.old → BehindAnyRun D.keeps D.sectors D.reads D.choices concentrator.old (λ origin state before.
+        OnOk result (LineRan (D.keeps origin) D.sectors D.failures D.reads D.choices D.moment D.images_since concentrator.old.house.budget state before moment (searches budget line) links (with_link links line (line_of B.lost slot.new).link) (Puts (W.written out.old) (W.written out.new)) concentrator.old concentrator.new)) }
+    ensures cut { (links : List LineLink) (moment : ℕ) → line_in links line ≡ line_of B.lost slot.old → BehindAnyRun D.keeps D.sectors D.reads D.choices concentrator.old (λ origin state before.
+        OnWrite result (LineCut (D.keeps origin) D.sectors D.failures D.reads D.choices D.moment D.images_since concentrator.old.house.budget state before moment (searches budget line) links concentrator.old concentrator.new)) }
+    ensures starved { (links : List LineLink) → line_in links line ≡ line_of B.lost slot.old → BehindAnyRun D.keeps D.sectors D.reads D.choices concentrator.old (λ origin state before.
+        OnNoMemory result (LineStarved (D.keeps origin) D.sectors D.failures D.reads D.choices D.moment D.images_since concentrator.old.house.budget state before (searches budget line) links (Puts (W.written out.old) (W.written out.new)) concentrator.old concentrator.new)) }
+    ensures through { OnNoMemory result (¬ ((line_of B.lost slot.old).link ≡ absent)) }
+    ensures kept { IsKept B.lost slot.old slot.new }
+    ensures counted { IsCounted result (W.put_failures out.old) (W.put_failures out.new) }
+    ensures budget { concentrator.new.house.budget ≡ concentrator.old.house.budget }
+{
+    match slot {
+        Some(slot) => {
+            let port = Port {
+                line,
+                is_gateway: slot.is_gateway,
+            };
+            search_on(alloc, port, concentrator, &mut slot.bus, budget, out)
+        }
+        None => written(put_no_bus(out)),
+    }
+}
+
+// A line has no bus.
+fn put_no_bus<W: Sink>(out: &mut W) -> Result<(), IoFault>
+    ensures { Wrote W.written W.put_failures result out.old out.new no_gateway }
+{
+    out.put(b"NO GATEWAY\n")
+}
+
+// Where the slot of a line lies among so many. They are numbered from 1.
+fn index_of(line: u8, count: usize) -> Option<usize>
+    ensures found { IfSome result (λ at. (at < count) × (line ≡ suc at)) }
+    ensures none { IfNone result ((line ≡ 0) ⊎ (count < line)) }
+{
+    if line == 0 || usize::from(line) > count {
+        return None;
+    }
+    Some(usize::from(line) - 1)
+}
+
+// ---- events
 
 // One event, and the text of its answer.
 fn run_event<D: Disk + Drop, A: Allocator + Copy, W: Sink>(

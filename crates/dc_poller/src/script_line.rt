@@ -8,12 +8,15 @@ ghost use Rattle.dc_changes.specs.Line.{IsOfBytes};
 ghost use Rattle.dc_changes.specs.Valid.{end_of_numbers};
 ghost use Rattle.dc_text.specs.Hex.{bytes_of};
 ghost use Rattle.dc_teller.specs.Lines.{longest_input_line};
-ghost use Rattle.dc_poller.specs.ScriptLine.{LineSeen, IsLineOf, at, start, ask, hear, poll, search, seen, greatest_line};
+ghost use Rattle.dc_poller.specs.ScriptLine.{LineSeen, IsLineOf, at, start, ask, hear, poll, search, seen, greatest_budget, greatest_line};
 
 use dc_address::Identity;
 use dc_changes::{Moment, parse_number, split_word};
 use dc_teller::LONGEST;
 use dc_text::decode_hex;
+
+// The line of a search that names none.
+const FIRST_LINE: u8 = 1;
 
 /// What a line of a script asks for.
 #[derive(Clone, Copy)]
@@ -32,10 +35,10 @@ pub enum ScriptLine<'a> {
     Commit,
     /// `OFFICE` and a space: what stands behind it is a line of the office.
     Office { text: &'a [u8] },
-    /// `POLL line ident`: a meter is read through the gateway.
+    /// `POLL line ident`: a meter is read over the bus of its line.
     Poll { line: u8, meter: Identity },
-    /// `SEARCH budget`: meters are searched for through the gateway.
-    Search { budget: u32 },
+    /// `SEARCH budget line`: meters are searched for over the bus of a line; `SEARCH budget` is one of line 1.
+    Search { budget: u32, line: u8 },
 }
 
 impl<'a> ScriptLine<'a> {
@@ -70,8 +73,8 @@ impl<'a> ScriptLine<'a> {
         if let Some((line, meter)) = parse_poll(text) {
             return Some(ScriptLine::Poll { line, meter });
         }
-        if let Some(budget) = parse_search(text) {
-            return Some(ScriptLine::Search { budget });
+        if let Some((budget, line)) = parse_search(text) {
+            return Some(ScriptLine::Search { budget, line });
         }
         let (line, answer) = parse_hear(text, room)?;
         Some(ScriptLine::Hear { line, answer })
@@ -116,14 +119,17 @@ fn parse_poll(text: &[u8]) -> Option<(u8, Identity)>
     parse_meter_on_line(words)
 }
 
-fn parse_search(text: &[u8]) -> Option<u32>
+fn parse_search(text: &[u8]) -> Option<(u32, u8)>
     requires { length text.now ≤ longest_input_line }
-    ensures found { IfSome result (λ budget. IsLineOf text.now (search budget)) }
-    ensures only { (budget : ℕ) → IsLineOf text.now (search budget) → IsSome result }
+    ensures found { IfSome result (λ told. IsLineOf text.now (search told.0 told.1)) }
+    ensures only { (budget line : ℕ) → IsLineOf text.now (search budget line) → IsSome result }
 {
-    let word = text.strip_prefix(b"SEARCH ".as_slice())?;
-    let budget = parse_up_to(word, u64::from(u32::MAX))?;
-    Some(budget as u32)
+    let words = behind_search(text)?;
+    let Some((budget, line)) = split_word(words) else {
+        return Some((parse_budget(words)?, FIRST_LINE));
+    };
+    let budget = parse_budget(budget)?;
+    Some((budget, parse_line_number(line)?))
 }
 
 fn parse_hear<'a>(text: &[u8], room: &'a mut [u8]) -> Option<(u8, &'a [u8])>
@@ -147,6 +153,13 @@ fn behind_hear(text: &[u8]) -> Option<&[u8]>
     text.strip_prefix(b"HEAR ".as_slice())
 }
 
+fn behind_search(text: &[u8]) -> Option<&[u8]>
+    ensures found { IfSome result (λ words. text.now ≡ codes "SEARCH" ++ 32 ∷ words.now) }
+    ensures only { (words : List ℕ) → text.now ≡ codes "SEARCH" ++ 32 ∷ words → IsSome result }
+{
+    text.strip_prefix(b"SEARCH ".as_slice())
+}
+
 fn behind_office(text: &[u8]) -> Option<&[u8]>
     ensures found { IfSome result (λ line. text.now ≡ codes "OFFICE" ++ 32 ∷ line.now) }
     ensures only { (line : List ℕ) → text.now ≡ codes "OFFICE" ++ 32 ∷ line → IsSome result }
@@ -167,6 +180,14 @@ fn parse_up_to(word: &[u8], most: u64) -> Option<u64>
         return None;
     }
     Some(number)
+}
+
+fn parse_budget(word: &[u8]) -> Option<u32>
+    ensures found { IfSome result (λ budget. (budget ≤ greatest_budget) × (word.now ≡ decimal budget)) }
+    ensures only { (budget : ℕ) → budget ≤ greatest_budget → word.now ≡ decimal budget → result ≡ Some budget }
+{
+    let budget = parse_up_to(word, u64::from(u32::MAX))?;
+    Some(budget as u32)
 }
 
 fn parse_line_number(word: &[u8]) -> Option<u8>

@@ -21,6 +21,7 @@ mod laws;
 mod search;
 mod step;
 
+pub use answer::meter_of;
 pub use bus::sweep;
 pub use fault::SearchFault;
 pub use laws::searches_end;

@@ -15,9 +15,10 @@ use dc_stream::{IoFault, Sink, Source, room};
 use dc_text::decode_hex;
 use std::alloc::Allocator;
 
-// The bytes of a line's digits, and how many. `digits` is room for the line without its spaces.
+/// The bytes of a line's digits, and how many; none where it isn't pairs of hex digits, or is too long. `digits` is room
+/// for the line without its spaces.
 #[tactic(auto, unfolding(crate::specs::Text::decoded))]
-fn decode_line(line: &[u8], digits: &mut [u8], bytes: &mut [u8]) -> Option<usize>
+pub fn decode_line(line: &[u8], digits: &mut [u8], bytes: &mut [u8]) -> Option<usize>
     requires digits { longest_input_line ≤ length digits.old }
     requires bytes { most_spelled ≤ length bytes.old }
     ensures count { IfSome result (λ n. n ≤ most_spelled) }

@@ -24,9 +24,9 @@ fn front_len(bytes: &[u8]) -> usize
     }
 }
 
-// The text at the front of bytes, and what follows it.
+/// The text at the front of a line's bytes that is read as one frame, and what follows it.
 #[tactic(auto, using(crate::proofs::Cuts::cuts))]
-fn first_frame(bytes: &[u8]) -> (&[u8], &[u8])
+pub fn first_frame(bytes: &[u8]) -> (&[u8], &[u8])
     requires { 0 < length bytes.now }
     ensures frames { frames_of bytes.now ≡ result.0.now ∷ frames_of result.1.now }
     ensures shorter { length result.1.now < length bytes.now }
@@ -34,8 +34,8 @@ fn first_frame(bytes: &[u8]) -> (&[u8], &[u8])
     bytes.split_at(front_len(bytes))
 }
 
-// The frame that the text spells, or its fault.
-fn read(text: &[u8]) -> Result<Frame<'_>, FrameFault>
+/// The frame that the text spells, or its fault.
+pub fn read(text: &[u8]) -> Result<Frame<'_>, FrameFault>
     ensures { MatchResult result (λ frame. read_as text.now ≡ Ok (seen frame)) (λ fault. read_as text.now ≡ Err fault) }
 {
     parse(text)

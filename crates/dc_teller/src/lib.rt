@@ -14,7 +14,7 @@
 //! caller gives it a sink that gathers these, as [`Buffered`](dc_text::Buffered).
 //!
 //! How an input is read and comes apart into lines is here for whatever else reads lines: [`read_input`],
-//! [`first_line`].
+//! [`first_line`], [`decode_line`], [`first_frame`], [`read_frame`].
 //!
 //! Laws of these texts: [`lines_end_at_feeds`]; [`hex_is_read_back`]; [`frames_are_told_in_turn`], by which a line's
 //! bytes come apart into texts without loss, and frames that follow one another are told one by one; and
@@ -33,9 +33,10 @@ mod seen;
 mod spaces;
 mod telegram;
 
-pub use decode::decode_lines;
+pub use decode::{decode_line, decode_lines};
 pub use fault::TellFault;
 pub use fold::fold_lines;
+pub use frames::{first_frame, put_frames, read as read_frame};
 pub use input::{CHUNK, MOST, read_input};
 pub use laws::{
     an_input_has_one_fold, frames_are_told_in_turn, hex_is_read_back, lines_end_at_feeds,

@@ -1,40 +1,54 @@
-use Rattle.std.proofs.Common.{inl, refl, ap, subst, ◌∙◌, Result, Ok, Err}
+use Rattle.std.proofs.Common.{List, ◌++◌, ap, sym, subst, ◌∙◌, refl}
+use Rattle.dc_gateway.specs.Bus.{AreExchanged, Exchange}
 use Rattle.dc_stream.specs.Stream.{Puts}
 use Rattle.dc_stream.proofs.Pieces.{puts-both}
-use Rattle.dc_core.specs.Event.{starts, started}
-use Rattle.dc_core.specs.declared.fault.StartFault.{StartFault}
 use Rattle.dc_poller.specs.Link.{link_by}
-use Rattle.dc_poller.specs.Poll.{does, to_start, told_text}
+use Rattle.dc_poller.specs.Poll.{to_start, rounds_in, happened_exchanges}
 use Rattle.dc_poller.proofs.LineRuns.{on_ok}
-use Rattle.dc_poller.proofs.Ways.{way_turn, turn_then, turn_last, end_grows, fails_in_one, if_fails_later}
+use Rattle.dc_poller.proofs.Wents.{went_none}
+use Rattle.dc_poller.proofs.Ways.{way_as, way_settled, way_then, if_fails_after, end_after, exchanges_append, settles_unasked, settles_in_no_round, settle_fails, not_a_gateway}
 use Rattle.dc_poller.proofs.poll.poll.Goals as goal
 
-pub returns-in-Ok-started-clause-went : goal.returns-in-Ok-started-clause-went
-returns-in-Ok-started-clause-went g c origin state before chain at =
+pub returns-in-Ok-clause-went : goal.returns-in-Ok-clause-went
+returns-in-Ok-clause-went g c origin state before chain at =
     let w = g.W.Sink.written in
     let w0 = w c.args.out.now in
-    let w1 = w c.told_start.new.out in
-    let w2 = w c.read_parts.new.out in
-    let one = c.in-Ok.ensures.went origin state before chain at in
-    let told = subst (λ (a : Result (Unit {0}) StartFault). Puts w0 w1 (told_text (started a))) c.in-Ok-started.is one.is_such.1 in
-    turn_then (g.D.Disk.keeps origin) g.D.Disk.sectors g.D.Disk.failures g.D.Disk.reads g.D.Disk.choices g.D.Disk.moment g.D.Disk.images_since c.args.concentrator.now.house.budget state before c.args.moment.seconds c.args.meter.now to_start (link_by c.args.gateway.now.lost) (starts 1 c.args.meter.now) _ (started (Ok c.in-Ok-started.field-0)) _ _ _ _ c.args.concentrator.now c.told_start.new.concentrator c.read_parts.new.concentrator
-    refl one (λ answer s. s.0 ∙ ap started c.in-Ok-started.is) c.told_start.ensures.budget (λ behind ch a. c.read_parts.ensures.went c.args.meter.now origin state behind ch a)
+    let w1 = w c.settle_bus.new.out in
+    let w2 = w c.start_and_read.new.out in
+    let was = g.B.Bus.lost c.args.bus.now in
+    let is = g.B.Bus.lost c.settle_bus.new.bus in
+    let one = way_settled (g.D.Disk.keeps origin) g.D.Disk.sectors g.D.Disk.failures g.D.Disk.reads g.D.Disk.choices g.D.Disk.moment g.D.Disk.images_since c.args.concentrator.now.house.budget state before c.args.port c.args.moment.seconds c.args.meter.now was is (Puts w0 w1) c.args.concentrator.now (went_none (g.D.Disk.keeps origin) g.D.Disk.sectors g.D.Disk.failures g.D.Disk.reads g.D.Disk.choices g.D.Disk.moment g.D.Disk.images_since c.args.concentrator.now.house.budget state before c.args.concentrator.now chain at (λ h image left. g.met.D.Disk.only_now c.args.concentrator.now.store.disk image left)) c.settle_bus.ensures.lost
+    (λ linked_before lost_after. not_a_gateway g.B.Bus.lost c.args.port.is_gateway c.args.bus.now c.settle_bus.new.bus c.settle_bus.ensures.gateway linked_before lost_after) c.in-Ok.ensures.told.0 in
+    way_then (g.D.Disk.keeps origin) g.D.Disk.sectors g.D.Disk.failures g.D.Disk.reads g.D.Disk.choices g.D.Disk.moment g.D.Disk.images_since c.args.concentrator.now.house.budget state before c.args.port c.args.moment.seconds c.args.meter.now _ (record { due = to_start; link = link_by is }) _ _ _ _ _ _ c.args.concentrator.now c.args.concentrator.now c.start_and_read.new.concentrator
+    one one.ends_so.1 refl (λ behind ch a. c.start_and_read.ensures.went origin state behind ch a)
     (λ more last e. (
-      end_grows c.read_parts.result (link_by c.read_parts.new.gateway.lost) (does (starts 1 c.args.meter.now, started (Ok c.in-Ok-started.field-0))) more last refl e.0,
-      if_fails_later g.W.Sink c.read_parts.result c.args.out.now c.told_start.new.out c.read_parts.new.out (starts 1 c.args.meter.now, started (Ok c.in-Ok-started.field-0)) more told c.in-Ok.ensures.well e.1,
-      e.2,
+      end_after c.start_and_read.result (link_by (g.B.Bus.lost c.start_and_read.new.bus)) one.happened more last (ap rounds_in one.ends_so.0 ∙ settles_in_no_round was is) e.0,
+      if_fails_after g.W.Sink c.args.port c.start_and_read.result c.args.out.now c.settle_bus.new.out c.start_and_read.new.out one.happened more one.text c.in-Ok.ensures.told.1 e.1,
+      record {
+        between = c.settle_bus.new.bus;
+        gateway = c.settle_bus.ensures.gateway;
+        settled = c.settle_bus.ensures.settled;
+        exchanged = subst (λ (xs : List Exchange). AreExchanged g.B.Bus.asks c.settle_bus.new.bus xs c.start_and_read.new.bus)
+            (sym (exchanges_append one.happened more ∙ ap (λ (xs : List Exchange). xs ++ happened_exchanges more) (ap happened_exchanges one.ends_so.0 ∙ settles_unasked was is))) e.2;
+      },
     ))
-    (λ more m. on_ok c.read_parts.result _ _ (λ p. puts-both w0 w1 w2 (told_text (started (Ok c.in-Ok-started.field-0))) more told p) m)
-
-pub returns-in-Err-started-clause-went : goal.returns-in-Err-started-clause-went
-returns-in-Err-started-clause-went g c origin state before chain at =
-    let w0 = g.W.Sink.written c.args.out.now in
-    let w1 = g.W.Sink.written c.told_start.new.out in
-    let one = c.in-Ok.ensures.went origin state before chain at in
-    turn_last (g.D.Disk.keeps origin) g.D.Disk.sectors g.D.Disk.failures g.D.Disk.reads g.D.Disk.choices g.D.Disk.moment g.D.Disk.images_since c.args.concentrator.now.house.budget state before c.args.moment.seconds c.args.meter.now to_start (link_by c.args.gateway.now.lost) (starts 1 c.args.meter.now) _ (started (Err c.in-Err-started.field-0)) _ _ c.args.concentrator.now c.told_start.new.concentrator
-    refl one (λ answer s. s.0 ∙ ap started c.in-Err-started.is) ((inl refl, refl), tt, refl) (subst (λ (a : Result (Unit {0}) StartFault). Puts w0 w1 (told_text (started a))) c.in-Err-started.is one.is_such.1)
+    (λ text more p m. on_ok c.start_and_read.result _ _ (λ q. puts-both w0 w1 w2 text more p q) m)
 
 pub returns-in-Err-clause-went : goal.returns-in-Err-clause-went
 returns-in-Err-clause-went g c origin state before chain at =
-    way_turn (g.D.Disk.keeps origin) g.D.Disk.sectors g.D.Disk.failures g.D.Disk.reads g.D.Disk.choices g.D.Disk.moment g.D.Disk.images_since c.args.concentrator.now.house.budget state before c.args.moment.seconds c.args.meter.now to_start (link_by c.args.gateway.now.lost) (starts 1 c.args.meter.now) _ _ _ c.args.concentrator.now c.told_start.new.concentrator
-    refl (c.told_start.ensures.went origin state before chain at) (λ answer is. (tt, fails_in_one g.W.Sink c.args.out.now c.told_start.new.out (does (starts 1 c.args.meter.now, answer)) c.in-Err.ensures.fault, refl)) (λ answer is. tt)
+    let was = g.B.Bus.lost c.args.bus.now in
+    let is = g.B.Bus.lost c.settle_bus.new.bus in
+    let lost_so = c.in-Err.ensures.unwritten in
+    let one = way_settled (g.D.Disk.keeps origin) g.D.Disk.sectors g.D.Disk.failures g.D.Disk.reads g.D.Disk.choices g.D.Disk.moment g.D.Disk.images_since c.args.concentrator.now.house.budget state before c.args.port c.args.moment.seconds c.args.meter.now was is (λ text. Unit {0}) c.args.concentrator.now (went_none (g.D.Disk.keeps origin) g.D.Disk.sectors g.D.Disk.failures g.D.Disk.reads g.D.Disk.choices g.D.Disk.moment g.D.Disk.images_since c.args.concentrator.now.house.budget state before c.args.concentrator.now chain at (λ h image left. g.met.D.Disk.only_now c.args.concentrator.now.store.disk image left)) c.settle_bus.ensures.lost (λ linked_before lost_after. lost_so.0) tt in
+    way_as (g.D.Disk.keeps origin) g.D.Disk.sectors g.D.Disk.failures g.D.Disk.reads g.D.Disk.choices g.D.Disk.moment g.D.Disk.images_since c.args.concentrator.now.house.budget state before c.args.port c.args.moment.seconds c.args.meter.now _ _ _ _ _ c.args.concentrator.now c.args.concentrator.now one
+    (λ happened last e. (
+      tt,
+      settle_fails g.W.Sink c.args.port c.args.out.now c.settle_bus.new.out was is happened lost_so.1 lost_so.2 e.0 c.in-Err.ensures.told.3,
+      record {
+        between = c.settle_bus.new.bus;
+        gateway = c.settle_bus.ensures.gateway;
+        settled = c.settle_bus.ensures.settled;
+        exchanged = subst (λ (xs : List Exchange). AreExchanged g.B.Bus.asks c.settle_bus.new.bus xs c.settle_bus.new.bus) (sym (ap happened_exchanges e.0 ∙ settles_unasked was is)) refl;
+      },
+    ))
+    (λ text p. tt)

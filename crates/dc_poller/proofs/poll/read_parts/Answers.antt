@@ -1,6 +1,5 @@
 use Rattle.std.proofs.Common.{inl, inr, arith, ℕ, refl, ap, subst, ◌∙◌, Bool}
 use Rattle.dc_stream.proofs.Pieces.{puts-both, puts-none}
-use Rattle.dc_gateway.specs.Asking.{Asks}
 use Rattle.dc_poller.specs.Link.{link_by}
 use Rattle.dc_poller.specs.Poll.{Phase}
 use Rattle.dc_poller.specs.Way.{goes_on}
@@ -14,7 +13,7 @@ rounds-init g c =
     record {
       budget = refl;
       well = refl;
-      so_far = λ meter origin state before chain at. way_none (g.D.Disk.keeps origin) g.D.Disk.sectors g.D.Disk.failures g.D.Disk.reads g.D.Disk.choices g.D.Disk.moment g.D.Disk.images_since c.args.concentrator.now.house.budget state before c.args.moment.seconds meter _ _ _ c.args.concentrator.now (went_none (g.D.Disk.keeps origin) g.D.Disk.sectors g.D.Disk.failures g.D.Disk.reads g.D.Disk.choices g.D.Disk.moment g.D.Disk.images_since c.args.concentrator.now.house.budget state before c.args.concentrator.now chain at (λ h image left. g.met.D.Disk.only_now c.args.concentrator.now.store.disk image left)) (refl, refl, refl) (puts-none (g.W.Sink.written c.args.out.now));
+      so_far = λ meter origin state before chain at. way_none (g.D.Disk.keeps origin) g.D.Disk.sectors g.D.Disk.failures g.D.Disk.reads g.D.Disk.choices g.D.Disk.moment g.D.Disk.images_since c.args.concentrator.now.house.budget state before c.args.port c.args.moment.seconds meter _ _ _ c.args.concentrator.now (went_none (g.D.Disk.keeps origin) g.D.Disk.sectors g.D.Disk.failures g.D.Disk.reads g.D.Disk.choices g.D.Disk.moment g.D.Disk.images_since c.args.concentrator.now.house.budget state before c.args.concentrator.now chain at (λ h image left. g.met.D.Disk.only_now c.args.concentrator.now.store.disk image left)) (refl, refl, refl) (puts-none (g.W.Sink.written c.args.out.now));
     }
 
 pub rounds-preserved : goal.rounds-preserved
@@ -28,12 +27,12 @@ rounds-preserved g c =
           let old = c.rounds.concentrator in
           let new = c.ask_and_hear.new.concentrator in
           let one = c.rounds.invariant.so_far meter origin state before chain at in
-          way_then (g.D.Disk.keeps origin) g.D.Disk.sectors g.D.Disk.failures g.D.Disk.reads g.D.Disk.choices g.D.Disk.moment g.D.Disk.images_since first.house.budget state before c.args.moment.seconds meter _ _ _ _ _ _ _ _ first old new
+          way_then (g.D.Disk.keeps origin) g.D.Disk.sectors g.D.Disk.failures g.D.Disk.reads g.D.Disk.choices g.D.Disk.moment g.D.Disk.images_since first.house.budget state before c.args.port c.args.moment.seconds meter _ _ _ _ _ _ _ _ first old new
           one one.ends_so.0 c.rounds.invariant.budget (λ behind ch a. c.in-Ok.ensures.went meter origin state behind ch a)
           (λ more last e. let r = e.0.rounds_are in let s = one.ends_so.1 in (
-            e.0.last_is ∙ ap (λ (b : Bool). record { due = goes_on b; link = link_by c.ask_and_hear.new.gateway.lost }) c.if-not-more.false,
+            e.0.last_is ∙ ap (λ (b : Bool). record { due = goes_on b; link = link_by (g.B.Bus.lost c.ask_and_hear.new.bus) }) c.if-not-more.false,
             omega (arith, r, s, rounds_append one.happened more),
-            exchanged_after (Asks g.GR.Source g.GW.Sink) c.args.gateway.now c.rounds.gateway c.ask_and_hear.new.gateway one.happened more one.ends_so.2 e.2,
+            exchanged_after g.B.Bus.asks c.args.bus.now c.rounds.bus c.ask_and_hear.new.bus one.happened more one.ends_so.2 e.2,
           ))
           (λ text more p q. puts-both (w c.args.out.now) (w c.rounds.out) (w c.ask_and_hear.new.out) text more p q);
     }
@@ -45,12 +44,12 @@ returns-then-not-more-clause-went g c meter origin state before chain at =
     let old = c.rounds.concentrator in
     let new = c.ask_and_hear.new.concentrator in
     let one = c.rounds.invariant.so_far meter origin state before chain at in
-    way_then (g.D.Disk.keeps origin) g.D.Disk.sectors g.D.Disk.failures g.D.Disk.reads g.D.Disk.choices g.D.Disk.moment g.D.Disk.images_since first.house.budget state before c.args.moment.seconds meter _ _ _ _ _ _ _ _ first old new
+    way_then (g.D.Disk.keeps origin) g.D.Disk.sectors g.D.Disk.failures g.D.Disk.reads g.D.Disk.choices g.D.Disk.moment g.D.Disk.images_since first.house.budget state before c.args.port c.args.moment.seconds meter _ _ _ _ _ _ _ _ first old new
     one one.ends_so.0 c.rounds.invariant.budget (λ behind ch a. c.in-Ok.ensures.went meter origin state behind ch a)
-    (λ more last e. let is = e.0.last_is ∙ ap (λ (b : Bool). record { due = goes_on b; link = link_by c.ask_and_hear.new.gateway.lost }) c.if-not-more.true in (
+    (λ more last e. let is = e.0.last_is ∙ ap (λ (b : Bool). record { due = goes_on b; link = link_by (g.B.Bus.lost c.ask_and_hear.new.bus) }) c.if-not-more.true in (
       (inl (ap (λ (p : Phase). p.due) is), ap (λ (p : Phase). p.link) is),
       tt,
-      exchanged_after (Asks g.GR.Source g.GW.Sink) c.args.gateway.now c.rounds.gateway c.ask_and_hear.new.gateway one.happened more one.ends_so.2 e.2,
+      exchanged_after g.B.Bus.asks c.args.bus.now c.rounds.bus c.ask_and_hear.new.bus one.happened more one.ends_so.2 e.2,
     ))
     (λ text more p q. puts-both (w c.args.out.now) (w c.rounds.out) (w c.ask_and_hear.new.out) text more p q)
 
@@ -69,12 +68,12 @@ returns-in-Err-clause-went g c meter origin state before chain at =
     let old = c.rounds.concentrator in
     let new = c.ask_and_hear.new.concentrator in
     let one = c.rounds.invariant.so_far meter origin state before chain at in
-    way_then (g.D.Disk.keeps origin) g.D.Disk.sectors g.D.Disk.failures g.D.Disk.reads g.D.Disk.choices g.D.Disk.moment g.D.Disk.images_since first.house.budget state before c.args.moment.seconds meter _ _ _ _ _ _ _ _ first old new
+    way_then (g.D.Disk.keeps origin) g.D.Disk.sectors g.D.Disk.failures g.D.Disk.reads g.D.Disk.choices g.D.Disk.moment g.D.Disk.images_since first.house.budget state before c.args.port c.args.moment.seconds meter _ _ _ _ _ _ _ _ first old new
     one one.ends_so.0 c.rounds.invariant.budget (λ behind ch a. c.in-Err.ensures.went meter origin state behind ch a)
     (λ more last e. (
       tt,
-      fails_after g.W.Sink c.args.out.now c.rounds.out c.ask_and_hear.new.out one.happened more one.text c.rounds.invariant.well e.1,
-      exchanged_after (Asks g.GR.Source g.GW.Sink) c.args.gateway.now c.rounds.gateway c.ask_and_hear.new.gateway one.happened more one.ends_so.2 e.2,
+      fails_after g.W.Sink c.args.port c.args.out.now c.rounds.out c.ask_and_hear.new.out one.happened more one.text c.rounds.invariant.well e.1,
+      exchanged_after g.B.Bus.asks c.args.bus.now c.rounds.bus c.ask_and_hear.new.bus one.happened more one.ends_so.2 e.2,
     ))
     (λ text more p q. tt)
 
@@ -89,7 +88,7 @@ returns-in-Err-clause-budget g c =
 pub returns-clause-went : goal.returns-clause-went
 returns-clause-went g c meter origin state before chain at =
     let one = c.rounds.invariant.so_far meter origin state before chain at in
-    way_as (g.D.Disk.keeps origin) g.D.Disk.sectors g.D.Disk.failures g.D.Disk.reads g.D.Disk.choices g.D.Disk.moment g.D.Disk.images_since c.args.concentrator.now.house.budget state before c.args.moment.seconds meter _ _ _ _ _ c.args.concentrator.now c.rounds.concentrator one
+    way_as (g.D.Disk.keeps origin) g.D.Disk.sectors g.D.Disk.failures g.D.Disk.reads g.D.Disk.choices g.D.Disk.moment g.D.Disk.images_since c.args.concentrator.now.house.budget state before c.args.port c.args.moment.seconds meter _ _ _ _ _ c.args.concentrator.now c.rounds.concentrator one
     (λ happened last e. ((inr (let counted = e.1 in let at_end = c.rounds-test.false in let within = c.rounds.auto.counter-end in omega (arith, counted, at_end, within)), ap (λ (p : Phase). p.link) e.0), tt, e.2)) (λ text p. p)
 
 pub returns-clause-well : goal.returns-clause-well

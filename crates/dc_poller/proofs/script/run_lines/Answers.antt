@@ -7,7 +7,7 @@ use Rattle.dc_core.specs.Core.{opened}
 use Rattle.dc_core.specs.Images.{IsAt}
 use Rattle.dc_core.specs.Transcript.{Turn, leads, IsChain}
 use Rattle.dc_teller.specs.Lines.{lines_of}
-use Rattle.dc_poller.specs.Link.{link_of}
+use Rattle.dc_poller.specs.Link.{AreAbsent, links_of}
 use Rattle.dc_poller.specs.Script.{AskFor, LineRan, LineCut, ScriptCut, deeds_turns, deeds_text}
 use Rattle.dc_poller.specs.ScriptLine.{seen}
 use Rattle.dc_poller.specs.Starved.{LineStarved, ScriptStarved}
@@ -24,7 +24,7 @@ use Rattle.dc_poller.proofs.script.run_lines.Goals as goal
 
 -- the loop's own, with these lines to come
 abbrev SoFarWith : (g : Over) → g.row.D.Denot → After-first_line g → List (List ℕ) → Type 0
-SoFarWith g origin c rest = SoFar (g.D.Disk.keeps origin) g.D.Disk.sectors g.D.Disk.failures g.D.Disk.reads g.D.Disk.choices g.D.Disk.moment g.D.Disk.images_since c.args.concentrator.now.house.budget (link_of c.args.gateway.now) (link_of c.lines.gateway) (lines_of c.args.input.now) rest
+SoFarWith g origin c rest = SoFar (g.D.Disk.keeps origin) g.D.Disk.sectors g.D.Disk.failures g.D.Disk.reads g.D.Disk.choices g.D.Disk.moment g.D.Disk.images_since c.args.concentrator.now.house.budget (links_of g.B.Bus.lost c.args.slots.now) (links_of g.B.Bus.lost c.lines.slots) (lines_of c.args.input.now) rest
     c.lines.moment.0 c.lines.count (Puts (g.W.Sink.written c.args.out.now) (g.W.Sink.written c.lines.out)) c.args.concentrator.now c.lines.concentrator
 
 here : (g : Over) (origin : g.row.D.Denot) (c : After-first_line g) → SoFarWith g origin c (c.first_line.result.0.now ∷ lines_of c.first_line.result.1.now)
@@ -63,7 +63,7 @@ lines-init g c = record {
     are_read = refl;
     moment_is = refl;
     count_is = refl;
-    ran = λ state before chain at. lines_none (g.D.Disk.keeps origin) g.D.Disk.sectors g.D.Disk.failures g.D.Disk.reads g.D.Disk.choices g.D.Disk.moment g.D.Disk.images_since c.args.concentrator.now.house.budget state before (link_of c.args.gateway.now) (Puts (g.W.Sink.written c.args.out.now) (g.W.Sink.written c.args.out.now)) c.args.concentrator.now
+    ran = λ state before chain at. lines_none (g.D.Disk.keeps origin) g.D.Disk.sectors g.D.Disk.failures g.D.Disk.reads g.D.Disk.choices g.D.Disk.moment g.D.Disk.images_since c.args.concentrator.now.house.budget state before (links_of g.B.Bus.lost c.args.slots.now) (Puts (g.W.Sink.written c.args.out.now) (g.W.Sink.written c.args.out.now)) c.args.concentrator.now
         (went_none (g.D.Disk.keeps origin) g.D.Disk.sectors g.D.Disk.failures g.D.Disk.reads g.D.Disk.choices g.D.Disk.moment g.D.Disk.images_since c.args.concentrator.now.house.budget state before c.args.concentrator.now chain at (λ h image left. g.met.D.Disk.only_now c.args.concentrator.now.store.disk image left))
         (puts-none (g.W.Sink.written c.args.out.now));
   };
@@ -87,11 +87,11 @@ lines-preserved g c =
       well = c.in_default-run_line.ensures.counted ∙ c.lines.invariant.well;
       moment = c.moment_behind-moment.result.fits;
       absent = λ is. c.run_line.ensures.absent (c.lines.invariant.absent is);
-      so_far = λ origin. subst (λ (m : ℕ). SoFar (g.D.Disk.keeps origin) g.D.Disk.sectors g.D.Disk.failures g.D.Disk.reads g.D.Disk.choices g.D.Disk.moment g.D.Disk.images_since first.house.budget (link_of c.args.gateway.now) (link_of c.run_line.new.gateway) (lines_of c.args.input.now) (lines_of c.first_line.result.1.now) m (c.lines.count + 1) (Puts (w c.args.out.now) (w c.run_line.new.out)) first new)
+      so_far = λ origin. subst (λ (m : ℕ). SoFar (g.D.Disk.keeps origin) g.D.Disk.sectors g.D.Disk.failures g.D.Disk.reads g.D.Disk.choices g.D.Disk.moment g.D.Disk.images_since first.house.budget (links_of g.B.Bus.lost c.args.slots.now) (links_of g.B.Bus.lost c.run_line.new.slots) (lines_of c.args.input.now) (lines_of c.first_line.result.1.now) m (c.lines.count + 1) (Puts (w c.args.out.now) (w c.run_line.new.out)) first new)
           (sym c.moment_behind-moment.ensures)
-          (one_more (g.D.Disk.keeps origin) g.D.Disk.sectors g.D.Disk.failures g.D.Disk.reads g.D.Disk.choices g.D.Disk.moment g.D.Disk.images_since first.house.budget (link_of c.args.gateway.now) (link_of c.lines.gateway) (link_of c.run_line.new.gateway) (lines_of c.args.input.now) c.first_line.result.0.now (lines_of c.first_line.result.1.now) asked c.lines.moment.0 c.lines.count
+          (one_more (g.D.Disk.keeps origin) g.D.Disk.sectors g.D.Disk.failures g.D.Disk.reads g.D.Disk.choices g.D.Disk.moment g.D.Disk.images_since first.house.budget (links_of g.B.Bus.lost c.args.slots.now) (links_of g.B.Bus.lost c.lines.slots) (links_of g.B.Bus.lost c.run_line.new.slots) (lines_of c.args.input.now) c.first_line.result.0.now (lines_of c.first_line.result.1.now) asked c.lines.moment.0 c.lines.count
           (Puts (w c.args.out.now) (w c.lines.out)) piece (Puts (w c.args.out.now) (w c.run_line.new.out)) first old new (here g origin (goal.at.lines-preserved g c).After-first_line) c.in-Some.ensures.found
-          (λ state before chain at. subst (λ (b : ℕ). LineRan (g.D.Disk.keeps origin) g.D.Disk.sectors g.D.Disk.failures g.D.Disk.reads g.D.Disk.choices g.D.Disk.moment g.D.Disk.images_since b state before c.lines.moment.0 asked (link_of c.lines.gateway) (link_of c.run_line.new.gateway) piece old new) b_is
+          (λ state before chain at. subst (λ (b : ℕ). LineRan (g.D.Disk.keeps origin) g.D.Disk.sectors g.D.Disk.failures g.D.Disk.reads g.D.Disk.choices g.D.Disk.moment g.D.Disk.images_since b state before c.lines.moment.0 asked (links_of g.B.Bus.lost c.lines.slots) (links_of g.B.Bus.lost c.run_line.new.slots) piece old new) b_is
           (c.in_default-run_line.ensures.ran origin state before (subst (λ (b : ℕ). IsChain b (opened state) before) (sym b_is) chain) at))
           (λ text more wrote put. puts-both (w c.args.out.now) (w c.lines.out) (w c.run_line.new.out) text more wrote put));
     }
@@ -105,11 +105,11 @@ returns-in-Err-run_line-clause-cut g c origin state before chain at =
     let old = c.lines.concentrator in
     let new = c.run_line.new.concentrator in
     let turns = turns_here g from origin state before chain at in
-    on_write (Unit {0}) Bool c.in-Err-run_line.halt (LineCut (g.D.Disk.keeps origin) g.D.Disk.sectors g.D.Disk.failures g.D.Disk.reads g.D.Disk.choices g.D.Disk.moment g.D.Disk.images_since old.house.budget state (before ++ turns) c.lines.moment.0 asked (link_of c.lines.gateway) old new)
-    (ScriptCut (g.D.Disk.keeps origin) g.D.Disk.sectors g.D.Disk.failures g.D.Disk.reads g.D.Disk.choices g.D.Disk.moment g.D.Disk.images_since first.house.budget state before (link_of c.args.gateway.now) (lines_of c.args.input.now) first new)
+    on_write (Unit {0}) Bool c.in-Err-run_line.halt (LineCut (g.D.Disk.keeps origin) g.D.Disk.sectors g.D.Disk.failures g.D.Disk.reads g.D.Disk.choices g.D.Disk.moment g.D.Disk.images_since old.house.budget state (before ++ turns) c.lines.moment.0 asked (links_of g.B.Bus.lost c.lines.slots) old new)
+    (ScriptCut (g.D.Disk.keeps origin) g.D.Disk.sectors g.D.Disk.failures g.D.Disk.reads g.D.Disk.choices g.D.Disk.moment g.D.Disk.images_since first.house.budget state before (links_of g.B.Bus.lost c.args.slots.now) (lines_of c.args.input.now) first new)
     (λ here_cut.
-    let cut = subst (λ (b : ℕ). LineCut (g.D.Disk.keeps origin) g.D.Disk.sectors g.D.Disk.failures g.D.Disk.reads g.D.Disk.choices g.D.Disk.moment g.D.Disk.images_since b state (before ++ turns) c.lines.moment.0 asked (link_of c.lines.gateway) old new) b_is here_cut in
-    cut_here (g.D.Disk.keeps origin) g.D.Disk.sectors g.D.Disk.failures g.D.Disk.reads g.D.Disk.choices g.D.Disk.moment g.D.Disk.images_since first.house.budget (link_of c.args.gateway.now) (link_of c.lines.gateway) (lines_of c.args.input.now) c.first_line.result.0.now (lines_of c.first_line.result.1.now) c.lines.moment.0 c.lines.count (Puts (g.W.Sink.written c.args.out.now) (g.W.Sink.written c.lines.out)) cut.turns first old new (here g origin from) state before chain at
+    let cut = subst (λ (b : ℕ). LineCut (g.D.Disk.keeps origin) g.D.Disk.sectors g.D.Disk.failures g.D.Disk.reads g.D.Disk.choices g.D.Disk.moment g.D.Disk.images_since b state (before ++ turns) c.lines.moment.0 asked (links_of g.B.Bus.lost c.lines.slots) old new) b_is here_cut in
+    cut_here (g.D.Disk.keeps origin) g.D.Disk.sectors g.D.Disk.failures g.D.Disk.reads g.D.Disk.choices g.D.Disk.moment g.D.Disk.images_since first.house.budget (links_of g.B.Bus.lost c.args.slots.now) (links_of g.B.Bus.lost c.lines.slots) (lines_of c.args.input.now) c.first_line.result.0.now (lines_of c.first_line.result.1.now) c.lines.moment.0 c.lines.count (Puts (g.W.Sink.written c.args.out.now) (g.W.Sink.written c.lines.out)) cut.turns first old new (here g origin from) state before chain at
     (inl (asked, c.in-Some.ensures.found, cut.does)) cut.went)
     (c.in-Err-run_line.ensures.cut origin state (before ++ turns) (subst (λ (b : ℕ). IsChain b (opened state) (before ++ turns)) (sym b_is) (chain_here g from origin state before chain at)) (at_here g from origin state before chain at))
 
@@ -124,12 +124,16 @@ returns-in-Err-run_line-clause-starved g c origin state before chain at =
     let new = c.run_line.new.concentrator in
     let turns = turns_here g from origin state before chain at in
     let piece : List ℕ → Type 0 = Puts (w c.lines.out) (w c.run_line.new.out) in
-    on_no_memory (Unit {0}) Bool c.in-Err-run_line.halt (LineStarved (g.D.Disk.keeps origin) g.D.Disk.sectors g.D.Disk.failures g.D.Disk.reads g.D.Disk.choices g.D.Disk.moment g.D.Disk.images_since old.house.budget state (before ++ turns) asked (link_of c.lines.gateway) piece old new)
-    (ScriptStarved (g.D.Disk.keeps origin) g.D.Disk.sectors g.D.Disk.failures g.D.Disk.reads g.D.Disk.choices g.D.Disk.moment g.D.Disk.images_since first.house.budget state before (link_of c.args.gateway.now) (lines_of c.args.input.now) (Puts (w c.args.out.now) (w c.run_line.new.out)) first new)
-    (λ starved. starved_here (g.D.Disk.keeps origin) g.D.Disk.sectors g.D.Disk.failures g.D.Disk.reads g.D.Disk.choices g.D.Disk.moment g.D.Disk.images_since first.house.budget (link_of c.args.gateway.now) (link_of c.lines.gateway) (lines_of c.args.input.now) c.first_line.result.0.now (lines_of c.first_line.result.1.now) asked c.lines.moment.0 c.lines.count
+    on_no_memory (Unit {0}) Bool c.in-Err-run_line.halt (LineStarved (g.D.Disk.keeps origin) g.D.Disk.sectors g.D.Disk.failures g.D.Disk.reads g.D.Disk.choices g.D.Disk.moment g.D.Disk.images_since old.house.budget state (before ++ turns) asked (links_of g.B.Bus.lost c.lines.slots) piece old new)
+    (ScriptStarved (g.D.Disk.keeps origin) g.D.Disk.sectors g.D.Disk.failures g.D.Disk.reads g.D.Disk.choices g.D.Disk.moment g.D.Disk.images_since first.house.budget state before (links_of g.B.Bus.lost c.args.slots.now) (lines_of c.args.input.now) (Puts (w c.args.out.now) (w c.run_line.new.out)) first new)
+    (λ starved. starved_here (g.D.Disk.keeps origin) g.D.Disk.sectors g.D.Disk.failures g.D.Disk.reads g.D.Disk.choices g.D.Disk.moment g.D.Disk.images_since first.house.budget (links_of g.B.Bus.lost c.args.slots.now) (links_of g.B.Bus.lost c.lines.slots) (lines_of c.args.input.now) c.first_line.result.0.now (lines_of c.first_line.result.1.now) asked c.lines.moment.0 c.lines.count
     (Puts (w c.args.out.now) (w c.lines.out)) piece (Puts (w c.args.out.now) (w c.run_line.new.out)) first old new (here g origin from) c.in-Some.ensures.found b_is
     (λ text more wrote put. puts-both (w c.args.out.now) (w c.lines.out) (w c.run_line.new.out) text more wrote put) state before chain at starved)
     (c.in-Err-run_line.ensures.starved origin state (before ++ turns) (subst (λ (b : ℕ). IsChain b (opened state) (before ++ turns)) (sym b_is) (chain_here g from origin state before chain at)) (at_here g from origin state before chain at))
+
+pub returns-in-Err-run_line-clause-through : goal.returns-in-Err-run_line-clause-through
+returns-in-Err-run_line-clause-through g c =
+    on_no_memory (Unit {0}) Bool c.in-Err-run_line.halt (¬ (AreAbsent (links_of g.B.Bus.lost c.lines.slots))) (¬ (AreAbsent (links_of g.B.Bus.lost c.args.slots.now))) (λ some are. some (c.lines.invariant.absent are)) c.in-Err-run_line.ensures.through
 
 pub returns-in-Ok-clause-ran : goal.returns-in-Ok-clause-ran
 returns-in-Ok-clause-ran g c origin state before chain at =
@@ -155,7 +159,7 @@ returns-in-Err-clause-cut g c origin state before chain at =
     let from = (goal.at.returns-in-Err-clause-cut g c).After-first_line in
     let first = c.args.concentrator.now in
     let old = c.lines.concentrator in
-    cut_here (g.D.Disk.keeps origin) g.D.Disk.sectors g.D.Disk.failures g.D.Disk.reads g.D.Disk.choices g.D.Disk.moment g.D.Disk.images_since first.house.budget (link_of c.args.gateway.now) (link_of c.lines.gateway) (lines_of c.args.input.now) c.first_line.result.0.now (lines_of c.first_line.result.1.now) c.lines.moment.0 c.lines.count (Puts (g.W.Sink.written c.args.out.now) (g.W.Sink.written c.lines.out)) [] first old old (here g origin from) state before chain at
+    cut_here (g.D.Disk.keeps origin) g.D.Disk.sectors g.D.Disk.failures g.D.Disk.reads g.D.Disk.choices g.D.Disk.moment g.D.Disk.images_since first.house.budget (links_of g.B.Bus.lost c.args.slots.now) (links_of g.B.Bus.lost c.lines.slots) (lines_of c.args.input.now) c.first_line.result.0.now (lines_of c.first_line.result.1.now) c.lines.moment.0 c.lines.count (Puts (g.W.Sink.written c.args.out.now) (g.W.Sink.written c.lines.out)) [] first old old (here g origin from) state before chain at
     (inr (c.in_default.ensures.only, refl))
     (went_none (g.D.Disk.keeps origin) g.D.Disk.sectors g.D.Disk.failures g.D.Disk.reads g.D.Disk.choices g.D.Disk.moment g.D.Disk.images_since first.house.budget state (before ++ turns_here g from origin state before chain at) old (chain_here g from origin state before chain at) (at_here g from origin state before chain at)
     (λ h image left. g.met.D.Disk.only_now old.store.disk image left))

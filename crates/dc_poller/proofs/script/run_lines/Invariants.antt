@@ -2,7 +2,7 @@ use Rattle.std.proofs.Common.{◌≡◌, ◌≤◌, ◌+◌, ◌*◌, length}
 use Rattle.dc_changes.specs.Valid.{last_moment}
 use Rattle.dc_stream.specs.Stream.{Puts}
 use Rattle.dc_teller.specs.Lines.{lines_of, longest_input_line}
-use Rattle.dc_poller.specs.Link.{absent, link_of}
+use Rattle.dc_poller.specs.Link.{AreAbsent, links_of}
 use Rattle.dc_poller.proofs.LineRuns.{SoFar}
 use Rattle.dc_poller.proofs.script.run_lines.Given as goal
 
@@ -13,8 +13,8 @@ invariant-lines g l = record {
   budget : l.concentrator.house.budget ≡ l.fn.concentrator.house.budget;
   well : g.W.Sink.put_failures l.out ≡ g.W.Sink.put_failures l.fn.out;
   moment : l.moment.0 ≤ last_moment;
-  absent : link_of l.fn.gateway ≡ absent → link_of l.gateway ≡ absent;
-  so_far : (origin : g.row.D.Denot) → SoFar (g.D.Disk.keeps origin) g.D.Disk.sectors g.D.Disk.failures g.D.Disk.reads g.D.Disk.choices g.D.Disk.moment g.D.Disk.images_since l.fn.concentrator.house.budget (link_of l.fn.gateway) (link_of l.gateway) (lines_of l.input) (lines_of l.rest) l.moment.0 l.count
+  absent : AreAbsent (links_of g.B.Bus.lost l.fn.slots) → AreAbsent (links_of g.B.Bus.lost l.slots);
+  so_far : (origin : g.row.D.Denot) → SoFar (g.D.Disk.keeps origin) g.D.Disk.sectors g.D.Disk.failures g.D.Disk.reads g.D.Disk.choices g.D.Disk.moment g.D.Disk.images_since l.fn.concentrator.house.budget (links_of g.B.Bus.lost l.fn.slots) (links_of g.B.Bus.lost l.slots) (lines_of l.input) (lines_of l.rest) l.moment.0 l.count
       (Puts (g.W.Sink.written l.fn.out) (g.W.Sink.written l.out)) l.fn.concentrator l.concentrator;
 }
 

@@ -1,0 +1,20 @@
+-- Laws of the buses of a script (this product).
+use Rattle.std.specs.Prelude.{◌≡◌, ℕ, Bool, true, false, List, []}
+use Rattle.std.proofs.Common.{subst}
+use Rattle.dc_gateway.specs.Asking.{Asks}
+use Rattle.dc_gateway.specs.declared.gateway.Gateway.{Gateway}
+use Rattle.dc_stream.specs.declared.stream.Sink.{Ghosts as SinkGhosts}
+use Rattle.dc_stream.specs.declared.stream.Source.{Ghosts as SourceGhosts}
+
+-- a gateway that is lost over a request is heard in silence
+pub gateway_is_silent : {R W : Type 0} (reader : SourceGhosts R) (writer : SinkGhosts W) (old new : Gateway R W) (request answer : List ℕ) → Asks reader writer old request answer new → new.lost ≡ true → answer ≡ []
+gateway_is_silent reader writer old new request answer asked is_lost = asked.silence is_lost
+
+is_false : Bool → Type 0
+is_false true = ⊥
+is_false false = Unit {0}
+
+-- nor is a bus that is never lost
+pub never_lost : (answer : List ℕ) → false ≡ true → answer ≡ []
+unfolding is_false
+never_lost answer lost = absurd (subst is_false lost tt)

@@ -1,0 +1,79 @@
+//! The buses of a script: a gateway, and lines on which answers may come late.
+
+ghost use Rattle.std.specs.Prelude.{◌≡◌, ℕ, Bool, true, List, []};
+
+use dc_gateway::{Bus, Gateway, ListedBus};
+use dc_stream::{Sink, Source};
+
+/// A bus on which answers may come late.
+pub trait ScriptBus: Bus {
+    // Whether no answer is under way.
+    ghost ready: { Self → Bool };
+
+    // What settling does to the bus.
+    ghost settles: { Self → Self → Type 0 };
+
+    // How many late answers were dropped.
+    ghost late: { Self → ℕ };
+
+    /// Listens until no answer is under way, or the bus is lost. A lost bus isn't touched.
+    fn settle(&mut self)
+        ensures step { settles self.old self.new }
+        ensures ready { ready self.new ≡ true }
+        ensures untouched { Self.lost self.old ≡ true → self.new ≡ self.old };
+
+    /// How many late answers were dropped.
+    fn late(&self) -> u64
+        ensures { result ≡ late self.now };
+
+    // Where the bus is lost over a request, nothing is heard of it.
+    ghost silent: { (old new : Self) (request answer : List ℕ)
+        → Self.asks old request answer new → Self.lost new ≡ true → answer ≡ [] };
+}
+
+/// A bus line that has a bus.
+#[derive(Drop)]
+pub struct Slot<B: ScriptBus + Drop> {
+    /// The bus.
+    pub bus: B,
+    /// Whether it is the line of `--gateway`, on which no answer comes late.
+    pub is_gateway: bool,
+}
+
+// Each answer of a gateway is ended, so none comes late.
+impl<R: Source + Drop, W: Sink + Drop> ScriptBus for Gateway<R, W> {
+    ghost use Rattle.dc_poller.specs.Buses.{gateway_is_silent};
+
+    ghost ready = { λ _. true };
+
+    ghost settles = { λ old new. new ≡ old };
+
+    ghost late = { λ _. 0 };
+
+    ghost silent = { gateway_is_silent R.Source W.Sink };
+
+    fn settle(&mut self) {}
+
+    fn late(&self) -> u64 {
+        0
+    }
+}
+
+// A bus in memory answers at once.
+impl<'a> ScriptBus for ListedBus<'a> {
+    ghost use Rattle.dc_poller.specs.Buses.{never_lost};
+
+    ghost ready = { λ _. true };
+
+    ghost settles = { λ old new. new ≡ old };
+
+    ghost late = { λ _. 0 };
+
+    ghost silent = { λ old new request answer asked is_lost. never_lost answer is_lost };
+
+    fn settle(&mut self) {}
+
+    fn late(&self) -> u64 {
+        0
+    }
+}
