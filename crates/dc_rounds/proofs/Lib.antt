@@ -1,0 +1,28 @@
+-- the ghost members of a bus, from those of its two traits
+pub mod Whole
+-- what happens in a poll, one thing after the other
+pub mod Happenings
+-- turns that were run, one after the other, and what is said of them
+pub mod Running
+-- how the queue of a line goes on, and the talk on its bus
+pub mod Queues
+-- what becomes of a line, by what is answered
+pub mod Becoming
+-- all lines, one after the other
+pub mod Rounds
+-- what becomes of a line by a commit
+pub mod Storing
+-- a queue that is at its end went through all its meters
+pub mod Tried
+-- what is written of a line after a commit
+pub mod Writing
+-- how many rounds a line takes at most that takes no step
+pub mod Idling
+-- how many rounds a line takes at most, by what becomes of it
+pub mod Counts
+-- rounds of a poll, one after the other
+pub mod Polling
+-- where no round is left, all lines are over
+pub mod Exhausting
+-- a life of the concentrator from the disk to the disk
+pub mod ImagePolls

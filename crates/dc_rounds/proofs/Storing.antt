@@ -1,0 +1,105 @@
+-- What becomes of a line's part by a commit.
+use Rattle.std.proofs.Common.{◌≡◌, ℕ, zero, suc, ◌+◌, ◌-◌, ◌<◌, ◌≤◌, Bool, true, false, inl, inr, List, [], ◌∷◌, ◌++◌, Result, Ok, Err, length, drop, get_or, refl, ap, sym, subst, ◌∙◌, arith}
+use Rattle.std.specs.List.{All}
+use Rattle.std.proofs.lemmas.List.Elements.{All-nil, All-cons}
+use Rattle.dc_core.specs.Transcript.{Turn}
+use Rattle.dc_address.specs.declared.identity.Identity.{Identity}
+use Rattle.dc_core.specs.Event.{commits, committed}
+use Rattle.dc_core.specs.declared.fault.CommitFault.{CommitFault}
+use Rattle.dc_rounds.specs.Bus.{Bus}
+use Rattle.dc_rounds.specs.Happening.{Happening, does}
+use Rattle.dc_rounds.specs.Queue.{Part, part, Goes, stays, is_stored, is_unstored, stands_by}
+use Rattle.dc_rounds.specs.Talking.{Talk, Talks, rests, stands_by as talk_stands_by}
+use Rattle.dc_rounds.specs.Round.{LineGoes, Rounds, AllSteps, IsStored, AreStored, EachFewer, IsCommitTurn, IsRoom, IsStoredAs, uncounted}
+use Rattle.dc_rounds.specs.Keeping.{IsHearing}
+use Rattle.std.specs.Prelude.{OnOk}
+use Rattle.dc_rounds.specs.Station.{IsSoundIn, IsSound, IsAfter, Next, part_of, talk_of, rounds_in, rounds_of, ended, lost_by, stored_by}
+use Rattle.dc_rounds.specs.declared.end.End.{End}
+use Rattle.dc_rounds.specs.declared.phase.Phase.{Phase}
+use Rattle.dc_rounds.specs.declared.phase.Phase.TheVariants.{Free, Busy, Pending, Over}
+use Rattle.dc_rounds.specs.declared.phase.Request.{Request}
+use Rattle.dc_rounds.specs.declared.phase.Request.TheVariants.{Quiet}
+use Rattle.dc_rounds.specs.declared.station.Station.{Station}
+use Rattle.dc_rounds.proofs.Counts.{left_count}
+use Rattle.dc_rounds.proofs.Queues.{part_after, talk_is, of_after}
+
+goes_stored : (tries line : ℕ) (left : List Identity) (used : ℕ) (phase : Phase) (request : Request) (waits : ℕ) (stored : Result ℕ CommitFault) → IsSoundIn tries (length left) used phase request waits
+    → Goes tries line (part left used phase) (does (commits, committed stored) ∷ []) (part (stored_by left used phase stored).left (stored_by left used phase stored).used (stored_by left used phase stored).phase)
+goes_stored tries line left used Free request waits stored sound = stands_by tt stays
+goes_stored tries line left used (Busy n) request waits stored sound = stands_by tt stays
+goes_stored tries line left used (Over end) request waits stored sound = stands_by tt stays
+goes_stored tries line [] used (Pending n) request waits stored sound = absurd (let some = sound.0 in omega (arith, some))
+goes_stored tries line (m ∷ ms) used (Pending n) request waits (Ok count) sound = is_stored stays
+goes_stored tries line (m ∷ ms) used (Pending n) request waits (Err fault) sound = is_unstored sound.1 stays
+
+sound_by : (tries : ℕ) (left : List Identity) (used : ℕ) (phase : Phase) (request : Request) (waits : ℕ) (stored : Result ℕ CommitFault) → IsSoundIn tries (length left) used phase request waits
+    → IsSoundIn tries (length (stored_by left used phase stored).left) (stored_by left used phase stored).used (stored_by left used phase stored).phase request waits
+sound_by tries left used Free request waits stored sound = sound
+sound_by tries left used (Busy n) request waits stored sound = sound
+sound_by tries left used (Over end) request waits stored sound = sound
+sound_by tries [] used (Pending n) request waits stored sound = absurd (let some = sound.0 in omega (arith, some))
+sound_by tries (m ∷ ms) used (Pending n) request waits (Ok count) sound = (sound.0, sound.1, sound.2, sound.3, λ e. absurd (let quiet = sound.4 in let both = sym quiet ∙ e in cc))
+sound_by tries (m ∷ ms) used (Pending n) request waits (Err fault) sound = let was = sound.1 in let few = sound.2 in (refl, omega (arith, was, few), sound.4)
+
+fewer_by : (tries out pending : ℕ) (left : List Identity) (used : ℕ) (phase : Phase) (request : Request) (waits : ℕ) (ready : Bool) (settles : ℕ) (stored : Result ℕ CommitFault) → IsSoundIn tries (length left) used phase request waits
+    → rounds_in out pending 0 tries (length (stored_by left used phase stored).left) (stored_by left used phase stored).used (stored_by left used phase stored).phase request waits ready settles
+    ≤ rounds_in out 0 0 tries (length left) used phase request waits ready settles - 0
+fewer_by tries out pending left used Free request waits ready settles stored sound = omega arith
+fewer_by tries out pending left used (Busy n) request waits ready settles stored sound = omega arith
+fewer_by tries out pending left used (Over end) request waits ready settles stored sound = omega arith
+fewer_by tries out pending [] used (Pending n) request waits ready settles stored sound = absurd (let some = sound.0 in omega (arith, some))
+fewer_by tries out pending (m ∷ ms) used (Pending n) request waits ready settles (Ok count) sound = by_request request sound.4
+  where
+    by_request : (rq : Request) → rq ≡ Quiet → rounds_in out pending 0 tries (suc (length ms)) used (Busy n) rq waits ready settles ≤ rounds_in out 0 0 tries (suc (length ms)) used (Pending n) rq waits ready settles - 0
+    by_request rq e = subst (λ (x : Request). rounds_in out pending 0 tries (suc (length ms)) used (Busy n) x waits ready settles ≤ rounds_in out 0 0 tries (suc (length ms)) used (Pending n) x waits ready settles - 0) (sym e) (omega arith)
+fewer_by tries out pending (m ∷ ms) used (Pending n) request waits ready settles (Err fault) sound = let less = left_count (m ∷ ms) used tries sound.0 sound.2 in omega (arith, less)
+
+module _ {B : Type 0} (g : Bus B) where
+  pub line_stored : (tries line : ℕ) (stored : Result ℕ CommitFault) (old new : Station B) → IsSound g tries old → IsStored stored old new → LineGoes g tries line old new (does (commits, committed stored) ∷ [])
+  line_stored tries line stored old new sound is = record {
+    queue = subst (λ (x : Part). Goes tries line (part_of old) (does (commits, committed stored) ∷ []) x) (sym (part_after _ old.bus old.request old.said new is)) (goes_stored tries line old.left.now old.used old.phase old.request (g.waits_left old.bus) stored sound);
+    talk = subst (λ (x : Talk B). Talks g line (talk_of old) (does (commits, committed stored) ∷ []) x) (sym (talk_is new old.bus old.request old.said is.bus is.request is.said)) (talk_stands_by rests);
+  }
+
+  pub sound_stored : (tries : ℕ) (stored : Result ℕ CommitFault) (old new : Station B) → IsSound g tries old → IsStored stored old new → IsSound g tries new
+  sound_stored tries stored old new sound is =
+      of_after (λ left used phase request bus. IsSoundIn tries (length left) used phase request (g.waits_left bus)) _ _ _ _ new is (sound_by tries old.left.now old.used old.phase old.request (g.waits_left old.bus) stored sound)
+
+  pub fewer_stored : (tries out pending : ℕ) (stored : Result ℕ CommitFault) (old new : Station B) → IsSound g tries old → IsStored stored old new → rounds_of g out pending 0 tries new ≤ rounds_of g out 0 0 tries old - 0
+  fewer_stored tries out pending stored old new sound is =
+      of_after (λ left used phase request bus. rounds_in out pending 0 tries (length left) used phase request (g.waits_left bus) (g.ready bus) (g.settles_left bus) ≤ rounds_of g out 0 0 tries old - 0) _ _ _ _ new is
+      (fewer_by tries out pending old.left.now old.used old.phase old.request (g.waits_left old.bus) (g.ready old.bus) (g.settles_left old.bus) stored sound)
+
+  -- ---- all lines
+
+  pub all_stored : (tries : ℕ) (stored : Result ℕ CommitFault) (such : List Turn → Type 0) (olds news : List (Station B)) (happened : List Happening) → happened ≡ does (commits, committed stored) ∷ [] → such ((commits, committed stored) ∷ []) → All (IsSound g tries) olds → AreStored stored olds news → AllSteps g tries such olds news happened
+  all_stored tries stored such olds news happened same is sound are =
+      subst (λ (hs : List Happening). AllSteps g tries such olds news hs) (sym same) (record {
+        rounds = record {
+          goes = λ k d below. line_stored tries (k + 1) stored (get_or olds k d) (get_or news k d) (sound k d below) (are.each k d below);
+          alone = λ other past. All-cons IsCommitTurn (does (commits, committed stored)) [] refl (All-nil IsCommitTurn);
+        };
+        are_such = is;
+        are_turns = tt;
+      })
+
+  pub all_sound : (tries : ℕ) (stored : Result ℕ CommitFault) (olds news : List (Station B)) → All (IsSound g tries) olds → AreStored stored olds news → All (IsSound g tries) news
+  all_sound tries stored olds news sound are k d below =
+      let within : k < length olds = omega (arith, below, are.count) in
+      sound_stored tries stored (get_or olds k d) (get_or news k d) (sound k d within) (are.each k d within)
+
+  pub all_fewer : (tries out pending : ℕ) (stored : Result ℕ CommitFault) (olds news : List (Station B)) → All (IsSound g tries) olds → AreStored stored olds news → EachFewer (rounds_of g out 0 0 tries) (rounds_of g out pending 0 tries) 0 olds news
+  all_fewer tries out pending stored olds news sound are k d below = fewer_stored tries out pending stored (get_or olds k d) (get_or news k d) (sound k d below) (are.each k d below)
+
+pub stored_as : (stored : Result ℕ CommitFault) (told : Result (Unit {0}) CommitFault) → told ≡ uncounted stored → IsStoredAs told ((commits, committed stored) ∷ [])
+stored_as (Ok count) told e = subst (λ (x : Result (Unit {0}) CommitFault). IsStoredAs x ((commits, committed (Ok count)) ∷ [])) (sym e) (count, refl)
+stored_as (Err fault) told e = subst (λ (x : Result (Unit {0}) CommitFault). IsStoredAs x ((commits, committed (Err fault)) ∷ [])) (sym e) refl
+
+-- a commit where one was due
+pub room_heard : (moment pending : ℕ) (turns : List Turn) → IsRoom (Ok pending) turns → All (IsHearing moment) turns
+room_heard moment pending turns (inl none) = subst (λ (ts : List Turn). All (IsHearing moment) ts) (sym none) (All-nil (IsHearing moment))
+room_heard moment pending turns (inr one) = subst (λ (ts : List Turn). All (IsHearing moment) ts) (sym one.1) (All-cons (IsHearing moment) (commits, committed (Ok one.0)) [] tt (All-nil (IsHearing moment)))
+
+pub on_any : {X E : Type 0} (result : Result X E) (P : Type 0) → P → OnOk result P
+on_any (Ok x) P p = p
+on_any (Err e) P p = tt

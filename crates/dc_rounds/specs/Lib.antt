@@ -1,0 +1,20 @@
+-- the definitions that contracts cite
+
+-- a bus in two halves, as contracts see it
+pub mod Bus
+-- what happens in a poll, and its text
+pub mod Happening
+-- the meters of a line, one after the other
+pub mod Queue
+-- what goes over the bus of a line
+pub mod Talking
+-- what a round commits
+pub mod Keeping
+-- a line's part of the readout
+pub mod Station
+-- what a round does
+pub mod Round
+-- what a poll does, round after round
+pub mod Polls
+-- what a poll does to an image
+pub mod ImagePoll

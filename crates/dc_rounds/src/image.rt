@@ -1,0 +1,254 @@
+//! The engine of `poll`: the registered meters of an image are read over the buses of their lines.
+
+ghost use Rattle.std.specs.Prelude.{◌≡◌, ◌<◌, ◌≤◌, ◌^◌, ◌⊎◌, IfErr, IfOk, IsErrOf, OnErr, OnOk, [], MatchResult, length, vec_len};
+ghost use Rattle.std.specs.List.{All};
+ghost use Rattle.dc_base.specs.Failures.{HasRisen};
+ghost use Rattle.dc_poller.specs.Fault.{IfOpen};
+ghost use Rattle.dc_recovery.specs.Halves.{half_len_of};
+ghost use Rattle.dc_recovery.specs.Refusal.{IsRefused, TellsOfImage};
+ghost use Rattle.dc_recovery.specs.Stands.{EachStands, StandsForOne};
+ghost use Rattle.dc_recovery.specs.declared.fault.OpenFault.TheVariants.{NotImage, Worn, Device};
+ghost use Rattle.dc_rounds.specs.ImagePoll.{ImageTurned, PlanPolled};
+ghost use Rattle.dc_rounds.specs.Round.{IsFresh, Runs, most_lines};
+ghost use Rattle.dc_sectors.specs.Disk.{LeavesOnly};
+
+use crate::end::Refusal;
+use crate::ending::put_refused;
+use crate::outcome::Outcome;
+use crate::readout::read_on;
+use crate::station::Station;
+use crate::timer::Timer;
+use dc_address::Identity;
+use dc_base::NoMemory;
+use dc_core::{Concentrator, StartFault};
+use dc_line::QuietBus;
+use dc_meters::House;
+use dc_poller::ProgramFault;
+use dc_sectors::Disk;
+use dc_stream::{IoFault, Sink};
+use std::alloc::Allocator;
+
+// There are eight lines.
+const MOST_LINES: usize = 8;
+
+/// Which meters are to be read, and over which buses.
+#[derive(Drop)]
+pub struct Plan<'a, A: Allocator, B: QuietBus + Drop> {
+    /// The buses of lines 1, 2 and so on, of which eight are taken. One that is lost from the start stands for no bus.
+    pub buses: Vec<B, A>,
+    /// The meters that are to be read; where none is named, all of the lines that have a bus.
+    pub only: &'a [Identity],
+    /// How often each is started at most, from 1.
+    pub tries: u8,
+}
+
+/// Opens the image, reads its registered meters over the buses of their lines, each line's in order of identity, and closes
+/// it. The text is that of [`read_all`](crate::read_all). Before it, for each meter that is named and can't be read,
+/// `REFUSED ident 2 Unknown` is written where it isn't registered, and `REFUSED ident 1 NoLine` where its line has no bus;
+/// these count as failed. A line without a bus is never written to be lost. The disk comes back whatever happens.
+///
+/// # Errors
+/// [`ProgramFault::Open`] where the image wasn't opened, and [`ProgramFault::NoMemory`], both before anything is asked or
+/// written; [`ProgramFault::Write`] where the writer failed.
+pub fn poll_image<D: Disk + Drop, A: Allocator + Copy, B: QuietBus + Drop, T: Timer<B>, W: Sink>(
+    alloc: A,
+    disk: D,
+    plan: Plan<'_, A, B>,
+    timer: &mut T,
+    out: &mut W,
+) -> (D, Result<Outcome, ProgramFault>)
+    requires tries { 0 < plan.tries }
+    // Where each image of the disk stands for some state, the turns of the poll are a run of the concentrator that was
+    // opened, and the image is left as that run leaves it.
+    ensures polled { (D.keeps disk → EachStands (half_len_of (D.sectors disk)) (D.choices disk))
+        → IfOk result.1 (λ outcome. ImageTurned D.Disk (λ core happened.
+        PlanPolled B.QuietBus T.tells T.passes plan.entry.tries timer.old timer.new (W.written out.new) outcome
+        core happened) disk result.0) }
+    ensures cut { (D.keeps disk → EachStands (half_len_of (D.sectors disk)) (D.choices disk))
+        → IsErrOf result.1 ProgramFault.Write → ImageTurned D.Disk (λ core happened. Unit {0}) disk result.0 }
+    ensures starved { (D.keeps disk → EachStands (half_len_of (D.sectors disk)) (D.choices disk))
+        → IsErrOf result.1 ProgramFault.NoMemory
+        → (out.new ≡ out.old) × ImageTurned D.Disk (λ core happened. happened ≡ []) disk result.0 }
+
+    // An image that isn't opened is refused as the store refuses it; one that stands is refused only as worn.
+    ensures small { D.sectors disk < 131
+        → MatchResult result.1 (λ outcome. ⊥) (λ fault. IfOpen fault (λ e. (e ≡ NotImage) × (result.0 ≡ disk))) }
+    ensures refused { D.keeps result.0 → 131 ≤ D.sectors disk
+        → IfErr result.1 (λ fault. IfOpen fault (IsRefused (half_len_of (D.sectors disk)) (D.reads disk))) }
+    ensures premise { D.keeps result.0 → 131 ≤ D.sectors disk
+        → EachStands (half_len_of (D.sectors disk)) (D.choices disk)
+        → IfErr result.1 (λ fault. IfOpen fault (λ e. TellsOfImage e → e ≡ Worn)) }
+    ensures unwritten { IfErr result.1 (λ fault. IfOpen fault (λ e. TellsOfImage e → D.reads result.0 ≡ D.reads disk)) }
+    ensures device { IfErr result.1 (λ fault. IfOpen fault (λ e. e ≡ Device
+        → HasRisen (D.failures disk) (D.failures result.0))) }
+    ensures any_moment { D.keeps result.0 → EachStands (half_len_of (D.sectors disk)) (D.choices disk)
+        → IfErr result.1 (λ fault. IfOpen fault (λ e. LeavesOnly D.moment D.images_since disk result.0
+        (StandsForOne (half_len_of (D.sectors disk)) (D.choices disk)))) }
+    ensures unopened { IfErr result.1 (λ fault. IfOpen fault (λ e. (out.new ≡ out.old) × (timer.new ≡ timer.old))) }
+
+    ensures write { IsErrOf result.1 ProgramFault.Write → HasRisen (W.put_failures out.old) (W.put_failures out.new) }
+{
+    let mut concentrator = match Concentrator::open(alloc, disk) {
+        Ok(concentrator) => concentrator,
+        Err((fault, disk)) => return (disk, Err(ProgramFault::Open(fault))),
+    };
+    let polled = poll(alloc, &mut concentrator, plan, timer, out);
+    (concentrator.close(), polled)
+}
+
+// Reads the meters of the plan.
+fn poll<D: Disk + Drop, A: Allocator + Copy, B: QuietBus + Drop, T: Timer<B>, W: Sink>(
+    alloc: A,
+    concentrator: &mut Concentrator<D, A>,
+    plan: Plan<'_, A, B>,
+    timer: &mut T,
+    out: &mut W,
+) -> Result<Outcome, ProgramFault>
+    requires { 0 < plan.tries }
+    ensures went { Runs D.Disk (λ core happened. IfOk result (λ outcome.
+        PlanPolled B.QuietBus T.tells T.passes plan.entry.tries timer.old timer.new (W.written out.new) outcome
+        core happened)) concentrator.old concentrator.new }
+    ensures starved { IsErrOf result ProgramFault.NoMemory → (out.new ≡ out.old)
+        × Runs D.Disk (λ core happened. happened ≡ []) concentrator.old concentrator.new }
+    ensures write { IsErrOf result ProgramFault.Write → HasRisen (W.put_failures out.old) (W.put_failures out.new) }
+    ensures opened { IfErr result (λ fault. IfOpen fault (λ e. ⊥)) }
+{
+    let Plan { buses, only, tries } = plan;
+    let queues = match queues_of(alloc, concentrator.house(), buses.as_slice(), only) {
+        Ok(queues) => queues,
+        Err(_) => return Err(ProgramFault::NoMemory),
+    };
+    let mut stations = match stations_of(alloc, buses, queues.as_slice()) {
+        Ok(stations) => stations,
+        Err(_) => return Err(ProgramFault::NoMemory),
+    };
+    let failed = match refuse_others(concentrator.house(), stations.as_slice(), only, out) {
+        Ok(failed) => failed,
+        Err(_) => return Err(ProgramFault::Write),
+    };
+    let before = Outcome { read: 0, failed };
+    match read_on(
+        concentrator,
+        stations.as_mut_slice(),
+        tries,
+        timer,
+        before,
+        out,
+    ) {
+        Ok(outcome) => Ok(outcome),
+        Err(_) => Err(ProgramFault::Write),
+    }
+}
+
+// The meters to be read of each line.
+fn queues_of<A: Allocator + Copy, B: QuietBus + Drop>(
+    alloc: A,
+    house: &House<A>,
+    buses: &[B],
+    only: &[Identity],
+) -> Result<Vec<Vec<Identity, A>, A>, NoMemory> {
+    let mut queues = Vec::new(alloc);
+    let mut line: u8 = 0;
+    'lines: for bus in buses {
+        line = line.saturating_add(1);
+        if bus.is_lost() {
+            queues.push(Vec::new(alloc))?;
+        } else {
+            queues.push(queue_of(alloc, house, line, only)?)?;
+        }
+    }
+    Ok(queues)
+}
+
+// The meters of one line, in order of identity.
+fn queue_of<A: Allocator + Copy>(
+    alloc: A,
+    house: &House<A>,
+    line: u8,
+    only: &[Identity],
+) -> Result<Vec<Identity, A>, NoMemory> {
+    let mut queue = Vec::new(alloc);
+    'meters: for (meter, row) in house.meters() {
+        if row.line() == line && is_wanted(meter, only) {
+            queue.push(*meter)?;
+        }
+    }
+    Ok(queue)
+}
+
+// Where none is named, all are wanted.
+fn is_wanted(meter: &Identity, only: &[Identity]) -> bool {
+    only.is_empty() || only.contains(meter)
+}
+
+// The lines with their queues. Of a line that has no bus it is never written that it is lost.
+fn stations_of<'a, A: Allocator + Copy, B: QuietBus + Drop>(
+    alloc: A,
+    buses: Vec<B, A>,
+    queues: &'a [Vec<Identity, A>],
+) -> Result<Vec<Station<'a, B>, A>, NoMemory>
+    ensures count { IfOk result (λ stations. length stations.items ≤ most_lines) }
+    ensures fresh { IfOk result (λ stations. All IsFresh stations.items) }
+{
+    let mut stations = Vec::new(alloc);
+    'lines: for bus in buses {
+        let at = stations.len();
+        if at >= MOST_LINES || at >= queues.len() {
+            return Ok(stations);
+        }
+        let said = bus.is_lost();
+        let mut station = Station::new(bus, queues[at].as_slice());
+        station.said = said;
+        stations.push(station)?;
+    }
+    Ok(stations)
+}
+
+// The meters that are named and can't be read are refused. How many.
+fn refuse_others<A: Allocator + Copy, B: QuietBus + Drop, W: Sink>(
+    house: &House<A>,
+    stations: &[Station<'_, B>],
+    only: &[Identity],
+    out: &mut W,
+) -> Result<u64, IoFault>
+    ensures few { IfOk result (λ refused. refused < 2 ^ 32) }
+    ensures fault { OnErr result (HasRisen (W.put_failures out.old) (W.put_failures out.new)) }
+    ensures well { OnOk result (W.put_failures out.new ≡ W.put_failures out.old) }
+{
+    let mut refused: u32 = 0;
+    'meters: for meter in only {
+        if let Some(fault) = refusal_of(house, stations, meter) {
+            match put_refused(out, meter, Refusal::Start(fault)) {
+                Ok(()) => refused = refused.saturating_add(1),
+                Err(fault) => return Err(fault),
+            }
+        }
+    }
+    Ok(u64::from(refused))
+}
+
+// Why a meter can't be read, before it is started.
+fn refusal_of<A: Allocator + Copy, B: QuietBus + Drop>(
+    house: &House<A>,
+    stations: &[Station<'_, B>],
+    meter: &Identity,
+) -> Option<StartFault> {
+    match house.meter(meter) {
+        Some(row) => {
+            if has_bus(stations, row.line()) {
+                None
+            } else {
+                Some(StartFault::NoLine)
+            }
+        }
+        None => Some(StartFault::Unknown),
+    }
+}
+
+// Whether a line has a bus.
+fn has_bus<B: QuietBus + Drop>(stations: &[Station<'_, B>], line: u8) -> bool {
+    match stations.get(usize::from(line).saturating_sub(1)) {
+        Some(station) => !station.said,
+        None => false,
+    }
+}

@@ -1,0 +1,30 @@
+//! The readout of many meters on up to eight lines at once, round after round.
+//!
+//! In a round each line takes one step: it settles, begins its next meter and asks, or asks. Then time passes, what is
+//! complete of the answers is heard, one commit writes all that was accepted, and how readouts ended is written, a line
+//! of text each ([`read_all`]).
+#![tactic(auto)]
+
+mod calls;
+mod end;
+mod ending;
+mod image;
+mod laws;
+mod lines;
+mod newest;
+mod outcome;
+mod phase;
+mod readout;
+mod station;
+mod stepping;
+mod telling;
+mod timer;
+
+pub use end::{End, Refusal};
+pub use image::{Plan, poll_image};
+pub use laws::every_meter_of_a_queue_is_started;
+pub use outcome::Outcome;
+pub use phase::{Phase, Request};
+pub use readout::read_all;
+pub use station::Station;
+pub use timer::Timer;

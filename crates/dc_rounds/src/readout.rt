@@ -1,0 +1,245 @@
+//! Many meters on several lines at once, round after round.
+
+ghost use Rattle.std.specs.Prelude.{◌≡◌, ◌⊎◌, ◌<◌, ◌≤◌, ◌-◌, ◌+◌, ◌^◌, ◌++◌, ℕ, List, [], length, OnOk, OnErr, IfOk, min, true};
+ghost use Rattle.std.specs.List.{All};
+ghost use Rattle.dc_base.specs.Failures.{HasRisen};
+ghost use Rattle.dc_stream.specs.Stream.{Puts, Wrote};
+ghost use Rattle.dc_rounds.specs.Polls.{GoesRound, Polled, PollsAll};
+ghost use Rattle.dc_rounds.specs.Round.{EachFewer, HasFew, IsFresh, IsOver, Runs, end_line, lates_from, meters_left, most_lines};
+ghost use Rattle.dc_rounds.specs.Station.{IsSound, rounds_of};
+
+use crate::ending::{put_end, put_late};
+use crate::lines::{ask_all, commit_all, hear_and_commit, line_at};
+use crate::outcome::Outcome;
+use crate::phase::Phase;
+use crate::station::Station;
+use crate::telling::tell_all;
+use crate::timer::Timer;
+use dc_core::Concentrator;
+use dc_line::QuietBus;
+use dc_sectors::Disk;
+use dc_stream::{IoFault, Sink};
+use std::alloc::Allocator;
+
+// More rounds than are ever needed: of as many meters as a queue has, each tried as often as a byte says.
+const MOST_ROUNDS: u64 = 65_535 * 255 * ROUNDS_A_START + ROUNDS_A_START;
+
+// So many rounds one start takes at most: until its bus is ready, and for each request and its answer.
+const ROUNDS_A_START: u64 = 4_259_843 + 103 * 65_538 + 1;
+
+// One round. Whether all is kept.
+fn round<D: Disk + Drop, A: Allocator + Copy, B: QuietBus + Drop, T: Timer<B>, W: Sink>(
+    concentrator: &mut Concentrator<D, A>,
+    stations: &mut [Station<'_, B>],
+    tries: u8,
+    timer: &mut T,
+    outcome: &mut Outcome,
+    out: &mut W,
+) -> Result<bool, IoFault>
+    requires lines { length stations.old ≤ most_lines }
+    requires sound { All (IsSound B.QuietBus tries) stations.old }
+    requires few { outcome.old.read + outcome.old.failed + most_lines < 2 ^ 64 }
+    ensures went { Runs D.Disk (λ core happened. IfOk result (λ kept.
+        GoesRound B.QuietBus T.tells T.passes tries kept stations.old stations.new timer.old timer.new
+        (Puts (W.written out.old) (W.written out.new)) outcome.old outcome.new core happened))
+        concentrator.old concentrator.new }
+    ensures sound { OnOk result (All (IsSound B.QuietBus tries) stations.new) }
+    ensures fewer { IfOk result (λ kept. kept ≡ true → EachFewer (rounds_of B.QuietBus 1 1 1 tries)
+        (rounds_of B.QuietBus 1 1 1 tries) 1 stations.old stations.new) }
+    ensures few { OnOk result (outcome.new.read + outcome.new.failed
+        ≤ outcome.old.read + outcome.old.failed + most_lines) }
+    ensures budget { concentrator.new.house.budget ≡ concentrator.old.house.budget }
+    ensures fault { OnErr result (HasRisen (W.put_failures out.old) (W.put_failures out.new)) }
+    ensures well { OnOk result (W.put_failures out.new ≡ W.put_failures out.old) }
+{
+    ask_all(concentrator, stations, tries);
+    timer.pause(stations);
+    let moment = timer.now();
+    let stored = hear_and_commit(concentrator, stations, tries, moment);
+    match tell_all(concentrator, stations, outcome, out) {
+        Ok(()) => Ok(stored.is_ok()),
+        Err(fault) => Err(fault),
+    }
+}
+
+// Whether no meter is left.
+fn is_over<B: QuietBus + Drop>(stations: &[Station<'_, B>]) -> bool
+    ensures { result ≡ true → All IsOver stations.now }
+{
+    stations.iter().all(|station| station.left.is_empty() && matches!(station.phase, Phase::Free))
+}
+
+// Round after round, until no meter is left, or a commit answered a fault.
+fn read_rounds<D: Disk + Drop, A: Allocator + Copy, B: QuietBus + Drop, T: Timer<B>, W: Sink>(
+    concentrator: &mut Concentrator<D, A>,
+    stations: &mut [Station<'_, B>],
+    tries: u8,
+    timer: &mut T,
+    before: Outcome,
+    out: &mut W,
+) -> Result<Outcome, IoFault>
+    requires lines { length stations.old ≤ most_lines }
+    requires sound { All (IsSound B.QuietBus tries) stations.old }
+    requires few { before.read + before.failed < 2 ^ 63 }
+    ensures went { Runs D.Disk (λ core happened. IfOk result (λ outcome. Polled B.QuietBus T.tells T.passes tries
+        stations.old stations.new timer.old timer.new (Puts (W.written out.old) (W.written out.new)) before outcome
+        core happened)) concentrator.old concentrator.new }
+    ensures few { IfOk result (λ outcome. outcome.read + outcome.failed < 2 ^ 63 + 2 ^ 62) }
+    ensures budget { concentrator.new.house.budget ≡ concentrator.old.house.budget }
+    ensures fault { OnErr result (HasRisen (W.put_failures out.old) (W.put_failures out.new)) }
+    ensures well { OnOk result (W.put_failures out.new ≡ W.put_failures out.old) }
+{
+    let mut outcome = before;
+    match commit_all(concentrator, stations) {
+        Ok(()) => {}
+        Err(_) => return Ok(outcome),
+    }
+    'rounds: for _ in 0..MOST_ROUNDS {
+        if is_over(stations) {
+            return Ok(outcome);
+        }
+        match round(concentrator, stations, tries, timer, &mut outcome, out) {
+            Ok(true) => {}
+            Ok(false) => return Ok(outcome),
+            Err(fault) => return Err(fault),
+        }
+    }
+    Ok(outcome)
+}
+
+// How many meters are left on these lines.
+fn meters_left<B: QuietBus + Drop>(stations: &[Station<'_, B>]) -> u64
+    ensures { result ≡ min (2 ^ 64 - 1) (meters_left stations.now) }
+{
+    match stations.split_first() {
+        None => 0,
+        Some((station, others)) => meters_left(others).saturating_add(station.left.len() as u64),
+    }
+}
+
+// How many late answers were dropped on each of these lines, of which the first has that number.
+#[tactic(auto, using(dc_stream::proofs::Pieces::written))]
+fn put_lates<B: QuietBus + Drop, W: Sink>(
+    stations: &[Station<'_, B>],
+    line: u8,
+    out: &mut W,
+) -> Result<(), IoFault>
+    requires { line + length stations.now ≤ 255 }
+    ensures { Wrote W.written W.put_failures result out.old out.new (lates_from B.QuietBus line stations.now) }
+{
+    let Some((station, others)) = stations.split_first() else {
+        return Ok(());
+    };
+    put_late(out, line, station.bus.late())?;
+    put_lates(others, line + 1, out)
+}
+
+// The end of the text. The meters that are left count as not read.
+fn finish<B: QuietBus + Drop, W: Sink>(
+    stations: &[Station<'_, B>],
+    between: Outcome,
+    out: &mut W,
+) -> Result<Outcome, IoFault>
+    requires { length stations.now ≤ most_lines }
+    ensures counts { IfOk result (λ outcome. outcome ≡ record {
+      read = between.read;
+      failed = min (2 ^ 64 - 1) (between.failed + meters_left stations.now);
+    }) }
+    ensures text { IfOk result (λ outcome. Puts (W.written out.old) (W.written out.new)
+        (lates_from B.QuietBus 1 stations.now ++ end_line outcome.read outcome.failed)) }
+    ensures fault { OnErr result (HasRisen (W.put_failures out.old) (W.put_failures out.new)) }
+    ensures well { OnOk result (W.put_failures out.new ≡ W.put_failures out.old) }
+{
+    let failed = between.failed.saturating_add(meters_left(stations));
+    match put_finish(stations, between.read, failed, out) {
+        Ok(()) => Ok(Outcome {
+            read: between.read,
+            failed,
+        }),
+        Err(fault) => Err(fault),
+    }
+}
+
+#[tactic(auto, using(dc_stream::proofs::Pieces::written))]
+fn put_finish<B: QuietBus + Drop, W: Sink>(
+    stations: &[Station<'_, B>],
+    read: u64,
+    failed: u64,
+    out: &mut W,
+) -> Result<(), IoFault>
+    requires { length stations.now ≤ most_lines }
+    ensures { Wrote W.written W.put_failures result out.old out.new
+        (lates_from B.QuietBus 1 stations.now ++ end_line read failed) }
+{
+    put_lates(stations, 1, out)?;
+    put_end(out, read, failed)
+}
+
+/// Reads the meters of up to eight lines, of which line k + 1 is that of the station at k. Each meter is started
+/// at most so often, until a readout of it doesn't fail. It ends whatever the lines give. On each line the requests
+/// that are asked go out, and nothing else, and what the bus gave is heard. Each round commits what it heard, and then
+/// writes how readouts ended: `READ`, `FAILED` or `REFUSED`, and `LINE n LOST` once for each line that became lost.
+/// Where a commit answers a fault, the poll ends. At the end `LATE line n` is written for each line on which n late
+/// answers were dropped, and `END read failed`.
+///
+/// # Errors
+/// A write failed.
+pub fn read_all<D: Disk + Drop, A: Allocator + Copy, B: QuietBus + Drop, T: Timer<B>, W: Sink>(
+    concentrator: &mut Concentrator<D, A>,
+    stations: &mut [Station<'_, B>],
+    tries: u8,
+    timer: &mut T,
+    out: &mut W,
+) -> Result<Outcome, IoFault>
+    requires lines { length stations.old ≤ most_lines }
+    requires fresh { All IsFresh stations.old }
+    requires tries { 0 < tries }
+    ensures went { Runs D.Disk (λ core happened. IfOk result (λ outcome.
+        PollsAll B.QuietBus T.tells T.passes tries stations.old stations.new timer.old timer.new
+        (Puts (W.written out.old) (W.written out.new)) (record { read = 0; failed = 0 }) outcome core happened))
+        concentrator.old concentrator.new }
+    ensures budget { concentrator.new.house.budget ≡ concentrator.old.house.budget }
+    ensures fault { OnErr result (HasRisen (W.put_failures out.old) (W.put_failures out.new)) }
+    ensures well { OnOk result (W.put_failures out.new ≡ W.put_failures out.old) }
+{
+    read_on(
+        concentrator,
+        stations,
+        tries,
+        timer,
+        Outcome { read: 0, failed: 0 },
+        out,
+    )
+}
+
+/// The same, after so many meters were counted.
+pub(crate) fn read_on<
+    D: Disk + Drop,
+    A: Allocator + Copy,
+    B: QuietBus + Drop,
+    T: Timer<B>,
+    W: Sink,
+>(
+    concentrator: &mut Concentrator<D, A>,
+    stations: &mut [Station<'_, B>],
+    tries: u8,
+    timer: &mut T,
+    before: Outcome,
+    out: &mut W,
+) -> Result<Outcome, IoFault>
+    requires lines { length stations.old ≤ most_lines }
+    requires sound { All (IsSound B.QuietBus tries) stations.old }
+    requires few { before.read + before.failed < 2 ^ 63 }
+    ensures went { Runs D.Disk (λ core happened. IfOk result (λ outcome.
+        PollsAll B.QuietBus T.tells T.passes tries stations.old stations.new timer.old timer.new
+        (Puts (W.written out.old) (W.written out.new)) before outcome core happened))
+        concentrator.old concentrator.new }
+    ensures budget { concentrator.new.house.budget ≡ concentrator.old.house.budget }
+    ensures fault { OnErr result (HasRisen (W.put_failures out.old) (W.put_failures out.new)) }
+    ensures well { OnOk result (W.put_failures out.new ≡ W.put_failures out.old) }
+{
+    match read_rounds(concentrator, stations, tries, timer, before, out) {
+        Ok(between) => finish(stations, between, out),
+        Err(fault) => Err(fault),
+    }
+}

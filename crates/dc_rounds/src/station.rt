@@ -1,0 +1,190 @@
+//! One line's part of the readout: its bus, and the meters that are still to be read on it.
+
+ghost use Rattle.std.specs.Prelude.{◌≡◌, ◌⊎◌, ◌<◌, ◌≤◌, ◌+◌, ◌-◌, ℕ, List, IfNone, IfSome, OnOk, IfErr, length, nat_lt, true, false};
+ghost use Rattle.dc_core.specs.Step.{longest_request};
+ghost use Rattle.dc_line.specs.Bus.{most_waits};
+ghost use Rattle.dc_rounds.specs.Queue.{most_asks};
+ghost use Rattle.dc_rounds.specs.Station.{IsAfter, Listens, after_answer, ended, is_answered, lost_by, stored_by, taken_of};
+ghost use Rattle.dc_rounds.specs.declared.end.End.TheVariants.{Read, Refused};
+ghost use Rattle.dc_rounds.specs.declared.end.Refusal.TheVariants.{Start};
+ghost use Rattle.dc_rounds.specs.declared.phase.Phase.TheVariants.{Free, Busy};
+ghost use Rattle.dc_rounds.specs.declared.phase.Request.TheVariants.{Quiet, Sent};
+
+use crate::end::{End, Refusal};
+use crate::phase::{Phase, Request};
+use dc_address::Identity;
+use dc_core::{CommitFault, HearFault, LineHeard, StartFault};
+use dc_line::QuietBus;
+use dc_linkframe::FrameBuf;
+
+// No readout asks more often: three tries at a reset, a selection and each of 32 parts, and once more where nothing is to
+// be asked.
+pub(crate) const MOST_ASKS: u8 = 103;
+
+/// A line's bus, and the meters that are still to be read on it.
+#[derive(Drop)]
+pub struct Station<'a, B: QuietBus + Drop> {
+    /// The bus.
+    pub bus: B,
+    /// The meters that are still to be read, the present one first.
+    pub left: &'a [Identity],
+    /// How often the present one was started.
+    pub used: u8,
+    /// How its readout is found.
+    pub phase: Phase,
+    /// How its request is found.
+    pub request: Request,
+    /// Whether it was written that the line is lost.
+    pub said: bool,
+}
+
+impl<'a, B: QuietBus + Drop> Station<'a, B> {
+    /// These meters, of which none was started.
+    pub fn new(bus: B, meters: &'a [Identity]) -> Station<'a, B>
+        ensures fresh { IsAfter (record { left = meters.now; used = 0; phase = Free }) bus Quiet false result }
+    {
+        Station {
+            bus,
+            left: meters,
+            used: 0,
+            phase: Phase::Free,
+            request: Request::Quiet,
+            said: false,
+        }
+    }
+
+    /// Whether a request is out of which nothing was heard yet.
+    pub fn is_waiting(&self) -> bool
+        ensures { result ≡ true → self.now.request ≡ Sent }
+    {
+        matches!(self.request, Request::Sent)
+    }
+
+    // Its readout began, or that was refused.
+    pub(crate) fn started(&mut self, meter: Identity, answer: Result<(), StartFault>)
+        requires { self.old.used < 255 }
+        ensures ok { OnOk answer (IsAfter (record { left = self.old.left.now; used = self.old.used + 1; phase = Busy most_asks })
+            self.old.bus self.old.request self.old.said self.new) }
+        ensures err { IfErr answer (λ fault. IsAfter (ended self.old.left.now (Refused meter (Start fault)))
+            self.old.bus self.old.request self.old.said self.new) }
+    {
+        match answer {
+            Ok(()) => {
+                self.used += 1;
+                self.phase = Phase::Busy(MOST_ASKS);
+            }
+            Err(fault) => self.leave(End::Refused(meter, Refusal::Start(fault))),
+        }
+    }
+
+    // A request is sent, the last but so many; where there is none, the meter is done with.
+    pub(crate) fn asked(&mut self, meter: Identity, asks: u8, request: Option<FrameBuf>)
+        requires short { IfSome request (λ bytes. length bytes ≤ longest_request) }
+        ensures sent { IfSome request (λ bytes. B.sends self.old.bus bytes self.new.bus
+            × (B.waits_left self.new.bus ≤ most_waits)
+            × IsAfter (record { left = self.old.left.now; used = self.old.used; phase = Busy asks })
+            self.new.bus Sent self.old.said self.new) }
+        ensures over { IfNone request (IsAfter (ended self.old.left.now (Read meter))
+            self.old.bus self.old.request self.old.said self.new) }
+    {
+        match request {
+            Some(request) => {
+                self.bus.send(&request);
+                self.phase = Phase::Busy(asks);
+                self.request = Request::Sent;
+            }
+            None => self.leave(End::Read(meter)),
+        }
+    }
+
+    // Where a request is out, what was heard of it is taken, once it is complete.
+    pub(crate) fn listen(&mut self)
+        ensures out { self.old.request ≡ Sent
+            → Listens B.QuietBus self.old self.new }
+        ensures kept { (self.old.request ≡ Sent) ⊎ (self.new ≡ self.old) }
+    {
+        if let Request::Sent = self.request {
+            if let Some(answer) = self.bus.hear() {
+                self.request = Request::Answered(answer);
+            }
+        }
+    }
+
+    // Whether something was heard that isn't judged.
+    pub(crate) fn has_answer(&self) -> bool
+        ensures { result ≡ is_answered self.now.request }
+    {
+        matches!(self.request, Request::Answered(_))
+    }
+
+    // What was heard; nothing is silence.
+    pub(crate) fn taken(&self) -> &[u8]
+        ensures { result.now ≡ taken_of self.now.request }
+    {
+        match &self.request {
+            Request::Answered(bytes) => bytes.as_slice(),
+            _ => &[],
+        }
+    }
+
+    // What becomes of the readout by what was heard. Whether a telegram was accepted.
+    pub(crate) fn judged(
+        &mut self,
+        meter: Identity,
+        asks: u8,
+        tries: u8,
+        answer: Result<LineHeard, HearFault>,
+    )
+        requires { self.old.phase ≡ Busy asks }
+        ensures { IsAfter (after_answer (nat_lt self.old.used tries) self.old.left.now self.old.used asks meter answer)
+            self.old.bus Quiet self.old.said self.new }
+    {
+        self.request = Request::Quiet;
+        match answer {
+            Ok(LineHeard::Again) | Ok(LineHeard::Ready) => {}
+            Ok(LineHeard::Accepted { .. }) => self.phase = Phase::Pending(asks),
+            Ok(LineHeard::Failed(why)) => {
+                if self.used < tries {
+                    self.phase = Phase::Free;
+                } else {
+                    self.leave(End::Failed(meter, why));
+                }
+            }
+            Err(fault) => self.leave(End::Refused(meter, Refusal::Hear(fault))),
+        }
+    }
+
+    // What becomes of it by a commit.
+    pub(crate) fn stored(&mut self, stored: &Result<usize, CommitFault>)
+        ensures { IsAfter (stored_by self.old.left.now self.old.used self.old.phase stored.now)
+            self.old.bus self.old.request self.old.said self.new }
+    {
+        if let Phase::Pending(asks) = self.phase {
+            match stored {
+                Ok(_) => self.phase = Phase::Busy(asks),
+                Err(fault) => self.lose(*fault),
+            }
+        }
+    }
+
+    // The present meter's telegram isn't stored.
+    fn lose(&mut self, fault: CommitFault)
+        ensures { IsAfter (lost_by self.old.left.now self.old.used self.old.phase fault)
+            self.old.bus self.old.request self.old.said self.new }
+    {
+        if let Some(meter) = self.left.first() {
+            self.leave(End::Refused(*meter, Refusal::Commit(fault)));
+        }
+    }
+
+    // The present meter is done with.
+    pub(crate) fn leave(&mut self, end: End)
+        ensures { IsAfter (ended self.old.left.now end) self.old.bus self.old.request self.old.said self.new }
+    {
+        if let Some((_, more)) = self.left.split_first() {
+            self.left = more;
+        }
+        self.used = 0;
+        self.phase = Phase::Over(end);
+    }
+}
