@@ -1,0 +1,12 @@
+use Rattle.std.proofs.Common.{◌≤◌, length}
+use Rattle.dc_teller.specs.Lines.{longest_input_line, most_spelled}
+use Rattle.dc_json.proofs.explain.put_lines.Given as goal
+
+abbrev pub invariant-lines : goal.invariant-lines
+invariant-lines g l = record {
+  digits : longest_input_line ≤ length l.digits;
+  bytes : most_spelled ≤ length l.bytes;
+}
+
+abbrev pub decreases-lines : goal.decreases-lines
+decreases-lines g l = length l.rest

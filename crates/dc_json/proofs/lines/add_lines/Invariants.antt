@@ -1,0 +1,18 @@
+use Rattle.std.proofs.Common.{◌≡◌, ◌≤◌, ◌+◌, ◌++◌, length}
+use Rattle.std.specs.Prelude.{◌||◌}
+use Rattle.dc_teller.specs.Lines.{lines_of, longest_input_line, most_spelled}
+use Rattle.dc_teller.specs.Text.{has_fault}
+use Rattle.dc_json.specs.Text.{lines_text, objects_from, json_text}
+use Rattle.dc_json.proofs.lines.add_lines.Given as goal
+
+abbrev pub invariant-lines : goal.invariant-lines
+invariant-lines g l = record {
+  digits : longest_input_line ≤ length l.digits;
+  bytes : most_spelled ≤ length l.bytes;
+  number : l.number + length l.rest ≤ 1 + length l.input;
+  text : l.grown.items ++ lines_text (objects_from l.number (lines_of l.rest)) ≡ json_text l.input;
+  fault : (l.found || has_fault l.rest) ≡ has_fault l.input;
+}
+
+abbrev pub decreases-lines : goal.decreases-lines
+decreases-lines g l = length l.rest

@@ -1,0 +1,13 @@
+use Rattle.std.proofs.Common.{append_assoc, append-nil}
+use Rattle.json.specs.Tree.{json_tokens}
+use Rattle.dc_records.specs.Record.{view}
+use Rattle.dc_json.specs.Record.{record_json, record_fields}
+use Rattle.dc_json.proofs.Objects.{members_are, items_are, fields-append}
+use Rattle.dc_json.proofs.Adding.{◌>>◌, unchanged, said}
+use Rattle.dc_json.proofs.record.put_record.Goals as goal
+
+pub returns : goal.returns
+unfolding record_json record_fields
+returns g c =
+    said (json_tokens (record_json (view c.args.found.now)))
+    (c.in_ok-begin_object.ensures >> c.in_ok-put_about.ensures >> c.in_ok-put_sent.ensures >> c.in_ok-put_quantity.ensures >> c.in_ok-put_seen.ensures >> c.in_ok-end_object.ensures >> unchanged) (simp (members_are, items_are, fields-append, append_assoc, append-nil))

@@ -1,0 +1,12 @@
+use Rattle.std.proofs.Common.{[], ◌∷◌, append_assoc, append-nil}
+use Rattle.dc_json.specs.Object.{fields_tokens}
+use Rattle.dc_json.specs.Telegram.{records_field}
+use Rattle.dc_json.proofs.Objects.{members_are, items_are, fields-append}
+use Rattle.dc_json.proofs.Adding.{◌>>◌, unchanged, said}
+use Rattle.dc_json.proofs.telegram.put_records_field.Goals as goal
+
+pub returns : goal.returns
+unfolding fields_tokens records_field
+returns g c =
+    said (fields_tokens (records_field c.args.records ∷ []))
+    (c.in_ok-put_name.ensures >> c.in_ok-begin_array.ensures >> c.in_ok-put_records.ensures >> c.in_ok-end_array.ensures >> unchanged) (simp (members_are, items_are, fields-append, append_assoc, append-nil))

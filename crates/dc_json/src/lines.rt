@@ -1,0 +1,190 @@
+//! The engine of JSON lines: from a source's lines of hex digits to a sink's objects.
+
+ghost use Rattle.std.specs.Prelude.{◌≡◌, ◌≢◌, ◌<◌, ◌≤◌, ◌++◌, length, map, IfSome, IfOk, IfErr, OnOk, IsErrOf};
+ghost use Rattle.dc_base.specs.Failures.{HasRisen};
+ghost use Rattle.dc_stream.specs.Stream.{Puts};
+ghost use Rattle.dc_teller.specs.Frames.{frames_of, is_bad, any_bad};
+ghost use Rattle.dc_teller.specs.Lines.{longest_input_line, most_input, most_spelled};
+ghost use Rattle.dc_teller.specs.Text.{is_bad_line, has_fault};
+ghost use Rattle.dc_json.specs.Frame.{text_json, hex_fault_json};
+ghost use Rattle.dc_json.specs.Text.{value_line, lines_text, line_objects, json_text};
+
+use crate::frame::{put_fault, put_place, put_shown};
+use crate::put::{begin_object, end_object};
+use dc_base::NoMemory;
+use dc_stream::{Sink, Source, room};
+use dc_teller::{
+    CHUNK, LONGEST, MOST, TellFault, decode_line, first_frame, first_line, read_input,
+};
+use json::Writer;
+use std::alloc::Allocator;
+
+// A line and its number, from 1.
+#[derive(Clone, Copy)]
+struct Numbered<'a> {
+    number: u64,
+    line: &'a [u8],
+}
+
+// Adds the object of a text that is read as one frame.
+fn add_text<A: Allocator + Copy>(
+    alloc: A,
+    text: Vec<u8, A>,
+    line: u64,
+    bytes: &[u8],
+) -> Result<(Vec<u8, A>, bool), NoMemory>
+    ensures text { IfOk result (λ added. added.0.items ≡ text.items ++ value_line (text_json line bytes.now)) }
+    ensures fault { IfOk result (λ added. added.1 ≡ is_bad bytes.now) }
+{
+    let mut out = Writer::new(text);
+    begin_object(&mut out)?;
+    let bad = put_shown(alloc, &mut out, line, bytes)?;
+    end_object(&mut out)?;
+    let mut grown = out.into_inner();
+    grown.push(b'\n')?;
+    Ok((grown, bad))
+}
+
+// Adds the object of a line that isn't pairs of hex digits.
+fn add_hex_fault<A: Allocator>(text: Vec<u8, A>, line: u64) -> Result<Vec<u8, A>, NoMemory>
+    ensures { IfOk result (λ added. added.items ≡ text.items ++ value_line (hex_fault_json line)) }
+{
+    let mut out = Writer::new(text);
+    begin_object(&mut out)?;
+    put_place(&mut out, line, "none")?;
+    put_fault(&mut out, "hex", 1, "Hex")?;
+    end_object(&mut out)?;
+    let mut grown = out.into_inner();
+    grown.push(b'\n')?;
+    Ok(grown)
+}
+
+// Adds the objects of a line's bytes, and says whether a fault is among them.
+#[tactic(auto, using(dc_teller::proofs::Cuts::shows))]
+fn add_frames<A: Allocator + Copy>(
+    alloc: A,
+    text: Vec<u8, A>,
+    line: u64,
+    bytes: &[u8],
+) -> Result<(Vec<u8, A>, bool), NoMemory>
+    ensures text { IfOk result (λ added. added.0.items ≡ text.items ++ lines_text (map (text_json line) (frames_of bytes.now))) }
+    ensures fault { IfOk result (λ added. added.1 ≡ any_bad (frames_of bytes.now)) }
+{
+    let mut grown = text;
+    let mut found = false;
+    let mut rest = bytes;
+    'frames: while !rest.is_empty() {
+        let (first, after) = first_frame(rest);
+        let (more, bad) = add_text(alloc, grown, line, first)?;
+        grown = more;
+        found |= bad;
+        rest = after;
+    }
+    Ok((grown, found))
+}
+
+// Adds the objects of a line, and says whether a fault is among them. `digits` and `bytes` are room for what is decoded.
+#[tactic(auto, unfolding(crate::specs::Text::line_objects, dc_teller::specs::Text::is_bad_line))]
+fn add_line<A: Allocator + Copy>(
+    alloc: A,
+    text: Vec<u8, A>,
+    numbered: &Numbered<'_>,
+    digits: &mut [u8],
+    bytes: &mut [u8],
+) -> Result<(Vec<u8, A>, bool), NoMemory>
+    requires digits { longest_input_line ≤ length digits.old }
+    requires bytes { most_spelled ≤ length bytes.old }
+    ensures text { IfOk result (λ added. added.0.items ≡ text.items ++ lines_text (line_objects numbered.now.number numbered.now.line.now)) }
+    ensures fault { IfOk result (λ added. added.1 ≡ is_bad_line numbered.now.line.now) }
+{
+    let Numbered { number, line } = *numbered;
+    match decode_line(line, digits, bytes) {
+        Some(count) => add_frames(alloc, text, number, &bytes[..count]),
+        None => {
+            let grown = add_hex_fault(text, number)?;
+            Ok((grown, true))
+        }
+    }
+}
+
+// Adds the objects of an input's lines, and says whether a fault is among them.
+#[tactic(auto, using(dc_teller::proofs::Inputs::lines))]
+fn add_lines<A: Allocator + Copy>(
+    alloc: A,
+    input: &[u8],
+    digits: &mut [u8],
+    bytes: &mut [u8],
+) -> Result<(Vec<u8, A>, bool), NoMemory>
+    requires input { length input.now ≤ most_input }
+    requires digits { longest_input_line ≤ length digits.old }
+    requires bytes { most_spelled ≤ length bytes.old }
+    ensures text { IfOk result (λ added. added.0.items ≡ json_text input.now) }
+    ensures fault { IfOk result (λ added. added.1 ≡ has_fault input.now) }
+{
+    let mut grown = Vec::new(alloc);
+    let mut found = false;
+    let mut number = 1;
+    let mut rest = input;
+    'lines: while !rest.is_empty() {
+        let (line, after) = first_line(rest);
+        let numbered = Numbered { number, line };
+        let (more, bad) = add_line(alloc, grown, &numbered, digits, bytes)?;
+        grown = more;
+        found |= bad;
+        number += 1;
+        rest = after;
+    }
+    Ok((grown, found))
+}
+
+/// Writes what the lines of hex digits that the reader has left stand for as JSON Lines (RFC 8259): an object for each
+/// frame and for each fault of a line or a frame, in order. The answer says whether a fault of a line, a frame or a body
+/// is among it.
+///
+/// The whole input is read, and the whole text made, before anything is written. The text is defined by
+/// `specs/Text.antt`, over the frames of EN 13757-2 and the telegrams of EN 13757-3; the value of a record is that of
+/// [`point_of`](dc_units::point_of), as `decode` prints it.
+///
+/// # Errors
+/// [`TellFault::Read`] and [`TellFault::Write`] where that end failed, [`TellFault::TooLong`] over 1 MiB,
+/// [`TellFault::NoMemory`] where memory was refused. Only after `Write` may something have been written.
+pub fn json_lines<A: Allocator + Copy, R: Source, W: Sink>(
+    alloc: A,
+    reader: &mut R,
+    writer: &mut W,
+) -> Result<bool, TellFault>
+    // What is written is the text for the input, byte for byte.
+    ensures text { OnOk result (IfSome (R.left reader.old) (λ input. Puts (W.written writer.old) (W.written writer.new) (json_text input))) }
+    // The answer says whether a fault is among it.
+    ensures fault { IfOk result (λ found. IfSome (R.left reader.old) (λ input. found ≡ has_fault input)) }
+
+    // An input over the limit is refused, and no other is refused for its length.
+    ensures fits { OnOk result (IfSome (R.left reader.old) (λ input. length input ≤ most_input)) }
+    ensures too_long { IsErrOf result TellFault.TooLong → IfSome (R.left reader.old) (λ input. most_input < length input) }
+
+    // A fault of an end is answered only where that end counted a failure.
+    ensures read { IsErrOf result TellFault.Read → HasRisen (R.take_failures reader.old) (R.take_failures reader.new) }
+    ensures write { IsErrOf result TellFault.Write → HasRisen (W.put_failures writer.old) (W.put_failures writer.new) }
+    ensures ok { OnOk result ((R.take_failures reader.new ≡ R.take_failures reader.old) × (W.put_failures writer.new ≡ W.put_failures writer.old)) }
+
+    // After any fault but a failed write the writer is as it was.
+    ensures untouched { IfErr result (λ fault. fault ≢ TellFault.Write → writer.new ≡ writer.old) }
+{
+    let mut digits = room(alloc, LONGEST)?;
+    let mut bytes = room(alloc, LONGEST / 2)?;
+    let mut chunk = room(alloc, CHUNK)?;
+    let input = read_input(alloc, reader, chunk.as_mut_slice())?;
+    if input.len() > MOST {
+        return Err(TellFault::TooLong);
+    }
+    let (text, found) = add_lines(
+        alloc,
+        input.as_slice(),
+        digits.as_mut_slice(),
+        bytes.as_mut_slice(),
+    )?;
+    match writer.put(text.as_slice()) {
+        Ok(()) => Ok(found),
+        Err(_) => Err(TellFault::Write),
+    }
+}

@@ -1,0 +1,51 @@
+//! Where a fault lies, and what was expected there.
+
+use dc_linkframe::FrameFault;
+use dc_records::{BodyFault, Telegram};
+
+// The bytes of a telegram's header, and the place of the security mode in it (EN 13757-3, long data header).
+const HEADER: usize = 12;
+
+const MODE: usize = 11;
+
+/// Where the fault of a text lies that is no frame, counted in bytes from its start, and what was expected there.
+pub(crate) fn frame_place(text: &[u8], fault: FrameFault) -> (usize, &'static str) {
+    let last = text.len().saturating_sub(1);
+    match fault {
+        FrameFault::Empty => (0, "a frame"),
+        FrameFault::Start => (0, "E5, 10 or 68"),
+        FrameFault::Truncated => (text.len(), "more bytes of the frame"),
+        FrameFault::Lengths => (1, "two equal lengths of 3 or more, and 68 again"),
+        FrameFault::Trailing => (last, "no byte after the frame"),
+        FrameFault::Stop => (last, "16"),
+        FrameFault::Checksum => (last.saturating_sub(1), "the sum of the bytes before it"),
+    }
+}
+
+/// Where the fault of a body lies, counted in bytes from its start, and what was expected there.
+pub(crate) fn body_place(body: &[u8], fault: BodyFault) -> (usize, &'static str) {
+    let item = whole_items(body);
+    match fault {
+        BodyFault::Short => (body.len(), "a header of 12 bytes"),
+        BodyFault::BadIdentity => (0, "eight digits and three letters"),
+        BodyFault::Encrypted => (MODE, "security mode 0"),
+        BodyFault::ReservedDif => (item, "a DIF that isn't reserved"),
+        BodyFault::TooManyDife => (item, "a record of at most ten DIFEs"),
+        BodyFault::TooManyVife => (item, "a record of at most ten VIFEs"),
+        BodyFault::BadLength => (item, "a record with a length byte below F0"),
+        BodyFault::PlainTextExtension => (item, "a record whose VIF isn't FC"),
+        BodyFault::Cut => (item, "a whole record"),
+    }
+}
+
+// How many bytes of a body are its header and whole items: the longest front that is a telegram.
+fn whole_items(body: &[u8]) -> usize {
+    let mut whole = 0;
+    'ends: for end in HEADER..body.len() {
+        let (front, _) = body.split_at(end);
+        if Telegram::parse(front).is_ok() {
+            whole = end;
+        }
+    }
+    whole
+}

@@ -1,0 +1,145 @@
+//! A telegram as an aligned table.
+
+use dc_names::{
+    application_name, function_name, medium_name, plain_of, qualifiers, quantity_name, vife_name,
+};
+use dc_records::{Header, Record, Telegram};
+use dc_stream::{IoFault, Sink};
+use dc_text::{put_byte, put_hex, put_number};
+use dc_units::{Seen, TEXT_ROOM, Value, point_of};
+
+// The widths of the columns, in characters.
+const QUANTITY: usize = 30;
+
+const VALUE: usize = 20;
+
+const UNIT: usize = 11;
+
+const NUMBER: usize = 8;
+
+// Writes so many spaces, and one.
+fn put_spaces<W: Sink>(out: &mut W, count: usize) -> Result<(), IoFault> {
+    'spaces: for _ in 0..count {
+        out.put(b" ")?;
+    }
+    out.put(b" ")
+}
+
+// Writes a cell of a column.
+fn put_cell<W: Sink>(out: &mut W, text: &[u8], width: usize) -> Result<(), IoFault> {
+    out.put(text)?;
+    put_spaces(out, width.saturating_sub(text.len()))
+}
+
+// How many digits a number has.
+fn digits_of(number: u64) -> usize {
+    let mut digits = 1;
+    let mut power = 10;
+    'powers: for _ in 0..19u8 {
+        if number < power {
+            return digits;
+        }
+        digits = digits.saturating_add(1);
+        power = power.saturating_mul(10);
+    }
+    digits
+}
+
+fn put_number_cell<W: Sink>(out: &mut W, number: u64) -> Result<(), IoFault> {
+    put_number(out, number)?;
+    put_spaces(out, NUMBER.saturating_sub(digits_of(number)))
+}
+
+// Writes who sent a telegram and how it is.
+fn put_header<W: Sink>(out: &mut W, header: &Header) -> Result<(), IoFault> {
+    out.put(b"  meter   ")?;
+    out.put(&header.identity.text())?;
+    out.put(b", ")?;
+    out.put(medium_name(header.identity.kind).as_bytes())?;
+    out.put(b", access number ")?;
+    put_number(out, u64::from(header.access))?;
+    out.put(b"\n  status  ")?;
+    put_byte(out, header.status)?;
+    out.put(b": application: ")?;
+    out.put(application_name(header.status).as_bytes())?;
+    put_bit(out, header.status / 4, b", power low")?;
+    put_bit(out, header.status / 8, b", permanent error")?;
+    put_bit(out, header.status / 16, b", temporary error")?;
+    out.put(b"\n")
+}
+
+// Writes words where the lowest bit is set.
+fn put_bit<W: Sink>(out: &mut W, bits: u8, words: &[u8]) -> Result<(), IoFault> {
+    if bits % 2 == 1 {
+        out.put(words)?;
+    }
+    Ok(())
+}
+
+// Writes a value and its unit.
+fn put_value<W: Sink>(out: &mut W, value: &Value, unit: &str) -> Result<(), IoFault> {
+    let mut room = [0u8; TEXT_ROOM];
+    put_cell(out, value.write_into(&mut room), VALUE)?;
+    put_cell(out, unit.as_bytes(), UNIT)
+}
+
+// Writes a record's value and unit, or its data in hex.
+fn put_reading<W: Sink>(out: &mut W, found: &Record<'_>) -> Result<(), IoFault> {
+    if let Seen::Point(point) = point_of(found) {
+        return put_value(out, &point.value, point.quantity.unit());
+    }
+    if let Some(plain) = plain_of(found) {
+        return put_value(out, &plain.value, plain.unit);
+    }
+    put_hex(out, found.content)?;
+    put_spaces(
+        out,
+        VALUE.saturating_sub(found.content.len().saturating_mul(2)),
+    )?;
+    put_cell(out, b"hex", UNIT)
+}
+
+// Writes the row of a record.
+fn put_row<W: Sink>(out: &mut W, found: &Record<'_>) -> Result<(), IoFault> {
+    out.put(b"  ")?;
+    put_cell(out, quantity_name(found.vib).as_bytes(), QUANTITY)?;
+    put_reading(out, found)?;
+    put_number_cell(out, found.storage)?;
+    put_number_cell(out, u64::from(found.tariff))?;
+    put_number_cell(out, u64::from(found.subunit))?;
+    out.put(function_name(found.function).as_bytes())?;
+    put_qualifiers(out, found.vib)?;
+    out.put(b"\n")
+}
+
+// Writes the names of a record's VIFEs.
+fn put_qualifiers<W: Sink>(out: &mut W, vib: &[u8]) -> Result<(), IoFault> {
+    'vifes: for vife in qualifiers(vib) {
+        out.put(b", ")?;
+        out.put(vife_name(*vife % 128).as_bytes())?;
+    }
+    Ok(())
+}
+
+/// Writes a telegram: its meter, its status, and a row for each record.
+pub(crate) fn put_telegram_table<W: Sink>(
+    out: &mut W,
+    telegram: &Telegram<'_>,
+) -> Result<(), IoFault> {
+    put_header(out, &telegram.header())?;
+    out.put(b"  ")?;
+    put_cell(out, b"quantity", QUANTITY)?;
+    put_cell(out, b"value", VALUE)?;
+    put_cell(out, b"unit", UNIT)?;
+    put_cell(out, b"storage", NUMBER)?;
+    put_cell(out, b"tariff", NUMBER)?;
+    put_cell(out, b"subunit", NUMBER)?;
+    out.put(b"function\n")?;
+    'records: for found in telegram.records() {
+        put_row(out, &found)?;
+    }
+    if telegram.more_follows() {
+        out.put(b"  more records follow in the next telegram\n")?;
+    }
+    Ok(())
+}

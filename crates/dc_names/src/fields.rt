@@ -1,0 +1,68 @@
+//! Control fields, CI fields, functions and states.
+
+ghost use Rattle.std.specs.Prelude.{◌≡◌};
+ghost use Rattle.dc_names.specs.Fields.{control_name, ci_name, function_name, application_name};
+
+/// The name of a control byte (EN 13757-2), `unknown` where it is none of wired M-Bus.
+pub fn control_name(code: u8) -> &'static str
+    ensures { result.now ≡ control_name code }
+{
+    match code {
+        0x08 | 0x18 | 0x28 | 0x38 => "RSP_UD",
+        0x40 => "SND_NKE",
+        0x53 | 0x73 => "SND_UD",
+        0x5A | 0x7A => "REQ_UD1",
+        0x5B | 0x7B => "REQ_UD2",
+        _ => "unknown",
+    }
+}
+
+/// The name of a CI byte (EN 13757-3), `unknown` where it is none of wired M-Bus.
+pub fn ci_name(code: u8) -> &'static str
+    ensures { result.now ≡ ci_name code }
+{
+    match code {
+        0x50 => "application reset or select",
+        0x51 => "data for the meter",
+        0x52 => "selection",
+        0x54 => "synchronise action",
+        0x6C => "set date and time",
+        0x6D => "shift date and time",
+        0x6E..=0x6F => "application error with header",
+        0x70 => "application error",
+        0x71 => "alarm",
+        0x72 => "variable data, long header",
+        0x73 => "fixed data",
+        0x74..=0x75 => "alarm with header",
+        0x78 => "variable data, no header",
+        0x79 => "compact frame, no header",
+        0x7A => "variable data, short header",
+        0xB8..=0xBF => "set baud rate",
+        _ => "unknown",
+    }
+}
+
+/// The name of a record's function (EN 13757-3, function field).
+pub fn function_name(code: u8) -> &'static str
+    ensures { result.now ≡ function_name code }
+{
+    match code {
+        0x00 => "instantaneous",
+        0x01 => "maximum",
+        0x02 => "minimum",
+        0x03 => "error state",
+        _ => "reserved",
+    }
+}
+
+/// The name of what the application says of itself (EN 13757-3, status byte, bits 1 and 0).
+pub fn application_name(status: u8) -> &'static str
+    ensures { result.now ≡ application_name status }
+{
+    match status % 4 {
+        0 => "no error",
+        1 => "busy",
+        2 => "error",
+        _ => "abnormal condition",
+    }
+}
