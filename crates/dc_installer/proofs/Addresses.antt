@@ -1,0 +1,66 @@
+-- Addresses that are asked in turn.
+use Rattle.std.proofs.Common.{◌≡◌, ℕ, zero, suc, ◌+◌, ◌-◌, ◌≤◌, Bool, true, false, List, [], ◌∷◌, ◌++◌, Option, None, refl, sym, ◌∙◌, subst, arith}
+use Rattle.std.specs.List.{range_with_len}
+use Rattle.dc_address.specs.declared.identity.Identity.{Identity}
+use Rattle.dc_gateway.specs.Bus.{AreExchanged, Exchange}
+use Rattle.dc_gateway.proofs.Exchanges.{exchanged-both, exchanged-one}
+use Rattle.dc_linkframe.specs.Control.{request_to, reset_to}
+use Rattle.dc_linkframe.specs.Frame.{spelling}
+use Rattle.dc_linkframe.specs.Reading.{frame_of}
+use Rattle.dc_search.specs.Answer.{answer_of}
+use Rattle.dc_installer.specs.Scan.{AsksEach, AsksOne, Identifies, address_line, answers, is_ack, is_silent, prints, prints_none, requests, resets}
+
+module _ {B : Type 0} (asks : B → List ℕ → List ℕ → B → Type 0) where
+  -- what a reset comes to
+  abbrev pub IsReset : B → B → ℕ → Bool → Type 0
+  IsReset old new address acked =
+      (answer : List ℕ) × asks old (spelling (reset_to address)) answer new × (acked ≡ is_ack (frame_of answer))
+
+  -- and a request
+  abbrev pub IsRequested : B → B → ℕ → Option Identity → Type 0
+  IsRequested old new address meter =
+      (answer : List ℕ) × asks old (spelling (request_to true address)) answer new × (meter ≡ answer_of answer)
+
+  abbrev pub Asked : B → B → (List Exchange → Type 0) → Type 0
+  Asked old new are = (exchanges : List Exchange) × AreExchanged asks old exchanges new × are exchanges
+
+  both : (old mid new : B) (address : ℕ) (answer telegram : List ℕ) → asks old (spelling (reset_to address)) answer mid
+      → asks mid (spelling (request_to true address)) telegram new
+      → AreExchanged asks old (resets address answer ∷ requests address telegram ∷ []) new
+  both old mid new address answer telegram first second = (mid, first, exchanged-one asks mid new (spelling (request_to true address)) telegram second)
+
+  pub unacknowledged : (old new : B) (address : ℕ) (acked : Bool) → IsReset old new address acked → acked ≡ false
+      → Asked old new (λ exchanges. Identifies address exchanges None) × Asked old new (λ exchanges. AsksOne address exchanges [])
+  unacknowledged old new address acked reset not = let one = exchanged-one asks old new (spelling (reset_to address)) reset.0 reset.1 in let is = sym reset.2 ∙ not in (
+    (resets address reset.0 ∷ [], one, is_silent is),
+    (resets address reset.0 ∷ [], one, prints_none is),
+  )
+
+  pub acknowledged : (old mid new : B) (address : ℕ) (acked : Bool) (meter : Option Identity) → IsReset old mid address acked → acked ≡ true
+      → IsRequested mid new address meter
+      → Asked old new (λ exchanges. Identifies address exchanges meter) × Asked old new (λ exchanges. AsksOne address exchanges (address_line address meter))
+  acknowledged old mid new address acked meter reset is_acked request =
+      let is = sym reset.2 ∙ is_acked in
+      let all = both old mid new address reset.0 request.0 reset.1 request.1 in
+      let P : Option Identity → Type 0 = λ m. Identifies address (resets address reset.0 ∷ requests address request.0 ∷ []) m in
+      let Q : Option Identity → Type 0 = λ m. AsksOne address (resets address reset.0 ∷ requests address request.0 ∷ []) (address_line address m) in (
+        (resets address reset.0 ∷ requests address request.0 ∷ [], all, subst P (sym request.2) (answers is)),
+        (resets address reset.0 ∷ requests address request.0 ∷ [], all, subst Q (sym request.2) (prints is)),
+      )
+
+  -- one address, and then others
+  pub and_others : (old mid new : B) (address : ℕ) (more : List ℕ) (line later : List ℕ) → Asked old mid (λ exchanges. AsksOne address exchanges line)
+      → Asked mid new (λ exchanges. AsksEach more exchanges later)
+      → Asked old new (λ exchanges. AsksEach (address ∷ more) exchanges (line ++ later))
+  and_others old mid new address more line later first rest =
+      (first.0 ++ rest.0, exchanged-both asks old mid new first.0 rest.0 first.1 rest.1, (first.0, rest.0, line, later, refl, refl, first.2, rest.2))
+
+-- the last so many addresses are the first of them and the ones after it
+pub last_addresses : (left : ℕ) → 1 ≤ left → left ≤ 250
+    → range_with_len (251 - left) left ≡ (251 - left) ∷ range_with_len (251 - (left - 1)) (left - 1)
+last_addresses zero some few = elim some [ ]
+last_addresses (suc left) some few =
+    let next : 251 - suc left + 1 ≡ 251 - (suc left - 1) = omega (arith, few) in
+    let fewer : left ≡ suc left - 1 = omega arith in
+    let P : ℕ → ℕ → Type 0 = λ n m. range_with_len (251 - suc left) (suc left) ≡ (251 - suc left) ∷ range_with_len n m in
+    subst (λ (n : ℕ). P n (suc left - 1)) next (subst (λ (m : ℕ). P (251 - suc left + 1) m) fewer refl)

@@ -1,0 +1,5 @@
+-- the definitions that contracts cite
+-- the readout of one meter
+pub mod Read
+-- the search for meters
+pub mod Scan

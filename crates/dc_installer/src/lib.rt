@@ -1,0 +1,13 @@
+//! What an installer does on one bus, without an image: a search for meters, and the readout of one meter.
+//!
+//! Nothing is stored. [`read`] prints each telegram before the meter is asked for the next one. [`scan`] is the wildcard
+//! search, and [`scan_primary`] asks each primary address.
+#![tactic(auto)]
+
+mod primary;
+mod reading;
+mod wildcards;
+
+pub use primary::{identify, scan_primary};
+pub use reading::{Readout, read};
+pub use wildcards::{ScanFault, scan};

@@ -1,0 +1,131 @@
+//! The search at primary addresses.
+
+ghost use Rattle.std.specs.Prelude.{◌≡◌, ◌≤◌, ◌-◌, true, List, ℕ, OnOk, OnErr};
+ghost use Rattle.std.specs.List.{range_with_len};
+ghost use Rattle.dc_base.specs.Failures.{HasRisen};
+ghost use Rattle.dc_gateway.specs.Bus.{AreExchanged, Exchange};
+ghost use Rattle.dc_search.specs.Answer.{answer_of};
+ghost use Rattle.dc_linkframe.specs.Control.{request_to, reset_to};
+ghost use Rattle.dc_linkframe.specs.Frame.{spelling};
+ghost use Rattle.dc_linkframe.specs.Reading.{frame_of};
+ghost use Rattle.dc_stream.specs.Stream.{Puts, Wrote};
+ghost use Rattle.dc_installer.specs.Scan.{AsksEach, AsksOne, Identifies, address_line, greatest, identity_word, is_ack};
+
+use dc_address::{Identity, Primary};
+use dc_gateway::Bus;
+use dc_linkframe::control::{write_request, write_reset};
+use dc_linkframe::{Frame, FrameBuf, parse};
+use dc_search::meter_of;
+use dc_stream::{IoFault, Sink};
+use dc_text::put_number_word;
+
+// The greatest primary address.
+const GREATEST: u8 = 250;
+
+/// Asks each primary address from 1 to 250 (EN 13757-2), and prints each that acknowledges, with the meter whose telegram
+/// it answers where that can be read.
+///
+/// # Errors
+/// A write failed.
+pub fn scan_primary<B: Bus, W: Sink>(bus: &mut B, out: &mut W) -> Result<(), IoFault>
+    ensures asked { OnOk result ((exchanges : List Exchange) × (text : List ℕ)
+        × AreExchanged B.asks bus.old exchanges bus.new
+        × AsksEach (range_with_len 1 greatest) exchanges text
+        × Puts (W.written out.old) (W.written out.new) text) }
+    ensures failed { OnErr result (HasRisen (W.put_failures out.old) (W.put_failures out.new)) }
+    ensures well { OnOk result (W.put_failures out.new ≡ W.put_failures out.old) }
+{
+    scan_last(GREATEST, bus, out)
+}
+
+/// The meter at a primary address: it is reset, and its telegram is requested where it acknowledged. It repeats that
+/// telegram to the next readout.
+pub fn identify<B: Bus>(bus: &mut B, address: Primary) -> Option<Identity>
+    ensures { (exchanges : List Exchange) × AreExchanged B.asks bus.old exchanges bus.new
+        × Identifies address exchanges result }
+{
+    let number = address.get();
+    if resets(bus, number) {
+        requests(bus, number)
+    } else {
+        None
+    }
+}
+
+// The last so many addresses.
+fn scan_last<B: Bus, W: Sink>(left: u8, bus: &mut B, out: &mut W) -> Result<(), IoFault>
+    requires { left ≤ greatest }
+    ensures asked { OnOk result ((exchanges : List Exchange) × (text : List ℕ)
+        × AreExchanged B.asks bus.old exchanges bus.new
+        × AsksEach (range_with_len (251 - left) left) exchanges text
+        × Puts (W.written out.old) (W.written out.new) text) }
+    ensures failed { OnErr result (HasRisen (W.put_failures out.old) (W.put_failures out.new)) }
+    ensures well { OnOk result (W.put_failures out.new ≡ W.put_failures out.old) }
+{
+    if left == 0 {
+        return Ok(());
+    }
+    match scan_one(251 - left, bus, out) {
+        Ok(()) => scan_last(left - 1, bus, out),
+        Err(fault) => Err(fault),
+    }
+}
+
+fn scan_one<B: Bus, W: Sink>(address: u8, bus: &mut B, out: &mut W) -> Result<(), IoFault>
+    ensures asked { OnOk result ((exchanges : List Exchange) × (line : List ℕ)
+        × AreExchanged B.asks bus.old exchanges bus.new × AsksOne address exchanges line
+        × Puts (W.written out.old) (W.written out.new) line) }
+    ensures failed { OnErr result (HasRisen (W.put_failures out.old) (W.put_failures out.new)) }
+    ensures well { OnOk result (W.put_failures out.new ≡ W.put_failures out.old) }
+{
+    if !resets(bus, address) {
+        return Ok(());
+    }
+    let meter = requests(bus, address);
+    put_address(address, meter, out)
+}
+
+// Resets an address, and says whether it was acknowledged.
+fn resets<B: Bus>(bus: &mut B, address: u8) -> bool
+    ensures { (answer : List ℕ) × B.asks bus.old (spelling (reset_to address)) answer bus.new
+        × (result ≡ is_ack (frame_of answer)) }
+{
+    let mut request = FrameBuf::new();
+    write_reset(address, &mut request);
+    let answer = bus.ask(&request);
+    matches!(parse(answer.as_slice()), Ok(Frame::Ack))
+}
+
+// Requests a telegram, and gives the meter that it comes from.
+fn requests<B: Bus>(bus: &mut B, address: u8) -> Option<Identity>
+    ensures { (answer : List ℕ) × B.asks bus.old (spelling (request_to true address)) answer bus.new
+        × (result ≡ answer_of answer) }
+{
+    let mut request = FrameBuf::new();
+    write_request(true, address, &mut request);
+    let answer = bus.ask(&request);
+    meter_of(answer.as_slice())
+}
+
+#[tactic(auto, using(dc_stream::proofs::Pieces::joined))]
+fn put_address<W: Sink>(address: u8, meter: Option<Identity>, out: &mut W) -> Result<(), IoFault>
+    ensures { Wrote W.written W.put_failures result out.old out.new (address_line address meter) }
+{
+    out.put(b"ADDRESS")?;
+    put_number_word(out, address as u64)?;
+    put_identity(meter, out)?;
+    out.put(b"\n")
+}
+
+#[tactic(auto, using(dc_stream::proofs::Pieces::written))]
+fn put_identity<W: Sink>(meter: Option<Identity>, out: &mut W) -> Result<(), IoFault>
+    ensures { Wrote W.written W.put_failures result out.old out.new (identity_word meter) }
+{
+    match meter {
+        Some(meter) => {
+            out.put(b" ")?;
+            out.put(&meter.text())
+        }
+        None => Ok(()),
+    }
+}

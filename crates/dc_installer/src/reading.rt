@@ -1,0 +1,122 @@
+//! The readout of one meter.
+
+ghost use Rattle.std.specs.Prelude.{◌≡◌, ◌≤◌, ℕ, List, None, Some, IfOk, OnOk, OnErr, length, option_map};
+ghost use Rattle.dc_base.specs.Failures.{HasRisen};
+ghost use Rattle.dc_core.specs.Step.{longest_request};
+ghost use Rattle.dc_linkframe.specs.Frame.{spelling};
+ghost use Rattle.dc_stream.specs.Stream.{Puts, PutsFront, Wrote};
+ghost use Rattle.dc_readout.specs.Summary.{asked_by, begun, verdict_by};
+ghost use Rattle.dc_readout.specs.Seen.{verdict};
+ghost use Rattle.dc_installer.specs.Read.{IsCutOff, IsReadOn, after, most_requests, printed};
+
+use dc_address::{Identity, Primary};
+use dc_core::{LineHeard, put_heard};
+use dc_gateway::Bus;
+use dc_linkframe::FrameBuf;
+use dc_readout::{Heard, Session};
+use dc_stream::{IoFault, Sink};
+use dc_teller::put_frames;
+
+// Three tries at a reset, a selection and each of 32 parts, and one look more.
+const MOST_REQUESTS: u8 = 103;
+
+/// How a readout ended.
+#[derive(Clone, Copy, Debug, PartialEq, Eq)]
+pub enum Readout {
+    /// Each telegram was printed, up to the last.
+    Whole,
+    /// It failed, as the last line says.
+    Failed,
+}
+
+/// Reads a meter on a bus, at its primary address or by selection, and prints its telegrams as `decode` does. A telegram is
+/// printed before the next one is requested, as the meter discards it then. Where the readout fails, the last line says why.
+///
+/// # Errors
+/// A write failed. No further request goes out then, so the meter still has the telegram that wasn't printed.
+pub fn read<B: Bus, W: Sink>(
+    bus: &mut B,
+    meter: &Identity,
+    address: Option<Primary>,
+    out: &mut W,
+) -> Result<Readout, IoFault>
+    ensures read { OnOk result (IsReadOn B.asks bus.old bus.new (begun meter.now address) most_requests
+        (Puts (W.written out.old) (W.written out.new))) }
+    ensures unwritten { OnErr result (IsCutOff B.asks bus.old bus.new (begun meter.now address)
+        (PutsFront (W.written out.old) (W.written out.new))) }
+    ensures failed { OnErr result (HasRisen (W.put_failures out.old) (W.put_failures out.new)) }
+    ensures well { OnOk result (W.put_failures out.new ≡ W.put_failures out.old) }
+{
+    read_on(bus, Session::start(*meter, address), MOST_REQUESTS, out)
+}
+
+// Goes on with a session, by so many requests at most.
+fn read_on<B: Bus, W: Sink>(
+    bus: &mut B,
+    session: Session,
+    left: u8,
+    out: &mut W,
+) -> Result<Readout, IoFault>
+    ensures read { OnOk result (IsReadOn B.asks bus.old bus.new session left
+        (Puts (W.written out.old) (W.written out.new))) }
+    ensures unwritten { OnErr result (IsCutOff B.asks bus.old bus.new session
+        (PutsFront (W.written out.old) (W.written out.new))) }
+    ensures failed { OnErr result (HasRisen (W.put_failures out.old) (W.put_failures out.new)) }
+    ensures well { OnOk result (W.put_failures out.new ≡ W.put_failures out.old) }
+{
+    if left == 0 {
+        return Ok(Readout::Failed);
+    }
+    let Some(request) = session.ask() else {
+        return Ok(Readout::Whole);
+    };
+    let mut session = session;
+    match exchange(bus, &mut session, &request, out) {
+        Ok(Readout::Failed) => Ok(Readout::Failed),
+        Ok(Readout::Whole) => read_on(bus, session, left - 1, out),
+        Err(fault) => Err(fault),
+    }
+}
+
+// A request and its answer, which is printed; then a telegram is settled. Tells whether the session failed.
+fn exchange<B: Bus, W: Sink>(
+    bus: &mut B,
+    session: &mut Session,
+    request: &FrameBuf,
+    out: &mut W,
+) -> Result<Readout, IoFault>
+    requires asked { option_map spelling (asked_by session.old) ≡ Some request.now }
+    requires short { length request.now ≤ longest_request }
+    ensures { (answer : List ℕ) × B.asks bus.old request.now answer bus.new
+        × IfOk result (λ readout. (session.new ≡ after session.old answer)
+        × (readout ≡ Readout.Failed → asked_by session.new ≡ None))
+        × Wrote W.written W.put_failures result out.old out.new
+        (printed (verdict_by session.old answer) answer) }
+{
+    let answer = bus.ask(request);
+    let heard = session.hear(answer.as_slice());
+    put_read(&heard, answer.as_slice(), out)?;
+    match heard {
+        Heard::Failed(_) => Ok(Readout::Failed),
+        Heard::New { .. } => {
+            session.settle();
+            Ok(Readout::Whole)
+        }
+        Heard::Again => Ok(Readout::Whole),
+        Heard::Ready => Ok(Readout::Whole),
+    }
+}
+
+// Prints a telegram, or why the readout failed.
+fn put_read<W: Sink>(heard: &Heard<'_>, answer: &[u8], out: &mut W) -> Result<(), IoFault>
+    ensures { Wrote W.written W.put_failures result out.old out.new (printed (verdict heard.now) answer.now) }
+{
+    match heard {
+        Heard::New { .. } => match put_frames(answer, out) {
+            Ok(_) => Ok(()),
+            Err(fault) => Err(fault),
+        },
+        Heard::Failed(why) => put_heard(out, Ok(LineHeard::Failed(*why))),
+        Heard::Again | Heard::Ready => Ok(()),
+    }
+}

@@ -1,0 +1,20 @@
+//! The links of the bus lines, as the system has them: transparent gateways over TCP, serial level converters, and
+//! gateways of the block protocol.
+//!
+//! [`Peer::connect`] connects one by its name, and [`Peer::bus`] makes a bus of it ([`LinkBus`]). A [`Watch`] waits until
+//! one of several may have something.
+#![tactic(auto)]
+
+mod bus;
+mod connection;
+mod peer;
+mod script;
+mod socket;
+mod waiting;
+
+pub use bus::LinkBus;
+pub use connection::{Connection, Ends};
+pub use peer::{BlockBus, ByteBus, Peer, RawBus, SystemBus};
+pub use script::ScriptLink;
+pub use socket::{Tcp, Terminal};
+pub use waiting::{Waiter, Watch};

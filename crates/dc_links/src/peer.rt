@@ -1,0 +1,88 @@
+//! A link that is connected.
+
+use crate::bus::LinkBus;
+use crate::connection::{Connection, connect};
+use crate::socket::{Tcp, Terminal};
+use dc_gateway::Gateway;
+use dc_line::{BlockLink, Line, PollWire};
+use dc_steady::Steady;
+use dc_stream::{ReadSource, WriteSink};
+use dc_words::LinkName;
+use std::fs::{File, OpenOptions};
+use std::io;
+use std::net::{Net, TcpStream};
+use std::rt::{Clock, Files};
+use std::time::Duration;
+
+// How many seconds a write may take: a peer that doesn't read is lost then.
+const WRITING: u64 = 15;
+
+/// The other end of a link.
+#[derive(Drop)]
+pub enum Peer<C: Clock + Copy> {
+    /// A TCP stream that hands on the bytes of the bus.
+    Tcp(TcpStream),
+    /// A terminal that does, prepared by `stty`.
+    Serial(File),
+    /// It speaks the block protocol.
+    Blocks(Connection<C>),
+}
+
+/// The bus of a transparent link, on which late answers do no harm.
+pub type RawBus<S, C> = Steady<Line<PollWire<S, C>>>;
+
+/// The bus of a TCP stream or of a terminal.
+pub type ByteBus<'a, C> = LinkBus<RawBus<Tcp<'a>, C>, RawBus<Terminal<'a>, C>>;
+
+/// The bus of a gateway of the block protocol.
+pub type BlockBus<'a, C> = BlockLink<ReadSource<&'a Connection<C>>, WriteSink<&'a Connection<C>>>;
+
+/// The bus of a line of the system.
+pub type SystemBus<'a, C> = LinkBus<ByteBus<'a, C>, BlockBus<'a, C>>;
+
+impl<C: Clock + Copy> Peer<C> {
+    /// Connects a link by its name.
+    ///
+    /// # Errors
+    /// The host isn't found, takes no connection within 10 s, or the terminal can't be opened.
+    pub fn connect(rt: &C, name: &LinkName<'_>) -> io::Result<Peer<C>>
+    where
+        C: Files<File = File> + Net<Stream = TcpStream>,
+    {
+        match *name {
+            LinkName::Tcp(place) => {
+                let stream = connect(rt, place)?;
+                stream.set_nodelay(true)?;
+                stream.set_write_timeout(Some(Duration::from_secs(WRITING)))?;
+                Ok(Peer::Tcp(stream))
+            }
+            LinkName::Serial(path) => {
+                let mut options = OpenOptions::new();
+                options.read(true).write(true);
+                Ok(Peer::Serial(options.open(rt, path)?))
+            }
+            LinkName::Blocks(place) => Ok(Peer::Blocks(Connection::new(rt, place)?)),
+        }
+    }
+
+    /// Its bus, silent after so many milliseconds.
+    ///
+    /// # Errors
+    /// The clock fails.
+    pub fn bus(&self, clock: C, patience: u16) -> io::Result<SystemBus<'_, C>> {
+        match self {
+            Peer::Tcp(stream) => {
+                let wire = PollWire::new(Tcp { stream }, clock, patience)?;
+                Ok(LinkBus::First(LinkBus::First(Steady::new(Line::new(wire)))))
+            }
+            Peer::Serial(file) => {
+                let wire = PollWire::new(Terminal { file }, clock, patience)?;
+                Ok(LinkBus::First(LinkBus::Second(Steady::new(Line::new(wire)))))
+            }
+            Peer::Blocks(connection) => {
+                let (reader, writer) = connection.ends();
+                Ok(LinkBus::Second(BlockLink::new(Gateway::new(reader, writer))))
+            }
+        }
+    }
+}

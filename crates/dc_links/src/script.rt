@@ -1,0 +1,66 @@
+//! The bus of a script's line.
+
+ghost use Rattle.std.specs.Prelude.{◌≡◌, true};
+
+use dc_gateway::{AnswerBuf, Bus};
+use dc_line::{Both, Pause, QuietBus};
+use dc_linkframe::FrameBuf;
+use dc_poller::ScriptBus;
+
+/// The bus of a script's line, of the two halves. What is heard over a request by which the link is lost is silence.
+#[derive(Drop)]
+pub struct ScriptLink<B: QuietBus + Drop, P: Pause<B> + Drop> {
+    /// The bus, and how its answers are waited for.
+    pub both: Both<B, P>,
+}
+
+impl<B: QuietBus + Drop, P: Pause<B> + Drop> Bus for ScriptLink<B, P> {
+    ghost use Rattle.std.specs.Prelude.{None, []};
+    ghost use Rattle.dc_links.specs.Script.{LinkAsks};
+
+    // Whom it leads to isn't told.
+    ghost meters = { λ _. None };
+
+    ghost selected = { λ _. [] };
+
+    ghost lost = { λ link. B.lost link.both.bus };
+
+    ghost asks = { LinkAsks B.HalfBus };
+
+    fn is_lost(&self) -> bool {
+        self.both.is_lost()
+    }
+
+    fn ask(&mut self, request: &FrameBuf) -> AnswerBuf {
+        if self.both.is_lost() {
+            return AnswerBuf::new();
+        }
+        let answer = self.both.ask(request);
+        if self.both.is_lost() {
+            return AnswerBuf::new();
+        }
+        answer
+    }
+}
+
+impl<B: QuietBus + Drop, P: Pause<B> + Drop> ScriptBus for ScriptLink<B, P> {
+    ghost use Rattle.std.specs.Prelude.{◌||◌, ⊤};
+
+    ghost ready = { λ link. B.lost link.both.bus || B.ready link.both.bus };
+
+    ghost settles = { λ _ _. ⊤ };
+
+    ghost late = { λ link. B.late link.both.bus };
+
+    ghost silent = { λ old new request answer asked. asked.silence };
+
+    fn settle(&mut self) {
+        if !self.both.is_lost() {
+            self.both.make_ready();
+        }
+    }
+
+    fn late(&self) -> u64 {
+        self.both.bus.late()
+    }
+}

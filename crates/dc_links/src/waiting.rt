@@ -1,0 +1,88 @@
+//! Waiting for several buses at once.
+
+use crate::bus::LinkBus;
+use crate::peer::{ByteBus, SystemBus};
+use dc_line::{HalfBus, Pause};
+use libc::net::{POLLIN, poll};
+use libc::types::pollfd;
+use std::rt::Clock;
+use std::time::Duration;
+
+// A wait takes at least so many milliseconds where no byte comes.
+const LEAST: u128 = 5;
+
+// And at most so many, so that what is shown of the progress is fresh.
+const LONGEST: u128 = 1_000;
+
+/// The buses of which one is waited for: at most eight.
+#[derive(Drop)]
+pub struct Watch {
+    asked: [pollfd; 8],
+    count: usize,
+    left: Duration,
+    // Whether one of them needs no wait.
+    is_ready: bool,
+}
+
+impl Watch {
+    /// No bus yet.
+    pub fn new() -> Self {
+        let none = pollfd {
+            fd: -1,
+            events: POLLIN,
+            revents: 0,
+        };
+        Watch {
+            asked: [none; 8],
+            count: 0,
+            left: Duration::from_secs(1),
+            is_ready: false,
+        }
+    }
+
+    /// One bus more. Where one is lost, or of the block protocol, there is nothing to wait for.
+    pub fn add<C: Clock + Copy>(&mut self, bus: &SystemBus<'_, C>) {
+        match bus {
+            LinkBus::First(bytes) if !bus.is_lost() => self.add_bytes(bytes),
+            _ => self.is_ready = true,
+        }
+    }
+
+    fn add_bytes<C: Clock + Copy>(&mut self, bus: &ByteBus<'_, C>) {
+        match bus {
+            LinkBus::First(tcp) => self.put(tcp.bus.wire.fd(), tcp.bus.wire.left()),
+            LinkBus::Second(serial) => self.put(serial.bus.wire.fd(), serial.bus.wire.left()),
+            LinkBus::Absent => {}
+        }
+    }
+
+    fn put(&mut self, fd: i32, left: Duration) {
+        if let Some(place) = self.asked.get_mut(self.count) {
+            place.fd = fd;
+            self.count += 1;
+            self.left = self.left.min(left);
+        }
+    }
+
+    /// Waits until a byte may have come on one of them, or the silence of one is over: five milliseconds at least, unless a
+    /// byte comes, and a second at most. Without a bus it doesn't wait.
+    pub fn wait(mut self) {
+        if self.is_ready || self.count == 0 {
+            return;
+        }
+        let millis = self.left.as_millis().clamp(LEAST, LONGEST);
+        poll(&mut self.asked, i32::try_from(millis).unwrap_or_default());
+    }
+}
+
+/// Waits for one bus alone.
+#[derive(Clone, Copy, Drop)]
+pub struct Waiter;
+
+impl<C: Clock + Copy> Pause<SystemBus<'_, C>> for Waiter {
+    fn pause(&mut self, bus: &SystemBus<'_, C>) {
+        let mut watch = Watch::new();
+        watch.add(bus);
+        watch.wait();
+    }
+}

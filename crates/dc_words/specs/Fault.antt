@@ -1,0 +1,11 @@
+-- What is wrong with the words (this product).
+use Rattle.dc_words.specs.declared.fault.WordsFault.{WordsFault}
+use Rattle.dc_words.specs.declared.fault.WordsFault.TheVariants.{Clap, Link, Meter, NoLink, NoMemory}
+
+-- what is said where they are a mistake of which `clap` knows nothing
+abbrev pub IfMistake : WordsFault → Type 0 → Type 0
+IfMistake (Clap error) said = Unit {0}
+IfMistake (Link fault) said = said
+IfMistake Meter said = said
+IfMistake NoLink said = said
+IfMistake NoMemory said = Unit {0}

@@ -1,0 +1,73 @@
+//! What may be wrong with the words.
+
+use clap::Error;
+use std::alloc::{AllocError, AllocFailed};
+use thiserror::Error;
+
+/// What is wrong with the word of a link.
+#[derive(Clone, Copy, Debug, PartialEq, Eq, Error)]
+#[error("{}", self.text())]
+pub enum LinkFault {
+    /// There is no bus line before a `=`.
+    NoLine,
+    /// The same bus line has two links.
+    Twice,
+    /// It begins with no scheme of a link.
+    Scheme,
+    /// The port is missing.
+    Port,
+    /// The path is missing.
+    Path,
+}
+
+impl LinkFault {
+    /// What to say of it.
+    pub fn text(self) -> &'static str {
+        match self {
+            LinkFault::NoLine => "--line takes N=LINK, where N is a bus line from 1 to 8",
+            LinkFault::Twice => "two links for one bus line; --gateway is a link of line 1",
+            LinkFault::Scheme => { "a link is tcp://HOST:PORT, serial:PATH or blocks://HOST:PORT" }
+            LinkFault::Port => "a link tcp:// or blocks:// has a port from 1 to 65535",
+            LinkFault::Path => "a link serial: has the path of a terminal",
+        }
+    }
+}
+
+/// What is wrong with the words.
+#[derive(Debug, Drop)]
+pub enum WordsFault {
+    /// `clap` says it; help and the version are such, too.
+    Clap(Error),
+    /// A link.
+    Link(LinkFault),
+    /// A word that has to be a meter is none.
+    Meter,
+    /// No bus line has a link.
+    NoLink,
+    /// Memory was refused.
+    NoMemory,
+}
+
+impl From<Error> for WordsFault {
+    fn from(error: Error) -> Self {
+        WordsFault::Clap(error)
+    }
+}
+
+impl From<LinkFault> for WordsFault {
+    fn from(fault: LinkFault) -> Self {
+        WordsFault::Link(fault)
+    }
+}
+
+impl From<AllocError> for WordsFault {
+    fn from(_: AllocError) -> Self {
+        WordsFault::NoMemory
+    }
+}
+
+impl<T: Drop> From<AllocFailed<T>> for WordsFault {
+    fn from(_: AllocFailed<T>) -> Self {
+        WordsFault::NoMemory
+    }
+}

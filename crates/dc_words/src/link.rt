@@ -1,0 +1,68 @@
+//! The name of a link: how a bus line is reached.
+
+ghost use Rattle.std.specs.Prelude.{◌≡◌, ◌≢◌, IfOk, IfErr, IsErrOf};
+ghost use Rattle.dc_words.specs.Link.{word_of};
+
+use crate::fault::LinkFault;
+
+/// How a bus line is reached.
+#[derive(Clone, Copy, Debug, PartialEq, Eq)]
+pub enum LinkName<'a> {
+    /// A transparent gateway at `HOST:PORT`: the bytes of the bus over TCP.
+    Tcp(&'a str),
+    /// A serial level converter at a terminal.
+    Serial(&'a str),
+    /// A gateway at `HOST:PORT` that speaks the block protocol.
+    Blocks(&'a str),
+}
+
+const TCP: &str = "tcp://";
+
+const SERIAL: &str = "serial:";
+
+const BLOCKS: &str = "blocks://";
+
+impl<'a> LinkName<'a> {
+    /// The link that a word names.
+    ///
+    /// # Errors
+    /// [`LinkFault::Scheme`], [`LinkFault::Port`] and [`LinkFault::Path`].
+    pub fn parse(word: &'a str) -> Result<LinkName<'a>, LinkFault>
+        ensures spelled { IfOk result (λ link. word.now ≡ word_of link) }
+        ensures scheme { IsErrOf result LinkFault.Scheme → (link : LinkName) → word.now ≢ word_of link }
+    {
+        if let Some(place) = word.strip_prefix(TCP) {
+            return Ok(LinkName::Tcp(with_port(place)?));
+        }
+        if let Some(place) = word.strip_prefix(BLOCKS) {
+            return Ok(LinkName::Blocks(with_port(place)?));
+        }
+        match word.strip_prefix(SERIAL) {
+            Some("") => Err(LinkFault::Path),
+            Some(path) => Ok(LinkName::Serial(path)),
+            None => Err(LinkFault::Scheme),
+        }
+    }
+
+    /// The link of a gateway, which speaks the block protocol.
+    ///
+    /// # Errors
+    /// [`LinkFault::Port`].
+    pub fn gateway(place: &'a str) -> Result<LinkName<'a>, LinkFault> {
+        Ok(LinkName::Blocks(with_port(place)?))
+    }
+}
+
+// The place, where a port from 1 to 65535 follows its last colon.
+fn with_port(place: &str) -> Result<&str, LinkFault>
+    ensures same { IfOk result (λ same. same.now ≡ place.now) }
+    ensures fault { IfErr result (λ fault. fault ≡ LinkFault.Port) }
+{
+    match place.rsplit_once(':') {
+        Some((host, port)) if !host.is_empty() => match port.parse::<u16>() {
+            Ok(0) | Err(_) => Err(LinkFault::Port),
+            Ok(_) => Ok(place),
+        },
+        _ => Err(LinkFault::Port),
+    }
+}

@@ -1,0 +1,115 @@
+//! What the words ask for.
+
+use crate::link::LinkName;
+use crate::links::Links;
+use dc_address::{Identity, Primary};
+
+/// How the frames of an input are printed.
+#[derive(Clone, Copy, Debug, PartialEq, Eq)]
+pub enum Form {
+    /// Lines of words, one a fact.
+    Text,
+    /// JSON Lines: an object a frame or fault.
+    Json,
+    /// A table for a person.
+    Table,
+}
+
+/// An engine over lines.
+#[derive(Clone, Copy, Debug, PartialEq, Eq)]
+pub enum Engine {
+    /// What each frame says.
+    Decode(Form),
+    /// An answer to each telegram and command, and the register after them.
+    Fold,
+}
+
+/// How meters are searched for on a bus without an image.
+#[derive(Clone, Copy, Debug, PartialEq, Eq)]
+pub enum Scan {
+    /// By wildcards, with at most so many selections.
+    Wildcards(u32),
+    /// At each primary address.
+    Primary,
+}
+
+/// How a meter is named on a bus.
+#[derive(Clone, Copy, Debug, PartialEq, Eq)]
+pub enum MeterName {
+    /// By its identity: it is selected.
+    Identity(Identity),
+    /// By its primary address.
+    Primary(Primary),
+}
+
+/// What the words ask for.
+#[derive(Drop)]
+pub enum Task<'a> {
+    /// An engine over a file, or over standard input.
+    Lines {
+        /// What is done.
+        engine: Engine,
+        /// The file's name.
+        file: Option<&'a str>,
+    },
+    /// An image of an empty register, in a file.
+    Format {
+        /// The file's name.
+        image: &'a str,
+        /// How many sectors it has.
+        sectors: u32,
+    },
+    /// A script over an image, in files.
+    Run {
+        /// The image's file.
+        image: &'a str,
+        /// The script's file.
+        script: &'a str,
+        /// Where the gateway is, as `HOST:PORT`.
+        gateway: Option<&'a str>,
+        /// The links of the bus lines; none where only a gateway is named.
+        links: Links<'a>,
+        /// How many milliseconds of silence end an answer.
+        patience: u16,
+    },
+    /// A table of what an image holds.
+    Report {
+        /// The image's file.
+        image: &'a str,
+        /// The word for the table.
+        table: &'a str,
+    },
+    /// The readout of the registered meters over an image.
+    Poll {
+        /// The image's file.
+        image: &'a str,
+        /// The links of the bus lines.
+        links: Links<'a>,
+        /// The meters that are read; all of the connected lines where it is empty.
+        only: Vec<Identity>,
+        /// How often a readout is begun at most.
+        tries: u8,
+        /// How many milliseconds of silence end an answer.
+        patience: u16,
+    },
+    /// A search for meters on one bus, without an image.
+    Scan {
+        /// The bus.
+        link: LinkName<'a>,
+        /// How they are searched for.
+        scan: Scan,
+        /// How many milliseconds of silence end an answer.
+        patience: u16,
+    },
+    /// The readout of one meter on one bus, without an image.
+    Read {
+        /// The bus.
+        link: LinkName<'a>,
+        /// The meter.
+        meter: MeterName,
+        /// How many milliseconds of silence end an answer.
+        patience: u16,
+    },
+    /// A house of one simulated meter, in memory.
+    Demo,
+}
