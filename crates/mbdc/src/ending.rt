@@ -5,16 +5,25 @@ ghost use Rattle.std.specs.Process.{exit_status};
 ghost use Rattle.clap.specs.Values.{kind_of};
 ghost use Rattle.clap.specs.declared.error.kind.ErrorKind.TheVariants.{DisplayHelp, DisplayVersion, OutOfMemory};
 ghost use Rattle.dc_ending.specs.Ending.{status_of};
+ghost use Rattle.dc_words.specs.Fault.{IfMistake};
 
 use clap::Error;
 use clap::error::ErrorKind;
 use dc_ending::{Ending, STREAM};
 use dc_stream::{IoFault, WriteSink};
 use dc_text::Buffered;
+use dc_words::WordsFault;
 use std::alloc::{AllocError, Global};
 use std::io;
 use std::io::Write;
 use std::process::ExitCode;
+
+// A word that has to be a meter is none.
+const NO_METER: &str =
+    "a meter is its identity, as 12345678.PAD.01.07, or for read a primary address, 1 to 250";
+
+// No bus is connected.
+const NO_LINK: &str = "no bus line has a link; try mbdc poll --help";
 
 // A line that is no longer goes out as one write.
 const LINE: usize = 8_192;
@@ -36,9 +45,23 @@ fn put_line(rt: &HostRuntime, ending: &Ending) -> Result<(), IoFault> {
     out.flush()
 }
 
+/// Tells what is wrong with the words, and gives the status.
+pub fn told_words(rt: &HostRuntime, fault: &WordsFault) -> ExitCode
+    ensures memory { fault.now ≡ WordsFault.NoMemory → exit_status result ≡ 4 }
+    ensures mistake { IfMistake fault.now (exit_status result ≡ 2) }
+{
+    match fault {
+        WordsFault::Clap(error) => told_by_clap(rt, error),
+        WordsFault::NoMemory => told(rt, &Ending::Memory),
+        WordsFault::Link(fault) => told(rt, &Ending::Words(fault.text())),
+        WordsFault::Meter => told(rt, &Ending::Words(NO_METER)),
+        WordsFault::NoLink => told(rt, &Ending::Words(NO_LINK)),
+    }
+}
+
 /// Tells what `clap` says of the words, and gives the status. Help and the version go to standard output, which may fail
 /// as any output may.
-pub fn told_words(rt: &HostRuntime, error: &Error) -> ExitCode
+fn told_by_clap(rt: &HostRuntime, error: &Error) -> ExitCode
     ensures memory { kind_of error.now ≡ OutOfMemory → exit_status result ≡ 4 }
     ensures shown { (kind_of error.now ≡ DisplayHelp) ⊎ (kind_of error.now ≡ DisplayVersion) → (exit_status result ≡ 0) ⊎ (exit_status result ≡ 4) }
     ensures mistake { kind_of error.now ≢ DisplayHelp → kind_of error.now ≢ DisplayVersion → (exit_status result ≡ 2) ⊎ (exit_status result ≡ 4) }

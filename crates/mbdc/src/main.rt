@@ -1,20 +1,21 @@
-//! `mbdc`, the data concentrator of an apartment house's wired M-Bus submeters: words, files, statuses and the one
-//! line on standard error. What a command does is a call of `dc_teller` or `dc_poller`.
+//! `mbdc`, the data concentrator of an apartment house's wired M-Bus submeters: files, links, statuses and the one line on
+//! standard error. What a command does is a call of a library.
 #![tactic(auto)]
 
+mod bench;
+mod connecting;
 mod demo;
 mod ending;
 mod format;
-mod gateway;
 mod half_made;
-mod help;
 mod image;
+mod poll;
 mod report;
 mod script;
 mod tasks;
-mod words;
 
 use dc_ending::Ending;
+use dc_words::task_of;
 use ending::{told, told_words};
 use std::io::ErrorKind;
 use std::process::ExitCode;
@@ -40,8 +41,8 @@ fn main(rt: HostRuntime) -> ExitCode {
             &Ending::Words("the words aren't UTF-8 text; try mbdc --help"),
         ),
     };
-    match words::task_of(rt.alloc(), words.as_slice()) {
-        Ok(task) => told(&rt, &tasks::run(&rt, task)),
-        Err(error) => told_words(&rt, &error),
+    match task_of(rt.alloc(), words.as_slice()) {
+        Ok(task) => told(&rt, &tasks::run(&rt, &task)),
+        Err(fault) => told_words(&rt, &fault),
     }
 }

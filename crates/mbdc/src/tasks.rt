@@ -1,15 +1,18 @@
-//! What each command does: an engine of `dc_teller` or `dc_poller` between the ends that the words name.
+//! What each command does: an engine of a library between the ends that the words name.
 
+use crate::bench::{read_on_bus, scan_bus};
 use crate::demo;
 use crate::format::format_image;
+use crate::poll::poll_on_image;
 use crate::report::report_on_image;
 use crate::script::run_on_image;
-use crate::words::{Engine, Task};
 use dc_ending::{Ending, STREAM, ending_of};
+use dc_json::{explain_lines, json_lines};
 use dc_poller::ProgramFault;
 use dc_stream::{ReadSource, Source, WriteSink};
 use dc_teller::{decode_lines, fold_lines};
 use dc_text::Buffered;
+use dc_words::{Engine, Form, Task};
 use std::alloc::Allocator;
 use std::fs::File;
 use std::io::Write;
@@ -21,7 +24,7 @@ use std::{fs, io};
 pub const ROOM: usize = 65_536;
 
 /// Does what the words ask for.
-pub fn run<'a, R>(rt: &R, task: Task<'a>) -> Ending<'a>
+pub fn run<'a, R>(rt: &R, task: &Task<'a>) -> Ending<'a>
 where
     R: Files<File = File>
         + Net<Stream = TcpStream, Listener = TcpListener>
@@ -35,17 +38,37 @@ where
         Task::Lines {
             engine,
             file: Some(name),
-        } => work_on_file(rt, engine, name),
-        Task::Lines { engine, file: None } => {
-            ending_of(work(rt, engine, &mut ReadSource::new(rt.reader())), STREAM)
-        }
-        Task::Format { image, sectors } => format_image(rt, image, sectors),
+        } => work_on_file(rt, *engine, name),
+        Task::Lines { engine, file: None } => ending_of(
+            work(rt, *engine, &mut ReadSource::new(rt.reader())),
+            STREAM,
+        ),
+        Task::Format { image, sectors } => format_image(rt, image, *sectors),
         Task::Run {
             image,
             script,
             gateway,
-        } => run_on_image(rt, image, script, gateway),
+            links,
+            patience,
+        } => run_on_image(rt, image, script, *gateway, links, *patience),
         Task::Report { image, table } => report_on_image(rt, image, table),
+        Task::Scan {
+            link,
+            scan,
+            patience,
+        } => scan_bus(rt, link, *scan, *patience),
+        Task::Read {
+            link,
+            meter,
+            patience,
+        } => read_on_bus(rt, link, *meter, *patience),
+        Task::Poll {
+            image,
+            links,
+            only,
+            tries,
+            patience,
+        } => poll_on_image(rt, image, links, only.as_slice(), *tries, *patience),
         Task::Demo => demo::play(rt),
     }
 }
@@ -69,7 +92,9 @@ fn work<R: Print + AllocGlobal, S: Source>(
 ) -> Result<bool, ProgramFault> {
     let mut writer = Buffered::new(rt.alloc(), ROOM, WriteSink::new(io::writer(rt)))?;
     let found = match engine {
-        Engine::Decode => decode_lines(rt.alloc(), reader, &mut writer)?,
+        Engine::Decode(Form::Text) => decode_lines(rt.alloc(), reader, &mut writer)?,
+        Engine::Decode(Form::Json) => json_lines(rt.alloc(), reader, &mut writer)?,
+        Engine::Decode(Form::Table) => explain_lines(rt.alloc(), reader, &mut writer)?,
         Engine::Fold => fold_lines(rt.alloc(), reader, &mut writer)?,
     };
     flushed(writer)?;

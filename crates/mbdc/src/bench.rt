@@ -1,0 +1,127 @@
+//! The commands `scan` and `read`: one bus, without an image.
+
+use dc_ending::{Ending, STREAM};
+use dc_gateway::Bus;
+use dc_installer::{Readout, ScanFault, identify, read, scan, scan_primary};
+use dc_line::{Both, QuietBus};
+use dc_links::{Peer, SystemBus, Waiter};
+use dc_stream::{IoFault, Sink, WriteSink};
+use dc_text::put_number_word;
+use dc_words::{LinkName, MeterName, Scan};
+use std::fs::File;
+use std::io;
+use std::io::{LineWriter, Write};
+use std::net::{Net, TcpStream};
+use std::rt::{Clock, Files};
+
+// A bus that is asked alone.
+type OneBus<'a, C> = Both<SystemBus<'a, C>, Waiter>;
+
+/// Searches a bus for meters, and prints those that it finds.
+pub fn scan_bus<'a, R>(rt: &R, link: &LinkName<'_>, what: Scan, patience: u16) -> Ending<'a>
+where
+    R: Files<File = File> + Net<Stream = TcpStream> + Clock + Copy + Print + AllocGlobal,
+{
+    let Ok(peer) = Peer::connect(rt, link) else {
+        return Ending::Gateway;
+    };
+    let Ok(mut bus) = quiet_bus(rt, &peer, patience) else {
+        return Ending::Gateway;
+    };
+    let Ok(printer) = LineWriter::new(rt.alloc(), io::writer(rt)) else {
+        return Ending::Memory;
+    };
+    let mut writer = WriteSink::new(printer);
+    let found = match what {
+        Scan::Wildcards(budget) => scan(rt.alloc(), budget, &mut bus, &mut writer),
+        Scan::Primary => scan_primary(&mut bus, &mut writer).map_err(|_| ScanFault::Write),
+    };
+    match found {
+        Ok(()) => end_of(&bus, writer, Ending::Clean),
+        Err(ScanFault::Write) => Ending::File(STREAM),
+        Err(ScanFault::NoMemory) => Ending::Memory,
+    }
+}
+
+/// Reads a meter on a bus, and prints its telegrams.
+pub fn read_on_bus<'a, R>(
+    rt: &R,
+    link: &LinkName<'_>,
+    meter: MeterName,
+    patience: u16,
+) -> Ending<'a>
+where
+    R: Files<File = File> + Net<Stream = TcpStream> + Clock + Copy + Print + AllocGlobal,
+{
+    let Ok(peer) = Peer::connect(rt, link) else {
+        return Ending::Gateway;
+    };
+    let Ok(mut bus) = quiet_bus(rt, &peer, patience) else {
+        return Ending::Gateway;
+    };
+    let Ok(printer) = LineWriter::new(rt.alloc(), io::writer(rt)) else {
+        return Ending::Memory;
+    };
+    let mut writer = WriteSink::new(printer);
+    match read_named(&mut bus, meter, &mut writer) {
+        Ok(Readout::Whole) => end_of(&bus, writer, Ending::Clean),
+        Ok(Readout::Failed) => end_of(&bus, writer, Ending::Faulty),
+        Err(IoFault) => Ending::File(STREAM),
+    }
+}
+
+// The bus of a link, once nothing is under way on it.
+fn quiet_bus<'b, C: Clock + Copy>(
+    clock: &C,
+    peer: &'b Peer<C>,
+    patience: u16,
+) -> io::Result<OneBus<'b, C>> {
+    let mut both = Both {
+        bus: peer.bus(*clock, patience)?,
+        pause: Waiter,
+    };
+    both.make_ready();
+    Ok(both)
+}
+
+// A meter without an identity is asked for it.
+fn read_named<B: Bus, W: Sink>(
+    bus: &mut B,
+    meter: MeterName,
+    out: &mut W,
+) -> Result<Readout, IoFault> {
+    match meter {
+        MeterName::Identity(meter) => read(bus, &meter, None, out),
+        MeterName::Primary(address) => match identify(bus, address) {
+            Some(meter) => read(bus, &meter, Some(address), out),
+            None => {
+                out.put(b"FAILED 1 NoAnswer\n")?;
+                Ok(Readout::Failed)
+            }
+        },
+    }
+}
+
+// How it ends: what is held back goes out, late answers are counted, and a lost link is named.
+fn end_of<'a, C: Clock + Copy, W: Write + Drop>(
+    bus: &OneBus<'_, C>,
+    mut writer: WriteSink<W>,
+    ending: Ending<'a>,
+) -> Ending<'a> {
+    if put_late(bus.bus.late(), &mut writer).is_err() || writer.flush().is_err() {
+        return Ending::File(STREAM);
+    }
+    if bus.is_lost() {
+        return Ending::Gateway;
+    }
+    ending
+}
+
+fn put_late<W: Sink>(late: u64, out: &mut W) -> Result<(), IoFault> {
+    if late == 0 {
+        return Ok(());
+    }
+    out.put(b"LATE")?;
+    put_number_word(out, late)?;
+    out.put(b"\n")
+}
