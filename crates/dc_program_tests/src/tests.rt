@@ -9,5 +9,6 @@ mod hostile;
 mod office;
 mod report;
 mod run;
+mod script_lines;
 mod search;
 mod streams;

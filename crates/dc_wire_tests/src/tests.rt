@@ -2,13 +2,16 @@
 
 mod address;
 mod base;
+mod line;
 mod linkframe;
 mod lives;
+mod objects;
 mod readout;
 mod records;
 mod refusals;
 mod search;
 mod simulated;
+mod steady;
 mod stream;
 mod text;
 mod units;
