@@ -1,0 +1,93 @@
+"""A PostgreSQL server of Debian's package in a temporary folder, for demo/fleet: on a unix socket, crashed at will."""
+
+import os
+import pathlib
+import shutil
+import signal
+import subprocess
+import time
+
+OWNER, DATABASE = "office", "postgres"
+START_SECONDS = 60
+PROGRAMS = sorted(pathlib.Path("/usr/lib/postgresql").glob("*/bin/postgres"), key=lambda path: int(path.parts[4]))
+PACKAGES = ["postgresql", "python3-psycopg2"]
+
+
+def missing():
+    """The packages that aren't installed."""
+    try:
+        import psycopg2  # noqa: F401
+        found = ["python3-psycopg2"]
+    except ImportError:
+        found = []
+    return [name for name in PACKAGES if name not in found + ["postgresql"] * bool(PROGRAMS)]
+
+
+def install(packages):
+    sudo = [] if os.geteuid() == 0 else ["sudo"]
+    subprocess.run([*sudo, "apt-get", "update"], check=True)
+    subprocess.run([*sudo, "apt-get", "install", "-y", "--no-install-recommends", *packages], check=True)
+
+
+class Server:
+    """The server; `name` is its DSN."""
+
+    def __init__(self, folder):
+        self.folder, self.process, self.crashes = folder / "database", None, 0
+        self.folder.mkdir()
+        # PostgreSQL refuses to run as root: then it runs as the user of Debian's package
+        self.account = {"user": "postgres", "group": "postgres", "extra_groups": []} if os.geteuid() == 0 else {}
+        if self.account:
+            shutil.chown(self.folder, "postgres", "postgres")
+        self.name = f"host={self.folder} dbname={DATABASE} user={OWNER}"
+        program = PROGRAMS[-1].parent
+        self.run([program / "initdb", "-D", self.folder / "data", "-A", "trust", "-U", OWNER, "--no-sync"])
+        self.words = [program / "postgres", "-D", self.folder / "data", "-k", self.folder, "-c", "listen_addresses="]
+
+    def run(self, words):
+        done = subprocess.run(words, cwd=self.folder, capture_output=True, text=True, check=False, **self.account)
+        if done.returncode != 0:
+            raise SystemExit(f"fleet: {words[0]}: {done.stderr}")
+
+    def connect(self):
+        import psycopg2
+        connection = psycopg2.connect(self.name, options="-c timezone=UTC")
+        connection.autocommit = True
+        return connection
+
+    def start(self):
+        import psycopg2
+        with (self.folder / "log").open("ab") as log:
+            self.process = subprocess.Popen(self.words, cwd=self.folder, stdout=log, stderr=log, **self.account)
+        for _ in range(START_SECONDS * 20):
+            try:
+                self.connect().close()
+                return
+            except psycopg2.OperationalError:
+                time.sleep(0.05)
+        raise SystemExit(f"fleet: the database doesn't start, see {self.folder / 'log'}")
+
+    def crash(self, rng):
+        """Without a checkpoint: all processes end at once, or one is killed and the server recovers by itself."""
+        self.crashes += 1
+        if rng.random() < 0.5:
+            self.process.send_signal(signal.SIGQUIT)
+            self.process.wait()
+            self.start()
+        else:
+            self.kill_backend()
+
+    def kill_backend(self):
+        import psycopg2
+        try:
+            with self.connect().cursor() as cursor:
+                cursor.execute("SELECT pid FROM pg_stat_activity WHERE backend_type = 'client backend'"
+                               " ORDER BY pid = pg_backend_pid() LIMIT 1")
+                os.kill(cursor.fetchone()[0], signal.SIGKILL)
+        except psycopg2.OperationalError:
+            pass  # it is recovering already
+
+    def stop(self):
+        if self.process is not None and self.process.poll() is None:
+            self.process.send_signal(signal.SIGINT)
+            self.process.wait()

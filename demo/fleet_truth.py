@@ -1,0 +1,150 @@
+"""What has to be in the office's database at the end of demo/fleet, from what the meters sent and the boxes did."""
+
+import collections
+import datetime
+import decimal
+
+from fleet_houses import LINE
+from simulated import DUE, STORED_DATE, STORED_VOLUME, VOLUME, type_g
+
+PROBE = "OFFICE 999999999999999999 CONFIRM 0"
+REFUSED, DONE = "refused", "done"
+OVERDUE = datetime.timedelta(days=2)  # the default of boxes.overdue_after
+
+
+def litres(body, before):
+    """The volume behind a record's DIF and VIF, or None."""
+    at = body.find(before, 12)
+    return int(body[at + len(before):at + len(before) + 4][::-1].hex()) if at >= 0 else None
+
+
+class Truth:
+    """Collects what is true, and compares the database with it."""
+
+    def __init__(self, fleet):
+        self.fleet, self.problems, self.orders, self.retired = fleet, [], [], []
+
+    def check(self, is_so, text):
+        if not is_so:
+            self.problems.append(text)
+
+    def order(self, house, key, lines, status):
+        """Orders that have ended, as office/order said."""
+        for place, line in enumerate(lines, 1):
+            self.orders.append((house.box, f"{key}.{place}", line, status == 0))
+
+    def retire(self, house):
+        """A house whose image is gone; what it sent stays true."""
+        self.retired.append(house)
+
+    def rows(self, query, *values):
+        with self.fleet.server.connect().cursor() as cursor:
+            cursor.execute(query, values)
+            return cursor.fetchall()
+
+    def count_of(self, box):
+        return self.rows("SELECT count(*) FROM readings WHERE box LIKE %s", box)[0][0]
+
+    def bytes_a_reading(self):
+        sizes = [self.rows("SELECT sum(pg_total_relation_size(relid)) FROM pg_partition_tree(%s)", table)[0][0]
+                 for table in ("readings", "points")]
+        return sum(sizes) / self.count_of("%")
+
+    def problems_found(self):
+        """Everything that isn't as it has to be."""
+        houses = [*self.fleet.houses, *self.retired]
+        readings = self.rows("SELECT box, serial, identity, flat, heard, bodies FROM readings")
+        stored = collections.defaultdict(list)
+        for box, serial, identity, flat, heard, bodies in readings:
+            moments = {int(moment.timestamp()) for moment in heard}
+            stored[box, identity, tuple(bytes(body) for body in bodies)].append((serial, flat, moments))
+        sent = [(house.box, readout) for house in houses for readout in house.sent]
+        counts = collections.Counter()
+        for box, readout in sent:
+            self.compare(counts, readout, stored.pop((box, readout.identity, tuple(readout.bodies)), []))
+        self.check(not stored, f"{len(stored)} readings in the database were never sent, as {next(iter(stored), None)}")
+        for house in self.fleet.houses:
+            self.compare_box(house)
+        self.compare_serials()
+        self.compare_orders()
+        self.compare_points(readings)
+        self.compare_views()
+        print(f"{len(sent)} readouts sent, {counts['promised']} committed as the boxes said, {len(readings)} readings"
+              f" in the database: {counts['lost']} lost, {counts['doubled']} doubled, {len(stored)} of none")
+        return self.problems
+
+    def compare(self, counts, readout, rows):
+        """A readout with its rows: one, if the box said that it was committed; else one or none."""
+        counts["promised"] += readout.is_promised
+        counts["lost"] += readout.is_promised and not rows
+        counts["doubled"] += len(rows) > 1
+        self.check(rows or not readout.is_promised, f"lost {readout}")
+        self.check(len(rows) <= 1, f"doubled {readout}: {rows}")
+        self.check(all(row[1:] == (readout.flat, {readout.moment}) for row in rows), f"{readout} is stored as {rows}")
+
+    def compare_box(self, house):
+        """The box did each order that is done, has the register that they make, and nothing that isn't confirmed."""
+        numbers = [row[0] for row in self.rows(
+            "SELECT number FROM orders WHERE box = %s AND state = 'done' ORDER BY number", house.box)]
+        (number, confirmed), = self.rows("SELECT number, confirmed FROM boxes WHERE name = %s", house.box)
+        printed = house.run([PROBE, f"OFFICE WINDOW {confirmed + 1} 1", "OFFICE REGISTER"])
+        register = {(words[1], int(words[2]), words[3], words[4])
+                    for words in map(str.split, printed[2:-1])}
+        self.check(printed[:2] == [f"ERR ORDER {number}", "END 0"], f"{house.box} says {printed[:2]}, not {number}")
+        first = number - len(numbers) + 1 if house.box.endswith("-b") else 1  # some were done by hand
+        self.check(numbers == list(range(first, number + 1)), f"{house.box}: the numbers of the orders are {numbers}")
+        self.check(register == house.register(), f"{house.box}: the register is {register}")
+        meters = self.rows("SELECT identity, line, address, flat FROM meters WHERE box = %s", house.box)
+        self.check(set(meters) == register, f"{house.box}: the database's register is {meters}")
+
+    def compare_serials(self):
+        gaps = self.rows("SELECT box FROM readings GROUP BY box HAVING min(serial) <> 1 OR max(serial) <> count(*)")
+        self.check(not gaps, f"the serials of {gaps} have gaps")
+        late = self.rows("SELECT box FROM boxes b JOIN readings r ON r.box = b.name WHERE active"
+                         " GROUP BY box, confirmed HAVING max(serial) <> confirmed")
+        self.check(not late, f"not all of {late} is confirmed")
+
+    def compare_orders(self):
+        """Each order that was asked for stands once, as it was answered, and there is no other one."""
+        rows = self.rows("SELECT box, key, line, state FROM orders WHERE key IS NOT NULL ORDER BY box, key")
+        asked = sorted((box, key, line, DONE if is_done else REFUSED) for box, key, line, is_done in self.orders)
+        self.check(sorted(rows) == asked, f"the orders are {set(rows) ^ set(asked)}")
+        left = self.rows("SELECT box, line FROM orders WHERE state IN ('pending', 'queued')")
+        self.check(not left, f"orders are left: {left}")
+        refused = sum(not is_done for *_, is_done in self.orders)
+        confirms = self.rows("SELECT count(*) FROM orders WHERE confirms IS NOT NULL AND state = 'done'")[0][0]
+        print(f"{len(asked)} orders, {refused} of them refused, and {confirms} confirmations: each done once")
+
+    def compare_points(self, readings):
+        """The points of each reading: the current volume, the due date, and the volume at it."""
+        points = collections.defaultdict(list)
+        for box, serial, *point in self.rows("SELECT box, serial, storage, vib, value, unit FROM points"
+                                             " ORDER BY box, serial, part, place"):
+            points[box, serial].append(tuple(point))
+        for box, serial, _, _, _, bodies in readings:
+            body = b"".join(bytes(part) for part in bodies)
+            now, due = (decimal.Decimal(litres(body, dif)) / 1000 for dif in (VOLUME, STORED_VOLUME))
+            right = [(0, "13", now, "m3"), (1, "6C", None, None), (1, "13", due, "m3")]
+            self.check(points.pop((box, serial), None) == right, f"the points of {box} {serial} aren't {right}")
+        self.check(not points, f"{len(points)} readings have points and don't exist")
+
+    def compare_views(self):
+        """The due-date table of all houses, and the meters that are overdue."""
+        sent = {}
+        for house in [*self.fleet.houses, *self.retired]:
+            due = {meter.name: meter.due_litres for meter in house.meters}
+            sent.update({(house.box, it.identity): decimal.Decimal(due[it.identity]) / 1000 for it in house.sent
+                         if it.is_promised and STORED_DATE + type_g(DUE) in it.bodies[-1]})
+        rows = self.rows("SELECT box, identity, value FROM due_values WHERE due = %s", DUE)
+        self.check(sorted(rows) == sorted((*key, value) for key, value in sent.items()),
+                   f"the due-date table has {len(rows)} rows, not {len(sent)}")
+        last = max((it.moment for house in self.fleet.houses for it in house.sent), default=0)
+        moment = datetime.datetime.fromtimestamp(last, datetime.timezone.utc) + datetime.timedelta(hours=1)
+        overdue = {row[0] for row in self.rows("SELECT identity FROM overdue_at(%s)", moment)}
+        heard = collections.defaultdict(int)
+        for house in self.fleet.houses:
+            for it in house.sent:
+                heard[it.identity] = max(heard[it.identity], it.moment if it.is_promised else 0)
+        late = {name for name, seen in heard.items() if seen < (moment - OVERDUE).timestamp()}
+        self.check(overdue == late, f"overdue are {sorted(overdue)}, not {sorted(late)}")
+        print(f"{len(rows)} values in the due-date table of all houses, {len(overdue)} meters overdue")

@@ -1,0 +1,131 @@
+"""Decodes telegrams with `mbdc decode`, and finds the due-date value of each record (OMS Volume 2)."""
+
+import decimal
+import functools
+import json
+import os
+import pathlib
+import re
+import subprocess
+from typing import NamedTuple, Optional
+
+MBDC = os.environ.get("MBDC", str(pathlib.Path(__file__).resolve().parent.parent / "mbdc"))
+FRAMES_A_RUN = 1500  # of at most 523 bytes each, below the 1 MiB that an input may have
+DECODE_SECONDS = 60  # at most, of one run of the decoder
+RSP_UD, CI_VARIABLE = 0x08, 0x72  # EN 13757-2 and -3
+FUNCTIONS = ("instantaneous", "maximum", "minimum", "error")
+TIME_POINT_VIFS = (0x6C, 0x6D)  # a date; a date and time (EN 13757-3)
+RECORD = re.compile(r"RECORD (\d+) (\d+) (\d+) (\d+) ([0-9A-F]+) (?:[0-9A-F]+|-) = (\S+)(?: (\S+))?")
+NUMBER = re.compile(r"-?\d+(\.\d+)?")
+DAY = re.compile(r"(\d{4}-\d\d-\d\d)(T.*)?")
+FLAGS, OTHER = "flags", "other"
+
+
+class Undecoded(Exception):
+    """The decoder failed, or a telegram isn't one. The box holds only telegrams that its decoder reads."""
+
+
+class Point(NamedTuple):
+    """A record: where it belongs, and its value."""
+    storage: int
+    function: int
+    tariff: int
+    subunit: int
+    vib: str
+    quantity: Optional[str]
+    shown: str
+    unit: Optional[str]
+    is_point: bool  # of the decoder's table of units; other values aren't due-date values
+
+    @property
+    def value(self):
+        """The number, exact; None of a date, of flags, and where there is none."""
+        is_number = self.unit != FLAGS and NUMBER.fullmatch(self.shown)
+        return decimal.Decimal(self.shown) if is_number else None
+
+    @property
+    def is_time_point(self):
+        return self.is_point and int(self.vib[:2], 16) & 0x7F in TIME_POINT_VIFS
+
+    @property
+    def day(self):
+        found = DAY.fullmatch(self.shown)
+        return found[1] if found and self.is_time_point else None
+
+
+def frame_of(body):
+    """The long frame around a telegram, in hex digits (EN 13757-2)."""
+    content = bytes([RSP_UD, 0, CI_VARIABLE]) + body
+    return bytes([0x68, len(content), len(content), 0x68, *content, sum(content) % 256, 0x16]).hex().upper()
+
+
+@functools.lru_cache(maxsize=None)
+def has_json():
+    """Whether the decoder has an output for programs."""
+    told = subprocess.run([MBDC, "decode", "--help"], capture_output=True, text=True, check=False)
+    return "--json" in told.stdout
+
+
+def decoded(text, *words):
+    """What the decoder prints of a text."""
+    try:
+        done = subprocess.run([MBDC, "decode", *words], input=text, capture_output=True, text=True,
+                              timeout=DECODE_SECONDS, check=False)
+    except (OSError, subprocess.TimeoutExpired) as fault:
+        raise Undecoded(f"{MBDC} decode: {fault}") from fault
+    if done.returncode != 0:
+        raise Undecoded(f"{MBDC} decode ended with status {done.returncode}")
+    return done.stdout
+
+
+def points_of_text(text):
+    """The records of each frame, from the decoder's lines."""
+    frames = []
+    for line in text.splitlines():
+        if line.startswith("LONG "):
+            frames.append([])
+        found = RECORD.fullmatch(line)
+        if found:
+            storage, tariff, subunit, function, vib, shown, unit = found.groups()
+            frames[-1].append(Point(int(storage), int(function), int(tariff), int(subunit), vib, None, shown, unit,
+                                    shown != OTHER))
+    return frames
+
+
+def points_of_json(text):
+    """The records of each frame, from the decoder's JSON Lines."""
+    return [[point_of_object(record) for record in json.loads(line).get("records", [])] for line in text.splitlines()]
+
+
+def point_of_object(record):
+    """A record from its JSON object; `reading` is point, plain (a value of another table) or other (none)."""
+    function = next(number for number, word in enumerate(FUNCTIONS) if word in record["function"])
+    quantity = ", ".join([record["quantity"], *record.get("qualifiers", [])])
+    value = OTHER if record["reading"] == OTHER else record["value"] or "none"
+    return Point(record["storage"], function, record["tariff"], record["subunit"], record["vib"], quantity, value,
+                 record["unit"], record["reading"] == "point")
+
+
+def points_of(bodies):
+    """The records of each telegram.
+
+    Raises Undecoded."""
+    frames = []
+    for begin in range(0, len(bodies), FRAMES_A_RUN):
+        text = "".join(f"{frame_of(body)}\n" for body in bodies[begin:begin + FRAMES_A_RUN])
+        frames += points_of_json(decoded(text, "--json")) if has_json() else points_of_text(decoded(text))
+    if len(frames) != len(bodies):
+        raise Undecoded(f"{len(frames)} frames were decoded of {len(bodies)}")
+    return frames
+
+
+def due_days(points):
+    """For each record of a reading the day at which its value was stored, or None.
+
+    A date of function 0, tariff 0 and subunit 0 dates its storage number, the first of them; storage 0 is current."""
+    days = {}
+    for point in points:
+        if point.day and (point.function, point.tariff, point.subunit) == (0, 0, 0):
+            days.setdefault(point.storage, point.day)
+    return [days.get(point.storage) if point.storage > 0 and point.is_point and not point.is_time_point else None
+            for point in points]

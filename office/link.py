@@ -1,0 +1,148 @@
+"""Talks to a box: runs a script of office lines over the box's command, and reads the replies (docs/COMMANDS.md)."""
+
+import contextlib
+import datetime
+import os
+import re
+import shlex
+import signal
+import subprocess
+from typing import NamedTuple
+
+PAGE = 100  # the most readings that one WINDOW shows
+# A numbered line that no box accepts, since its number isn't the next one's: it is answered `ERR ORDER last`.
+PROBE = "999999999999999999 CONFIRM 0"
+REPLY_ENDS = ("OK", "ERR", "END")
+UTC = datetime.timezone.utc
+
+
+class Unreached(Exception):
+    """The box gave no whole answer. What it did isn't known, and the same may be sent again."""
+
+
+class Disagreement(Exception):
+    """The box contradicts the database. Nothing is confirmed until somebody has looked."""
+
+
+class Reading(NamedTuple):
+    """A reading as the box shows it."""
+    serial: int
+    identity: str
+    flat: str
+    heard: tuple  # a moment for each telegram
+    bodies: tuple  # the telegrams without their frames
+
+
+class Meter(NamedTuple):
+    """A row of the box's register."""
+    identity: str
+    line: int
+    address: str
+    flat: str
+
+
+class Seen(NamedTuple):
+    """What a box shows at one moment."""
+    number: int  # of the last command that it did
+    confirmed: int  # the serial up to which it has confirmed
+    meters: list
+    readings: list  # from the serial asked for on, at most PAGE
+    is_all: bool  # there are no further ones
+
+
+class Link:
+    """A box behind its command."""
+
+    def __init__(self, box, command, timeout):
+        self.box, self.timeout = box, timeout
+        self.words = [word.replace("{box}", box) for word in shlex.split(command)]
+
+    def run(self, lines):
+        """The replies to these office lines, each a list of lines.
+
+        Raises Unreached where the command failed, took too long, or a reply isn't whole."""
+        script = "".join(f"OFFICE {line}\n" for line in lines)
+        try:
+            process = subprocess.Popen(self.words, stdin=subprocess.PIPE, stdout=subprocess.PIPE,
+                                       stderr=subprocess.PIPE, start_new_session=True)
+        except OSError as fault:
+            raise Unreached(f"{self.words[0]}: {fault.strerror}") from fault
+        try:
+            printed, complaint = process.communicate(script.encode(), self.timeout)
+        except subprocess.TimeoutExpired as late:
+            raise Unreached(f"no answer within {self.timeout:g} s") from late
+        finally:
+            if process.returncode is None:
+                with contextlib.suppress(ProcessLookupError):
+                    os.killpg(process.pid, signal.SIGKILL)
+                process.communicate()
+        if process.returncode != 0:
+            last = complaint.decode(errors="replace").strip().rpartition("\n")[2]
+            raise Unreached(f"status {process.returncode} {last}".strip())
+        return whole_replies(printed.decode("ascii", "replace"), len(lines))
+
+    def look(self, first):
+        """What the box shows, with the readings from that serial on, or from the first that isn't confirmed.
+
+        Raises Unreached."""
+        try:
+            return self.seen_from(first)
+        except (ValueError, IndexError, StopIteration) as fault:
+            raise Unreached(f"an answer can't be read: {fault}") from fault
+
+    def seen_from(self, first):
+        order, mark, register, window = self.run([PROBE, "WINDOW 1 1", "REGISTER", f"WINDOW {first} {PAGE}"])
+        confirmed = gone(mark)
+        if gone(window):
+            first = confirmed + 1
+            order, mark, register, window = self.run([PROBE, "WINDOW 1 1", "REGISTER", f"WINDOW {first} {PAGE}"])
+        number = re.fullmatch(r"ERR ORDER (\d+)", order[0])
+        if number is None or gone(mark) != confirmed or gone(window):
+            raise Unreached(f"unexpected answers: {order[0]}, {mark[0]}, {window[0]}")
+        readings = readings_of(window)
+        return Seen(int(number[1]), confirmed, meters_of(register), readings, len(readings) < PAGE)
+
+
+def whole_replies(text, count):
+    """The replies in a text; the last line of each begins with OK, ERR or END."""
+    lines = text.splitlines() if text.endswith("\n") else []
+    ends = [place + 1 for place, line in enumerate(lines) if line.split(" ")[0] in REPLY_ENDS]
+    replies = [lines[begin:end] for begin, end in zip([0, *ends], ends)]
+    if len(replies) != count or ends[-1:] != [len(lines)]:
+        raise Unreached(f"{len(replies)} whole replies of {count}")
+    for reply in replies:
+        if reply[-1] in ("ERR STORE", "ERR MEMORY"):
+            raise Unreached(reply[-1])
+    return replies
+
+
+def gone(window):
+    """The confirmed serial that a WINDOW was refused with, or 0."""
+    found = re.fullmatch(r"ERR GONE (\d+)", window[0])
+    return int(found[1]) if found else 0
+
+
+def counted(reply, count):
+    """Raises Unreached where the END of a reply has another count."""
+    if reply[-1] != f"END {count}":
+        raise Unreached(f"{count} rows before {reply[-1]}")
+
+
+def readings_of(window):
+    """The readings of a WINDOW's reply."""
+    readings, rest = [], iter(window[:-1])
+    for line in rest:
+        _, serial, identity, flat, count = line.split(" ")
+        parts = [next(rest).split(" ") for _ in range(int(count))]
+        heard = tuple(datetime.datetime.fromtimestamp(int(part[2]), UTC) for part in parts)
+        bodies = tuple(bytes.fromhex(part[3]) for part in parts)
+        readings.append(Reading(int(serial), identity, flat, heard, bodies))
+    counted(window, len(readings))
+    return readings
+
+
+def meters_of(register):
+    """The meters of a REGISTER's reply."""
+    rows = [line.split(" ") for line in register[:-1]]
+    counted(register, len(rows))
+    return [Meter(identity, int(line), address, flat) for _, identity, line, address, flat, _ in rows]
