@@ -1,0 +1,78 @@
+# Shell functions that poll and office-inbox share: the settings of a house, and the lock of its image.
+# Sourced with `program` set to the name that messages begin with.
+# shellcheck shell=sh disable=SC2034,SC2154
+
+LC_ALL=C
+export LC_ALL
+umask 0027
+
+# A unit that waits longer than this for another one's end fails, and its next start tries again.
+LOCK_SECONDS=3000
+# The exit status of flock after that time: EX_TEMPFAIL of sysexits.h, which mbdc never returns.
+LOCKED=75
+USAGE=2
+CONFIGURATION=78
+
+say() {
+    printf '%s: %s\n' "$program" "$1" >&2
+}
+
+# Ends the program: fail STATUS TEXT
+fail() {
+    say "$2"
+    exit "$1"
+}
+
+# The only word is the house's name, which stands in paths and in names of units.
+check_words() {
+    [ $# = 1 ] || fail "$USAGE" 'usage: HOUSE'
+    case $1 in
+    '' | -* | *[!A-Za-z0-9_-]*) fail "$USAGE" 'the name of a house has letters, digits, _ and -' ;;
+    esac
+}
+
+is_number() {
+    case $1 in
+    '' | 0* | *[!0-9]* | ???????*) return 1 ;;
+    esac
+}
+
+# One setting: set_value NAME VALUE. Status 1 where it is none.
+set_value() {
+    case $2 in
+    '' | *[!]A-Za-z0-9._:/@%+,[-]*) return 1 ;;
+    esac
+    case $1 in
+    IMAGE) [ "${2#/}" != "$2" ] && image=$2 ;;
+    BAUD) is_number "$2" && baud=$2 ;;
+    TRIES) is_number "$2" && tries=$2 ;;
+    PATIENCE) is_number "$2" && patience=$2 ;;
+    LINE_[1-8]) lines="$lines ${1#LINE_}=$2" ;;
+    *) return 1 ;;
+    esac
+}
+
+# Reads /etc/mbdc/HOUSE.conf into image, lines (words N=LINK), baud, tries and patience.
+read_settings() {
+    settings=/etc/mbdc/$1.conf
+    image=/var/lib/mbdc/$1.image lines='' baud=2400 tries=2 patience=2000
+    [ -r "$settings" ] || fail "$CONFIGURATION" "$settings: it can't be read"
+    number=0
+    while IFS= read -r line || [ -n "$line" ]; do
+        number=$((number + 1))
+        case $line in
+        '' | '#'*) continue ;;
+        esac
+        set_value "${line%%=*}" "${line#*=}" || fail "$CONFIGURATION" "$settings:$number: no setting: $line"
+    done <"$settings"
+}
+
+# Waits until no other unit works on the image, and keeps it to this program until that ends. A mbdc that a person
+# started has the image itself locked, so its end is waited for too.
+lock_image() {
+    (: >>"$image.lock") 2>/dev/null || fail "$CONFIGURATION" "$image.lock: it can't be written"
+    exec 9>>"$image.lock"
+    flock --timeout "$LOCK_SECONDS" 9 || fail "$LOCKED" "$image: in use for $LOCK_SECONDS s"
+    [ ! -f "$image" ] || flock --timeout "$LOCK_SECONDS" --shared "$image" true \
+        || fail "$LOCKED" "$image: in use for $LOCK_SECONDS s"
+}
