@@ -1,6 +1,7 @@
 -- Decimal digits of fixed width, most significant first, and two of them in a byte: the binary coded
 -- decimal of EN 13757-3 (data type A), whose bytes go low byte first.
-use Rattle.std.specs.Prelude.{ℕ, zero, suc, ◌+◌, ◌*◌, ◌/◌, ◌%◌, ◌^◌, Bool, List, [], ◌∷◌, ◌++◌, nat_lt}
+use Rattle.std.specs.Prelude.{ℕ, zero, suc, ◌+◌, ◌*◌, ◌/◌, ◌%◌, ◌^◌, Bool, List, [], ◌∷◌, ◌++◌}
+use Rattle.std.specs.Prelude.{nat_lt}
 
 -- the lowest `width` digits of a number
 unfoldable pub decimal_digits : ℕ → ℕ → List ℕ

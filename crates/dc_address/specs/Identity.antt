@@ -1,5 +1,6 @@
 -- A meter's identity, its eight bytes on the wire and its printed text (EN 13757-3, fixed data header).
-use Rattle.std.specs.Prelude.{◌≡◌, ℕ, Bool, ◌&&◌, List, [], ◌∷◌, ◌++◌, length, take, drop, slice_index, nat_lt, ◌==◌}
+use Rattle.std.specs.Prelude.{◌≡◌, ℕ, Bool, ◌&&◌, List, [], ◌∷◌, ◌++◌, length, take, drop}
+use Rattle.std.specs.Prelude.{slice_index, nat_lt, ◌==◌}
 use Rattle.std.specs.List.{list_all}
 use Rattle.std.specs.Ordering.{nat_cmp, ordering_then}
 use Rattle.std.specs.declared.cmp.Ordering.{Ordering}
@@ -14,7 +15,8 @@ use Rattle.dc_address.specs.declared.identity.Identity.{Identity}
 abbrev pub identity_cmp : Identity → Identity → Ordering
 identity_cmp a b =
     ordering_then (nat_cmp a.number b.number)
-    (ordering_then (nat_cmp a.maker b.maker) (ordering_then (nat_cmp a.version b.version) (nat_cmp a.kind b.kind)))
+    (ordering_then (nat_cmp a.maker b.maker)
+    (ordering_then (nat_cmp a.version b.version) (nat_cmp a.kind b.kind)))
 
 -- ---- eight bytes
 

@@ -31,4 +31,5 @@ abbrev pub is_letter : ℕ → Bool
 is_letter code = nat_le 65 code && nat_le code 90
 
 abbrev pub is_maker : ℕ → Bool
-is_maker maker = is_letter (first_letter maker) && (is_letter (second_letter maker) && is_letter (third_letter maker))
+is_maker maker = is_letter (first_letter maker) &&
+    (is_letter (second_letter maker) && is_letter (third_letter maker))

@@ -1,5 +1,7 @@
 -- Selection masks and what they match (EN 13757-3, editions of 2004 and 2013, selection of meters by wildcards).
-use Rattle.std.specs.Prelude.{◌≡◌, ◌≢◌, ◌<◌, ℕ, Bool, true, ◌&&◌, ◌||◌, List, [], ◌∷◌, ◌++◌, Option, Some, None, length, map, take, drop, unwrap_or, IsTrue, slice_index, slice_set, ◌==◌, if◌then◌else◌}
+use Rattle.std.specs.Prelude.{◌≡◌, ◌≢◌, ◌<◌, ℕ, Bool, true, ◌&&◌, ◌||◌, List, [], ◌∷◌, ◌++◌, Option}
+use Rattle.std.specs.Prelude.{Some, None, length, map, take, drop, unwrap_or, IsTrue, slice_index}
+use Rattle.std.specs.Prelude.{slice_set, ◌==◌, if◌then◌else◌}
 use Rattle.std.specs.List.{list_all, zip}
 use Rattle.byteorder.specs.Endian.{little_bytes, little_number}
 use Rattle.dc_address.specs.Digits.{decimal_digits, is_digit, packed_digits, unpacked_digits}
@@ -25,7 +27,8 @@ all_fit wanted values = list_all (λ pair. fits pair.0 pair.1) (zip wanted value
 unfoldable pub matches : MaskParts → Identity → Bool
 matches mask identity =
     all_fit mask.digits (decimal_digits 8 identity.number)
-    && (fits mask.maker identity.maker && (fits mask.version identity.version && fits mask.kind identity.kind))
+    && (fits mask.maker identity.maker &&
+    (fits mask.version identity.version && fits mask.kind identity.kind))
 
 -- all wildcards
 abbrev pub mask_of_all : MaskParts
@@ -61,7 +64,8 @@ nibble_of wanted = unwrap_or wanted 15
 unfoldable pub mask_wire : MaskParts → List ℕ
 mask_wire mask =
     packed_digits (map nibble_of mask.digits)
-    ++ (little_bytes 2 (unwrap_or mask.maker 65535) ++ unwrap_or mask.version 255 ∷ unwrap_or mask.kind 255 ∷ [])
+    ++ (little_bytes 2 (unwrap_or mask.maker 65535) ++ unwrap_or mask.version 255
+    ∷ unwrap_or mask.kind 255 ∷ [])
 
 -- ---- eight bytes, read
 

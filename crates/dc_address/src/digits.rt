@@ -3,7 +3,8 @@
 ghost use Rattle.std.specs.Prelude.{◌≡◌, ◌<◌, ◌/◌, ◌%◌, IsTrue, IfSome, is_some};
 ghost use Rattle.std.specs.List.{list_all};
 ghost use Rattle.std.specs.Int.Digits.{number_from_digits};
-ghost use Rattle.dc_address.specs.Digits.{decimal_digits, is_digit, is_nibble, packed_digits, unpacked_digits};
+ghost use Rattle.dc_address.specs.Digits.{decimal_digits, is_digit, is_nibble, packed_digits};
+ghost use Rattle.dc_address.specs.Digits.{unpacked_digits};
 
 /// The decimal digit that counts this power of ten.
 fn digit_at(number: u32, power: u32) -> u8

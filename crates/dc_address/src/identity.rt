@@ -33,7 +33,8 @@ pub struct Identity {
 }
 
 impl Identity {
-    ghost use Rattle.std.specs.Prelude.{◌≡◌, ◌≢◌, ◌<◌, IfSome, is_some, IfOk, MatchResult, Some, None, Ok};
+    ghost use Rattle.std.specs.Prelude.{◌≡◌, ◌≢◌, ◌<◌, IfSome, is_some, IfOk, MatchResult, Some};
+    ghost use Rattle.std.specs.Prelude.{None, Ok};
     ghost use Rattle.dc_address.specs.Identity.{IsWire, identity_cmp, is_identity, wire_of};
     ghost use Rattle.std.specs.declared.cmp.Ordering.TheVariants.{Greater};
     ghost use Rattle.dc_address.specs.Text.{IsText, identity_fault, text_of};
@@ -53,7 +54,8 @@ impl Identity {
 
     /// The greatest of all: nothing but nines, `ZZZ` and FF.
     pub fn greatest() -> Identity
-        ensures { (other : Identity) → other.version < 256 → other.kind < 256 → identity_cmp other result ≢ Greater }
+        ensures { (other : Identity) → other.version < 256 → other.kind < 256
+            → identity_cmp other result ≢ Greater }
     {
         Identity {
             number: 99_999_999,
@@ -135,8 +137,10 @@ impl Identity {
     /// The identity that a text such as `12345678.PAD.01.07` prints, else the first fault that stands.
     pub fn parse_text(text: &[u8]) -> Result<Identity, IdentityFault>
         ensures found { IfOk result (λ identity. IsText text.now identity) }
-        ensures only { (identity : Identity) → identity.version < 256 → identity.kind < 256 → IsText text.now identity → result ≡ Ok identity }
-        ensures fault { MatchResult result (λ _. identity_fault text.now ≡ None) (λ fault. identity_fault text.now ≡ Some fault) }
+        ensures only { (identity : Identity) → identity.version < 256 → identity.kind < 256
+            → IsText text.now identity → result ≡ Ok identity }
+        ensures fault { MatchResult result (λ _. identity_fault text.now ≡ None)
+            (λ fault. identity_fault text.now ≡ Some fault) }
     {
         let Some((codes, rest)) = text.split_first_chunk::<8>() else {
             return Err(IdentityFault::Length);

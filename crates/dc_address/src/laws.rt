@@ -1,7 +1,9 @@
 //! Laws of identities and masks: what each contract says holds by the definitions.
-ghost use Rattle.std.specs.Prelude.{◌≡◌, ◌≢◌, ◌<◌, ◌&&◌, ◌==◌, ℕ, Some, None, true, slice_get, slice_index};
+ghost use Rattle.std.specs.Prelude.{◌≡◌, ◌≢◌, ◌<◌, ◌&&◌, ◌==◌, ℕ, Some, None, true, slice_get};
+ghost use Rattle.std.specs.Prelude.{slice_index};
 ghost use Rattle.dc_address.specs.Digits.{decimal_digits};
-ghost use Rattle.dc_address.specs.Mask.{IsMask, MaskParts, mask_at, mask_of, mask_of_all, mask_wire, matches, with_digit};
+ghost use Rattle.dc_address.specs.Mask.{IsMask, MaskParts, mask_at, mask_of, mask_of_all};
+ghost use Rattle.dc_address.specs.Mask.{mask_wire, matches, with_digit};
 ghost use Rattle.dc_address.specs.Identity.{identity_cmp, wire_of};
 ghost use Rattle.dc_address.specs.declared.identity.Identity.{Identity};
 
@@ -12,7 +14,8 @@ use std::cmp::Ordering;
 /// as the identity's own bytes.
 pub fn mask_of_asks_for_one()
     ensures own { (identity : Identity) → matches (mask_of identity) identity ≡ true }
-    ensures alone { (identity other : Identity) → identity.version ≢ 255 → identity.kind ≢ 255 → matches (mask_of identity) other ≡ true → other ≡ identity }
+    ensures alone { (identity other : Identity) → identity.version ≢ 255 → identity.kind ≢ 255
+        → matches (mask_of identity) other ≡ true → other ≡ identity }
     ensures sent { (identity : Identity) → mask_wire (mask_of identity) ≡ wire_of identity }
 {}
 
@@ -36,5 +39,8 @@ pub fn order_of(one: &Identity, other: &Identity) -> Ordering
 
 /// Fixing a digit where a wildcard stood keeps, of the identities that matched, those with that digit.
 pub fn with_digit_narrows()
-    ensures { (mask : MaskParts) (place digit : ℕ) (identity : Identity) → place < 8 → slice_get mask.digits place ≡ Some None → matches (with_digit mask place digit) identity ≡ (digit == slice_index (decimal_digits 8 identity.number) place && matches mask identity) }
+    ensures { (mask : MaskParts) (place digit : ℕ) (identity : Identity) → place < 8
+        → slice_get mask.digits place ≡ Some None
+        → matches (with_digit mask place digit) identity
+        ≡ (digit == slice_index (decimal_digits 8 identity.number) place && matches mask identity) }
 {}

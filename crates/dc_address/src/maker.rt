@@ -2,7 +2,8 @@
 
 ghost use Rattle.std.specs.Prelude.{◌≡◌, ◌∷◌, [], IfSome, is_some};
 ghost use Rattle.std.specs.List.{list_all};
-ghost use Rattle.dc_address.specs.Maker.{IsMaker, first_letter, is_letter, is_maker, maker_code, second_letter, third_letter};
+ghost use Rattle.dc_address.specs.Maker.{IsMaker, first_letter, is_letter, is_maker, maker_code};
+ghost use Rattle.dc_address.specs.Maker.{second_letter, third_letter};
 
 /// The three letters of a manufacturer's code, in ASCII.
 pub fn letters_of(maker: u16) -> [u8; 3]

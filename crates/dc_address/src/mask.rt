@@ -2,7 +2,8 @@
 
 ghost use Rattle.std.specs.Prelude.{◌≡◌, Some, map};
 ghost use Rattle.std.specs.List.{list_all};
-ghost use Rattle.dc_address.specs.Mask.{all_fit, code_or_wildcard, digit_or_wildcard, fits, is_sent, nibble_of, value_or_wildcard};
+ghost use Rattle.dc_address.specs.Mask.{all_fit, code_or_wildcard, digit_or_wildcard, fits};
+ghost use Rattle.dc_address.specs.Mask.{is_sent, nibble_of, value_or_wildcard};
 
 use crate::Identity;
 use crate::digits::{digits_of, packed, unpacked};
@@ -25,11 +26,26 @@ impl Model for Mask {
 
     ghost Value = { MaskParts };
 
-    ghost view = { λ m. record { digits = m.digits; maker = m.maker; version = m.version; kind = m.kind } };
+    ghost view = { λ m. record {
+      digits = m.digits;
+      maker = m.maker;
+      version = m.version;
+      kind = m.kind;
+    } };
 
-    ghost invariant = { λ m. IsMask (record { digits = m.digits; maker = m.maker; version = m.version; kind = m.kind }) };
+    ghost invariant = { λ m. IsMask (record {
+      digits = m.digits;
+      maker = m.maker;
+      version = m.version;
+      kind = m.kind;
+    }) };
 
-    ghost inverse = { λ p. record { digits = p.digits; maker = p.maker; version = p.version; kind = p.kind } };
+    ghost inverse = { λ p. record {
+      digits = p.digits;
+      maker = p.maker;
+      version = p.version;
+      kind = p.kind;
+    } };
 }
 
 /// A byte of an identity as a mask asks for it: FF is the wildcard.
@@ -114,7 +130,8 @@ fn byte_fits(wanted: Option<u8>, value: u8) -> bool
 
 impl Mask {
     ghost use Rattle.std.specs.Prelude.{◌≡◌, ◌<◌, IsTrue, SomeIff};
-    ghost use Rattle.dc_address.specs.Mask.{are_sent, mask_at, mask_of_all, mask_of, with_digit, matches, mask_wire};
+    ghost use Rattle.dc_address.specs.Mask.{are_sent, mask_at, mask_of_all, mask_of, with_digit};
+    ghost use Rattle.dc_address.specs.Mask.{matches, mask_wire};
 
     /// All wildcards: every meter matches.
     pub fn all() -> Mask

@@ -44,7 +44,8 @@ fn values_of(codes: &[u8; 8]) -> [u8; 8]
 pub fn number_of_codes(codes: &[u8; 8]) -> Option<u32>
     ensures digits { is_some result ≡ list_all is_ascii_digit codes.now }
     ensures fits { IfSome result (λ number. number < 100_000_000) }
-    ensures spelled { IfSome result (λ number. map decimal_code (decimal_digits 8 number) ≡ codes.now) }
+    ensures spelled { IfSome result (λ number.
+        map decimal_code (decimal_digits 8 number) ≡ codes.now) }
 {
     number_of(&values_of(codes))
 }

@@ -7,9 +7,11 @@ abbrev pub HasRisen : ℕ → ℕ → Type 0
 HasRisen before now = min (before + 1) (2 ^ 64 - 1) ≤ now
 
 -- what has risen stays risen while the count doesn't fall
-pub has_risen-then : (before between now : ℕ) → HasRisen before between → between ≤ now → HasRisen before now
+pub has_risen-then : (before between now : ℕ) → HasRisen before between → between ≤ now
+    → HasRisen before now
 has_risen-then before between now risen kept = omega arith
 
 -- what rises later has risen since before
-pub has_risen-after : (before between now : ℕ) → before ≤ between → HasRisen between now → HasRisen before now
+pub has_risen-after : (before between now : ℕ) → before ≤ between → HasRisen between now
+    → HasRisen before now
 has_risen-after before between now kept risen = omega arith

@@ -1,5 +1,7 @@
 -- Which changes are refused, and why.
-use Rattle.std.specs.Prelude.{◌≡◌, ℕ, ◌+◌, Bool, true, false, not, ◌&&◌, ◌||◌, Option, None, Some, Result, Ok, Err, List, [], ◌∷◌, length, find, is_some, nat_lt, nat_le, ◌==◌}
+use Rattle.std.specs.Prelude.{◌≡◌, ℕ, ◌+◌, Bool, true, false, not, ◌&&◌, ◌||◌, Option, None, Some}
+use Rattle.std.specs.Prelude.{Result, Ok, Err, List, [], ◌∷◌, length, find, is_some, nat_lt, nat_le}
+use Rattle.std.specs.Prelude.{◌==◌}
 use Rattle.std.specs.List.{list_any}
 use Rattle.std.specs.BTreeMap.{is_at}
 use Rattle.std.specs.Map.{values_of}
@@ -10,7 +12,8 @@ use Rattle.dc_changes.specs.declared.change.Change.TheVariants.{Telegram, Comman
 use Rattle.dc_changes.specs.declared.command.Command.{Command}
 use Rattle.dc_changes.specs.declared.command.Command.TheVariants.{Fit, Move, Out, Confirm, Swap}
 use Rattle.dc_changes.specs.declared.fault.ChangeFault.{ChangeFault}
-use Rattle.dc_changes.specs.declared.fault.ChangeFault.TheVariants.{Unknown, Known, AddressTaken, Beyond, Full}
+use Rattle.dc_changes.specs.declared.fault.ChangeFault.TheVariants.{Unknown, Known, AddressTaken}
+use Rattle.dc_changes.specs.declared.fault.ChangeFault.TheVariants.{Beyond, Full}
 use Rattle.dc_changes.specs.State.{State, MeterRow, row_of}
 use Rattle.dc_changes.specs.Body.{BodyRow}
 use Rattle.dc_changes.specs.Apply.{told, commanded}
@@ -39,7 +42,8 @@ is_taken line address s = list_any (occupies line address) (values_of s.meters)
 -- the same of the meters but one, on that meter's line
 abbrev pub is_taken_by_other : Identity → Option ℕ → Option MeterRow → State → Bool
 is_taken_by_other old address None s = false
-is_taken_by_other old address (Some row) s = list_any (λ e. not (is_at (identity_cmp old) e.0) && occupies row.line address e.1) s.meters
+is_taken_by_other old address (Some row) s =
+    list_any (λ e. not (is_at (identity_cmp old) e.0) && occupies row.line address e.1) s.meters
 
 -- the new meter is registered already
 abbrev pub is_known : Command → State → Bool
@@ -74,7 +78,8 @@ is_beyond (Swap old new address) s = false
 
 -- the state after it would be above the budget
 abbrev pub is_full : ℕ → Command → State → Bool
-is_full budget (Fit meter line address flat) s = nat_lt budget (size_of (commanded (Fit meter line address flat) s))
+is_full budget (Fit meter line address flat) s =
+    nat_lt budget (size_of (commanded (Fit meter line address flat) s))
 is_full budget (Move meter flat) s = nat_lt budget (size_of (commanded (Move meter flat) s))
 is_full budget (Out meter) s = false
 is_full budget (Confirm serial) s = false
@@ -93,7 +98,9 @@ telegram_stands budget part moment body s Unknown = not (continues part (row_of 
 telegram_stands budget part moment body s Known = false
 telegram_stands budget part moment body s AddressTaken = false
 telegram_stands budget part moment body s Beyond = false
-telegram_stands budget part moment body s Full = nat_lt budget (size_of (told part moment body s)) || (not body.more && nat_le end_of_numbers s.next_serial)
+telegram_stands budget part moment body s Full =
+    nat_lt budget (size_of (told part moment body s)) ||
+    (not body.more && nat_le end_of_numbers s.next_serial)
 
 -- ---- the first that stands
 
@@ -101,7 +108,8 @@ abbrev pub faults_in_order : List ChangeFault
 faults_in_order = Known ∷ Unknown ∷ AddressTaken ∷ Beyond ∷ Full ∷ []
 
 abbrev pub telegram_refusal : ℕ → ℕ → ℕ → BodyRow → State → Option ChangeFault
-telegram_refusal budget part moment body s = find (telegram_stands budget part moment body s) faults_in_order
+telegram_refusal budget part moment body s =
+    find (telegram_stands budget part moment body s) faults_in_order
 
 abbrev pub command_refusal : ℕ → Command → State → Option ChangeFault
 command_refusal budget command s = find (command_stands budget command s) faults_in_order

@@ -1,5 +1,6 @@
 -- The state after a change.
-use Rattle.std.specs.Prelude.{ℕ, ◌+◌, max, Bool, true, false, Option, None, Some, List, [], ◌∷◌, ◌++◌, filter, nat_lt, ◌==◌, if◌then◌else◌}
+use Rattle.std.specs.Prelude.{ℕ, ◌+◌, max, Bool, true, false, Option, None, Some, List, [], ◌∷◌}
+use Rattle.std.specs.Prelude.{◌++◌, filter, nat_lt, ◌==◌, if◌then◌else◌}
 use Rattle.std.specs.BTreeMap.{is_at, insert_entry}
 use Rattle.std.specs.Map.{set_value, remove_entry}
 use Rattle.dc_address.specs.declared.identity.Identity.{Identity}
@@ -24,17 +25,24 @@ joined number part parts = if number == 1 then part ∷ [] else parts ++ part �
 -- today.
 abbrev pub heard : Identity → Bool → ℕ → PartRow → Option MeterRow → State → State
 heard meter more number part None s = s
-heard meter true number part (Some row) s = with_row meter (record row { parts = joined number part row.parts }) s
+heard meter true number part (Some row) s =
+    with_row meter (record row { parts = joined number part row.parts }) s
 heard meter false number part (Some row) s =
     let closed = with_row meter (record row { parts = [] }) s in
     record closed {
-      readings = s.readings ++ record { serial = s.next_serial; meter = meter; flat = row.flat; parts = joined number part row.parts } ∷ [];
+      readings = s.readings ++ record {
+        serial = s.next_serial;
+        meter = meter;
+        flat = row.flat;
+        parts = joined number part row.parts;
+      } ∷ [];
       next_serial = s.next_serial + 1;
     }
 
 -- a telegram at its meter
 abbrev pub told : ℕ → ℕ → BodyRow → State → State
-told part moment body s = heard body.meter body.more part (record { moment = moment; body = body.bytes }) (row_of body.meter s) s
+told part moment body s = heard body.meter body.more part
+    (record { moment = moment; body = body.bytes }) (row_of body.meter s) s
 
 abbrev pub moved : Identity → List ℕ → Option MeterRow → State → State
 moved meter flat None s = s
@@ -50,13 +58,23 @@ taken_out meter s = record s { meters = remove_entry (is_at (identity_cmp meter)
 -- the new meter hangs where the old one did, with nothing open
 abbrev pub swapped : Identity → Identity → Option ℕ → Option MeterRow → State → State
 swapped old new address None s = s
-swapped old new address (Some row) s = taken_out old (fitted new (record { line = row.line; address = address; flat = row.flat; parts = [] }) s)
+swapped old new address (Some row) s =
+    taken_out old (fitted new (record {
+      line = row.line;
+      address = address;
+      flat = row.flat;
+      parts = [];
+    }) s)
 
 abbrev pub confirmed_up_to : ℕ → State → State
-confirmed_up_to serial s = record s { confirmed = max s.confirmed serial; readings = filter (λ r. nat_lt serial r.serial) s.readings }
+confirmed_up_to serial s = record s {
+  confirmed = max s.confirmed serial;
+  readings = filter (λ r. nat_lt serial r.serial) s.readings;
+}
 
 abbrev pub commanded : Command → State → State
-commanded (Fit meter line address flat) s = fitted meter (record { line = line; address = address; flat = flat; parts = [] }) s
+commanded (Fit meter line address flat) s =
+    fitted meter (record { line = line; address = address; flat = flat; parts = [] }) s
 commanded (Move meter flat) s = moved meter flat (row_of meter s) s
 commanded (Out meter) s = taken_out meter s
 commanded (Confirm serial) s = confirmed_up_to serial s
@@ -64,4 +82,5 @@ commanded (Swap old new address) s = swapped old new address (row_of old s) s
 
 abbrev pub applied : Change → State → State
 applied (Telegram part moment body) s = told part moment body s
-applied (Numbered number command) s = record (commanded command s) { last_number = number; last_line = line_of number command }
+applied (Numbered number command) s =
+    record (commanded command s) { last_number = number; last_line = line_of number command }

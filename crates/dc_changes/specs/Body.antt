@@ -12,7 +12,11 @@ pub record BodyRow : Type 0 where
 
 -- what the register keeps of a telegram
 abbrev pub body_of : Parsed → BodyRow
-body_of telegram = record { bytes = telegram.body; meter = telegram.header.identity; more = continues telegram.ending }
+body_of telegram = record {
+  bytes = telegram.body;
+  meter = telegram.header.identity;
+  more = continues telegram.ending;
+}
 
 -- what fits a frame behind its control bytes
 abbrev pub longest_body : ℕ

@@ -15,7 +15,8 @@ longest_change_line = 4096
 pub record SpellsTelegram (line : List ℕ) (part moment : ℕ) (bytes : List ℕ) : Type 0 where
   pub digits : List ℕ
   pub bytes_are : bytes_of digits ≡ Some bytes
-  pub line_is : line ≡ join_with_byte 32 (codes "TELEGRAM" ∷ decimal part ∷ decimal moment ∷ digits ∷ [])
+  pub line_is : line ≡ join_with_byte 32
+      (codes "TELEGRAM" ∷ decimal part ∷ decimal moment ∷ digits ∷ [])
 
 abbrev pub Spells : List ℕ → Change → Type 0
 Spells line (Telegram part moment body) = SpellsTelegram line part moment body.bytes

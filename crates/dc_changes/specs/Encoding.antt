@@ -43,14 +43,19 @@ parts_bytes parts = byte (length parts) ++ flat_map part_bytes parts
 -- ---- a change: a tag, and its fields
 
 abbrev pub telegram_bytes : ℕ → ℕ → List ℕ → List ℕ
-telegram_bytes part moment body = (byte 1 ++ byte part) ++ part_bytes (record { moment = moment; body = body })
+telegram_bytes part moment body =
+    (byte 1 ++ byte part) ++ part_bytes (record { moment = moment; body = body })
 
 abbrev pub command_bytes : ℕ → Command → List ℕ
-command_bytes number (Fit meter line address flat) = ((((byte 2 ++ long_bytes number) ++ wire_of meter) ++ byte line) ++ byte (address_byte address)) ++ counted flat
-command_bytes number (Move meter flat) = ((byte 3 ++ long_bytes number) ++ wire_of meter) ++ counted flat
+command_bytes number (Fit meter line address flat) =
+    ((((byte 2 ++ long_bytes number) ++ wire_of meter) ++ byte line) ++ byte (address_byte address))
+    ++ counted flat
+command_bytes number (Move meter flat) =
+    ((byte 3 ++ long_bytes number) ++ wire_of meter) ++ counted flat
 command_bytes number (Out meter) = (byte 4 ++ long_bytes number) ++ wire_of meter
 command_bytes number (Confirm serial) = (byte 5 ++ long_bytes number) ++ long_bytes serial
-command_bytes number (Swap old new address) = (((byte 6 ++ long_bytes number) ++ wire_of old) ++ wire_of new) ++ byte (address_byte address)
+command_bytes number (Swap old new address) =
+    (((byte 6 ++ long_bytes number) ++ wire_of old) ++ wire_of new) ++ byte (address_byte address)
 
 -- the bytes of the longest change: a telegram with the longest body
 abbrev pub longest_change : ℕ
@@ -66,13 +71,16 @@ changes_bytes changes = flat_map change_bytes changes
 -- ---- a state
 
 unfoldable pub meter_bytes : Identity × MeterRow → List ℕ
-meter_bytes e = (((wire_of e.0 ++ byte e.1.line) ++ byte (address_byte e.1.address)) ++ counted e.1.flat) ++ parts_bytes e.1.parts
+meter_bytes e = (((wire_of e.0 ++ byte e.1.line) ++ byte (address_byte e.1.address))
+    ++ counted e.1.flat) ++ parts_bytes e.1.parts
 
 unfoldable pub reading_bytes : ReadingRow → List ℕ
-reading_bytes r = ((long_bytes r.serial ++ wire_of r.meter) ++ counted r.flat) ++ parts_bytes r.parts
+reading_bytes r = ((long_bytes r.serial ++ wire_of r.meter) ++ counted r.flat)
+    ++ parts_bytes r.parts
 
 abbrev pub head_bytes : State → List ℕ
-head_bytes s = ((long_bytes s.next_serial ++ long_bytes s.confirmed) ++ long_bytes s.last_number) ++ counted s.last_line
+head_bytes s = ((long_bytes s.next_serial ++ long_bytes s.confirmed) ++ long_bytes s.last_number)
+    ++ counted s.last_line
 
 abbrev pub meters_bytes : List (Identity × MeterRow) → List ℕ
 meters_bytes meters = count_bytes (length meters) ++ flat_map meter_bytes meters

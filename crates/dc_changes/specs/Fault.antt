@@ -1,7 +1,8 @@
 -- The number and the name of each fault.
 use Rattle.std.specs.Prelude.{ℕ, List, codes}
 use Rattle.dc_changes.specs.declared.fault.ChangeFault.{ChangeFault}
-use Rattle.dc_changes.specs.declared.fault.ChangeFault.TheVariants.{Unknown, Known, AddressTaken, Beyond, Full}
+use Rattle.dc_changes.specs.declared.fault.ChangeFault.TheVariants.{Unknown, Known, AddressTaken}
+use Rattle.dc_changes.specs.declared.fault.ChangeFault.TheVariants.{Beyond, Full}
 
 abbrev pub number_of : ChangeFault → ℕ
 number_of Unknown = 1

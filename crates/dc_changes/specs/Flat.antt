@@ -1,10 +1,12 @@
 -- Short texts that are kept in place: a flat's name and a command's line (this product).
-use Rattle.std.specs.Prelude.{ℕ, ◌≡◌, ◌-◌, ◌<◌, ◌≤◌, Bool, ◌||◌, ◌&&◌, List, ◌++◌, length, take, replicate, nat_le, ◌==◌, IsTrue}
+use Rattle.std.specs.Prelude.{ℕ, ◌≡◌, ◌-◌, ◌<◌, ◌≤◌, Bool, ◌||◌, ◌&&◌, List, ◌++◌, length, take}
+use Rattle.std.specs.Prelude.{replicate, nat_le, ◌==◌, IsTrue}
 use Rattle.std.specs.List.{list_all}
 
 -- a letter, a digit, or one of - . / _
 abbrev pub is_flat_byte : ℕ → Bool
-is_flat_byte b = (nat_le 65 b && nat_le b 90) || ((nat_le 97 b && nat_le b 122) || ((nat_le 45 b && nat_le b 57) || b == 95))
+is_flat_byte b = (nat_le 65 b && nat_le b 90) ||
+    ((nat_le 97 b && nat_le b 122) || ((nat_le 45 b && nat_le b 57) || b == 95))
 
 -- the bytes of the longest name
 abbrev pub longest_flat : ℕ

@@ -13,4 +13,5 @@ after s (change ∷ changes) = after (applied change s) changes
 -- each is accepted in the state after those before it
 abbrev pub AcceptsAll : ℕ → State → List Change → Type 0
 AcceptsAll budget s [] = Unit {0}
-AcceptsAll budget s (change ∷ changes) = Accepts budget change s × AcceptsAll budget (applied change s) changes
+AcceptsAll budget s (change ∷ changes) =
+    Accepts budget change s × AcceptsAll budget (applied change s) changes

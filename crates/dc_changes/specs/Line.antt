@@ -30,7 +30,8 @@ verb_of (Swap old new address) = codes "SWAP"
 
 -- the words after that one
 abbrev pub argument_words : Command → List (List ℕ)
-argument_words (Fit meter line address flat) = text_of meter ∷ decimal line ∷ address_word address ∷ flat ∷ []
+argument_words (Fit meter line address flat) =
+    text_of meter ∷ decimal line ∷ address_word address ∷ flat ∷ []
 argument_words (Move meter flat) = text_of meter ∷ flat ∷ []
 argument_words (Out meter) = text_of meter ∷ []
 argument_words (Confirm serial) = decimal serial ∷ []

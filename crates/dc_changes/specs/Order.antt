@@ -18,6 +18,7 @@ pub record ReadingsAscend (confirmed next : ℕ) (readings : List ReadingRow) : 
   pub are_open : All (λ (r : ReadingRow). IsOpenSerial confirmed next r.serial) readings
 
 -- what a serial must be to come next
-pub record IsNextSerial (confirmed next : ℕ) (readings : List ReadingRow) (serial : ℕ) : Type 0 where
+pub record IsNextSerial (confirmed next : ℕ) (readings : List ReadingRow)
+    (serial : ℕ) : Type 0 where
   pub is_open : IsOpenSerial confirmed next serial
   pub later : All (λ (r : ReadingRow). r.serial < serial) readings

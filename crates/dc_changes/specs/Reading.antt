@@ -1,6 +1,8 @@
 -- Reading from the front of bytes: a value and what follows it, or nothing. `Spellings` ties each reading to a
 -- spelling, both ways.
-use Rattle.std.specs.Prelude.{◌≡◌, ℕ, zero, suc, Bool, true, false, ◌&&◌, List, [], ◌∷◌, length, take, drop, Option, Some, None, Result, Ok, Err, nat_lt, nat_le, ◌==◌, if◌then◌else◌, refl}
+use Rattle.std.specs.Prelude.{◌≡◌, ℕ, zero, suc, Bool, true, false, ◌&&◌, List, [], ◌∷◌, length}
+use Rattle.std.specs.Prelude.{take, drop, Option, Some, None, Result, Ok, Err, nat_lt, nat_le, ◌==◌}
+use Rattle.std.specs.Prelude.{if◌then◌else◌, refl}
 use Rattle.std.specs.List.{list_all}
 use Rattle.byteorder.specs.Endian.{little_number}
 use Rattle.dc_address.specs.declared.identity.Identity.{Identity}
@@ -107,19 +109,22 @@ line_at bytes = chosen (only (λ n. nat_le 1 n && nat_le n 8)) byte_at bytes
 
 -- 0 where the meter is selected by its identity
 abbrev pub address_of : ℕ → Option (Option ℕ)
-address_of number = if number == 0 then Some None else if nat_le number 250 then Some (Some number) else None
+address_of number = if number == 0 then Some None else if nat_le number 250 then Some (Some number)
+    else None
 
 unfoldable pub address_at : Reader (Option ℕ)
 address_at bytes = chosen address_of byte_at bytes
 
 abbrev pub is_flat : List ℕ → Bool
-is_flat name = nat_lt 0 (length name) && (nat_le (length name) longest_flat && list_all is_flat_byte name)
+is_flat name = nat_lt 0 (length name) &&
+    (nat_le (length name) longest_flat && list_all is_flat_byte name)
 
 unfoldable pub flat_at : Reader (List ℕ)
 flat_at bytes = chosen (only is_flat) counted_at bytes
 
 abbrev pub body_by : List ℕ → Result Parsed BodyFault → Option BodyRow
-body_by bytes (Ok telegram) = if nat_le (length bytes) longest_body then Some (body_of telegram) else None
+body_by bytes (Ok telegram) = if nat_le (length bytes) longest_body then Some (body_of telegram)
+    else None
 body_by bytes (Err fault) = None
 
 unfoldable pub body_row : List ℕ → Option BodyRow
@@ -144,19 +149,22 @@ telegram_of x = Telegram x.0 x.1.0 x.1.1
 
 -- behind the tag
 unfoldable pub telegram_change_at : Reader Change
-telegram_change_at bytes = chosen (λ (x : ℕ × (ℕ × BodyRow)). Some (telegram_of x)) (both byte_at (both moment_at body_at)) bytes
+telegram_change_at bytes = chosen (λ (x : ℕ × (ℕ × BodyRow)). Some (telegram_of x))
+    (both byte_at (both moment_at body_at)) bytes
 
 abbrev pub fit_of : (((ℕ × Identity) × ℕ) × Option ℕ) × List ℕ → Change
 fit_of x = Numbered x.0.0.0.0 (Fit x.0.0.0.1 x.0.0.1 x.0.1 x.1)
 
 unfoldable pub fit_at : Reader Change
-fit_at bytes = chosen (λ (x : (((ℕ × Identity) × ℕ) × Option ℕ) × List ℕ). Some (fit_of x)) (both (both (both (both number_at identity_at) line_at) address_at) flat_at) bytes
+fit_at bytes = chosen (λ (x : (((ℕ × Identity) × ℕ) × Option ℕ) × List ℕ). Some (fit_of x))
+    (both (both (both (both number_at identity_at) line_at) address_at) flat_at) bytes
 
 abbrev pub move_of : (ℕ × Identity) × List ℕ → Change
 move_of x = Numbered x.0.0 (Move x.0.1 x.1)
 
 unfoldable pub move_at : Reader Change
-move_at bytes = chosen (λ (x : (ℕ × Identity) × List ℕ). Some (move_of x)) (both (both number_at identity_at) flat_at) bytes
+move_at bytes = chosen (λ (x : (ℕ × Identity) × List ℕ). Some (move_of x))
+    (both (both number_at identity_at) flat_at) bytes
 
 abbrev pub out_of : ℕ × Identity → Change
 out_of x = Numbered x.0 (Out x.1)
@@ -174,7 +182,8 @@ abbrev pub swap_of : ((ℕ × Identity) × Identity) × Option ℕ → Change
 swap_of x = Numbered x.0.0.0 (Swap x.0.0.1 x.0.1 x.1)
 
 unfoldable pub swap_at : Reader Change
-swap_at bytes = chosen (λ (x : ((ℕ × Identity) × Identity) × Option ℕ). Some (swap_of x)) (both (both (both number_at identity_at) identity_at) address_at) bytes
+swap_at bytes = chosen (λ (x : ((ℕ × Identity) × Identity) × Option ℕ). Some (swap_of x))
+    (both (both (both number_at identity_at) identity_at) address_at) bytes
 
 abbrev pub fields_at : ℕ → Reader Change
 fields_at tag bytes =
@@ -196,13 +205,15 @@ entry_of x = (x.0.0.0.0, record { line = x.0.0.0.1; address = x.0.0.1; flat = x.
 -- a meter and its row
 unfoldable pub entry_at : Reader (Identity × MeterRow)
 entry_at bytes =
-    chosen (λ (x : (((Identity × ℕ) × Option ℕ) × List ℕ) × List PartRow). Some (entry_of x)) (both (both (both (both identity_at line_at) address_at) flat_at) parts_at) bytes
+    chosen (λ (x : (((Identity × ℕ) × Option ℕ) × List ℕ) × List PartRow). Some (entry_of x))
+    (both (both (both (both identity_at line_at) address_at) flat_at) parts_at) bytes
 
 abbrev pub reading_of : ((ℕ × Identity) × List ℕ) × List PartRow → ReadingRow
 reading_of x = record { serial = x.0.0.0; meter = x.0.0.1; flat = x.0.1; parts = x.1 }
 
 unfoldable pub reading_at : Reader ReadingRow
-reading_at bytes = chosen (λ (x : ((ℕ × Identity) × List ℕ) × List PartRow). Some (reading_of x)) (both (both (both long_at identity_at) flat_at) parts_at) bytes
+reading_at bytes = chosen (λ (x : ((ℕ × Identity) × List ℕ) × List PartRow). Some (reading_of x))
+    (both (both (both long_at identity_at) flat_at) parts_at) bytes
 
 -- the numbers and the last line
 pub record Head : Type 0 where
@@ -212,13 +223,25 @@ pub record Head : Type 0 where
   pub last_line : List ℕ
 
 abbrev pub head_of : State → Head
-head_of s = record { next_serial = s.next_serial; confirmed = s.confirmed; last_number = s.last_number; last_line = s.last_line }
+head_of s = record {
+  next_serial = s.next_serial;
+  confirmed = s.confirmed;
+  last_number = s.last_number;
+  last_line = s.last_line;
+}
 
 abbrev pub head_from : ((ℕ × ℕ) × ℕ) × List ℕ → Head
-head_from x = record { next_serial = x.0.0.0; confirmed = x.0.0.1; last_number = x.0.1; last_line = x.1 }
+head_from x = record {
+  next_serial = x.0.0.0;
+  confirmed = x.0.0.1;
+  last_number = x.0.1;
+  last_line = x.1;
+}
 
 abbrev pub is_head : Head → Bool
-is_head h = nat_le h.next_serial end_of_numbers && (nat_lt h.confirmed h.next_serial && (nat_lt h.last_number end_of_numbers && nat_le (length h.last_line) longest_line))
+is_head h = nat_le h.next_serial end_of_numbers && (nat_lt h.confirmed h.next_serial &&
+    (nat_lt h.last_number end_of_numbers && nat_le (length h.last_line) longest_line))
 
 unfoldable pub head_at : Reader Head
-head_at bytes = chosen (λ (x : ((ℕ × ℕ) × ℕ) × List ℕ). only is_head (head_from x)) (both (both (both long_at long_at) long_at) counted_at) bytes
+head_at bytes = chosen (λ (x : ((ℕ × ℕ) × ℕ) × List ℕ). only is_head (head_from x))
+    (both (both (both long_at long_at) long_at) counted_at) bytes

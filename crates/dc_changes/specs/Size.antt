@@ -1,4 +1,5 @@
--- The bytes that a state is counted as (this product): a fixed part, and for each meter, reading and part what it needs.
+-- The bytes that a state is counted as (this product): a fixed part, and for each meter, reading and part what it
+-- needs.
 use Rattle.std.specs.Prelude.{ℕ, ◌+◌, List, length, sum_by}
 use Rattle.std.specs.Map.{values_of}
 use Rattle.dc_changes.specs.State.{State, MeterRow, PartRow, ReadingRow}

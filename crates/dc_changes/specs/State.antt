@@ -41,7 +41,14 @@ pub record Held : Type 0 where
   pub budget : ℕ
 
 abbrev pub empty_state : State
-empty_state = record { meters = []; readings = []; next_serial = 1; confirmed = 0; last_number = 0; last_line = [] }
+empty_state = record {
+  meters = [];
+  readings = [];
+  next_serial = 1;
+  confirmed = 0;
+  last_number = 0;
+  last_line = [];
+}
 
 abbrev pub row_of : Identity → State → Option MeterRow
 row_of meter s = lookup (is_at (identity_cmp meter)) s.meters

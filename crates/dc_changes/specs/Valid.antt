@@ -96,7 +96,8 @@ pub record IsState (budget : ℕ) (s : State) : Type 0 where
   pub meters_are : All IsMeter (values_of s.meters)
   pub readings_ascend : IsStrictlySortedBy nat_cmp (map (λ (r : ReadingRow). r.serial) s.readings)
   pub readings_are : All IsReading s.readings
-  pub serials_are : All (λ (r : ReadingRow). IsOpenSerial s.confirmed s.next_serial r.serial) s.readings
+  pub serials_are : All (λ (r : ReadingRow). IsOpenSerial s.confirmed s.next_serial r.serial)
+      s.readings
   pub next_fits : s.next_serial ≤ end_of_numbers
   pub confirmed_fits : s.confirmed < s.next_serial
   pub number_fits : s.last_number < end_of_numbers

@@ -4,7 +4,8 @@ use Rattle.dc_base.specs.Failures.{HasRisen}
 use Rattle.dc_stream.specs.Stream.{Puts, PutsFront}
 use Rattle.dc_stream.specs.Chain.{IsChain, IsBroken}
 
-module _ {S : Type 0} (written : S → Option (List ℕ)) (failures : S → ℕ) (puts : S → List ℕ → S → Type 0) where
+module _ {S : Type 0} (written : S → Option (List ℕ)) (failures : S → ℕ)
+    (puts : S → List ℕ → S → Type 0) where
   -- all of the bytes went in, by puts that succeeded
   pub record IsWritten (old new : S) (bytes : List ℕ) : Type 0 where
     pub went : Puts (written old) (written new) bytes
@@ -12,7 +13,8 @@ module _ {S : Type 0} (written : S → Option (List ℕ)) (failures : S → ℕ)
     pub chain : IsChain puts old new bytes
 
   -- a front of the bytes went in, and the put of the next piece failed
-  pub record IsStopped (breaks : S → List ℕ → S → Type 0) (old new : S) (bytes : List ℕ) : Type 0 where
+  pub record IsStopped (breaks : S → List ℕ → S → Type 0) (old new : S)
+      (bytes : List ℕ) : Type 0 where
     pub went : PutsFront (written old) (written new) bytes
     pub failed : HasRisen (failures old) (failures new)
     pub broken : IsBroken puts breaks old new bytes

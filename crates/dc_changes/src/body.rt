@@ -30,7 +30,8 @@ impl<'a> Model for Body<'a> {
 impl<'a> Body<'a> {
     /// The body of a telegram that was read; none where it has more than [`LONGEST_BODY`] bytes.
     pub fn of(telegram: &Telegram<'a>) -> Option<Body<'a>>
-        ensures { SomeIff result (length (parsed telegram.now).body ≤ longest_body) (body_of (parsed telegram.now)) }
+        ensures { SomeIff result (length (parsed telegram.now).body ≤ longest_body)
+            (body_of (parsed telegram.now)) }
     {
         let bytes = telegram.body();
         if bytes.len() > LONGEST_BODY {
@@ -46,7 +47,8 @@ impl<'a> Body<'a> {
     /// Reads a body; none where the bytes are no telegram, or more than [`LONGEST_BODY`].
     pub fn parse(bytes: &'a [u8]) -> Option<Body<'a>>
         ensures found { IfSome result (λ body. (body.bytes ≡ bytes.now) × IsBody body) }
-        ensures only { (body : BodyRow) → IsBody body → body.bytes ≡ bytes.now → result ≡ Some body }
+        ensures only { (body : BodyRow) → IsBody body → body.bytes ≡ bytes.now
+            → result ≡ Some body }
     {
         let telegram = Telegram::parse(bytes).ok()?;
         Body::of(&telegram)

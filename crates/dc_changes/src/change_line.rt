@@ -1,9 +1,11 @@
 //! Changes from their lines.
 
-ghost use Rattle.std.specs.Prelude.{◌≡◌, ◌≤◌, ◌*◌, ◌∷◌, ◌++◌, ℕ, List, IfSome, Some, length, decimal, codes};
+ghost use Rattle.std.specs.Prelude.{◌≡◌, ◌≤◌, ◌*◌, ◌∷◌, ◌++◌, ℕ, List, IfSome, Some, length};
+ghost use Rattle.std.specs.Prelude.{decimal, codes};
 ghost use Rattle.dc_text.specs.Hex.{bytes_of};
 ghost use Rattle.dc_changes.specs.Body.{BodyRow, IsBody};
-ghost use Rattle.dc_changes.specs.ChangeLine.{SpellsTelegram, Spells, IsLineOf, longest_change_line};
+ghost use Rattle.dc_changes.specs.ChangeLine.{SpellsTelegram, Spells, IsLineOf};
+ghost use Rattle.dc_changes.specs.ChangeLine.{longest_change_line};
 ghost use Rattle.dc_changes.specs.Valid.{IsChange, IsTelegram, last_moment, most_parts};
 ghost use Rattle.dc_changes.specs.declared.change.Change.{Change};
 
@@ -45,7 +47,9 @@ pub fn a_line_has_one_change()
 fn parse_telegram<'a>(line: &[u8], room: &'a mut [u8]) -> Option<Change<'a>>
     requires { length line.now ≤ 2 * length room.old }
     ensures found { IfSome result (λ change. IsChange change × Spells line.now change) }
-    ensures only { (part moment : ℕ) (body : BodyRow) → IsTelegram part moment body → SpellsTelegram line.now part moment body.bytes → result ≡ Some (Change.Telegram part moment body) }
+    ensures only { (part moment : ℕ) (body : BodyRow) → IsTelegram part moment body
+        → SpellsTelegram line.now part moment body.bytes
+        → result ≡ Some (Change.Telegram part moment body) }
 {
     let (verb, words) = split_word(line)?;
     match verb {
@@ -58,8 +62,11 @@ fn parse_telegram<'a>(line: &[u8], room: &'a mut [u8]) -> Option<Change<'a>>
 #[tactic(auto, using(crate::proofs::TelegramLines::part_is_word, crate::proofs::TelegramLines::moment_is_word))]
 fn parse_words<'a>(words: &[u8], room: &'a mut [u8]) -> Option<Change<'a>>
     requires { length words.now ≤ 2 * length room.old }
-    ensures found { IfSome result (λ change. IsChange change × Spells (codes "TELEGRAM" ++ 32 ∷ words.now) change) }
-    ensures only { (part moment : ℕ) (body : BodyRow) → IsTelegram part moment body → SpellsTelegram (codes "TELEGRAM" ++ 32 ∷ words.now) part moment body.bytes → result ≡ Some (Change.Telegram part moment body) }
+    ensures found { IfSome result (λ change.
+        IsChange change × Spells (codes "TELEGRAM" ++ 32 ∷ words.now) change) }
+    ensures only { (part moment : ℕ) (body : BodyRow) → IsTelegram part moment body
+        → SpellsTelegram (codes "TELEGRAM" ++ 32 ∷ words.now) part moment body.bytes
+        → result ≡ Some (Change.Telegram part moment body) }
 {
     let (part, rest) = split_word(words)?;
     let part = parse_part(part)?;
@@ -82,7 +89,8 @@ fn parse_part(word: &[u8]) -> Option<u8>
 
 fn parse_moment(word: &[u8]) -> Option<u64>
     ensures found { IfSome result (λ moment. (moment ≤ last_moment) × (word.now ≡ decimal moment)) }
-    ensures only { (moment : ℕ) → moment ≤ last_moment → word.now ≡ decimal moment → result ≡ Some moment }
+    ensures only { (moment : ℕ) → moment ≤ last_moment → word.now ≡ decimal moment
+        → result ≡ Some moment }
 {
     let moment = Moment::from_seconds(parse_number(word)?)?;
     Some(moment.seconds)
@@ -91,7 +99,8 @@ fn parse_moment(word: &[u8]) -> Option<u64>
 fn parse_body<'a>(digits: &[u8], room: &'a mut [u8]) -> Option<Body<'a>>
     requires { length digits.now ≤ 2 * length room.old }
     ensures found { IfSome result (λ body. IsBody body × (bytes_of digits.now ≡ Some body.bytes)) }
-    ensures only { (body : BodyRow) → IsBody body → bytes_of digits.now ≡ Some body.bytes → result ≡ Some body }
+    ensures only { (body : BodyRow) → IsBody body → bytes_of digits.now ≡ Some body.bytes
+        → result ≡ Some body }
 {
     let count = decode_hex(digits, room)?;
     let (content, _) = room.split_at(count);

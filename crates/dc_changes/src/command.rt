@@ -2,7 +2,8 @@
 
 ghost use Rattle.std.specs.Prelude.{◌≡◌, ◌+◌, ◌<◌, ◌≤◌, ◌++◌, ◌∷◌, length};
 ghost use Rattle.std.specs.List.{join_with_byte};
-ghost use Rattle.dc_changes.specs.Line.{line_of, command_words, address_word, longest_line, most_digits};
+ghost use Rattle.dc_changes.specs.Line.{line_of, command_words, address_word, longest_line};
+ghost use Rattle.dc_changes.specs.Line.{most_digits};
 ghost use Rattle.dc_changes.specs.Valid.{IsCommand, IsNumber, end_of_numbers};
 
 use crate::{CommandLine, Flat};
@@ -94,7 +95,8 @@ fn fit_line(
     flat: Flat,
 ) -> CommandLine
     requires { length line ≤ most_digits }
-    ensures words { result ≡ join_with_byte 32 (line ∷ command_words (Command.Fit meter.now bus_line address flat)) }
+    ensures words { result ≡ join_with_byte 32
+        (line ∷ command_words (Command.Fit meter.now bus_line address flat)) }
     ensures fits { length result ≤ longest_line }
 {
     let mut line = line;
@@ -109,7 +111,8 @@ fn fit_line(
 #[tactic(auto, using(crate::proofs::Lines::regroup))]
 fn move_line(line: CommandLine, meter: &Identity, flat: Flat) -> CommandLine
     requires { length line ≤ most_digits }
-    ensures words { result ≡ join_with_byte 32 (line ∷ command_words (Command.Move meter.now flat)) }
+    ensures words { result ≡ join_with_byte 32
+        (line ∷ command_words (Command.Move meter.now flat)) }
     ensures fits { length result ≤ longest_line }
 {
     let mut line = line;
@@ -152,7 +155,8 @@ fn swap_line(
     address: Option<Primary>,
 ) -> CommandLine
     requires { length line ≤ most_digits }
-    ensures words { result ≡ join_with_byte 32 (line ∷ command_words (Command.Swap old.now new.now address)) }
+    ensures words { result ≡ join_with_byte 32
+        (line ∷ command_words (Command.Swap old.now new.now address)) }
     ensures fits { length result ≤ longest_line }
 {
     let mut line = line;

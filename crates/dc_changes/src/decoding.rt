@@ -4,7 +4,8 @@ ghost use Rattle.std.specs.Prelude.{◌≡◌, ◌<◌, IfOk, IsErrOf, List, len
 ghost use Rattle.dc_changes.specs.declared.change.Change.{Change};
 ghost use Rattle.dc_changes.specs.Valid.{IsChange};
 ghost use Rattle.dc_changes.specs.Spelled.{SpellsChanges};
-ghost use Rattle.dc_changes.specs.Reading.{Reads, telegram_change_at, fit_at, move_at, out_at, confirm_at, swap_at, change_at};
+ghost use Rattle.dc_changes.specs.Reading.{Reads, telegram_change_at, fit_at, move_at, out_at};
+ghost use Rattle.dc_changes.specs.Reading.{confirm_at, swap_at, change_at};
 
 use crate::pieces::{
     address_of, body_at, byte_at, counted_at, flat_of, identity_at, line_at, moment_at, number_at,
@@ -113,7 +114,8 @@ pub fn decode_changes<'a, A: Allocator + Copy>(
 ) -> Result<Vec<Change<'a>, A>, DecodeFault>
     // What is read is spelled so, and nothing that is spelled so is refused.
     ensures found { IfOk result (λ changes. SpellsChanges bytes.now changes.items) }
-    ensures bad { IsErrOf result DecodeFault.Bad → (changes : List Change) → SpellsChanges bytes.now changes → ⊥ }
+    ensures bad { IsErrOf result DecodeFault.Bad → (changes : List Change)
+        → SpellsChanges bytes.now changes → ⊥ }
 {
     let mut changes = Vec::new(alloc);
     let mut rest = bytes;

@@ -1,7 +1,8 @@
 //! Changes as bytes.
 
 ghost use Rattle.std.specs.Prelude.{◌≡◌, ◌≤◌, ◌++◌, length, OnOk, OnErr};
-ghost use Rattle.dc_changes.specs.Encoding.{change_bytes, command_bytes, telegram_bytes, part_bytes, address_byte};
+ghost use Rattle.dc_changes.specs.Encoding.{change_bytes, command_bytes, telegram_bytes};
+ghost use Rattle.dc_changes.specs.Encoding.{part_bytes, address_byte};
 ghost use Rattle.dc_changes.specs.Writing.{IsWritten, IsStopped};
 
 use crate::writing::{put_byte, put_counted, put_identity, put_long};
@@ -11,8 +12,10 @@ use dc_stream::{IoFault, Sink};
 
 /// Writes a change: a tag and its fields, numbers low byte first. A failed put ends it.
 pub fn encode_change<S: Sink>(change: &Change<'_>, sink: &mut S) -> Result<(), IoFault>
-    ensures ok { OnOk result (IsWritten S.written S.put_failures S.puts sink.old sink.new (change_bytes change.now)) }
-    ensures err { OnErr result (IsStopped S.written S.put_failures S.puts S.breaks sink.old sink.new (change_bytes change.now)) }
+    ensures ok { OnOk result (IsWritten S.written S.put_failures S.puts sink.old sink.new
+        (change_bytes change.now)) }
+    ensures err { OnErr result (IsStopped S.written S.put_failures S.puts S.breaks sink.old sink.new
+        (change_bytes change.now)) }
 {
     match change {
         Change::Telegram { part, moment, body } => encode_telegram(*part, *moment, body, sink),
@@ -26,8 +29,10 @@ fn encode_telegram<S: Sink>(
     body: &Body<'_>,
     sink: &mut S,
 ) -> Result<(), IoFault>
-    ensures ok { OnOk result (IsWritten S.written S.put_failures S.puts sink.old sink.new (telegram_bytes part moment body.now.bytes)) }
-    ensures err { OnErr result (IsStopped S.written S.put_failures S.puts S.breaks sink.old sink.new (telegram_bytes part moment body.now.bytes)) }
+    ensures ok { OnOk result (IsWritten S.written S.put_failures S.puts sink.old sink.new
+        (telegram_bytes part moment body.now.bytes)) }
+    ensures err { OnErr result (IsStopped S.written S.put_failures S.puts S.breaks sink.old sink.new
+        (telegram_bytes part moment body.now.bytes)) }
 {
     put_byte(sink, 1)?;
     put_byte(sink, part)?;
@@ -37,8 +42,10 @@ fn encode_telegram<S: Sink>(
 
 fn put_part<S: Sink>(sink: &mut S, moment: u64, body: &[u8]) -> Result<(), IoFault>
     requires { length body.now ≤ 255 }
-    ensures ok { OnOk result (IsWritten S.written S.put_failures S.puts sink.old sink.new (part_bytes (record { moment = moment; body = body.now }))) }
-    ensures err { OnErr result (IsStopped S.written S.put_failures S.puts S.breaks sink.old sink.new (part_bytes (record { moment = moment; body = body.now }))) }
+    ensures ok { OnOk result (IsWritten S.written S.put_failures S.puts sink.old sink.new
+        (part_bytes (record { moment = moment; body = body.now }))) }
+    ensures err { OnErr result (IsStopped S.written S.put_failures S.puts S.breaks sink.old sink.new
+        (part_bytes (record { moment = moment; body = body.now }))) }
 {
     put_long(sink, moment)?;
     put_counted(sink, body)?;
@@ -46,8 +53,10 @@ fn put_part<S: Sink>(sink: &mut S, moment: u64, body: &[u8]) -> Result<(), IoFau
 }
 
 fn encode_command<S: Sink>(number: u64, command: &Command, sink: &mut S) -> Result<(), IoFault>
-    ensures ok { OnOk result (IsWritten S.written S.put_failures S.puts sink.old sink.new (command_bytes number command.now)) }
-    ensures err { OnErr result (IsStopped S.written S.put_failures S.puts S.breaks sink.old sink.new (command_bytes number command.now)) }
+    ensures ok { OnOk result (IsWritten S.written S.put_failures S.puts sink.old sink.new
+        (command_bytes number command.now)) }
+    ensures err { OnErr result (IsStopped S.written S.put_failures S.puts S.breaks sink.old sink.new
+        (command_bytes number command.now)) }
 {
     match *command {
         Command::Fit {
@@ -71,8 +80,10 @@ fn encode_fit<S: Sink>(
     flat: &Flat,
     sink: &mut S,
 ) -> Result<(), IoFault>
-    ensures ok { OnOk result (IsWritten S.written S.put_failures S.puts sink.old sink.new (command_bytes number (Command.Fit meter.now line address flat.now))) }
-    ensures err { OnErr result (IsStopped S.written S.put_failures S.puts S.breaks sink.old sink.new (command_bytes number (Command.Fit meter.now line address flat.now))) }
+    ensures ok { OnOk result (IsWritten S.written S.put_failures S.puts sink.old sink.new
+        (command_bytes number (Command.Fit meter.now line address flat.now))) }
+    ensures err { OnErr result (IsStopped S.written S.put_failures S.puts S.breaks sink.old sink.new
+        (command_bytes number (Command.Fit meter.now line address flat.now))) }
 {
     put_byte(sink, 2)?;
     put_long(sink, number)?;
@@ -89,8 +100,10 @@ fn encode_move<S: Sink>(
     flat: &Flat,
     sink: &mut S,
 ) -> Result<(), IoFault>
-    ensures ok { OnOk result (IsWritten S.written S.put_failures S.puts sink.old sink.new (command_bytes number (Command.Move meter.now flat.now))) }
-    ensures err { OnErr result (IsStopped S.written S.put_failures S.puts S.breaks sink.old sink.new (command_bytes number (Command.Move meter.now flat.now))) }
+    ensures ok { OnOk result (IsWritten S.written S.put_failures S.puts sink.old sink.new
+        (command_bytes number (Command.Move meter.now flat.now))) }
+    ensures err { OnErr result (IsStopped S.written S.put_failures S.puts S.breaks sink.old sink.new
+        (command_bytes number (Command.Move meter.now flat.now))) }
 {
     put_byte(sink, 3)?;
     put_long(sink, number)?;
@@ -100,8 +113,10 @@ fn encode_move<S: Sink>(
 }
 
 fn encode_out<S: Sink>(number: u64, meter: &Identity, sink: &mut S) -> Result<(), IoFault>
-    ensures ok { OnOk result (IsWritten S.written S.put_failures S.puts sink.old sink.new (command_bytes number (Command.Out meter.now))) }
-    ensures err { OnErr result (IsStopped S.written S.put_failures S.puts S.breaks sink.old sink.new (command_bytes number (Command.Out meter.now))) }
+    ensures ok { OnOk result (IsWritten S.written S.put_failures S.puts sink.old sink.new
+        (command_bytes number (Command.Out meter.now))) }
+    ensures err { OnErr result (IsStopped S.written S.put_failures S.puts S.breaks sink.old sink.new
+        (command_bytes number (Command.Out meter.now))) }
 {
     put_byte(sink, 4)?;
     put_long(sink, number)?;
@@ -110,8 +125,10 @@ fn encode_out<S: Sink>(number: u64, meter: &Identity, sink: &mut S) -> Result<()
 }
 
 fn encode_confirm<S: Sink>(number: u64, serial: u64, sink: &mut S) -> Result<(), IoFault>
-    ensures ok { OnOk result (IsWritten S.written S.put_failures S.puts sink.old sink.new (command_bytes number (Command.Confirm serial))) }
-    ensures err { OnErr result (IsStopped S.written S.put_failures S.puts S.breaks sink.old sink.new (command_bytes number (Command.Confirm serial))) }
+    ensures ok { OnOk result (IsWritten S.written S.put_failures S.puts sink.old sink.new
+        (command_bytes number (Command.Confirm serial))) }
+    ensures err { OnErr result (IsStopped S.written S.put_failures S.puts S.breaks sink.old sink.new
+        (command_bytes number (Command.Confirm serial))) }
 {
     put_byte(sink, 5)?;
     put_long(sink, number)?;
@@ -126,8 +143,10 @@ fn encode_swap<S: Sink>(
     address: Option<Primary>,
     sink: &mut S,
 ) -> Result<(), IoFault>
-    ensures ok { OnOk result (IsWritten S.written S.put_failures S.puts sink.old sink.new (command_bytes number (Command.Swap old.now new.now address))) }
-    ensures err { OnErr result (IsStopped S.written S.put_failures S.puts S.breaks sink.old sink.new (command_bytes number (Command.Swap old.now new.now address))) }
+    ensures ok { OnOk result (IsWritten S.written S.put_failures S.puts sink.old sink.new
+        (command_bytes number (Command.Swap old.now new.now address))) }
+    ensures err { OnErr result (IsStopped S.written S.put_failures S.puts S.breaks sink.old sink.new
+        (command_bytes number (Command.Swap old.now new.now address))) }
 {
     put_byte(sink, 6)?;
     put_long(sink, number)?;

@@ -16,36 +16,50 @@ ghost use Rattle.dc_changes.specs.Spelled.{SpellsState, SpellsChanges};
 /// more is applied last.
 #[tactic(auto, using(crate::proofs::History::after_of_append, crate::proofs::History::after_of_push))]
 pub fn after_goes_by_parts()
-    ensures append { (s : State) (first then : List Change) → after s (first ++ then) ≡ after (after s first) then }
-    ensures push { (s : State) (changes : List Change) (change : Change) → after s (changes ++ change ∷ []) ≡ applied change (after s changes) }
+    ensures append { (s : State) (first then : List Change)
+        → after s (first ++ then) ≡ after (after s first) then }
+    ensures push { (s : State) (changes : List Change) (change : Change)
+        → after s (changes ++ change ∷ []) ≡ applied change (after s changes) }
 {}
 
 /// A list of changes is accepted where its first part is, and its second part in the state after the first; with one
 /// change more, where that is accepted in the state after the others.
 #[tactic(auto, using(crate::proofs::History::accepts_all_of_append, crate::proofs::History::accepts_all_parts, crate::proofs::History::accepts_all_of_push))]
 pub fn acceptance_goes_by_parts()
-    ensures append { (budget : ℕ) (s : State) (first then : List Change) → AcceptsAll budget s first → AcceptsAll budget (after s first) then → AcceptsAll budget s (first ++ then) }
-    ensures parts { (budget : ℕ) (s : State) (first then : List Change) → AcceptsAll budget s (first ++ then) → AcceptsAll budget s first × AcceptsAll budget (after s first) then }
-    ensures push { (budget : ℕ) (s : State) (changes : List Change) (change : Change) → AcceptsAll budget s changes → Accepts budget change (after s changes) → AcceptsAll budget s (changes ++ change ∷ []) }
+    ensures append { (budget : ℕ) (s : State) (first then : List Change) → AcceptsAll budget s first
+        → AcceptsAll budget (after s first) then → AcceptsAll budget s (first ++ then) }
+    ensures parts { (budget : ℕ) (s : State) (first then : List Change)
+        → AcceptsAll budget s (first ++ then) → AcceptsAll budget s first
+        × AcceptsAll budget (after s first) then }
+    ensures push { (budget : ℕ) (s : State) (changes : List Change) (change : Change)
+        → AcceptsAll budget s changes → Accepts budget change (after s changes)
+        → AcceptsAll budget s (changes ++ change ∷ []) }
 {}
 
 /// A state is spelled in the bytes of its size, less the room that its last line leaves of the longest: within the
 /// budget, and in 33 bytes at least. A change is spelled in 1 to 263 bytes.
 #[tactic(auto, using(crate::proofs::ChangeSpellings::change_some, crate::proofs::ChangeSpellings::change_len, crate::proofs::Lengths::state_len, crate::proofs::Lengths::state_fits, crate::proofs::Lengths::state_some))]
 pub fn length_of_spelling()
-    ensures size { (s : State) → length (state_bytes s) + longest_line ≡ size_of s + length s.last_line }
+    ensures size { (s : State) → length (state_bytes s) + longest_line ≡ size_of s
+        + length s.last_line }
     ensures fits { (budget : ℕ) (s : State) → IsState budget s → length (state_bytes s) ≤ budget }
     ensures some { (s : State) → 33 ≤ length (state_bytes s) }
-    ensures change { (change : Change) → IsChange change → (1 ≤ length (change_bytes change)) × (length (change_bytes change) ≤ longest_change) }
+    ensures change { (change : Change) → IsChange change → (1 ≤ length (change_bytes change))
+        × (length (change_bytes change) ≤ longest_change) }
 {}
 
 /// No two states are spelled alike, and no two lists of changes; no spelling of a change begins another. No changes
 /// are spelled in no bytes, and one change more in its own bytes behind the others'.
 #[tactic(auto, using(crate::proofs::StateSpellings::spelled_once, crate::proofs::ChangeSpellings::changes_spelled_once, crate::proofs::ChangeSpellings::one_change))]
 pub fn one_spelling()
-    ensures states { (budget other : ℕ) (bytes : List ℕ) (s t : State) → budget < 2 ^ 32 → other < 2 ^ 32 → SpellsState budget bytes s → SpellsState other bytes t → s ≡ t }
-    ensures changes { (bytes : List ℕ) (a b : List Change) → SpellsChanges bytes a → SpellsChanges bytes b → a ≡ b }
-    ensures begins { (a b : Change) (x y : List ℕ) → IsChange a → IsChange b → change_bytes a ++ x ≡ change_bytes b ++ y → (a ≡ b) × (x ≡ y) }
+    ensures states { (budget other : ℕ) (bytes : List ℕ) (s t : State) → budget < 2 ^ 32
+        → other < 2 ^ 32 → SpellsState budget bytes s → SpellsState other bytes t → s ≡ t }
+    ensures changes { (bytes : List ℕ) (a b : List Change) → SpellsChanges bytes a
+        → SpellsChanges bytes b → a ≡ b }
+    ensures begins { (a b : Change) (x y : List ℕ) → IsChange a → IsChange b
+        → change_bytes a ++ x ≡ change_bytes b ++ y → (a ≡ b) × (x ≡ y) }
     ensures none { SpellsChanges [] [] }
-    ensures push { (bytes : List ℕ) (changes : List Change) (change : Change) → SpellsChanges bytes changes → IsChange change → SpellsChanges (bytes ++ change_bytes change) (changes ++ change ∷ []) }
+    ensures push { (bytes : List ℕ) (changes : List Change) (change : Change)
+        → SpellsChanges bytes changes → IsChange change
+        → SpellsChanges (bytes ++ change_bytes change) (changes ++ change ∷ []) }
 {}

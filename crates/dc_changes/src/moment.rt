@@ -19,7 +19,8 @@ impl Moment {
 
     /// The moment at so many seconds since 1970, if it is one.
     pub fn from_seconds(seconds: u64) -> Option<Moment>
-        ensures { MatchOption result (last_moment < seconds) (λ moment. (seconds ≤ last_moment) × (moment.seconds ≡ seconds)) }
+        ensures { MatchOption result (last_moment < seconds)
+            (λ moment. (seconds ≤ last_moment) × (moment.seconds ≡ seconds)) }
     {
         if seconds > LAST_MOMENT {
             return None;

@@ -3,8 +3,11 @@
 ghost use Rattle.std.specs.Prelude.{◌≤◌, ◌<◌, IfOk};
 ghost use Rattle.dc_changes.specs.Flat.{IsFlat};
 ghost use Rattle.dc_changes.specs.Body.{IsBody};
-ghost use Rattle.dc_changes.specs.Valid.{IsNumber, IsBusLine, IsAddress, last_moment, end_of_numbers};
-ghost use Rattle.dc_changes.specs.Reading.{Reads, byte_at, long_at, count_at, counted_at, identity_at, moment_at, number_at, serial_at, line_at, address_of, only, is_flat, body_at};
+ghost use Rattle.dc_changes.specs.Valid.{IsNumber, IsBusLine, IsAddress, last_moment};
+ghost use Rattle.dc_changes.specs.Valid.{end_of_numbers};
+ghost use Rattle.dc_changes.specs.Reading.{Reads, byte_at, long_at, count_at, counted_at};
+ghost use Rattle.dc_changes.specs.Reading.{identity_at, moment_at, number_at, serial_at, line_at};
+ghost use Rattle.dc_changes.specs.Reading.{address_of, only, is_flat, body_at};
 
 use crate::{Body, DecodeFault, END_OF_NUMBERS, Flat, Moment};
 use byteorder::{ByteOrder, LittleEndian};

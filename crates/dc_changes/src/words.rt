@@ -1,6 +1,7 @@
 //! The words of a line, and the numbers among them.
 
-ghost use Rattle.std.specs.Prelude.{◌≡◌, ◌<◌, ◌++◌, ◌∷◌, ◌↔◌, ℕ, List, Some, IfSome, MatchOption, IsTrue};
+ghost use Rattle.std.specs.Prelude.{◌≡◌, ◌<◌, ◌++◌, ◌∷◌, ◌↔◌, ℕ, List, Some, IfSome, MatchOption};
+ghost use Rattle.std.specs.Prelude.{IsTrue};
 ghost use Rattle.std.specs.List.{position};
 ghost use Rattle.std.specs.Fmt.{decimal};
 ghost use Rattle.dc_changes.specs.Valid.{end_of_numbers};
@@ -17,8 +18,10 @@ fn first_space(text: &[u8]) -> Option<usize>
 
 /// The text up to its first space, and what stands behind that space; none where the text has no space.
 pub fn split_word(text: &[u8]) -> Option<(&[u8], &[u8])>
-    ensures found { IfSome result (λ parts. IsWord parts.0.now × (text.now ≡ parts.0.now ++ 32 ∷ parts.1.now)) }
-    ensures only { (word rest : List ℕ) → IsWord word → text.now ≡ word ++ 32 ∷ rest → MatchOption result ⊥ (λ parts. (parts.0.now ≡ word) × (parts.1.now ≡ rest)) }
+    ensures found { IfSome result (λ parts.
+        IsWord parts.0.now × (text.now ≡ parts.0.now ++ 32 ∷ parts.1.now)) }
+    ensures only { (word rest : List ℕ) → IsWord word → text.now ≡ word ++ 32 ∷ rest
+        → MatchOption result ⊥ (λ parts. (parts.0.now ≡ word) × (parts.1.now ≡ rest)) }
 {
     let Some(space) = first_space(text) else {
         return None;
@@ -31,7 +34,8 @@ pub fn split_word(text: &[u8]) -> Option<(&[u8], &[u8])>
 /// A text has one first word.
 #[tactic(auto, using(crate::proofs::LineSpellings::one_word))]
 pub fn a_text_has_one_first_word()
-    ensures { (word other rest more : List ℕ) → IsWord word → IsWord other → word ++ 32 ∷ rest ≡ other ++ 32 ∷ more → (word ≡ other) × (rest ≡ more) }
+    ensures { (word other rest more : List ℕ) → IsWord word → IsWord other
+        → word ++ 32 ∷ rest ≡ other ++ 32 ∷ more → (word ≡ other) × (rest ≡ more) }
 {}
 
 // Whether a word begins as a number does: not with a sign, nor with a 0 in front of other digits.
@@ -47,8 +51,10 @@ fn begins_number(word: &[u8]) -> bool
 
 /// The number that a word spells: 1 to 18 decimal digits, the first of several not 0.
 pub fn parse_number(word: &[u8]) -> Option<u64>
-    ensures found { IfSome result (λ number. (number < end_of_numbers) × (word.now ≡ decimal number)) }
-    ensures only { (number : ℕ) → number < end_of_numbers → word.now ≡ decimal number → result ≡ Some number }
+    ensures found { IfSome result (λ number.
+        (number < end_of_numbers) × (word.now ≡ decimal number)) }
+    ensures only { (number : ℕ) → number < end_of_numbers → word.now ≡ decimal number
+        → result ≡ Some number }
 {
     if !begins_number(word) {
         return None;

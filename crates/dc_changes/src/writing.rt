@@ -12,8 +12,10 @@ use dc_stream::{IoFault, Sink};
 /// One piece.
 #[tactic(auto, using(crate::proofs::Writes::written_one, crate::proofs::Writes::stopped_one))]
 pub fn put<S: Sink>(sink: &mut S, bytes: &[u8]) -> Result<(), IoFault>
-    ensures ok { OnOk result (IsWritten S.written S.put_failures S.puts sink.old sink.new bytes.now) }
-    ensures err { OnErr result (IsStopped S.written S.put_failures S.puts S.breaks sink.old sink.new bytes.now) }
+    ensures ok { OnOk result (IsWritten S.written S.put_failures S.puts sink.old sink.new
+        bytes.now) }
+    ensures err { OnErr result (IsStopped S.written S.put_failures S.puts S.breaks sink.old sink.new
+        bytes.now) }
 {
     sink.put(bytes)?;
     Ok(())
@@ -22,8 +24,10 @@ pub fn put<S: Sink>(sink: &mut S, bytes: &[u8]) -> Result<(), IoFault>
 /// A byte.
 #[tactic(auto, unfolding(crate::specs::Encoding::byte))]
 pub fn put_byte<S: Sink>(sink: &mut S, value: u8) -> Result<(), IoFault>
-    ensures ok { OnOk result (IsWritten S.written S.put_failures S.puts sink.old sink.new (byte value)) }
-    ensures err { OnErr result (IsStopped S.written S.put_failures S.puts S.breaks sink.old sink.new (byte value)) }
+    ensures ok { OnOk result (IsWritten S.written S.put_failures S.puts sink.old sink.new
+        (byte value)) }
+    ensures err { OnErr result (IsStopped S.written S.put_failures S.puts S.breaks sink.old sink.new
+        (byte value)) }
 {
     put(sink, &[value])?;
     Ok(())
@@ -32,8 +36,10 @@ pub fn put_byte<S: Sink>(sink: &mut S, value: u8) -> Result<(), IoFault>
 /// A number in eight bytes.
 #[tactic(auto, unfolding(crate::specs::Encoding::long_bytes))]
 pub fn put_long<S: Sink>(sink: &mut S, number: u64) -> Result<(), IoFault>
-    ensures ok { OnOk result (IsWritten S.written S.put_failures S.puts sink.old sink.new (long_bytes number)) }
-    ensures err { OnErr result (IsStopped S.written S.put_failures S.puts S.breaks sink.old sink.new (long_bytes number)) }
+    ensures ok { OnOk result (IsWritten S.written S.put_failures S.puts sink.old sink.new
+        (long_bytes number)) }
+    ensures err { OnErr result (IsStopped S.written S.put_failures S.puts S.breaks sink.old sink.new
+        (long_bytes number)) }
 {
     let mut bytes = [0; 8];
     LittleEndian::write_u64(&mut bytes, number);
@@ -44,8 +50,10 @@ pub fn put_long<S: Sink>(sink: &mut S, number: u64) -> Result<(), IoFault>
 /// A number in four bytes.
 #[tactic(auto, unfolding(crate::specs::Encoding::count_bytes))]
 pub fn put_count<S: Sink>(sink: &mut S, number: u32) -> Result<(), IoFault>
-    ensures ok { OnOk result (IsWritten S.written S.put_failures S.puts sink.old sink.new (count_bytes number)) }
-    ensures err { OnErr result (IsStopped S.written S.put_failures S.puts S.breaks sink.old sink.new (count_bytes number)) }
+    ensures ok { OnOk result (IsWritten S.written S.put_failures S.puts sink.old sink.new
+        (count_bytes number)) }
+    ensures err { OnErr result (IsStopped S.written S.put_failures S.puts S.breaks sink.old sink.new
+        (count_bytes number)) }
 {
     let mut bytes = [0; 4];
     LittleEndian::write_u32(&mut bytes, number);
@@ -55,8 +63,10 @@ pub fn put_count<S: Sink>(sink: &mut S, number: u32) -> Result<(), IoFault>
 
 /// An identity, as it is sent.
 pub fn put_identity<S: Sink>(sink: &mut S, identity: &Identity) -> Result<(), IoFault>
-    ensures ok { OnOk result (IsWritten S.written S.put_failures S.puts sink.old sink.new (wire_of identity.now)) }
-    ensures err { OnErr result (IsStopped S.written S.put_failures S.puts S.breaks sink.old sink.new (wire_of identity.now)) }
+    ensures ok { OnOk result (IsWritten S.written S.put_failures S.puts sink.old sink.new
+        (wire_of identity.now)) }
+    ensures err { OnErr result (IsStopped S.written S.put_failures S.puts S.breaks sink.old sink.new
+        (wire_of identity.now)) }
 {
     put(sink, &identity.wire())?;
     Ok(())
@@ -65,8 +75,10 @@ pub fn put_identity<S: Sink>(sink: &mut S, identity: &Identity) -> Result<(), Io
 /// A length byte, and so many bytes.
 pub fn put_counted<S: Sink>(sink: &mut S, bytes: &[u8]) -> Result<(), IoFault>
     requires { length bytes.now ≤ 255 }
-    ensures ok { OnOk result (IsWritten S.written S.put_failures S.puts sink.old sink.new (counted bytes.now)) }
-    ensures err { OnErr result (IsStopped S.written S.put_failures S.puts S.breaks sink.old sink.new (counted bytes.now)) }
+    ensures ok { OnOk result (IsWritten S.written S.put_failures S.puts sink.old sink.new
+        (counted bytes.now)) }
+    ensures err { OnErr result (IsStopped S.written S.put_failures S.puts S.breaks sink.old sink.new
+        (counted bytes.now)) }
 {
     put_byte(sink, bytes.len() as u8)?;
     put(sink, bytes)?;

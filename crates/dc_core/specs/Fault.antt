@@ -1,13 +1,18 @@
 -- The numbers and names of the concentrator's faults (this product).
 use Rattle.std.specs.Prelude.{ℕ, List, codes}
 use Rattle.dc_waiting.specs.declared.fault.TakeFault.{TakeFault}
-use Rattle.dc_waiting.specs.declared.fault.TakeFault.TheVariants.{PendingFull as TakePendingFull, Full as TakeFull, NoMemory as TakeNoMemory}
+use Rattle.dc_waiting.specs.declared.fault.TakeFault.TheVariants.{PendingFull as TakePendingFull}
+use Rattle.dc_waiting.specs.declared.fault.TakeFault.TheVariants.{Full as TakeFull}
+use Rattle.dc_waiting.specs.declared.fault.TakeFault.TheVariants.{NoMemory as TakeNoMemory}
 use Rattle.dc_core.specs.declared.fault.StartFault.{StartFault}
-use Rattle.dc_core.specs.declared.fault.StartFault.TheVariants.{NoLine as StartNoLine, Unknown, Busy, Stopped as StartStopped}
+use Rattle.dc_core.specs.declared.fault.StartFault.TheVariants.{NoLine as StartNoLine, Unknown}
+use Rattle.dc_core.specs.declared.fault.StartFault.TheVariants.{Busy, Stopped as StartStopped}
 use Rattle.dc_core.specs.declared.fault.HearFault.{HearFault}
-use Rattle.dc_core.specs.declared.fault.HearFault.TheVariants.{NoLine, Idle, Full, NoMemory, PendingFull, Stopped}
+use Rattle.dc_core.specs.declared.fault.HearFault.TheVariants.{NoLine, Idle, Full, NoMemory}
+use Rattle.dc_core.specs.declared.fault.HearFault.TheVariants.{PendingFull, Stopped}
 use Rattle.dc_core.specs.declared.fault.CommitFault.{CommitFault}
-use Rattle.dc_core.specs.declared.fault.CommitFault.TheVariants.{Device, Worn, Stopped as CommitStopped}
+use Rattle.dc_core.specs.declared.fault.CommitFault.TheVariants.{Device, Worn}
+use Rattle.dc_core.specs.declared.fault.CommitFault.TheVariants.{Stopped as CommitStopped}
 
 abbrev pub start_number : StartFault → ℕ
 start_number StartNoLine = 1

@@ -10,7 +10,8 @@ use Rattle.dc_recovery.specs.Halves.{half_len_of}
 use Rattle.dc_recovery.specs.Stands.{StandsForOne}
 use Rattle.dc_core.specs.declared.line_heard.LineHeard.TheVariants.{Accepted}
 use Rattle.dc_core.specs.Core.{Core, opened}
-use Rattle.dc_core.specs.Event.{Event, Answer, asks, hears, commits, offices, asked, heard, committed, replied, repeated, shown, obeyed}
+use Rattle.dc_core.specs.Event.{Event, Answer, asks, hears, commits, offices, asked, heard}
+use Rattle.dc_core.specs.Event.{committed, replied, repeated, shown, obeyed}
 use Rattle.dc_core.specs.Transcript.{Turn, leads, accepted_in}
 use Rattle.dc_core.specs.Images.{Machine, IsAt}
 use Rattle.dc_core.specs.Run.{DidAll}
@@ -21,11 +22,14 @@ use Rattle.dc_core.specs.Told.{Tells}
 -- The machine was just opened with this state: what its memory holds, and, where the answers of its disk until now kept
 -- the disk model, what its disk holds.
 abbrev pub IsOpened : {D : Type 0} → Ghosts D → State → Machine D → Type 0
-IsOpened g state machine = IsAt (g.keeps machine.store.disk) g.sectors g.reads g.choices machine (opened state)
+IsOpened g state machine = IsAt (g.keeps machine.store.disk) g.sectors g.reads g.choices machine
+    (opened state)
 
 -- It did these turns, from the one machine to the other, after an opening that left the disk as `origin`.
-abbrev pub Does : {D : Type 0} → Ghosts D → D → ℕ → Core → List Turn → Machine D → Machine D → Type 0
-Does g origin = DidAll (g.keeps origin) g.sectors g.failures g.reads g.choices g.moment g.images_since
+abbrev pub Does : {D : Type 0} → Ghosts D → D → ℕ → Core → List Turn → Machine D → Machine D
+    → Type 0
+Does g origin = DidAll (g.keeps origin) g.sectors g.failures g.reads g.choices g.moment
+    g.images_since
 
 -- The power went between these two states of a disk, before or within a call or behind it. This disk has what was
 -- left, and nothing else.
@@ -37,14 +41,17 @@ pub record WasLeft {D : Type 0} (g : Ghosts D) (from to disk : D) : Type 0 where
 -- an opening of the disk, as far as it came (`Concentrator::open`: `any_moment`)
 abbrev pub IsOpening : {D : Type 0} → Ghosts D → D → D → Type 0
 IsOpening g from to =
-    LeavesOnly g.moment g.images_since from to (StandsForOne (half_len_of (g.sectors from)) (g.choices from))
+    LeavesOnly g.moment g.images_since from to
+    (StandsForOne (half_len_of (g.sectors from)) (g.choices from))
 
 -- STOPPED before or within any disk call of any run of line answers, office lines and commits: a concentrator was
--- opened with the state from a disk whose answers until then kept the disk model, and has done the turns `done`; at some
--- moment of the turns `more` behind them the power went. It may have gone again, any number of times, while what was left
--- was opened.
-pub data WasStopped {D : Type 0} (g : Ghosts D) (state : State) (done more : List Turn) : D → Type 0 where
-  in_a_run : (first now last : Machine D) (disk : D) → IsOpened g state first → g.keeps first.store.disk
+-- opened with the state from a disk whose answers until then kept the disk model, and has done the turns `done`; at
+-- some moment of the turns `more` behind them the power went. It may have gone again, any number of times, while what
+-- was left was opened.
+pub data WasStopped {D : Type 0} (g : Ghosts D) (state : State) (done more : List Turn) : D
+    → Type 0 where
+  in_a_run : (first now last : Machine D) (disk : D) → IsOpened g state first
+      → g.keeps first.store.disk
       → Does g first.store.disk first.house.budget (opened state) done first now
       → Does g first.store.disk first.house.budget (leads (opened state) done) more now last
       → WasLeft g now.store.disk last.store.disk disk → WasStopped g state done more disk
@@ -66,7 +73,8 @@ IsAskedOn line turns = (request : List ℕ) × Contains turns (asks line, asked 
 -- Promised is every telegram after which a frame count bit was toggled, every command acknowledged and every
 -- reading uploaded, with all that was accepted before; and, more than the headline says, all that was committed.
 abbrev pub IsPromised : Event → Answer → List Turn → Type 0
-IsPromised (hears line moment bytes) (heard (Ok (Accepted part more))) behind = IsAskedOn line behind
+IsPromised (hears line moment bytes) (heard (Ok (Accepted part more))) behind =
+    IsAskedOn line behind
 IsPromised (offices text) (replied (obeyed number change)) behind = Unit {0}
 IsPromised (offices text) (replied (repeated number)) behind = Unit {0}
 IsPromised (offices text) (replied (shown bytes)) behind = Unit {0}

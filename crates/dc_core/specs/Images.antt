@@ -12,8 +12,10 @@ use Rattle.dc_recovery.specs.Store.{Kept, Keeps}
 use Rattle.dc_waiting.specs.Waiting.{Waiting}
 use Rattle.dc_core.specs.Core.{Core, present}
 
--- The image stands for the state after a front of the changes that leaves out none of the first so many, which are promised.
-pub record StandsForPromised (half_len : ℕ) (state : State) (promised : ℕ) (changes : List Change) (image : Image) : Type 0 where
+-- The image stands for the state after a front of the changes that leaves out none of the first so many, which are
+-- promised.
+pub record StandsForPromised (half_len : ℕ) (state : State) (promised : ℕ) (changes : List Change)
+    (image : Image) : Type 0 where
   pub front : StandsForFront half_len state changes image
   pub all_promised : promised ≤ front.count
 
@@ -28,16 +30,22 @@ pub record Machine (D : Type 0) : Type 0 where
 abbrev pub IsWithin : {D : Type 0} → ℕ → Machine D → Type 0
 IsWithin sectors machine = machine.house.budget ≡ budget_of (half_len_of sectors)
 
--- THE CONCENTRATOR IS IN THIS STATE. In memory: its register is what is present, what waits spells what is pending and
--- is accepted behind what is committed, and its lines are those. Where what the disk held is known: each image that a stop may leave
--- stands for what is committed and a front of what is pending, and where the store isn't stopped, for what is committed.
-pub record IsAt {D : Type 0} (known : Type 0) (sectors : D → ℕ) (reads : D → Image) (choices : D → Choices) (machine : Machine D) (core : Core) : Type 0 where
+-- THE CONCENTRATOR IS IN THIS STATE. In memory: its register is what is present, what waits spells what is pending
+-- and is accepted behind what is committed, and its lines are those. Where what the disk held is known: each image
+-- that a stop may leave stands for what is committed and a front of what is pending, and where the store isn't
+-- stopped, for what is committed.
+pub record IsAt {D : Type 0} (known : Type 0) (sectors : D → ℕ) (reads : D → Image)
+    (choices : D → Choices) (machine : Machine D) (core : Core) : Type 0 where
   pub house_is : machine.house.state ≡ present core
   pub spells : SpellsChanges machine.waiting.bytes core.pending
   pub count_is : machine.waiting.count ≡ length core.pending
   pub accepted : AcceptsAll machine.house.budget core.committed core.pending
   pub lines_are : machine.lines ≡ core.lines
   pub stopped_is : machine.store.is_stopped ≡ core.stopped
-  pub keeps : known → core.stopped ≡ false → Keeps sectors reads choices machine.store core.committed
-  pub stands : known → core.stopped ≡ false → (image : Image) → IsImage (choices machine.store.disk) image → Stands (half_len_of (sectors machine.store.disk)) core.committed image
-  pub leaves : known → (image : Image) → IsImage (choices machine.store.disk) image → StandsForFront (half_len_of (sectors machine.store.disk)) core.committed core.pending image
+  pub keeps : known → core.stopped ≡ false
+      → Keeps sectors reads choices machine.store core.committed
+  pub stands : known → core.stopped ≡ false → (image : Image)
+      → IsImage (choices machine.store.disk) image
+      → Stands (half_len_of (sectors machine.store.disk)) core.committed image
+  pub leaves : known → (image : Image) → IsImage (choices machine.store.disk) image
+      → StandsForFront (half_len_of (sectors machine.store.disk)) core.committed core.pending image

@@ -1,4 +1,5 @@
--- Why a telegram that was asked for isn't taken: for want of room, and never because the register doesn't know it (this product).
+-- Why a telegram that was asked for isn't taken: for want of room, and never because the register doesn't know it
+-- (this product).
 use Rattle.std.specs.Prelude.{◌≡◌, ◌≢◌, ℕ, ◌≤◌, Some, Err, IsSome, List, length}
 use Rattle.dc_records.specs.Telegram.{Parsed}
 use Rattle.dc_readout.specs.Summary.{Summary, new, asked_by, verdict_by}
@@ -13,14 +14,16 @@ use Rattle.dc_core.specs.Step.{hear_answer}
 use Rattle.dc_core.specs.Transcript.{Turn, leads, IsChain}
 
 -- this answer is the telegram that is asked for on the line
-pub record IsTelegramFor (core : Core) (line : ℕ) (answer : List ℕ) (part : ℕ) (telegram : Parsed) : Type 0 where
+pub record IsTelegramFor (core : Core) (line : ℕ) (answer : List ℕ) (part : ℕ)
+    (telegram : Parsed) : Type 0 where
   pub session : Summary
   pub on_line : session_of core line ≡ Some session
   pub is_asked : IsSome (asked_by session)
   pub is_new : verdict_by session answer ≡ new part telegram
 
 -- the register has no room for the telegram that this answer is
-pub record IsForWantOfRoom (budget : ℕ) (core : Core) (line moment : ℕ) (answer : List ℕ) : Type 0 where
+pub record IsForWantOfRoom (budget : ℕ) (core : Core) (line moment : ℕ)
+    (answer : List ℕ) : Type 0 where
   pub part : ℕ
   pub telegram : Parsed
   pub is_telegram : IsTelegramFor core line answer part telegram
@@ -29,12 +32,18 @@ pub record IsForWantOfRoom (budget : ℕ) (core : Core) (line moment : ℕ) (ans
 -- Each telegram that is asked for is of a registered meter and its readout's next part. No more changes wait than may;
 -- `Full` says that the register is full, and `PendingFull` that as many wait as may.
 pub record KnowsItsMeters (budget : ℕ) (core : Core) : Type 0 where
-  pub known : (line moment part : ℕ) (answer : List ℕ) (telegram : Parsed) → IsTelegramFor core line answer part telegram
+  pub known : (line moment part : ℕ) (answer : List ℕ) (telegram : Parsed)
+      → IsTelegramFor core line answer part telegram
       → refusal budget (change_of moment part telegram) (present core) ≢ Some Unknown
   pub few : length core.pending ≤ most_waiting
-  pub full : (line moment : ℕ) (answer : List ℕ) → hear_answer budget core line moment answer ≡ Err Full → IsForWantOfRoom budget core line moment answer
-  pub pending_full : (line moment : ℕ) (answer : List ℕ) → hear_answer budget core line moment answer ≡ Err PendingFull → length core.pending ≡ most_waiting
+  pub full : (line moment : ℕ) (answer : List ℕ)
+      → hear_answer budget core line moment answer ≡ Err Full
+      → IsForWantOfRoom budget core line moment answer
+  pub pending_full : (line moment : ℕ) (answer : List ℕ)
+      → hear_answer budget core line moment answer ≡ Err PendingFull
+      → length core.pending ≡ most_waiting
 
 -- NO TELEGRAM THAT WAS ASKED FOR IS UNKNOWN, in every chain of steps from a concentrator that was just opened.
 abbrev pub NoneIsUnknown : Type 0
-NoneIsUnknown = (budget : ℕ) (state : State) (turns : List Turn) → IsChain budget (opened state) turns → KnowsItsMeters budget (leads (opened state) turns)
+NoneIsUnknown = (budget : ℕ) (state : State) (turns : List Turn)
+    → IsChain budget (opened state) turns → KnowsItsMeters budget (leads (opened state) turns)

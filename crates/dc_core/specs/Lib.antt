@@ -2,7 +2,8 @@
 
 -- the numbers and names of the concentrator's faults
 pub mod Fault
--- the state of a concentrator, whatever its disk: what is committed, which changes wait, who is on each line, and whether a failure of the disk has stopped it
+-- the state of a concentrator, whatever its disk: what is committed, which changes wait, who is on each line, and
+-- whether a failure of the disk has stopped it
 pub mod Core
 -- what can happen to a concentrator, and what it can answer
 pub mod Event

@@ -9,18 +9,21 @@ use Rattle.dc_recovery.specs.Stands.{Reads, EachStands}
 use Rattle.dc_core.specs.Images.{StandsForPromised}
 
 -- the state is that after a front of the changes which has all that is promised
-pub record IsFront (state : State) (promised : ℕ) (changes : List Change) (found : State) : Type 0 where
+pub record IsFront (state : State) (promised : ℕ) (changes : List Change)
+    (found : State) : Type 0 where
   pub count : ℕ
   pub all_promised : promised ≤ count
   pub within : count ≤ length changes
   pub found_is : found ≡ after state (take count changes)
 
 -- A disk that a stop left with this image may be opened, and the state that it reads as is one of those.
-pub record MayFollow (half_len : ℕ) (state : State) (promised : ℕ) (changes : List Change) (image : Image) : Type 0 where
+pub record MayFollow (half_len : ℕ) (state : State) (promised : ℕ) (changes : List Change)
+    (image : Image) : Type 0 where
   pub premise : EachStands half_len (settled image)
   pub found : (found : State) → Reads half_len found image → IsFront state promised changes found
 
 -- AN IMAGE THAT A LIFE LEAVES MAY BE OPENED, and no other state than those for which it may stand is found.
 abbrev pub LivesFollow : Type 0
 LivesFollow = (sectors : ℕ) (state : State) (promised : ℕ) (changes : List Change) (image : Image)
-    → StandsForPromised (half_len_of sectors) state promised changes image → MayFollow (half_len_of sectors) state promised changes image
+    → StandsForPromised (half_len_of sectors) state promised changes image
+    → MayFollow (half_len_of sectors) state promised changes image

@@ -1,10 +1,13 @@
 -- What each event does to a concentrator, and what it answers (this product). Each answer is a function of the state,
 -- but where memory is refused, the disk fails, or the store's numbers are at their end.
-use Rattle.std.specs.Prelude.{◌≡◌, ◌≢◌, ◌⊎◌, ℕ, Bool, true, false, not, ◌||◌, ◌==◌, Option, None, Some, is_some, option_map, Result, Ok, Err, List, [], ◌∷◌, ◌++◌, length, if◌then◌else◌}
+use Rattle.std.specs.Prelude.{◌≡◌, ◌≢◌, ◌⊎◌, ℕ, Bool, true, false, not, ◌||◌, ◌==◌, Option, None}
+use Rattle.std.specs.Prelude.{Some, is_some, option_map, Result, Ok, Err, List, [], ◌∷◌, ◌++◌}
+use Rattle.std.specs.Prelude.{length, if◌then◌else◌}
 use Rattle.dc_linkframe.specs.Frame.{spelling}
 use Rattle.dc_address.specs.declared.identity.Identity.{Identity}
 use Rattle.dc_records.specs.Body.{continues}
-use Rattle.dc_readout.specs.Summary.{Summary, Verdict, again, ready, new, failed, asked_by, verdict_by, heard_by, begun}
+use Rattle.dc_readout.specs.Summary.{Summary, Verdict, again, ready, new, failed, asked_by}
+use Rattle.dc_readout.specs.Summary.{verdict_by, heard_by, begun}
 use Rattle.dc_changes.specs.Apply.{applied}
 use Rattle.dc_changes.specs.declared.change.Change.{Change}
 use Rattle.dc_changes.specs.declared.change.Change.TheVariants.{Telegram, Command as Numbered}
@@ -19,17 +22,21 @@ use Rattle.dc_waiting.specs.declared.fault.TakeFault.{TakeFault}
 use Rattle.dc_waiting.specs.Lines.{is_line, settled_lines, lines_without}
 use Rattle.dc_waiting.specs.Taking.{change_of, refuses}
 use Rattle.dc_core.specs.declared.fault.StartFault.{StartFault}
-use Rattle.dc_core.specs.declared.fault.StartFault.TheVariants.{NoLine as StartNoLine, Unknown, Busy, Stopped as StartStopped}
+use Rattle.dc_core.specs.declared.fault.StartFault.TheVariants.{NoLine as StartNoLine, Unknown}
+use Rattle.dc_core.specs.declared.fault.StartFault.TheVariants.{Busy, Stopped as StartStopped}
 use Rattle.dc_core.specs.declared.line_heard.LineHeard.{LineHeard}
 use Rattle.dc_core.specs.declared.line_heard.LineHeard.TheVariants.{Again, Ready, Accepted, Failed}
 use Rattle.dc_core.specs.declared.fault.HearFault.{HearFault}
 use Rattle.dc_core.specs.declared.fault.HearFault.TheVariants.{NoLine, Idle, NoMemory, Stopped}
 use Rattle.dc_core.specs.declared.fault.CommitFault.{CommitFault}
-use Rattle.dc_core.specs.declared.fault.CommitFault.TheVariants.{Device, Worn, Stopped as CommitStopped}
+use Rattle.dc_core.specs.declared.fault.CommitFault.TheVariants.{Device, Worn}
+use Rattle.dc_core.specs.declared.fault.CommitFault.TheVariants.{Stopped as CommitStopped}
 use Rattle.dc_core.specs.Fault.{hear_fault}
 use Rattle.dc_core.specs.Core.{Core, present, session_of, with_session}
-use Rattle.dc_core.specs.Event.{Event, Answer, starts, asks, hears, commits, offices, started, asked, heard, committed, replied}
-use Rattle.dc_core.specs.Event.{Reply, unread, unstored, repeated, refused, shown, out_of_memory, obeyed, uncommitted}
+use Rattle.dc_core.specs.Event.{Event, Answer, starts, asks, hears, commits, offices, started}
+use Rattle.dc_core.specs.Event.{asked, heard, committed, replied}
+use Rattle.dc_core.specs.Event.{Reply, unread, unstored, repeated, refused, shown, out_of_memory}
+use Rattle.dc_core.specs.Event.{obeyed, uncommitted}
 
 -- ---- a readout begins
 
@@ -51,7 +58,8 @@ start_answer core line meter =
 
 -- the meter's session is on the line, by the address of the register
 abbrev pub after_start : Core → ℕ → Identity → Result (Unit {0}) StartFault → Core
-after_start core line meter (Ok done) = with_session line (Some (begun meter (address_in (row_of meter (present core))))) core
+after_start core line meter (Ok done) =
+    with_session line (Some (begun meter (address_in (row_of meter (present core))))) core
 after_start core line meter (Err fault) = core
 
 -- ---- a request is asked for
@@ -65,7 +73,8 @@ abbrev pub longest_request : ℕ
 longest_request = 17
 
 abbrev pub ask_answer : Core → ℕ → Option (List ℕ)
-ask_answer core line = if not (is_line line) || core.stopped then None else asked_on (session_of core line)
+ask_answer core line = if not (is_line line) || core.stopped then None
+    else asked_on (session_of core line)
 
 -- ---- an answer is heard
 
@@ -75,17 +84,22 @@ unless_refused (Some fault) accepted = Err (hear_fault fault)
 
 -- a telegram is accepted unless something stands against its change
 abbrev pub take_answer : ℕ → Core → Change → LineHeard → Result LineHeard HearFault
-take_answer budget core change accepted = unless_refused (refuses budget (length core.pending) change (present core)) accepted
+take_answer budget core change accepted =
+    unless_refused (refuses budget (length core.pending) change (present core)) accepted
 
 abbrev pub verdict_answer : ℕ → Core → ℕ → Verdict → Result LineHeard HearFault
 verdict_answer budget core moment again = Ok Again
 verdict_answer budget core moment ready = Ok Ready
-verdict_answer budget core moment (new part telegram) = take_answer budget core (change_of moment part telegram) (Accepted part (continues telegram.ending))
+verdict_answer budget core moment (new part telegram) =
+    take_answer budget core (change_of moment part telegram)
+    (Accepted part (continues telegram.ending))
 verdict_answer budget core moment (failed why) = Ok (Failed why)
 
 abbrev pub answer_on : ℕ → Core → ℕ → List ℕ → Option Summary → Result LineHeard HearFault
 answer_on budget core moment bytes None = Err Idle
-answer_on budget core moment bytes (Some s) = if is_some (asked_by s) then verdict_answer budget core moment (verdict_by s bytes) else Err Idle
+answer_on budget core moment bytes (Some s) =
+    if is_some (asked_by s) then verdict_answer budget core moment (verdict_by s bytes)
+    else Err Idle
 
 -- what is answered where memory isn't refused
 abbrev pub hear_answer : ℕ → Core → ℕ → ℕ → List ℕ → Result LineHeard HearFault
@@ -109,7 +123,10 @@ and_pending moment pending (new part telegram) = pending ++ change_of moment par
 and_pending moment pending (failed why) = pending
 
 abbrev pub judged : Core → ℕ → ℕ → Summary → Verdict → Core
-judged core line moment s verdict = record (with_session line (session_after s verdict) core) { pending = and_pending moment core.pending verdict }
+judged core line moment s verdict =
+    record (with_session line (session_after s verdict) core) {
+      pending = and_pending moment core.pending verdict;
+    }
 
 abbrev pub heard_on : Core → ℕ → ℕ → List ℕ → Option Summary → Core
 heard_on core line moment bytes None = core
@@ -117,7 +134,8 @@ heard_on core line moment bytes (Some s) = judged core line moment s (verdict_by
 
 -- after a fault the request still waits
 abbrev pub after_hear : Core → ℕ → ℕ → List ℕ → Result LineHeard HearFault → Core
-after_hear core line moment bytes (Ok answer) = heard_on core line moment bytes (session_of core line)
+after_hear core line moment bytes (Ok answer) =
+    heard_on core line moment bytes (session_of core line)
 after_hear core line moment bytes (Err fault) = core
 
 abbrev pub IsAccepted : Result LineHeard HearFault → Type 0
@@ -132,7 +150,8 @@ MayHear right answer = (answer ≡ right) ⊎ ((answer ≡ Err NoMemory) × IsAc
 -- All that waits is committed, and each line settles its telegram; where nothing waits, nothing changes.
 abbrev pub settled_core : Core → List Change → Core
 settled_core core [] = core
-settled_core core (change ∷ changes) = record core { committed = present core; pending = []; lines = settled_lines core.lines }
+settled_core core (change ∷ changes) =
+    record core { committed = present core; pending = []; lines = settled_lines core.lines }
 
 abbrev pub after_commit : Core → Result ℕ CommitFault → Core
 after_commit core (Ok count) = settled_core core core.pending
@@ -142,7 +161,8 @@ after_commit core (Err CommitStopped) = core
 
 -- Where nothing waits, the answer is 0. Else the disk may fail or be worn, and what has stopped stays stopped.
 abbrev pub MayCommit : Core → Result ℕ CommitFault → Type 0
-MayCommit core (Ok count) = (count ≡ length core.pending) × ((core.pending ≡ []) ⊎ (core.stopped ≡ false))
+MayCommit core (Ok count) = (count ≡ length core.pending)
+    × ((core.pending ≡ []) ⊎ (core.stopped ≡ false))
 MayCommit core (Err Device) = (core.pending ≢ []) × (core.stopped ≡ false)
 MayCommit core (Err Worn) = (core.pending ≢ []) × (core.stopped ≡ false)
 MayCommit core (Err CommitStopped) = (core.pending ≢ []) × (core.stopped ≡ true)
@@ -172,7 +192,10 @@ lines_after (Some meter) lines = lines_without meter lines
 
 -- A command is all that waits, and nobody reads a meter that it removes.
 abbrev pub ordered : Change → Core → Core
-ordered change core = record core { pending = change ∷ []; lines = lines_after (removed_by change) core.lines }
+ordered change core = record core {
+  pending = change ∷ [];
+  lines = lines_after (removed_by change) core.lines;
+}
 
 -- where nothing waits
 abbrev pub after_answer : Core → Reply → Core
@@ -199,17 +222,23 @@ IsUnstored core Device = (core.pending ≢ []) × (core.stopped ≡ false)
 IsUnstored core Worn = (core.pending ≢ []) × (core.stopped ≡ false)
 IsUnstored core CommitStopped = core.stopped ≡ true
 
--- By the verdict on what is committed. A command is done under its number, which is the last one then. Memory is wanted for
--- a new command, and for the table of a REPORT.
+-- By the verdict on what is committed. A command is done under its number, which is the last one then. Memory is
+-- wanted for a new command, and for the table of a REPORT.
 abbrev pub MayAnswer : ℕ → Core → OfficeLine → Reply → Type 0
 MayAnswer budget core line unread = ⊥
 MayAnswer budget core line (unstored fault) = ⊥
-MayAnswer budget core line (repeated number) = (verdict_of (held budget core) line ≡ Repeat) × (number ≡ core.committed.last_number)
+MayAnswer budget core line (repeated number) =
+    (verdict_of (held budget core) line ≡ Repeat) × (number ≡ core.committed.last_number)
 MayAnswer budget core line (refused code) = verdict_of (held budget core) line ≡ Refuse code
-MayAnswer budget core line (shown text) = (verdict_of (held budget core) line ≡ Show) × (text ≡ shown_text line core.committed)
-MayAnswer budget core line out_of_memory = ((change : Change) × (verdict_of (held budget core) line ≡ Do change)) ⊎ TakesMemory line
-MayAnswer budget core line (obeyed number change) = (verdict_of (held budget core) line ≡ Do change) × (number ≡ (applied change core.committed).last_number)
-MayAnswer budget core line (uncommitted change fault) = (verdict_of (held budget core) line ≡ Do change) × IsUnstored (ordered change core) fault
+MayAnswer budget core line (shown text) =
+    (verdict_of (held budget core) line ≡ Show) × (text ≡ shown_text line core.committed)
+MayAnswer budget core line out_of_memory =
+    ((change : Change) × (verdict_of (held budget core) line ≡ Do change)) ⊎ TakesMemory line
+MayAnswer budget core line (obeyed number change) =
+    (verdict_of (held budget core) line ≡ Do change)
+    × (number ≡ (applied change core.committed).last_number)
+MayAnswer budget core line (uncommitted change fault) =
+    (verdict_of (held budget core) line ≡ Do change) × IsUnstored (ordered change core) fault
 
 -- the line is judged once all that waited is committed
 pub record IsJudged (budget : ℕ) (core : Core) (text : List ℕ) (reply : Reply) : Type 0 where
@@ -220,7 +249,8 @@ pub record IsJudged (budget : ℕ) (core : Core) (text : List ℕ) (reply : Repl
 
 abbrev pub MayReply : ℕ → Core → List ℕ → Reply → Type 0
 MayReply budget core text unread = SpellsNone text
-MayReply budget core text (unstored fault) = ((line : OfficeLine) × Spells text line) × IsUnstored core fault
+MayReply budget core text (unstored fault) =
+    ((line : OfficeLine) × Spells text line) × IsUnstored core fault
 MayReply budget core text reply = IsJudged budget core text reply
 
 -- ---- THE STEP
@@ -229,7 +259,8 @@ MayReply budget core text reply = IsJudged budget core text reply
 abbrev pub May : ℕ → Core → Event → Answer → Type 0
 May budget core (starts line meter) (started answer) = answer ≡ start_answer core line meter
 May budget core (asks line) (asked answer) = answer ≡ ask_answer core line
-May budget core (hears line moment bytes) (heard answer) = MayHear (hear_answer budget core line moment bytes) answer
+May budget core (hears line moment bytes) (heard answer) =
+    MayHear (hear_answer budget core line moment bytes) answer
 May budget core commits (committed answer) = MayCommit core answer
 May budget core (offices text) (replied reply) = MayReply budget core text reply
 May budget core (starts line meter) (asked answer) = ⊥

@@ -1,8 +1,11 @@
 -- The line of text of each answer (this product).
-use Rattle.std.specs.Prelude.{ℕ, Bool, Option, None, Some, Result, Ok, Err, List, ◌++◌, codes, flat_map, if◌then◌else◌}
+use Rattle.std.specs.Prelude.{ℕ, Bool, Option, None, Some, Result, Ok, Err, List, ◌++◌, codes}
+use Rattle.std.specs.Prelude.{flat_map, if◌then◌else◌}
 use Rattle.dc_records.specs.Fault.{number_of as content_number, name_of as content_name}
 use Rattle.dc_readout.specs.declared.why.Why.{Why}
-use Rattle.dc_readout.specs.declared.why.Why.TheVariants.{NoAnswer, WrongFrame, WrongAddress, ApplicationError, Content, Stranger, TooManyParts}
+use Rattle.dc_readout.specs.declared.why.Why.TheVariants.{NoAnswer, WrongFrame, WrongAddress}
+use Rattle.dc_readout.specs.declared.why.Why.TheVariants.{ApplicationError, Content, Stranger}
+use Rattle.dc_readout.specs.declared.why.Why.TheVariants.{TooManyParts}
 use Rattle.dc_readout.specs.Why.{number_of as why_number, name_of as why_name}
 use Rattle.dc_text.specs.Words.{number_word, fault_text, fault_line}
 use Rattle.dc_text.specs.Hex.{upper_hex}
@@ -13,9 +16,11 @@ use Rattle.dc_core.specs.declared.line_heard.LineHeard.{LineHeard}
 use Rattle.dc_core.specs.declared.line_heard.LineHeard.TheVariants.{Again, Ready, Accepted, Failed}
 use Rattle.dc_core.specs.declared.fault.HearFault.{HearFault}
 use Rattle.dc_core.specs.declared.fault.CommitFault.{CommitFault}
-use Rattle.dc_core.specs.Fault.{start_number, start_name, hear_number, hear_name, commit_number, commit_name}
+use Rattle.dc_core.specs.Fault.{start_number, start_name, hear_number, hear_name, commit_number}
+use Rattle.dc_core.specs.Fault.{commit_name}
 use Rattle.dc_core.specs.Event.{Answer, started, asked, heard, committed, replied}
-use Rattle.dc_core.specs.Event.{Reply, unread, unstored, repeated, refused, shown, out_of_memory, obeyed, uncommitted}
+use Rattle.dc_core.specs.Event.{Reply, unread, unstored, repeated, refused, shown, out_of_memory}
+use Rattle.dc_core.specs.Event.{obeyed, uncommitted}
 use Rattle.dc_core.specs.Transcript.{Turn}
 
 -- what was refused, and why
@@ -32,13 +37,18 @@ asked_text None = codes "NONE\n"
 
 -- why a session ended; a telegram's own fault stands behind it
 abbrev pub failed_text : Why → List ℕ
-failed_text (Content fault) = codes "FAILED " ++ fault_text (why_number (Content fault)) (why_name (Content fault)) ++ codes " " ++ fault_text (content_number fault) (content_name fault) ++ codes "\n"
+failed_text (Content fault) = codes "FAILED "
+    ++ fault_text (why_number (Content fault)) (why_name (Content fault)) ++ codes " "
+    ++ fault_text (content_number fault) (content_name fault) ++ codes "\n"
 failed_text NoAnswer = fault_line (codes "FAILED") (why_number NoAnswer) (why_name NoAnswer)
 failed_text WrongFrame = fault_line (codes "FAILED") (why_number WrongFrame) (why_name WrongFrame)
-failed_text WrongAddress = fault_line (codes "FAILED") (why_number WrongAddress) (why_name WrongAddress)
-failed_text ApplicationError = fault_line (codes "FAILED") (why_number ApplicationError) (why_name ApplicationError)
+failed_text WrongAddress = fault_line (codes "FAILED") (why_number WrongAddress)
+    (why_name WrongAddress)
+failed_text ApplicationError = fault_line (codes "FAILED") (why_number ApplicationError)
+    (why_name ApplicationError)
 failed_text Stranger = fault_line (codes "FAILED") (why_number Stranger) (why_name Stranger)
-failed_text TooManyParts = fault_line (codes "FAILED") (why_number TooManyParts) (why_name TooManyParts)
+failed_text TooManyParts = fault_line (codes "FAILED") (why_number TooManyParts)
+    (why_name TooManyParts)
 
 -- whether more parts follow
 abbrev pub end_word : Bool → List ℕ

@@ -11,15 +11,18 @@ use Rattle.dc_core.specs.Transcript.{Turn, leads, IsChain, accepted_in}
 use Rattle.dc_core.specs.Promised.{promised_in}
 use Rattle.dc_core.specs.Lives.{IsFront}
 
--- what a reply tells of a state: `OK n`, that n is the last command's number; readings, meters or due-date values, that it has those
+-- what a reply tells of a state: `OK n`, that n is the last command's number; readings, meters or due-date values,
+-- that it has those
 abbrev pub Tells : List ℕ → Reply → State → Type 0
 Tells text (repeated number) s = s.last_number ≡ number
 Tells text (obeyed number change) s = s.last_number ≡ number
 Tells text (shown bytes) s = (line : OfficeLine) × (Spells text line × (bytes ≡ shown_text line s))
 Tells text reply s = Unit {0}
 
--- The reply tells of what was committed when it was given, and the state is that after a front of what was accepted since.
-pub record ComesFrom (text : List ℕ) (reply : Reply) (answered : State) (since : List Change) (found : State) : Type 0 where
+-- The reply tells of what was committed when it was given, and the state is that after a front of what was accepted
+-- since.
+pub record ComesFrom (text : List ℕ) (reply : Reply) (answered : State) (since : List Change)
+    (found : State) : Type 0 where
   pub tells : Tells text reply answered
   pub front : IsFront answered 0 since found
 
@@ -30,12 +33,16 @@ IfTelling (obeyed number change) P = P
 IfTelling (shown bytes) P = P
 IfTelling reply P = Unit {0}
 
--- WHAT THE OFFICE IS TOLD IS KEPT, in every chain of steps from a concentrator that was just opened: whatever state may be
--- found after it, or after a stop within the next event, which may accept more, has every command acknowledged and every
--- reading shown, and then what was accepted since.
+-- WHAT THE OFFICE IS TOLD IS KEPT, in every chain of steps from a concentrator that was just opened: whatever state
+-- may be found after it, or after a stop within the next event, which may accept more, has every command acknowledged
+-- and every reading shown, and then what was accepted since.
 abbrev pub ToldIsKept : Type 0
-ToldIsKept = (budget : ℕ) (state : State) (before : List Turn) (text : List ℕ) (reply : Reply) (later : List Turn) (more : List Change) (found : State)
+ToldIsKept = (budget : ℕ) (state : State) (before : List Turn) (text : List ℕ) (reply : Reply)
+    (later : List Turn) (more : List Change) (found : State)
     → IsChain budget (opened state) (before ++ (offices text, replied reply) ∷ later)
-    → IsFront state (promised_in (before ++ (offices text, replied reply) ∷ later)) (accepted_in (opened state) (before ++ (offices text, replied reply) ∷ later) ++ more) found
-    → IfTelling reply (ComesFrom text reply (leads (opened state) (before ++ (offices text, replied reply) ∷ [])).committed
-    (accepted_in (leads (opened state) (before ++ (offices text, replied reply) ∷ [])) later ++ more) found)
+    → IsFront state (promised_in (before ++ (offices text, replied reply) ∷ later))
+    (accepted_in (opened state) (before ++ (offices text, replied reply) ∷ later) ++ more) found
+    → IfTelling reply (ComesFrom text reply
+    (leads (opened state) (before ++ (offices text, replied reply) ∷ [])).committed
+    (accepted_in (leads (opened state) (before ++ (offices text, replied reply) ∷ [])) later
+    ++ more) found)

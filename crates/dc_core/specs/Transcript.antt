@@ -21,7 +21,8 @@ leads core (turn ∷ turns) = leads (next core turn.0 turn.1) turns
 -- each answer is one that its event may have in the state to which the turns before it lead
 abbrev pub IsChain : ℕ → Core → List Turn → Type 0
 IsChain budget core [] = Unit {0}
-IsChain budget core (turn ∷ turns) = May budget core turn.0 turn.1 × IsChain budget (next core turn.0 turn.1) turns
+IsChain budget core (turn ∷ turns) =
+    May budget core turn.0 turn.1 × IsChain budget (next core turn.0 turn.1) turns
 
 -- ---- the changes that were accepted, in order
 
@@ -37,10 +38,12 @@ taken_with reply = []
 
 -- by one turn: the telegram of an answer that was taken, or a new command
 abbrev pub accepted_by : Core → Event → Answer → List Change
-accepted_by core (hears line moment bytes) (heard (Ok answer)) = taken_from moment bytes (session_of core line)
+accepted_by core (hears line moment bytes) (heard (Ok answer)) =
+    taken_from moment bytes (session_of core line)
 accepted_by core (offices text) (replied reply) = taken_with reply
 accepted_by core event answer = []
 
 abbrev pub accepted_in : Core → List Turn → List Change
 accepted_in core [] = []
-accepted_in core (turn ∷ turns) = accepted_by core turn.0 turn.1 ++ accepted_in (next core turn.0 turn.1) turns
+accepted_in core (turn ∷ turns) =
+    accepted_by core turn.0 turn.1 ++ accepted_in (next core turn.0 turn.1) turns

@@ -1,6 +1,7 @@
 //! The concentrator: a store, the register that it keeps, what waits for a commit, and the lines.
 
-ghost use Rattle.std.specs.Prelude.{◌≡◌, ◌≢◌, ◌≤◌, ◌<◌, ℕ, List, Err, OnOk, IfOk, IfErr, IfSome, MatchResult, false, length};
+ghost use Rattle.std.specs.Prelude.{◌≡◌, ◌≢◌, ◌≤◌, ◌<◌, ℕ, List, Err, OnOk, IfOk, IfErr, IfSome};
+ghost use Rattle.std.specs.Prelude.{MatchResult, false, length};
 ghost use Rattle.dc_base.specs.Failures.{HasRisen};
 ghost use Rattle.dc_sectors.specs.Disk.{Image, IsImage, LeavesOnly, settled};
 ghost use Rattle.dc_changes.specs.State.{State};
@@ -31,8 +32,8 @@ use dc_waiting::{Lines, Waiting, is_line};
 use std::alloc::Allocator;
 use std::marker::Model;
 
-/// The concentrator of a house. The state that it is in is defined in `specs/Core.antt`, and what a stop leaves of it in
-/// `specs/Images.antt`.
+/// The concentrator of a house. The state that it is in is defined in `specs/Core.antt`, and what a stop leaves of it
+/// in `specs/Images.antt`.
 #[derive(Drop)]
 pub struct Concentrator<D: Disk + Drop, A: Allocator + Copy> {
     alloc: A,
@@ -47,9 +48,15 @@ impl<D: Disk + Drop, A: Allocator + Copy> Model for Concentrator<D, A> {
 
     ghost Value = { Machine D };
 
-    ghost view = { λ c. record { store = c.store; house = c.house; waiting = c.waiting; lines = c.lines } };
+    ghost view = { λ c. record {
+      store = c.store;
+      house = c.house;
+      waiting = c.waiting;
+      lines = c.lines;
+    } };
 
-    ghost invariant = { λ c. IsWithin (D.sectors c.store.disk) (record { store = c.store; house = c.house; waiting = c.waiting; lines = c.lines }) };
+    ghost invariant = { λ c. IsWithin (D.sectors c.store.disk)
+        (record { store = c.store; house = c.house; waiting = c.waiting; lines = c.lines }) };
 }
 
 impl<D: Disk + Drop, A: Allocator + Copy> Concentrator<D, A> {
@@ -74,33 +81,51 @@ impl<D: Disk + Drop, A: Allocator + Copy> Concentrator<D, A> {
         ensures small { D.sectors disk < fewest_sectors → result ≡ Err (NotImage, disk) }
 
         // Ok gives exactly the state that the image reads as, and a refusal is a fact of the image.
-        ensures reads { IfOk result (λ c. D.keeps c.store.disk → Reads (half_len_of (D.sectors disk)) c.house.state (D.reads disk)) }
-        ensures refused { fewest_sectors ≤ D.sectors disk → IfErr result (λ e. D.keeps e.1 → IsRefused (half_len_of (D.sectors disk)) (D.reads disk) e.0) }
+        ensures reads { IfOk result (λ c.
+            D.keeps c.store.disk → Reads (half_len_of (D.sectors disk)) c.house.state
+            (D.reads disk)) }
+        ensures refused { fewest_sectors ≤ D.sectors disk
+            → IfErr result (λ e. D.keeps e.1
+            → IsRefused (half_len_of (D.sectors disk)) (D.reads disk) e.0) }
 
-        // Unless the device failed, a refusal wrote nothing: the disk reads as before, and so does each image of every moment.
+        // Unless the device failed, a refusal wrote nothing: the disk reads as before, and so does each image of
+        // every moment.
         ensures unwritten { IfErr result (λ e. e.0 ≢ Device → D.reads e.1 ≡ D.reads disk) }
-        ensures spares_images { IfErr result (λ e. e.0 ≢ Device → LeavesOnly D.moment D.images_since disk e.1 (IsImage (D.choices disk))) }
-        ensures not_worn { IfOk result (λ c. D.keeps c.store.disk → IsWorn (half_len_of (D.sectors disk)) (D.reads disk) → ⊥) }
-        ensures device { IfErr result (λ e. e.0 ≡ Device → HasRisen (D.failures disk) (D.failures e.1)) }
+        ensures spares_images { IfErr result (λ e.
+            e.0 ≢ Device → LeavesOnly D.moment D.images_since disk e.1 (IsImage (D.choices disk))) }
+        ensures not_worn { IfOk result (λ c.
+            D.keeps c.store.disk → IsWorn (half_len_of (D.sectors disk)) (D.reads disk) → ⊥) }
+        ensures device { IfErr result (λ e.
+            e.0 ≡ Device → HasRisen (D.failures disk) (D.failures e.1)) }
         ensures passed { IfErr result (λ e. e.0 ≢ Device → D.failures e.1 ≡ D.failures disk) }
-        ensures failures { MatchResult result (λ c. D.failures disk ≤ D.failures c.store.disk) (λ e. D.failures disk ≤ D.failures e.1) }
-        ensures durable { IfOk result (λ c. D.choices c.store.disk ≡ settled (D.reads c.store.disk)) }
+        ensures failures { MatchResult result (λ c. D.failures disk ≤ D.failures c.store.disk)
+            (λ e. D.failures disk ≤ D.failures e.1) }
+        ensures durable { IfOk result (λ c.
+            D.choices c.store.disk ≡ settled (D.reads c.store.disk)) }
 
-        // Where each image stands for some state, the concentrator is in the opened state, and a stop leaves an image that
-        // stands for a state that one of them stood for.
-        ensures at { IfOk result (λ c. (D.keeps c.store.disk → EachStands (half_len_of (D.sectors disk)) (D.choices disk))
+        // Where each image stands for some state, the concentrator is in the opened state, and a stop leaves an image
+        // that stands for a state that one of them stood for.
+        ensures at { IfOk result (λ c.
+            (D.keeps c.store.disk → EachStands (half_len_of (D.sectors disk)) (D.choices disk))
             → IsAt (D.keeps c.store.disk) D.sectors D.reads D.choices c (opened c.house.state)) }
         ensures any_moment { EachStands (half_len_of (D.sectors disk)) (D.choices disk)
-            → MatchResult result (λ c. D.keeps c.store.disk → LeavesOnly D.moment D.images_since disk c.store.disk (StandsForOne (half_len_of (D.sectors disk)) (D.choices disk)))
-            (λ e. D.keeps e.1 → LeavesOnly D.moment D.images_since disk e.1 (StandsForOne (half_len_of (D.sectors disk)) (D.choices disk))) }
-        ensures premise { fewest_sectors ≤ D.sectors disk → EachStands (half_len_of (D.sectors disk)) (D.choices disk)
+            → MatchResult result (λ c. D.keeps c.store.disk
+            → LeavesOnly D.moment D.images_since disk c.store.disk
+            (StandsForOne (half_len_of (D.sectors disk)) (D.choices disk)))
+            (λ e. D.keeps e.1 → LeavesOnly D.moment D.images_since disk e.1
+            (StandsForOne (half_len_of (D.sectors disk)) (D.choices disk))) }
+        ensures premise { fewest_sectors ≤ D.sectors disk
+            → EachStands (half_len_of (D.sectors disk)) (D.choices disk)
             → IfErr result (λ e. D.keeps e.1 → TellsOfImage e.0 → e.0 ≡ Worn) }
-        ensures before { MatchResult result (λ c. D.keeps c.store.disk → D.keeps disk) (λ e. D.keeps e.1 → D.keeps disk) }
-        ensures count { MatchResult result (λ c. D.sectors c.store.disk ≡ D.sectors disk) (λ e. D.sectors e.1 ≡ D.sectors disk) }
+        ensures before { MatchResult result (λ c. D.keeps c.store.disk → D.keeps disk)
+            (λ e. D.keeps e.1 → D.keeps disk) }
+        ensures count { MatchResult result (λ c. D.sectors c.store.disk ≡ D.sectors disk)
+            (λ e. D.sectors e.1 ≡ D.sectors disk) }
         ensures running { IfOk result (λ c. c.store.is_stopped ≡ false) }
         ensures empty { IfOk result (λ c. c.waiting.count ≡ 0) }
         ensures idle { IfOk result (λ c. c.lines ≡ no_sessions) }
-        ensures budget { IfOk result (λ c. c.house.budget ≡ budget_of (half_len_of (D.sectors disk))) }
+        ensures budget { IfOk result (λ c.
+            c.house.budget ≡ budget_of (half_len_of (D.sectors disk))) }
     {
         let (store, house) = Store::open(alloc, disk)?;
         Ok(Concentrator {
@@ -117,10 +142,13 @@ impl<D: Disk + Drop, A: Allocator + Copy> Concentrator<D, A> {
     /// # Errors
     /// The first that stands, in the order `NoLine`, `Stopped`, `Unknown`, `Busy`; nothing has changed.
     pub fn start(&mut self, line: u8, meter: &Identity) -> Result<(), StartFault>
-        ensures may { (origin : D) (core : Core) → IsAt (D.keeps origin) D.sectors D.reads D.choices self.old core
+        ensures may { (origin : D) (core : Core)
+            → IsAt (D.keeps origin) D.sectors D.reads D.choices self.old core
             → May self.old.house.budget core (starts line meter.now) (started result) }
-        ensures at { (origin : D) (core : Core) → IsAt (D.keeps origin) D.sectors D.reads D.choices self.old core
-            → IsAt (D.keeps origin) D.sectors D.reads D.choices self.new (next core (starts line meter.now) (started result)) }
+        ensures at { (origin : D) (core : Core)
+            → IsAt (D.keeps origin) D.sectors D.reads D.choices self.old core
+            → IsAt (D.keeps origin) D.sectors D.reads D.choices self.new
+            (next core (starts line meter.now) (started result)) }
         ensures store { self.new.store ≡ self.old.store }
         ensures house { self.new.house ≡ self.old.house }
     {
@@ -141,10 +169,12 @@ impl<D: Disk + Drop, A: Allocator + Copy> Concentrator<D, A> {
         Ok(())
     }
 
-    /// The request that is asked on a line. None where there is no such line, no session on it, where its telegram waits
-    /// for a commit, and where the disk has stopped the concentrator. A selection is the longest request, of 17 bytes.
+    /// The request that is asked on a line. None where there is no such line, no session on it, where its telegram
+    /// waits for a commit, and where the disk has stopped the concentrator. A selection is the longest request, of 17
+    /// bytes.
     pub fn ask(&self, line: u8) -> Option<FrameBuf>
-        ensures may { (origin : D) (core : Core) → IsAt (D.keeps origin) D.sectors D.reads D.choices self.now core
+        ensures may { (origin : D) (core : Core)
+            → IsAt (D.keeps origin) D.sectors D.reads D.choices self.now core
             → May self.now.house.budget core (asks line) (asked result) }
         ensures short { IfSome result (λ request. length request ≤ longest_request) }
     {
@@ -166,9 +196,13 @@ impl<D: Disk + Drop, A: Allocator + Copy> Concentrator<D, A> {
     /// image that it may leave stands for what is committed, and so that is what opening it again gives.
     pub fn close(self) -> D
         ensures disk { result ≡ self.store.disk }
-        ensures holds { (origin : D) → D.keeps origin → (core : Core) → IsAt (D.keeps origin) D.sectors D.reads D.choices self core → core.stopped ≡ false → (image : Image) → IsImage (D.choices result) image
+        ensures holds { (origin : D) → D.keeps origin → (core : Core)
+            → IsAt (D.keeps origin) D.sectors D.reads D.choices self core → core.stopped ≡ false
+            → (image : Image) → IsImage (D.choices result) image
             → Stands (half_len_of (D.sectors result)) core.committed image }
-        ensures reads { (origin : D) → D.keeps origin → (core : Core) → IsAt (D.keeps origin) D.sectors D.reads D.choices self core → core.stopped ≡ false → (state : State) → Reads (half_len_of (D.sectors result)) state (D.reads result)
+        ensures reads { (origin : D) → D.keeps origin → (core : Core)
+            → IsAt (D.keeps origin) D.sectors D.reads D.choices self core → core.stopped ≡ false
+            → (state : State) → Reads (half_len_of (D.sectors result)) state (D.reads result)
             → state ≡ core.committed }
     {
         let Concentrator { store, .. } = self;

@@ -2,7 +2,8 @@
 
 ghost use Rattle.std.specs.Prelude.{◌≡◌};
 ghost use Rattle.dc_waiting.specs.declared.fault.TakeFault.{TakeFault};
-ghost use Rattle.dc_core.specs.Fault.{start_number, start_name, hear_number, hear_name, commit_number, commit_name, hear_fault};
+ghost use Rattle.dc_core.specs.Fault.{start_number, start_name, hear_number, hear_name};
+ghost use Rattle.dc_core.specs.Fault.{commit_number, commit_name, hear_fault};
 
 use dc_waiting::TakeFault;
 use thiserror::Error;

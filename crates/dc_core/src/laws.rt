@@ -23,14 +23,14 @@ pub fn a_settled_telegram_toggles_the_bit()
     ensures { SettlingToggles }
 {}
 
-/// An image that a stop leaves in one life satisfies the premise of the opening that begins the next, and it reads as no
-/// other state than those for which it may stand.
+/// An image that a stop leaves in one life satisfies the premise of the opening that begins the next, and it reads as
+/// no other state than those for which it may stand.
 pub fn an_image_of_a_life_may_be_opened()
     ensures { LivesFollow }
 {}
 
-/// Whatever state may be found after every such chain, or after a stop within the next event, comes from one of which the
-/// office was told: with the last command's number where a line was answered `OK`, and with what it was shown.
+/// Whatever state may be found after every such chain, or after a stop within the next event, comes from one of which
+/// the office was told: with the last command's number where a line was answered `OK`, and with what it was shown.
 pub fn what_the_office_is_told_is_kept()
     ensures { ToldIsKept }
 {}

@@ -19,16 +19,26 @@ impl<D: Disk + Drop, A: Allocator + Copy> Concentrator<D, A> {
     /// Does the events in order, and writes the text of each answer.
     ///
     /// # Errors
-    /// `WriteFault` where the writer failed. The event at which it did is done, and none behind it; how much of the text was
-    /// written isn't known.
+    /// `WriteFault` where the writer failed. The event at which it did is done, and none behind it; how much of the
+    /// text was written isn't known.
     pub fn run<W: Sink>(&mut self, events: &[Event<'_>], out: &mut W) -> Result<(), WriteFault>
         // Behind whatever went before in this life, the events make a chain of steps, and what is written is its text.
-        ensures ran { (origin : D) (state : State) (before : List Turn) → IsChain self.old.house.budget (opened state) before → IsAt (D.keeps origin) D.sectors D.reads D.choices self.old (leads (opened state) before)
-            → OnOk result (Ran (D.keeps origin) D.sectors D.failures D.reads D.choices D.moment D.images_since self.old.house.budget state before (map event_of events.now) (Puts (W.written out.old) (W.written out.new)) self.old self.new) }
+        ensures ran { (origin : D) (state : State) (before : List Turn)
+            → IsChain self.old.house.budget (opened state) before
+            → IsAt (D.keeps origin) D.sectors D.reads D.choices self.old
+            (leads (opened state) before)
+            → OnOk result (Ran (D.keeps origin) D.sectors D.failures D.reads D.choices D.moment
+            D.images_since self.old.house.budget state before (map event_of events.now)
+            (Puts (W.written out.old) (W.written out.new)) self.old self.new) }
         // With a fault, so do those up to one of them, in whose text the first put failed.
-        ensures ended { (origin : D) (state : State) (before : List Turn) → IsChain self.old.house.budget (opened state) before → IsAt (D.keeps origin) D.sectors D.reads D.choices self.old (leads (opened state) before)
+        ensures ended { (origin : D) (state : State) (before : List Turn)
+            → IsChain self.old.house.budget (opened state) before
+            → IsAt (D.keeps origin) D.sectors D.reads D.choices self.old
+            (leads (opened state) before)
             → OnErr result ((last : ℕ) × (last < length events.now)
-            × (ran : Ran (D.keeps origin) D.sectors D.failures D.reads D.choices D.moment D.images_since self.old.house.budget state before (map event_of (take (last + 1) events.now)) (λ text. Unit {0}) self.old self.new)
+            × (ran : Ran (D.keeps origin) D.sectors D.failures D.reads D.choices D.moment
+            D.images_since self.old.house.budget state before
+            (map event_of (take (last + 1) events.now)) (λ text. Unit {0}) self.old self.new)
             × FailedInLast W.written W.put_failures ran.turns out.old out.new) }
         ensures fault { OnErr result (HasRisen (W.put_failures out.old) (W.put_failures out.new)) }
         ensures well { OnOk result (W.put_failures out.new ≡ W.put_failures out.old) }
@@ -45,8 +55,11 @@ impl<D: Disk + Drop, A: Allocator + Copy> Concentrator<D, A> {
 
     // One event, and the text of its answer.
     fn turn<W: Sink>(&mut self, event: &Event<'_>, out: &mut W) -> Result<(), IoFault>
-        ensures turned { (origin : D) (core : Core) → IsAt (D.keeps origin) D.sectors D.reads D.choices self.old core
-            → Turned (D.keeps origin) D.sectors D.failures D.reads D.choices D.moment D.images_since self.old.house.budget core (event_of event.now) (Wrote W.written W.put_failures result out.old out.new) self.old self.new }
+        ensures turned { (origin : D) (core : Core)
+            → IsAt (D.keeps origin) D.sectors D.reads D.choices self.old core
+            → Turned (D.keeps origin) D.sectors D.failures D.reads D.choices D.moment D.images_since
+            self.old.house.budget core (event_of event.now)
+            (Wrote W.written W.put_failures result out.old out.new) self.old self.new }
         ensures count { D.sectors self.new.store.disk ≡ D.sectors self.old.store.disk }
         ensures budget { self.new.house.budget ≡ self.old.house.budget }
         ensures fault { OnErr result (HasRisen (W.put_failures out.old) (W.put_failures out.new)) }

@@ -4,7 +4,8 @@ ghost use Rattle.std.specs.Prelude.{◌≡◌, ◌++◌, codes};
 ghost use Rattle.dc_stream.specs.Stream.{Wrote};
 ghost use Rattle.dc_text.specs.Words.{fault_text};
 ghost use Rattle.dc_core.specs.declared.line_heard.LineHeard.TheVariants.{Accepted};
-ghost use Rattle.dc_core.specs.Text.{started_text, asked_text, failed_text, line_text, heard_text, committed_text, refused_text};
+ghost use Rattle.dc_core.specs.Text.{started_text, asked_text, failed_text, line_text, heard_text};
+ghost use Rattle.dc_core.specs.Text.{committed_text, refused_text};
 
 use crate::{CommitFault, HearFault, LineHeard, StartFault};
 use dc_linkframe::FrameBuf;
@@ -54,7 +55,8 @@ fn put_failed<W: Sink>(out: &mut W, why: Why) -> Result<(), IoFault>
 
 #[tactic(auto, using(dc_stream::proofs::Pieces::written))]
 fn put_failure<W: Sink>(out: &mut W, number: u8, name: &str) -> Result<(), IoFault>
-    ensures { Wrote W.written W.put_failures result out.old out.new (codes "FAILED " ++ fault_text number name.now) }
+    ensures { Wrote W.written W.put_failures result out.old out.new
+        (codes "FAILED " ++ fault_text number name.now) }
 {
     out.put(b"FAILED ")?;
     put_fault(out, number, name)
@@ -62,7 +64,8 @@ fn put_failure<W: Sink>(out: &mut W, number: u8, name: &str) -> Result<(), IoFau
 
 #[tactic(auto, using(dc_stream::proofs::Pieces::written))]
 fn put_part<W: Sink>(out: &mut W, part: u8, more: bool) -> Result<(), IoFault>
-    ensures { Wrote W.written W.put_failures result out.old out.new (line_text (Accepted part more)) }
+    ensures { Wrote W.written W.put_failures result out.old out.new
+        (line_text (Accepted part more)) }
 {
     out.put(b"PART")?;
     put_number_word(out, u64::from(part))?;

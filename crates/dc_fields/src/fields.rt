@@ -8,7 +8,8 @@ use byteorder::{ByteOrder, LittleEndian};
 /// Puts a number into the two bytes from that place on.
 pub fn put_u16(sector: &mut [u8; 512], at: usize, number: u16)
     requires { at ≤ 510 }
-    ensures { sector.new ≡ take at sector.old ++ (number_bytes 2 number ++ drop (at + 2) sector.old) }
+    ensures { sector.new ≡ take at sector.old
+        ++ (number_bytes 2 number ++ drop (at + 2) sector.old) }
 {
     LittleEndian::write_u16(&mut sector[at..], number);
 }
@@ -16,7 +17,8 @@ pub fn put_u16(sector: &mut [u8; 512], at: usize, number: u16)
 /// Puts a number into the four bytes from that place on.
 pub fn put_u32(sector: &mut [u8; 512], at: usize, number: u32)
     requires { at ≤ 508 }
-    ensures { sector.new ≡ take at sector.old ++ (number_bytes 4 number ++ drop (at + 4) sector.old) }
+    ensures { sector.new ≡ take at sector.old
+        ++ (number_bytes 4 number ++ drop (at + 4) sector.old) }
 {
     LittleEndian::write_u32(&mut sector[at..], number);
 }
@@ -24,7 +26,8 @@ pub fn put_u32(sector: &mut [u8; 512], at: usize, number: u32)
 /// Puts a number into the eight bytes from that place on.
 pub fn put_u64(sector: &mut [u8; 512], at: usize, number: u64)
     requires { at ≤ 504 }
-    ensures { sector.new ≡ take at sector.old ++ (number_bytes 8 number ++ drop (at + 8) sector.old) }
+    ensures { sector.new ≡ take at sector.old
+        ++ (number_bytes 8 number ++ drop (at + 8) sector.old) }
 {
     LittleEndian::write_u64(&mut sector[at..], number);
 }

@@ -1,6 +1,7 @@
 -- A bus as the list of its meters, by what is heard on it (EN 13757-3, selection with wildcards; EN 13757-2, REQ_UD2).
 -- The meters that match a selection acknowledge it at once, and answer the request that follows together.
-use Rattle.std.specs.Prelude.{◌≡◌, ℕ, ◌≤◌, true, List, [], ◌∷◌, Option, Some, None, filter, length, min, option_map, take, if◌then◌else◌, nat_le}
+use Rattle.std.specs.Prelude.{◌≡◌, ℕ, ◌≤◌, true, List, [], ◌∷◌, Option, Some, None, filter, length}
+use Rattle.std.specs.Prelude.{min, option_map, take, if◌then◌else◌, nat_le}
 use Rattle.dc_address.specs.Mask.{IsMask, MaskParts, mask_wire, matches}
 use Rattle.dc_address.specs.declared.identity.Identity.{Identity}
 use Rattle.dc_linkframe.specs.Control.{request_to, selected, selection_by}
@@ -16,7 +17,8 @@ abbrev pub Acknowledge : List Identity → List ℕ → Type 0
 Acknowledge [] answer = answer ≡ []
 Acknowledge (meter ∷ more) answer = answer ≡ spelling ack
 
--- what is heard where these are asked for their data: silence, the telegram of the one, or no telegram where answers collide
+-- what is heard where these are asked for their data: silence, the telegram of the one, or no telegram where answers
+-- collide
 abbrev pub Respond : List Identity → List ℕ → Type 0
 Respond [] answer = answer ≡ []
 Respond (meter ∷ []) answer = answer_of answer ≡ Some meter
@@ -25,8 +27,10 @@ Respond (meter ∷ other ∷ more) answer = answer_of answer ≡ None
 -- What a bus of these meters answers to a search's requests, of which the first ones were selected before it and the
 -- others are after it.
 pub record IsHeard (meters before after : List Identity) (request answer : List ℕ) : Type 0 where
-  pub selects : (mask : MaskParts) → IsMask mask → request ≡ spelling (selection_by (mask_wire mask)) → after ≡ filter (matches mask) meters
-  pub acknowledges : (mask : MaskParts) → IsMask mask → request ≡ spelling (selection_by (mask_wire mask)) → Acknowledge after answer
+  pub selects : (mask : MaskParts) → IsMask mask
+      → request ≡ spelling (selection_by (mask_wire mask)) → after ≡ filter (matches mask) meters
+  pub acknowledges : (mask : MaskParts) → IsMask mask
+      → request ≡ spelling (selection_by (mask_wire mask)) → Acknowledge after answer
   pub keeps : request ≡ spelling (request_to true selected) → after ≡ before
   pub responds : request ≡ spelling (request_to true selected) → Respond before answer
 
@@ -63,17 +67,24 @@ pub record Exchange : Type 0 where
   pub answer : List ℕ
 
 -- These exchanges happened one after the other between a bus and what they left of it, and nothing else was asked.
-abbrev pub AreExchanged : {B : Type 0} → (B → List ℕ → List ℕ → B → Type 0) → B → List Exchange → B → Type 0
+abbrev pub AreExchanged : {B : Type 0} → (B → List ℕ → List ℕ → B → Type 0) → B → List Exchange → B
+    → Type 0
 AreExchanged asks old [] new = new ≡ old
-AreExchanged {B} asks old (exchange ∷ more) new = (between : B) × asks old exchange.request exchange.answer between × AreExchanged asks between more new
+AreExchanged {B} asks old (exchange ∷ more) new =
+    (between : B) × asks old exchange.request exchange.answer between
+    × AreExchanged asks between more new
 
--- Each request is that of the search's next step, each answer is heard by the search, and this is the search after them.
+-- Each request is that of the search's next step, each answer is heard by the search, and this is the search after
+-- them.
 abbrev pub AreAskedBy : SearchState → List Exchange → SearchState → Type 0
 AreAskedBy search [] last = last ≡ search
-AreAskedBy search (exchange ∷ more) last = (option_map spelling (request_by (step_of search)) ≡ Some exchange.request) × AreAskedBy (after exchange.answer search) more last
+AreAskedBy search (exchange ∷ more) last =
+    (option_map spelling (request_by (step_of search)) ≡ Some exchange.request)
+    × AreAskedBy (after exchange.answer search) more last
 
 -- A search with this budget: its exchanges are all that happened to the bus.
-pub record HasAsked {B : Type 0} (asks : B → List ℕ → List ℕ → B → Type 0) (budget : ℕ) (old new : B) (search : SearchState) : Type 0 where
+pub record HasAsked {B : Type 0} (asks : B → List ℕ → List ℕ → B → Type 0) (budget : ℕ)
+    (old new : B) (search : SearchState) : Type 0 where
   pub exchanges : List Exchange
   pub happened : AreExchanged asks old exchanges new
   pub asked : AreAskedBy (new_search budget) exchanges search

@@ -2,7 +2,8 @@
 use Rattle.std.specs.Prelude.{◌≡◌, ◌⊎◌, ℕ, ◌<◌, List, [], ◌∷◌, ◌++◌, Option, IfSome, length, take}
 use Rattle.dc_base.specs.Failures.{HasRisen}
 use Rattle.dc_stream.specs.Stream.{Takes, IsAtEnd}
-use Rattle.dc_gateway.specs.Blocks.{Answers, AreBlocks, blocks_bytes, kept_of, most_answer, most_blocks}
+use Rattle.dc_gateway.specs.Blocks.{Answers, AreBlocks, blocks_bytes, kept_of, most_answer}
+use Rattle.dc_gateway.specs.Blocks.{most_blocks}
 use Rattle.dc_gateway.specs.declared.talk.Talk.{Talk}
 use Rattle.dc_gateway.specs.declared.talk.Talk.TheVariants.{Answer, Lost}
 
@@ -25,7 +26,8 @@ pub record TakesAnswer (old new : Option (List ℕ)) (answer : List ℕ) : Type 
   pub taken : Takes old new (blocks_bytes blocks ++ 0 ∷ [])
   pub kept : answer ≡ kept_of blocks
 
--- The front of a block: nothing, or its length and fewer bytes than that; behind the last block that an answer may have, the length alone.
+-- The front of a block: nothing, or its length and fewer bytes than that; behind the last block that an answer may
+-- have, the length alone.
 abbrev pub IsFront : ℕ → List ℕ → Type 0
 IsFront before [] = Unit {0}
 IsFront before (count ∷ bytes) = (length bytes < count) × (before ≡ most_blocks → bytes ≡ [])

@@ -10,9 +10,11 @@ use dc_stream::{IoFault, Source};
 
 /// Takes an answer, up to its block of length 0.
 pub(crate) fn take_answer<R: Source>(reader: &mut R) -> Result<AnswerBuf, IoFault>
-    ensures answer { IfOk result (λ answer. TakesAnswer (R.left reader.old) (R.left reader.new) answer) }
+    ensures answer { IfOk result (λ answer.
+        TakesAnswer (R.left reader.old) (R.left reader.new) answer) }
     ensures well { OnOk result (R.take_failures reader.new ≡ R.take_failures reader.old) }
-    ensures lost { OnErr result (HasRisen (R.take_failures reader.old) (R.take_failures reader.new) ⊎ HasNoAnswer (R.left reader.old)) }
+    ensures lost { OnErr result (HasRisen (R.take_failures reader.old) (R.take_failures reader.new)
+        ⊎ HasNoAnswer (R.left reader.old)) }
     ensures read { OnErr result (TakesFront (R.left reader.old) (R.left reader.new)) }
 {
     let mut answer = AnswerBuf::new();

@@ -18,11 +18,14 @@ pub const MOST_BLOCKS: usize = 600;
 /// Puts these bytes as one block, by one put.
 pub fn put_block<W: Sink>(writer: &mut W, bytes: &[u8]) -> Result<(), IoFault>
     requires { length bytes.now ≤ most_block }
-    ensures bytes { OnOk result (Puts (W.written writer.old) (W.written writer.new) (block bytes.now)) }
+    ensures bytes { OnOk result (Puts (W.written writer.old) (W.written writer.new)
+        (block bytes.now)) }
     ensures step { OnOk result (W.puts writer.old (block bytes.now) writer.new) }
     ensures well { OnOk result (W.put_failures writer.new ≡ W.put_failures writer.old) }
-    ensures front { OnErr result (PutsFront (W.written writer.old) (W.written writer.new) (block bytes.now)) }
-    ensures failed { OnErr result (HasRisen (W.put_failures writer.old) (W.put_failures writer.new)) }
+    ensures front { OnErr result (PutsFront (W.written writer.old) (W.written writer.new)
+        (block bytes.now)) }
+    ensures failed { OnErr result (HasRisen (W.put_failures writer.old)
+        (W.put_failures writer.new)) }
 {
     // A block fits the room of an answer.
     let mut spelled = AnswerBuf::new();
@@ -33,7 +36,8 @@ pub fn put_block<W: Sink>(writer: &mut W, bytes: &[u8]) -> Result<(), IoFault>
 
 /// Takes the length of the next block; the end of the reader is a fault.
 pub fn take_length<R: Source>(reader: &mut R) -> Result<u8, IoFault>
-    ensures bytes { IfOk result (λ count. Takes (R.left reader.old) (R.left reader.new) (count ∷ [])) }
+    ensures bytes { IfOk result (λ count.
+        Takes (R.left reader.old) (R.left reader.new) (count ∷ [])) }
     ensures well { OnOk result (R.take_failures reader.new ≡ R.take_failures reader.old) }
     ensures left { OnErr result (R.left reader.new ≡ R.left reader.old) }
     ensures stopped { OnErr result (HasStopped R.left R.take_failures reader.old reader.new) }
@@ -54,7 +58,8 @@ pub fn take_content<R: Source>(
 ) -> Result<(), IoFault>
     requires { length answer.old ≤ most_answer }
     ensures byte { count ≤ most_block }
-    ensures content { OnOk result (IsContent (R.left reader.old) (R.left reader.new) count answer.old answer.new) }
+    ensures content { OnOk result (IsContent (R.left reader.old)
+        (R.left reader.new) count answer.old answer.new) }
     ensures well { OnOk result (R.take_failures reader.new ≡ R.take_failures reader.old) }
     ensures cut { OnErr result (IsCut (R.left reader.old) (R.left reader.new) count) }
     ensures stopped { OnErr result (HasStopped R.left R.take_failures reader.old reader.new) }

@@ -1,6 +1,7 @@
 //! A bus of meters, whatever it is reached over, and a search on it.
 
-ghost use Rattle.std.specs.Prelude.{◌≡◌, ◌≤◌, ℕ, Bool, true, List, [], Option, IfSome, IfOk, OnErr, IsTrue, length};
+ghost use Rattle.std.specs.Prelude.{◌≡◌, ◌≤◌, ℕ, Bool, true, List, [], Option, IfSome, IfOk, OnErr};
+ghost use Rattle.std.specs.Prelude.{IsTrue, length};
 ghost use Rattle.dc_address.specs.declared.identity.Identity.{Identity as Meter};
 ghost use Rattle.dc_gateway.specs.Blocks.{most_block};
 ghost use Rattle.dc_gateway.specs.Bus.{HasAsked, HasHeard, IsHeard, IsSearched};
@@ -35,7 +36,8 @@ pub trait Bus {
     fn ask(&mut self, request: &FrameBuf) -> AnswerBuf
         requires { length request.now ≤ most_block }
         ensures meters { meters self.new ≡ meters self.old }
-        ensures heard { IfSome (meters self.old) (λ told. IsHeard told (selected self.old) (selected self.new) request.now result) }
+        ensures heard { IfSome (meters self.old)
+            (λ told. IsHeard told (selected self.old) (selected self.new) request.now result) }
         ensures asked { asks self.old request.now result self.new }
         // A lost bus is silent and untouched.
         ensures silence { lost self.old ≡ true → result ≡ [] }
@@ -83,9 +85,11 @@ pub fn search_over<A: Allocator + Copy, B: Bus>(
     // Its steps' requests and their answers are all that happened to the bus, also where memory was refused to the last
     // answer.
     ensures asked { IfOk result (λ search. HasAsked B.asks budget bus.old bus.new search) }
-    ensures stopped { OnErr result ((search : SearchState) × HasAsked B.asks budget bus.old bus.new search) }
+    ensures stopped { OnErr result ((search : SearchState)
+        × HasAsked B.asks budget bus.old bus.new search) }
     // Where the bus tells its meters, it follows their walk.
-    ensures walk { IfOk result (λ search. IfSome (B.meters bus.old) (λ told. IsSearched told budget search)) }
+    ensures walk { IfOk result (λ search.
+        IfSome (B.meters bus.old) (λ told. IsSearched told budget search)) }
     ensures meters { B.meters bus.new ≡ B.meters bus.old }
     // Over a lost bus nobody is found, and it is left as it was.
     ensures nobody { B.lost bus.old ≡ true → IfOk result (λ search. IsSearched [] budget search) }

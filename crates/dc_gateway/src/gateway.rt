@@ -49,18 +49,29 @@ impl<R: Source + Drop, W: Sink + Drop> Gateway<R, W> {
         ensures silence { self.new.lost ≡ true → result ≡ [] }
 
         // While it isn't lost, this is an exchange that gave an answer.
-        ensures answer { self.new.lost ≡ false → TakesAnswer (R.left self.old.reader) (R.left self.new.reader) result }
-        ensures request { self.new.lost ≡ false → Puts (W.written self.old.writer) (W.written self.new.writer) (block request.now) }
-        ensures put { self.new.lost ≡ false → W.puts self.old.writer (block request.now) self.new.writer }
-        ensures reader_well { self.new.lost ≡ false → R.take_failures self.new.reader ≡ R.take_failures self.old.reader }
-        ensures writer_well { self.new.lost ≡ false → W.put_failures self.new.writer ≡ W.put_failures self.old.writer }
+        ensures answer { self.new.lost ≡ false
+            → TakesAnswer (R.left self.old.reader) (R.left self.new.reader) result }
+        ensures request { self.new.lost ≡ false
+            → Puts (W.written self.old.writer) (W.written self.new.writer) (block request.now) }
+        ensures put { self.new.lost ≡ false
+            → W.puts self.old.writer (block request.now) self.new.writer }
+        ensures reader_well { self.new.lost ≡ false
+            → R.take_failures self.new.reader ≡ R.take_failures self.old.reader }
+        ensures writer_well { self.new.lost ≡ false
+            → W.put_failures self.new.writer ≡ W.put_failures self.old.writer }
 
         // It is lost by an exchange that is lost.
-        ensures lost { self.old.lost ≡ false → self.new.lost ≡ true → HasRisen (W.put_failures self.old.writer) (W.put_failures self.new.writer)
-            ⊎ (HasRisen (R.take_failures self.old.reader) (R.take_failures self.new.reader) ⊎ HasNoAnswer (R.left self.old.reader)) }
-        ensures sent { self.old.lost ≡ false → self.new.lost ≡ true → Puts (W.written self.old.writer) (W.written self.new.writer) (block request.now)
-            ⊎ ((self.new.reader ≡ self.old.reader) × PutsFront (W.written self.old.writer) (W.written self.new.writer) (block request.now)) }
-        ensures read { self.old.lost ≡ false → self.new.lost ≡ true → TakesFront (R.left self.old.reader) (R.left self.new.reader) }
+        ensures lost { self.old.lost ≡ false → self.new.lost ≡ true
+            → HasRisen (W.put_failures self.old.writer) (W.put_failures self.new.writer)
+            ⊎ (HasRisen (R.take_failures self.old.reader) (R.take_failures self.new.reader)
+            ⊎ HasNoAnswer (R.left self.old.reader)) }
+        ensures sent { self.old.lost ≡ false → self.new.lost ≡ true
+            → Puts (W.written self.old.writer) (W.written self.new.writer) (block request.now)
+            ⊎ ((self.new.reader ≡ self.old.reader)
+            × PutsFront (W.written self.old.writer) (W.written self.new.writer)
+            (block request.now)) }
+        ensures read { self.old.lost ≡ false → self.new.lost ≡ true
+            → TakesFront (R.left self.old.reader) (R.left self.new.reader) }
     {
         if self.lost {
             return AnswerBuf::new();

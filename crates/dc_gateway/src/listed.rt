@@ -89,7 +89,8 @@ impl<'a> Bus for ListedBus<'a> {
     // It is never lost.
     ghost lost = { λ _. false };
 
-    ghost asks = { λ old request answer new. IsHeard old.meters (chosen old) (chosen new) request answer };
+    ghost asks = { λ old request answer new.
+        IsHeard old.meters (chosen old) (chosen new) request answer };
 
     fn is_lost(&self) -> bool {
         false

@@ -26,7 +26,8 @@ pub(crate) enum Order {
 
 /// What a request asks.
 pub(crate) fn order_of(request: &[u8]) -> Order
-    ensures select { (mask : MaskParts) → IsMask mask → request.now ≡ spelling (selection_by (mask_wire mask)) → result ≡ Select mask }
+    ensures select { (mask : MaskParts) → IsMask mask
+        → request.now ≡ spelling (selection_by (mask_wire mask)) → result ≡ Select mask }
     ensures data { request.now ≡ spelling (request_to true selected) → result ≡ Data }
 {
     match parse(request) {
@@ -37,7 +38,8 @@ pub(crate) fn order_of(request: &[u8]) -> Order
 
 /// What a frame asks.
 fn order_in(frame: &Frame<'_>) -> Order
-    ensures select { (mask : MaskParts) → IsMask mask → seen frame.now ≡ selection_by (mask_wire mask) → result ≡ Select mask }
+    ensures select { (mask : MaskParts) → IsMask mask
+        → seen frame.now ≡ selection_by (mask_wire mask) → result ≡ Select mask }
     ensures data { seen frame.now ≡ request_to true selected → result ≡ Data }
 {
     match frame {

@@ -27,18 +27,25 @@ pub enum Talk {
 pub fn exchange<R: Source, W: Sink>(reader: &mut R, writer: &mut W, request: &FrameBuf) -> Talk
     requires { length request.now ≤ most_block }
     // An answer stood there, and the one block of the request went out.
-    ensures answer { IfAnswer result (λ answer. TakesAnswer (R.left reader.old) (R.left reader.new) answer) }
-    ensures request { IfAnswer result (λ _. Puts (W.written writer.old) (W.written writer.new) (block request.now)) }
+    ensures answer { IfAnswer result (λ answer.
+        TakesAnswer (R.left reader.old) (R.left reader.new) answer) }
+    ensures request { IfAnswer result (λ _.
+        Puts (W.written writer.old) (W.written writer.new) (block request.now)) }
     ensures put { IfAnswer result (λ _. W.puts writer.old (block request.now) writer.new) }
-    ensures reader_well { IfAnswer result (λ _. R.take_failures reader.new ≡ R.take_failures reader.old) }
-    ensures writer_well { IfAnswer result (λ _. W.put_failures writer.new ≡ W.put_failures writer.old) }
+    ensures reader_well { IfAnswer result (λ _.
+        R.take_failures reader.new ≡ R.take_failures reader.old) }
+    ensures writer_well { IfAnswer result (λ _.
+        W.put_failures writer.new ≡ W.put_failures writer.old) }
 
     // It is lost where no answer stands there, or an end failed.
     ensures lost { OnLost result (HasRisen (W.put_failures writer.old) (W.put_failures writer.new)
-        ⊎ (HasRisen (R.take_failures reader.old) (R.take_failures reader.new) ⊎ HasNoAnswer (R.left reader.old))) }
+        ⊎ (HasRisen (R.take_failures reader.old) (R.take_failures reader.new)
+        ⊎ HasNoAnswer (R.left reader.old))) }
     // The request went out all the same, or the reader is untouched.
-    ensures sent { OnLost result (Puts (W.written writer.old) (W.written writer.new) (block request.now)
-        ⊎ ((reader.new ≡ reader.old) × PutsFront (W.written writer.old) (W.written writer.new) (block request.now))) }
+    ensures sent { OnLost result (Puts (W.written writer.old) (W.written writer.new)
+        (block request.now)
+        ⊎ ((reader.new ≡ reader.old) × PutsFront (W.written writer.old) (W.written writer.new)
+        (block request.now))) }
     ensures read { OnLost result (TakesFront (R.left reader.old) (R.left reader.new)) }
 {
     if put_block(writer, request.as_slice()).is_err() {

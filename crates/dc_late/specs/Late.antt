@@ -1,5 +1,8 @@
--- A line whose link may deliver answers late, first in first out, and the two rules of the line layer: copies and quiet.
-use Rattle.std.specs.Prelude.{◌≡◌, ◌≢◌, ℕ, ◌+◌, Bool, true, false, not, ◌&&◌, ◌||◌, List, [], ◌∷◌, ◌++◌, drop, Option, Some, None, slice_get, ◌==◌, bytes_eq, if◌then◌else◌}
+-- A line whose link may deliver answers late, first in first out, and the two rules of the line layer: copies and
+-- quiet.
+use Rattle.std.specs.Prelude.{◌≡◌, ◌≢◌, ℕ, ◌+◌, Bool, true, false, not, ◌&&◌, ◌||◌, List, [], ◌∷◌}
+use Rattle.std.specs.Prelude.{◌++◌, drop, Option, Some, None, slice_get, ◌==◌, bytes_eq}
+use Rattle.std.specs.Prelude.{if◌then◌else◌}
 use Rattle.dc_linkframe.specs.Frame.{FrameSeen, ack, short, long, spelling}
 use Rattle.dc_linkframe.specs.Control.{snd_nke, selected}
 use Rattle.dc_linkframe.specs.Reading.{frame_of}
@@ -8,7 +11,8 @@ use Rattle.dc_lives.specs.declared.event.Outcome.{Outcome}
 use Rattle.dc_lives.specs.declared.event.WorldEvent.{WorldEvent}
 use Rattle.dc_lives.specs.declared.event.WorldEvent.TheVariants.{Start, Exchange, Commit, Stop}
 use Rattle.dc_lives.specs.Meter.{Meter, Position, moved_by, answer_to}
-use Rattle.dc_lives.specs.World.{World, Running, new_world, world_step, positions_after, heard_in, running_after}
+use Rattle.dc_lives.specs.World.{World, Running, new_world, world_step, positions_after, heard_in}
+use Rattle.dc_lives.specs.World.{running_after}
 
 -- the last long frame that was heard on the line, and the request that it was heard for
 pub record Last : Type 0 where
@@ -24,7 +28,12 @@ pub record LateWorld : Type 0 where
   pub clear : Bool
 
 abbrev pub new_late_world : List Meter → LateWorld
-new_late_world meters = record { world = new_world meters; under_way = []; last = None; clear = true }
+new_late_world meters = record {
+  world = new_world meters;
+  under_way = [];
+  last = None;
+  clear = true;
+}
 
 -- A readout is to begin; the oldest so many answers arrive and are dropped; the session's request goes out, the line
 -- does this to it and to its answer, and an answer is heard in time or isn't; what was heard is committed; the
@@ -40,19 +49,22 @@ pub data LateEvent : Type 0 where
 
 abbrev pub is_copy : Option Last → List ℕ → List ℕ → Bool
 is_copy None request answer = false
-is_copy (Some last) request answer = bytes_eq answer last.answer && not (bytes_eq request last.request)
+is_copy (Some last) request answer =
+    bytes_eq answer last.answer && not (bytes_eq request last.request)
 
 -- copies are dropped, and the line is listened to further
 abbrev pub past_copies : Option Last → List ℕ → List (List ℕ) → List (List ℕ)
 past_copies last request [] = []
-past_copies last request (answer ∷ more) = if is_copy last request answer then past_copies last request more else answer ∷ more
+past_copies last request (answer ∷ more) =
+    if is_copy last request answer then past_copies last request more else answer ∷ more
 
 -- an acknowledgement makes the line forget the last one; what is no frame, or a short one, changes nothing
 abbrev pub last_after : Option FrameSeen → List ℕ → List ℕ → Option Last → Option Last
 last_after None request answer last = last
 last_after (Some ack) request answer last = None
 last_after (Some (short control address)) request answer last = last
-last_after (Some (long control address ci body)) request answer last = Some (record { request = request; answer = answer })
+last_after (Some (long control address ci body)) request answer last =
+    Some (record { request = request; answer = answer })
 
 -- ---- the rule of quiet: where an answer was missed, a session begins only when nothing is under way any more
 
@@ -95,7 +107,10 @@ listened false last request way = record { heard = []; left = way }
 -- the session judges what was heard
 abbrev pub heard_late : Listened → FrameSeen → List Position → Running → LateWorld → LateWorld
 heard_late l frame positions r w = record {
-  world = record w.world { positions = positions; running = running_after (verdict_by r.session l.heard) r };
+  world = record w.world {
+    positions = positions;
+    running = running_after (verdict_by r.session l.heard) r;
+  };
   under_way = l.left;
   last = last_after (frame_of l.heard) (spelling frame) l.heard w.last;
   clear = clear_after frame (frame_of l.heard) w.clear;
@@ -104,21 +119,27 @@ heard_late l frame positions r w = record {
 -- the answer goes onto the link behind those under way
 abbrev pub exchanged_as : List Meter → Outcome → Bool → FrameSeen → Running → LateWorld → LateWorld
 exchanged_as meters outcome in_time frame r w =
-    heard_late (listened in_time w.last (spelling frame) (and_sent (heard_in outcome frame meters w.world.positions) w.under_way))
+    heard_late (listened in_time w.last (spelling frame)
+    (and_sent (heard_in outcome frame meters w.world.positions) w.under_way))
     frame (positions_after outcome frame meters w.world.positions) r w
 
-abbrev pub exchanged_by : List Meter → Outcome → Bool → Option FrameSeen → Running → LateWorld → LateWorld
+abbrev pub exchanged_by : List Meter → Outcome → Bool → Option FrameSeen → Running → LateWorld
+    → LateWorld
 exchanged_by meters outcome in_time None r w = w
 exchanged_by meters outcome in_time (Some frame) r w = exchanged_as meters outcome in_time frame r w
 
 abbrev pub exchanged : List Meter → Outcome → Bool → Option Running → LateWorld → LateWorld
 exchanged meters outcome in_time None w = w
-exchanged meters outcome in_time (Some r) w = exchanged_by meters outcome in_time (asked_by r.session) r w
+exchanged meters outcome in_time (Some r) w =
+    exchanged_by meters outcome in_time (asked_by r.session) r w
 
 -- ---- the world after events
 
 abbrev pub started_if : Bool → List Meter → ℕ → LateWorld → LateWorld
-started_if true meters place w = record w { world = world_step meters w.world (Start place); clear = true }
+started_if true meters place w = record w {
+  world = world_step meters w.world (Start place);
+  clear = true;
+}
 started_if false meters place w = w
 
 -- a concentrator that stops forgets what was heard last, and whether an answer was missed
@@ -127,7 +148,11 @@ late_step meters w (starts place) = started_if (is_quiet w.under_way || w.clear)
 late_step meters w (passes count) = record w { under_way = drop count w.under_way }
 late_step meters w (exchanges outcome in_time) = exchanged meters outcome in_time w.world.running w
 late_step meters w commits = record w { world = world_step meters w.world Commit }
-late_step meters w stops = record w { world = world_step meters w.world Stop; last = None; clear = false }
+late_step meters w stops = record w {
+  world = world_step meters w.world Stop;
+  last = None;
+  clear = false;
+}
 
 abbrev pub late_from : List Meter → LateWorld → List LateEvent → LateWorld
 late_from meters w [] = w
@@ -141,14 +166,18 @@ late_after meters events = late_from meters (new_late_world meters) events
 -- a telegram and the next of one readout differ, as their access numbers do
 abbrev pub AreDifferent : List Meter → Type 0
 AreDifferent meters =
-    (i k : ℕ) (meter : Meter) (body next : List ℕ) → slice_get meters i ≡ Some meter → slice_get meter.bodies k ≡ Some body → slice_get meter.bodies (k + 1) ≡ Some next → body ≢ next
+    (i k : ℕ) (meter : Meter) (body next : List ℕ) → slice_get meters i ≡ Some meter
+    → slice_get meter.bodies k ≡ Some body → slice_get meter.bodies (k + 1) ≡ Some next
+    → body ≢ next
 
 -- what the meter that is read answers to the request that is out is no copy
 abbrev pub NoAnswerIsACopy : List Meter → LateWorld → Type 0
 NoAnswerIsACopy meters w =
     (r : Running) (frame answer : FrameSeen) (meter : Meter) (p : Position)
-    → w.world.running ≡ Some r → asked_by r.session ≡ Some frame → slice_get meters r.meter ≡ Some meter → slice_get w.world.positions r.meter ≡ Some p
-    → answer_to frame meter (moved_by frame meter p) ≡ Some answer → is_copy w.last (spelling frame) (spelling answer) ≡ false
+    → w.world.running ≡ Some r → asked_by r.session ≡ Some frame
+    → slice_get meters r.meter ≡ Some meter → slice_get w.world.positions r.meter ≡ Some p
+    → answer_to frame meter (moved_by frame meter p) ≡ Some answer
+    → is_copy w.last (spelling frame) (spelling answer) ≡ false
 
 -- an event of a line on which each answer comes in time
 abbrev pub in_its_time : WorldEvent → LateEvent

@@ -5,14 +5,16 @@ use Rattle.dc_line.specs.declared.both.Both.{Both}
 use Rattle.dc_line.specs.declared.bus.HalfBus.{Ghosts as HalfGhosts}
 
 -- the request goes out, and its answer is the next that the bus gives
-pub record Asked {B : Type 0} (half : HalfGhosts B) (old : B) (request answer : List ℕ) (new : B) : Type 0 where
+pub record Asked {B : Type 0} (half : HalfGhosts B) (old : B) (request answer : List ℕ)
+    (new : B) : Type 0 where
   pub between : B
   pub sent : half.sends old request between
   pub heard : Runs half.gives half.waits between (answer ∷ []) new
 
 -- A lost bus is untouched and silent. Over another one the request goes out, and its answer is the next that the bus
 -- gives.
-pub record BothAsk {B P : Type 0} (half : HalfGhosts B) (old : Both B P) (request answer : List ℕ) (new : Both B P)
+pub record BothAsk {B P : Type 0} (half : HalfGhosts B) (old : Both B P) (request answer : List ℕ)
+    (new : Both B P)
     : Type 0 where
   pub untouched : half.lost old.bus ≡ true → new ≡ old
   pub silence : half.lost old.bus ≡ true → answer ≡ []

@@ -1,5 +1,6 @@
 -- A bus in two halves: bounds of what it does, and what it does in several steps (this product).
-use Rattle.std.specs.Prelude.{◌≡◌, ℕ, Bool, true, List, [], ◌∷◌, Option, Some, None, length, min, nat_le}
+use Rattle.std.specs.Prelude.{◌≡◌, ℕ, Bool, true, List, [], ◌∷◌, Option, Some, None, length, min}
+use Rattle.std.specs.Prelude.{nat_le}
 use Rattle.dc_gateway.specs.Blocks.{most_block}
 
 -- the most times that an answer is found not to be complete yet
@@ -25,7 +26,8 @@ is_short (Some request) = nat_le (length request) most_block
 pub data Runs {B : Type 0} (gives : B → List ℕ → B → Type 0) (waits : B → B → Type 0)
     : B → List (List ℕ) → B → Type 0 where
   rests : {old new : B} → new ≡ old → Runs gives waits old [] new
-  gave : {old between new : B} {answer : List ℕ} {answers : List (List ℕ)} → gives old answer between
+  gave : {old between new : B} {answer : List ℕ} {answers : List (List ℕ)}
+      → gives old answer between
       → Runs gives waits between answers new → Runs gives waits old (answer ∷ answers) new
   waited : {old between new : B} {answers : List (List ℕ)} → waits old between
       → Runs gives waits between answers new → Runs gives waits old answers new

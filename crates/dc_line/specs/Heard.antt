@@ -1,5 +1,6 @@
 -- What is heard of an answer on a wire, on which nothing marks its end (this product; the frames of EN 13757-2).
-use Rattle.std.specs.Prelude.{◌≡◌, ℕ, ◌-◌, ◌<◌, ◌≤◌, Bool, true, false, List, [], ◌∷◌, ◌++◌, drop, length, take, min, ◌==◌, nat_eq, if◌then◌else◌}
+use Rattle.std.specs.Prelude.{◌≡◌, ℕ, ◌-◌, ◌<◌, ◌≤◌, Bool, true, false, List, [], ◌∷◌, ◌++◌, drop}
+use Rattle.std.specs.Prelude.{length, take, min, ◌==◌, nat_eq, if◌then◌else◌}
 use Rattle.std.specs.List.{All, concat, starts_with}
 use Rattle.dc_linkframe.specs.declared.needs.Need.{Need}
 use Rattle.dc_linkframe.specs.declared.needs.Need.TheVariants.{More, Whole, Bad}
@@ -91,7 +92,8 @@ pub data Lasts (answer : List ℕ) : Sound → Type 0 where
   still_none : answer ≡ [] → Lasts answer gap
 
 -- AN ANSWER WAS HEARD by a wire that gave these bytes in this step: no byte is left out, and none is too many.
-pub record Answers {W : Type 0} (hears : W → Sound → W → Type 0) (old : W) (before : Hearing) (answer : List ℕ)
+pub record Answers {W : Type 0} (hears : W → Sound → W → Type 0) (old : W) (before : Hearing)
+    (answer : List ℕ)
     (new : W) (after : Hearing) : Type 0 where
   pub bursts : List (List ℕ)
   pub each : All HasByte bursts
@@ -103,7 +105,8 @@ pub record Answers {W : Type 0} (hears : W → Sound → W → Type 0) (old : W)
   pub kept : after ≡ record before { bytes = [] }
 
 -- NO ANSWER IS COMPLETE YET, and the bytes that came are kept.
-pub record Waits {W : Type 0} (hears : W → Sound → W → Type 0) (old : W) (before : Hearing) (new : W) (after : Hearing)
+pub record Waits {W : Type 0} (hears : W → Sound → W → Type 0) (old : W) (before : Hearing)
+    (new : W) (after : Hearing)
     : Type 0 where
   pub bursts : List (List ℕ)
   pub each : All HasByte bursts
@@ -114,7 +117,8 @@ pub record Waits {W : Type 0} (hears : W → Sound → W → Type 0) (old : W) (
   pub unfinished : is_over (answer_of after) ≡ false
 
 -- what came late was dropped, and then the request went out
-pub record Sends {W : Type 0} (drops : W → W → Type 0) (sends : W → List ℕ → W → Type 0) (old : W) (request : List ℕ)
+pub record Sends {W : Type 0} (drops : W → W → Type 0) (sends : W → List ℕ → W → Type 0) (old : W)
+    (request : List ℕ)
     (new : W) : Type 0 where
   pub between : W
   pub dropped : drops old between

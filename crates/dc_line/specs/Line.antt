@@ -15,7 +15,8 @@ pub record IsLostBy {W : Type 0} (failures : W → ℕ) (old new : Line W) : Typ
 abbrev pub left_of : {W : Type 0} → (W → ℕ) → Line W → ℕ
 left_of left line = if line.lost then 0 else left line.wire
 
-pub record LineSends {W : Type 0} (wire : WireGhosts W) (old : Line W) (request : List ℕ) (new : Line W) : Type 0 where
+pub record LineSends {W : Type 0} (wire : WireGhosts W) (old : Line W) (request : List ℕ)
+    (new : Line W) : Type 0 where
   pub loss : IsLostBy wire.failures old new
   pub sent : new.lost ≡ false → Sends wire.drops wire.sends old.wire request new.wire
   pub hearing : new.lost ≡ false → new.hearing ≡ record { request = request; bytes = [] }
@@ -25,7 +26,8 @@ pub record LineWaits {W : Type 0} (wire : WireGhosts W) (old new : Line W) : Typ
   pub waits : Waits wire.hears old.wire old.hearing new.wire new.hearing
 
 -- a lost line is silent
-pub record LineGives {W : Type 0} (wire : WireGhosts W) (old : Line W) (answer : List ℕ) (new : Line W) : Type 0 where
+pub record LineGives {W : Type 0} (wire : WireGhosts W) (old : Line W) (answer : List ℕ)
+    (new : Line W) : Type 0 where
   pub loss : IsLostBy wire.failures old new
   pub silence : new.lost ≡ true → answer ≡ []
   pub heard : new.lost ≡ false → Answers wire.hears old.wire old.hearing answer new.wire new.hearing
@@ -34,6 +36,7 @@ pub record LineGives {W : Type 0} (wire : WireGhosts W) (old : Line W) (answer :
 
 -- a line that is heard again and again gives this answer, over a wire that gave these
 pub data GivesOver {W : Type 0} (wire : WireGhosts W) : Line W → List ℕ → Line W → Type 0 where
-  gives_now : {old new : Line W} {answer : List ℕ} → LineGives wire old answer new → GivesOver wire old answer new
+  gives_now : {old new : Line W} {answer : List ℕ} → LineGives wire old answer new
+      → GivesOver wire old answer new
   gives_then : {old between new : Line W} {answer : List ℕ} → LineWaits wire old between
       → GivesOver wire between answer new → GivesOver wire old answer new

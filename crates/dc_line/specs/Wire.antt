@@ -28,7 +28,8 @@ pieces bursts = map piece bursts
 -- these came one after the other
 abbrev pub AreHeard : {W : Type 0} → (W → Sound → W → Type 0) → W → List Sound → W → Type 0
 AreHeard hears old [] new = new ≡ old
-AreHeard {W} hears old (sound ∷ more) new = (between : W) × hears old sound between × AreHeard hears between more new
+AreHeard {W} hears old (sound ∷ more) new =
+    (between : W) × hears old sound between × AreHeard hears between more new
 
 -- ---- the answer of one call
 

@@ -1,6 +1,7 @@
 //! A bus in two halves: a request is sent, and its answer is taken once it is complete.
 
-ghost use Rattle.std.specs.Prelude.{◌≡◌, ◌⊎◌, ◌≤◌, ◌<◌, ℕ, Bool, true, List, [], IfSome, IfNone, length};
+ghost use Rattle.std.specs.Prelude.{◌≡◌, ◌⊎◌, ◌≤◌, ◌<◌, ℕ, Bool, true, List, [], IfSome, IfNone};
+ghost use Rattle.std.specs.Prelude.{length};
 ghost use Rattle.dc_gateway.specs.Blocks.{most_block};
 ghost use Rattle.dc_line.specs.Bus.{most_settles, most_waits};
 

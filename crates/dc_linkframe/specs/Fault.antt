@@ -1,7 +1,11 @@
 -- Why a text spells no link frame: EN 13757-2.
-use Rattle.std.specs.Prelude.{ℕ, ◌+◌, ◌-◌, Bool, not, ◌&&◌, ◌||◌, List, [], ◌∷◌, length, slice_index, slice_range, codes, Option, find, nat_lt, ◌==◌, if◌then◌else◌}
+use Rattle.std.specs.Prelude.{ℕ, ◌+◌, ◌-◌, Bool, not, ◌&&◌, ◌||◌, List, [], ◌∷◌, length}
+use Rattle.std.specs.Prelude.{slice_index, slice_range, codes, Option, find, nat_lt, ◌==◌}
+use Rattle.std.specs.Prelude.{if◌then◌else◌}
 use Rattle.dc_linkframe.specs.declared.fault.FrameFault.{FrameFault}
-use Rattle.dc_linkframe.specs.declared.fault.FrameFault.TheVariants.{Empty, Start, Truncated, Lengths, Trailing, Stop, Checksum}
+use Rattle.dc_linkframe.specs.declared.fault.FrameFault.TheVariants.{Empty, Start, Truncated}
+use Rattle.dc_linkframe.specs.declared.fault.FrameFault.TheVariants.{Lengths, Trailing, Stop}
+use Rattle.dc_linkframe.specs.declared.fault.FrameFault.TheVariants.{Checksum}
 use Rattle.dc_linkframe.specs.Frame.{checksum}
 
 -- what the first byte begins
@@ -16,12 +20,14 @@ begins_long text = slice_index text 0 == 0x68
 
 -- how many bytes the frame has that begins so
 abbrev pub frame_length : List ℕ → ℕ
-frame_length text = if begins_ack text then 1 else if begins_short text then 5 else slice_index text 1 + 6
+frame_length text = if begins_ack text then 1 else if begins_short text then 5
+    else slice_index text 1 + 6
 
 -- the fourth byte repeats the start, and both lengths count at least control byte, address and control information
 abbrev pub lengths_agree : List ℕ → Bool
 lengths_agree text =
-    (slice_index text 1 == slice_index text 2) && not (nat_lt (slice_index text 1) 3) && (slice_index text 3 == 0x68)
+    (slice_index text 1 == slice_index text 2) && not (nat_lt (slice_index text 1) 3) &&
+    (slice_index text 3 == 0x68)
 
 -- the content: what lies between the start, which has one byte or four, and the checksum
 abbrev pub content_of : List ℕ → List ℕ
@@ -35,7 +41,8 @@ stands text Truncated = nat_lt (length text) (frame_length text)
 stands text Lengths = begins_long text && not (lengths_agree text)
 stands text Trailing = nat_lt (frame_length text) (length text)
 stands text Stop = not (begins_ack text) && not (slice_index text (length text - 1) == 0x16)
-stands text Checksum = not (begins_ack text) && not (slice_index text (length text - 2) == checksum (content_of text))
+stands text Checksum = not (begins_ack text) && not
+    (slice_index text (length text - 2) == checksum (content_of text))
 
 abbrev pub in_order : List FrameFault
 in_order = Empty ∷ Start ∷ Truncated ∷ Lengths ∷ Trailing ∷ Stop ∷ Checksum ∷ []

@@ -2,7 +2,8 @@
 //! EN 13757-3, CI field).
 
 ghost use Rattle.std.specs.Prelude.{◌≡◌};
-ghost use Rattle.dc_linkframe.specs.Control.{is_rsp_ud, req_ud2, request_to, reset_to, selection_by};
+ghost use Rattle.dc_linkframe.specs.Control.{is_rsp_ud, req_ud2, request_to, reset_to};
+ghost use Rattle.dc_linkframe.specs.Control.{selection_by};
 ghost use Rattle.dc_linkframe.specs.Frame.{spelling};
 
 use crate::buffer::FrameBuf;

@@ -14,7 +14,8 @@ use crate::frame::{ACK, Frame, LONG, SHORT, STOP};
 /// Reads the frame that the whole text spells.
 pub fn parse(text: &[u8]) -> Result<Frame<'_>, FrameFault>
     ensures found { IfOk result (λ frame. Spells text.now (seen frame)) }
-    ensures only { (frame : FrameSeen) → Spells text.now frame → IsOkAnd result (λ f. seen f ≡ frame) }
+    ensures only { (frame : FrameSeen) → Spells text.now frame
+        → IsOkAnd result (λ f. seen f ≡ frame) }
     ensures refused { IfErr result (λ fault. fault_of text.now ≡ Some fault) }
     ensures fault { (fault : FrameFault) → fault_of text.now ≡ Some fault → result ≡ Err fault }
     ensures exact { option_map seen (result_ok result) ≡ frame_of text.now }

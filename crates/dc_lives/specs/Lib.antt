@@ -1,6 +1,7 @@
 -- the definitions that contracts cite
 
--- a meter that follows the standard: EN 13757-2, the frame count bit at the secondary station; EN 13757-3 (2004, 2013) and EN 13757-7, selection
+-- a meter that follows the standard: EN 13757-2, the frame count bit at the secondary station; EN 13757-3 (2004,
+-- 2013) and EN 13757-7, selection
 pub mod Meter
 -- one line, its meters, and a concentrator that may stop at any moment: this product's model of a lossy line
 pub mod World

@@ -1,6 +1,7 @@
 -- A meter that follows the standard: EN 13757-2, the frame count bit at the secondary station; EN 13757-3 (2004,
 -- 2013) and EN 13757-7, selection. That its readout begins anew with the reset or the selection is a premise.
-use Rattle.std.specs.Prelude.{ℕ, ◌+◌, ◌-◌, Bool, true, false, not, ◌&&◌, ◌||◌, List, Option, Some, None, slice_get, unwrap_or, ◌==◌, if◌then◌else◌}
+use Rattle.std.specs.Prelude.{ℕ, ◌+◌, ◌-◌, Bool, true, false, not, ◌&&◌, ◌||◌, List, Option, Some}
+use Rattle.std.specs.Prelude.{None, slice_get, unwrap_or, ◌==◌, if◌then◌else◌}
 use Rattle.dc_linkframe.specs.Control.{snd_nke, snd_ud, req_ud2, variable_data, selection, selected}
 use Rattle.dc_linkframe.specs.Frame.{FrameSeen, ack, short, long}
 use Rattle.dc_address.specs.declared.identity.Identity.{Identity}
@@ -26,7 +27,8 @@ begun_anew p = record p { place = 0; bit = None }
 
 -- the frame count bit of REQ_UD2
 abbrev pub frame_count_bit : ℕ → Option Bool
-frame_count_bit control = if control == req_ud2 true then Some true else if control == req_ud2 false then Some false else None
+frame_count_bit control = if control == req_ud2 true then Some true
+    else if control == req_ud2 false then Some false else None
 
 abbrev pub is_request : ℕ → Bool
 is_request control = control == req_ud2 true || control == req_ud2 false
@@ -34,7 +36,8 @@ is_request control = control == req_ud2 true || control == req_ud2 false
 -- SND_UD that selects, with either frame count bit
 abbrev pub is_selection : ℕ → ℕ → ℕ → Bool
 is_selection control address ci =
-    if address == selected then (if ci == selection then control == snd_ud || control == 0x73 else false) else false
+    if address == selected then (if ci == selection then control == snd_ud || control == 0x73
+    else false) else false
 
 abbrev pub is_own : Option ℕ → ℕ → Bool
 is_own None address = false
@@ -54,14 +57,17 @@ same_bit (Some false) bit = not bit
 
 abbrev pub gone_on : Option Bool → Position → Position
 gone_on None p = p
-gone_on (Some bit) p = if same_bit p.bit bit then p else record p { place = p.place + 1; bit = Some bit }
+gone_on (Some bit) p = if same_bit p.bit bit then p
+    else record p { place = p.place + 1; bit = Some bit }
 
 abbrev pub at_reset : Option ℕ → ℕ → Position → Position
 at_reset own address p =
-    if is_own own address then begun_anew p else if address == selected then record p { selected = false } else p
+    if is_own own address then begun_anew p
+    else if address == selected then record p { selected = false } else p
 
 abbrev pub at_request : Option ℕ → ℕ → ℕ → Position → Position
-at_request own control address p = if hears_at own address p then gone_on (frame_count_bit control) p else p
+at_request own control address p =
+    if hears_at own address p then gone_on (frame_count_bit control) p else p
 
 abbrev pub at_selection : Bool → Position → Position
 at_selection true p = record (begun_anew p) { selected = true }
@@ -70,9 +76,11 @@ at_selection false p = record p { selected = false }
 unfoldable pub moved_by : FrameSeen → Meter → Position → Position
 moved_by ack meter p = p
 moved_by (short control address) meter p =
-    if control == snd_nke then at_reset meter.address address p else at_request meter.address control address p
+    if control == snd_nke then at_reset meter.address address p
+    else at_request meter.address control address p
 moved_by (long control address ci body) meter p =
-    if is_selection control address ci then at_selection (matches (mask_at body) meter.identity) p else p
+    if is_selection control address ci then at_selection (matches (mask_at body) meter.identity) p
+    else p
 
 -- ---- what it answers
 
@@ -93,7 +101,9 @@ unfoldable pub answer_to : FrameSeen → Meter → Position → Option FrameSeen
 answer_to ack meter p = None
 answer_to (short control address) meter p =
     if control == snd_nke then (if is_own meter.address address then Some ack else None)
-    else if is_request control && hears_at meter.address address p then response meter (body_at p.place meter.bodies)
+    else if is_request control && hears_at meter.address address p
+    then response meter (body_at p.place meter.bodies)
     else None
 answer_to (long control address ci body) meter p =
-    if is_selection control address ci then (if matches (mask_at body) meter.identity then Some ack else None) else None
+    if is_selection control address ci
+    then (if matches (mask_at body) meter.identity then Some ack else None) else None

@@ -1,5 +1,6 @@
 -- What `are_regular` asks of one meter, and of two.
-use Rattle.std.specs.Prelude.{◌≡◌, ◌≢◌, ℕ, ◌≤◌, Bool, true, false, ◌||◌, List, length, Option, Some, None, slice_get, ◌==◌}
+use Rattle.std.specs.Prelude.{◌≡◌, ◌≢◌, ℕ, ◌≤◌, Bool, true, false, ◌||◌, List, length, Option, Some}
+use Rattle.std.specs.Prelude.{None, slice_get, ◌==◌}
 use Rattle.dc_linkframe.specs.Control.{selected}
 use Rattle.dc_address.specs.Mask.{mask_of, matches}
 use Rattle.dc_lives.specs.Meter.{Meter}
@@ -23,9 +24,11 @@ shares None other = false
 
 -- one request may reach both
 abbrev pub clashes : Meter → Meter → Bool
-clashes one other = shares one.address other.address || matches (mask_of one.identity) other.identity
+clashes one other = shares one.address other.address || matches
+    (mask_of one.identity) other.identity
 
 -- no request to the meter of this place reaches another
 abbrev pub StandsApart : List Meter → ℕ → Type 0
 StandsApart meters i =
-    (j : ℕ) (one other : Meter) → slice_get meters i ≡ Some one → slice_get meters j ≡ Some other → clashes one other ≡ true → i ≡ j
+    (j : ℕ) (one other : Meter) → slice_get meters i ≡ Some one → slice_get meters j ≡ Some other
+    → clashes one other ≡ true → i ≡ j

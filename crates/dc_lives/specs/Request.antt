@@ -22,7 +22,8 @@ MayGoOn (Select identity) own p = Unit {0}
 MayGoOn (Data bit address) own p = hears_at own address p ≡ true → p.place ≤ max_parts
 
 -- On a line of regular meters that stand so, a session with the meter of this place asks for this frame.
-pub record Asks (meters : List Meter) (positions : List Position) (place : ℕ) (frame : FrameSeen) : Type 0 where
+pub record Asks (meters : List Meter) (positions : List Position) (place : ℕ)
+    (frame : FrameSeen) : Type 0 where
   pub world : World
   pub running : Running
   pub regular : AreRegular meters

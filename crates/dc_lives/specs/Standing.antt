@@ -23,9 +23,11 @@ SendsMask body = (length body ≡ 8) × IsTrue (are_sent body)
 abbrev pub SelectsByMask : FrameSeen → Type 0
 SelectsByMask ack = Unit {0}
 SelectsByMask (short control address) = Unit {0}
-SelectsByMask (long control address ci body) = is_selection control address ci ≡ true → SendsMask body
+SelectsByMask (long control address ci body) =
+    is_selection control address ci ≡ true → SendsMask body
 
--- The frame brought the meter from where it stood to where it stands, and this is what it sends, where each of its bodies fits a frame.
+-- The frame brought the meter from where it stood to where it stands, and this is what it sends, where each of its
+-- bodies fits a frame.
 pub record Sees (frame : FrameSeen) (old new : Standing) (sent : List ℕ) : Type 0 where
   pub moves : new.position ≡ moved_by frame old.meter old.position
   pub sends : Fits old.meter.bodies → sent ≡ bytes_of (answer_to frame old.meter new.position)

@@ -1,5 +1,7 @@
 -- One line, its meters, and a concentrator that may stop at any moment: this product's model of a lossy line.
-use Rattle.std.specs.Prelude.{◌≡◌, ◌≢◌, ℕ, ◌+◌, ◌≤◌, Bool, true, false, List, [], ◌∷◌, ◌++◌, length, map, Option, Some, None, slice_get, slice_set, unwrap_or, take, Result, Ok, Err, option_map, ◌==◌, if◌then◌else◌}
+use Rattle.std.specs.Prelude.{◌≡◌, ◌≢◌, ℕ, ◌+◌, ◌≤◌, Bool, true, false, List, [], ◌∷◌, ◌++◌, length}
+use Rattle.std.specs.Prelude.{map, Option, Some, None, slice_get, slice_set, unwrap_or, take}
+use Rattle.std.specs.Prelude.{Result, Ok, Err, option_map, ◌==◌, if◌then◌else◌}
 use Rattle.std.specs.List.{filter_map, zip}
 use Rattle.dc_linkframe.specs.Control.{selected}
 use Rattle.dc_linkframe.specs.Frame.{FrameSeen, spelling, longest_body}
@@ -7,9 +9,11 @@ use Rattle.dc_address.specs.Mask.{mask_of, matches}
 use Rattle.dc_records.specs.declared.fault.BodyFault.{BodyFault}
 use Rattle.dc_records.specs.Body.{continues}
 use Rattle.dc_records.specs.Telegram.{Parsed, telegram_at}
-use Rattle.dc_readout.specs.Summary.{Summary, Verdict, again, ready, new, failed, begun, asked_by, verdict_by, heard_by, settled_by}
+use Rattle.dc_readout.specs.Summary.{Summary, Verdict, again, ready, new, failed, begun, asked_by}
+use Rattle.dc_readout.specs.Summary.{verdict_by, heard_by, settled_by}
 use Rattle.dc_lives.specs.declared.event.Outcome.{Outcome}
-use Rattle.dc_lives.specs.declared.event.Outcome.TheVariants.{RequestLost, ReplyLost, ReplyUnreadable, AsSent}
+use Rattle.dc_lives.specs.declared.event.Outcome.TheVariants.{RequestLost, ReplyLost}
+use Rattle.dc_lives.specs.declared.event.Outcome.TheVariants.{ReplyUnreadable, AsSent}
 use Rattle.dc_lives.specs.declared.event.WorldEvent.{WorldEvent}
 use Rattle.dc_lives.specs.declared.event.WorldEvent.TheVariants.{Start, Exchange, Commit, Stop}
 use Rattle.dc_lives.specs.Meter.{Meter, Position, first_position, moved_by, answer_to}
@@ -68,13 +72,15 @@ abbrev pub heard_in : Outcome → FrameSeen → List Meter → List Position →
 heard_in RequestLost frame meters positions = []
 heard_in ReplyLost frame meters positions = []
 heard_in ReplyUnreadable frame meters positions = noise
-heard_in AsSent frame meters positions = only_reply (replies frame meters (all_moved frame meters positions))
+heard_in AsSent frame meters positions =
+    only_reply (replies frame meters (all_moved frame meters positions))
 
 -- a session goes on but after a failure
 abbrev pub running_after : Verdict → Running → Option Running
 running_after again r = Some (record r { session = heard_by r.session again })
 running_after ready r = Some (record r { session = heard_by r.session ready })
-running_after (new part t) r = Some (record r { session = heard_by r.session (new part t); waiting = Some t.body })
+running_after (new part t) r = Some
+    (record r { session = heard_by r.session (new part t); waiting = Some t.body })
 running_after (failed why) r = None
 
 abbrev pub exchanged_as : List Meter → Outcome → FrameSeen → Running → World → World
@@ -119,7 +125,8 @@ kept false parts r w = record w {
 abbrev pub committed_body : Option (List ℕ) → Running → World → World
 committed_body None r w = w
 committed_body (Some body) r w =
-    kept (more_after body) (joined (r.session.settled + 1) body (unwrap_or (slice_get w.parts_open r.meter) [])) r w
+    kept (more_after body) (joined (r.session.settled + 1) body
+    (unwrap_or (slice_get w.parts_open r.meter) [])) r w
 
 abbrev pub committed : Option Running → World → World
 committed None w = w
@@ -128,7 +135,14 @@ committed (Some r) w = committed_body r.waiting r w
 -- ---- the world after events
 
 abbrev pub started_by : ℕ → Option Meter → Option Running → World → World
-started_by place (Some meter) None w = record w { running = Some (record { meter = place; session = begun meter.identity meter.address; waiting = None }) }
+started_by place (Some meter) None w =
+    record w {
+      running = Some (record {
+        meter = place;
+        session = begun meter.identity meter.address;
+        waiting = None;
+      });
+    }
 started_by place (Some meter) (Some r) w = w
 started_by place None running w = w
 
@@ -151,24 +165,33 @@ world_after meters events = world_from meters (new_world meters) events
 -- meter's selection matches another: so identities differ too. Nothing arrives late: a reply comes in its exchange or
 -- never.
 pub record AreRegular (meters : List Meter) : Type 0 where
-  pub fit : (i j : ℕ) (meter : Meter) (body : List ℕ) → slice_get meters i ≡ Some meter → slice_get meter.bodies j ≡ Some body → length body ≤ longest_body
-  pub primary : (i address : ℕ) (meter : Meter) → slice_get meters i ≡ Some meter → meter.address ≡ Some address → address ≢ selected
-  pub addresses : (i j address : ℕ) (one other : Meter) → slice_get meters i ≡ Some one → slice_get meters j ≡ Some other → one.address ≡ Some address → other.address ≡ Some address → i ≡ j
-  pub apart : (i j : ℕ) (one other : Meter) → slice_get meters i ≡ Some one → slice_get meters j ≡ Some other → matches (mask_of one.identity) other.identity ≡ true → i ≡ j
+  pub fit : (i j : ℕ) (meter : Meter) (body : List ℕ) → slice_get meters i ≡ Some meter
+      → slice_get meter.bodies j ≡ Some body → length body ≤ longest_body
+  pub primary : (i address : ℕ) (meter : Meter) → slice_get meters i ≡ Some meter
+      → meter.address ≡ Some address → address ≢ selected
+  pub addresses : (i j address : ℕ) (one other : Meter) → slice_get meters i ≡ Some one
+      → slice_get meters j ≡ Some other → one.address ≡ Some address → other.address ≡ Some address
+      → i ≡ j
+  pub apart : (i j : ℕ) (one other : Meter) → slice_get meters i ≡ Some one
+      → slice_get meters j ≡ Some other → matches (mask_of one.identity) other.identity ≡ true
+      → i ≡ j
 
 -- the bodies from the first to the first after which no more follow
 abbrev pub whole_readout : List (List ℕ) → Option (List (List ℕ))
 whole_readout [] = None
-whole_readout (body ∷ bodies) = if more_after body then option_map (λ rest. body ∷ rest) (whole_readout bodies) else Some (body ∷ [])
+whole_readout (body ∷ bodies) = if more_after body
+    then option_map (λ rest. body ∷ rest) (whole_readout bodies) else Some (body ∷ [])
 
 -- these parts are a whole readout of one of the meters, in order, each body once
 abbrev pub IsWhole : List Meter → Finished → Type 0
-IsWhole meters h = (meter : Meter) × (slice_get meters h.meter ≡ Some meter) × (whole_readout meter.bodies ≡ Some h.parts)
+IsWhole meters h = (meter : Meter) × (slice_get meters h.meter ≡ Some meter)
+    × (whole_readout meter.bodies ≡ Some h.parts)
 
 -- where a request makes a meter go on from its k-th body, its first k bodies are its committed open parts
 abbrev pub GoesOnFromCommitted : List Meter → World → Type 0
 GoesOnFromCommitted meters w =
     (r : Running) (frame : FrameSeen) (i : ℕ) (meter : Meter) (p : Position)
-    → w.running ≡ Some r → asked_by r.session ≡ Some frame → slice_get meters i ≡ Some meter → slice_get w.positions i ≡ Some p
+    → w.running ≡ Some r → asked_by r.session ≡ Some frame → slice_get meters i ≡ Some meter
+    → slice_get w.positions i ≡ Some p
     → (moved_by frame meter p).place ≡ p.place + 1 → 1 ≤ p.place
     → slice_get w.parts_open i ≡ Some (take p.place meter.bodies)

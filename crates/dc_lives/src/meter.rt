@@ -4,7 +4,9 @@ ghost use Rattle.std.specs.Prelude.{◌≡◌, ◌<◌, ◌&&◌, ℕ, [], Some,
 ghost use Rattle.dc_address.specs.Mask.{mask_at, matches};
 ghost use Rattle.dc_linkframe.specs.Frame.{FrameSeen, ack, seen, short};
 ghost use Rattle.dc_linkframe.specs.Reading.{frame_of};
-ghost use Rattle.dc_lives.specs.Meter.{at_request, at_reset, at_selection, body_at, first_position, frame_count_bit, hears_at, is_own, is_request, is_selection, response};
+ghost use Rattle.dc_lives.specs.Meter.{at_request, at_reset, at_selection, body_at, first_position};
+ghost use Rattle.dc_lives.specs.Meter.{frame_count_bit, hears_at, is_own, is_request, is_selection};
+ghost use Rattle.dc_lives.specs.Meter.{response};
 ghost use Rattle.dc_lives.specs.Regular.{Fits};
 ghost use Rattle.dc_lives.specs.Reply.{bytes_heard, bytes_of};
 ghost use Rattle.dc_lives.specs.Standing.{SelectsByMask, Sees, SendsMask, last_place};
@@ -54,7 +56,8 @@ impl<A: Allocator> SimulatedMeter<A> {
     pub fn hear(&mut self, request: &[u8]) -> Reply
         ensures meter { self.new.meter ≡ self.old.meter }
         // A frame is seen as defined, until the places are at their end.
-        ensures sees { (frame : FrameSeen) → frame_of request.now ≡ Some frame → SelectsByMask frame → self.old.position.place < last_place
+        ensures sees { (frame : FrameSeen) → frame_of request.now ≡ Some frame → SelectsByMask frame
+            → self.old.position.place < last_place
             → Sees frame self.old self.new (bytes_heard result) }
         // What is no frame isn't seen.
         ensures unseen { frame_of request.now ≡ None → self.new ≡ self.old }
@@ -69,7 +72,8 @@ impl<A: Allocator> SimulatedMeter<A> {
     #[tactic(auto, unfolding(crate::specs::Meter::moved_by, crate::specs::Meter::answer_to))]
     fn see(&mut self, frame: &Frame<'_>) -> Reply
         ensures meter { self.new.meter ≡ self.old.meter }
-        ensures sees { SelectsByMask (seen frame.now) → self.old.position.place < last_place → Sees (seen frame.now) self.old self.new (bytes_heard result) }
+        ensures sees { SelectsByMask (seen frame.now) → self.old.position.place < last_place
+            → Sees (seen frame.now) self.old self.new (bytes_heard result) }
     {
         match frame {
             Frame::Ack => Reply::Silence,
@@ -92,7 +96,8 @@ impl<A: Allocator> SimulatedMeter<A> {
     #[tactic(auto, unfolding(crate::specs::Meter::moved_by, crate::specs::Meter::answer_to))]
     fn see_short(&mut self, control: u8, address: u8) -> Reply
         ensures meter { self.new.meter ≡ self.old.meter }
-        ensures sees { self.old.position.place < last_place → Sees (short control address) self.old self.new (bytes_heard result) }
+        ensures sees { self.old.position.place < last_place
+            → Sees (short control address) self.old self.new (bytes_heard result) }
     {
         if control == SND_NKE {
             self.see_reset(address)
@@ -103,8 +108,10 @@ impl<A: Allocator> SimulatedMeter<A> {
 
     fn see_reset(&mut self, address: u8) -> Reply
         ensures meter { self.new.meter ≡ self.old.meter }
-        ensures moves { self.new.position ≡ at_reset self.old.meter.address address self.old.position }
-        ensures sends { bytes_heard result ≡ bytes_of (if is_own self.old.meter.address address then Some ack else None) }
+        ensures moves { self.new.position
+            ≡ at_reset self.old.meter.address address self.old.position }
+        ensures sends { bytes_heard result
+            ≡ bytes_of (if is_own self.old.meter.address address then Some ack else None) }
     {
         self.position.reset(self.script.address, address);
         acknowledged_if(is_own(self.script.address, address))
@@ -112,9 +119,12 @@ impl<A: Allocator> SimulatedMeter<A> {
 
     fn see_request(&mut self, control: u8, address: u8) -> Reply
         ensures meter { self.new.meter ≡ self.old.meter }
-        ensures moves { self.old.position.place < last_place → self.new.position ≡ at_request self.old.meter.address control address self.old.position }
+        ensures moves { self.old.position.place < last_place
+            → self.new.position ≡ at_request self.old.meter.address control address
+            self.old.position }
         ensures sends { self.old.position.place < last_place → Fits self.old.meter.bodies
-            → bytes_heard result ≡ bytes_of (if is_request control && hears_at self.old.meter.address address self.new.position
+            → bytes_heard result ≡ bytes_of
+            (if is_request control && hears_at self.old.meter.address address self.new.position
             then response self.old.meter (body_at self.new.position.place self.old.meter.bodies) else None) }
     {
         if !self.position.hears(self.script.address, address) {
@@ -131,8 +141,12 @@ impl<A: Allocator> SimulatedMeter<A> {
 
     fn see_selection(&mut self, body: &[u8]) -> Reply
         ensures meter { self.new.meter ≡ self.old.meter }
-        ensures moves { SendsMask body.now → self.new.position ≡ at_selection (matches (mask_at body.now) self.old.meter.identity) self.old.position }
-        ensures sends { SendsMask body.now → bytes_heard result ≡ bytes_of (if matches (mask_at body.now) self.old.meter.identity then Some ack else None) }
+        ensures moves { SendsMask body.now
+            → self.new.position ≡ at_selection
+            (matches (mask_at body.now) self.old.meter.identity) self.old.position }
+        ensures sends { SendsMask body.now
+            → bytes_heard result ≡ bytes_of
+            (if matches (mask_at body.now) self.old.meter.identity then Some ack else None) }
     {
         let is_meant = is_meant(body, &self.script.identity);
         self.position.select(is_meant);

@@ -2,7 +2,8 @@
 
 ghost use Rattle.std.specs.Prelude.{◌≡◌, ◌<◌, Some, ℕ, length, slice_get};
 ghost use Rattle.dc_address.specs.Mask.{mask_of, matches};
-ghost use Rattle.dc_lives.specs.Meter.{Meter, first_position, begun_anew, gone_on, hears_at, at_reset, at_selection, moved_by};
+ghost use Rattle.dc_lives.specs.Meter.{Meter, first_position, begun_anew, gone_on, hears_at};
+ghost use Rattle.dc_lives.specs.Meter.{at_reset, at_selection, moved_by};
 ghost use Rattle.dc_lives.specs.Meter.{Position as Stand};
 ghost use Rattle.dc_lives.specs.Request.{frame_asked, MayGoOn};
 ghost use Rattle.dc_lives.specs.Standing.{last_place};
@@ -129,7 +130,8 @@ pub(crate) fn see_all<A: Allocator>(
     positions: &mut [Position],
 )
     requires one_each { length positions.old ≡ length scripts.now }
-    requires near { (i : ℕ) (m : Meter) (p : Stand) → slice_get scripts.now i ≡ Some m → slice_get positions.old i ≡ Some p
+    requires near { (i : ℕ) (m : Meter) (p : Stand) → slice_get scripts.now i ≡ Some m
+        → slice_get positions.old i ≡ Some p
         → MayGoOn request m.address p }
     ensures { positions.new ≡ all_moved (frame_asked request) scripts.now positions.old }
 {

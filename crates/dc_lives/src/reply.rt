@@ -81,7 +81,8 @@ pub(crate) fn is_own(own: Option<Primary>, address: u8) -> bool
 /// The telegram with the body that the meter stands at; past the last it is silent, and so it is with a body that no
 /// frame has room for.
 pub(crate) fn respond<A: Allocator>(script: &MeterScript<A>, place: usize) -> Reply
-    ensures { Fits script.now.bodies → bytes_heard result ≡ bytes_of (response script.now (body_at place script.now.bodies)) }
+    ensures { Fits script.now.bodies
+        → bytes_heard result ≡ bytes_of (response script.now (body_at place script.now.bodies)) }
 {
     if place == 0 || place > script.bodies.len() {
         return Reply::Silence;
@@ -108,7 +109,8 @@ pub(crate) fn reply_to<A: Allocator>(
     position: &Position,
 ) -> Reply
     requires { Fits script.now.bodies }
-    ensures { bytes_heard result ≡ bytes_of (answer_to (frame_asked request) script.now position.now) }
+    ensures { bytes_heard result ≡ bytes_of
+        (answer_to (frame_asked request) script.now position.now) }
 {
     match request {
         Request::Reset(address) => acknowledged_if(is_own(script.address, address)),

@@ -29,7 +29,11 @@ impl<A: Allocator> Model for Running<A> {
 
 impl<A: Allocator> Running<A> {
     pub(crate) fn start(meter: usize, script: &MeterScript<A>) -> Running<A>
-        ensures { result ≡ record { meter = meter; session = begun script.now.identity script.now.address; waiting = None } }
+        ensures { result ≡ record {
+          meter = meter;
+          session = begun script.now.identity script.now.address;
+          waiting = None;
+        } }
     {
         Running {
             meter,
@@ -41,7 +45,8 @@ impl<A: Allocator> Running<A> {
     /// Hears an answer; nothing runs on after a failure.
     pub(crate) fn hear(self, alloc: A, heard: &[u8]) -> Result<Option<Running<A>>, NoMemory>
         requires { IsSome (asked_by self.session) }
-        ensures { IfOk result (λ next. next ≡ running_after (verdict_by self.session heard.now) self) }
+        ensures { IfOk result (λ next.
+            next ≡ running_after (verdict_by self.session heard.now) self) }
     {
         let Running {
             meter,

@@ -1,10 +1,12 @@
 //! One line, its meters, and a concentrator that may stop at any moment.
 
-ghost use Rattle.std.specs.Prelude.{◌≡◌, ◌<◌, ◌++◌, ◌∷◌, [], IfOk, OnOk, if◌then◌else◌, length, slice_get};
+ghost use Rattle.std.specs.Prelude.{◌≡◌, ◌<◌, ◌++◌, ◌∷◌, [], IfOk, OnOk, if◌then◌else◌, length};
+ghost use Rattle.std.specs.Prelude.{slice_get};
 ghost use Rattle.dc_lives.specs.InStep.{IsRegularWorld};
 ghost use Rattle.dc_lives.specs.Reply.{bytes_heard};
 ghost use Rattle.dc_lives.specs.Request.{Asks, frame_asked};
-ghost use Rattle.dc_lives.specs.World.{AreRegular, committed, exchanged, heard_in, new_world, positions_after, started_by, world_step};
+ghost use Rattle.dc_lives.specs.World.{AreRegular, committed, exchanged, heard_in, new_world};
+ghost use Rattle.dc_lives.specs.World.{positions_after, started_by, world_step};
 
 use crate::body::{Bodies, Body};
 use crate::event::{Outcome, WorldEvent};
@@ -33,7 +35,12 @@ impl<A: Allocator> Model for World<A> {
 
     ghost Value = { World };
 
-    ghost view = { λ w. record { positions = w.positions.items; running = w.running; parts_open = w.open_parts.items; held = w.held.items } };
+    ghost view = { λ w. record {
+      positions = w.positions.items;
+      running = w.running;
+      parts_open = w.open_parts.items;
+      held = w.held.items;
+    } };
 }
 
 impl<A: Allocator + Copy> World<A> {
@@ -86,7 +93,8 @@ impl<A: Allocator + Copy> World<A> {
     }
 
     fn start(&mut self, scripts: &[MeterScript<A>], meter: usize)
-        ensures { self.new ≡ started_by meter (slice_get scripts.now meter) self.old.running self.old }
+        ensures { self.new ≡ started_by meter
+            (slice_get scripts.now meter) self.old.running self.old }
     {
         if self.running.is_none() && meter < scripts.len() {
             self.running = Some(Running::start(meter, &scripts[meter]));
@@ -184,8 +192,10 @@ fn carry<A: Allocator>(
     requires one_each { length positions.old ≡ length scripts.now }
     requires within { meter < length scripts.now }
     requires asks { Asks scripts.now positions.old meter (frame_asked request) }
-    ensures moved { positions.new ≡ positions_after outcome (frame_asked request) scripts.now positions.old }
-    ensures heard { bytes_heard result ≡ heard_in outcome (frame_asked request) scripts.now positions.old }
+    ensures moved { positions.new ≡ positions_after outcome
+        (frame_asked request) scripts.now positions.old }
+    ensures heard { bytes_heard result
+        ≡ heard_in outcome (frame_asked request) scripts.now positions.old }
 {
     match outcome {
         Outcome::RequestLost => Reply::Silence,

@@ -1,6 +1,7 @@
 -- The due-date value of a reading: the values that a meter stored at a due date, with the date that it sends along
 -- (OMS Volume 2, due-date values; EN 13757-3, storage numbers).
-use Rattle.std.specs.Prelude.{◌≡◌, ℕ, Bool, false, not, ◌&&◌, ◌==◌, nat_le, if◌then◌else◌, List, [], ◌∷◌, filter, Option, None, Some}
+use Rattle.std.specs.Prelude.{◌≡◌, ℕ, Bool, false, not, ◌&&◌, ◌==◌, nat_le, if◌then◌else◌, List, []}
+use Rattle.std.specs.Prelude.{◌∷◌, filter, Option, None, Some}
 use Rattle.std.specs.Option.{option_or}
 use Rattle.std.specs.List.{filter_map, list_any}
 use Rattle.std.specs.Ordering.{nat_cmp, ordering_then}
@@ -41,7 +42,8 @@ same_day a b = (a.year == b.year) && ((a.month == b.month) && (a.day == b.day))
 
 -- the order of dates
 abbrev pub day_cmp : Day → Day → Ordering
-day_cmp a b = ordering_then (nat_cmp a.year b.year) (ordering_then (nat_cmp a.month b.month) (nat_cmp a.day b.day))
+day_cmp a b = ordering_then (nat_cmp a.year b.year)
+    (ordering_then (nat_cmp a.month b.month) (nat_cmp a.day b.day))
 
 abbrev pub is_on : Day → Option Day → Bool
 is_on date None = false

@@ -1,5 +1,6 @@
 -- What is asked of readings that ascend by serial, and the serials that are filed under keys (this product).
-use Rattle.std.specs.Prelude.{◌≡◌, ℕ, ◌<◌, ◌-◌, ◌^◌, ◌==◌, Bool, true, false, ◌&&◌, List, map, filter, find, nat_le, All, Option}
+use Rattle.std.specs.Prelude.{◌≡◌, ℕ, ◌<◌, ◌-◌, ◌^◌, ◌==◌, Bool, true, false, ◌&&◌, List, map}
+use Rattle.std.specs.Prelude.{filter, find, nat_le, All, Option}
 use Rattle.std.specs.List.{list_any}
 use Rattle.std.specs.List.Sorted.{IsStrictlySortedBy}
 use Rattle.std.specs.Ordering.{nat_cmp, ordering_then, is_eq}
@@ -45,11 +46,16 @@ filed_cmp R a b = ordering_then (R a.key b.key) (nat_cmp a.serial b.serial)
 
 -- the serials under a key
 abbrev pub serials_under : {K : Type 0} → (K → K → Ordering) → K → List (Filed K) → List ℕ
-serials_under {K} R key filed = map (λ (f : Filed K). f.serial) (filter (range_contains (filed_cmp R) (Included (record { key = key; serial = 0 })) (Included (record { key = key; serial = 2 ^ 64 - 1 }))) filed)
+serials_under {K} R key filed = map (λ (f : Filed K). f.serial)
+    (filter (range_contains (filed_cmp R) (Included (record { key = key; serial = 0 }))
+    (Included (record { key = key; serial = 2 ^ 64 - 1 }))) filed)
 
 -- under each key stand the serials of the readings that have it
-abbrev pub AreFiled : {K : Type 0} → (K → K → Ordering) → (K → ReadingRow → Bool) → List (Filed K) → List ReadingRow → Type 0
-AreFiled {K} R has filed readings = (q : Filed K) → list_any (is_at (filed_cmp R q)) filed ≡ list_any (λ r. has q.key r && is_eq (nat_cmp q.serial r.serial)) readings
+abbrev pub AreFiled : {K : Type 0} → (K → K → Ordering) → (K → ReadingRow → Bool) → List (Filed K)
+    → List ReadingRow → Type 0
+AreFiled {K} R has filed readings =
+    (q : Filed K) → list_any (is_at (filed_cmp R q)) filed ≡ list_any (λ r.
+    has q.key r && is_eq (nat_cmp q.serial r.serial)) readings
 
 -- ---- one reading's serial, under its meter and under the days for which it has a due-date value
 
@@ -58,13 +64,15 @@ found R filed q = list_any (is_at (filed_cmp R q)) filed
 
 -- the serial stands under no key
 abbrev pub IsUnfiled : {K : Type 0} → (K → K → Ordering) → ℕ → List (Filed K) → Type 0
-IsUnfiled {K} R serial filed = (q : Filed K) → is_eq (nat_cmp q.serial serial) ≡ true → found R filed q ≡ false
+IsUnfiled {K} R serial filed = (q : Filed K) → is_eq (nat_cmp q.serial serial) ≡ true
+    → found R filed q ≡ false
 
 abbrev pub is_under_meter : Identity → ℕ → Filed Identity → Bool
 is_under_meter meter serial q = is_eq (identity_cmp q.key meter) && is_eq (nat_cmp q.serial serial)
 
 abbrev pub is_under_days : List Day → ℕ → Filed Day → Bool
-is_under_days days serial q = list_any (λ day. is_eq (day_cmp q.key day)) days && is_eq (nat_cmp q.serial serial)
+is_under_days days serial q = list_any (λ day.
+    is_eq (day_cmp q.key day)) days && is_eq (nat_cmp q.serial serial)
 
 -- ---- readings in memory
 
@@ -77,7 +85,8 @@ pub record ReadingRows : Type 0 where
   pub items : List ReadingRow
 
 -- readings that ascend, and their serials by meter and by due date
-pub record AreOrdered (by_meter : List (Filed Identity)) (by_day : List (Filed Day)) (readings : List ReadingRow) : Type 0 where
+pub record AreOrdered (by_meter : List (Filed Identity)) (by_day : List (Filed Day))
+    (readings : List ReadingRow) : Type 0 where
   pub ascend : IsStrictlySortedBy nat_cmp (map (λ (r : ReadingRow). r.serial) readings)
   pub fit : All (λ (r : ReadingRow). r.serial < 2 ^ 64) readings
   pub of_meters : AreFiled identity_cmp is_of by_meter readings

@@ -1,5 +1,6 @@
 -- The meters by flat, and by bus line and primary address (this product).
-use Rattle.std.specs.Prelude.{◌≡◌, ℕ, ◌==◌, Bool, true, false, ◌&&◌, List, [], ◌∷◌, ◌++◌, map, Option, None, Some}
+use Rattle.std.specs.Prelude.{◌≡◌, ℕ, ◌==◌, Bool, true, false, ◌&&◌, List, [], ◌∷◌, ◌++◌, map}
+use Rattle.std.specs.Prelude.{Option, None, Some}
 use Rattle.std.specs.List.{list_any}
 use Rattle.std.specs.List.Sorted.{IsStrictlySortedBy}
 use Rattle.std.specs.Map.{lookup, keys_of, set_value}
@@ -34,7 +35,8 @@ by_flat meters = ascending place_cmp (map place_of meters)
 
 -- by bus line, then by primary address, and then by identity
 abbrev pub bus_cmp : BusPlace → BusPlace → Ordering
-bus_cmp a b = ordering_then (nat_cmp a.line b.line) (ordering_then (nat_cmp a.address b.address) (identity_cmp a.meter b.meter))
+bus_cmp a b = ordering_then (nat_cmp a.line b.line)
+    (ordering_then (nat_cmp a.address b.address) (identity_cmp a.meter b.meter))
 
 abbrev pub is_on_bus : ℕ → ℕ → BusPlace → Bool
 is_on_bus line address p = (p.line == line) && (p.address == address)
@@ -54,16 +56,21 @@ stands here q None = false
 stands here q (Some row) = here q row
 
 -- the place is that of this meter with this row
-abbrev pub is_own : {P : Type 0} → (P → Identity) → (P → MeterRow → Bool) → Identity → MeterRow → P → Bool
+abbrev pub is_own : {P : Type 0} → (P → Identity) → (P → MeterRow → Bool) → Identity → MeterRow → P
+    → Bool
 is_own meter_of here meter row q = is_at (identity_cmp meter) (meter_of q) && here q row
 
 -- no place is this meter's
-abbrev pub IsNowhere : {P : Type 0} → (P → P → Ordering) → (P → Identity) → Identity → List P → Type 0
-IsNowhere {P} cmp meter_of meter places = (q : P) → is_at (identity_cmp meter) (meter_of q) ≡ true → among cmp places q ≡ false
+abbrev pub IsNowhere : {P : Type 0} → (P → P → Ordering) → (P → Identity) → Identity → List P
+    → Type 0
+IsNowhere {P} cmp meter_of meter places =
+    (q : P) → is_at (identity_cmp meter) (meter_of q) ≡ true → among cmp places q ≡ false
 
 -- the places are those at which the meters stand
-abbrev pub ArePlaces : {P : Type 0} → (P → P → Ordering) → (P → Identity) → (P → MeterRow → Bool) → List P → List (Identity × MeterRow) → Type 0
-ArePlaces {P} cmp meter_of here places meters = (q : P) → among cmp places q ≡ stands here q (lookup (is_at (identity_cmp (meter_of q))) meters)
+abbrev pub ArePlaces : {P : Type 0} → (P → P → Ordering) → (P → Identity) → (P → MeterRow → Bool)
+    → List P → List (Identity × MeterRow) → Type 0
+ArePlaces {P} cmp meter_of here places meters =
+    (q : P) → among cmp places q ≡ stands here q (lookup (is_at (identity_cmp (meter_of q))) meters)
 
 abbrev pub meter_by_flat : Place → Identity
 meter_by_flat p = p.meter
@@ -77,18 +84,22 @@ pub record MeterRows : Type 0 where
   pub entries : List (Identity × MeterRow)
 
 -- meters that ascend, and their places by flat and on the bus
-pub record AreIndexed (flats : List Place) (bus : List BusPlace) (meters : List (Identity × MeterRow)) : Type 0 where
+pub record AreIndexed (flats : List Place) (bus : List BusPlace)
+    (meters : List (Identity × MeterRow)) : Type 0 where
   pub ascend : IsStrictlySortedBy identity_cmp (keys_of meters)
   pub by_flat : ArePlaces place_cmp meter_by_flat is_in_flat flats meters
   pub on_bus : ArePlaces bus_cmp meter_on_bus hangs_at bus meters
 
 -- the meters after one moved to a flat
-abbrev pub moved_in : Identity → List ℕ → Option MeterRow → List (Identity × MeterRow) → List (Identity × MeterRow)
+abbrev pub moved_in : Identity → List ℕ → Option MeterRow → List (Identity × MeterRow)
+    → List (Identity × MeterRow)
 moved_in meter flat None meters = meters
-moved_in meter flat (Some row) meters = set_value (is_at (identity_cmp meter)) meters (record row { flat = flat })
+moved_in meter flat (Some row) meters =
+    set_value (is_at (identity_cmp meter)) meters (record row { flat = flat })
 
 -- the meter has another row, of this size
-pub record IsWrittenOver (meter : Identity) (row : MeterRow) (size : ℕ) (old new : List (Identity × MeterRow)) : Type 0 where
+pub record IsWrittenOver (meter : Identity) (row : MeterRow) (size : ℕ)
+    (old new : List (Identity × MeterRow)) : Type 0 where
   pub entries : new ≡ set_value (is_at (identity_cmp meter)) old row
   pub size_is : size ≡ meter_size row
   pub is_meter : IsMeter row

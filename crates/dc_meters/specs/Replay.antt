@@ -25,4 +25,5 @@ pub record IsHeldUp (old new : Held) (bytes : List ℕ) : Type 0 where
 
 -- the bytes begin with no change that is accepted
 abbrev pub BeginsUnaccepted : Held → List ℕ → Type 0
-BeginsUnaccepted held bytes = (next : Change) → (others : List ℕ) → bytes ≡ change_bytes next ++ others → IsChange next → Accepts held.budget next held.state → ⊥
+BeginsUnaccepted held bytes = (next : Change) → (others : List ℕ)
+    → bytes ≡ change_bytes next ++ others → IsChange next → Accepts held.budget next held.state → ⊥

@@ -7,7 +7,8 @@ use Rattle.dc_changes.specs.Apply.{commanded}
 use Rattle.dc_changes.specs.Size.{size_of}
 
 abbrev pub CanBeApplied : ℕ → Command → State → Type 0
-CanBeApplied budget (Fit meter line address flat) s = (row_of meter s ≡ None) × (size_of (commanded (Fit meter line address flat) s) ≤ budget)
+CanBeApplied budget (Fit meter line address flat) s =
+    (row_of meter s ≡ None) × (size_of (commanded (Fit meter line address flat) s) ≤ budget)
 CanBeApplied budget (Move meter flat) s = size_of (commanded (Move meter flat) s) ≤ budget
 CanBeApplied budget (Out meter) s = Unit {0}
 CanBeApplied budget (Confirm serial) s = serial < s.next_serial

@@ -6,7 +6,8 @@ ghost use Rattle.std.specs.Ordering.{nat_cmp};
 ghost use Rattle.std.specs.BTreeMap.{get};
 ghost use Rattle.std.specs.List.{list_any};
 ghost use Rattle.dc_meters.specs.Points.{points_of};
-ghost use Rattle.dc_meters.specs.Due.{is_dating, dating_day, day_for, dated, is_stored, due_day, is_due, due_value, due_days};
+ghost use Rattle.dc_meters.specs.Due.{is_dating, dating_day, day_for, dated, is_stored, due_day};
+ghost use Rattle.dc_meters.specs.Due.{is_due, due_value, due_days};
 
 use crate::{Part, Points};
 use dc_base::NoMemory;
@@ -203,7 +204,9 @@ fn keep_first<A: Allocator + Copy>(
     days: &mut BTreeMap<u64, Date, A>,
     point: &Point,
 ) -> Result<(), NoMemory>
-    ensures { OnOk result ((storage : ℕ) → get nat_cmp days.new storage ≡ option_or (get nat_cmp days.old storage) (day_for storage point.now)) }
+    ensures { OnOk result ((storage : ℕ)
+        → get nat_cmp days.new storage
+        ≡ option_or (get nat_cmp days.old storage) (day_for storage point.now)) }
 {
     let Some(day) = dating_day(point) else {
         return Ok(());

@@ -46,9 +46,28 @@ impl<A: Allocator + Copy> Model for House<A> {
 
     ghost Value = { Held };
 
-    ghost view = { λ h. record { state = record { meters = h.meters.entries; readings = h.readings.items; next_serial = h.next_serial; confirmed = h.confirmed; last_number = h.last_number; last_line = h.last_line }; budget = h.budget } };
+    ghost view = { λ h. record {
+      state = record {
+        meters = h.meters.entries;
+        readings = h.readings.items;
+        next_serial = h.next_serial;
+        confirmed =
+            h.confirmed;
+        last_number = h.last_number;
+        last_line = h.last_line;
+      };
+      budget = h.budget;
+    } };
 
-    ghost invariant = { λ h. IsKept h.size h.budget (record { meters = h.meters.entries; readings = h.readings.items; next_serial = h.next_serial; confirmed = h.confirmed; last_number = h.last_number; last_line = h.last_line }) };
+    ghost invariant = { λ h. IsKept h.size h.budget (record {
+      meters = h.meters.entries;
+      readings = h.readings.items;
+      next_serial = h.next_serial;
+      confirmed = h.confirmed;
+      last_number =
+          h.last_number;
+      last_line = h.last_line;
+    }) };
 }
 
 impl<A: Allocator + Copy> House<A> {

@@ -1,6 +1,7 @@
 //! A registered meter.
 
-ghost use Rattle.std.specs.Prelude.{◌≡◌, ◌+◌, ◌≤◌, ◌==◌, if◌then◌else◌, length, [], Some, true, OnOk, OnErr, IfOk, ◌∷◌, ◌++◌, ◌<◌, ◌^◌, All};
+ghost use Rattle.std.specs.Prelude.{◌≡◌, ◌+◌, ◌≤◌, ◌==◌, if◌then◌else◌, length, [], Some, true};
+ghost use Rattle.std.specs.Prelude.{OnOk, OnErr, IfOk, ◌∷◌, ◌++◌, ◌<◌, ◌^◌, All};
 ghost use Rattle.dc_changes.specs.Apply.{joined};
 ghost use Rattle.dc_changes.specs.Accepts.{continues};
 ghost use Rattle.dc_changes.specs.Size.{meter_size, parts_size, reading_size};
@@ -36,9 +37,15 @@ impl<A: Allocator> Model for Meter<A> {
 
     ghost Value = { MeterRow };
 
-    ghost view = { λ m. record { line = m.line; address = m.address; flat = m.flat; parts = m.parts.items } };
+    ghost view = { λ m. record {
+      line = m.line;
+      address = m.address;
+      flat = m.flat;
+      parts = m.parts.items;
+    } };
 
-    ghost invariant = { λ m. IsMeter (record { line = m.line; address = m.address; flat = m.flat; parts = m.parts.items }) };
+    ghost invariant = { λ m. IsMeter
+        (record { line = m.line; address = m.address; flat = m.flat; parts = m.parts.items }) };
 }
 
 impl<A: Allocator> Meter<A> {
@@ -63,8 +70,18 @@ impl<A: Allocator> Meter<A> {
         flat: Flat,
         parts: Vec<Part<A>, A>,
     ) -> Meter<A>
-        requires { IsMeter (record { line = line; address = address; flat = flat; parts = parts.items }) }
-        ensures { result ≡ record { line = line; address = address; flat = flat; parts = parts.items } }
+        requires { IsMeter (record {
+          line = line;
+          address = address;
+          flat = flat;
+          parts = parts.items;
+        }) }
+        ensures { result ≡ record {
+          line = line;
+          address = address;
+          flat = flat;
+          parts = parts.items;
+        } }
     {
         Meter {
             line,
@@ -160,7 +177,8 @@ impl<A: Allocator> Meter<A> {
     pub(crate) fn join(&mut self, alloc: A, number: u8, part: Part<A>) -> Result<(), NoMemory>
         requires continues { continues number (Some self.old) ≡ true }
         requires part_is { IsPart part }
-        ensures ok { OnOk result (self.new ≡ record self.old { parts = joined number part self.old.parts }) }
+        ensures ok { OnOk result (self.new
+            ≡ record self.old { parts = joined number part self.old.parts }) }
         ensures err { OnErr result (self.new ≡ self.old) }
     {
         if number == 1 {
@@ -186,7 +204,8 @@ impl<A: Allocator> Meter<A> {
     fn push(&mut self, part: Part<A>) -> Result<(), NoMemory>
         requires part_is { IsPart part }
         requires room { length self.old.parts + 1 ≤ most_parts }
-        ensures ok { OnOk result (self.new ≡ record self.old { parts = self.old.parts ++ part ∷ [] }) }
+        ensures ok { OnOk result (self.new
+            ≡ record self.old { parts = self.old.parts ++ part ∷ [] }) }
         ensures err { OnErr result (self.new ≡ self.old) }
     {
         self.parts.push(part)?;
@@ -196,7 +215,12 @@ impl<A: Allocator> Meter<A> {
     /// Takes the parts for a reading, and keeps none.
     pub(crate) fn close(&mut self, alloc: A, ended: Ended, days: Vec<Date, A>) -> Reading<A>
         requires { days.items ≡ due_days (points_of self.old.parts) }
-        ensures reading { result ≡ record { serial = ended.serial; meter = ended.meter; flat = self.old.flat; parts = self.old.parts } }
+        ensures reading { result ≡ record {
+          serial = ended.serial;
+          meter = ended.meter;
+          flat = self.old.flat;
+          parts = self.old.parts;
+        } }
         ensures after { self.new ≡ record self.old { parts = [] } }
         ensures is_reading { IsReading result }
         ensures is_meter { IsMeter self.new }
@@ -221,11 +245,26 @@ impl<A: Allocator + Copy> Meter<A> {
         requires part_is { IsPart part }
         requires later { All (λ r. r.serial < ended.serial) readings.old.items }
         requires fits { ended.serial < 2 ^ 64 }
-        ensures ok { OnOk result (readings.new.items ≡ readings.old.items ++ record { serial = ended.serial; meter = ended.meter; flat = self.old.flat; parts = joined number part self.old.parts } ∷ []) }
+        ensures ok { OnOk result (readings.new.items ≡ readings.old.items ++ record {
+          serial = ended.serial;
+          meter = ended.meter;
+          flat = self.old.flat;
+          parts = joined number part self.old.parts;
+        } ∷ []) }
         ensures closed { OnOk result (self.new ≡ record self.old { parts = [] }) }
-        ensures size { IfOk result (λ size. size ≡ reading_size (record { serial = ended.serial; meter = ended.meter; flat = self.old.flat; parts = joined number part self.old.parts })) }
+        ensures size { IfOk result (λ size. size ≡ reading_size (record {
+          serial = ended.serial;
+          meter = ended.meter;
+          flat = self.old.flat;
+          parts = joined number part self.old.parts;
+        })) }
         ensures err { OnErr result (self.new ≡ self.old) }
-        ensures is_reading { OnOk result (IsReading (record { serial = ended.serial; meter = ended.meter; flat = self.old.flat; parts = joined number part self.old.parts })) }
+        ensures is_reading { OnOk result (IsReading (record {
+          serial = ended.serial;
+          meter = ended.meter;
+          flat = self.old.flat;
+          parts = joined number part self.old.parts;
+        })) }
         ensures unread { OnErr result (readings.new ≡ readings.old) }
         ensures is_meter { IsMeter self.new }
     {

@@ -1,6 +1,8 @@
 //! The registered meters, and their orders.
 
-ghost use Rattle.std.specs.Prelude.{◌≡◌, ◌+◌, ◌<◌, ◌^◌, ◌∷◌, ◌++◌, [], Option, None, Some, true, false, All, OnOk, OnErr, IfOk, IfNone, is_some, option_copied, not, ◌&&◌};
+ghost use Rattle.std.specs.Prelude.{◌≡◌, ◌+◌, ◌<◌, ◌^◌, ◌∷◌, ◌++◌, [], Option, None, Some, true};
+ghost use Rattle.std.specs.Prelude.{false, All, OnOk, OnErr, IfOk, IfNone, is_some, option_copied};
+ghost use Rattle.std.specs.Prelude.{not, ◌&&◌};
 ghost use Rattle.std.specs.List.{list_any};
 ghost use Rattle.std.specs.List.Sorted.{IsStrictlySortedBy};
 ghost use Rattle.std.specs.Map.{lookup, keys_of, values_of, set_value, remove_entry};
@@ -63,7 +65,8 @@ impl<A: Allocator + Copy> MeterMap<A> {
 
     /// A meter's row.
     pub(crate) fn get(&self, meter: &Identity) -> Option<&Meter<A>>
-        ensures value { option_copied result ≡ lookup (is_at (identity_cmp meter.now)) self.now.entries }
+        ensures value { option_copied result
+            ≡ lookup (is_at (identity_cmp meter.now)) self.now.entries }
     {
         self.rows.get(meter)
     }
@@ -98,7 +101,9 @@ impl<A: Allocator + Copy> MeterMap<A> {
 
     /// Whether a meter other than this one does.
     pub(crate) fn is_taken_by_other(&self, old: &Identity, line: u8, address: Primary) -> bool
-        ensures { result ≡ list_any (λ e. not (is_at (identity_cmp old.now) e.0) && occupies line (Some address) e.1) self.now.entries }
+        ensures { result ≡ list_any (λ e.
+            not (is_at (identity_cmp old.now) e.0) && occupies line (Some address) e.1)
+            self.now.entries }
     {
         self.orders
             .at(line, address)
@@ -108,8 +113,11 @@ impl<A: Allocator + Copy> MeterMap<A> {
     /// A meter more.
     pub(crate) fn insert(&mut self, meter: Identity, row: Meter<A>) -> Result<(), NoMemory>
         requires absent { lookup (is_at (identity_cmp meter)) self.old.entries ≡ None }
-        ensures entries { OnOk result (self.new.entries ≡ insert_entry identity_cmp self.old.entries meter row) }
-        ensures others { OnOk result ((k : Identity) → is_at (identity_cmp meter) k ≡ false → lookup (is_at (identity_cmp k)) self.new.entries ≡ lookup (is_at (identity_cmp k)) self.old.entries) }
+        ensures entries { OnOk result (self.new.entries
+            ≡ insert_entry identity_cmp self.old.entries meter row) }
+        ensures others { OnOk result ((k : Identity) → is_at (identity_cmp meter) k ≡ false
+            → lookup (is_at (identity_cmp k)) self.new.entries
+            ≡ lookup (is_at (identity_cmp k)) self.old.entries) }
         ensures err { OnErr result (self.new ≡ self.old) }
         ensures ordered { IsStrictlySortedBy identity_cmp (keys_of self.new.entries) }
     {
@@ -127,7 +135,8 @@ impl<A: Allocator + Copy> MeterMap<A> {
     /// A meter less.
     pub(crate) fn remove(&mut self, meter: &Identity) -> Option<Meter<A>>
         ensures value { result ≡ lookup (is_at (identity_cmp meter.now)) self.old.entries }
-        ensures entries { self.new.entries ≡ remove_entry (is_at (identity_cmp meter.now)) self.old.entries }
+        ensures entries { self.new.entries
+            ≡ remove_entry (is_at (identity_cmp meter.now)) self.old.entries }
         ensures unchanged { IfNone result (self.new ≡ self.old) }
         ensures ordered { IsStrictlySortedBy identity_cmp (keys_of self.new.entries) }
     {
@@ -139,7 +148,9 @@ impl<A: Allocator + Copy> MeterMap<A> {
     /// A meter belongs to another flat from now on, if it is registered.
     pub(crate) fn move_to(&mut self, meter: Identity, flat: Flat) -> Result<(), NoMemory>
         requires { IsFlat flat }
-        ensures entries { OnOk result (self.new.entries ≡ moved_in meter flat (lookup (is_at (identity_cmp meter)) self.old.entries) self.old.entries) }
+        ensures entries { OnOk result (self.new.entries
+            ≡ moved_in meter flat (lookup (is_at (identity_cmp meter)) self.old.entries)
+            self.old.entries) }
         ensures err { OnErr result (self.new ≡ self.old) }
     {
         let before = match self.rows.get(&meter) {
@@ -168,9 +179,13 @@ impl<A: Allocator + Copy> MeterMap<A> {
         number: u8,
         part: Part<A>,
     ) -> Result<u32, NoMemory>
-        requires continues { continues number (lookup (is_at (identity_cmp meter.now)) self.old.entries) ≡ true }
+        requires continues { continues number
+            (lookup (is_at (identity_cmp meter.now)) self.old.entries) ≡ true }
         requires part_is { IsPart part }
-        ensures joined { IfOk result (λ size. (row : MeterRow) → lookup (is_at (identity_cmp meter.now)) self.old.entries ≡ Some row → IsWrittenOver meter.now (record row { parts = joined number part row.parts }) size self.old.entries self.new.entries) }
+        ensures joined { IfOk result (λ size.
+            (row : MeterRow) → lookup (is_at (identity_cmp meter.now)) self.old.entries ≡ Some row
+            → IsWrittenOver meter.now (record row { parts = joined number part row.parts }) size
+            self.old.entries self.new.entries) }
         ensures err { OnErr result (self.new ≡ self.old) }
     {
         let Some(row) = self.rows.get_mut(meter) else {
@@ -190,12 +205,23 @@ impl<A: Allocator + Copy> MeterMap<A> {
         ended: Ended,
         readings: &mut ReadingList<A>,
     ) -> Result<u32, NoMemory>
-        requires continues { continues number (lookup (is_at (identity_cmp ended.meter)) self.old.entries) ≡ true }
+        requires continues { continues number
+            (lookup (is_at (identity_cmp ended.meter)) self.old.entries) ≡ true }
         requires part_is { IsPart part }
         requires later { All (λ r. r.serial < ended.serial) readings.old.items }
         requires fits { ended.serial < 2 ^ 64 }
-        ensures closed { OnOk result ((row : MeterRow) → lookup (is_at (identity_cmp ended.meter)) self.old.entries ≡ Some row → self.new.entries ≡ set_value (is_at (identity_cmp ended.meter)) self.old.entries (record row { parts = [] })) }
-        ensures read { IfOk result (λ size. (row : MeterRow) → lookup (is_at (identity_cmp ended.meter)) self.old.entries ≡ Some row → IsRead (record { serial = ended.serial; meter = ended.meter; flat = row.flat; parts = joined number part row.parts }) size readings.old.items readings.new.items) }
+        ensures closed { OnOk result ((row : MeterRow)
+            → lookup (is_at (identity_cmp ended.meter)) self.old.entries ≡ Some row
+            → self.new.entries ≡ set_value (is_at (identity_cmp ended.meter)) self.old.entries
+            (record row { parts = [] })) }
+        ensures read { IfOk result (λ size.
+            (row : MeterRow) → lookup (is_at (identity_cmp ended.meter)) self.old.entries ≡ Some row
+            → IsRead (record {
+              serial = ended.serial;
+              meter = ended.meter;
+              flat = row.flat;
+              parts = joined number part row.parts;
+            }) size readings.old.items readings.new.items) }
         ensures err { OnErr result (self.new ≡ self.old) }
         ensures unread { OnErr result (readings.new ≡ readings.old) }
     {

@@ -2,7 +2,8 @@
 
 ghost use Rattle.std.specs.Prelude.{◌≡◌, ◌||◌, ◌&&◌, not, OnOk, OnErr, filter};
 ghost use Rattle.std.specs.Map.Iter.{ShowsInOrder, deref};
-ghost use Rattle.dc_meters.specs.Places.{place_cmp, bus_cmp, among, is_own, IsNowhere, is_in_flat, hangs_at, is_on_bus, meter_by_flat, meter_on_bus};
+ghost use Rattle.dc_meters.specs.Places.{place_cmp, bus_cmp, among, is_own, IsNowhere, is_in_flat};
+ghost use Rattle.dc_meters.specs.Places.{hangs_at, is_on_bus, meter_by_flat, meter_on_bus};
 ghost use Rattle.dc_meters.specs.declared.place.Place.{Place};
 ghost use Rattle.dc_meters.specs.declared.place.BusPlace.{BusPlace};
 
@@ -38,10 +39,18 @@ impl<A: Allocator + Copy> MeterOrders<A> {
     /// A meter that stands nowhere gets its places. Where memory is refused, it stands nowhere.
     pub(crate) fn file(&mut self, meter: Identity, row: &Meter<A>) -> Result<(), NoMemory>
         requires no_flat { IsNowhere place_cmp meter_by_flat meter self.old.by_flat.keys }
-        ensures flats { OnOk result ((q : Place) → among place_cmp self.new.by_flat.keys q ≡ (among place_cmp self.old.by_flat.keys q || is_own meter_by_flat is_in_flat meter row.now q)) }
-        ensures bus { OnOk result ((q : BusPlace) → among bus_cmp self.new.on_bus.keys q ≡ (among bus_cmp self.old.on_bus.keys q || is_own meter_on_bus hangs_at meter row.now q)) }
-        ensures same_flats { OnErr result ((q : Place) → among place_cmp self.new.by_flat.keys q ≡ among place_cmp self.old.by_flat.keys q) }
-        ensures same_bus { OnErr result ((q : BusPlace) → among bus_cmp self.new.on_bus.keys q ≡ among bus_cmp self.old.on_bus.keys q) }
+        ensures flats { OnOk result ((q : Place)
+            → among place_cmp self.new.by_flat.keys q
+            ≡ (among place_cmp self.old.by_flat.keys q || is_own meter_by_flat is_in_flat meter
+            row.now q)) }
+        ensures bus { OnOk result ((q : BusPlace)
+            → among bus_cmp self.new.on_bus.keys q
+            ≡ (among bus_cmp self.old.on_bus.keys q || is_own meter_on_bus hangs_at meter row.now
+            q)) }
+        ensures same_flats { OnErr result ((q : Place) → among place_cmp self.new.by_flat.keys q
+            ≡ among place_cmp self.old.by_flat.keys q) }
+        ensures same_bus { OnErr result ((q : BusPlace) → among bus_cmp self.new.on_bus.keys q
+            ≡ among bus_cmp self.old.on_bus.keys q) }
     {
         let place = Place {
             flat: row.flat(),
@@ -59,8 +68,12 @@ impl<A: Allocator + Copy> MeterOrders<A> {
 
     /// A meter loses its places.
     pub(crate) fn unfile(&mut self, meter: Identity, row: &Meter<A>)
-        ensures flats { (q : Place) → among place_cmp self.new.by_flat.keys q ≡ (among place_cmp self.old.by_flat.keys q && not (is_own meter_by_flat is_in_flat meter row.now q)) }
-        ensures bus { (q : BusPlace) → among bus_cmp self.new.on_bus.keys q ≡ (among bus_cmp self.old.on_bus.keys q && not (is_own meter_on_bus hangs_at meter row.now q)) }
+        ensures flats { (q : Place) → among place_cmp self.new.by_flat.keys q
+            ≡ (among place_cmp self.old.by_flat.keys q && not
+            (is_own meter_by_flat is_in_flat meter row.now q)) }
+        ensures bus { (q : BusPlace) → among bus_cmp self.new.on_bus.keys q
+            ≡ (among bus_cmp self.old.on_bus.keys q && not
+            (is_own meter_on_bus hangs_at meter row.now q)) }
     {
         self.by_flat.remove(&Place {
             flat: row.flat(),
@@ -96,8 +109,11 @@ fn hang<A: Allocator + Copy>(
     meter: Identity,
     row: &Meter<A>,
 ) -> Result<(), NoMemory>
-    ensures bus { OnOk result ((q : BusPlace) → among bus_cmp on_bus.new.keys q ≡ (among bus_cmp on_bus.old.keys q || is_own meter_on_bus hangs_at meter row.now q)) }
-    ensures same { OnErr result ((q : BusPlace) → among bus_cmp on_bus.new.keys q ≡ among bus_cmp on_bus.old.keys q) }
+    ensures bus { OnOk result ((q : BusPlace)
+        → among bus_cmp on_bus.new.keys q
+        ≡ (among bus_cmp on_bus.old.keys q || is_own meter_on_bus hangs_at meter row.now q)) }
+    ensures same { OnErr result ((q : BusPlace)
+        → among bus_cmp on_bus.new.keys q ≡ among bus_cmp on_bus.old.keys q) }
 {
     if let Some(address) = row.address() {
         on_bus.insert(BusPlace {
@@ -111,7 +127,8 @@ fn hang<A: Allocator + Copy>(
 
 /// A meter loses its place on the bus.
 fn unhang<A: Allocator + Copy>(on_bus: &mut BTreeSet<BusPlace, A>, meter: Identity, row: &Meter<A>)
-    ensures { (q : BusPlace) → among bus_cmp on_bus.new.keys q ≡ (among bus_cmp on_bus.old.keys q && not (is_own meter_on_bus hangs_at meter row.now q)) }
+    ensures { (q : BusPlace) → among bus_cmp on_bus.new.keys q
+        ≡ (among bus_cmp on_bus.old.keys q && not (is_own meter_on_bus hangs_at meter row.now q)) }
 {
     if let Some(address) = row.address() {
         on_bus.remove(&BusPlace {

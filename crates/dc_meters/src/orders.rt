@@ -47,10 +47,18 @@ impl<A: Allocator + Copy> Orders<A> {
     pub(crate) fn file(&mut self, ended: Ended, days: &[Date]) -> Result<(), NoMemory>
         requires no_meter { IsUnfiled identity_cmp ended.serial self.old.by_meter.keys }
         requires no_day { IsUnfiled day_cmp ended.serial self.old.by_day.keys }
-        ensures meters { OnOk result ((q : Filed Identity) → found identity_cmp self.new.by_meter.keys q ≡ (found identity_cmp self.old.by_meter.keys q || is_under_meter ended.meter ended.serial q)) }
-        ensures days { OnOk result ((q : Filed Day) → found day_cmp self.new.by_day.keys q ≡ (found day_cmp self.old.by_day.keys q || is_under_days days.now ended.serial q)) }
-        ensures same_meters { OnErr result ((q : Filed Identity) → found identity_cmp self.new.by_meter.keys q ≡ found identity_cmp self.old.by_meter.keys q) }
-        ensures same_days { OnErr result ((q : Filed Day) → found day_cmp self.new.by_day.keys q ≡ found day_cmp self.old.by_day.keys q) }
+        ensures meters { OnOk result ((q : Filed Identity)
+            → found identity_cmp self.new.by_meter.keys q
+            ≡ (found identity_cmp self.old.by_meter.keys q || is_under_meter ended.meter
+            ended.serial q)) }
+        ensures days { OnOk result ((q : Filed Day)
+            → found day_cmp self.new.by_day.keys q
+            ≡ (found day_cmp self.old.by_day.keys q || is_under_days days.now ended.serial q)) }
+        ensures same_meters { OnErr result
+            ((q : Filed Identity) → found identity_cmp self.new.by_meter.keys q
+            ≡ found identity_cmp self.old.by_meter.keys q) }
+        ensures same_days { OnErr result ((q : Filed Day) → found day_cmp self.new.by_day.keys q
+            ≡ found day_cmp self.old.by_day.keys q) }
     {
         let Ended { meter, serial } = ended;
         let filed = Filed { key: meter, serial };
@@ -66,8 +74,14 @@ impl<A: Allocator + Copy> Orders<A> {
 
     /// A reading of these due days is filed no more.
     pub(crate) fn unfile(&mut self, ended: Ended, days: &[Date])
-        ensures meters { (q : Filed Identity) → found identity_cmp self.new.by_meter.keys q ≡ (found identity_cmp self.old.by_meter.keys q && not (is_under_meter ended.meter ended.serial q)) }
-        ensures days { (q : Filed Day) → found day_cmp self.new.by_day.keys q ≡ (found day_cmp self.old.by_day.keys q && not (is_under_days days.now ended.serial q)) }
+        ensures meters { (q : Filed Identity)
+            → found identity_cmp self.new.by_meter.keys q
+            ≡ (found identity_cmp self.old.by_meter.keys q && not
+            (is_under_meter ended.meter ended.serial q)) }
+        ensures days { (q : Filed Day)
+            → found day_cmp self.new.by_day.keys q
+            ≡ (found day_cmp self.old.by_day.keys q && not
+            (is_under_days days.now ended.serial q)) }
     {
         let Ended { meter, serial } = ended;
         self.by_meter.remove(&Filed { key: meter, serial });
@@ -85,8 +99,11 @@ fn file_days<A: Allocator + Copy>(
     serial: u64,
 ) -> Result<(), NoMemory>
     requires { IsUnfiled day_cmp serial by_day.old.keys }
-    ensures days { OnOk result ((q : Filed Day) → found day_cmp by_day.new.keys q ≡ (found day_cmp by_day.old.keys q || is_under_days days.now serial q)) }
-    ensures same { OnErr result ((q : Filed Day) → found day_cmp by_day.new.keys q ≡ found day_cmp by_day.old.keys q) }
+    ensures days { OnOk result ((q : Filed Day)
+        → found day_cmp by_day.new.keys q
+        ≡ (found day_cmp by_day.old.keys q || is_under_days days.now serial q)) }
+    ensures same { OnErr result ((q : Filed Day)
+        → found day_cmp by_day.new.keys q ≡ found day_cmp by_day.old.keys q) }
 {
     for day in days {
         match by_day.insert(Filed { key: *day, serial }) {
@@ -106,7 +123,8 @@ fn unfile_days<A: Allocator + Copy>(
     days: &[Date],
     serial: u64,
 )
-    ensures { (q : Filed Day) → found day_cmp by_day.new.keys q ≡ (found day_cmp by_day.old.keys q && not (is_under_days days.now serial q)) }
+    ensures { (q : Filed Day) → found day_cmp by_day.new.keys q
+        ≡ (found day_cmp by_day.old.keys q && not (is_under_days days.now serial q)) }
 {
     for day in days {
         by_day.remove(&Filed { key: *day, serial });

@@ -19,8 +19,10 @@ pub(crate) fn put_kept_part<S: Sink, A: Allocator>(
     sink: &mut S,
     part: &Part<A>,
 ) -> Result<(), IoFault>
-    ensures ok { OnOk result (IsWritten S.written S.put_failures S.puts sink.old sink.new (part_bytes part.now)) }
-    ensures err { OnErr result (IsStopped S.written S.put_failures S.puts S.breaks sink.old sink.new (part_bytes part.now)) }
+    ensures ok { OnOk result (IsWritten S.written S.put_failures S.puts sink.old sink.new
+        (part_bytes part.now)) }
+    ensures err { OnErr result (IsStopped S.written S.put_failures S.puts S.breaks sink.old sink.new
+        (part_bytes part.now)) }
 {
     put_long(sink, part.moment())?;
     put_counted(sink, part.body())?;
@@ -28,8 +30,10 @@ pub(crate) fn put_kept_part<S: Sink, A: Allocator>(
 }
 
 fn put_each_part<S: Sink, A: Allocator>(sink: &mut S, parts: &[Part<A>]) -> Result<(), IoFault>
-    ensures ok { OnOk result (IsWritten S.written S.put_failures S.puts sink.old sink.new (flat_map part_bytes parts.now)) }
-    ensures err { OnErr result (IsStopped S.written S.put_failures S.puts S.breaks sink.old sink.new (flat_map part_bytes parts.now)) }
+    ensures ok { OnOk result (IsWritten S.written S.put_failures S.puts sink.old sink.new
+        (flat_map part_bytes parts.now)) }
+    ensures err { OnErr result (IsStopped S.written S.put_failures S.puts S.breaks sink.old sink.new
+        (flat_map part_bytes parts.now)) }
 {
     for part in parts {
         put_kept_part(sink, part)?;
@@ -43,8 +47,10 @@ pub(crate) fn put_parts<S: Sink, A: Allocator>(
     parts: &[Part<A>],
 ) -> Result<(), IoFault>
     requires { length parts.now ≤ most_parts }
-    ensures ok { OnOk result (IsWritten S.written S.put_failures S.puts sink.old sink.new (parts_bytes parts.now)) }
-    ensures err { OnErr result (IsStopped S.written S.put_failures S.puts S.breaks sink.old sink.new (parts_bytes parts.now)) }
+    ensures ok { OnOk result (IsWritten S.written S.put_failures S.puts sink.old sink.new
+        (parts_bytes parts.now)) }
+    ensures err { OnErr result (IsStopped S.written S.put_failures S.puts S.breaks sink.old sink.new
+        (parts_bytes parts.now)) }
 {
     put_byte(sink, parts.len() as u8)?;
     put_each_part(sink, parts)?;

@@ -31,9 +31,15 @@ impl<A: Allocator> Model for Reading<A> {
 
     ghost Value = { ReadingRow };
 
-    ghost view = { λ r. record { serial = r.serial; meter = r.meter; flat = r.flat; parts = r.parts.items } };
+    ghost view = { λ r. record {
+      serial = r.serial;
+      meter = r.meter;
+      flat = r.flat;
+      parts = r.parts.items;
+    } };
 
-    ghost invariant = { λ r. IsDated r.days.items (record { serial = r.serial; meter = r.meter; flat = r.flat; parts = r.parts.items }) };
+    ghost invariant = { λ r. IsDated r.days.items
+        (record { serial = r.serial; meter = r.meter; flat = r.flat; parts = r.parts.items }) };
 }
 
 impl<A: Allocator> Reading<A> {
@@ -44,9 +50,19 @@ impl<A: Allocator> Reading<A> {
         parts: Vec<Part<A>, A>,
         days: Vec<Date, A>,
     ) -> Reading<A>
-        requires reading { IsReading (record { serial = serial; meter = meter; flat = flat; parts = parts.items }) }
+        requires reading { IsReading (record {
+          serial = serial;
+          meter = meter;
+          flat = flat;
+          parts = parts.items;
+        }) }
         requires dated { days.items ≡ due_days (points_of parts.items) }
-        ensures { result ≡ record { serial = serial; meter = meter; flat = flat; parts = parts.items } }
+        ensures { result ≡ record {
+          serial = serial;
+          meter = meter;
+          flat = flat;
+          parts = parts.items;
+        } }
     {
         Reading {
             serial,

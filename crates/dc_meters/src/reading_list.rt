@@ -1,6 +1,8 @@
 //! The readings that aren't confirmed, and their orders.
 
-ghost use Rattle.std.specs.Prelude.{◌≡◌, ◌+◌, ◌-◌, ◌<◌, ◌≤◌, ◌^◌, [], ◌∷◌, ◌++◌, All, OnOk, OnErr, IfOk, IfSome, IfNone, length, slice_get, map, filter, nat_lt, sum_by, option_copied};
+ghost use Rattle.std.specs.Prelude.{◌≡◌, ◌+◌, ◌-◌, ◌<◌, ◌≤◌, ◌^◌, [], ◌∷◌, ◌++◌, All, OnOk, OnErr};
+ghost use Rattle.std.specs.Prelude.{IfOk, IfSome, IfNone, length, slice_get, map, filter, nat_lt};
+ghost use Rattle.std.specs.Prelude.{sum_by, option_copied};
 ghost use Rattle.std.specs.List.Sorted.{IsStrictlySortedBy};
 ghost use Rattle.std.specs.Ordering.{nat_cmp};
 ghost use Rattle.std.specs.VecDeque.Iter.{deque_iter_rest};
@@ -73,10 +75,25 @@ impl<A: Allocator + Copy> ReadingList<A> {
     ) -> Result<u32, NoMemory>
         requires later { All (λ r. r.serial < ended.serial) self.old.items }
         requires fits { ended.serial < 2 ^ 64 }
-        ensures ok { OnOk result (self.new.items ≡ self.old.items ++ record { serial = ended.serial; meter = ended.meter; flat = row.old.flat; parts = row.old.parts } ∷ []) }
+        ensures ok { OnOk result (self.new.items ≡ self.old.items ++ record {
+          serial = ended.serial;
+          meter = ended.meter;
+          flat = row.old.flat;
+          parts = row.old.parts;
+        } ∷ []) }
         ensures closed { OnOk result (row.new ≡ record row.old { parts = [] }) }
-        ensures size { IfOk result (λ size. size ≡ reading_size (record { serial = ended.serial; meter = ended.meter; flat = row.old.flat; parts = row.old.parts })) }
-        ensures is_reading { OnOk result (IsReading (record { serial = ended.serial; meter = ended.meter; flat = row.old.flat; parts = row.old.parts })) }
+        ensures size { IfOk result (λ size. size ≡ reading_size (record {
+          serial = ended.serial;
+          meter = ended.meter;
+          flat = row.old.flat;
+          parts = row.old.parts;
+        })) }
+        ensures is_reading { OnOk result (IsReading (record {
+          serial = ended.serial;
+          meter = ended.meter;
+          flat = row.old.flat;
+          parts = row.old.parts;
+        })) }
         ensures err { OnErr result (self.new ≡ self.old) }
         ensures open { OnErr result (row.new ≡ row.old) }
     {
@@ -93,7 +110,8 @@ impl<A: Allocator + Copy> ReadingList<A> {
     pub(crate) fn forget(&mut self, serial: u64) -> u32
         requires { sum_by reading_size self.old.items < 2 ^ 32 }
         ensures kept { self.new.items ≡ filter (λ r. nat_lt serial r.serial) self.old.items }
-        ensures size { result + sum_by reading_size self.new.items ≡ sum_by reading_size self.old.items }
+        ensures size { result + sum_by reading_size self.new.items
+            ≡ sum_by reading_size self.old.items }
     {
         let mut size = 0;
         while let Some(reading) = self.pop_up_to(serial) {
@@ -107,7 +125,8 @@ impl<A: Allocator + Copy> ReadingList<A> {
         ensures first { IfSome result (λ r. self.old.items ≡ r ∷ self.new.items) }
         ensures low { IfSome result (λ r. r.serial ≤ serial) }
         ensures none { IfNone result (self.new ≡ self.old) }
-        ensures stay { IfNone result (filter (λ r. nat_lt serial r.serial) self.old.items ≡ self.old.items) }
+        ensures stay { IfNone result (filter (λ r.
+            nat_lt serial r.serial) self.old.items ≡ self.old.items) }
     {
         if self.items.front()?.serial() > serial {
             return None;

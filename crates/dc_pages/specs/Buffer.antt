@@ -6,4 +6,5 @@ use Rattle.dc_pages.specs.Group.{page_payload, head_len}
 pub record IsBuffer (used : ℕ) (page : List ℕ) : Type 0 where
   pub small : used ≤ page_payload
   pub long : length page ≡ 512
-  pub clean : drop head_len page ≡ take used (drop head_len page) ++ replicate (page_payload - used) 0
+  pub clean : drop head_len page ≡ take used (drop head_len page)
+      ++ replicate (page_payload - used) 0

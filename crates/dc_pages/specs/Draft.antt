@@ -17,7 +17,8 @@ draft_len draft = page_payload * draft.pages + length draft.buffer
 
 -- so many bytes more and a commit sector fit
 abbrev pub HasRoom : Draft → ℕ → Type 0
-HasRoom draft more = page_payload * draft.site.first + draft_len draft + more + page_payload ≤ page_payload * draft.site.limit
+HasRoom draft more = page_payload * draft.site.first + draft_len draft + more + page_payload
+    ≤ page_payload * draft.site.limit
 
 -- so many bytes and a commit sector fit from a sector on, in a half that ends before `limit`
 abbrev pub FitsAt : ℕ → ℕ → ℕ → Type 0

@@ -1,5 +1,6 @@
 -- Groups of stamped sectors: this product's image format.
-use Rattle.std.specs.Prelude.{◌≡◌, ◌⊎◌, ◌<◌, ℕ, ◌+◌, ◌-◌, ◌*◌, ◌≤◌, List, [], ◌∷◌, ◌++◌, length, take, drop, replicate, slice_index}
+use Rattle.std.specs.Prelude.{◌≡◌, ◌⊎◌, ◌<◌, ℕ, ◌+◌, ◌-◌, ◌*◌, ◌≤◌, List, [], ◌∷◌, ◌++◌, length}
+use Rattle.std.specs.Prelude.{take, drop, replicate, slice_index}
 use Rattle.dc_sectors.specs.declared.sector.Sector.{Sector}
 use Rattle.dc_sectors.specs.declared.sector.Sector.TheVariants.{Bytes}
 use Rattle.dc_sectors.specs.Disk.{Image}
@@ -33,7 +34,8 @@ pub record IsHead (kind version used index session sequence : ℕ) (bytes : List
   pub sequence_is : field 8 16 bytes ≡ sequence
 
 -- a readable page of that group with this content; what stands behind its used bytes isn't looked at
-pub record IsPage (site : Site) (session index : ℕ) (content : List ℕ) (sector : Sector) : Type 0 where
+pub record IsPage (site : Site) (session index : ℕ) (content : List ℕ)
+    (sector : Sector) : Type 0 where
   pub bytes : List ℕ
   pub readable : sector ≡ Bytes bytes
   pub head : IsHead site.kind site.version (length content) index session site.sequence bytes
@@ -50,7 +52,8 @@ abbrev pub piece : ℕ → List ℕ → List ℕ
 piece i payload = take page_payload (drop (page_payload * i) payload)
 
 -- A complete group: its pages hold the payload piece by piece, and a commit sector follows.
-pub record IsGroup (site : Site) (session : ℕ) (payload : List ℕ) (pages : ℕ) (image : Image) : Type 0 where
+pub record IsGroup (site : Site) (session : ℕ) (payload : List ℕ) (pages : ℕ)
+    (image : Image) : Type 0 where
   pub some : page_payload * (pages - 1) < length payload
   pub all : length payload ≤ page_payload * pages
   pub fits : site.first + pages < site.limit
@@ -68,7 +71,8 @@ pub record IsComplete (site : Site) (image : Image) : Type 0 where
 pub record Carries (session sequence : ℕ) (sector : Sector) : Type 0 where
   pub bytes : List ℕ
   pub readable : sector ≡ Bytes bytes
-  pub kind_is : ((slice_index bytes 0 ≡ base_kind) ⊎ (slice_index bytes 0 ≡ change_kind)) ⊎ (slice_index bytes 0 ≡ commit_kind)
+  pub kind_is : ((slice_index bytes 0 ≡ base_kind) ⊎ (slice_index bytes 0 ≡ change_kind))
+      ⊎ (slice_index bytes 0 ≡ commit_kind)
   pub version_is : (slice_index bytes 1 ≡ 1) ⊎ (slice_index bytes 1 ≡ 2)
   pub session_is : field 8 8 bytes ≡ session
   pub sequence_is : field 8 16 bytes ≡ sequence
@@ -83,12 +87,14 @@ IsKnown version = (version ≡ 1) ⊎ (version ≡ 2)
 -- the bytes before the payload
 unfoldable pub head_bytes : (kind version used index session sequence : ℕ) → List ℕ
 head_bytes kind version used index session sequence =
-    ((((kind ∷ version ∷ []) ++ number_bytes 2 used) ++ number_bytes 4 index) ++ number_bytes 8 session) ++ number_bytes 8 sequence
+    ((((kind ∷ version ∷ []) ++ number_bytes 2 used) ++ number_bytes 4 index)
+    ++ number_bytes 8 session) ++ number_bytes 8 sequence
 
 -- the sector that is written for a page, with zeros behind its content
 unfoldable pub page_bytes : (site : Site) (session index : ℕ) → List ℕ → List ℕ
 page_bytes site session index content =
-    head_bytes site.kind site.version (length content) index session site.sequence ++ (content ++ replicate (page_payload - length content) 0)
+    head_bytes site.kind site.version (length content) index session site.sequence
+    ++ (content ++ replicate (page_payload - length content) 0)
 
 -- the sector that is written for the commit of so many pages: it has no content
 abbrev pub commit_bytes : (site : Site) (session pages : ℕ) → List ℕ

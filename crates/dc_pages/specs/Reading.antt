@@ -5,7 +5,8 @@ use Rattle.dc_pages.specs.Group.{IsPage, IsCommit, piece, page_payload}
 use Rattle.dc_pages.specs.declared.site.Site.{Site}
 
 -- the first i sectors are pages of a group and hold this payload
-pub record IsBegun (site : Site) (session : ℕ) (payload : List ℕ) (i : ℕ) (image : Image) : Type 0 where
+pub record IsBegun (site : Site) (session : ℕ) (payload : List ℕ) (i : ℕ)
+    (image : Image) : Type 0 where
   pub some : (i ≡ 0) ⊎ (page_payload * (i - 1) < length payload)
   pub all : length payload ≤ page_payload * i
   pub fits : site.first + i ≤ site.limit
@@ -19,6 +20,7 @@ pub record IsCutAt (site : Site) (n : ℕ) (image : Image) : Type 0 where
   pub i : ℕ
   pub at : n ≡ site.first + i
   pub begun : IsBegun site session payload i image
-  pub no_page : n < site.limit → length payload ≡ page_payload * i → (s : ℕ) (content : List ℕ) → (i ≡ 0) ⊎ (s ≡ session) → 0 < length content → length content ≤ page_payload
+  pub no_page : n < site.limit → length payload ≡ page_payload * i → (s : ℕ) (content : List ℕ)
+      → (i ≡ 0) ⊎ (s ≡ session) → 0 < length content → length content ≤ page_payload
       → IsPage site s i content (image n) → ⊥
   pub no_commit : n < site.limit → 0 < i → IsCommit site session i (image n) → ⊥

@@ -33,7 +33,8 @@ pub(crate) struct Head {
 
 /// Reads the head of a sector.
 pub(crate) fn read_head(sector: &[u8; 512]) -> Head
-    ensures { IsHead result.kind result.version result.used result.index result.session result.sequence sector.now }
+    ensures { IsHead result.kind result.version result.used result.index result.session
+        result.sequence sector.now }
 {
     Head {
         kind: sector[0],
@@ -47,7 +48,8 @@ pub(crate) fn read_head(sector: &[u8; 512]) -> Head
 
 /// Writes the head, and leaves what follows.
 pub(crate) fn write_head(sector: &mut [u8; 512], head: &Head)
-    ensures { sector.new ≡ head_bytes head.now.kind head.now.version head.now.used head.now.index head.now.session head.now.sequence ++ drop head_len sector.old }
+    ensures { sector.new ≡ head_bytes head.now.kind head.now.version head.now.used head.now.index
+        head.now.session head.now.sequence ++ drop head_len sector.old }
 {
     sector[0] = head.kind;
     sector[1] = head.version;

@@ -1,6 +1,7 @@
 //! The laws of groups, each a function whose contract is the law.
 
-ghost use Rattle.dc_pages.specs.Laws.{CompleteAsWritten, PartIsIncomplete, CutIsIncomplete, OneCut, OneGroup};
+ghost use Rattle.dc_pages.specs.Laws.{CompleteAsWritten, PartIsIncomplete, CutIsIncomplete, OneCut};
+ghost use Rattle.dc_pages.specs.Laws.{OneGroup};
 
 /// Stamps alone decide that a group is complete only as it was before, or as it was written.
 pub fn complete_as_written()

@@ -1,6 +1,8 @@
 //! A group is read.
 
-ghost use Rattle.std.specs.Prelude.{◌≡◌, ◌≢◌, ◌⊎◌, ◌<◌, ◌≤◌, ◌↔◌, ◌+◌, ◌-◌, ◌^◌, ◌++◌, if◌then◌else◌, ℕ, IfOk, OnOk, IsErrOf, IsTrue, length, take, drop};
+ghost use Rattle.std.specs.Prelude.{◌≡◌, ◌≢◌, ◌⊎◌, ◌<◌, ◌≤◌, ◌↔◌, ◌+◌, ◌-◌, ◌^◌, ◌++◌};
+ghost use Rattle.std.specs.Prelude.{if◌then◌else◌, ℕ, IfOk, OnOk, IsErrOf, IsTrue, length, take};
+ghost use Rattle.std.specs.Prelude.{drop};
 ghost use Rattle.dc_base.specs.Failures.{HasRisen};
 ghost use Rattle.dc_sectors.specs.Disk.{IsImage, Elapses, LeavesOnly};
 ghost use Rattle.dc_pages.specs.Group.{IsGroup, commit_kind, page_payload, head_len};
@@ -25,7 +27,9 @@ pub struct Group<A: Allocator> {
 impl Site {
     // The head is that of a page of the group, at that index.
     fn is_page(&self, head: &Head, index: u32) -> bool
-        ensures { IsTrue result ↔ ((head.now.kind ≡ self.now.kind) × (head.now.version ≡ self.now.version) × (head.now.sequence ≡ self.now.sequence) × (head.now.index ≡ index) × (0 < head.now.used) × (head.now.used ≤ page_payload)) }
+        ensures { IsTrue result ↔ ((head.now.kind ≡ self.now.kind)
+            × (head.now.version ≡ self.now.version) × (head.now.sequence ≡ self.now.sequence)
+            × (head.now.index ≡ index) × (0 < head.now.used) × (head.now.used ≤ page_payload)) }
     {
         head.kind == self.kind
             && head.version == self.version
@@ -37,7 +41,9 @@ impl Site {
 
     // The head is that of the group's commit sector, behind so many pages of that session.
     fn is_commit(&self, head: &Head, session: u64, pages: u32) -> bool
-        ensures { IsTrue result ↔ ((head.now.kind ≡ commit_kind) × (head.now.version ≡ self.now.version) × (head.now.sequence ≡ self.now.sequence) × (head.now.index ≡ pages) × (head.now.session ≡ session) × (head.now.used ≡ 0)) }
+        ensures { IsTrue result ↔ ((head.now.kind ≡ commit_kind)
+            × (head.now.version ≡ self.now.version) × (head.now.sequence ≡ self.now.sequence)
+            × (head.now.index ≡ pages) × (head.now.session ≡ session) × (head.now.used ≡ 0)) }
     {
         head.kind == COMMIT
             && head.version == self.version
@@ -94,7 +100,8 @@ impl<A: Allocator> Reading<A> {
         ensures site { self.new.site ≡ self.old.site }
         ensures pages { OnOk result (self.new.pages ≡ self.old.pages + 1) }
         ensures session { OnOk result (self.new.session ≡ session) }
-        ensures payload { OnOk result (self.new.payload.items ≡ self.old.payload.items ++ take used (drop head_len bytes.now)) }
+        ensures payload { OnOk result (self.new.payload.items ≡ self.old.payload.items
+            ++ take used (drop head_len bytes.now)) }
     {
         self.payload
             .extend_from_slice(&bytes[HEAD..HEAD + used as usize])?;
@@ -108,16 +115,23 @@ impl<A: Allocator> Reading<A> {
         requires kind { self.old.site.kind ≢ commit_kind }
         requires more { self.old.pages < 2 ^ 32 - 1 }
         requires within { at < D.sectors disk.old }
-        ensures step { D.keeps disk.new → at ≡ self.old.site.first + self.old.pages → at < self.old.site.limit
-            → IsBegun self.old.site self.old.session self.old.payload.items self.old.pages (D.reads disk.old)
-            → IsStep self.old.site (D.reads disk.old) self.new.session self.new.pages self.new.payload.items result }
+        ensures step { D.keeps disk.new → at ≡ self.old.site.first + self.old.pages
+            → at < self.old.site.limit
+            → IsBegun self.old.site self.old.session self.old.payload.items self.old.pages
+            (D.reads disk.old)
+            → IsStep self.old.site (D.reads disk.old) self.new.session self.new.pages
+            self.new.payload.items result }
         ensures site { self.new.site ≡ self.old.site }
-        ensures pages { IfOk result (λ done. self.new.pages ≡ (if done then self.old.pages else self.old.pages + 1)) }
-        ensures device { IsErrOf result GroupFault.Device → HasRisen (D.failures disk.old) (D.failures disk.new) }
-        ensures passed { (IsErrOf result GroupFault.Device → ⊥) → D.failures disk.new ≡ D.failures disk.old }
+        ensures pages { IfOk result (λ done.
+            self.new.pages ≡ (if done then self.old.pages else self.old.pages + 1)) }
+        ensures device { IsErrOf result GroupFault.Device
+            → HasRisen (D.failures disk.old) (D.failures disk.new) }
+        ensures passed { (IsErrOf result GroupFault.Device → ⊥)
+            → D.failures disk.new ≡ D.failures disk.old }
         ensures reads { D.reads disk.new ≡ D.reads disk.old }
         ensures choices { D.choices disk.new ≡ D.choices disk.old }
-        ensures time { Elapses (D.moment disk.old) (D.moment disk.new) (D.images_since disk.old) (D.images_since disk.new) (IsImage (D.choices disk.old)) }
+        ensures time { Elapses (D.moment disk.old) (D.moment disk.new) (D.images_since disk.old)
+            (D.images_since disk.new) (IsImage (D.choices disk.old)) }
         ensures before { D.keeps disk.new → D.keeps disk.old }
         ensures count { D.sectors disk.new ≡ D.sectors disk.old }
         ensures failures { D.failures disk.old ≤ D.failures disk.new }
@@ -157,14 +171,22 @@ pub fn read_group<A: Allocator, D: Disk>(
     requires kind { site.kind ≢ commit_kind }
     requires first { site.first ≤ site.limit }
     requires limit { site.limit ≤ D.sectors disk.old }
-    ensures group { D.keeps disk.new → IfOk result (λ group. (session : ℕ) × (pages : ℕ) × IsGroup site session group.payload.items pages (D.reads disk.old) × (group.sectors ≡ pages + 1)) }
-    ensures incomplete { D.keeps disk.new → (n : ℕ) → IsErrOf result (GroupFault.Incomplete n) → IsCutAt site n (D.reads disk.old) }
-    ensures within { IfOk result (λ group. (1 ≤ group.sectors) × (site.first + group.sectors ≤ site.limit)) }
-    ensures device { IsErrOf result GroupFault.Device → HasRisen (D.failures disk.old) (D.failures disk.new) }
-    ensures passed { (IsErrOf result GroupFault.Device → ⊥) → D.failures disk.new ≡ D.failures disk.old }
+    ensures group { D.keeps disk.new
+        → IfOk result (λ group. (session : ℕ) × (pages : ℕ)
+        × IsGroup site session group.payload.items pages (D.reads disk.old)
+        × (group.sectors ≡ pages + 1)) }
+    ensures incomplete { D.keeps disk.new → (n : ℕ) → IsErrOf result (GroupFault.Incomplete n)
+        → IsCutAt site n (D.reads disk.old) }
+    ensures within { IfOk result (λ group.
+        (1 ≤ group.sectors) × (site.first + group.sectors ≤ site.limit)) }
+    ensures device { IsErrOf result GroupFault.Device
+        → HasRisen (D.failures disk.old) (D.failures disk.new) }
+    ensures passed { (IsErrOf result GroupFault.Device → ⊥)
+        → D.failures disk.new ≡ D.failures disk.old }
     ensures reads { D.reads disk.new ≡ D.reads disk.old }
     ensures choices { D.choices disk.new ≡ D.choices disk.old }
-    ensures any_moment { LeavesOnly D.moment D.images_since disk.old disk.new (IsImage (D.choices disk.old)) }
+    ensures any_moment { LeavesOnly D.moment D.images_since disk.old disk.new
+        (IsImage (D.choices disk.old)) }
     ensures before { D.keeps disk.new → D.keeps disk.old }
     ensures count { D.sectors disk.new ≡ D.sectors disk.old }
     ensures failures { D.failures disk.old ≤ D.failures disk.new }

@@ -20,8 +20,8 @@ pub struct GroupSink<'a, D: Disk> {
     pub disk: &'a mut D,
     /// The group so far.
     pub writer: GroupWriter,
-    /// How many puts the group had no room for. At `u64::MAX` it stays. A call of the disk that failed is counted by the
-    /// disk alone.
+    /// How many puts the group had no room for. At `u64::MAX` it stays. A call of the disk that failed is counted by
+    /// the disk alone.
     pub refused: u64,
 }
 
@@ -30,9 +30,13 @@ impl<D: Disk> Sink for GroupSink<'_, D> {
 
     ghost put_failures = { λ sink. D.failures sink.disk.now + sink.refused };
 
-    ghost puts = { λ old bytes new. GoesInto D.keeps D.reads D.choices D.moment D.images_since D.sectors D.failures old.disk.now new.disk.now old.writer new.writer bytes × (new.disk.ghost_name ≡ old.disk.ghost_name) };
+    ghost puts = { λ old bytes new. GoesInto D.keeps D.reads D.choices D.moment D.images_since
+        D.sectors D.failures old.disk.now new.disk.now old.writer new.writer bytes
+        × (new.disk.ghost_name ≡ old.disk.ghost_name) };
 
-    ghost breaks = { λ old bytes new. BreaksOff D.keeps D.reads D.choices D.moment D.images_since D.sectors D.failures old.disk.now new.disk.now old.writer bytes × (new.disk.ghost_name ≡ old.disk.ghost_name) };
+    ghost breaks = { λ old bytes new.
+        BreaksOff D.keeps D.reads D.choices D.moment D.images_since D.sectors D.failures
+        old.disk.now new.disk.now old.writer bytes × (new.disk.ghost_name ≡ old.disk.ghost_name) };
 
     #[tactic(auto, using(dc_stream::proofs::Pieces::told))]
     fn put(&mut self, bytes: &[u8]) -> Result<(), IoFault> {

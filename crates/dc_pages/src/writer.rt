@@ -1,6 +1,7 @@
 //! A group is written, page by page.
 
-ghost use Rattle.std.specs.Prelude.{◌≡◌, ◌⊎◌, ◌<◌, ◌≤◌, ◌+◌, ◌-◌, ◌*◌, ◌++◌, [], List, ℕ, take, length, min, OnOk, OnErr, IfOk, IsTrue, ◌↔◌};
+ghost use Rattle.std.specs.Prelude.{◌≡◌, ◌⊎◌, ◌<◌, ◌≤◌, ◌+◌, ◌-◌, ◌*◌, ◌++◌, [], List, ℕ, take};
+ghost use Rattle.std.specs.Prelude.{length, min, OnOk, OnErr, IfOk, IsTrue, ◌↔◌};
 ghost use Rattle.dc_base.specs.Failures.{HasRisen};
 ghost use Rattle.dc_sectors.specs.Disk.{Image, LeavesOnly};
 ghost use Rattle.dc_pages.specs.Draft.{draft_len, HasRoom};
@@ -33,7 +34,12 @@ impl Model for GroupWriter {
     ghost use Rattle.dc_pages.specs.Buffer.{IsBuffer};
     ghost use Rattle.dc_pages.specs.Group.{head_len};
 
-    ghost view = { λ w. record { site = w.site; session = w.session; pages = w.index; buffer = take w.used (drop head_len w.page) } };
+    ghost view = { λ w. record {
+      site = w.site;
+      session = w.session;
+      pages = w.index;
+      buffer = take w.used (drop head_len w.page);
+    } };
 
     ghost invariant = { λ w. IsBuffer w.used w.page };
 }
@@ -73,7 +79,9 @@ impl GroupWriter {
     // Takes as many of the bytes as the page has room for, and answers how many.
     fn fill(&mut self, bytes: &[u8]) -> usize
         ensures count { result ≡ min (page_payload - length self.old.buffer) (length bytes.now) }
-        ensures filled { self.new ≡ record self.old { buffer = self.old.buffer ++ take result bytes.now } }
+        ensures filled { self.new ≡ record self.old {
+          buffer = self.old.buffer ++ take result bytes.now;
+        } }
     {
         let used = self.used as usize;
         let count = bytes.len().min(PAYLOAD - used);
@@ -86,13 +94,20 @@ impl GroupWriter {
     fn flush_page<D: Disk>(&mut self, disk: &mut D) -> Result<(), Failed>
         requires room { self.old.site.first + self.old.pages + 1 < self.old.site.limit }
         requires limit { self.old.site.limit ≤ D.sectors disk.old }
-        ensures flushed { OnOk result (self.new ≡ record self.old { pages = self.old.pages + 1; buffer = [] }) }
-        ensures on_disk { (start : D) (payload : List ℕ) → self.old.buffer ≡ piece self.old.pages payload
-            → IsOnDisk D.reads D.choices D.moment D.images_since start disk.old self.old.site self.old.session self.old.pages payload
-            → OnOk result (IsOnDisk D.reads D.choices D.moment D.images_since start disk.new self.old.site self.old.session (self.old.pages + 1) payload) }
-        ensures any_moment { (start : D) (payload : List ℕ) → self.old.buffer ≡ piece self.old.pages payload
-            → IsOnDisk D.reads D.choices D.moment D.images_since start disk.old self.old.site self.old.session self.old.pages payload
-            → LeavesOnly D.moment D.images_since start disk.new (IsPartOf self.old.site self.old.session (D.reads start)) }
+        ensures flushed { OnOk result (self.new
+            ≡ record self.old { pages = self.old.pages + 1; buffer = [] }) }
+        ensures on_disk { (start : D) (payload : List ℕ)
+            → self.old.buffer ≡ piece self.old.pages payload
+            → IsOnDisk D.reads D.choices D.moment D.images_since start disk.old self.old.site
+            self.old.session self.old.pages payload
+            → OnOk result (IsOnDisk D.reads D.choices D.moment D.images_since start disk.new
+            self.old.site self.old.session (self.old.pages + 1) payload) }
+        ensures any_moment { (start : D) (payload : List ℕ)
+            → self.old.buffer ≡ piece self.old.pages payload
+            → IsOnDisk D.reads D.choices D.moment D.images_since start disk.old self.old.site
+            self.old.session self.old.pages payload
+            → LeavesOnly D.moment D.images_since start disk.new
+            (IsPartOf self.old.site self.old.session (D.reads start)) }
         ensures elsewhere { SameOutside self.old.site (D.reads disk.old) (D.reads disk.new) }
         ensures before { D.keeps disk.new → D.keeps disk.old }
         ensures count { D.sectors disk.new ≡ D.sectors disk.old }
@@ -123,11 +138,16 @@ impl GroupWriter {
         requires limit { self.old.site.limit ≤ D.sectors disk.old }
         ensures room { OnOk result (length self.new.buffer < page_payload) }
         ensures length { OnOk result (draft_len self.new ≡ draft_len self.old) }
-        ensures same { OnOk result (self.new ≡ record self.old { pages = self.new.pages; buffer = self.new.buffer }) }
-        ensures going { (start : D) (payload : List ℕ) → IsGoing D.reads D.choices D.moment D.images_since start disk.old self.old payload
-            → OnOk result (IsGoing D.reads D.choices D.moment D.images_since start disk.new self.new payload) }
-        ensures any_moment { (start : D) (payload : List ℕ) → IsGoing D.reads D.choices D.moment D.images_since start disk.old self.old payload
-            → LeavesOnly D.moment D.images_since start disk.new (IsPartOf self.old.site self.old.session (D.reads start)) }
+        ensures same { OnOk result (self.new
+            ≡ record self.old { pages = self.new.pages; buffer = self.new.buffer }) }
+        ensures going { (start : D) (payload : List ℕ)
+            → IsGoing D.reads D.choices D.moment D.images_since start disk.old self.old payload
+            → OnOk result (IsGoing D.reads D.choices D.moment D.images_since start disk.new self.new
+            payload) }
+        ensures any_moment { (start : D) (payload : List ℕ)
+            → IsGoing D.reads D.choices D.moment D.images_since start disk.old self.old payload
+            → LeavesOnly D.moment D.images_since start disk.new
+            (IsPartOf self.old.site self.old.session (D.reads start)) }
         ensures elsewhere { SameOutside self.old.site (D.reads disk.old) (D.reads disk.new) }
         ensures before { D.keeps disk.new → D.keeps disk.old }
         ensures count { D.sectors disk.new ≡ D.sectors disk.old }
@@ -149,11 +169,16 @@ impl GroupWriter {
         ensures length { OnOk result (draft_len self.new ≡ draft_len self.old + length bytes.now) }
         ensures some { 0 < length bytes.now → OnOk result (0 < length self.new.buffer) }
         ensures still_some { 0 < length self.old.buffer → OnOk result (0 < length self.new.buffer) }
-        ensures same { OnOk result (self.new ≡ record self.old { pages = self.new.pages; buffer = self.new.buffer }) }
-        ensures going { (start : D) (payload : List ℕ) → IsGoing D.reads D.choices D.moment D.images_since start disk.old self.old payload
-            → OnOk result (IsGoing D.reads D.choices D.moment D.images_since start disk.new self.new (payload ++ bytes.now)) }
-        ensures any_moment { (start : D) (payload : List ℕ) → IsGoing D.reads D.choices D.moment D.images_since start disk.old self.old payload
-            → LeavesOnly D.moment D.images_since start disk.new (IsPartOf self.old.site self.old.session (D.reads start)) }
+        ensures same { OnOk result (self.new
+            ≡ record self.old { pages = self.new.pages; buffer = self.new.buffer }) }
+        ensures going { (start : D) (payload : List ℕ)
+            → IsGoing D.reads D.choices D.moment D.images_since start disk.old self.old payload
+            → OnOk result (IsGoing D.reads D.choices D.moment D.images_since start disk.new self.new
+            (payload ++ bytes.now)) }
+        ensures any_moment { (start : D) (payload : List ℕ)
+            → IsGoing D.reads D.choices D.moment D.images_since start disk.old self.old payload
+            → LeavesOnly D.moment D.images_since start disk.new
+            (IsPartOf self.old.site self.old.session (D.reads start)) }
         ensures elsewhere { SameOutside self.old.site (D.reads disk.old) (D.reads disk.new) }
         ensures before { D.keeps disk.new → D.keeps disk.old }
         ensures count { D.sectors disk.new ≡ D.sectors disk.old }
@@ -176,13 +201,18 @@ impl GroupWriter {
         requires room { HasRoom self 0 }
         requires limit { self.site.limit ≤ D.sectors disk.old }
         ensures sectors { IfOk result (λ n. n ≡ self.pages + 2) }
-        ensures closed { (start : D) (payload : List ℕ) → IsGoing D.reads D.choices D.moment D.images_since start disk.old self payload
-            → OnOk result (IsClosed D.moment D.images_since start disk.new (D.reads start) self.site self.session (self.pages + 1) payload (D.reads disk.new)) }
+        ensures closed { (start : D) (payload : List ℕ)
+            → IsGoing D.reads D.choices D.moment D.images_since start disk.old self payload
+            → OnOk result (IsClosed D.moment D.images_since start disk.new
+            (D.reads start) self.site self.session (self.pages + 1) payload (D.reads disk.new)) }
 
         // Where a write failed, a stop leaves a part of the group without its commit sector, or the group torn.
-        ensures any_moment { (start : D) (payload : List ℕ) → IsGoing D.reads D.choices D.moment D.images_since start disk.old self payload
-            → OnErr result (LeavesOnly D.moment D.images_since start disk.new (IsPartOf self.site self.session (D.reads start))
-            ⊎ ((written : Image) × IsClosed D.moment D.images_since start disk.new (D.reads start) self.site self.session (self.pages + 1) payload written)) }
+        ensures any_moment { (start : D) (payload : List ℕ)
+            → IsGoing D.reads D.choices D.moment D.images_since start disk.old self payload
+            → OnErr result (LeavesOnly D.moment D.images_since start disk.new
+            (IsPartOf self.site self.session (D.reads start))
+            ⊎ ((written : Image) × IsClosed D.moment D.images_since start disk.new
+            (D.reads start) self.site self.session (self.pages + 1) payload written)) }
         ensures elsewhere { SameOutside self.site (D.reads disk.old) (D.reads disk.new) }
         ensures before { D.keeps disk.new → D.keeps disk.old }
         ensures count { D.sectors disk.new ≡ D.sectors disk.old }

@@ -1,6 +1,7 @@
 -- What an answer is to the request that waits for it: the link layer of EN 13757-2 and the variable data
 -- structure of EN 13757-3; the order of the lines is this product's.
-use Rattle.std.specs.Prelude.{ℕ, Bool, true, not, ◌&&◌, ◌||◌, Option, Some, None, Result, Ok, Err, ◌==◌, if◌then◌else◌}
+use Rattle.std.specs.Prelude.{ℕ, Bool, true, not, ◌&&◌, ◌||◌, Option, Some, None, Result, Ok, Err}
+use Rattle.std.specs.Prelude.{◌==◌, if◌then◌else◌}
 use Rattle.dc_linkframe.specs.Frame.{FrameSeen, ack, short, long}
 use Rattle.dc_linkframe.specs.Control.{is_rsp_ud, variable_data, application_error}
 use Rattle.dc_address.specs.declared.identity.Identity.{Identity}
@@ -8,7 +9,9 @@ use Rattle.dc_records.specs.declared.fault.BodyFault.{BodyFault}
 use Rattle.dc_records.specs.Body.{continues}
 use Rattle.dc_records.specs.Telegram.{Parsed, telegram_at}
 use Rattle.dc_readout.specs.declared.why.Why.{Why}
-use Rattle.dc_readout.specs.declared.why.Why.TheVariants.{NoAnswer, WrongFrame, WrongAddress, ApplicationError, Content, Stranger, TooManyParts}
+use Rattle.dc_readout.specs.declared.why.Why.TheVariants.{NoAnswer, WrongFrame, WrongAddress}
+use Rattle.dc_readout.specs.declared.why.Why.TheVariants.{ApplicationError, Content, Stranger}
+use Rattle.dc_readout.specs.declared.why.Why.TheVariants.{TooManyParts}
 
 -- the parts that a readout has at most
 abbrev pub max_parts : ℕ
@@ -40,7 +43,8 @@ is_from (Some address) sender = sender == address
 
 abbrev pub is_meter : Identity → Identity → Bool
 is_meter meter sender =
-    sender.number == meter.number && sender.maker == meter.maker && sender.version == meter.version && sender.kind == meter.kind
+    sender.number == meter.number && sender.maker == meter.maker && sender.version == meter.version
+    && sender.kind == meter.kind
 
 -- the telegram of a part, which no telegram may follow after the last part
 abbrev pub by_telegram : Identity → ℕ → Parsed → Meaning

@@ -19,4 +19,5 @@ pub record IsFollowed (past : Past) (calls : List Call) (request next : FrameSee
   pub lawful : IsLawful (and_then calls past)
   pub first : asked past ≡ Some request
   pub last : asked (and_then calls past) ≡ Some next
-  pub between : (later earlier : List Call) → calls ≡ later ++ earlier → 0 < length later → (asked (and_then earlier past) ≡ None) ⊎ (asked (and_then earlier past) ≡ Some request)
+  pub between : (later earlier : List Call) → calls ≡ later ++ earlier → 0 < length later
+      → (asked (and_then earlier past) ≡ None) ⊎ (asked (and_then earlier past) ≡ Some request)

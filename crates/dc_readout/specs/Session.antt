@@ -1,14 +1,17 @@
 -- What a session's past says of it: the frame count bit of EN 13757-2, and that of EN 13757-3 (2004, 2013) after
 -- a selection. Everything here is said of the whole past.
-use Rattle.std.specs.Prelude.{◌≡◌, ℕ, Bool, true, false, List, [], ◌∷◌, length, Option, Some, None, IsSome, filter, nat_lt, if◌then◌else◌}
+use Rattle.std.specs.Prelude.{◌≡◌, ℕ, Bool, true, false, List, [], ◌∷◌, length, Option, Some, None}
+use Rattle.std.specs.Prelude.{IsSome, filter, nat_lt, if◌then◌else◌}
 use Rattle.std.specs.List.{list_any, filter_map, prefix_len}
 use Rattle.dc_linkframe.specs.Frame.{FrameSeen}
 use Rattle.dc_address.specs.declared.identity.Identity.{Identity}
 use Rattle.dc_records.specs.Body.{continues}
 use Rattle.dc_records.specs.Telegram.{Parsed}
 use Rattle.dc_readout.specs.declared.stage.Stage.{Stage}
-use Rattle.dc_readout.specs.declared.stage.Stage.TheVariants.{Resets, Selects, Requests, Pending, Ended}
-use Rattle.dc_readout.specs.Summary.{Summary, Verdict, again, ready, new, failed, asked_by, verdict_by, IsPending}
+use Rattle.dc_readout.specs.declared.stage.Stage.TheVariants.{Resets, Selects, Requests, Pending}
+use Rattle.dc_readout.specs.declared.stage.Stage.TheVariants.{Ended}
+use Rattle.dc_readout.specs.Summary.{Summary, Verdict, again, ready, new, failed, asked_by}
+use Rattle.dc_readout.specs.Summary.{verdict_by, IsPending}
 
 -- An answer was heard (no byte is silence), or the telegram that came last was settled.
 pub data Call : Type 0 where
@@ -78,18 +81,26 @@ stage_of address verdicts settled =
 -- the tries are those since the request was first sent
 abbrev pub sum_of : Identity → Option ℕ → List Verdict → ℕ → Summary
 sum_of meter address verdicts settled =
-    record { meter = meter; address = address; stage = stage_of address verdicts settled; tries = prefix_len is_again verdicts; settled = settled }
+    record {
+      meter = meter;
+      address = address;
+      stage = stage_of address verdicts settled;
+      tries = prefix_len is_again verdicts;
+      settled = settled;
+    }
 
 -- how each answer was judged, by what came before it, the latest first
 abbrev pub verdicts_of : Identity → Option ℕ → List Call → List Verdict
 verdicts_of meter address [] = []
 verdicts_of meter address (settles ∷ earlier) = verdicts_of meter address earlier
 verdicts_of meter address (hears answer ∷ earlier) =
-    verdict_by (sum_of meter address (verdicts_of meter address earlier) (settled_in earlier)) answer ∷ verdicts_of meter address earlier
+    verdict_by (sum_of meter address (verdicts_of meter address earlier) (settled_in earlier))
+    answer ∷ verdicts_of meter address earlier
 
 -- the summary of a past, what is asked after it, and how an answer is judged there
 abbrev pub summary : Past → Summary
-summary past = sum_of past.meter past.address (verdicts_of past.meter past.address past.calls) (settled_in past.calls)
+summary past = sum_of past.meter past.address (verdicts_of past.meter past.address past.calls)
+    (settled_in past.calls)
 
 abbrev pub asked : Past → Option FrameSeen
 asked past = asked_by (summary past)
@@ -112,9 +123,11 @@ past_of meter address = record { meter = meter; address = address; calls = [] }
 abbrev pub AreLawful : Identity → Option ℕ → List Call → Type 0
 AreLawful meter address [] = Unit {0}
 AreLawful meter address (hears answer ∷ earlier) =
-    IsSome (asked (record { meter = meter; address = address; calls = earlier })) × AreLawful meter address earlier
+    IsSome (asked (record { meter = meter; address = address; calls = earlier }))
+    × AreLawful meter address earlier
 AreLawful meter address (settles ∷ earlier) =
-    IsPending (summary (record { meter = meter; address = address; calls = earlier })).stage × AreLawful meter address earlier
+    IsPending (summary (record { meter = meter; address = address; calls = earlier })).stage
+    × AreLawful meter address earlier
 
 abbrev pub IsLawful : Past → Type 0
 IsLawful past = AreLawful past.meter past.address past.calls

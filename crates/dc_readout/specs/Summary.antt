@@ -1,6 +1,7 @@
 -- What a session knows of its past, what it asks next and how an answer changes it: the frame count bit of
 -- EN 13757-2, and selection as EN 13757-3 (2004, 2013) and EN 13757-7 have it.
-use Rattle.std.specs.Prelude.{ℕ, ◌+◌, ◌%◌, Bool, true, false, List, Option, Some, None, ◌<◌, nat_lt, ◌==◌, if◌then◌else◌}
+use Rattle.std.specs.Prelude.{ℕ, ◌+◌, ◌%◌, Bool, true, false, List, Option, Some, None, ◌<◌, nat_lt}
+use Rattle.std.specs.Prelude.{◌==◌, if◌then◌else◌}
 use Rattle.dc_linkframe.specs.Frame.{FrameSeen}
 use Rattle.dc_linkframe.specs.Control.{selected, reset_to, request_to, selection_by}
 use Rattle.dc_linkframe.specs.Reading.{frame_of}
@@ -9,10 +10,12 @@ use Rattle.dc_address.specs.Mask.{mask_of, mask_wire}
 use Rattle.dc_records.specs.Body.{continues}
 use Rattle.dc_records.specs.Telegram.{Parsed}
 use Rattle.dc_readout.specs.declared.stage.Stage.{Stage}
-use Rattle.dc_readout.specs.declared.stage.Stage.TheVariants.{Resets, Selects, Requests, Pending, Ended}
+use Rattle.dc_readout.specs.declared.stage.Stage.TheVariants.{Resets, Selects, Requests, Pending}
+use Rattle.dc_readout.specs.declared.stage.Stage.TheVariants.{Ended}
 use Rattle.dc_readout.specs.declared.why.Why.{Why}
 use Rattle.dc_readout.specs.declared.why.Why.TheVariants.{NoAnswer}
-use Rattle.dc_readout.specs.Answer.{Meaning, max_parts, acknowledged, answered, missed, broken, to_command, to_request}
+use Rattle.dc_readout.specs.Answer.{Meaning, max_parts, acknowledged, answered, missed, broken}
+use Rattle.dc_readout.specs.Answer.{to_command, to_request}
 
 -- `settled` counts the telegrams that were settled, `tries` the answers in a row that were none to the request.
 pub record Summary : Type 0 where
@@ -83,7 +86,8 @@ verdict_of_meaning tries settled (missed why) = if nat_lt tries 2 then again els
 verdict_of_meaning tries settled (broken why) = failed why
 
 abbrev pub verdict_by : Summary → List ℕ → Verdict
-verdict_by s answer = verdict_of_meaning s.tries s.settled (meaning_at s.stage s.meter s.address s.settled (frame_of answer))
+verdict_by s answer = verdict_of_meaning s.tries s.settled
+    (meaning_at s.stage s.meter s.address s.settled (frame_of answer))
 
 -- ---- what follows
 
@@ -115,7 +119,13 @@ IsPending Requests = ⊥
 IsPending Ended = ⊥
 
 abbrev pub begun : Identity → Option ℕ → Summary
-begun meter address = record { meter = meter; address = address; stage = Resets; tries = 0; settled = 0 }
+begun meter address = record {
+  meter = meter;
+  address = address;
+  stage = Resets;
+  tries = 0;
+  settled = 0;
+}
 
 -- what every session keeps: a try is left while an answer is waited for, and so is a part
 abbrev pub parts_left : Stage → ℕ → Type 0

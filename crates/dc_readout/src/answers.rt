@@ -4,7 +4,8 @@ ghost use Rattle.std.specs.Prelude.{◌≡◌, ◌≤◌, length};
 ghost use Rattle.dc_linkframe.specs.Frame.{longest_body};
 ghost use Rattle.dc_linkframe.specs.Reading.{frame_of};
 ghost use Rattle.dc_records.specs.Telegram.{Parsed, telegram_at};
-ghost use Rattle.dc_readout.specs.Answer.{answered, to_command, to_request, by_body, is_understood, is_from};
+ghost use Rattle.dc_readout.specs.Answer.{answered, to_command, to_request, by_body, is_understood};
+ghost use Rattle.dc_readout.specs.Answer.{is_from};
 ghost use Rattle.dc_readout.specs.Seen.{meaning};
 
 use crate::why::Why;

@@ -1,6 +1,7 @@
 //! One session: what it asks, how it judges what it hears, and what it then knows.
 
-ghost use Rattle.std.specs.Prelude.{◌≡◌, ◌+◌, ◌<◌, ◌≤◌, ◌↔◌, ℕ, length, false, IsSome, IsTrue, option_map};
+ghost use Rattle.std.specs.Prelude.{◌≡◌, ◌+◌, ◌<◌, ◌≤◌, ◌↔◌, ℕ, length, false, IsSome, IsTrue};
+ghost use Rattle.std.specs.Prelude.{option_map};
 ghost use Rattle.dc_linkframe.specs.Frame.{spelling, longest_body};
 ghost use Rattle.dc_linkframe.specs.Reading.{frame_of};
 ghost use Rattle.dc_records.specs.Body.{continues};
@@ -8,8 +9,11 @@ ghost use Rattle.dc_records.specs.Telegram.{Parsed, parsed};
 ghost use Rattle.dc_readout.specs.Answer.{max_parts, missed, answered};
 ghost use Rattle.dc_readout.specs.declared.stage.Stage.TheVariants.{Ended};
 ghost use Rattle.dc_readout.specs.Seen.{meaning, verdict};
-ghost use Rattle.dc_readout.specs.Session.{Past, SumsUp, past_of, asked, judged, and_heard, and_settled};
-ghost use Rattle.dc_readout.specs.Summary.{begun, asked_by, verdict_by, heard_by, settled_by, ready, new, failed, meaning_at, verdict_of_meaning, IsPending, parts_left, request_bit, link_address};
+ghost use Rattle.dc_readout.specs.Session.{Past, SumsUp, past_of, asked, judged, and_heard};
+ghost use Rattle.dc_readout.specs.Session.{and_settled};
+ghost use Rattle.dc_readout.specs.Summary.{begun, asked_by, verdict_by, heard_by, settled_by};
+ghost use Rattle.dc_readout.specs.Summary.{ready, new, failed, meaning_at, verdict_of_meaning};
+ghost use Rattle.dc_readout.specs.Summary.{IsPending, parts_left, request_bit, link_address};
 
 use crate::answers::{Meaning, to_command, to_request};
 use crate::heard::Heard;
@@ -39,11 +43,23 @@ impl Model for Session {
 
     ghost Value = { Summary };
 
-    ghost view = { λ s. record { meter = s.meter; address = s.address; stage = s.stage; tries = s.tries; settled = s.settled } };
+    ghost view = { λ s. record {
+      meter = s.meter;
+      address = s.address;
+      stage = s.stage;
+      tries = s.tries;
+      settled = s.settled;
+    } };
 
     ghost invariant = { λ s. IsSound s.stage s.tries s.settled };
 
-    ghost inverse = { λ s. record { meter = s.meter; address = s.address; stage = s.stage; tries = s.tries; settled = s.settled } };
+    ghost inverse = { λ s. record {
+      meter = s.meter;
+      address = s.address;
+      stage = s.stage;
+      tries = s.tries;
+      settled = s.settled;
+    } };
 }
 
 impl Session {
@@ -67,7 +83,8 @@ impl Session {
         ensures exact { result ≡ option_map spelling (asked_by self.now) }
         // Where a request goes out, a part is left.
         ensures left { IsSome result → self.now.settled < max_parts }
-        ensures past { (past : Past) → SumsUp past self.now → result ≡ option_map spelling (asked past) }
+        ensures past { (past : Past) → SumsUp past self.now
+            → result ≡ option_map spelling (asked past) }
     {
         let mut buf = FrameBuf::new();
         match self.stage {
@@ -85,9 +102,11 @@ impl Session {
         ensures exact { verdict result ≡ verdict_by self.old answer.now }
         ensures after { self.new ≡ heard_by self.old (verdict result) }
         // A telegram came in one frame.
-        ensures fits { (part : ℕ) (t : Parsed) → verdict result ≡ new part t → length t.body ≤ longest_body }
+        ensures fits { (part : ℕ) (t : Parsed) → verdict result ≡ new part t
+            → length t.body ≤ longest_body }
         ensures past { (past : Past) → SumsUp past self.old
-            → (verdict result ≡ judged past answer.now) × SumsUp (and_heard answer.now past) self.new }
+            → (verdict result ≡ judged past answer.now)
+            × SumsUp (and_heard answer.now past) self.new }
     {
         self.judge(answer)
     }
@@ -153,7 +172,8 @@ impl Session {
         requires { IsSome (asked_by self.old) }
         ensures exact { verdict result ≡ verdict_by self.old answer.now }
         ensures after { self.new ≡ heard_by self.old (verdict result) }
-        ensures fits { (part : ℕ) (t : Parsed) → verdict result ≡ new part t → length t.body ≤ longest_body }
+        ensures fits { (part : ℕ) (t : Parsed) → verdict result ≡ new part t
+            → length t.body ≤ longest_body }
     {
         match self.meaning_of(answer) {
             Meaning::Acknowledged => self.go_on(),
@@ -165,7 +185,9 @@ impl Session {
 
     fn meaning_of<'a>(&self, answer: &'a [u8]) -> Meaning<'a>
         requires { IsSome (asked_by self.now) }
-        ensures exact { meaning result ≡ meaning_at self.now.stage self.now.meter self.now.address self.now.settled (frame_of answer.now) }
+        ensures exact { meaning result
+            ≡ meaning_at self.now.stage self.now.meter self.now.address self.now.settled
+            (frame_of answer.now) }
         ensures fits { (t : Parsed) → meaning result ≡ answered t → length t.body ≤ longest_body }
     {
         match self.stage {
@@ -192,7 +214,8 @@ impl Session {
 
     fn wait_for<'a>(&mut self, telegram: Telegram<'a>) -> Heard<'a>
         requires asks { IsSome (asked_by self.old) }
-        requires fits { self.old.settled + 1 ≡ max_parts → continues (parsed telegram).ending ≡ false }
+        requires fits { self.old.settled + 1 ≡ max_parts
+            → continues (parsed telegram).ending ≡ false }
         ensures answer { verdict result ≡ new (self.old.settled + 1) (parsed telegram.entry) }
         ensures after { self.new ≡ heard_by self.old (verdict result) }
     {
@@ -205,7 +228,8 @@ impl Session {
     // The third failed try ends the session.
     fn miss(&mut self, why: Why) -> Heard<'static>
         requires { IsSome (asked_by self.old) }
-        ensures answer { verdict result ≡ verdict_of_meaning self.old.tries self.old.settled (missed why) }
+        ensures answer { verdict result
+            ≡ verdict_of_meaning self.old.tries self.old.settled (missed why) }
         ensures after { self.new ≡ heard_by self.old (verdict result) }
     {
         if self.tries + 1 == MAX_TRIES {

@@ -1,5 +1,6 @@
 -- What follows a telegram's header: items, and then an end (EN 13757-3, data records and the special DIFs).
-use Rattle.std.specs.Prelude.{◌≡◌, Bool, true, false, ℕ, zero, suc, List, [], ◌∷◌, ◌++◌, length, ◌<◌, Result, Ok, Err, ◌==◌, if◌then◌else◌}
+use Rattle.std.specs.Prelude.{◌≡◌, Bool, true, false, ℕ, zero, suc, List, [], ◌∷◌, ◌++◌, length}
+use Rattle.std.specs.Prelude.{◌<◌, Result, Ok, Err, ◌==◌, if◌then◌else◌}
 use Rattle.std.specs.List.{flat_map, AllByRecursion}
 use Rattle.dc_records.specs.declared.fault.BodyFault.{BodyFault}
 use Rattle.dc_records.specs.declared.fault.BodyFault.TheVariants.{Cut}
@@ -68,15 +69,19 @@ pub data Front : Type 0 where
 unfoldable pub front_at : List ℕ → Result Front BodyFault
 front_at [] = Ok (ends plain)
 front_at (b ∷ rest) =
-    if b == 0x0F then Ok (ends (last rest)) else if b == 0x1F then Ok (ends (more rest)) else if b == 0x2F then Ok (skips rest) else (record_at (b ∷ rest) >>= λ x. Ok (gives x.0 x.1))
+    if b == 0x0F then Ok (ends (last rest)) else if b == 0x1F then Ok (ends (more rest))
+    else if b == 0x2F then Ok (skips rest)
+    else (record_at (b ∷ rest) >>= λ x. Ok (gives x.0 x.1))
 
 -- a record before those that were read
-abbrev pub with_record : Entry → Result (List Entry × Ending) BodyFault → Result (List Entry × Ending) BodyFault
+abbrev pub with_record : Entry → Result (List Entry × Ending) BodyFault
+    → Result (List Entry × Ending) BodyFault
 with_record e (Ok x) = Ok (e ∷ x.0, x.1)
 with_record e (Err f) = Err f
 
 -- what is read by what stands at the front, where `others` reads the rest
-abbrev pub after : (List ℕ → Result (List Entry × Ending) BodyFault) → Result Front BodyFault → Result (List Entry × Ending) BodyFault
+abbrev pub after : (List ℕ → Result (List Entry × Ending) BodyFault) → Result Front BodyFault
+    → Result (List Entry × Ending) BodyFault
 after others (Err f) = Err f
 after others (Ok (ends end)) = Ok ([], end)
 after others (Ok (skips rest)) = others rest
@@ -94,7 +99,8 @@ content_at bytes = turns (suc (length bytes)) bytes
 abbrev pub Reads : List ℕ → Front → Type 0
 Reads bytes (ends end) = content_at bytes ≡ Ok ([], end)
 Reads bytes (skips rest) = (content_at bytes ≡ content_at rest) × (length rest < length bytes)
-Reads bytes (gives e rest) = (content_at bytes ≡ with_record e (content_at rest)) × (length rest < length bytes)
+Reads bytes (gives e rest) = (content_at bytes ≡ with_record e (content_at rest))
+    × (length rest < length bytes)
 
 -- the end alone, and the records alone, of what was read
 abbrev pub end_in : Result (List Entry × Ending) BodyFault → Result Ending BodyFault

@@ -1,7 +1,10 @@
 -- The number and the name of each fault of a body (this product).
 use Rattle.std.specs.Prelude.{ℕ, List, codes}
 use Rattle.dc_records.specs.declared.fault.BodyFault.{BodyFault}
-use Rattle.dc_records.specs.declared.fault.BodyFault.TheVariants.{Short, BadIdentity, Encrypted, ReservedDif, TooManyDife, TooManyVife, BadLength, PlainTextExtension, Cut}
+use Rattle.dc_records.specs.declared.fault.BodyFault.TheVariants.{Short, BadIdentity, Encrypted}
+use Rattle.dc_records.specs.declared.fault.BodyFault.TheVariants.{ReservedDif, TooManyDife}
+use Rattle.dc_records.specs.declared.fault.BodyFault.TheVariants.{TooManyVife, BadLength}
+use Rattle.dc_records.specs.declared.fault.BodyFault.TheVariants.{PlainTextExtension, Cut}
 
 abbrev pub number_of : BodyFault → ℕ
 number_of Short = 1

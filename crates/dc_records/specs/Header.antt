@@ -1,5 +1,6 @@
 -- The fixed part of a telegram's body: twelve bytes (EN 13757-3, the long data header).
-use Rattle.std.specs.Prelude.{◌≡◌, ℕ, ◌/◌, ◌%◌, ◌<◌, ◌≤◌, Bool, true, false, List, length, take, slice_index, Result, Ok, Err, nat_lt, if◌then◌else◌, refl}
+use Rattle.std.specs.Prelude.{◌≡◌, ℕ, ◌/◌, ◌%◌, ◌<◌, ◌≤◌, Bool, true, false, List, length, take}
+use Rattle.std.specs.Prelude.{slice_index, Result, Ok, Err, nat_lt, if◌then◌else◌, refl}
 use Rattle.byteorder.specs.Endian.{little_from}
 use Rattle.dc_address.specs.Identity.{IsWire, is_identity}
 use Rattle.dc_address.proofs.Identities.{spelled_identity}
@@ -19,7 +20,8 @@ pub record BeginsWithHeader (text : List ℕ) (h : Header) : Type 0 where
 -- The fault of a text that doesn't.
 pub data HasHeaderFault (text : List ℕ) (f : BodyFault) : Type 0 where
   short : f ≡ Short → length text < 12 → HasHeaderFault text f
-  bad_identity : f ≡ BadIdentity → 12 ≤ length text → ((identity : Identity) → IsWire (take 8 text) identity → ⊥) → HasHeaderFault text f
+  bad_identity : f ≡ BadIdentity → 12 ≤ length text
+      → ((identity : Identity) → IsWire (take 8 text) identity → ⊥) → HasHeaderFault text f
 
 -- the security mode, bits 12 to 8 of the configuration
 abbrev pub security_mode : Header → ℕ
@@ -28,12 +30,19 @@ security_mode h = h.config / 256 % 32
 -- ---- reading
 
 abbrev pub header_with : Identity → List ℕ → Header
-header_with identity text = record { identity = identity; access = slice_index text 8; status = slice_index text 9; config = little_from 10 2 text }
+header_with identity text = record {
+  identity = identity;
+  access = slice_index text 8;
+  status = slice_index text 9;
+  config = little_from 10 2 text;
+}
 
-abbrev pub header_by : (text : List ℕ) (is : Bool) → is_identity (take 8 text) ≡ is → Result Header BodyFault
+abbrev pub header_by : (text : List ℕ) (is : Bool) → is_identity (take 8 text) ≡ is
+    → Result Header BodyFault
 header_by text true is = Ok (header_with (spelled_identity (take 8 text) is).0 text)
 header_by text false is = Err BadIdentity
 
 -- the header that is read at the front, or the first fault
 unfoldable pub header_at : List ℕ → Result Header BodyFault
-header_at text = if nat_lt (length text) 12 then Err Short else header_by text (is_identity (take 8 text)) refl
+header_at text = if nat_lt (length text) 12 then Err Short
+    else header_by text (is_identity (take 8 text)) refl

@@ -1,5 +1,6 @@
 -- What a data record is, and which texts spell it (EN 13757-3, the data record header and the data).
-use Rattle.std.specs.Prelude.{◌≡◌, ◌≢◌, ℕ, ◌+◌, ◌*◌, ◌/◌, ◌%◌, ◌<◌, ◌≤◌, List, [], ◌∷◌, ◌++◌, length, map, ◌⊎◌, slice_index}
+use Rattle.std.specs.Prelude.{◌≡◌, ◌≢◌, ℕ, ◌+◌, ◌*◌, ◌/◌, ◌%◌, ◌<◌, ◌≤◌, List, [], ◌∷◌, ◌++◌}
+use Rattle.std.specs.Prelude.{length, map, ◌⊎◌, slice_index}
 use Rattle.dc_records.specs.declared.record.Record.{Record}
 
 -- a record without where it lies in memory
@@ -13,7 +14,15 @@ pub record Entry : Type 0 where
   pub content : List ℕ
 
 abbrev pub view : Record → Entry
-view r = record { storage = r.storage; tariff = r.tariff; subunit = r.subunit; function = r.function; field = r.field; vib = r.vib.now; content = r.content.now }
+view r = record {
+  storage = r.storage;
+  tariff = r.tariff;
+  subunit = r.subunit;
+  function = r.function;
+  field = r.field;
+  vib = r.vib.now;
+  content = r.content.now;
+}
 
 -- ---- DIF and DIFEs
 
@@ -54,15 +63,18 @@ pub record IsCounted (text content : List ℕ) : Type 0 where
 -- The VIF and what follows it: a length byte and characters after 7C, else at most ten VIFEs. FC isn't read here.
 abbrev pub IsVib : List ℕ → Type 0
 IsVib [] = ⊥
-IsVib (vif ∷ others) = ((vif ≡ 0x7C) × (characters : List ℕ) × IsCounted others characters) ⊎ ((vif ≢ 0x7C) × (vif ≢ 0xFC) × Extends vif others × (length others ≤ 10))
+IsVib (vif ∷ others) = ((vif ≡ 0x7C) × (characters : List ℕ) × IsCounted others characters)
+    ⊎ ((vif ≢ 0x7C) × (vif ≢ 0xFC) × Extends vif others × (length others ≤ 10))
 
--- how many bytes of data the fields 0 to E have: none, whole numbers, REAL (5), whole numbers, none, BCD; D says its own
+-- how many bytes of data the fields 0 to E have: none, whole numbers, REAL (5), whole numbers, none, BCD; D says its
+-- own
 abbrev pub width : ℕ → ℕ
 width field = slice_index (0 ∷ 1 ∷ 2 ∷ 3 ∷ 4 ∷ 4 ∷ 6 ∷ 8 ∷ 0 ∷ 1 ∷ 2 ∷ 3 ∷ 4 ∷ 0 ∷ 6 ∷ []) field
 
 -- the data as sent, and its content
 abbrev pub IsData : ℕ → List ℕ → List ℕ → Type 0
-IsData field sent content = ((field ≡ 0xD) × IsCounted sent content) ⊎ ((field ≢ 0xD) × (sent ≡ content) × (length content ≡ width field))
+IsData field sent content = ((field ≡ 0xD) × IsCounted sent content)
+    ⊎ ((field ≢ 0xD) × (sent ≡ content) × (length content ≡ width field))
 
 -- ---- the record
 

@@ -20,7 +20,12 @@ pub record Parsed : Type 0 where
 
 -- what a telegram shows
 unfoldable pub parsed : Telegram → Parsed
-parsed t = record { body = t.body.now; header = t.header; records = records_in (content_at (drop 12 t.body.now)); ending = ending t.«end» }
+parsed t = record {
+  body = t.body.now;
+  header = t.header;
+  records = records_in (content_at (drop 12 t.body.now));
+  ending = ending t.«end»;
+}
 
 -- The text is a telegram: a header of security mode 0, and then items and an end.
 pub record IsTelegram (text : List ℕ) (t : Parsed) : Type 0 where
@@ -32,8 +37,10 @@ pub record IsTelegram (text : List ℕ) (t : Parsed) : Type 0 where
 -- The fault of a text that is none: that of its header, another security mode, or that of what follows the header.
 pub data HasFault (text : List ℕ) (f : BodyFault) : Type 0 where
   no_header : HasHeaderFault text f → HasFault text f
-  encrypted : f ≡ Encrypted → (h : Header) → BeginsWithHeader text h → security_mode h ≢ 0 → HasFault text f
-  no_content : (h : Header) → BeginsWithHeader text h → security_mode h ≡ 0 → Fails (drop 12 text) f → HasFault text f
+  encrypted : f ≡ Encrypted → (h : Header) → BeginsWithHeader text h → security_mode h ≢ 0
+      → HasFault text f
+  no_content : (h : Header) → BeginsWithHeader text h → security_mode h ≡ 0 → Fails (drop 12 text) f
+      → HasFault text f
 
 -- ---- reading
 
@@ -43,4 +50,5 @@ parsed_of body h x = record { body = body; header = h; records = x.0; ending = x
 -- the telegram that is read, or the first fault
 unfoldable pub telegram_at : List ℕ → Result Parsed BodyFault
 telegram_at body =
-    header_at body >>= λ h. if security_mode h == 0 then (content_at (drop 12 body) >>= λ x. Ok (parsed_of body h x)) else Err Encrypted
+    header_at body >>= λ h. if security_mode h == 0
+    then (content_at (drop 12 body) >>= λ x. Ok (parsed_of body h x)) else Err Encrypted

@@ -36,7 +36,8 @@ fn exact_front(bytes: &[u8]) -> Result<Front<'_>, BodyFault>
 
 /// What stands at the front of a body's rest, with what it says of all that is read there.
 pub fn front_of(bytes: &[u8]) -> Result<Front<'_>, BodyFault>
-    ensures { MatchResult result (λ f. Reads bytes.now (front f)) (λ f. content_at bytes.now ≡ Err f) }
+    ensures { MatchResult result (λ f. Reads bytes.now (front f))
+        (λ f. content_at bytes.now ≡ Err f) }
 {
     exact_front(bytes)
 }

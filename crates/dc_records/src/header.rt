@@ -24,7 +24,8 @@ pub struct Header {
 
 impl Header {
     ghost use Rattle.std.specs.Prelude.{IfOk, IfErr, Ok, Err};
-    ghost use Rattle.dc_records.specs.Header.{BeginsWithHeader, HasHeaderFault, header_at, security_mode};
+    ghost use Rattle.dc_records.specs.Header.{BeginsWithHeader, HasHeaderFault, header_at};
+    ghost use Rattle.dc_records.specs.Header.{security_mode};
     ghost use Rattle.dc_records.specs.declared.header.Header.{Header};
     ghost use Rattle.dc_records.specs.declared.fault.BodyFault.{BodyFault};
 

@@ -2,7 +2,8 @@
 
 ghost use Rattle.std.specs.Prelude.{◌≡◌, ◌≤◌, ◌<◌, ◌^◌, ◌*◌, length, map, IfOk};
 ghost use Rattle.dc_records.specs.Record.{number, storage_digit, tariff_digit, subunit_digit, view};
-ghost use Rattle.dc_records.specs.Reading.{Gives, chain_len, counted_at, vib_len, data_at, record_at};
+ghost use Rattle.dc_records.specs.Reading.{Gives, chain_len, counted_at, vib_len, data_at};
+ghost use Rattle.dc_records.specs.Reading.{record_at};
 
 use crate::fault::BodyFault;
 use crate::record::Record;

@@ -1,11 +1,14 @@
 -- The numbers and names of the store's faults: this product.
 use Rattle.std.specs.Prelude.{ℕ, List, codes}
 use Rattle.dc_recovery.specs.declared.fault.OpenFault.{OpenFault}
-use Rattle.dc_recovery.specs.declared.fault.OpenFault.TheVariants.{NotImage, Damaged, Version, Worn, Device, NoMemory}
+use Rattle.dc_recovery.specs.declared.fault.OpenFault.TheVariants.{NotImage, Damaged, Version, Worn}
+use Rattle.dc_recovery.specs.declared.fault.OpenFault.TheVariants.{Device, NoMemory}
 use Rattle.dc_recovery.specs.declared.fault.FormatFault.{FormatFault}
-use Rattle.dc_recovery.specs.declared.fault.FormatFault.TheVariants.{TooSmall, AlreadyFormatted, Device as FormatDevice}
+use Rattle.dc_recovery.specs.declared.fault.FormatFault.TheVariants.{TooSmall, AlreadyFormatted}
+use Rattle.dc_recovery.specs.declared.fault.FormatFault.TheVariants.{Device as FormatDevice}
 use Rattle.dc_recovery.specs.declared.fault.StoreFault.{StoreFault}
-use Rattle.dc_recovery.specs.declared.fault.StoreFault.TheVariants.{Device as StoreDevice, Worn as StoreWorn, Stopped}
+use Rattle.dc_recovery.specs.declared.fault.StoreFault.TheVariants.{Device as StoreDevice}
+use Rattle.dc_recovery.specs.declared.fault.StoreFault.TheVariants.{Worn as StoreWorn, Stopped}
 
 abbrev pub open_number : OpenFault → ℕ
 open_number NotImage = 1

@@ -1,5 +1,6 @@
--- Why an image isn't opened, as a fact of the image: this product's image format. Opening looks at the roots, at the version
--- and the half length of the one in force, at the base group, and then at each group of changes; the first step that fails is answered.
+-- Why an image isn't opened, as a fact of the image: this product's image format. Opening looks at the roots, at the
+-- version and the half length of the one in force, at the base group, and then at each group of changes; the first
+-- step that fails is answered.
 use Rattle.std.specs.Prelude.{◌≡◌, ◌≢◌, ◌⊎◌, ◌≤◌, ◌^◌, ◌-◌, ℕ, suc, ◌+◌, List, Some, None}
 use Rattle.dc_sectors.specs.Disk.{Image}
 use Rattle.dc_roots.specs.declared.root.Root.{Root}
@@ -8,7 +9,8 @@ use Rattle.dc_roots.specs.Choice.{IsChosen, IsRootless}
 use Rattle.dc_pages.specs.Group.{IsKnown, IsGroup}
 use Rattle.dc_pages.specs.Reading.{IsCutAt}
 use Rattle.dc_recovery.specs.declared.fault.OpenFault.{OpenFault}
-use Rattle.dc_recovery.specs.declared.fault.OpenFault.TheVariants.{NotImage, Damaged, Version, Worn, Device, NoMemory}
+use Rattle.dc_recovery.specs.declared.fault.OpenFault.TheVariants.{NotImage, Damaged, Version, Worn}
+use Rattle.dc_recovery.specs.declared.fault.OpenFault.TheVariants.{Device, NoMemory}
 use Rattle.dc_recovery.specs.Halves.{half_start, budget_of, longest_half}
 use Rattle.dc_recovery.specs.Language.{State, Change, SpellsState, SpellsChanges, AcceptsAll}
 use Rattle.dc_recovery.specs.Sites.{base_site, change_site}
@@ -54,12 +56,15 @@ pub record HasBadGroup (half_len n : ℕ) (image : Image) : Type 0 where
   pub session : ℕ
   pub pages : ℕ
   pub payload : List ℕ
-  pub group : IsGroup (change_site half_len root (root.base_sequence + suc m) n) session payload pages image
-  pub no_changes : (changes : List Change) → SpellsChanges payload changes → AcceptsAll (budget_of half_len) state changes → ⊥
+  pub group : IsGroup (change_site half_len root (root.base_sequence + suc m) n) session payload
+      pages image
+  pub no_changes : (changes : List Change) → SpellsChanges payload changes
+      → AcceptsAll (budget_of half_len) state changes → ⊥
 
 abbrev pub IsDamagedAt : ℕ → ℕ → Image → Type 0
 IsDamagedAt half_len n image =
-    (((HasNoRoot n image ⊎ HasOtherLength half_len n image) ⊎ HasNoBase half_len n image) ⊎ HasBadBase half_len n image) ⊎ HasBadGroup half_len n image
+    (((HasNoRoot n image ⊎ HasOtherLength half_len n image) ⊎ HasNoBase half_len n image)
+    ⊎ HasBadBase half_len n image) ⊎ HasBadGroup half_len n image
 
 -- the root in force is of a version that isn't known
 pub record HasOtherVersion (image : Image) : Type 0 where
@@ -67,10 +72,11 @@ pub record HasOtherVersion (image : Image) : Type 0 where
   pub chosen : IsChosen root image
   pub other_version : IsKnown root.version → ⊥
 
--- A root has no next generation or no next session; or it is of version 1, and behind a group of that sequence there aren't the two
--- generations and the sequence that make it one of version 2.
+-- A root has no next generation or no next session; or it is of version 1, and behind a group of that sequence there
+-- aren't the two generations and the sequence that make it one of version 2.
 abbrev pub IsSpent : Root → ℕ → Type 0
-IsSpent root last = ((root.generation ≡ 2 ^ 64 - 1) ⊎ (root.session ≡ 2 ^ 64 - 1)) ⊎ ((root.version ≢ image_version) × ((root.generation ≡ 2 ^ 64 - 2) ⊎ (2 ^ 64 - 1 ≤ last + 1)))
+IsSpent root last = ((root.generation ≡ 2 ^ 64 - 1) ⊎ (root.session ≡ 2 ^ 64 - 1))
+    ⊎ ((root.version ≢ image_version) × ((root.generation ≡ 2 ^ 64 - 2) ⊎ (2 ^ 64 - 1 ≤ last + 1)))
 
 -- the image can be read, and no session can begin on it
 pub record IsWorn (half_len : ℕ) (image : Image) : Type 0 where
@@ -103,8 +109,12 @@ TellsOfImage NoMemory = ⊥
 
 -- An image has one refusal: where a fault's fact stands, no other's does (one_refusal).
 abbrev pub OneRefusal : Type 0
-OneRefusal = (half_len : ℕ) → half_len ≤ longest_half → (image : Image) (f g : OpenFault) → TellsOfImage f → TellsOfImage g → IsRefused half_len image f → IsRefused half_len image g → f ≡ g
+OneRefusal = (half_len : ℕ) → half_len ≤ longest_half → (image : Image) (f g : OpenFault)
+    → TellsOfImage f → TellsOfImage g → IsRefused half_len image f → IsRefused half_len image g
+    → f ≡ g
 
 -- An image that reads as a state is refused only as worn (read_or_refused).
 abbrev pub RefusedIsNotRead : Type 0
-RefusedIsNotRead = (half_len : ℕ) → half_len ≤ longest_half → (image : Image) (state : State) (f : OpenFault) → TellsOfImage f → IsRefused half_len image f → Reads half_len state image → f ≡ Worn
+RefusedIsNotRead = (half_len : ℕ) → half_len ≤ longest_half
+    → (image : Image) (state : State) (f : OpenFault) → TellsOfImage f → IsRefused half_len image f
+    → Reads half_len state image → f ≡ Worn

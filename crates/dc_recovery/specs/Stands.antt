@@ -1,5 +1,6 @@
 -- The state that an image reads as, and stands for: this product's image format.
-use Rattle.std.specs.Prelude.{◌≡◌, ◌⊎◌, ◌<◌, ℕ, zero, suc, ◌+◌, ◌*◌, ◌^◌, ◌≤◌, List, length, take, replicate}
+use Rattle.std.specs.Prelude.{◌≡◌, ◌⊎◌, ◌<◌, ℕ, zero, suc, ◌+◌, ◌*◌, ◌^◌, ◌≤◌, List, length, take}
+use Rattle.std.specs.Prelude.{replicate}
 use Rattle.dc_sectors.specs.Disk.{Image, Choices, IsImage}
 use Rattle.dc_sectors.specs.declared.sector.Sector.{Sector}
 use Rattle.dc_sectors.specs.declared.sector.Sector.TheVariants.{Bytes, Unreadable}
@@ -9,7 +10,8 @@ use Rattle.dc_pages.specs.declared.site.Site.{Site}
 use Rattle.dc_pages.specs.Group.{IsKnown, IsGroup, IsComplete, Carries}
 use Rattle.dc_recovery.specs.Halves.{half_start, budget_of, longest_half}
 use Rattle.dc_recovery.specs.Sites.{base_site, change_site}
-use Rattle.dc_recovery.specs.Language.{State, Change, SpellsState, SpellsChanges, AcceptsAll, after, empty_state}
+use Rattle.dc_recovery.specs.Language.{State, Change, SpellsState, SpellsChanges, AcceptsAll, after}
+use Rattle.dc_recovery.specs.Language.{empty_state}
 
 -- the version of the images that are written; those of version 1 are read too
 abbrev pub image_version : ℕ
@@ -26,7 +28,8 @@ IsSequence n = n < 2 ^ 64
 -- No page or commit sector of the two halves has a greater session or a greater sequence.
 abbrev pub IsFresh : ℕ → ℕ → ℕ → Image → Type 0
 IsFresh half_len session sequence image =
-    (m s q : ℕ) → 3 ≤ m → m < 3 + 2 * half_len → Carries s q (image m) → (s ≤ session) × (q ≤ sequence)
+    (m s q : ℕ) → 3 ≤ m → m < 3 + 2 * half_len → Carries s q (image m) → (s ≤ session)
+    × (q ≤ sequence)
 
 -- None of the two halves has that stamp.
 abbrev pub IsUnused : ℕ → ℕ → ℕ → Image → Type 0
@@ -34,7 +37,8 @@ IsUnused half_len session sequence image =
     (m : ℕ) → 3 ≤ m → m < 3 + 2 * half_len → Carries session sequence (image m) → ⊥
 
 -- the half begins with a base group that spells the state; it ends before `place`
-pub record HasBase (half_len : ℕ) (root : Root) (place : ℕ) (state : State) (image : Image) : Type 0 where
+pub record HasBase (half_len : ℕ) (root : Root) (place : ℕ) (state : State)
+    (image : Image) : Type 0 where
   pub session : ℕ
   pub payload : List ℕ
   pub pages : ℕ
@@ -43,7 +47,8 @@ pub record HasBase (half_len : ℕ) (root : Root) (place : ℕ) (state : State) 
   pub end : place ≡ half_start half_len root.half + pages + 1
 
 -- one group of changes more than what `Before` says of a place and a state
-pub record HasMore (half_len : ℕ) (root : Root) (Before : ℕ → State → Type 0) (sequence place : ℕ) (state : State) (image : Image) : Type 0 where
+pub record HasMore (half_len : ℕ) (root : Root) (Before : ℕ → State → Type 0) (sequence place : ℕ)
+    (state : State) (image : Image) : Type 0 where
   pub from : ℕ
   pub was : State
   pub before : Before from was
@@ -58,21 +63,27 @@ pub record HasMore (half_len : ℕ) (root : Root) (Before : ℕ → State → Ty
   pub state_is : state ≡ after was changes
   pub end : place ≡ from + pages + 1
 
--- After the base and m groups of changes with consecutive sequences the state is this, and the last of them ends before `place`.
+-- After the base and m groups of changes with consecutive sequences the state is this, and the last of them ends
+-- before `place`.
 abbrev pub Holds : ℕ → Root → Image → ℕ → ℕ → State → Type 0
 Holds half_len root image zero place state = HasBase half_len root place state image
-Holds half_len root image (suc m) place state = HasMore half_len root (Holds half_len root image m) (root.base_sequence + suc m) place state image
+Holds half_len root image (suc m) place state =
+    HasMore half_len root (Holds half_len root image m)
+    (root.base_sequence + suc m) place state image
 
 -- The image reads as the state, by this root and m groups of changes, and `place` is where the next would go.
-pub record ReadsBy (half_len : ℕ) (root : Root) (m place : ℕ) (state : State) (image : Image) : Type 0 where
+pub record ReadsBy (half_len : ℕ) (root : Root) (m place : ℕ) (state : State)
+    (image : Image) : Type 0 where
   pub chosen : IsChosen root image
   pub version : IsKnown root.version
   pub length_is : root.half_len ≡ half_len
   pub holds : Holds half_len root image m place state
-  pub no_more : IsSequence (root.base_sequence + suc m) → IsComplete (change_site half_len root (root.base_sequence + suc m) place) image → ⊥
+  pub no_more : IsSequence (root.base_sequence + suc m)
+      → IsComplete (change_site half_len root (root.base_sequence + suc m) place) image → ⊥
 
 -- it reads, and it is fresh
-pub record StandsBy (half_len : ℕ) (root : Root) (m place : ℕ) (state : State) (image : Image) : Type 0 where
+pub record StandsBy (half_len : ℕ) (root : Root) (m place : ℕ) (state : State)
+    (image : Image) : Type 0 where
   pub reads : ReadsBy half_len root m place state image
   pub fresh : IsFresh half_len root.session (root.base_sequence + suc m) image
 
@@ -88,13 +99,16 @@ pub record Stands (half_len : ℕ) (state : State) (image : Image) : Type 0 wher
   pub place : ℕ
   pub by : StandsBy half_len root m place state image
 
--- WHAT A STORE KNOWS IN ITS LIFE of the one image that its disk has: it stands, and none of its sectors has the stamp that comes next.
-pub record IsReady (half_len : ℕ) (root : Root) (m place : ℕ) (state : State) (image : Image) : Type 0 where
+-- WHAT A STORE KNOWS IN ITS LIFE of the one image that its disk has: it stands, and none of its sectors has the stamp
+-- that comes next.
+pub record IsReady (half_len : ℕ) (root : Root) (m place : ℕ) (state : State)
+    (image : Image) : Type 0 where
   pub stands : StandsBy half_len root m place state image
   pub unused : IsUnused half_len root.session (root.base_sequence + suc m) image
 
 -- The image is ready behind the groups up to one of sequence `last`, and the next would go to `place`.
-pub record IsBegun (half_len : ℕ) (root : Root) (place last : ℕ) (state : State) (image : Image) : Type 0 where
+pub record IsBegun (half_len : ℕ) (root : Root) (place last : ℕ) (state : State)
+    (image : Image) : Type 0 where
   pub m : ℕ
   pub ready : IsReady half_len root m place state image
   pub last_is : last ≡ root.base_sequence + m
@@ -106,21 +120,24 @@ pub record IsCurrent (half_len : ℕ) (root : Root) (image : Image) : Type 0 whe
   pub length_is : root.half_len ≡ half_len
 
 -- The root in force leads to this state by the groups up to one of sequence `last`, and the next would go to `place`.
-pub record IsReached (half_len : ℕ) (root : Root) (place last : ℕ) (state : State) (image : Image) : Type 0 where
+pub record IsReached (half_len : ℕ) (root : Root) (place last : ℕ) (state : State)
+    (image : Image) : Type 0 where
   pub current : IsCurrent half_len root image
   pub m : ℕ
   pub holds : Holds half_len root image m place state
   pub last_is : last ≡ root.base_sequence + m
 
 -- and no group of the next sequence is complete there
-pub record IsRead (half_len : ℕ) (root : Root) (place last : ℕ) (state : State) (image : Image) : Type 0 where
+pub record IsRead (half_len : ℕ) (root : Root) (place last : ℕ) (state : State)
+    (image : Image) : Type 0 where
   pub m : ℕ
   pub by : ReadsBy half_len root m place state image
   pub last_is : last ≡ root.base_sequence + m
 
 -- each image stands for some state
 abbrev pub EachStands : ℕ → Choices → Type 0
-EachStands half_len choices = (image : Image) → IsImage choices image → (state : State) × Stands half_len state image
+EachStands half_len choices = (image : Image) → IsImage choices image → (state : State)
+    × Stands half_len state image
 
 -- the image stands for a state that one of those images stood for
 pub record StandsForOne (half_len : ℕ) (choices : Choices) (image : Image) : Type 0 where
@@ -132,16 +149,19 @@ pub record StandsForOne (half_len : ℕ) (choices : Choices) (image : Image) : T
 
 -- the image stands for one of two states
 abbrev pub StandsForEither : ℕ → State → State → Image → Type 0
-StandsForEither half_len before after image = Stands half_len before image ⊎ Stands half_len after image
+StandsForEither half_len before after image =
+    Stands half_len before image ⊎ Stands half_len after image
 
 -- the image stands for the state after a front of those changes
-pub record StandsForFront (half_len : ℕ) (state : State) (changes : List Change) (image : Image) : Type 0 where
+pub record StandsForFront (half_len : ℕ) (state : State) (changes : List Change)
+    (image : Image) : Type 0 where
   pub count : ℕ
   pub within : count ≤ length changes
   pub stands : Stands half_len (after state (take count changes)) image
 
 -- A payload that spells accepted changes may follow: the image is ready, and this is the site of the next group.
-pub record IsAppendable (half_len : ℕ) (root : Root) (m : ℕ) (site : Site) (was : State) (payload : List ℕ) (changes : List Change) (image : Image) : Type 0 where
+pub record IsAppendable (half_len : ℕ) (root : Root) (m : ℕ) (site : Site) (was : State)
+    (payload : List ℕ) (changes : List Change) (image : Image) : Type 0 where
   pub ready : IsReady half_len root m site.first was image
   pub site_is : site ≡ change_site half_len root (root.base_sequence + suc m) site.first
   pub is_sequence : IsSequence (root.base_sequence + suc m)
@@ -175,4 +195,5 @@ IsFormatting half_len choices image = IsImage choices image ⊎ IsBlankOrEmpty h
 
 -- AN IMAGE READS AS ONE STATE
 abbrev pub ReadsOnce : Type 0
-ReadsOnce = (half_len : ℕ) → half_len ≤ longest_half → (image : Image) (state other : State) → Reads half_len state image → Reads half_len other image → state ≡ other
+ReadsOnce = (half_len : ℕ) → half_len ≤ longest_half → (image : Image) (state other : State)
+    → Reads half_len state image → Reads half_len other image → state ≡ other

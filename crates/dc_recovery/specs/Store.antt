@@ -7,7 +7,8 @@ use Rattle.dc_recovery.specs.Halves.{half_len_of, half_start, half_end, fewest_s
 use Rattle.dc_recovery.specs.Language.{State}
 use Rattle.dc_recovery.specs.Stands.{image_version, IsReady}
 
--- its disk, the root in force, the place of the next group, the sequence of the last one, and whether a failure has stopped it
+-- its disk, the root in force, the place of the next group, the sequence of the last one, and whether a failure has
+-- stopped it
 pub record Kept (D : Type 0) : Type 0 where
   pub disk : D
   pub root : Root
@@ -26,11 +27,14 @@ pub record IsLaidOut (sectors : ℕ) (root : Root) (place : ℕ) : Type 0 where
 abbrev pub Fits : {D : Type 0} → ℕ → Kept D → ℕ → Type 0
 Fits sectors store len = FitsAt store.place (half_end (half_len_of sectors) store.root.half) len
 
--- THE STORE KEEPS THE STATE: it isn't stopped, its image has the version that is written, its disk is settled, and its one image stands for the state and is ready for the next group.
-pub record Keeps {D : Type 0} (sectors : D → ℕ) (reads : D → Image) (choices : D → Choices) (store : Kept D) (state : State) : Type 0 where
+-- THE STORE KEEPS THE STATE: it isn't stopped, its image has the version that is written, its disk is settled, and
+-- its one image stands for the state and is ready for the next group.
+pub record Keeps {D : Type 0} (sectors : D → ℕ) (reads : D → Image) (choices : D → Choices)
+    (store : Kept D) (state : State) : Type 0 where
   pub running : store.is_stopped ≡ false
   pub version : store.root.version ≡ image_version
   pub is_settled : choices store.disk ≡ settled (reads store.disk)
   pub m : ℕ
-  pub ready : IsReady (half_len_of (sectors store.disk)) store.root m store.place state (reads store.disk)
+  pub ready : IsReady (half_len_of (sectors store.disk)) store.root m store.place state
+      (reads store.disk)
   pub last_is : store.last ≡ store.root.base_sequence + m

@@ -6,7 +6,8 @@ use Rattle.dc_pages.specs.Group.{IsGroup}
 use Rattle.dc_pages.specs.Writing.{IsTorn, IsPartOf}
 
 -- each sector of a whole group with that payload is as before, as written, or unreadable
-pub record IsTornGroup (site : Site) (session : ℕ) (payload : List ℕ) (old image : Image) : Type 0 where
+pub record IsTornGroup (site : Site) (session : ℕ) (payload : List ℕ)
+    (old image : Image) : Type 0 where
   pub pages : ℕ
   pub written : Image
   pub group : IsGroup site session payload pages written
@@ -14,10 +15,12 @@ pub record IsTornGroup (site : Site) (session : ℕ) (payload : List ℕ) (old i
 
 -- some of its pages, or a torn group
 abbrev pub IsAttempt : (site : Site) (session : ℕ) → List ℕ → Image → Image → Type 0
-IsAttempt site session payload old image = IsPartOf site session old image ⊎ IsTornGroup site session payload old image
+IsAttempt site session payload old image =
+    IsPartOf site session old image ⊎ IsTornGroup site session payload old image
 
 -- the whole group is written, in so many sectors
-pub record IsWritten (site : Site) (session : ℕ) (payload : List ℕ) (count : ℕ) (old image : Image) : Type 0 where
+pub record IsWritten (site : Site) (session : ℕ) (payload : List ℕ) (count : ℕ)
+    (old image : Image) : Type 0 where
   pub pages : ℕ
   pub count_is : count ≡ pages + 1
   pub group : IsGroup site session payload pages image

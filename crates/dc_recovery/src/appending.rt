@@ -1,6 +1,7 @@
 //! Appending a group of changes.
 
-ghost use Rattle.std.specs.Prelude.{◌≡◌, ◌<◌, ◌≤◌, ◌+◌, ◌*◌, List, ℕ, suc, length, IfOk, OnOk, OnErr};
+ghost use Rattle.std.specs.Prelude.{◌≡◌, ◌<◌, ◌≤◌, ◌+◌, ◌*◌, List, ℕ, suc, length, IfOk, OnOk};
+ghost use Rattle.std.specs.Prelude.{OnErr};
 ghost use Rattle.dc_base.specs.Failures.{HasRisen};
 ghost use Rattle.dc_pages.specs.Draft.{FitsAt};
 ghost use Rattle.dc_pages.specs.Writing.{SameOutside};
@@ -23,12 +24,16 @@ pub(crate) fn append_group<D: Disk>(
     requires some { 0 < length bytes.now }
     requires room { FitsAt site.first site.limit (length bytes.now) }
     requires limit { site.limit ≤ D.sectors disk.old }
-    ensures any_moment { D.choices disk.old ≡ settled (D.reads disk.old) → (half_len m : ℕ) (was : State) (changes : List Change)
+    ensures any_moment { D.choices disk.old ≡ settled (D.reads disk.old)
+        → (half_len m : ℕ) (was : State) (changes : List Change)
         → IsAppendable half_len root.now m site was bytes.now changes (D.reads disk.old)
-        → LeavesOnly D.moment D.images_since disk.old disk.new (StandsForEither half_len was (after was changes)) }
-    ensures ready { D.choices disk.old ≡ settled (D.reads disk.old) → (half_len m : ℕ) (was : State) (changes : List Change)
+        → LeavesOnly D.moment D.images_since disk.old disk.new
+        (StandsForEither half_len was (after was changes)) }
+    ensures ready { D.choices disk.old ≡ settled (D.reads disk.old)
+        → (half_len m : ℕ) (was : State) (changes : List Change)
         → IsAppendable half_len root.now m site was bytes.now changes (D.reads disk.old)
-        → IfOk result (λ count. IsReady half_len root.now (suc m) (site.first + count) (after was changes) (D.reads disk.new)) }
+        → IfOk result (λ count. IsReady half_len root.now (suc m) (site.first + count)
+        (after was changes) (D.reads disk.new)) }
     ensures durable { OnOk result (D.choices disk.new ≡ settled (D.reads disk.new)) }
     ensures within { IfOk result (λ count. site.first + count ≤ site.limit) }
     ensures elsewhere { SameOutside site (D.reads disk.old) (D.reads disk.new) }

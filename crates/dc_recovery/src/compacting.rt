@@ -1,9 +1,11 @@
 //! Writing the whole state into the other half.
 
-ghost use Rattle.std.specs.Prelude.{◌≡◌, ◌<◌, ◌≤◌, ◌+◌, ◌-◌, ◌*◌, ◌^◌, ℕ, zero, suc, IfOk, OnOk, OnErr};
+ghost use Rattle.std.specs.Prelude.{◌≡◌, ◌<◌, ◌≤◌, ◌+◌, ◌-◌, ◌*◌, ◌^◌, ℕ, zero, suc, IfOk, OnOk};
+ghost use Rattle.std.specs.Prelude.{OnErr};
 ghost use Rattle.dc_base.specs.Failures.{HasRisen};
 ghost use Rattle.dc_sectors.specs.Disk.{LeavesOnly, settled};
-ghost use Rattle.dc_recovery.specs.Halves.{half_start, half_end, budget_of, shortest_half, longest_half, SparesRest};
+ghost use Rattle.dc_recovery.specs.Halves.{half_start, half_end, budget_of, shortest_half};
+ghost use Rattle.dc_recovery.specs.Halves.{longest_half, SparesRest};
 ghost use Rattle.dc_recovery.specs.Roots.{compacted};
 ghost use Rattle.dc_recovery.specs.Stands.{IsReady, StandsForEither};
 ghost use Rattle.dc_recovery.specs.Language.{State};
@@ -32,10 +34,15 @@ pub(crate) fn compact_into_other_half<A: Allocator + Copy, D: Disk>(
     requires fits { 3 + 2 * half_len ≤ D.sectors disk.old }
     requires generation { root.now.generation < 2 ^ 64 - 1 }
     requires budget { house.now.budget ≤ budget_of half_len }
-    ensures ready { D.choices disk.old ≡ settled (D.reads disk.old) → (m place : ℕ) (was : State) → IsReady half_len root.now m place was (D.reads disk.old) → sequence ≡ root.now.base_sequence + suc m
+    ensures ready { D.choices disk.old ≡ settled (D.reads disk.old) → (m place : ℕ) (was : State)
+        → IsReady half_len root.now m place was (D.reads disk.old)
+        → sequence ≡ root.now.base_sequence + suc m
         → IfOk result (λ o. IsReady half_len o.0 zero o.1 house.now.state (D.reads disk.new)) }
-    ensures any_moment { D.choices disk.old ≡ settled (D.reads disk.old) → (m place : ℕ) (was : State) → IsReady half_len root.now m place was (D.reads disk.old) → sequence ≡ root.now.base_sequence + suc m
-        → LeavesOnly D.moment D.images_since disk.old disk.new (StandsForEither half_len was house.now.state) }
+    ensures any_moment { D.choices disk.old ≡ settled (D.reads disk.old)
+        → (m place : ℕ) (was : State) → IsReady half_len root.now m place was (D.reads disk.old)
+        → sequence ≡ root.now.base_sequence + suc m
+        → LeavesOnly D.moment D.images_since disk.old disk.new
+        (StandsForEither half_len was house.now.state) }
     ensures durable { OnOk result (D.choices disk.new ≡ settled (D.reads disk.new)) }
     ensures root { IfOk result (λ o. o.0 ≡ compacted root.now sequence) }
     ensures from { IfOk result (λ o. half_start half_len o.0.half ≤ o.1) }

@@ -1,7 +1,8 @@
 //! The store's faults, with their numbers and names.
 
 ghost use Rattle.std.specs.Prelude.{◌≡◌};
-ghost use Rattle.dc_recovery.specs.Fault.{open_number, open_name, format_number, format_name, store_number, store_name};
+ghost use Rattle.dc_recovery.specs.Fault.{open_number, open_name, format_number, format_name};
+ghost use Rattle.dc_recovery.specs.Fault.{store_number, store_name};
 
 use thiserror::Error;
 

@@ -1,15 +1,20 @@
 //! Formatting a disk.
 
-ghost use Rattle.std.specs.Prelude.{◌≡◌, ◌⊎◌, ◌<◌, ◌≤◌, ◌+◌, ◌*◌, ◌^◌, ◌↔◌, ℕ, OnOk, OnErr, IsErrOf};
+ghost use Rattle.std.specs.Prelude.{◌≡◌, ◌⊎◌, ◌<◌, ◌≤◌, ◌+◌, ◌*◌, ◌^◌, ◌↔◌, ℕ, OnOk, OnErr};
+ghost use Rattle.std.specs.Prelude.{IsErrOf};
 ghost use Rattle.dc_base.specs.Failures.{HasRisen};
 ghost use Rattle.dc_sectors.specs.Disk.{Image, IsImage, LeavesOnly, settled};
 ghost use Rattle.dc_roots.specs.declared.root.Root.{Root};
 ghost use Rattle.dc_roots.specs.Choice.{HasRoot};
-ghost use Rattle.dc_recovery.specs.declared.fault.FormatFault.TheVariants.{TooSmall, AlreadyFormatted, Device};
-ghost use Rattle.dc_recovery.specs.Halves.{half_len_of, shortest_half, longest_half, fewest_sectors, SparesRest};
+ghost use Rattle.dc_recovery.specs.declared.fault.FormatFault.TheVariants.{TooSmall};
+ghost use Rattle.dc_recovery.specs.declared.fault.FormatFault.TheVariants.{AlreadyFormatted};
+ghost use Rattle.dc_recovery.specs.declared.fault.FormatFault.TheVariants.{Device};
+ghost use Rattle.dc_recovery.specs.Halves.{half_len_of, shortest_half, longest_half};
+ghost use Rattle.dc_recovery.specs.Halves.{fewest_sectors, SparesRest};
 ghost use Rattle.dc_recovery.specs.Language.{empty_state};
 ghost use Rattle.dc_recovery.specs.Roots.{first_root};
-ghost use Rattle.dc_recovery.specs.Stands.{IsReadyFor, IsUnformatted, IsBlankOrEmpty, IsFormatting, IsWiped, blank};
+ghost use Rattle.dc_recovery.specs.Stands.{IsReadyFor, IsUnformatted, IsBlankOrEmpty, IsFormatting};
+ghost use Rattle.dc_recovery.specs.Stands.{IsWiped, blank};
 
 use crate::FormatFault;
 use crate::halves::{FEWEST_SECTORS, half_end, half_len_of};
@@ -33,7 +38,8 @@ const EMPTY: [u8; 33] = [
 fn blank_sectors<D: Disk>(disk: &mut D, end: u32) -> Result<(), Failed>
     requires { end ≤ D.sectors disk.old }
     ensures blank { OnOk result ((k : ℕ) → 1 ≤ k → k < end → D.reads disk.new k ≡ blank) }
-    ensures any_moment { D.choices disk.old ≡ settled (D.reads disk.old) → LeavesOnly D.moment D.images_since disk.old disk.new (IsWiped (D.reads disk.old)) }
+    ensures any_moment { D.choices disk.old ≡ settled (D.reads disk.old)
+        → LeavesOnly D.moment D.images_since disk.old disk.new (IsWiped (D.reads disk.old)) }
     ensures elsewhere { (m : ℕ) → (m < 1) ⊎ (end ≤ m) → D.reads disk.new m ≡ D.reads disk.old m }
     ensures before { D.keeps disk.new → D.keeps disk.old }
     ensures count { D.sectors disk.new ≡ D.sectors disk.old }
@@ -52,9 +58,11 @@ fn lay_out<D: Disk>(disk: &mut D, half_len: u32) -> Result<(), Failed>
     requires some { shortest_half ≤ half_len }
     requires most { half_len ≤ longest_half }
     requires fits { 3 + 2 * half_len ≤ D.sectors disk.old }
-    ensures ready { OnOk result (IsReadyFor half_len (first_root half_len) empty_state (D.reads disk.new)) }
+    ensures ready { OnOk result (IsReadyFor half_len (first_root half_len) empty_state
+        (D.reads disk.new)) }
     ensures durable { OnOk result (D.choices disk.new ≡ settled (D.reads disk.new)) }
-    ensures any_moment { D.choices disk.old ≡ settled (D.reads disk.old) → IsUnformatted (D.reads disk.old)
+    ensures any_moment { D.choices disk.old ≡ settled (D.reads disk.old)
+        → IsUnformatted (D.reads disk.old)
         → LeavesOnly D.moment D.images_since disk.old disk.new (IsBlankOrEmpty half_len) }
     ensures elsewhere { SparesRest half_len (D.reads disk.old) (D.reads disk.new) }
     ensures before { D.keeps disk.new → D.keeps disk.old }
@@ -84,16 +92,24 @@ fn lay_out<D: Disk>(disk: &mut D, half_len: u32) -> Result<(), Failed>
 pub(crate) fn format_on<D: Disk>(disk: &mut D) -> Result<(), FormatFault>
     ensures too_small { IsErrOf result TooSmall ↔ (D.sectors disk.old < fewest_sectors) }
     ensures untouched { IsErrOf result TooSmall → disk.new ≡ disk.old }
-    ensures already { D.keeps disk.new → IsErrOf result AlreadyFormatted → (root : Root) × HasRoot root (D.reads disk.old) }
+    ensures already { D.keeps disk.new → IsErrOf result AlreadyFormatted → (root : Root)
+        × HasRoot root (D.reads disk.old) }
     ensures passed { IsErrOf result AlreadyFormatted → D.failures disk.new ≡ D.failures disk.old }
-    ensures spared { D.keeps disk.new → (root : Root) → HasRoot root (D.reads disk.old) → D.reads disk.new ≡ D.reads disk.old }
-    ensures spares_images { D.keeps disk.new → (root : Root) → HasRoot root (D.reads disk.old) → LeavesOnly D.moment D.images_since disk.old disk.new (IsImage (D.choices disk.old)) }
-    ensures any_moment { D.keeps disk.new → LeavesOnly D.moment D.images_since disk.old disk.new (IsFormatting (half_len_of (D.sectors disk.old)) (D.choices disk.old)) }
-    ensures never_over { D.keeps disk.new → (root : Root) → HasRoot root (D.reads disk.old) → OnOk result ⊥ }
-    ensures ready { OnOk result (IsReadyFor (half_len_of (D.sectors disk.old)) (first_root (half_len_of (D.sectors disk.old))) empty_state (D.reads disk.new)) }
+    ensures spared { D.keeps disk.new → (root : Root) → HasRoot root (D.reads disk.old)
+        → D.reads disk.new ≡ D.reads disk.old }
+    ensures spares_images { D.keeps disk.new → (root : Root) → HasRoot root (D.reads disk.old)
+        → LeavesOnly D.moment D.images_since disk.old disk.new (IsImage (D.choices disk.old)) }
+    ensures any_moment { D.keeps disk.new
+        → LeavesOnly D.moment D.images_since disk.old disk.new
+        (IsFormatting (half_len_of (D.sectors disk.old)) (D.choices disk.old)) }
+    ensures never_over { D.keeps disk.new → (root : Root) → HasRoot root (D.reads disk.old)
+        → OnOk result ⊥ }
+    ensures ready { OnOk result (IsReadyFor (half_len_of (D.sectors disk.old))
+        (first_root (half_len_of (D.sectors disk.old))) empty_state (D.reads disk.new)) }
     ensures durable { OnOk result (D.choices disk.new ≡ settled (D.reads disk.new)) }
     ensures device { IsErrOf result Device → HasRisen (D.failures disk.old) (D.failures disk.new) }
-    ensures elsewhere { SparesRest (half_len_of (D.sectors disk.old)) (D.reads disk.old) (D.reads disk.new) }
+    ensures elsewhere { SparesRest (half_len_of (D.sectors disk.old)) (D.reads disk.old)
+        (D.reads disk.new) }
     ensures before { D.keeps disk.new → D.keeps disk.old }
     ensures count { D.sectors disk.new ≡ D.sectors disk.old }
     ensures failures { D.failures disk.old ≤ D.failures disk.new }

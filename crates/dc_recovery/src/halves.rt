@@ -1,7 +1,8 @@
 //! Where the halves of an image lie.
 
 ghost use Rattle.std.specs.Prelude.{◌≡◌, ◌<◌, ◌≤◌, ◌^◌, ◌+◌, ◌*◌};
-ghost use Rattle.dc_recovery.specs.Halves.{half_len_of, half_start, half_end, budget_of, shortest_half, longest_half, fewest_sectors};
+ghost use Rattle.dc_recovery.specs.Halves.{half_len_of, half_start, half_end, budget_of};
+ghost use Rattle.dc_recovery.specs.Halves.{shortest_half, longest_half, fewest_sectors};
 
 use dc_pages::PAYLOAD;
 

@@ -1,13 +1,16 @@
 //! Opening an image.
 
-ghost use Rattle.std.specs.Prelude.{◌≡◌, ◌≢◌, ◌⊎◌, ◌<◌, ◌≤◌, ◌+◌, ◌-◌, ◌*◌, ◌^◌, ◌↔◌, ℕ, IsTrue, IfOk, IfErr, OnOk, IsErrOf};
+ghost use Rattle.std.specs.Prelude.{◌≡◌, ◌≢◌, ◌⊎◌, ◌<◌, ◌≤◌, ◌+◌, ◌-◌, ◌*◌, ◌^◌, ◌↔◌, ℕ, IsTrue};
+ghost use Rattle.std.specs.Prelude.{IfOk, IfErr, OnOk, IsErrOf};
 ghost use Rattle.dc_base.specs.Failures.{HasRisen};
 ghost use Rattle.dc_sectors.specs.Disk.{Image, IsImage, LeavesOnly, settled};
 ghost use Rattle.dc_recovery.specs.declared.fault.OpenFault.TheVariants.{Device};
-ghost use Rattle.dc_recovery.specs.Halves.{half_start, half_end, budget_of, shortest_half, longest_half, SparesRest};
+ghost use Rattle.dc_recovery.specs.Halves.{half_start, half_end, budget_of, shortest_half};
+ghost use Rattle.dc_recovery.specs.Halves.{longest_half, SparesRest};
 ghost use Rattle.dc_recovery.specs.Language.{State};
 ghost use Rattle.dc_recovery.specs.Roots.{opened, IsOpenedRoot};
-ghost use Rattle.dc_recovery.specs.Stands.{image_version, IsRead, IsReady, IsBegun, StandsBy, Stands, ReadsBy, Reads, EachStands, StandsForOne};
+ghost use Rattle.dc_recovery.specs.Stands.{image_version, IsRead, IsReady, IsBegun, StandsBy};
+ghost use Rattle.dc_recovery.specs.Stands.{Stands, ReadsBy, Reads, EachStands, StandsForOne};
 ghost use Rattle.dc_roots.specs.declared.root.Root.{Root};
 ghost use Rattle.dc_roots.specs.Root.{slot};
 ghost use Rattle.dc_recovery.specs.Refusal.{IsRefused, IsSpent, IsWorn};
@@ -28,13 +31,18 @@ fn begin_session<D: Disk>(disk: &mut D, root: &Root) -> Result<Root, OpenFault>
     requires session { root.now.session < 2 ^ 64 - 1 }
     ensures next { IfOk result (λ next. next ≡ opened root.now) }
     ensures only_device { IfErr result (λ fault. fault ≡ Device) }
-    ensures ready { (half_len m place : ℕ) (state : State) → D.choices disk.old ≡ settled (D.reads disk.old) → StandsBy half_len root.now m place state (D.reads disk.old)
+    ensures ready { (half_len m place : ℕ) (state : State)
+        → D.choices disk.old ≡ settled (D.reads disk.old)
+        → StandsBy half_len root.now m place state (D.reads disk.old)
         → OnOk result (IsReady half_len (opened root.now) m place state (D.reads disk.new)) }
     ensures durable { OnOk result (D.choices disk.new ≡ settled (D.reads disk.new)) }
-    ensures any_moment { (half_len m place : ℕ) (state : State) → D.choices disk.old ≡ settled (D.reads disk.old) → StandsBy half_len root.now m place state (D.reads disk.old)
+    ensures any_moment { (half_len m place : ℕ) (state : State)
+        → D.choices disk.old ≡ settled (D.reads disk.old)
+        → StandsBy half_len root.now m place state (D.reads disk.old)
         → LeavesOnly D.moment D.images_since disk.old disk.new (Stands half_len state) }
     ensures device { IsErrOf result Device → HasRisen (D.failures disk.old) (D.failures disk.new) }
-    ensures elsewhere { (m : ℕ) → m ≢ slot (opened root.now).generation → D.reads disk.new m ≡ D.reads disk.old m }
+    ensures elsewhere { (m : ℕ) → m ≢ slot (opened root.now).generation
+        → D.reads disk.new m ≡ D.reads disk.old m }
     ensures before { D.keeps disk.new → D.keeps disk.old }
     ensures count { D.sectors disk.new ≡ D.sectors disk.old }
     ensures failures { D.failures disk.old ≤ D.failures disk.new }
@@ -76,11 +84,19 @@ fn begin<A: Allocator + Copy, D: Disk>(
     ensures version { OnOk result (found.new.root.version ≡ image_version) }
     ensures house { found.new.house ≡ found.old.house }
     ensures only_device { IfErr result (λ fault. fault ≡ Device) }
-    ensures ready { D.choices disk.old ≡ settled (D.reads disk.old) → (m : ℕ) → StandsBy half_len found.old.root m found.old.place found.old.house.state (D.reads disk.old)
-        → found.old.last ≡ found.old.root.base_sequence + m → OnOk result (IsBegun half_len found.new.root found.new.place found.new.last found.old.house.state (D.reads disk.new)) }
+    ensures ready { D.choices disk.old ≡ settled (D.reads disk.old) → (m : ℕ)
+        → StandsBy half_len found.old.root m found.old.place found.old.house.state
+        (D.reads disk.old)
+        → found.old.last ≡ found.old.root.base_sequence + m
+        → OnOk result (IsBegun half_len found.new.root found.new.place found.new.last
+        found.old.house.state (D.reads disk.new)) }
     ensures durable { OnOk result (D.choices disk.new ≡ settled (D.reads disk.new)) }
-    ensures any_moment { D.choices disk.old ≡ settled (D.reads disk.old) → (m : ℕ) → StandsBy half_len found.old.root m found.old.place found.old.house.state (D.reads disk.old)
-        → found.old.last ≡ found.old.root.base_sequence + m → LeavesOnly D.moment D.images_since disk.old disk.new (Stands half_len found.old.house.state) }
+    ensures any_moment { D.choices disk.old ≡ settled (D.reads disk.old) → (m : ℕ)
+        → StandsBy half_len found.old.root m found.old.place found.old.house.state
+        (D.reads disk.old)
+        → found.old.last ≡ found.old.root.base_sequence + m
+        → LeavesOnly D.moment D.images_since disk.old disk.new
+        (Stands half_len found.old.house.state) }
     ensures half { OnOk result (found.new.root.half ≤ 1) }
     ensures from { half_start half_len found.old.root.half ≤ found.old.place
         → OnOk result (half_start half_len found.new.root.half ≤ found.new.place) }
@@ -117,21 +133,33 @@ pub(crate) fn open_on<A: Allocator + Copy, D: Disk>(
     requires some { shortest_half ≤ half_len }
     requires most { half_len ≤ longest_half }
     requires fits { 3 + 2 * half_len ≤ D.sectors disk.old }
-    ensures reads { D.keeps disk.new → IfOk result (λ found. Reads half_len found.house.state (D.reads disk.old)) }
-    ensures refused { D.keeps disk.new → IfErr result (λ fault. IsRefused half_len (D.reads disk.old) fault) }
-    ensures unwritten { IfErr result (λ fault. fault ≢ Device → D.reads disk.new ≡ D.reads disk.old) }
-    ensures spares_images { IfErr result (λ fault. fault ≢ Device → LeavesOnly D.moment D.images_since disk.old disk.new (IsImage (D.choices disk.old))) }
-    ensures root { D.keeps disk.new → IfOk result (λ found. (root : Root) × (m : ℕ) × (place : ℕ) × ReadsBy half_len root m place found.house.state (D.reads disk.old) × IsOpenedRoot root (root.base_sequence + m) found.root) }
+    ensures reads { D.keeps disk.new
+        → IfOk result (λ found. Reads half_len found.house.state (D.reads disk.old)) }
+    ensures refused { D.keeps disk.new
+        → IfErr result (λ fault. IsRefused half_len (D.reads disk.old) fault) }
+    ensures unwritten { IfErr result (λ fault.
+        fault ≢ Device → D.reads disk.new ≡ D.reads disk.old) }
+    ensures spares_images { IfErr result (λ fault.
+        fault ≢ Device → LeavesOnly D.moment D.images_since disk.old disk.new
+        (IsImage (D.choices disk.old))) }
+    ensures root { D.keeps disk.new → IfOk result (λ found. (root : Root) × (m : ℕ) × (place : ℕ)
+        × ReadsBy half_len root m place found.house.state (D.reads disk.old)
+        × IsOpenedRoot root (root.base_sequence + m) found.root) }
     ensures version { IfOk result (λ found. found.root.version ≡ image_version) }
     ensures not_worn { D.keeps disk.new → OnOk result (IsWorn half_len (D.reads disk.old) → ⊥) }
-    ensures ready { D.keeps disk.new → EachStands half_len (D.choices disk.old) → IfOk result (λ found. IsBegun half_len found.root found.place found.last found.house.state (D.reads disk.new)) }
+    ensures ready { D.keeps disk.new → EachStands half_len (D.choices disk.old)
+        → IfOk result (λ found. IsBegun half_len found.root found.place found.last found.house.state
+        (D.reads disk.new)) }
     ensures durable { OnOk result (D.choices disk.new ≡ settled (D.reads disk.new)) }
-    ensures any_moment { D.keeps disk.new → EachStands half_len (D.choices disk.old) → LeavesOnly D.moment D.images_since disk.old disk.new (StandsForOne half_len (D.choices disk.old)) }
+    ensures any_moment { D.keeps disk.new → EachStands half_len (D.choices disk.old)
+        → LeavesOnly D.moment D.images_since disk.old disk.new
+        (StandsForOne half_len (D.choices disk.old)) }
     ensures budget { IfOk result (λ found. found.house.budget ≡ budget_of half_len) }
     ensures half { IfOk result (λ found. found.root.half ≤ 1) }
     ensures from { IfOk result (λ found. half_start half_len found.root.half ≤ found.place) }
     ensures within { IfOk result (λ found. found.place ≤ half_end half_len found.root.half) }
-    ensures passed { IfErr result (λ fault. fault ≢ Device → D.failures disk.new ≡ D.failures disk.old) }
+    ensures passed { IfErr result (λ fault.
+        fault ≢ Device → D.failures disk.new ≡ D.failures disk.old) }
     ensures device { IsErrOf result Device → HasRisen (D.failures disk.old) (D.failures disk.new) }
     ensures elsewhere { SparesRest half_len (D.reads disk.old) (D.reads disk.new) }
     ensures before { D.keeps disk.new → D.keeps disk.old }

@@ -1,6 +1,7 @@
 //! Reading an image: from the root in force to the state.
 
-ghost use Rattle.std.specs.Prelude.{true, false, ◌≡◌, ◌≢◌, ◌⊎◌, ◌<◌, ◌≤◌, ◌+◌, ◌-◌, ◌*◌, ◌^◌, List, ℕ, zero, suc, IfOk, IfErr, OnOk, OnErr, IsErrOf};
+ghost use Rattle.std.specs.Prelude.{true, false, ◌≡◌, ◌≢◌, ◌⊎◌, ◌<◌, ◌≤◌, ◌+◌, ◌-◌, ◌*◌, ◌^◌, List};
+ghost use Rattle.std.specs.Prelude.{ℕ, zero, suc, IfOk, IfErr, OnOk, OnErr, IsErrOf};
 ghost use Rattle.dc_base.specs.Failures.{HasRisen};
 ghost use Rattle.dc_recovery.specs.Looked.{OnlyLooked};
 ghost use Rattle.dc_roots.specs.declared.root.Root.{Root};
@@ -8,7 +9,8 @@ ghost use Rattle.dc_recovery.specs.declared.fault.OpenFault.{OpenFault};
 ghost use Rattle.dc_recovery.specs.declared.fault.OpenFault.TheVariants.{Device};
 ghost use Rattle.dc_recovery.specs.Halves.{half_start, half_end, budget_of, longest_half};
 ghost use Rattle.dc_recovery.specs.Language.{State};
-ghost use Rattle.dc_recovery.specs.Stands.{IsSequence, IsCurrent, IsReached, IsRead, Holds, ReadsBy, Reads};
+ghost use Rattle.dc_recovery.specs.Stands.{IsSequence, IsCurrent, IsReached, IsRead, Holds};
+ghost use Rattle.dc_recovery.specs.Stands.{ReadsBy, Reads};
 ghost use Rattle.dc_pages.specs.Group.{IsKnown, IsComplete};
 ghost use Rattle.dc_recovery.specs.Sites.{change_site};
 ghost use Rattle.dc_recovery.specs.Refusal.{IsRefused};
@@ -32,13 +34,16 @@ const FIRST_VERSION: u8 = 1;
 /// Chooses the root in force, which has to be of a known version and for halves of this length.
 fn current_root<D: Disk>(disk: &mut D, half_len: u32) -> Result<Root, OpenFault>
     requires { 2 < D.sectors disk.old }
-    ensures current { D.keeps disk.new → IfOk result (λ root. IsCurrent half_len root (D.reads disk.old)) }
+    ensures current { D.keeps disk.new
+        → IfOk result (λ root. IsCurrent half_len root (D.reads disk.old)) }
     ensures half { IfOk result (λ root. root.half ≤ 1) }
     ensures known { IfOk result (λ root. IsKnown root.version) }
-    ensures refused { D.keeps disk.new → IfErr result (λ fault. IsRefused half_len (D.reads disk.old) fault) }
+    ensures refused { D.keeps disk.new
+        → IfErr result (λ fault. IsRefused half_len (D.reads disk.old) fault) }
     ensures device { IsErrOf result Device → HasRisen (D.failures disk.old) (D.failures disk.new) }
     ensures passed { (IsErrOf result Device → ⊥) → D.failures disk.new ≡ D.failures disk.old }
-    ensures looked { OnlyLooked D.keeps D.reads D.choices D.moment D.images_since D.sectors D.failures disk.old disk.new }
+    ensures looked { OnlyLooked D.keeps D.reads D.choices D.moment D.images_since D.sectors
+        D.failures disk.old disk.new }
 {
     match choose(disk) {
         Ok(root) => {
@@ -75,15 +80,19 @@ fn read_base<A: Allocator + Copy, D: Disk>(
     requires half { root.half ≤ 1 }
     requires most { half_len ≤ longest_half }
     requires fits { 3 + 2 * half_len ≤ D.sectors disk.old }
-    ensures reached { D.keeps disk.new → IsCurrent half_len root (D.reads disk.old) → IfOk result (λ found. IsReached half_len root found.place found.last found.house.state (D.reads disk.old)) }
+    ensures reached { D.keeps disk.new → IsCurrent half_len root (D.reads disk.old)
+        → IfOk result (λ found. IsReached half_len root found.place found.last found.house.state
+        (D.reads disk.old)) }
     ensures root { IfOk result (λ found. found.root ≡ root) }
     ensures budget { IfOk result (λ found. found.house.budget ≡ budget_of half_len) }
     ensures from { IfOk result (λ found. half_start half_len root.half ≤ found.place) }
     ensures within { IfOk result (λ found. found.place ≤ half_end half_len root.half) }
-    ensures refused { D.keeps disk.new → IsCurrent half_len root (D.reads disk.old) → IfErr result (λ fault. IsRefused half_len (D.reads disk.old) fault) }
+    ensures refused { D.keeps disk.new → IsCurrent half_len root (D.reads disk.old)
+        → IfErr result (λ fault. IsRefused half_len (D.reads disk.old) fault) }
     ensures device { IsErrOf result Device → HasRisen (D.failures disk.old) (D.failures disk.new) }
     ensures passed { (IsErrOf result Device → ⊥) → D.failures disk.new ≡ D.failures disk.old }
-    ensures looked { OnlyLooked D.keeps D.reads D.choices D.moment D.images_since D.sectors D.failures disk.old disk.new }
+    ensures looked { OnlyLooked D.keeps D.reads D.choices D.moment D.images_since D.sectors
+        D.failures disk.old disk.new }
 {
     let site = base_site(half_len, &root);
     let group = match read_group(alloc, disk, site) {
@@ -115,18 +124,28 @@ fn read_next<A: Allocator + Copy, D: Disk>(
     requires most { half_len ≤ longest_half }
     requires fits { 3 + 2 * half_len ≤ D.sectors disk.old }
     requires within { found.old.place ≤ half_end half_len found.old.root.half }
-    ensures more { D.keeps disk.new → found.old.house.budget ≡ budget_of half_len → IsReached half_len found.old.root found.old.place found.old.last found.old.house.state (D.reads disk.old)
-        → OnOk result (IsReached half_len found.new.root found.new.place found.new.last found.new.house.state (D.reads disk.old)) }
-    ensures none { D.keeps disk.new → result ≡ Ok false → (sequence : ℕ) → sequence ≡ found.new.last + 1 → IsSequence sequence → IsComplete (change_site half_len found.new.root sequence found.new.place) (D.reads disk.old) → ⊥ }
-    ensures refused { D.keeps disk.new → found.old.house.budget ≡ budget_of half_len → IsReached half_len found.old.root found.old.place found.old.last found.old.house.state (D.reads disk.old)
+    ensures more { D.keeps disk.new → found.old.house.budget ≡ budget_of half_len
+        → IsReached half_len found.old.root found.old.place found.old.last found.old.house.state
+        (D.reads disk.old)
+        → OnOk result (IsReached half_len found.new.root found.new.place found.new.last
+        found.new.house.state (D.reads disk.old)) }
+    ensures none { D.keeps disk.new → result ≡ Ok false → (sequence : ℕ)
+        → sequence ≡ found.new.last + 1 → IsSequence sequence
+        → IsComplete (change_site half_len found.new.root sequence found.new.place)
+        (D.reads disk.old) → ⊥ }
+    ensures refused { D.keeps disk.new → found.old.house.budget ≡ budget_of half_len
+        → IsReached half_len found.old.root found.old.place found.old.last found.old.house.state
+        (D.reads disk.old)
         → IfErr result (λ fault. IsRefused half_len (D.reads disk.old) fault) }
     ensures from { found.old.place ≤ found.new.place }
     ensures further { result ≡ Ok true → found.old.place < found.new.place }
     ensures within { OnOk result (found.new.place ≤ half_end half_len found.new.root.half) }
-    ensures kept { (found.new.root ≡ found.old.root) × (found.new.house.budget ≡ found.old.house.budget) }
+    ensures kept { (found.new.root ≡ found.old.root)
+        × (found.new.house.budget ≡ found.old.house.budget) }
     ensures device { IsErrOf result Device → HasRisen (D.failures disk.old) (D.failures disk.new) }
     ensures passed { (IsErrOf result Device → ⊥) → D.failures disk.new ≡ D.failures disk.old }
-    ensures looked { OnlyLooked D.keeps D.reads D.choices D.moment D.images_since D.sectors D.failures disk.old disk.new }
+    ensures looked { OnlyLooked D.keeps D.reads D.choices D.moment D.images_since D.sectors
+        D.failures disk.old disk.new }
 {
     if found.last == u64::MAX {
         return Ok(false);
@@ -160,9 +179,14 @@ fn read_groups<A: Allocator + Copy, D: Disk>(
     requires most { half_len ≤ longest_half }
     requires fits { 3 + 2 * half_len ≤ D.sectors disk.old }
     requires within { found.old.place ≤ half_end half_len found.old.root.half }
-    ensures all { D.keeps disk.new → found.old.house.budget ≡ budget_of half_len → IsReached half_len found.old.root found.old.place found.old.last found.old.house.state (D.reads disk.old)
-        → OnOk result (IsRead half_len found.new.root found.new.place found.new.last found.new.house.state (D.reads disk.old)) }
-    ensures refused { D.keeps disk.new → found.old.house.budget ≡ budget_of half_len → IsReached half_len found.old.root found.old.place found.old.last found.old.house.state (D.reads disk.old)
+    ensures all { D.keeps disk.new → found.old.house.budget ≡ budget_of half_len
+        → IsReached half_len found.old.root found.old.place found.old.last found.old.house.state
+        (D.reads disk.old)
+        → OnOk result (IsRead half_len found.new.root found.new.place found.new.last
+        found.new.house.state (D.reads disk.old)) }
+    ensures refused { D.keeps disk.new → found.old.house.budget ≡ budget_of half_len
+        → IsReached half_len found.old.root found.old.place found.old.last found.old.house.state
+        (D.reads disk.old)
         → IfErr result (λ fault. IsRefused half_len (D.reads disk.old) fault) }
     ensures from { found.old.place ≤ found.new.place }
     ensures within { OnOk result (found.new.place ≤ half_end half_len found.new.root.half) }
@@ -170,7 +194,8 @@ fn read_groups<A: Allocator + Copy, D: Disk>(
     ensures budget { found.new.house.budget ≡ found.old.house.budget }
     ensures device { IsErrOf result Device → HasRisen (D.failures disk.old) (D.failures disk.new) }
     ensures passed { (IsErrOf result Device → ⊥) → D.failures disk.new ≡ D.failures disk.old }
-    ensures looked { OnlyLooked D.keeps D.reads D.choices D.moment D.images_since D.sectors D.failures disk.old disk.new }
+    ensures looked { OnlyLooked D.keeps D.reads D.choices D.moment D.images_since D.sectors
+        D.failures disk.old disk.new }
 {
     'groups: while read_next(alloc, disk, found, half_len)? {}
     Ok(())
@@ -184,8 +209,10 @@ pub(crate) fn read_image<A: Allocator + Copy, D: Disk>(
 ) -> Result<Found<A>, OpenFault>
     requires most { half_len ≤ longest_half }
     requires fits { 3 + 2 * half_len ≤ D.sectors disk.old }
-    ensures all { D.keeps disk.new → IfOk result (λ found. IsRead half_len found.root found.place found.last found.house.state (D.reads disk.old)) }
-    ensures refused { D.keeps disk.new → IfErr result (λ fault. IsRefused half_len (D.reads disk.old) fault) }
+    ensures all { D.keeps disk.new → IfOk result (λ found.
+        IsRead half_len found.root found.place found.last found.house.state (D.reads disk.old)) }
+    ensures refused { D.keeps disk.new
+        → IfErr result (λ fault. IsRefused half_len (D.reads disk.old) fault) }
     ensures budget { IfOk result (λ found. found.house.budget ≡ budget_of half_len) }
     ensures half { IfOk result (λ found. found.root.half ≤ 1) }
     ensures known { IfOk result (λ found. IsKnown found.root.version) }
@@ -193,7 +220,8 @@ pub(crate) fn read_image<A: Allocator + Copy, D: Disk>(
     ensures within { IfOk result (λ found. found.place ≤ half_end half_len found.root.half) }
     ensures device { IsErrOf result Device → HasRisen (D.failures disk.old) (D.failures disk.new) }
     ensures passed { (IsErrOf result Device → ⊥) → D.failures disk.new ≡ D.failures disk.old }
-    ensures looked { OnlyLooked D.keeps D.reads D.choices D.moment D.images_since D.sectors D.failures disk.old disk.new }
+    ensures looked { OnlyLooked D.keeps D.reads D.choices D.moment D.images_since D.sectors
+        D.failures disk.old disk.new }
 {
     let root = current_root(disk, half_len)?;
     let mut found = read_base(alloc, disk, root, half_len)?;

@@ -1,6 +1,7 @@
 //! Putting the next root in force.
 
-ghost use Rattle.std.specs.Prelude.{◌≡◌, ◌≢◌, ◌<◌, ◌≤◌, ◌-◌, ◌^◌, ◌↔◌, ℕ, Option, IfOk, OnOk, IsErrOf};
+ghost use Rattle.std.specs.Prelude.{◌≡◌, ◌≢◌, ◌<◌, ◌≤◌, ◌-◌, ◌^◌, ◌↔◌, ℕ, Option, IfOk, OnOk};
+ghost use Rattle.std.specs.Prelude.{IsErrOf};
 ghost use Rattle.dc_base.specs.Failures.{HasRisen};
 ghost use Rattle.dc_sectors.specs.Disk.{LeavesOnly, settled};
 ghost use Rattle.dc_roots.specs.Root.{next_of, slot};
@@ -18,12 +19,18 @@ pub(crate) fn put_root<D: Disk>(disk: &mut D, root: &Root) -> Result<Root, RootF
     ensures next { IfOk result (λ next. next ≡ next_of root.now) }
     ensures worn { IsErrOf result RootFault.Worn ↔ (root.now.generation ≡ 2 ^ 64 - 1) }
     ensures unchanged { IsErrOf result RootFault.Worn → disk.new ≡ disk.old }
-    ensures not_rootless { (unreadable : Option ℕ) → IsErrOf result (RootFault.NoRoot unreadable) → ⊥ }
-    ensures done { D.choices disk.old ≡ settled (D.reads disk.old) → OnOk result (IsRootDone (next_of root.now) (D.reads disk.old) (D.reads disk.new)) }
+    ensures not_rootless { (unreadable : Option ℕ) → IsErrOf result (RootFault.NoRoot unreadable)
+        → ⊥ }
+    ensures done { D.choices disk.old ≡ settled (D.reads disk.old)
+        → OnOk result (IsRootDone (next_of root.now) (D.reads disk.old) (D.reads disk.new)) }
     ensures durable { OnOk result (D.choices disk.new ≡ settled (D.reads disk.new)) }
-    ensures any_moment { D.choices disk.old ≡ settled (D.reads disk.old) → LeavesOnly D.moment D.images_since disk.old disk.new (IsRootWrite (next_of root.now) (D.reads disk.old)) }
-    ensures device { IsErrOf result RootFault.Device → HasRisen (D.failures disk.old) (D.failures disk.new) }
-    ensures elsewhere { (m : ℕ) → m ≢ slot (next_of root.now).generation → D.reads disk.new m ≡ D.reads disk.old m }
+    ensures any_moment { D.choices disk.old ≡ settled (D.reads disk.old)
+        → LeavesOnly D.moment D.images_since disk.old disk.new
+        (IsRootWrite (next_of root.now) (D.reads disk.old)) }
+    ensures device { IsErrOf result RootFault.Device
+        → HasRisen (D.failures disk.old) (D.failures disk.new) }
+    ensures elsewhere { (m : ℕ) → m ≢ slot (next_of root.now).generation
+        → D.reads disk.new m ≡ D.reads disk.old m }
     ensures before { D.keeps disk.new → D.keeps disk.old }
     ensures count { D.sectors disk.new ≡ D.sectors disk.old }
     ensures failures { D.failures disk.old ≤ D.failures disk.new }

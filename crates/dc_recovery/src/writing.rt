@@ -26,9 +26,11 @@ pub(crate) fn write_group<D: Disk>(
     requires room { FitsAt site.first site.limit (length bytes.now) }
     requires limit { site.limit ≤ D.sectors disk.old }
     ensures written { D.choices disk.old ≡ settled (D.reads disk.old)
-        → IfOk result (λ count. IsWritten site session bytes.now count (D.reads disk.old) (D.reads disk.new)) }
+        → IfOk result (λ count. IsWritten site session bytes.now count (D.reads disk.old)
+        (D.reads disk.new)) }
     ensures any_moment { D.choices disk.old ≡ settled (D.reads disk.old)
-        → LeavesOnly D.moment D.images_since disk.old disk.new (IsAttempt site session bytes.now (D.reads disk.old)) }
+        → LeavesOnly D.moment D.images_since disk.old disk.new
+        (IsAttempt site session bytes.now (D.reads disk.old)) }
     ensures within { IfOk result (λ count. site.first + count ≤ site.limit) }
     ensures elsewhere { SameOutside site (D.reads disk.old) (D.reads disk.new) }
     ensures before { D.keeps disk.new → D.keeps disk.old }
@@ -48,8 +50,12 @@ fn encode_into<A: Allocator + Copy, D: Disk>(
     house: &House<A>,
 ) -> Result<(), Failed>
     ensures same_reference { sink.new.disk.ghost_name ≡ sink.old.disk.ghost_name }
-    ensures goes_into { OnOk result (GoesInto D.keeps D.reads D.choices D.moment D.images_since D.sectors D.failures sink.old.disk.now sink.new.disk.now sink.old.writer sink.new.writer (state_bytes house.now.state)) }
-    ensures breaks_off { OnErr result (BreaksOff D.keeps D.reads D.choices D.moment D.images_since D.sectors D.failures sink.old.disk.now sink.new.disk.now sink.old.writer (state_bytes house.now.state)) }
+    ensures goes_into { OnOk result (GoesInto D.keeps D.reads D.choices D.moment D.images_since
+        D.sectors D.failures sink.old.disk.now sink.new.disk.now sink.old.writer sink.new.writer
+        (state_bytes house.now.state)) }
+    ensures breaks_off { OnErr result
+        (BreaksOff D.keeps D.reads D.choices D.moment D.images_since D.sectors D.failures
+        sink.old.disk.now sink.new.disk.now sink.old.writer (state_bytes house.now.state)) }
 {
     match house.encode(sink) {
         Ok(()) => Ok(()),
@@ -68,9 +74,11 @@ pub(crate) fn write_state<A: Allocator + Copy, D: Disk>(
     requires room { FitsAt site.first site.limit (length (state_bytes house.now.state)) }
     requires limit { site.limit ≤ D.sectors disk.old }
     ensures written { D.choices disk.old ≡ settled (D.reads disk.old)
-        → IfOk result (λ count. IsWritten site session (state_bytes house.now.state) count (D.reads disk.old) (D.reads disk.new)) }
+        → IfOk result (λ count. IsWritten site session (state_bytes house.now.state) count
+        (D.reads disk.old) (D.reads disk.new)) }
     ensures any_moment { D.choices disk.old ≡ settled (D.reads disk.old)
-        → LeavesOnly D.moment D.images_since disk.old disk.new (IsAttempt site session (state_bytes house.now.state) (D.reads disk.old)) }
+        → LeavesOnly D.moment D.images_since disk.old disk.new
+        (IsAttempt site session (state_bytes house.now.state) (D.reads disk.old)) }
     ensures within { IfOk result (λ count. site.first + count ≤ site.limit) }
     ensures elsewhere { SameOutside site (D.reads disk.old) (D.reads disk.new) }
     ensures before { D.keeps disk.new → D.keeps disk.old }

@@ -23,7 +23,8 @@ use Rattle.dc_report.specs.Line.{line_text}
 
 -- a reading of the same meter and a greater serial that has a value for the date too
 abbrev pub is_later : Day → ReadingRow → ReadingRow → Bool
-is_later date r other = is_eq (identity_cmp r.meter other.meter) && (nat_lt r.serial other.serial && has_value date other)
+is_later date r other = is_eq (identity_cmp r.meter other.meter) &&
+    (nat_lt r.serial other.serial && has_value date other)
 
 abbrev pub is_last : Day → List ReadingRow → ReadingRow → Bool
 is_last date readings r = has_value date r && not (list_any (is_later date r) readings)
@@ -53,11 +54,13 @@ due_rows date s = flat_map (reading_rows date) (due_readings date s.readings)
 -- ---- their lines
 
 abbrev pub due_header : List (List ℕ)
-due_header = codes "flat" ∷ codes "meter" ∷ codes "serial" ∷ codes "storage" ∷ codes "function" ∷ codes "tariff" ∷ codes "subunit" ∷ codes "value" ∷ codes "unit" ∷ []
+due_header = codes "flat" ∷ codes "meter" ∷ codes "serial" ∷ codes "storage" ∷ codes "function"
+    ∷ codes "tariff" ∷ codes "subunit" ∷ codes "value" ∷ codes "unit" ∷ []
 
 abbrev pub due_fields : Row → List (List ℕ)
 due_fields row =
-    row.flat ∷ text_of row.meter ∷ decimal row.serial ∷ decimal row.point.storage ∷ decimal row.point.function ∷ decimal row.point.tariff
+    row.flat ∷ text_of row.meter ∷ decimal row.serial ∷ decimal row.point.storage
+    ∷ decimal row.point.function ∷ decimal row.point.tariff
     ∷ decimal row.point.subunit ∷ value_text row.point.value ∷ unit_of row.point.quantity ∷ []
 
 abbrev pub due_line : Row → List ℕ

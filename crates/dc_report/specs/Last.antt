@@ -11,4 +11,5 @@ use Rattle.dc_meters.specs.Due.{has_value}
 abbrev pub last_of : Day → Identity → List ReadingRow → Option ReadingRow
 last_of date meter [] = None
 last_of date meter (r ∷ readings) =
-    option_or (last_of date meter readings) (if is_eq (identity_cmp meter r.meter) && has_value date r then Some r else None)
+    option_or (last_of date meter readings)
+    (if is_eq (identity_cmp meter r.meter) && has_value date r then Some r else None)

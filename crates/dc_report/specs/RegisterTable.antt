@@ -12,11 +12,13 @@ use Rattle.dc_report.specs.Line.{line_text}
 use Rattle.dc_report.specs.Medium.{medium_text}
 
 abbrev pub register_header : List (List ℕ)
-register_header = codes "flat" ∷ codes "meter" ∷ codes "medium" ∷ codes "line" ∷ codes "address" ∷ codes "open" ∷ []
+register_header = codes "flat" ∷ codes "meter" ∷ codes "medium" ∷ codes "line" ∷ codes "address"
+    ∷ codes "open" ∷ []
 
 -- a meter's fields; the last is the number of its open parts
 abbrev pub meter_fields : Identity → MeterRow → List (List ℕ)
-meter_fields meter row = row.flat ∷ text_of meter ∷ medium_text meter.kind ∷ decimal row.line ∷ address_word row.address ∷ decimal (length row.parts) ∷ []
+meter_fields meter row = row.flat ∷ text_of meter ∷ medium_text meter.kind ∷ decimal row.line
+    ∷ address_word row.address ∷ decimal (length row.parts) ∷ []
 
 abbrev pub meter_line : Identity → Option MeterRow → List ℕ
 meter_line meter None = []

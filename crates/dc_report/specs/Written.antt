@@ -1,7 +1,8 @@
 -- A table while it is written with `csv`.
 use Rattle.std.specs.Prelude.{◌≡◌, ℕ, false, List, ◌++◌}
 use Rattle.csv.specs.declared.writer.Writer.{Writer}
-use Rattle.csv.specs.Writing.{default_writer, writer_under, writer_pending, writer_setup, fields_written, has_written, needs_quotes}
+use Rattle.csv.specs.Writing.{default_writer, writer_under, writer_pending, writer_setup}
+use Rattle.csv.specs.Writing.{fields_written, has_written, needs_quotes}
 use Rattle.std.specs.List.{AllByRecursion}
 
 -- what a writer holds, and what of it still waits to be passed on

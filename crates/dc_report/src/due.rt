@@ -109,7 +109,8 @@ fn push_rows<A: Allocator + Copy>(
 fn put_rows<A: Allocator>(table: &mut Writer<Vec<u8, A>>, rows: &[Row]) -> Result<(), NoMemory>
     requires { IsAtLine table.old }
     ensures ready { OnOk result (IsAtLine table.new) }
-    ensures text { OnOk result (so_far (λ v. v.items) table.new ≡ so_far (λ v. v.items) table.old ++ flat_map due_line rows.now) }
+    ensures text { OnOk result (so_far (λ v. v.items) table.new ≡ so_far (λ v.
+        v.items) table.old ++ flat_map due_line rows.now) }
 {
     for row in rows {
         put_row(table, row)?;
@@ -120,7 +121,8 @@ fn put_rows<A: Allocator>(table: &mut Writer<Vec<u8, A>>, rows: &[Row]) -> Resul
 fn put_row<A: Allocator>(table: &mut Writer<Vec<u8, A>>, row: &Row) -> Result<(), NoMemory>
     requires { IsAtLine table.old }
     ensures ready { OnOk result (IsAtLine table.new) }
-    ensures text { OnOk result (so_far (λ v. v.items) table.new ≡ so_far (λ v. v.items) table.old ++ due_line row.now) }
+    ensures text { OnOk result (so_far (λ v. v.items) table.new ≡ so_far (λ v.
+        v.items) table.old ++ due_line row.now) }
 {
     let Row { flat, point, .. } = *row;
     let mut serial = Buffer::new();

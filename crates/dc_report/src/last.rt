@@ -21,7 +21,8 @@ pub(crate) fn due_readings<'a, A: Allocator + Copy>(
     house: &'a House<A>,
     date: Date,
 ) -> Result<BTreeMap<Place, &'a Reading<A>, A>, NoMemory>
-    ensures { IfOk result (λ rows. map (λ e. e.1.now) rows.entries ≡ due_readings date house.now.state.readings) }
+    ensures { IfOk result (λ rows. map (λ e.
+        e.1.now) rows.entries ≡ due_readings date house.now.state.readings) }
 {
     let last = last_readings(alloc, house, date)?;
     let mut rows = BTreeMap::new(alloc);
@@ -44,7 +45,8 @@ fn last_readings<'a, A: Allocator + Copy>(
     house: &'a House<A>,
     date: Date,
 ) -> Result<BTreeMap<Identity, &'a Reading<A>, A>, NoMemory>
-    ensures last { IfOk result (λ last. (meter : Identity) → option_map (λ r. r.now) (get identity_cmp last meter) ≡ last_of date meter house.now.state.readings) }
+    ensures last { IfOk result (λ last. (meter : Identity) → option_map (λ r.
+        r.now) (get identity_cmp last meter) ≡ last_of date meter house.now.state.readings) }
     ensures is_state { IsState house.now.budget house.now.state }
 {
     let mut last = BTreeMap::new(alloc);

@@ -26,7 +26,8 @@ pub(crate) fn put_line<A: Allocator>(
     requires several { 2 ≤ length (map (λ f. f.now) fields.now) }
     requires plain { ArePlain (map (λ f. f.now) fields.now) }
     ensures ready { OnOk result (IsAtLine table.new) }
-    ensures text { OnOk result (so_far (λ v. v.items) table.new ≡ so_far (λ v. v.items) table.old ++ line_text (map (λ f. f.now) fields.now)) }
+    ensures text { OnOk result (so_far (λ v. v.items) table.new ≡ so_far (λ v.
+        v.items) table.old ++ line_text (map (λ f. f.now) fields.now)) }
 {
     csv_line(table, fields)
 }
@@ -35,7 +36,8 @@ pub(crate) fn put_line<A: Allocator>(
 fn csv_line<A: Allocator>(table: &mut Writer<Vec<u8, A>>, fields: &[&[u8]]) -> Result<(), NoMemory>
     requires { IsAtLine table.old }
     ensures ready { OnOk result (IsAtLine table.new) }
-    ensures text { OnOk result (so_far (λ v. v.items) table.new ≡ so_far (λ v. v.items) table.old ++ row_text default_writer (map (λ f. f.now) fields.now)) }
+    ensures text { OnOk result (so_far (λ v. v.items) table.new ≡ so_far (λ v.
+        v.items) table.old ++ row_text default_writer (map (λ f. f.now) fields.now)) }
 {
     match table.write_fields(fields) {
         Ok(()) => Ok(()),

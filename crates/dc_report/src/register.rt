@@ -45,7 +45,8 @@ fn put_meters<A: Allocator + Copy>(
 ) -> Result<(), NoMemory>
     requires { IsAtLine table.old }
     ensures ready { OnOk result (IsAtLine table.new) }
-    ensures text { OnOk result (so_far (λ v. v.items) table.new ≡ so_far (λ v. v.items) table.old ++ flat_map (line_at house.now.state) (by_flat house.now.state.meters)) }
+    ensures text { OnOk result (so_far (λ v. v.items) table.new ≡ so_far (λ v.
+        v.items) table.old ++ flat_map (line_at house.now.state) (by_flat house.now.state.meters)) }
 {
     for place in house.meters_by_flat() {
         if let Some(row) = house.meter(&place.meter) {
@@ -62,7 +63,8 @@ fn put_meter<A: Allocator + Copy>(
 ) -> Result<(), NoMemory>
     requires { IsAtLine table.old }
     ensures ready { OnOk result (IsAtLine table.new) }
-    ensures text { OnOk result (so_far (λ v. v.items) table.new ≡ so_far (λ v. v.items) table.old ++ line_text (meter_fields meter.now row.now)) }
+    ensures text { OnOk result (so_far (λ v. v.items) table.new ≡ so_far (λ v.
+        v.items) table.old ++ line_text (meter_fields meter.now row.now)) }
 {
     let flat = row.flat();
     let mut kind = [0; 2];

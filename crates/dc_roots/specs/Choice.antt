@@ -38,4 +38,5 @@ IsChoice image (Err Device) = Unit {0}
 -- The image is the old one, but the slot of that root may be unreadable or hold it.
 pub record IsRootWrite (next : Root) (old image : Image) : Type 0 where
   pub elsewhere : (k : ℕ) → k ≢ slot next.generation → image k ≡ old k
-  pub here : ((image (slot next.generation) ≡ old (slot next.generation)) ⊎ (image (slot next.generation) ≡ Unreadable)) ⊎ IsRoot next (image (slot next.generation))
+  pub here : ((image (slot next.generation) ≡ old (slot next.generation))
+      ⊎ (image (slot next.generation) ≡ Unreadable)) ⊎ IsRoot next (image (slot next.generation))

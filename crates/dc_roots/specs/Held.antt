@@ -10,7 +10,8 @@ use Rattle.dc_roots.specs.Root.{IsRoot, slot}
 -- the slot n with such a sector holds a valid root of its own, or is readable and holds none, or is unreadable
 abbrev pub IsHeld : ℕ → Sector → Held → Type 0
 IsHeld n sector (Valid root) = IsRoot root sector × (slot root.generation ≡ n)
-IsHeld n sector Other = ((bytes : List ℕ) × (sector ≡ Bytes bytes)) × ((root : Root) → IsRoot root sector → slot root.generation ≡ n → ⊥)
+IsHeld n sector Other = ((bytes : List ℕ) × (sector ≡ Bytes bytes))
+    × ((root : Root) → IsRoot root sector → slot root.generation ≡ n → ⊥)
 IsHeld n sector Lost = sector ≡ Unreadable
 
 -- a valid root names one of the two halves, whatever the disk is

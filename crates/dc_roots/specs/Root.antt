@@ -35,7 +35,8 @@ root_front root = magic ++ root.version ∷ root.half ∷ 0 ∷ 0 ∷ []
 -- the sector that is written for a root: what isn't named is zero
 unfoldable pub root_bytes : Root → List ℕ
 root_bytes root =
-    ((((root_front root ++ number_bytes 8 root.generation) ++ number_bytes 8 root.session) ++ number_bytes 8 root.base_sequence) ++ number_bytes 4 root.half_len)
+    ((((root_front root ++ number_bytes 8 root.generation) ++ number_bytes 8 root.session)
+    ++ number_bytes 8 root.base_sequence) ++ number_bytes 4 root.half_len)
     ++ replicate 476 0
 
 -- the root after that one, in another slot

@@ -46,7 +46,8 @@ fn read_slot<D: Disk>(disk: &mut D, slot: u32) -> Result<Held, Failed>
     ensures half { IfOk result NamesHalf }
     ensures reads { D.reads disk.new ≡ D.reads disk.old }
     ensures choices { D.choices disk.new ≡ D.choices disk.old }
-    ensures time { Elapses (D.moment disk.old) (D.moment disk.new) (D.images_since disk.old) (D.images_since disk.new) (IsImage (D.choices disk.old)) }
+    ensures time { Elapses (D.moment disk.old) (D.moment disk.new) (D.images_since disk.old)
+        (D.images_since disk.new) (IsImage (D.choices disk.old)) }
     ensures before { D.keeps disk.new → D.keeps disk.old }
     ensures count { D.sectors disk.new ≡ D.sectors disk.old }
     ensures failures { D.failures disk.old ≤ D.failures disk.new }
@@ -62,7 +63,8 @@ fn read_slot<D: Disk>(disk: &mut D, slot: u32) -> Result<Held, Failed>
 
 /// The choice between what the two slots hold.
 fn newer(first: Held, second: Held) -> Result<Root, RootFault>
-    ensures choice { (image : Image) → IsHeld 1 (image 1) first → IsHeld 2 (image 2) second → IsChoice image result }
+    ensures choice { (image : Image) → IsHeld 1 (image 1) first → IsHeld 2 (image 2) second
+        → IsChoice image result }
     ensures half { NamesHalf first → NamesHalf second → IfOk result (λ root. root.half ≤ 1) }
     ensures no_device { IsErrOf result RootFault.Device → ⊥ }
     ensures not_worn { IsErrOf result RootFault.Worn → ⊥ }
@@ -102,12 +104,15 @@ pub fn choose<D: Disk>(disk: &mut D) -> Result<Root, RootFault>
     requires { 2 < D.sectors disk.old }
     ensures choice { D.keeps disk.new → IsChoice (D.reads disk.old) result }
     ensures half { IfOk result (λ root. root.half ≤ 1) }
-    ensures device { IsErrOf result RootFault.Device → HasRisen (D.failures disk.old) (D.failures disk.new) }
-    ensures passed { (IsErrOf result RootFault.Device → ⊥) → D.failures disk.new ≡ D.failures disk.old }
+    ensures device { IsErrOf result RootFault.Device
+        → HasRisen (D.failures disk.old) (D.failures disk.new) }
+    ensures passed { (IsErrOf result RootFault.Device → ⊥)
+        → D.failures disk.new ≡ D.failures disk.old }
     ensures not_worn { IsErrOf result RootFault.Worn → ⊥ }
     ensures reads { D.reads disk.new ≡ D.reads disk.old }
     ensures choices { D.choices disk.new ≡ D.choices disk.old }
-    ensures any_moment { LeavesOnly D.moment D.images_since disk.old disk.new (IsImage (D.choices disk.old)) }
+    ensures any_moment { LeavesOnly D.moment D.images_since disk.old disk.new
+        (IsImage (D.choices disk.old)) }
     ensures before { D.keeps disk.new → D.keeps disk.old }
     ensures count { D.sectors disk.new ≡ D.sectors disk.old }
     ensures failures { D.failures disk.old ≤ D.failures disk.new }

@@ -12,7 +12,8 @@ const MAGIC: [u8; 4] = [0x4D, 0x42, 0x44, 0x43];
 
 /// The valid root that a sector's bytes are. Whose slot it stands in isn't looked at.
 pub(crate) fn root_of(bytes: &[u8; 512]) -> Option<Root>
-    ensures { MatchOption result ((root : Root) → IsRoot root (Bytes bytes.now) → ⊥) (λ root. IsRoot root (Bytes bytes.now)) }
+    ensures { MatchOption result ((root : Root) → IsRoot root (Bytes bytes.now) → ⊥)
+        (λ root. IsRoot root (Bytes bytes.now)) }
 {
     if bytes[..4] != MAGIC[..] || bytes[5] > 1 {
         return None;

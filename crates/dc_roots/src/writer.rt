@@ -1,6 +1,7 @@
 //! The next root is written.
 
-ghost use Rattle.std.specs.Prelude.{◌≡◌, ◌≢◌, ◌<◌, ◌≤◌, ◌-◌, ◌^◌, ◌↔◌, ℕ, Option, IfOk, OnOk, IsErrOf};
+ghost use Rattle.std.specs.Prelude.{◌≡◌, ◌≢◌, ◌<◌, ◌≤◌, ◌-◌, ◌^◌, ◌↔◌, ℕ, Option, IfOk, OnOk};
+ghost use Rattle.std.specs.Prelude.{IsErrOf};
 ghost use Rattle.dc_base.specs.Failures.{HasRisen};
 ghost use Rattle.dc_sectors.specs.declared.sector.Sector.TheVariants.{Bytes};
 ghost use Rattle.dc_sectors.specs.Disk.{IsImage, LeavesOnly, put, added};
@@ -20,15 +21,25 @@ pub fn write_next<D: Disk>(disk: &mut D, root: &Root) -> Result<Root, RootFault>
     requires slots { 2 < D.sectors disk.old }
     requires half { root.now.half ≤ 1 }
     ensures next { IfOk result (λ next. next ≡ next_of root.now) }
-    ensures is_root { root.now.generation < 2 ^ 64 - 1 → IsRoot (next_of root.now) (Bytes (root_bytes (next_of root.now))) }
+    ensures is_root { root.now.generation < 2 ^ 64 - 1
+        → IsRoot (next_of root.now) (Bytes (root_bytes (next_of root.now))) }
     ensures worn { IsErrOf result RootFault.Worn ↔ (root.now.generation ≡ 2 ^ 64 - 1) }
     ensures unchanged { IsErrOf result RootFault.Worn → disk.new ≡ disk.old }
-    ensures reads { OnOk result (D.reads disk.new ≡ put (D.reads disk.old) (slot (next_of root.now).generation) (root_bytes (next_of root.now))) }
-    ensures elsewhere { (m : ℕ) → m ≢ slot (next_of root.now).generation → D.reads disk.new m ≡ D.reads disk.old m }
-    ensures choices { OnOk result (D.choices disk.new ≡ added (D.choices disk.old) (slot (next_of root.now).generation) (root_bytes (next_of root.now))) }
-    ensures any_moment { LeavesOnly D.moment D.images_since disk.old disk.new (IsImage (added (D.choices disk.old) (slot (next_of root.now).generation) (root_bytes (next_of root.now)))) }
-    ensures device { IsErrOf result RootFault.Device → HasRisen (D.failures disk.old) (D.failures disk.new) }
-    ensures not_rootless { (unreadable : Option ℕ) → IsErrOf result (RootFault.NoRoot unreadable) → ⊥ }
+    ensures reads { OnOk result (D.reads disk.new
+        ≡ put (D.reads disk.old) (slot (next_of root.now).generation)
+        (root_bytes (next_of root.now))) }
+    ensures elsewhere { (m : ℕ) → m ≢ slot (next_of root.now).generation
+        → D.reads disk.new m ≡ D.reads disk.old m }
+    ensures choices { OnOk result (D.choices disk.new
+        ≡ added (D.choices disk.old) (slot (next_of root.now).generation)
+        (root_bytes (next_of root.now))) }
+    ensures any_moment { LeavesOnly D.moment D.images_since disk.old disk.new
+        (IsImage (added (D.choices disk.old) (slot (next_of root.now).generation)
+        (root_bytes (next_of root.now)))) }
+    ensures device { IsErrOf result RootFault.Device
+        → HasRisen (D.failures disk.old) (D.failures disk.new) }
+    ensures not_rootless { (unreadable : Option ℕ) → IsErrOf result (RootFault.NoRoot unreadable)
+        → ⊥ }
     ensures before { D.keeps disk.new → D.keeps disk.old }
     ensures count { D.sectors disk.new ≡ D.sectors disk.old }
     ensures failures { D.failures disk.old ≤ D.failures disk.new }

@@ -1,5 +1,6 @@
 -- What the answer to a request for data tells of a search (EN 13757-2, RSP_UD; EN 13757-3, CI 72h).
-use Rattle.std.specs.Prelude.{ℕ, ◌&&◌, List, Option, Some, None, Result, Ok, Err, ◌==◌, if◌then◌else◌}
+use Rattle.std.specs.Prelude.{ℕ, ◌&&◌, List, Option, Some, None, Result, Ok, Err, ◌==◌}
+use Rattle.std.specs.Prelude.{if◌then◌else◌}
 use Rattle.dc_address.specs.declared.identity.Identity.{Identity}
 use Rattle.dc_linkframe.specs.Control.{is_rsp_ud, variable_data}
 use Rattle.dc_linkframe.specs.Frame.{FrameSeen, ack, short, long}
@@ -17,7 +18,8 @@ abbrev pub identity_at : List ℕ → Option Identity
 identity_at body = identity_of (header_at body)
 
 abbrev pub identity_in : Option FrameSeen → Option Identity
-identity_in (Some (long control address ci body)) = if is_rsp_ud control && ci == variable_data then identity_at body else None
+identity_in (Some (long control address ci body)) =
+    if is_rsp_ud control && ci == variable_data then identity_at body else None
 identity_in (Some ack) = None
 identity_in (Some (short control address)) = None
 identity_in None = None

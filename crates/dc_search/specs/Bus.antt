@@ -16,5 +16,7 @@ IsMatching More meters = 1 < length meters
 -- the search after a selection that these meters match
 abbrev pub visited : List Identity → SearchState → SearchState
 visited [] s = settled (record s { selections = s.selections + 1 })
-visited (meter ∷ []) s = after_one meter (record s { answered = true; selections = s.selections + 1 })
-visited (meter ∷ other ∷ more) s = after_collision (record s { answered = true; selections = s.selections + 1 })
+visited (meter ∷ []) s = after_one meter
+    (record s { answered = true; selections = s.selections + 1 })
+visited (meter ∷ other ∷ more) s =
+    after_collision (record s { answered = true; selections = s.selections + 1 })

@@ -1,5 +1,6 @@
 -- The rule of a search, on the masks due, what was found and the selections made (this product).
-use Rattle.std.specs.Prelude.{ℕ, ◌+◌, ◌-◌, ◌*◌, ◌≤◌, Bool, true, false, IsTrue, List, [], ◌∷◌, ◌++◌, Option, Some, None, length, map, reverse, nat_lt, ◌==◌, if◌then◌else◌}
+use Rattle.std.specs.Prelude.{ℕ, ◌+◌, ◌-◌, ◌*◌, ◌≤◌, Bool, true, false, IsTrue, List, [], ◌∷◌, ◌++◌}
+use Rattle.std.specs.Prelude.{Option, Some, None, length, map, reverse, nat_lt, ◌==◌, if◌then◌else◌}
 use Rattle.std.specs.Int.Digits.{number_from_digits}
 use Rattle.dc_address.specs.Mask.{matches}
 use Rattle.dc_address.specs.declared.identity.Identity.{Identity}
@@ -22,7 +23,14 @@ pub record SearchState : Type 0 where
 
 -- all wildcards are due
 abbrev pub new_search : ℕ → SearchState
-new_search budget = record { due = [] ∷ []; answered = false; found = []; shared = []; selections = 0; budget = budget }
+new_search budget = record {
+  due = [] ∷ [];
+  answered = false;
+  found = [];
+  shared = [];
+  selections = 0;
+  budget = budget;
+}
 
 -- ---- the next step
 
@@ -71,7 +79,9 @@ after_one meter s = settled (record s { found = s.found ++ meter ∷ [] })
 
 -- answers collided with all eight digits fixed: the number is shared
 abbrev pub after_shared : SearchState → SearchState
-after_shared s = settled (record s { shared = s.shared ++ number_from_digits 10 (first_of s.due) ∷ [] })
+after_shared s = settled (record s {
+  shared = s.shared ++ number_from_digits 10 (first_of s.due) ∷ [];
+})
 
 -- the masks with the next digit
 abbrev pub children : List ℕ → List (List ℕ)
@@ -87,7 +97,8 @@ after_collision s = if length (first_of s.due) == 8 then after_shared s else aft
 -- the answer to a request: one meter that the mask asks for, or anything else
 abbrev pub after_meter : Option Identity → SearchState → SearchState
 after_meter None s = after_collision s
-after_meter (Some meter) s = if matches (mask_of_digits (first_of s.due)) meter then after_one meter s else after_collision s
+after_meter (Some meter) s = if matches (mask_of_digits (first_of s.due)) meter
+    then after_one meter s else after_collision s
 
 abbrev pub after_step : Step → List ℕ → SearchState → SearchState
 after_step (Select mask) bytes s = after_selection bytes s
@@ -112,7 +123,8 @@ is_ended None [] = true
 is_ended None (digits ∷ more) = false
 is_ended (Some digits) later = true
 
-pub record IsSearch (current : Option (List ℕ)) (later : List (List ℕ)) (selections budget : ℕ) : Type 0 where
+pub record IsSearch (current : Option (List ℕ)) (later : List (List ℕ))
+    (selections budget : ℕ) : Type 0 where
   pub ended : IsTrue (is_ended current later)
   pub within : selections ≤ budget
 

@@ -1,6 +1,7 @@
 -- What a search finds on a bus: the selections of the walk over masks, in the order in which they are made.
 -- A mask that more than one meter matches is followed by its ten masks with the next digit.
-use Rattle.std.specs.Prelude.{◌≡◌, ◌↔◌, ◌<◌, ℕ, Contains, map, zero, suc, Bool, ◌&&◌, List, [], ◌∷◌, ◌++◌, Option, Some, None, length, filter, nat_lt, ◌==◌, if◌then◌else◌}
+use Rattle.std.specs.Prelude.{◌≡◌, ◌↔◌, ◌<◌, ℕ, Contains, map, zero, suc, Bool, ◌&&◌, List, [], ◌∷◌}
+use Rattle.std.specs.Prelude.{◌++◌, Option, Some, None, length, filter, nat_lt, ◌==◌, if◌then◌else◌}
 use Rattle.std.specs.List.{filter_map, flat_map}
 use Rattle.std.specs.List.Sorted.{IsStrictlyIncreasing}
 use Rattle.std.specs.Int.Digits.{number_from_digits}
@@ -15,7 +16,10 @@ pub record Visit : Type 0 where
 
 -- a bus is the list of the meters on it
 abbrev pub visit : List ℕ → List Identity → Visit
-visit digits bus = record { digits = digits; matching = filter (matches (mask_of_digits digits)) bus }
+visit digits bus = record {
+  digits = digits;
+  matching = filter (matches (mask_of_digits digits)) bus;
+}
 
 -- more than one meter answers, and the answers collide
 abbrev pub has_collision : Visit → Bool
@@ -28,7 +32,8 @@ ten_digits = 0 ∷ 1 ∷ 2 ∷ 3 ∷ 4 ∷ 5 ∷ 6 ∷ 7 ∷ 8 ∷ 9 ∷ []
 unfoldable pub walk : ℕ → List ℕ → List Identity → List Visit
 walk zero digits bus = visit digits bus ∷ []
 walk (suc places) digits bus =
-    visit digits bus ∷ (if has_collision (visit digits bus) then flat_map (λ digit. walk places (digits ++ digit ∷ []) bus) ten_digits else [])
+    visit digits bus ∷ (if has_collision (visit digits bus)
+    then flat_map (λ digit. walk places (digits ++ digit ∷ []) bus) ten_digits else [])
 
 -- the whole walk begins with all wildcards
 abbrev pub walk_of : List Identity → List Visit
@@ -48,7 +53,8 @@ found_of visits = filter_map found_in visits
 
 -- where all eight digits are fixed, a collision is of meters that share their number
 abbrev pub shared_in : Visit → Option ℕ
-shared_in visit = if has_collision visit && length visit.digits == 8 then Some (number_from_digits 10 visit.digits) else None
+shared_in visit = if has_collision visit && length visit.digits == 8
+    then Some (number_from_digits 10 visit.digits) else None
 
 abbrev pub shared_of : List Visit → List ℕ
 shared_of visits = filter_map shared_in visits
@@ -61,7 +67,8 @@ with_number number bus = filter (λ meter. meter.number == number) bus
 
 -- found are the meters that share their number with no other, shared the numbers of more than one; both ascend
 pub record FindsAll (bus found : List Identity) (shared : List ℕ) : Type 0 where
-  pub alone : (meter : Identity) → Contains found meter ↔ (with_number meter.number bus ≡ meter ∷ [])
+  pub alone : (meter : Identity) → Contains found meter ↔
+      (with_number meter.number bus ≡ meter ∷ [])
   pub by_number : IsStrictlyIncreasing (map (λ meter. meter.number) found)
   pub common : (number : ℕ) → Contains shared number ↔ (1 < length (with_number number bus))
   pub ascending : IsStrictlyIncreasing shared

@@ -24,9 +24,17 @@ impl Model for Branch {
 
     ghost invariant = { λ b. IsBranch b.mask b.number b.fixed };
 
-    ghost inverse = { λ digits. record { mask = mask_of_digits digits; number = number_from_digits 10 digits; fixed = length digits } };
+    ghost inverse = { λ digits. record {
+      mask = mask_of_digits digits;
+      number = number_from_digits 10 digits;
+      fixed = length digits;
+    } };
 
-    ghost inverse_ok = { λ b h i. record { mask = h.mask_back i; number = h.number_back i; fixed = h.fixed_back i } };
+    ghost inverse_ok = { λ b h i. record {
+      mask = h.mask_back i;
+      number = h.number_back i;
+      fixed = h.fixed_back i;
+    } };
 }
 
 impl Branch {

@@ -1,6 +1,7 @@
 //! A bus of meters that a search is tried on.
 
-ghost use Rattle.std.specs.Prelude.{◌≡◌, ◌<◌, ◌≤◌, ◌+◌, ◌*◌, ◌++◌, ◌∷◌, [], Contains, IfOk, OnOk, Some, None, filter, length, take, min, if◌then◌else◌, nat_le};
+ghost use Rattle.std.specs.Prelude.{◌≡◌, ◌<◌, ◌≤◌, ◌+◌, ◌*◌, ◌++◌, ◌∷◌, [], Contains, IfOk, OnOk};
+ghost use Rattle.std.specs.Prelude.{Some, None, filter, length, take, min, if◌then◌else◌, nat_le};
 ghost use Rattle.dc_address.specs.Identity.{wire_of};
 ghost use Rattle.dc_address.specs.Mask.{matches};
 ghost use Rattle.dc_search.specs.Answer.{answer_of};
@@ -101,9 +102,12 @@ pub fn sweep<A: Allocator + Copy>(
     budget: u32,
 ) -> Result<Search<A>, NoMemory>
     // It follows the walk, as far as the budget goes.
-    ensures found { IfOk result (λ search. search.found ≡ found_of (take budget (walk_of bus.now))) }
-    ensures shared { IfOk result (λ search. search.shared ≡ shared_of (take budget (walk_of bus.now))) }
-    ensures selections { IfOk result (λ search. search.selections ≡ min budget (length (walk_of bus.now))) }
+    ensures found { IfOk result (λ search.
+        search.found ≡ found_of (take budget (walk_of bus.now))) }
+    ensures shared { IfOk result (λ search.
+        search.shared ≡ shared_of (take budget (walk_of bus.now))) }
+    ensures selections { IfOk result (λ search.
+        search.selections ≡ min budget (length (walk_of bus.now))) }
     ensures step { IfOk result (λ search. step_of search
         ≡ (if nat_le (length (walk_of bus.now)) budget then Step.Done else Step.Budget)) }
 

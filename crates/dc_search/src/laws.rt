@@ -4,5 +4,6 @@ ghost use Rattle.dc_search.specs.State.{SearchState, after, is_idle, rounds_left
 
 /// A search ends: whatever is heard where something is to be heard, fewer answers are left.
 pub fn searches_end()
-    ensures { (bytes : List ℕ) (s : SearchState) → is_idle (step_of s) ≡ false → rounds_left (after bytes s) < rounds_left s }
+    ensures { (bytes : List ℕ) (s : SearchState) → is_idle (step_of s) ≡ false
+        → rounds_left (after bytes s) < rounds_left s }
 {}

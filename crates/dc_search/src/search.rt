@@ -27,14 +27,25 @@ impl<A: Allocator + Copy> Model for Search<A> {
 
     ghost Value = { SearchState };
 
-    ghost view = { λ s. record { due = due_of s.current s.later.items; answered = s.answered; found = s.found.items; shared = s.shared.items; selections = s.selections; budget = s.budget } };
+    ghost view = { λ s. record {
+      due = due_of s.current s.later.items;
+      answered = s.answered;
+      found = s.found.items;
+      shared = s.shared.items;
+      selections = s.selections;
+      budget =
+          s.budget;
+    } };
 
     ghost invariant = { λ s. IsSearch s.current s.later.items s.selections s.budget };
 }
 
 impl<A: Allocator + Copy> Search<A> {
-    ghost use Rattle.std.specs.Prelude.{◌≡◌, ◌≢◌, ◌↔◌, ◌<◌, OnOk, OnErr, IsTrue, Some, Err, [], reverse};
-    ghost use Rattle.dc_search.specs.State.{after, after_collision, after_meter, after_one, after_selection, after_shared, after_split, children, first_of, is_idle, new_search, settled, step_of};
+    ghost use Rattle.std.specs.Prelude.{◌≡◌, ◌≢◌, ◌↔◌, ◌<◌, OnOk, OnErr, IsTrue, Some, Err, []};
+    ghost use Rattle.std.specs.Prelude.{reverse};
+    ghost use Rattle.dc_search.specs.State.{after, after_collision, after_meter, after_one};
+    ghost use Rattle.dc_search.specs.State.{after_selection, after_shared, after_split, children};
+    ghost use Rattle.dc_search.specs.State.{first_of, is_idle, new_search, settled, step_of};
     ghost use Rattle.dc_search.specs.Prefix.{mask_of_digits};
     ghost use Rattle.dc_address.specs.Mask.{matches};
     ghost use Rattle.std.specs.Int.Digits.{number_from_digits};

@@ -1,5 +1,6 @@
 -- Which calls of a disk in memory fail because a test wants them to.
-use Rattle.std.specs.Prelude.{◌+◌, ◌-◌, ◌^◌, ◌&&◌, min, ℕ, zero, suc, Bool, true, false, Option, Some, None}
+use Rattle.std.specs.Prelude.{◌+◌, ◌-◌, ◌^◌, ◌&&◌, min, ℕ, zero, suc, Bool, true, false, Option}
+use Rattle.std.specs.Prelude.{Some, None}
 use Rattle.dc_sectors.specs.declared.calls.Calls.{Calls}
 
 -- a call passes while there are calls left, or no end is set
@@ -24,7 +25,13 @@ passes calls = are_left calls.fuse && are_left calls.fails_at
 
 -- after one more call
 abbrev pub counted : Calls → Calls
-counted calls = record { made = min (calls.made + 1) (2 ^ 64 - 1); failed = calls.failed; fuse = fuse_next calls.fuse; fails_at = fails_next calls.fails_at }
+counted calls = record {
+  made = min (calls.made + 1) (2 ^ 64 - 1);
+  failed = calls.failed;
+  fuse = fuse_next calls.fuse;
+  fails_at =
+      fails_next calls.fails_at;
+}
 
 -- after one more failure
 abbrev pub failed_once_more : Calls → Calls

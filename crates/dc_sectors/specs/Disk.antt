@@ -1,5 +1,6 @@
 -- The disk rule, of this product: what a disk reads, what a stop may leave, and how calls change both.
-use Rattle.std.specs.Prelude.{◌≡◌, ◌⊎◌, ◌==◌, ℕ, ◌≤◌, List, [], ◌∷◌, ◌++◌, if◌then◌else◌, Contains, Result, Ok, Err}
+use Rattle.std.specs.Prelude.{◌≡◌, ◌⊎◌, ◌==◌, ℕ, ◌≤◌, List, [], ◌∷◌, ◌++◌, if◌then◌else◌, Contains}
+use Rattle.std.specs.Prelude.{Result, Ok, Err}
 use Rattle.dc_sectors.specs.declared.sector.Sector.{Sector}
 use Rattle.dc_sectors.specs.declared.sector.Sector.TheVariants.{Bytes, Unreadable}
 use Rattle.dc_sectors.specs.declared.sector.ReadFault.{ReadFault}
@@ -23,7 +24,8 @@ put image n bytes = λ m. if m == n then Bytes bytes else image m
 
 -- a write of these bytes to sector n adds them, and Unreadable, to its choices
 abbrev pub added : Choices → ℕ → List ℕ → Choices
-added choices n bytes = λ m. if m == n then choices m ++ Bytes bytes ∷ Unreadable ∷ [] else choices m
+added choices n bytes = λ m. if m == n then choices m ++ Bytes bytes ∷ Unreadable ∷ []
+    else choices m
 
 -- a sync leaves what is read as the only choice
 abbrev pub settled : Image → Choices
@@ -37,14 +39,18 @@ Answers sector (Err Failed) = Unit {0}
 
 -- Time goes on from one moment to another, and the images of the moments between have this property:
 -- a stop since t might have left what it might have left before, or an image that has it.
-pub record Elapses (before now : ℕ) (past since : ℕ → Image → Type 0) (images : Image → Type 0) : Type 0 where
+pub record Elapses (before now : ℕ) (past since : ℕ → Image → Type 0)
+    (images : Image → Type 0) : Type 0 where
   pub later : before ≤ now
-  pub nothing_else : (t : ℕ) (image : Image) → t ≤ before → since t image → past t image ⊎ images image
+  pub nothing_else : (t : ℕ) (image : Image) → t ≤ before → since t image → past t image
+      ⊎ images image
   pub keeps : (t : ℕ) (image : Image) → t ≤ before → past t image → since t image
 
 -- A stop at any moment from the old state to the new leaves an image that has P, whatever the calls answered.
-pub record LeavesOnly {D : Type 0} (moment : D → ℕ) (images_since : D → ℕ → Image → Type 0) (old new : D) (P : Image → Type 0) : Type 0 where
+pub record LeavesOnly {D : Type 0} (moment : D → ℕ) (images_since : D → ℕ → Image → Type 0)
+    (old new : D) (P : Image → Type 0) : Type 0 where
   pub later : moment old ≤ moment new
   pub each : (image : Image) → images_since new (moment old) image → P image
   -- for a run of calls that began earlier
-  pub before : (t : ℕ) (image : Image) → t ≤ moment old → images_since new t image → images_since old t image ⊎ P image
+  pub before : (t : ℕ) (image : Image) → t ≤ moment old → images_since new t image
+      → images_since old t image ⊎ P image

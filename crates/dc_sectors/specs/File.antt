@@ -1,10 +1,12 @@
 -- A disk over a file, as contracts see it: its counts, and the calls of its file so far. No contract of the library
 -- says which bytes a file returns. So the disk rule is a hypothesis on these calls: each whole read returned what the
 -- rule says of its sector after the writes before it.
-use Rattle.std.specs.Prelude.{◌≡◌, ◌⊎◌, ◌==◌, ◌<◌, ℕ, Bool, true, false, ◌+◌, ◌-◌, ◌*◌, ◌/◌, ◌^◌, min, List, [], ◌∷◌, ◌++◌, length, Option, Some, None, Result, Ok, Err}
+use Rattle.std.specs.Prelude.{◌≡◌, ◌⊎◌, ◌==◌, ◌<◌, ℕ, Bool, true, false, ◌+◌, ◌-◌, ◌*◌, ◌/◌, ◌^◌}
+use Rattle.std.specs.Prelude.{min, List, [], ◌∷◌, ◌++◌, length, Option, Some, None, Result, Ok, Err}
 use Rattle.dc_sectors.specs.declared.sector.Sector.TheVariants.{Bytes}
 use Rattle.dc_sectors.specs.declared.sector.ReadFault.{ReadFault}
-use Rattle.dc_sectors.specs.declared.sector.ReadFault.TheVariants.{Unreadable as CannotRead, Failed as ReadFailed}
+use Rattle.dc_sectors.specs.declared.sector.ReadFault.TheVariants.{Unreadable as CannotRead}
+use Rattle.dc_sectors.specs.declared.sector.ReadFault.TheVariants.{Failed as ReadFailed}
 use Rattle.dc_sectors.specs.declared.sector.Failed.{Failed}
 use Rattle.dc_sectors.specs.declared.event.Event.{Event}
 use Rattle.dc_sectors.specs.declared.event.Event.TheVariants.{Write, Sync}
@@ -45,23 +47,32 @@ abbrev pub IsShort : Option (List ℕ) → Type 0
 IsShort (Some bytes) = length bytes < 512
 IsShort None = Unit {0}
 
--- A read of sector n is one read of the file, of 512 bytes from byte 512 n on. It is Ok with these bytes where all 512 came.
--- It fails where fewer or none came; and where a sync failed before, then without a call of the file.
+-- A read of sector n is one read of the file, of 512 bytes from byte 512 n on. It is Ok with these bytes where all
+-- 512 came. It fails where fewer or none came; and where a sync failed before, then without a call of the file.
 abbrev pub IsReadOf : FileState → ℕ → Result (List ℕ) ReadFault → List Call → Type 0
-IsReadOf old n (Ok bytes) calls = (old.lost ≡ false) × (length bytes ≡ 512) × (calls ≡ Got (512 * n) 512 (Some bytes) ∷ old.calls)
-IsReadOf old n (Err ReadFailed) calls = ((old.lost ≡ true) × (calls ≡ old.calls)) ⊎ ((got : Option (List ℕ)) × (old.lost ≡ false) × IsShort got × (calls ≡ Got (512 * n) 512 got ∷ old.calls))
+IsReadOf old n (Ok bytes) calls =
+    (old.lost ≡ false) × (length bytes ≡ 512) × (calls ≡ Got (512 * n) 512 (Some bytes) ∷ old.calls)
+IsReadOf old n (Err ReadFailed) calls =
+    ((old.lost ≡ true) × (calls ≡ old.calls))
+    ⊎ ((got : Option (List ℕ)) × (old.lost ≡ false) × IsShort got
+    × (calls ≡ Got (512 * n) 512 got ∷ old.calls))
 IsReadOf old n (Err CannotRead) calls = ⊥
 
--- A write of these bytes to sector n is one write of the file, from byte 512 n on. It is Ok where all 512 were taken. It
--- fails where fewer or none were taken; and where a sync failed before, then without a call of the file.
+-- A write of these bytes to sector n is one write of the file, from byte 512 n on. It is Ok where all 512 were taken.
+-- It fails where fewer or none were taken; and where a sync failed before, then without a call of the file.
 abbrev pub IsWriteOf : FileState → ℕ → List ℕ → Result (Unit {0}) Failed → List Call → Type 0
-IsWriteOf old n bytes (Ok _) calls = (old.lost ≡ false) × (calls ≡ Put (512 * n) bytes (Some 512) ∷ old.calls)
-IsWriteOf old n bytes (Err _) calls = ((old.lost ≡ true) × (calls ≡ old.calls)) ⊎ ((taken : Option ℕ) × (old.lost ≡ false) × (is_all taken ≡ false) × (calls ≡ Put (512 * n) bytes taken ∷ old.calls))
+IsWriteOf old n bytes (Ok _) calls =
+    (old.lost ≡ false) × (calls ≡ Put (512 * n) bytes (Some 512) ∷ old.calls)
+IsWriteOf old n bytes (Err _) calls =
+    ((old.lost ≡ true) × (calls ≡ old.calls))
+    ⊎ ((taken : Option ℕ) × (old.lost ≡ false) × (is_all taken ≡ false)
+    × (calls ≡ Put (512 * n) bytes taken ∷ old.calls))
 
 -- A sync is one sync of the file, with its result; where one failed before, it fails without a call of the file.
 abbrev pub IsSyncOf : FileState → Result (Unit {0}) Failed → List Call → Type 0
 IsSyncOf old (Ok _) calls = (old.lost ≡ false) × (calls ≡ Synced true ∷ old.calls)
-IsSyncOf old (Err _) calls = ((old.lost ≡ true) × (calls ≡ old.calls)) ⊎ ((old.lost ≡ false) × (calls ≡ Synced false ∷ old.calls))
+IsSyncOf old (Err _) calls = ((old.lost ≡ true) × (calls ≡ old.calls))
+    ⊎ ((old.lost ≡ false) × (calls ≡ Synced false ∷ old.calls))
 
 -- What the disk rule says after these calls, where the sectors held `start` before the first.
 
@@ -87,8 +98,8 @@ choices_in start disk = choices_after start (events_of disk.calls)
 abbrev pub moment_in : FileState → ℕ
 moment_in disk = length (events_of disk.calls)
 
--- The other half of the hypothesis, which no call shows: after a stop at any moment of these calls the file holds one of
--- the images since moment 0, and that is the next `start`.
+-- The other half of the hypothesis, which no call shows: after a stop at any moment of these calls the file holds one
+-- of the images since moment 0, and that is the next `start`.
 abbrev pub images_in : Image → FileState → ℕ → Image → Type 0
 images_in start disk = ImageSince start (events_of disk.calls)
 
@@ -96,7 +107,8 @@ images_in start disk = ImageSince start (events_of disk.calls)
 
 -- this call returned what the sectors read then
 abbrev pub AnswersAs : Image → Call → Type 0
-AnswersAs image (Got at n (Some bytes)) = (m : ℕ) → at ≡ 512 * m → length bytes ≡ 512 → image m ≡ Bytes bytes
+AnswersAs image (Got at n (Some bytes)) =
+    (m : ℕ) → at ≡ 512 * m → length bytes ≡ 512 → image m ≡ Bytes bytes
 AnswersAs image (Got at n None) = Unit {0}
 AnswersAs image (Put at bytes taken) = Unit {0}
 AnswersAs image (Synced done) = Unit {0}
@@ -105,4 +117,5 @@ AnswersAs image (Measured n) = Unit {0}
 -- each whole read of a sector returned what was last written to it and taken whole, or what it held at the start
 abbrev pub KeepsRule : Image → List Call → Type 0
 KeepsRule start [] = Unit {0}
-KeepsRule start (call ∷ earlier) = KeepsRule start earlier × AnswersAs (reads_after start (events_of earlier)) call
+KeepsRule start (call ∷ earlier) =
+    KeepsRule start earlier × AnswersAs (reads_after start (events_of earlier)) call

@@ -1,10 +1,13 @@
 -- A disk in memory, as contracts see it: the image that its record began with, the record, and the
 -- failures that a test sets.
-use Rattle.std.specs.Prelude.{◌≡◌, ◌⊎◌, ◌==◌, ◌<◌, ◌≤◌, ◌+◌, ◌*◌, ◌^◌, ℕ, zero, suc, slice_index_or, List, [], ◌∷◌, true, false, ◌++◌, length, replicate, if◌then◌else◌, None, Result, Ok, Err}
+use Rattle.std.specs.Prelude.{◌≡◌, ◌⊎◌, ◌==◌, ◌<◌, ◌≤◌, ◌+◌, ◌*◌, ◌^◌, ℕ, zero, suc, slice_index_or}
+use Rattle.std.specs.Prelude.{List, [], ◌∷◌, true, false, ◌++◌, length, replicate, if◌then◌else◌}
+use Rattle.std.specs.Prelude.{None, Result, Ok, Err}
 use Rattle.dc_sectors.specs.declared.sector.Sector.{Sector}
 use Rattle.dc_sectors.specs.declared.sector.Sector.TheVariants.{Bytes, Unreadable}
 use Rattle.dc_sectors.specs.declared.sector.ReadFault.{ReadFault}
-use Rattle.dc_sectors.specs.declared.sector.ReadFault.TheVariants.{Unreadable as CannotRead, Failed as ReadFailed}
+use Rattle.dc_sectors.specs.declared.sector.ReadFault.TheVariants.{Unreadable as CannotRead}
+use Rattle.dc_sectors.specs.declared.sector.ReadFault.TheVariants.{Failed as ReadFailed}
 use Rattle.dc_sectors.specs.declared.sector.Failed.{Failed}
 use Rattle.dc_sectors.specs.declared.calls.Calls.{Calls}
 use Rattle.dc_sectors.specs.declared.event.Event.{Event}
@@ -55,7 +58,10 @@ after_failure disk = record disk { calls = failed_once_more (counted disk.calls)
 
 -- the disk after this event, in a record that may have got more memory
 abbrev pub recorded : Memory → Event → Memory → Memory
-recorded disk event new = record disk { events = disk.events ++ event ∷ []; capacity = new.capacity }
+recorded disk event new = record disk {
+  events = disk.events ++ event ∷ [];
+  capacity = new.capacity;
+}
 
 -- the record has no memory for another event
 abbrev pub IsFull : Memory → Type 0
@@ -69,7 +75,8 @@ IsRead old n result new =
 
 -- A write that a test makes fail is recorded. One isn't recorded only where the record is full.
 abbrev pub IsWrite : Memory → ℕ → List ℕ → Result (Unit {0}) Failed → Memory → Type 0
-IsWrite old n bytes (Ok _) new = (passes old.calls ≡ true) × (new ≡ recorded (after_pass old) (Write n bytes true) new)
+IsWrite old n bytes (Ok _) new = (passes old.calls ≡ true)
+    × (new ≡ recorded (after_pass old) (Write n bytes true) new)
 IsWrite old n bytes (Err _) new =
     ((passes old.calls ≡ false) × (new ≡ recorded (after_failure old) (Write n bytes false) new))
     ⊎ (IsFull old × (new ≡ record (after_failure old) { capacity = new.capacity }))
@@ -77,12 +84,14 @@ IsWrite old n bytes (Err _) new =
 -- A sync that fails isn't recorded: a test makes it fail, or the record is full.
 abbrev pub IsSync : Memory → Result (Unit {0}) Failed → Memory → Type 0
 IsSync old (Ok _) new = (passes old.calls ≡ true) × (new ≡ recorded (after_pass old) Sync new)
-IsSync old (Err _) new = ((passes old.calls ≡ false) ⊎ IsFull old) × (new ≡ record (after_failure old) { capacity = new.capacity })
+IsSync old (Err _) new = ((passes old.calls ≡ false) ⊎ IsFull old)
+    × (new ≡ record (after_failure old) { capacity = new.capacity })
 
 -- the sectors below n that were written since the sync, ascending, each with its number of writes
 abbrev pub pending_below : (ℕ → ℕ) → ℕ → List (ℕ × ℕ)
 pending_below writes zero = []
-pending_below writes (suc n) = pending_below writes n ++ (if writes n == 0 then [] else (n, writes n) ∷ [])
+pending_below writes (suc n) = pending_below writes n
+    ++ (if writes n == 0 then [] else (n, writes n) ∷ [])
 
 abbrev pub pending_of : Memory → List (ℕ × ℕ)
 pending_of disk = pending_below (writes_after disk.events) (length disk.start)
@@ -103,7 +112,9 @@ picked choices Lost = Unreadable
 -- the image that the picks say, one for each pending sector, ascending; the others stay
 abbrev pub picked_from : Image → List Event → List Pick → Image
 picked_from start events picks = λ n.
-    if writes_after events n == 0 then reads_after start events n else picked (choices_after start events n) (slice_index_or picks (length (pending_below (writes_after events) n)) Old)
+    if writes_after events n == 0 then reads_after start events n
+    else picked (choices_after start events n)
+    (slice_index_or picks (length (pending_below (writes_after events) n)) Old)
 
 abbrev pub image_picked : Memory → List Pick → Image
 image_picked disk picks = picked_from (image_of disk.start) disk.events picks

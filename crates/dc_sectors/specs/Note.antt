@@ -1,5 +1,6 @@
 -- A call as the record of a file has it: numbers and bytes.
-use Rattle.std.specs.Prelude.{ℕ, zero, suc, ◌==◌, if◌then◌else◌, List, [], ◌∷◌, slice_index, Some, None}
+use Rattle.std.specs.Prelude.{ℕ, zero, suc, ◌==◌, if◌then◌else◌, List, [], ◌∷◌, slice_index, Some}
+use Rattle.std.specs.Prelude.{None}
 use Rattle.dc_sectors.specs.FileCalls.{Call, Measured, Got, Put, Synced}
 
 abbrev pub Note : Type 0
@@ -13,7 +14,8 @@ call_by (suc (suc zero)) at n ok bytes = Put at bytes (if ok == 1 then Some n el
 call_by (suc (suc (suc more))) at n ok bytes = Synced (ok == 1)
 
 abbrev pub call_of : Note → Call
-call_of note = call_by (slice_index note.0 0) (slice_index note.0 1) (slice_index note.0 2) (slice_index note.0 3) note.1
+call_of note = call_by (slice_index note.0 0) (slice_index note.0 1) (slice_index note.0 2)
+    (slice_index note.0 3) note.1
 
 abbrev pub calls_of : List Note → List Call
 calls_of [] = []

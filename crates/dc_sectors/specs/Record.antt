@@ -1,5 +1,6 @@
 -- What a record of writes and syncs says: what is read, the choices, and the images of its moments.
-use Rattle.std.specs.Prelude.{◌≡◌, ◌⊎◌, ◌==◌, ◌<◌, ℕ, ◌+◌, ◌≤◌, slice_index_or, true, false, List, [], ◌∷◌, ◌++◌, length, take, if◌then◌else◌, refl}
+use Rattle.std.specs.Prelude.{◌≡◌, ◌⊎◌, ◌==◌, ◌<◌, ℕ, ◌+◌, ◌≤◌, slice_index_or, true, false, List}
+use Rattle.std.specs.Prelude.{[], ◌∷◌, ◌++◌, length, take, if◌then◌else◌, refl}
 use Rattle.std.proofs.Common.{sym, subst, arith, inl, inr, length-append}
 use Rattle.std.proofs.lemmas.List.{take_all, take-append-le}
 use Rattle.dc_sectors.specs.declared.sector.Sector.{Sector}
@@ -34,7 +35,8 @@ reads_from image (event ∷ events) = reads_from (reads_next image event) events
 
 abbrev pub choices_from : Image → Choices → List Event → Choices
 choices_from image choices [] = choices
-choices_from image choices (event ∷ events) = choices_from (reads_next image event) (choices_next image choices event) events
+choices_from image choices (event ∷ events) =
+    choices_from (reads_next image event) (choices_next image choices event) events
 
 abbrev pub writes_from : (ℕ → ℕ) → List Event → ℕ → ℕ
 writes_from writes [] = writes
@@ -53,62 +55,100 @@ writes_after events = writes_from (λ n. 0) events
 
 -- an image of some moment from t on: after t events or more
 abbrev pub ImageSince : Image → List Event → ℕ → Image → Type 0
-ImageSince start events t image = (k : ℕ) × (t ≤ k) × (k ≤ length events) × IsImage (choices_after start (take k events)) image
+ImageSince start events t image =
+    (k : ℕ) × (t ≤ k) × (k ≤ length events) × IsImage (choices_after start (take k events)) image
 
 -- the last event counts last
 
-pub reads_from-push : (image : Image) (events : List Event) (event : Event) → reads_from image (events ++ event ∷ []) ≡ reads_next (reads_from image events) event
+pub reads_from-push : (image : Image) (events : List Event) (event : Event)
+    → reads_from image (events ++ event ∷ []) ≡ reads_next (reads_from image events) event
 reads_from-push image [] event = refl
 reads_from-push image (e ∷ events) event = reads_from-push (reads_next image e) events event
 
-pub choices_from-push : (image : Image) (choices : Choices) (events : List Event) (event : Event) → choices_from image choices (events ++ event ∷ []) ≡ choices_next (reads_from image events) (choices_from image choices events) event
+pub choices_from-push : (image : Image) (choices : Choices) (events : List Event) (event : Event)
+    → choices_from image choices (events ++ event ∷ [])
+    ≡ choices_next (reads_from image events) (choices_from image choices events) event
 choices_from-push image choices [] event = refl
-choices_from-push image choices (e ∷ events) event = choices_from-push (reads_next image e) (choices_next image choices e) events event
+choices_from-push image choices (e ∷ events) event =
+    choices_from-push (reads_next image e) (choices_next image choices e) events event
 
-pub writes_from-push : (writes : ℕ → ℕ) (events : List Event) (event : Event) → writes_from writes (events ++ event ∷ []) ≡ writes_next (writes_from writes events) event
+pub writes_from-push : (writes : ℕ → ℕ) (events : List Event) (event : Event)
+    → writes_from writes (events ++ event ∷ []) ≡ writes_next (writes_from writes events) event
 writes_from-push writes [] event = refl
 writes_from-push writes (e ∷ events) event = writes_from-push (writes_next writes e) events event
 
 -- what is read is one of the choices
 
-next_choice : (image : Image) (choices : Choices) (event : Event) → IsImage choices image → IsImage (choices_next image choices event) (reads_next image event)
+next_choice : (image : Image) (choices : Choices) (event : Event) → IsImage choices image
+    → IsImage (choices_next image choices event) (reads_next image event)
 next_choice image choices (Write at bytes is_done) is =
-    elim is_done as (λ done. IsImage (added choices at bytes) (if done then put image at bytes else image)) [
+    elim is_done as (λ done. IsImage (added choices at bytes)
+    (if done then put image at bytes else image)) [
       | true ↦ put_added choices image at bytes is
-      | false ↦ image_within choices (added choices at bytes) (within_added choices at bytes) image is
+      | false ↦ image_within choices (added choices at bytes)
+          (within_added choices at bytes) image is
     ]
 next_choice image choices Sync is = settled_is_image image
 
-choice_from : (image : Image) (choices : Choices) (events : List Event) → IsImage choices image → IsImage (choices_from image choices events) (reads_from image events)
+choice_from : (image : Image) (choices : Choices) (events : List Event) → IsImage choices image
+    → IsImage (choices_from image choices events) (reads_from image events)
 choice_from image choices [] is = is
-choice_from image choices (e ∷ events) is = choice_from (reads_next image e) (choices_next image choices e) events (next_choice image choices e is)
+choice_from image choices (e ∷ events) is =
+    choice_from (reads_next image e) (choices_next image choices e) events
+    (next_choice image choices e is)
 
-pub reads_a_choice : (start : Image) (events : List Event) → IsImage (choices_after start events) (reads_after start events)
+pub reads_a_choice : (start : Image) (events : List Event)
+    → IsImage (choices_after start events) (reads_after start events)
 reads_a_choice start events = choice_from start (settled start) events (settled_is_image start)
 
 -- this moment is the last
 
-pub counts_now : (start : Image) (events : List Event) (t : ℕ) (image : Image) → t ≤ length events → IsImage (choices_after start events) image → ImageSince start events t image
-counts_now start events t image le is =
-    (length events, le, omega arith, subst (λ (l : List Event). IsImage (choices_after start l) image) (sym (take_all (length events) events (omega arith))) is)
+pub counts_now : (start : Image) (events : List Event) (t : ℕ) (image : Image) → t ≤ length events
+    → IsImage (choices_after start events) image → ImageSince start events t image
+counts_now start events t image le is = (
+  length events,
+  le,
+  omega arith,
+  subst (λ (l : List Event). IsImage (choices_after start l) image)
+      (sym (take_all (length events) events (omega arith))) is,
+)
 
-pub only_now : (start : Image) (events : List Event) (image : Image) → ImageSince start events (length events) image → IsImage (choices_after start events) image
-only_now start events image since = subst (λ (l : List Event). IsImage (choices_after start l) image) (take_all since.0 events since.1) since.3
+pub only_now : (start : Image) (events : List Event) (image : Image)
+    → ImageSince start events (length events) image → IsImage (choices_after start events) image
+only_now start events image since =
+    subst (λ (l : List Event). IsImage (choices_after start l) image)
+    (take_all since.0 events since.1) since.3
 
 -- time goes on
 
 -- by no event
-pub elapses_same : (start : Image) (events : List Event) (images : Image → Type 0) → Elapses (length events) (length events) (ImageSince start events) (ImageSince start events) images
-elapses_same start events images = record { later = omega arith; nothing_else = λ t image le since. inl since; keeps = λ t image le since. since }
+pub elapses_same : (start : Image) (events : List Event) (images : Image → Type 0)
+    → Elapses (length events) (length events) (ImageSince start events)
+    (ImageSince start events) images
+elapses_same start events images =
+    record {
+      later = omega arith;
+      nothing_else = λ t image le since. inl since;
+      keeps = λ t image le since. since;
+    }
 
 -- by one event
 pub elapses_push : (start : Image) (events : List Event) (event : Event) (images : Image → Type 0)
-    → ((image : Image) → IsImage (choices_next (reads_after start events) (choices_after start events) event) image → images image)
-    → Elapses (length events) (length (events ++ event ∷ [])) (ImageSince start events) (ImageSince start (events ++ event ∷ [])) images
+    → ((image : Image) → IsImage (choices_next (reads_after start events)
+    (choices_after start events) event) image → images image)
+    → Elapses (length events) (length (events ++ event ∷ [])) (ImageSince start events)
+    (ImageSince start (events ++ event ∷ [])) images
 elapses_push start events event images here = record {
   later = omega (arith, longer);
-  nothing_else = λ t image le since. earlier_or_last t image since (le_or_lt since.0 (length events));
-  keeps = λ t image le since. (since.0, since.1, omega (arith, longer, since.2), subst (λ (l : List Event). IsImage (choices_after start l) image) (sym (take-append-le since.0 events (event ∷ []) since.2)) since.3);
+  nothing_else = λ t image le since.
+      earlier_or_last t image since (le_or_lt since.0 (length events));
+  keeps = λ t image le since. (
+    since.0,
+    since.1,
+    omega (arith, longer, since.2),
+    subst (λ (l : List Event). IsImage (choices_after start l) image)
+        (sym (take-append-le since.0 events (event ∷ []) since.2)) since.3,
+  );
 }
   where
     longer : length (events ++ event ∷ []) ≡ length events + 1
@@ -117,7 +157,19 @@ elapses_push start events event images here = record {
     le_or_lt : (k n : ℕ) → (k ≤ n) ⊎ (n < k)
     le_or_lt k n = grind arith
 
-    earlier_or_last : (t : ℕ) (image : Image) → (since : ImageSince start (events ++ event ∷ []) t image) → (since.0 ≤ length events) ⊎ (length events < since.0) → ImageSince start events t image ⊎ images image
-    earlier_or_last t image since (inl le) = inl (since.0, since.1, le, subst (λ (l : List Event). IsImage (choices_after start l) image) (take-append-le since.0 events (event ∷ []) le) since.3)
-    earlier_or_last t image since (inr lt) = inr (here image (subst (λ (c : Choices). IsImage c image) (choices_from-push start (settled start) events event)
-        (subst (λ (l : List Event). IsImage (choices_after start l) image) (take_all since.0 (events ++ event ∷ []) (omega (arith, longer, lt))) since.3)))
+    earlier_or_last : (t : ℕ) (image : Image)
+        → (since : ImageSince start (events ++ event ∷ []) t image) → (since.0 ≤ length events)
+        ⊎ (length events < since.0) → ImageSince start events t image ⊎ images image
+    earlier_or_last t image since (inl le) =
+        inl (
+          since.0,
+          since.1,
+          le,
+          subst (λ (l : List Event). IsImage (choices_after start l) image)
+              (take-append-le since.0 events (event ∷ []) le) since.3,
+        )
+    earlier_or_last t image since (inr lt) =
+        inr (here image (subst (λ (c : Choices). IsImage c image)
+        (choices_from-push start (settled start) events event)
+        (subst (λ (l : List Event). IsImage (choices_after start l) image)
+        (take_all since.0 (events ++ event ∷ []) (omega (arith, longer, lt))) since.3)))

@@ -9,7 +9,8 @@ use Rattle.dc_sectors.specs.Disk.{Image, Choices}
 use Rattle.dc_sectors.specs.Memory.{picked}
 
 -- it says of sector n what these say
-pub record IsScan (image : Image) (choices : Choices) (writes : ℕ → ℕ) (n : ℕ) (pick : Pick) (scan : Scan) : Type 0 where
+pub record IsScan (image : Image) (choices : Choices) (writes : ℕ → ℕ) (n : ℕ) (pick : Pick)
+    (scan : Scan) : Type 0 where
   pub reads : image n ≡ scan.reads
   pub at_pick : picked (choices n) pick ≡ scan.at_pick
   pub count : writes n ≡ scan.writes
@@ -21,7 +22,8 @@ picked_next writes before bytes Old = before
 picked_next writes before bytes (Written k) = if k == writes then bytes else before
 picked_next writes before bytes Lost = before
 
-pub record IsWritten (scan : Scan) (bytes : List ℕ) (is_done : Bool) (pick : Pick) (next : Scan) : Type 0 where
+pub record IsWritten (scan : Scan) (bytes : List ℕ) (is_done : Bool) (pick : Pick)
+    (next : Scan) : Type 0 where
   pub reads : next.reads ≡ (if is_done then Bytes bytes else scan.reads)
   pub at_pick : next.at_pick ≡ picked_next scan.writes scan.at_pick (Bytes bytes) pick
   pub writes : next.writes ≡ scan.writes + 1

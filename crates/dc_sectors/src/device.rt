@@ -1,9 +1,11 @@
 //! The disk rule: what each call of a disk does, and what a stop may leave.
 
-ghost use Rattle.std.specs.Prelude.{◌≡◌, ◌≢◌, ◌⊎◌, ◌<◌, ◌≤◌, List, ℕ, OnOk, OnErr, IsErrOf, Contains};
+ghost use Rattle.std.specs.Prelude.{◌≡◌, ◌≢◌, ◌⊎◌, ◌<◌, ◌≤◌, List, ℕ, OnOk, OnErr, IsErrOf};
+ghost use Rattle.std.specs.Prelude.{Contains};
 ghost use Rattle.dc_base.specs.Failures.{HasRisen};
 ghost use Rattle.dc_sectors.specs.declared.sector.Sector.{Sector};
-ghost use Rattle.dc_sectors.specs.declared.sector.ReadFault.TheVariants.{Unreadable as CannotRead, Failed as ReadFailed};
+ghost use Rattle.dc_sectors.specs.declared.sector.ReadFault.TheVariants.{Unreadable as CannotRead};
+ghost use Rattle.dc_sectors.specs.declared.sector.ReadFault.TheVariants.{Failed as ReadFailed};
 ghost use Rattle.dc_sectors.specs.Disk.{IsImage, Answers, put, added, settled, Elapses};
 
 use crate::{Failed, ReadFault};
@@ -45,12 +47,14 @@ pub trait Disk {
         ensures before { keeps self.new → keeps self.old }
         ensures reads { reads self.new ≡ reads self.old }
         ensures choices { choices self.new ≡ choices self.old }
-        ensures time { Elapses (moment self.old) (moment self.new) (images_since self.old) (images_since self.new) (IsImage (choices self.old)) }
+        ensures time { Elapses (moment self.old) (moment self.new) (images_since self.old)
+            (images_since self.new) (IsImage (choices self.old)) }
         ensures count { sectors self.new ≡ sectors self.old }
         ensures failures { failures self.old ≤ failures self.new }
         ensures passed { OnOk result (failures self.new ≡ failures self.old) }
         ensures unreadable { IsErrOf result CannotRead → failures self.new ≡ failures self.old }
-        ensures failed { IsErrOf result ReadFailed → HasRisen (failures self.old) (failures self.new) };
+        ensures failed { IsErrOf result ReadFailed
+            → HasRisen (failures self.old) (failures self.new) };
 
     /// Writes a sector, which stays one of the sector's choices until a sync. A write that failed may
     /// have been made, in part too.
@@ -60,8 +64,11 @@ pub trait Disk {
         ensures reads { OnOk result (reads self.new ≡ put (reads self.old) n bytes.now) }
         ensures elsewhere { (m : ℕ) → m ≢ n → reads self.new m ≡ reads self.old m }
         ensures choices { OnOk result (choices self.new ≡ added (choices self.old) n bytes.now) }
-        ensures choices_err { OnErr result ((choices self.new ≡ added (choices self.old) n bytes.now) ⊎ (choices self.new ≡ choices self.old)) }
-        ensures time { Elapses (moment self.old) (moment self.new) (images_since self.old) (images_since self.new) (IsImage (added (choices self.old) n bytes.now)) }
+        ensures choices_err { OnErr result
+            ((choices self.new ≡ added (choices self.old) n bytes.now)
+            ⊎ (choices self.new ≡ choices self.old)) }
+        ensures time { Elapses (moment self.old) (moment self.new) (images_since self.old)
+            (images_since self.new) (IsImage (added (choices self.old) n bytes.now)) }
         ensures count { sectors self.new ≡ sectors self.old }
         ensures failures { failures self.old ≤ failures self.new }
         ensures passed { OnOk result (failures self.new ≡ failures self.old) }
@@ -74,7 +81,8 @@ pub trait Disk {
         ensures reads { reads self.new ≡ reads self.old }
         ensures choices { OnOk result (choices self.new ≡ settled (reads self.old)) }
         ensures choices_err { OnErr result (choices self.new ≡ choices self.old) }
-        ensures time { Elapses (moment self.old) (moment self.new) (images_since self.old) (images_since self.new) (IsImage (choices self.old)) }
+        ensures time { Elapses (moment self.old) (moment self.new) (images_since self.old)
+            (images_since self.new) (IsImage (choices self.old)) }
         ensures count { sectors self.new ≡ sectors self.old }
         ensures failures { failures self.old ≤ failures self.new }
         ensures passed { OnOk result (failures self.new ≡ failures self.old) }
@@ -84,8 +92,10 @@ pub trait Disk {
     ghost reads_a_choice: { (disk : Self) (n : ℕ) → Contains (choices disk n) (reads disk n) };
 
     /// The images of this moment are among those since an earlier one.
-    ghost counts_now: { (disk : Self) (t : ℕ) (image : ℕ → Sector) → t ≤ moment disk → IsImage (choices disk) image → images_since disk t image };
+    ghost counts_now: { (disk : Self) (t : ℕ) (image : ℕ → Sector) → t ≤ moment disk
+        → IsImage (choices disk) image → images_since disk t image };
 
     /// Since this moment there is no other image than its own.
-    ghost only_now: { (disk : Self) (image : ℕ → Sector) → images_since disk (moment disk) image → IsImage (choices disk) image };
+    ghost only_now: { (disk : Self) (image : ℕ → Sector) → images_since disk (moment disk) image
+        → IsImage (choices disk) image };
 }

@@ -1,12 +1,16 @@
 //! A disk over a file.
 
-ghost use Rattle.std.specs.Prelude.{◌≡◌, ◌≢◌, ◌⊎◌, ◌<◌, ◌≤◌, ◌*◌, ◌/◌, ◌-◌, ◌^◌, ◌==◌, ℕ, List, [], min, true, false, IfOk, OnOk, OnErr, IsErr, IsErrOf, length};
+ghost use Rattle.std.specs.Prelude.{◌≡◌, ◌≢◌, ◌⊎◌, ◌<◌, ◌≤◌, ◌*◌, ◌/◌, ◌-◌, ◌^◌, ◌==◌, ℕ, List, []};
+ghost use Rattle.std.specs.Prelude.{min, true, false, IfOk, OnOk, OnErr, IsErr, IsErrOf, length};
 ghost use Rattle.dc_base.specs.Failures.{HasRisen};
 ghost use Rattle.dc_sectors.specs.declared.sector.Sector.{Sector};
-ghost use Rattle.dc_sectors.specs.declared.sector.ReadFault.TheVariants.{Unreadable as CannotRead, Failed as ReadFailed};
+ghost use Rattle.dc_sectors.specs.declared.sector.ReadFault.TheVariants.{Unreadable as CannotRead};
+ghost use Rattle.dc_sectors.specs.declared.sector.ReadFault.TheVariants.{Failed as ReadFailed};
 ghost use Rattle.dc_sectors.specs.FileCalls.{value_of};
 ghost use Rattle.dc_sectors.specs.Disk.{Answers, Elapses, IsImage, put, added, settled};
-ghost use Rattle.dc_sectors.specs.File.{failed_once_more, IsOpened, is_all, IsReadOf, IsWriteOf, IsSyncOf, reads_in, choices_in, moment_in, images_in, KeepsRule};
+ghost use Rattle.dc_sectors.specs.File.{failed_once_more, IsOpened, is_all, IsReadOf, IsWriteOf};
+ghost use Rattle.dc_sectors.specs.File.{IsSyncOf, reads_in, choices_in, moment_in, images_in};
+ghost use Rattle.dc_sectors.specs.File.{KeepsRule};
 
 use crate::{Disk, Failed, FileCalls, Logged, ReadFault, Start, Unknown};
 use dc_base::one_failure_more;
@@ -19,8 +23,8 @@ use std::rt::Files;
 
 /// A disk over a file: sector n is the 512 bytes from byte 512 n on.
 ///
-/// A read, a write or a sync is one call of the file. Each fault of the file is a counted failure, also a short read and
-/// a short write. A sector of a file is never `Unreadable`. After a sync that failed every call fails.
+/// A read, a write or a sync is one call of the file. Each fault of the file is a counted failure, also a short read
+/// and a short write. A sector of a file is never `Unreadable`. After a sync that failed every call fails.
 ///
 /// That the file keeps the disk rule is a hypothesis on its calls so far: `KeepsRule` of specs/File.
 #[derive(Drop)]
@@ -42,7 +46,12 @@ impl<C: FileCalls + Drop> Model for DiskOver<C> {
 
     ghost Value = { FileState };
 
-    ghost view = { λ d. record { sectors = d.count; failures = d.failures; lost = d.lost; calls = C.history d.file } };
+    ghost view = { λ d. record {
+      sectors = d.count;
+      failures = d.failures;
+      lost = d.lost;
+      calls = C.history d.file;
+    } };
 }
 
 impl<F: FileExt + OpenFile + Drop, S: Start> DiskOver<Logged<F, S>> {
@@ -99,7 +108,8 @@ impl<C: FileCalls + Drop> DiskOver<C> {
     fn read_sector(&mut self, n: u32) -> Result<[u8; 512], ReadFault>
         ensures made { IsReadOf self.old n result self.new.calls }
         ensures ok { OnOk result (self.new ≡ record self.old { calls = self.new.calls }) }
-        ensures err { OnErr result (self.new ≡ record (failed_once_more self.old) { calls = self.new.calls }) }
+        ensures err { OnErr result (self.new
+            ≡ record (failed_once_more self.old) { calls = self.new.calls }) }
         ensures readable { IsErrOf result CannotRead → ⊥ }
         ensures lost { self.old.lost ≡ true → IsErr result }
         ensures count { self.new.sectors ≡ self.old.sectors }
@@ -121,7 +131,8 @@ impl<C: FileCalls + Drop> DiskOver<C> {
     fn write_sector(&mut self, n: u32, bytes: &[u8; 512]) -> Result<(), Failed>
         ensures made { IsWriteOf self.old n bytes.now result self.new.calls }
         ensures ok { OnOk result (self.new ≡ record self.old { calls = self.new.calls }) }
-        ensures err { OnErr result (self.new ≡ record (failed_once_more self.old) { calls = self.new.calls }) }
+        ensures err { OnErr result (self.new
+            ≡ record (failed_once_more self.old) { calls = self.new.calls }) }
         ensures lost { self.old.lost ≡ true → IsErr result }
         ensures count { self.new.sectors ≡ self.old.sectors }
         ensures failures { self.old.failures ≤ self.new.failures }
@@ -142,7 +153,8 @@ impl<C: FileCalls + Drop> DiskOver<C> {
     fn sync_sectors(&mut self) -> Result<(), Failed>
         ensures made { IsSyncOf self.old result self.new.calls }
         ensures ok { OnOk result (self.new ≡ record self.old { calls = self.new.calls }) }
-        ensures err { OnErr result (self.new ≡ record (failed_once_more self.old) { lost = true; calls = self.new.calls }) }
+        ensures err { OnErr result (self.new
+            ≡ record (failed_once_more self.old) { lost = true; calls = self.new.calls }) }
         ensures lost { self.old.lost ≡ true → IsErr result }
         ensures count { self.new.sectors ≡ self.old.sectors }
         ensures failures { self.old.failures ≤ self.new.failures }
@@ -213,16 +225,21 @@ impl<C: FileCalls + Drop> Disk for DiskOver<C> {
     fn read(&mut self, n: u32) -> Result<[u8; 512], ReadFault>
         requires { n < self.old.sectors }
         ensures made { IsReadOf self.old n result self.new.calls }
-        ensures any_start { (start : ℕ → Sector) → KeepsRule start self.new.calls → Answers (reads_in start self.old n) result }
+        ensures any_start { (start : ℕ → Sector) → KeepsRule start self.new.calls
+            → Answers (reads_in start self.old n) result }
         ensures ok { OnOk result (self.new ≡ record self.old { calls = self.new.calls }) }
-        ensures err { OnErr result (self.new ≡ record (failed_once_more self.old) { calls = self.new.calls }) }
+        ensures err { OnErr result (self.new
+            ≡ record (failed_once_more self.old) { calls = self.new.calls }) }
         ensures readable { IsErrOf result CannotRead → ⊥ }
         ensures lost { self.old.lost ≡ true → IsErr result }
-        ensures answer { KeepsRule C.start self.new.calls → Answers (reads_in C.start self.old n) result }
+        ensures answer { KeepsRule C.start self.new.calls
+            → Answers (reads_in C.start self.old n) result }
         ensures before { KeepsRule C.start self.new.calls → KeepsRule C.start self.old.calls }
         ensures reads { reads_in C.start self.new ≡ reads_in C.start self.old }
         ensures choices { choices_in C.start self.new ≡ choices_in C.start self.old }
-        ensures time { Elapses (moment_in self.old) (moment_in self.new) (images_in C.start self.old) (images_in C.start self.new) (IsImage (choices_in C.start self.old)) }
+        ensures time { Elapses (moment_in self.old) (moment_in self.new)
+            (images_in C.start self.old) (images_in C.start self.new)
+            (IsImage (choices_in C.start self.old)) }
         ensures count { self.new.sectors ≡ self.old.sectors }
         ensures failures { self.old.failures ≤ self.new.failures }
         ensures passed { OnOk result (self.new.failures ≡ self.old.failures) }
@@ -236,14 +253,22 @@ impl<C: FileCalls + Drop> Disk for DiskOver<C> {
         requires { n < self.old.sectors }
         ensures made { IsWriteOf self.old n bytes.now result self.new.calls }
         ensures ok { OnOk result (self.new ≡ record self.old { calls = self.new.calls }) }
-        ensures err { OnErr result (self.new ≡ record (failed_once_more self.old) { calls = self.new.calls }) }
+        ensures err { OnErr result (self.new
+            ≡ record (failed_once_more self.old) { calls = self.new.calls }) }
         ensures lost { self.old.lost ≡ true → IsErr result }
         ensures before { KeepsRule C.start self.new.calls → KeepsRule C.start self.old.calls }
-        ensures reads { OnOk result (reads_in C.start self.new ≡ put (reads_in C.start self.old) n bytes.now) }
-        ensures elsewhere { (m : ℕ) → m ≢ n → reads_in C.start self.new m ≡ reads_in C.start self.old m }
-        ensures choices { OnOk result (choices_in C.start self.new ≡ added (choices_in C.start self.old) n bytes.now) }
-        ensures choices_err { OnErr result ((choices_in C.start self.new ≡ added (choices_in C.start self.old) n bytes.now) ⊎ (choices_in C.start self.new ≡ choices_in C.start self.old)) }
-        ensures time { Elapses (moment_in self.old) (moment_in self.new) (images_in C.start self.old) (images_in C.start self.new) (IsImage (added (choices_in C.start self.old) n bytes.now)) }
+        ensures reads { OnOk result (reads_in C.start self.new
+            ≡ put (reads_in C.start self.old) n bytes.now) }
+        ensures elsewhere { (m : ℕ) → m ≢ n
+            → reads_in C.start self.new m ≡ reads_in C.start self.old m }
+        ensures choices { OnOk result (choices_in C.start self.new
+            ≡ added (choices_in C.start self.old) n bytes.now) }
+        ensures choices_err { OnErr result
+            ((choices_in C.start self.new ≡ added (choices_in C.start self.old) n bytes.now)
+            ⊎ (choices_in C.start self.new ≡ choices_in C.start self.old)) }
+        ensures time { Elapses (moment_in self.old) (moment_in self.new)
+            (images_in C.start self.old) (images_in C.start self.new)
+            (IsImage (added (choices_in C.start self.old) n bytes.now)) }
         ensures count { self.new.sectors ≡ self.old.sectors }
         ensures failures { self.old.failures ≤ self.new.failures }
         ensures passed { OnOk result (self.new.failures ≡ self.old.failures) }
@@ -258,13 +283,18 @@ impl<C: FileCalls + Drop> Disk for DiskOver<C> {
     fn sync(&mut self) -> Result<(), Failed>
         ensures made { IsSyncOf self.old result self.new.calls }
         ensures ok { OnOk result (self.new ≡ record self.old { calls = self.new.calls }) }
-        ensures err { OnErr result (self.new ≡ record (failed_once_more self.old) { lost = true; calls = self.new.calls }) }
+        ensures err { OnErr result (self.new
+            ≡ record (failed_once_more self.old) { lost = true; calls = self.new.calls }) }
         ensures lost { self.old.lost ≡ true → IsErr result }
         ensures before { KeepsRule C.start self.new.calls → KeepsRule C.start self.old.calls }
         ensures reads { reads_in C.start self.new ≡ reads_in C.start self.old }
-        ensures choices { OnOk result (choices_in C.start self.new ≡ settled (reads_in C.start self.old)) }
-        ensures choices_err { OnErr result (choices_in C.start self.new ≡ choices_in C.start self.old) }
-        ensures time { Elapses (moment_in self.old) (moment_in self.new) (images_in C.start self.old) (images_in C.start self.new) (IsImage (choices_in C.start self.old)) }
+        ensures choices { OnOk result (choices_in C.start self.new
+            ≡ settled (reads_in C.start self.old)) }
+        ensures choices_err { OnErr result
+            (choices_in C.start self.new ≡ choices_in C.start self.old) }
+        ensures time { Elapses (moment_in self.old) (moment_in self.new)
+            (images_in C.start self.old) (images_in C.start self.new)
+            (IsImage (choices_in C.start self.old)) }
         ensures count { self.new.sectors ≡ self.old.sectors }
         ensures failures { self.old.failures ≤ self.new.failures }
         ensures passed { OnOk result (self.new.failures ≡ self.old.failures) }

@@ -21,7 +21,8 @@ pub trait FileCalls {
     /// Reads once from that byte on into the front of `bytes`, and returns how many bytes came.
     fn read_some(&mut self, at: u64, bytes: &mut [u8]) -> io::Result<usize>
         ensures count { IfOk result (λ n. n ≤ length bytes.old) }
-        ensures noted { history self.new ≡ Got at (length bytes.old) (came result bytes.new) ∷ history self.old };
+        ensures noted { history self.new ≡ Got at (length bytes.old) (came result bytes.new)
+            ∷ history self.old };
 
     /// Writes these bytes once from that byte on, and returns how many of them were taken.
     fn write_some(&mut self, at: u64, bytes: &[u8]) -> io::Result<usize>

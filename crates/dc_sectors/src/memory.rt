@@ -1,11 +1,15 @@
 //! A disk in memory, which can be stopped.
 
-ghost use Rattle.std.specs.Prelude.{◌≡◌, ◌≢◌, ◌⊎◌, ◌<◌, ◌≤◌, ℕ, Some, None, IfOk, OnOk, OnErr, IsErrOf, [], length};
+ghost use Rattle.std.specs.Prelude.{◌≡◌, ◌≢◌, ◌⊎◌, ◌<◌, ◌≤◌, ℕ, Some, None, IfOk, OnOk, OnErr};
+ghost use Rattle.std.specs.Prelude.{IsErrOf, [], length};
 ghost use Rattle.std.specs.List.{AllZip};
 ghost use Rattle.dc_base.specs.Failures.{HasRisen};
-ghost use Rattle.dc_sectors.specs.declared.sector.ReadFault.TheVariants.{Unreadable as CannotRead, Failed as ReadFailed};
+ghost use Rattle.dc_sectors.specs.declared.sector.ReadFault.TheVariants.{Unreadable as CannotRead};
+ghost use Rattle.dc_sectors.specs.declared.sector.ReadFault.TheVariants.{Failed as ReadFailed};
 ghost use Rattle.dc_sectors.specs.Disk.{Answers, Elapses, IsImage, put, added, settled};
-ghost use Rattle.dc_sectors.specs.Memory.{blank, pending_of, pending_below, reads_of, choices_of, IsPickFor, image_picked, picked_from, IsKept, IsRead, IsWrite, IsSync, answer_of};
+ghost use Rattle.dc_sectors.specs.Memory.{blank, pending_of, pending_below, reads_of, choices_of};
+ghost use Rattle.dc_sectors.specs.Memory.{IsPickFor, image_picked, picked_from, IsKept, IsRead};
+ghost use Rattle.dc_sectors.specs.Memory.{IsWrite, IsSync, answer_of};
 ghost use Rattle.dc_sectors.specs.Record.{image_of, writes_after, ImageSince};
 
 use crate::calls::Calls;
@@ -63,14 +67,18 @@ impl<A: Allocator + Copy> MemoryDisk<A> {
 
     /// After this many calls more every call fails, until a stop.
     pub fn fuse(&mut self, passes: u64)
-        ensures { self.new ≡ record self.old { calls = record self.old.calls { fuse = Some passes } } }
+        ensures { self.new ≡ record self.old {
+          calls = record self.old.calls { fuse = Some passes };
+        } }
     {
         self.calls.fuse = Some(passes);
     }
 
     /// This many calls more pass, and the next one alone fails.
     pub fn fail_once(&mut self, passes: u64)
-        ensures { self.new ≡ record self.old { calls = record self.old.calls { fails_at = Some passes } } }
+        ensures { self.new ≡ record self.old {
+          calls = record self.old.calls { fails_at = Some passes };
+        } }
     {
         self.calls.fails_at = Some(passes);
     }
@@ -151,7 +159,8 @@ fn pick_each(
     picks: &[Pick],
 )
     requires kept { IsKept start.now reads.old writes.now events.now }
-    requires picks { length picks.now ≡ length (pending_below (writes_after events.now) (length start.now)) }
+    requires picks { length picks.now
+        ≡ length (pending_below (writes_after events.now) (length start.now)) }
     ensures { image_of reads.new ≡ picked_from (image_of start.now) events.now picks.now }
 {
     let mut next = 0;
@@ -196,12 +205,16 @@ impl<A: Allocator + Copy> Disk for MemoryDisk<A> {
         ensures answer { Answers (reads_of self.old n) result }
         ensures reads { reads_of self.new ≡ reads_of self.old }
         ensures choices { choices_of self.new ≡ choices_of self.old }
-        ensures time { Elapses (length self.old.events) (length self.new.events) (ImageSince (image_of self.old.start) self.old.events) (ImageSince (image_of self.new.start) self.new.events) (IsImage (choices_of self.old)) }
+        ensures time { Elapses (length self.old.events) (length self.new.events)
+            (ImageSince (image_of self.old.start) self.old.events)
+            (ImageSince (image_of self.new.start) self.new.events) (IsImage (choices_of self.old)) }
         ensures count { length self.new.start ≡ length self.old.start }
         ensures failures { self.old.calls.failed ≤ self.new.calls.failed }
         ensures passed { OnOk result (self.new.calls.failed ≡ self.old.calls.failed) }
-        ensures unreadable { IsErrOf result CannotRead → self.new.calls.failed ≡ self.old.calls.failed }
-        ensures failed { IsErrOf result ReadFailed → HasRisen self.old.calls.failed self.new.calls.failed }
+        ensures unreadable { IsErrOf result CannotRead
+            → self.new.calls.failed ≡ self.old.calls.failed }
+        ensures failed { IsErrOf result ReadFailed
+            → HasRisen self.old.calls.failed self.new.calls.failed }
     {
         if !self.calls.begin() {
             let _ = self.calls.fail();
@@ -215,9 +228,15 @@ impl<A: Allocator + Copy> Disk for MemoryDisk<A> {
         ensures exact { IsWrite self.old n bytes.now result self.new }
         ensures reads { OnOk result (reads_of self.new ≡ put (reads_of self.old) n bytes.now) }
         ensures elsewhere { (m : ℕ) → m ≢ n → reads_of self.new m ≡ reads_of self.old m }
-        ensures choices { OnOk result (choices_of self.new ≡ added (choices_of self.old) n bytes.now) }
-        ensures choices_err { OnErr result ((choices_of self.new ≡ added (choices_of self.old) n bytes.now) ⊎ (choices_of self.new ≡ choices_of self.old)) }
-        ensures time { Elapses (length self.old.events) (length self.new.events) (ImageSince (image_of self.old.start) self.old.events) (ImageSince (image_of self.new.start) self.new.events) (IsImage (added (choices_of self.old) n bytes.now)) }
+        ensures choices { OnOk result (choices_of self.new
+            ≡ added (choices_of self.old) n bytes.now) }
+        ensures choices_err { OnErr result
+            ((choices_of self.new ≡ added (choices_of self.old) n bytes.now)
+            ⊎ (choices_of self.new ≡ choices_of self.old)) }
+        ensures time { Elapses (length self.old.events) (length self.new.events)
+            (ImageSince (image_of self.old.start) self.old.events)
+            (ImageSince (image_of self.new.start) self.new.events)
+            (IsImage (added (choices_of self.old) n bytes.now)) }
         ensures count { length self.new.start ≡ length self.old.start }
         ensures failures { self.old.calls.failed ≤ self.new.calls.failed }
         ensures passed { OnOk result (self.new.calls.failed ≡ self.old.calls.failed) }
@@ -245,7 +264,9 @@ impl<A: Allocator + Copy> Disk for MemoryDisk<A> {
         ensures reads { reads_of self.new ≡ reads_of self.old }
         ensures choices { OnOk result (choices_of self.new ≡ settled (reads_of self.old)) }
         ensures choices_err { OnErr result (choices_of self.new ≡ choices_of self.old) }
-        ensures time { Elapses (length self.old.events) (length self.new.events) (ImageSince (image_of self.old.start) self.old.events) (ImageSince (image_of self.new.start) self.new.events) (IsImage (choices_of self.old)) }
+        ensures time { Elapses (length self.old.events) (length self.new.events)
+            (ImageSince (image_of self.old.start) self.old.events)
+            (ImageSince (image_of self.new.start) self.new.events) (IsImage (choices_of self.old)) }
         ensures count { length self.new.start ≡ length self.old.start }
         ensures failures { self.old.calls.failed ≤ self.new.calls.failed }
         ensures passed { OnOk result (self.new.calls.failed ≡ self.old.calls.failed) }

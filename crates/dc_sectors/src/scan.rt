@@ -11,7 +11,8 @@ use crate::sector::Sector;
 
 /// What the pick says of sector n, which read so when the record began.
 pub fn picked(start: Sector, events: &[Event], n: u32, pick: Pick) -> Sector
-    ensures { (image : ℕ → Sector) → image n ≡ start → result ≡ picked (choices_after image events.now n) pick }
+    ensures { (image : ℕ → Sector) → image n ≡ start
+        → result ≡ picked (choices_after image events.now n) pick }
 {
     let mut scan = settled(start, pick);
     for event in events {
@@ -63,8 +64,10 @@ fn written(scan: Scan, bytes: &[u8; 512], done: bool, pick: Pick) -> Scan
 
 fn next(scan: Scan, event: &Event, n: u32, pick: Pick) -> Scan
     requires { scan.writes < usize.MAX }
-    ensures is { (image : ℕ → Sector) (choices : ℕ → List Sector) (writes : ℕ → ℕ) → IsScan image choices writes n pick scan
-        → IsScan (reads_next image event.now) (choices_next image choices event.now) (writes_next writes event.now) n pick result }
+    ensures is { (image : ℕ → Sector) (choices : ℕ → List Sector) (writes : ℕ → ℕ)
+        → IsScan image choices writes n pick scan
+        → IsScan (reads_next image event.now) (choices_next image choices event.now)
+        (writes_next writes event.now) n pick result }
     ensures small { result.writes ≤ scan.writes + 1 }
 {
     match event {

@@ -18,7 +18,8 @@ pub record PutsAnswer (before after : Option (List ℕ)) (answer : List ℕ) (co
   pub counted : count ≡ length bytes
 
 -- One block was taken, the meters heard it as a request, and the answer was put.
-pub record Serves (left left_after written written_after : Option (List ℕ)) (before after : List Standing) (count : ℕ) : Type 0 where
+pub record Serves (left left_after written written_after : Option (List ℕ))
+    (before after : List Standing) (count : ℕ) : Type 0 where
   pub request : List ℕ
   pub takes : Takes left left_after (length request ∷ request)
   pub answer : List ℕ

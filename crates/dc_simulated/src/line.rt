@@ -63,8 +63,10 @@ impl<A: Allocator> SimulatedBus<A> {
 
 // What is heard of these meters, each of which takes the request.
 fn hear_all<A: Allocator>(meters: &mut [SimulatedMeter<A>], request: &[u8]) -> Reply
-    ensures sees { (frame : FrameSeen) → frame_of request.now ≡ Some frame → SelectsByMask frame → AreAble meters.old → meters.new ≡ map (seen_by frame) meters.old }
-    ensures heard { (frame : FrameSeen) → frame_of request.now ≡ Some frame → SelectsByMask frame → AreAble meters.old → bytes_heard result ≡ heard_of frame meters.new }
+    ensures sees { (frame : FrameSeen) → frame_of request.now ≡ Some frame → SelectsByMask frame
+        → AreAble meters.old → meters.new ≡ map (seen_by frame) meters.old }
+    ensures heard { (frame : FrameSeen) → frame_of request.now ≡ Some frame → SelectsByMask frame
+        → AreAble meters.old → bytes_heard result ≡ heard_of frame meters.new }
     ensures unseen { frame_of request.now ≡ None → meters.new ≡ meters.old }
     ensures silent { frame_of request.now ≡ None → bytes_heard result ≡ [] }
 {

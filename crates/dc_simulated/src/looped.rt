@@ -23,7 +23,14 @@ pub struct Looped<S: Source + Drop, R: Source + Drop, W: Sink + Drop, A: Allocat
 impl<S: Source + Drop, R: Source + Drop, W: Sink + Drop, A: Allocator> Looped<S, R, W, A> {
     /// Reads from `answers` what the bus replies to `requests` through `replies`.
     pub fn new(answers: S, requests: R, replies: W, bus: SimulatedBus<A>) -> Self
-        ensures { result ≡ record { answers = answers; requests = requests; replies = replies; bus = bus; left = 0; failures = 0 } }
+        ensures { result ≡ record {
+          answers = answers;
+          requests = requests;
+          replies = replies;
+          bus = bus;
+          left = 0;
+          failures = 0;
+        } }
     {
         Looped {
             answers,

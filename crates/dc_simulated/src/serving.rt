@@ -19,7 +19,8 @@ pub fn serve<R: Source, W: Sink, A: Allocator>(
     writer: &mut W,
     bus: &mut SimulatedBus<A>,
 ) -> Result<usize, IoFault>
-    ensures { IfOk result (Serves (R.left reader.old) (R.left reader.new) (W.written writer.old) (W.written writer.new) bus.old bus.new) }
+    ensures { IfOk result (Serves (R.left reader.old) (R.left reader.new) (W.written writer.old)
+        (W.written writer.new) bus.old bus.new) }
 {
     let count = take_length(reader)?;
     let mut request = AnswerBuf::new();
@@ -43,7 +44,8 @@ fn put_answer<W: Sink>(writer: &mut W, answer: &AnswerBuf) -> Result<usize, IoFa
 // A block with these bytes and its length, or none where there are none.
 fn put_some<W: Sink>(writer: &mut W, bytes: &[u8]) -> Result<usize, IoFault>
     requires { length bytes.now ≤ most_block }
-    ensures puts { OnOk result (Puts (W.written writer.old) (W.written writer.new) (blocks_bytes (blocks_with bytes.now))) }
+    ensures puts { OnOk result (Puts (W.written writer.old) (W.written writer.new)
+        (blocks_bytes (blocks_with bytes.now))) }
     ensures count { IfOk result (λ count. count ≡ length (blocks_bytes (blocks_with bytes.now))) }
     ensures most { IfOk result (λ count. count ≤ length bytes.now + 1) }
 {

@@ -13,12 +13,14 @@ is_ready lost line = line.clear || is_gone lost line
 
 -- a line that is given up stays as it is, and is silent
 
-pub record SteadySends {B : Type 0} (half : HalfGhosts B) (old : Steady B) (request : List ℕ) (new : Steady B)
+pub record SteadySends {B : Type 0} (half : HalfGhosts B) (old : Steady B) (request : List ℕ)
+    (new : Steady B)
     : Type 0 where
   pub untouched : is_gone half.lost old ≡ true → new ≡ old
   pub sent : is_gone half.lost old ≡ false → Sent half.sends old request new
 
-pub record SteadyGives {B : Type 0} (half : HalfGhosts B) (old : Steady B) (heard : List ℕ) (new : Steady B)
+pub record SteadyGives {B : Type 0} (half : HalfGhosts B) (old : Steady B) (heard : List ℕ)
+    (new : Steady B)
     : Type 0 where
   pub untouched : is_gone half.lost old ≡ true → new ≡ old
   pub silence : is_gone half.lost new ≡ true → heard ≡ []
@@ -38,7 +40,8 @@ pub record SteadySettles {B : Type 0} (half : HalfGhosts B) (old new : Steady B)
 -- this is heard of the request that was sent last
 pub data Hears {B : Type 0} (gives : B → List ℕ → B → Type 0) (waits : B → B → Type 0)
     : Steady B → List ℕ → Steady B → Type 0 where
-  takes : {old new : Steady B} {heard : List ℕ} → Takes gives old heard new → Hears gives waits old heard new
+  takes : {old new : Steady B} {heard : List ℕ} → Takes gives old heard new
+      → Hears gives waits old heard new
   waits_first : {old between new : Steady B} {heard : List ℕ} → StillWaits gives waits old between
       → Hears gives waits between heard new → Hears gives waits old heard new
 

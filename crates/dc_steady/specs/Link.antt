@@ -5,8 +5,10 @@ use Rattle.dc_readout.specs.Summary.{asked_by, verdict_by}
 use Rattle.dc_lives.specs.declared.event.Outcome.{Outcome}
 use Rattle.dc_lives.specs.declared.event.WorldEvent.TheVariants.{Start}
 use Rattle.dc_lives.specs.Meter.{Meter}
-use Rattle.dc_lives.specs.World.{World, Running, world_step, positions_after, heard_in, running_after}
-use Rattle.dc_late.specs.Late.{LateWorld, and_sent, new_late_world, late_step, passes, commits, stops}
+use Rattle.dc_lives.specs.World.{World, Running, world_step, positions_after, heard_in}
+use Rattle.dc_lives.specs.World.{running_after}
+use Rattle.dc_late.specs.Late.{LateWorld, and_sent, new_late_world, late_step, passes, commits}
+use Rattle.dc_late.specs.Late.{stops}
 use Rattle.dc_steady.specs.declared.line.Steady.{Steady}
 use Rattle.dc_steady.specs.Life.{BecomesClear, Hears}
 
@@ -35,11 +37,17 @@ line_of w way request = record {
 
 -- a world in which a line is as it is now
 abbrev pub with_line : World → Steady (List (List ℕ)) → LateWorld
-with_line world line = record { world = world; under_way = line.bus; last = line.last; clear = line.clear }
+with_line world line = record {
+  world = world;
+  under_way = line.bus;
+  last = line.last;
+  clear = line.clear;
+}
 
 -- what is under way when the request has gone out: the answer to it comes after the others
 abbrev pub way_of : List Meter → LateWorld → Outcome → FrameSeen → List (List ℕ)
-way_of meters w outcome frame = and_sent (heard_in outcome frame meters w.world.positions) w.under_way
+way_of meters w outcome frame = and_sent
+    (heard_in outcome frame meters w.world.positions) w.under_way
 
 -- the session judges what was heard
 abbrev pub judged : List Meter → Outcome → FrameSeen → Running → List ℕ → World → World
@@ -59,9 +67,11 @@ pub data Happens (meters : List Meter) (w new : LateWorld) : Type 0 where
   settles : (place : ℕ) (request : List ℕ) (line : Steady (List (List ℕ)))
       → BecomesClear LinkGives LinkWaits (line_of w w.under_way request) line → line.bus ≡ []
       → new ≡ with_line (world_step meters w.world (Start place)) line → Happens meters w new
-  hears : (outcome : Outcome) (r : Running) (frame : FrameSeen) (heard : List ℕ) (line : Steady (List (List ℕ)))
+  hears : (outcome : Outcome) (r : Running) (frame : FrameSeen) (heard : List ℕ)
+      (line : Steady (List (List ℕ)))
       → w.world.running ≡ Some r → asked_by r.session ≡ Some frame
-      → Hears LinkGives LinkWaits (line_of w (way_of meters w outcome frame) (spelling frame)) heard line
+      → Hears LinkGives LinkWaits (line_of w (way_of meters w outcome frame) (spelling frame)) heard
+      line
       → new ≡ with_line (judged meters outcome frame r heard w.world) line → Happens meters w new
   keeps : new ≡ late_step meters w commits → Happens meters w new
   restarts : new ≡ late_step meters w stops → Happens meters w new

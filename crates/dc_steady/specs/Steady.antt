@@ -1,5 +1,6 @@
 -- What is heard on a line whose link may deliver answers late, and when such a line is clear (this product).
-use Rattle.std.specs.Prelude.{◌≡◌, ℕ, ◌+◌, ◌-◌, ◌^◌, ◌≤◌, ◌<◌, Bool, true, false, ◌&&◌, List, [], ◌∷◌, length, min, Option, Some, None, ◌==◌, if◌then◌else◌}
+use Rattle.std.specs.Prelude.{◌≡◌, ℕ, ◌+◌, ◌-◌, ◌^◌, ◌≤◌, ◌<◌, Bool, true, false, ◌&&◌, List, []}
+use Rattle.std.specs.Prelude.{◌∷◌, length, min, Option, Some, None, ◌==◌, if◌then◌else◌}
 use Rattle.dc_stream.specs.Chain.{IsRun}
 use Rattle.dc_linkframe.specs.Frame.{FrameSeen, ack}
 use Rattle.dc_linkframe.specs.Reading.{frame_of}
@@ -22,7 +23,8 @@ copies_in last request answers = length answers - length (past_copies last reque
 
 -- WHAT IS HEARD, after some copies: the bus gave these answers, one after the other. Heard is the first that is no
 -- copy, and nothing was taken after it. Where each is a copy, as many were taken as may be, and it is silence.
-pub record Listens {B : Type 0} (gives : B → List ℕ → B → Type 0) (last : Option Last) (request : List ℕ) (before : ℕ)
+pub record Listens {B : Type 0} (gives : B → List ℕ → B → Type 0) (last : Option Last)
+    (request : List ℕ) (before : ℕ)
     (old : B) (heard : List ℕ) (after : ℕ) (new : B) : Type 0 where
   pub answers : List (List ℕ)
   pub gave : IsRun gives old answers new
@@ -32,7 +34,8 @@ pub record Listens {B : Type 0} (gives : B → List ℕ → B → Type 0) (last 
   pub counted : after ≡ before + copies_in last request answers
 
 -- ONLY COPIES came, if anything, and no further answer is complete yet.
-pub record Waits {B : Type 0} (gives : B → List ℕ → B → Type 0) (waits : B → B → Type 0) (last : Option Last)
+pub record Waits {B : Type 0} (gives : B → List ℕ → B → Type 0) (waits : B → B → Type 0)
+    (last : Option Last)
     (request : List ℕ) (before : ℕ) (old : B) (after : ℕ) (new : B) : Type 0 where
   pub copies : List (List ℕ)
   pub between : B
@@ -48,13 +51,21 @@ request_of (Some frame) = frame
 request_of None = ack
 
 -- the request went out, and is the one that the next answer is for
-pub record Sent {B : Type 0} (sends : B → List ℕ → B → Type 0) (old : Steady B) (request : List ℕ) (new : Steady B)
+pub record Sent {B : Type 0} (sends : B → List ℕ → B → Type 0) (old : Steady B) (request : List ℕ)
+    (new : Steady B)
     : Type 0 where
   pub sent : sends old.bus request new.bus
-  pub kept : new ≡ record old { bus = new.bus; request = request; copies = 0; settled = 0; silent = false }
+  pub kept : new ≡ record old {
+    bus = new.bus;
+    request = request;
+    copies = 0;
+    settled = 0;
+    silent = false;
+  }
 
 -- this was heard of it; the line remembers what it is to remember of that, and counts the copies
-pub record Takes {B : Type 0} (gives : B → List ℕ → B → Type 0) (old : Steady B) (heard : List ℕ) (new : Steady B)
+pub record Takes {B : Type 0} (gives : B → List ℕ → B → Type 0) (old : Steady B) (heard : List ℕ)
+    (new : Steady B)
     : Type 0 where
   pub copies : ℕ
   pub listens : Listens gives old.last old.request old.copies old.bus heard copies new.bus
@@ -67,10 +78,15 @@ pub record Takes {B : Type 0} (gives : B → List ℕ → B → Type 0) (old : S
   }
 
 -- nothing was heard of it yet, and the copies count
-pub record StillWaits {B : Type 0} (gives : B → List ℕ → B → Type 0) (waits : B → B → Type 0) (old new : Steady B)
+pub record StillWaits {B : Type 0} (gives : B → List ℕ → B → Type 0) (waits : B → B → Type 0)
+    (old new : Steady B)
     : Type 0 where
   pub listens : Waits gives waits old.last old.request old.copies old.bus new.copies new.bus
-  pub kept : new ≡ record old { bus = new.bus; copies = new.copies; late = and_late old.late (new.copies - old.copies) }
+  pub kept : new ≡ record old {
+    bus = new.bus;
+    copies = new.copies;
+    late = and_late old.late (new.copies - old.copies);
+  }
 
 -- ---- quiet
 
@@ -88,17 +104,23 @@ late_with late silence = if silence then late else and_late late 1
 -- What a line that settles drops, an answer or silence: with the second silence in a row it is clear, and once it was
 -- listened to as long as may be, it is given up.
 pub data Drops {B : Type 0} (silence : Bool) (old new : Steady B) : Type 0 where
-  quiet : (old.silent && silence) ≡ true → new ≡ record old { clear = true; settled = 0; silent = false }
+  quiet : (old.silent && silence) ≡ true
+      → new ≡ record old { clear = true; settled = 0; silent = false }
       → Drops silence old new
   dropped : (old.silent && silence) ≡ false → old.settled + 1 < most_settling
-      → new ≡ record old { settled = old.settled + 1; silent = silence; late = late_with old.late silence }
+      → new ≡ record old {
+        settled = old.settled + 1;
+        silent = silence;
+        late = late_with old.late silence;
+      }
       → Drops silence old new
   given_up : (old.silent && silence) ≡ false → most_settling ≤ old.settled + 1
       → new ≡ record old { loud = true; silent = silence; late = late_with old.late silence }
       → Drops silence old new
 
 -- ONE STEP OF A LINE THAT SETTLES: no answer is complete yet, or what came is dropped
-pub data Settles {B : Type 0} (gives : B → List ℕ → B → Type 0) (waits : B → B → Type 0) (old new : Steady B)
+pub data Settles {B : Type 0} (gives : B → List ℕ → B → Type 0) (waits : B → B → Type 0)
+    (old new : Steady B)
     : Type 0 where
   not_yet : waits old.bus new.bus → new ≡ record old { bus = new.bus } → Settles gives waits old new
   drops_it : (answer : List ℕ) → gives old.bus answer new.bus

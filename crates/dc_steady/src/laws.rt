@@ -31,7 +31,8 @@ pub fn a_meter_on_a_steady_line_goes_on_from_what_is_committed()
 /// what the concentrator does then, it does over the line layer too. So there are lives in which readings are held.
 pub fn what_comes_in_time_is_read_over_a_steady_line()
     ensures { (meters : List Meter) (events : List WorldEvent) → AreRegular meters
-        → AreDifferent meters → (w : LateWorld) × Lives meters w × (w.world ≡ world_after meters events) }
+        → AreDifferent meters → (w : LateWorld) × Lives meters w
+        × (w.world ≡ world_after meters events) }
 {}
 
 /// A line that begins to settle is clear only after nothing came for twice the patience: the bus gave
@@ -39,5 +40,6 @@ pub fn what_comes_in_time_is_read_over_a_steady_line()
 pub fn a_line_is_clear_after_two_silences<B: HalfBus + Drop>()
     ensures { (old new : Steady B) → old.clear ≡ false → old.silent ≡ false
         → BecomesClear B.gives B.waits old new
-        → (dropped : List (List ℕ)) × Runs B.gives B.waits old.bus (dropped ++ [] ∷ [] ∷ []) new.bus }
+        → (dropped : List (List ℕ)) × Runs B.gives B.waits old.bus
+        (dropped ++ [] ∷ [] ∷ []) new.bus }
 {}

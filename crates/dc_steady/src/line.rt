@@ -1,9 +1,11 @@
 //! A line on which late answers do no harm.
 
-ghost use Rattle.std.specs.Prelude.{◌≡◌, ◌+◌, ◌-◌, ◌≤◌, ◌<◌, ◌⊎◌, [], None, true, false, IfSome, IfNone, length};
+ghost use Rattle.std.specs.Prelude.{◌≡◌, ◌+◌, ◌-◌, ◌≤◌, ◌<◌, ◌⊎◌, [], None, true, false, IfSome};
+ghost use Rattle.std.specs.Prelude.{IfNone, length};
 ghost use Rattle.dc_gateway.specs.Blocks.{most_block};
 ghost use Rattle.dc_line.specs.Bus.{most_waits};
-ghost use Rattle.dc_steady.specs.Life.{SteadyGives, SteadySends, SteadySettles, SteadyWaits, is_gone, is_ready};
+ghost use Rattle.dc_steady.specs.Life.{SteadyGives, SteadySends, SteadySettles, SteadyWaits};
+ghost use Rattle.dc_steady.specs.Life.{is_gone, is_ready};
 ghost use Rattle.dc_steady.specs.Steady.{Drops, late_with, most_settling};
 
 use crate::last::{LastFrame, next_last, stays_clear};

@@ -1,6 +1,7 @@
 //! Bytes in memory, as a source and as a sink.
 
-ghost use Rattle.std.specs.Prelude.{◌≡◌, ◌+◌, ◌-◌, ◌^◌, ◌<◌, ◌≤◌, min, ◌++◌, [], length, take, drop, Some, Ok, IfOk, OnOk, OnErr};
+ghost use Rattle.std.specs.Prelude.{◌≡◌, ◌+◌, ◌-◌, ◌^◌, ◌<◌, ◌≤◌, min, ◌++◌, [], length, take};
+ghost use Rattle.std.specs.Prelude.{drop, Some, Ok, IfOk, OnOk, OnErr};
 ghost use Rattle.dc_stream.specs.Stream.{Takes, PutsFront, IsAtEnd};
 
 use crate::stream::{IoFault, Sink, Source};
@@ -64,12 +65,16 @@ impl<A: Allocator> Source for Bytes<A> {
 
     fn take(&mut self, room: &mut [u8]) -> Result<usize, IoFault>
         ensures count { IfOk result (λ n. n ≤ length room.old) }
-        ensures bytes { IfOk result (λ n. Takes (Some (drop self.old.taken self.old.bytes)) (Some (drop self.new.taken self.new.bytes)) (take n room.new)) }
-        ensures end { IfOk result (λ n. n ≡ 0 → 0 < length room.old → IsAtEnd (Some (drop self.new.taken self.new.bytes))) }
+        ensures bytes { IfOk result (λ n. Takes (Some (drop self.old.taken self.old.bytes))
+            (Some (drop self.new.taken self.new.bytes)) (take n room.new)) }
+        ensures end { IfOk result (λ n.
+            n ≡ 0 → 0 < length room.old → IsAtEnd (Some (drop self.new.taken self.new.bytes))) }
 
         // It never fails, gives as many bytes as there are and fit, and takes none out of the slice.
-        ensures always { result ≡ Ok (min (length self.old.bytes - self.old.taken) (length room.old)) }
-        ensures moved { IfOk result (λ n. self.new ≡ record self.old { taken = self.old.taken + n }) }
+        ensures always { result ≡ Ok (min (length self.old.bytes - self.old.taken)
+            (length room.old)) }
+        ensures moved { IfOk result (λ n.
+            self.new ≡ record self.old { taken = self.old.taken + n }) }
     {
         let (_, left) = self.items.split_at(self.taken);
         let count = left.len().min(room.len());
@@ -87,15 +92,19 @@ impl<A: Allocator> Sink for Bytes<A> {
 
     ghost puts = { λ old bytes new. new ≡ record old { bytes = old.bytes ++ bytes } };
 
-    ghost breaks = { λ old _ new. new ≡ record old { failures = min (old.failures + 1) (2 ^ 64 - 1) } };
+    ghost breaks = { λ old _ new. new
+        ≡ record old { failures = min (old.failures + 1) (2 ^ 64 - 1) } };
 
     #[tactic(auto, using(crate::proofs::Pieces::told))]
     fn put(&mut self, bytes: &[u8]) -> Result<(), IoFault>
-        ensures ok { OnOk result (self.new ≡ record self.old { bytes = self.old.bytes ++ bytes.now }) }
+        ensures ok { OnOk result (self.new
+            ≡ record self.old { bytes = self.old.bytes ++ bytes.now }) }
 
         // A failed put adds nothing, and is counted.
-        ensures err { OnErr result (self.new ≡ record self.old { failures = min (self.old.failures + 1) (2 ^ 64 - 1) }) }
-        ensures front { OnErr result (PutsFront (Some self.old.bytes) (Some self.new.bytes) bytes.now) }
+        ensures err { OnErr result (self.new
+            ≡ record self.old { failures = min (self.old.failures + 1) (2 ^ 64 - 1) }) }
+        ensures front { OnErr result (PutsFront (Some self.old.bytes)
+            (Some self.new.bytes) bytes.now) }
     {
         if self.items.extend_from_slice(bytes).is_err() {
             self.failures = one_failure_more(self.failures);

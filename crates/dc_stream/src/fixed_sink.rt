@@ -59,9 +59,11 @@ impl<const N: usize> Sink for FixedSink<N> {
     ghost put_failures = { λ s. s.failures };
 
     // A put fails exactly where there is no room for all of its bytes. It then adds nothing, and is counted.
-    ghost puts = { λ old bytes new. (length old.bytes + length bytes ≤ N) × (new ≡ record old { bytes = old.bytes ++ bytes }) };
+    ghost puts = { λ old bytes new. (length old.bytes + length bytes ≤ N)
+        × (new ≡ record old { bytes = old.bytes ++ bytes }) };
 
-    ghost breaks = { λ old bytes new. (N < length old.bytes + length bytes) × (new ≡ record old { failures = min (old.failures + 1) (2 ^ 64 - 1) }) };
+    ghost breaks = { λ old bytes new. (N < length old.bytes + length bytes)
+        × (new ≡ record old { failures = min (old.failures + 1) (2 ^ 64 - 1) }) };
 
     #[tactic(auto, using(crate::proofs::Pieces::told))]
     fn put(&mut self, bytes: &[u8]) -> Result<(), IoFault> {

@@ -39,7 +39,8 @@ impl<R: Read + Drop> Source for ReadSource<R> {
         ensures count { IfOk result (λ n. n ≤ length room.old) }
         ensures well { OnOk result (self.new.failures ≡ self.old.failures) }
         ensures failed { OnErr result (HasRisen self.old.failures self.new.failures) }
-        ensures reader { ReadConsumes (R.remaining self.old.reader) (R.remaining self.new.reader) result room.new }
+        ensures reader { ReadConsumes (R.remaining self.old.reader)
+            (R.remaining self.new.reader) result room.new }
     {
         let taken = read_some(&mut self.reader, room);
         if taken.is_err() {

@@ -1,6 +1,7 @@
 //! Where bytes come from and go to.
 
-ghost use Rattle.std.specs.Prelude.{◌≡◌, ℕ, ◌≤◌, ◌<◌, List, Option, length, take, IfOk, OnOk, OnErr};
+ghost use Rattle.std.specs.Prelude.{◌≡◌, ℕ, ◌≤◌, ◌<◌, List, Option, length, take, IfOk, OnOk};
+ghost use Rattle.std.specs.Prelude.{OnErr};
 ghost use Rattle.dc_base.specs.Failures.{HasRisen};
 ghost use Rattle.dc_stream.specs.Stream.{Takes, Puts, PutsFront, IsAtEnd};
 
@@ -28,7 +29,8 @@ pub trait Source {
 
         // A failed take leaves what is left, and is counted.
         ensures err { OnErr result (left self.new ≡ left self.old) }
-        ensures failed { OnErr result (HasRisen (take_failures self.old) (take_failures self.new)) };
+        ensures failed { OnErr result (HasRisen (take_failures self.old)
+            (take_failures self.new)) };
 }
 
 /// Where bytes are written to.
@@ -39,8 +41,8 @@ pub trait Sink {
     // How many puts failed.
     ghost put_failures: { Self → ℕ };
 
-    // What a put that succeeds, and one that fails, does to the sink beside its bytes. An implementation says it here so
-    // that it reaches who calls a writer of several pieces, by the chain of its puts.
+    // What a put that succeeds, and one that fails, does to the sink beside its bytes. An implementation says it here
+    // so that it reaches who calls a writer of several pieces, by the chain of its puts.
     ghost puts: { Self → List ℕ → Self → Type 0 } = { λ _ _ _. Unit {0} };
 
     ghost breaks: { Self → List ℕ → Self → Type 0 } = { λ _ _ _. Unit {0} };

@@ -54,7 +54,8 @@ impl<W: Write + Drop> Sink for WriteSink<W> {
         ensures well { OnOk result (self.new.failures ≡ self.old.failures) }
         ensures front { OnErr result (PutsFront None None bytes.now) }
         ensures failed { OnErr result (HasRisen self.old.failures self.new.failures) }
-        ensures writer { OnOk result (Appends (W.contents self.old.writer) (W.contents self.new.writer) bytes.now) }
+        ensures writer { OnOk result (Appends (W.contents self.old.writer)
+            (W.contents self.new.writer) bytes.now) }
     {
         if self.writer.write_all(bytes).is_err() {
             self.failures = one_failure_more(self.failures);

@@ -1,5 +1,6 @@
 -- What `fold` writes (this product): an answer to each line, and then the register as the lines left it.
-use Rattle.std.specs.Prelude.{◌≡◌, ℕ, ◌&&◌, ◌||◌, if◌then◌else◌, Bool, false, Option, Some, None, is_none, List, [], ◌∷◌, ◌++◌, codes}
+use Rattle.std.specs.Prelude.{◌≡◌, ℕ, ◌&&◌, ◌||◌, if◌then◌else◌, Bool, false, Option, Some, None}
+use Rattle.std.specs.Prelude.{is_none, List, [], ◌∷◌, ◌++◌, codes}
 use Rattle.dc_changes.specs.Accepts.{is_next, refusal}
 use Rattle.dc_changes.specs.Apply.{applied}
 use Rattle.dc_changes.specs.ChangeLine.{IsLineOf}
@@ -36,10 +37,12 @@ verdict_line (Some fault) = fault_line (codes "REFUSED") (number_of fault) (name
 
 -- what is answered to a change, and the state after it
 unfoldable pub change_answer : ℕ → Change → State → List ℕ
-change_answer budget change s = if is_next change s then verdict_line (refusal budget change s) else order_line s
+change_answer budget change s = if is_next change s then verdict_line (refusal budget change s)
+    else order_line s
 
 unfoldable pub after_change : ℕ → Change → State → State
-after_change budget change s = if is_next change s && is_none (refusal budget change s) then applied change s else s
+after_change budget change s = if is_next change s && is_none (refusal budget change s)
+    then applied change s else s
 
 -- the same of a line, by what it is read as
 abbrev pub line_answer : ℕ → Option Change → State → List ℕ
@@ -53,7 +56,8 @@ after_line budget (Some change) s = after_change budget change s
 -- and of lines, one after the other
 abbrev pub answers : ℕ → List (Option Change) → State → List ℕ
 answers budget [] s = []
-answers budget (read ∷ reads) s = line_answer budget read s ++ answers budget reads (after_line budget read s)
+answers budget (read ∷ reads) s =
+    line_answer budget read s ++ answers budget reads (after_line budget read s)
 
 abbrev pub after_lines : ℕ → List (Option Change) → State → State
 after_lines budget [] s = s
@@ -71,7 +75,8 @@ abbrev pub fold_budget : ℕ
 fold_budget = 15616
 
 abbrev pub fold_text : List (Option Change) → List ℕ
-fold_text reads = answers fold_budget reads empty_state ++ register_text (after_lines fold_budget reads empty_state)
+fold_text reads = answers fold_budget reads empty_state
+    ++ register_text (after_lines fold_budget reads empty_state)
 
 -- the text for an input, and whether a SYNTAX is in it
 pub record IsFolded (input text : List ℕ) (found : Bool) : Type 0 where
@@ -82,14 +87,16 @@ pub record IsFolded (input text : List ℕ) (found : Bool) : Type 0 where
 
 -- ---- the steps: what lines do to a house and to the text behind which their answers go
 
-pub record IsStep (line : List ℕ) (unread : Bool) (old new : Held) (before text : List ℕ) : Type 0 where
+pub record IsStep (line : List ℕ) (unread : Bool) (old new : Held)
+    (before text : List ℕ) : Type 0 where
   pub read : Option Change
   pub read_is : IsReadAs line read
   pub unread_is : unread ≡ is_none read
   pub house_is : new ≡ record old { state = after_line old.budget read old.state }
   pub text_is : text ≡ before ++ line_answer old.budget read old.state
 
-pub record AreSteps (lines : List (List ℕ)) (found : Bool) (old new : Held) (before text : List ℕ) : Type 0 where
+pub record AreSteps (lines : List (List ℕ)) (found : Bool) (old new : Held)
+    (before text : List ℕ) : Type 0 where
   pub reads : List (Option Change)
   pub lines_are : AreReadAs lines reads
   pub found_is : found ≡ any_unread reads

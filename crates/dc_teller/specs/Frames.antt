@@ -1,5 +1,7 @@
 -- The frames of a line and their text (this product; the frames are those of EN 13757-2).
-use Rattle.std.specs.Prelude.{ℕ, zero, suc, ◌==◌, ◌&&◌, ◌||◌, if◌then◌else◌, Bool, true, false, List, [], ◌∷◌, ◌++◌, codes, length, take, drop, flat_map, Option, Some, None, Result, Ok, Err, is_err}
+use Rattle.std.specs.Prelude.{ℕ, zero, suc, ◌==◌, ◌&&◌, ◌||◌, if◌then◌else◌, Bool, true, false}
+use Rattle.std.specs.Prelude.{List, [], ◌∷◌, ◌++◌, codes, length, take, drop, flat_map, Option}
+use Rattle.std.specs.Prelude.{Some, None, Result, Ok, Err, is_err}
 use Rattle.dc_linkframe.specs.declared.fault.FrameFault.{FrameFault}
 use Rattle.dc_linkframe.specs.declared.needs.Need.{Need}
 use Rattle.dc_linkframe.specs.declared.needs.Need.TheVariants.{More, Whole, Bad}
@@ -26,7 +28,8 @@ front_len bytes = len_by bytes (need_of bytes)
 abbrev pub cut : ℕ → List ℕ → List (List ℕ)
 cut zero bytes = []
 cut (suc turns) [] = []
-cut (suc turns) (b ∷ bytes) = take (front_len (b ∷ bytes)) (b ∷ bytes) ∷ cut turns (drop (front_len (b ∷ bytes)) (b ∷ bytes))
+cut (suc turns) (b ∷ bytes) = take (front_len (b ∷ bytes)) (b ∷ bytes)
+    ∷ cut turns (drop (front_len (b ∷ bytes)) (b ∷ bytes))
 
 -- The texts that bytes come apart into. Each has a byte, so as many turns as bytes are enough.
 unfoldable pub frames_of : List ℕ → List (List ℕ)
@@ -53,7 +56,9 @@ unfoldable pub is_bad_content : ℕ → List ℕ → Bool
 is_bad_content ci body = (ci == 0x72) && is_err (telegram_at body)
 
 unfoldable pub long_line : ℕ → ℕ → ℕ → List ℕ → List ℕ
-long_line control address ci body = codes "LONG" ++ byte_word control ++ byte_word address ++ byte_word ci ++ number_word (length body) ++ codes "\n"
+long_line control address ci body =
+    codes "LONG" ++ byte_word control ++ byte_word address ++ byte_word ci
+    ++ number_word (length body) ++ codes "\n"
 
 unfoldable pub short_line : ℕ → ℕ → List ℕ
 short_line control address = codes "SHORT" ++ byte_word control ++ byte_word address ++ codes "\n"
@@ -61,7 +66,8 @@ short_line control address = codes "SHORT" ++ byte_word control ++ byte_word add
 abbrev pub frame_text : FrameSeen → List ℕ
 frame_text ack = codes "ACK\n"
 frame_text (short control address) = short_line control address
-frame_text (long control address ci body) = long_line control address ci body ++ content_text ci body
+frame_text (long control address ci body) =
+    long_line control address ci body ++ content_text ci body
 
 abbrev pub is_bad_frame : FrameSeen → Bool
 is_bad_frame ack = false

@@ -1,5 +1,6 @@
 -- The lines of an input (this product).
-use Rattle.std.specs.Prelude.{◌≢◌, ℕ, ◌<◌, slice_index, length, ◌==◌, Bool, not, if◌then◌else◌, List, [], ◌∷◌}
+use Rattle.std.specs.Prelude.{◌≢◌, ℕ, ◌<◌, slice_index, length, ◌==◌, Bool, not, if◌then◌else◌}
+use Rattle.std.specs.Prelude.{List, [], ◌∷◌}
 
 -- the most bytes of an input: 1 MiB
 abbrev pub most_input : ℕ

@@ -9,4 +9,5 @@ use Rattle.dc_upload.specs.Register.{meter_lines}
 unfoldable pub register_text : State → List ℕ
 register_text s =
     meter_lines s
-    ++ (codes "READINGS" ++ (number_word (length s.readings) ++ (codes "\nSIZE" ++ (number_word (size_of s) ++ codes "\n"))))
+    ++ (codes "READINGS" ++ (number_word (length s.readings)
+    ++ (codes "\nSIZE" ++ (number_word (size_of s) ++ codes "\n"))))

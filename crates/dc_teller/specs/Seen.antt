@@ -7,7 +7,8 @@ use Rattle.dc_units.specs.declared.point.Seen.{Seen}
 use Rattle.dc_units.specs.declared.point.Seen.TheVariants.{Point as Known, Other}
 use Rattle.dc_units.specs.declared.quantity.Quantity.{Quantity}
 use Rattle.dc_units.specs.declared.value.Value.{Value}
-use Rattle.dc_units.specs.declared.value.Value.TheVariants.{Number, Flags, Day as OnDay, Minute, None as NoValue}
+use Rattle.dc_units.specs.declared.value.Value.TheVariants.{Number, Flags, Day as OnDay, Minute}
+use Rattle.dc_units.specs.declared.value.Value.TheVariants.{None as NoValue}
 use Rattle.dc_units.specs.Point.{seen_of}
 use Rattle.dc_units.specs.Quantity.{unit_of}
 use Rattle.dc_units.specs.Text.{value_text}

@@ -1,12 +1,14 @@
 -- The text for an input: what its lines have, in order (this product).
-use Rattle.std.specs.Prelude.{ℕ, ◌||◌, nat_lt, if◌then◌else◌, Bool, true, false, List, [], ◌∷◌, codes, length, filter, flat_map, Option, Some, None}
+use Rattle.std.specs.Prelude.{ℕ, ◌||◌, nat_lt, if◌then◌else◌, Bool, true, false, List, [], ◌∷◌}
+use Rattle.std.specs.Prelude.{codes, length, filter, flat_map, Option, Some, None}
 use Rattle.dc_text.specs.Hex.{bytes_of}
 use Rattle.dc_teller.specs.Lines.{lines_of, is_solid, longest_input_line}
 use Rattle.dc_teller.specs.Frames.{frames_of, all_shown, any_bad}
 
 -- The bytes of a line of hex digits. The spaces among them count as characters.
 unfoldable pub decoded : List ℕ → Option (List ℕ)
-decoded line = if nat_lt longest_input_line (length line) then None else bytes_of (filter is_solid line)
+decoded line = if nat_lt longest_input_line (length line) then None
+    else bytes_of (filter is_solid line)
 
 abbrev pub decoded_text : Option (List ℕ) → List ℕ
 decoded_text None = codes "HEX FAULT\n"

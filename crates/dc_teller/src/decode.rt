@@ -1,6 +1,7 @@
 //! The engine of `decode`: from a source's lines of hex digits to a sink's text.
 
-ghost use Rattle.std.specs.Prelude.{◌≡◌, ◌≢◌, ◌<◌, ◌≤◌, [], length, take, Some, None, MatchOption, IfSome, IfOk, IfErr, OnOk, OnErr, IsErrOf};
+ghost use Rattle.std.specs.Prelude.{◌≡◌, ◌≢◌, ◌<◌, ◌≤◌, [], length, take, Some, None, MatchOption};
+ghost use Rattle.std.specs.Prelude.{IfSome, IfOk, IfErr, OnOk, OnErr, IsErrOf};
 ghost use Rattle.dc_base.specs.Failures.{HasRisen};
 ghost use Rattle.dc_stream.specs.Stream.{Puts, Wrote};
 ghost use Rattle.dc_teller.specs.Lines.{longest_input_line, most_input, most_spelled};
@@ -15,14 +16,15 @@ use dc_stream::{IoFault, Sink, Source, room};
 use dc_text::decode_hex;
 use std::alloc::Allocator;
 
-/// The bytes of a line's digits, and how many; none where it isn't pairs of hex digits, or is too long. `digits` is room
-/// for the line without its spaces.
+/// The bytes of a line's digits, and how many; none where it isn't pairs of hex digits, or is too long. `digits` is
+/// room for the line without its spaces.
 #[tactic(auto, unfolding(crate::specs::Text::decoded))]
 pub fn decode_line(line: &[u8], digits: &mut [u8], bytes: &mut [u8]) -> Option<usize>
     requires digits { longest_input_line ≤ length digits.old }
     requires bytes { most_spelled ≤ length bytes.old }
     ensures count { IfSome result (λ n. n ≤ most_spelled) }
-    ensures value { MatchOption result (decoded line.now ≡ None) (λ n. decoded line.now ≡ Some (take n bytes.new)) }
+    ensures value { MatchOption result (decoded line.now ≡ None)
+        (λ n. decoded line.now ≡ Some (take n bytes.new)) }
 {
     if line.len() > LONGEST {
         return None;
@@ -95,18 +97,24 @@ pub fn decode_lines<A: Allocator + Copy, R: Source, W: Sink>(
     writer: &mut W,
 ) -> Result<bool, TellFault>
     // What is written is the text for the input, byte for byte.
-    ensures text { OnOk result (IfSome (R.left reader.old) (λ input. Puts (W.written writer.old) (W.written writer.new) (text_of input))) }
+    ensures text { OnOk result (IfSome (R.left reader.old)
+        (λ input. Puts (W.written writer.old) (W.written writer.new) (text_of input))) }
     // The answer says whether a fault is among it.
-    ensures fault { IfOk result (λ found. IfSome (R.left reader.old) (λ input. found ≡ has_fault input)) }
+    ensures fault { IfOk result (λ found.
+        IfSome (R.left reader.old) (λ input. found ≡ has_fault input)) }
 
     // An input over the limit is refused, and no other is refused for its length.
     ensures fits { OnOk result (IfSome (R.left reader.old) (λ input. length input ≤ most_input)) }
-    ensures too_long { IsErrOf result TellFault.TooLong → IfSome (R.left reader.old) (λ input. most_input < length input) }
+    ensures too_long { IsErrOf result TellFault.TooLong
+        → IfSome (R.left reader.old) (λ input. most_input < length input) }
 
     // A fault of an end is told only where that end counted a failure.
-    ensures read { IsErrOf result TellFault.Read → HasRisen (R.take_failures reader.old) (R.take_failures reader.new) }
-    ensures write { IsErrOf result TellFault.Write → HasRisen (W.put_failures writer.old) (W.put_failures writer.new) }
-    ensures ok { OnOk result ((R.take_failures reader.new ≡ R.take_failures reader.old) × (W.put_failures writer.new ≡ W.put_failures writer.old)) }
+    ensures read { IsErrOf result TellFault.Read
+        → HasRisen (R.take_failures reader.old) (R.take_failures reader.new) }
+    ensures write { IsErrOf result TellFault.Write
+        → HasRisen (W.put_failures writer.old) (W.put_failures writer.new) }
+    ensures ok { OnOk result ((R.take_failures reader.new ≡ R.take_failures reader.old)
+        × (W.put_failures writer.new ≡ W.put_failures writer.old)) }
 
     // After any fault but a failed write the writer is as it was.
     ensures untouched { IfErr result (λ fault. fault ≢ TellFault.Write → writer.new ≡ writer.old) }

@@ -1,11 +1,13 @@
 //! The engine of `fold`: from a source's telegrams and commands to a sink's text of the register.
 
-ghost use Rattle.std.specs.Prelude.{◌≡◌, ◌≢◌, ◌↔◌, ◌<◌, ◌≤◌, ◌*◌, ◌++◌, ℕ, List, length, IfSome, IfOk, IfErr, OnOk, IsOk, IsErrOf};
+ghost use Rattle.std.specs.Prelude.{◌≡◌, ◌≢◌, ◌↔◌, ◌<◌, ◌≤◌, ◌*◌, ◌++◌, ℕ, List, length, IfSome};
+ghost use Rattle.std.specs.Prelude.{IfOk, IfErr, OnOk, IsOk, IsErrOf};
 ghost use Rattle.dc_base.specs.Failures.{HasRisen};
 ghost use Rattle.dc_changes.specs.ChangeLine.{longest_change_line};
 ghost use Rattle.dc_changes.specs.Valid.{IsChange};
 ghost use Rattle.dc_stream.specs.Stream.{Puts, Wrote};
-ghost use Rattle.dc_teller.specs.Fold.{IsFolded, IsStep, AreSteps, change_answer, after_change, order_line};
+ghost use Rattle.dc_teller.specs.Fold.{IsFolded, IsStep, AreSteps, change_answer, after_change};
+ghost use Rattle.dc_teller.specs.Fold.{order_line};
 ghost use Rattle.dc_teller.specs.Lines.{lines_of, most_input};
 
 use crate::fault::TellFault;
@@ -49,8 +51,10 @@ fn answer<A: Allocator + Copy>(
     text: &mut Bytes<A>,
 ) -> Result<(), NoMemory>
     requires { IsChange change.now }
-    ensures text { OnOk result (text.new.bytes ≡ text.old.bytes ++ change_answer house.old.budget change.now house.old.state) }
-    ensures house { OnOk result (house.new ≡ record house.old { state = after_change house.old.budget change.now house.old.state }) }
+    ensures text { OnOk result (text.new.bytes ≡ text.old.bytes
+        ++ change_answer house.old.budget change.now house.old.state) }
+    ensures house { OnOk result (house.new
+        ≡ record house.old { state = after_change house.old.budget change.now house.old.state }) }
 {
     if !house.is_next(change) {
         return kept(put_order(house, text));
@@ -72,7 +76,8 @@ fn fold_line<A: Allocator + Copy>(
     text: &mut Bytes<A>,
 ) -> Result<bool, NoMemory>
     requires { longest_change_line ≤ 2 * length bytes.old }
-    ensures { IfOk result (λ unread. IsStep line.now unread house.old house.new text.old.bytes text.new.bytes) }
+    ensures { IfOk result (λ unread.
+        IsStep line.now unread house.old house.new text.old.bytes text.new.bytes) }
 {
     match Change::parse_line(line, bytes) {
         Some(change) => {
@@ -94,7 +99,8 @@ fn fold_all<A: Allocator + Copy>(
     text: &mut Bytes<A>,
 ) -> Result<bool, NoMemory>
     requires { longest_change_line ≤ 2 * length bytes.old }
-    ensures { IfOk result (λ found. AreSteps (lines_of input.now) found house.old house.new text.old.bytes text.new.bytes) }
+    ensures { IfOk result (λ found. AreSteps
+        (lines_of input.now) found house.old house.new text.old.bytes text.new.bytes) }
 {
     let mut found = false;
     let mut rest = input;
@@ -139,16 +145,22 @@ pub fn fold_lines<A: Allocator + Copy, R: Source, W: Sink>(
     writer: &mut W,
 ) -> Result<bool, TellFault>
     // What is written is the text for the input, byte for byte, and the answer says whether a SYNTAX is in it.
-    ensures text { IfOk result (λ found. IfSome (R.left reader.old) (λ input. (text : List ℕ) × IsFolded input text found × Puts (W.written writer.old) (W.written writer.new) text)) }
+    ensures text { IfOk result (λ found. IfSome (R.left reader.old) (λ input.
+        (text : List ℕ) × IsFolded input text found
+        × Puts (W.written writer.old) (W.written writer.new) text)) }
 
     // An input over the limit is refused, and no other is refused for its length.
     ensures fits { OnOk result (IfSome (R.left reader.old) (λ input. length input ≤ most_input)) }
-    ensures too_long { IsErrOf result TellFault.TooLong → IfSome (R.left reader.old) (λ input. most_input < length input) }
+    ensures too_long { IsErrOf result TellFault.TooLong
+        → IfSome (R.left reader.old) (λ input. most_input < length input) }
 
     // A fault of an end is told only where that end counted a failure.
-    ensures read { IsErrOf result TellFault.Read → HasRisen (R.take_failures reader.old) (R.take_failures reader.new) }
-    ensures write { IsErrOf result TellFault.Write → HasRisen (W.put_failures writer.old) (W.put_failures writer.new) }
-    ensures ok { OnOk result ((R.take_failures reader.new ≡ R.take_failures reader.old) × (W.put_failures writer.new ≡ W.put_failures writer.old)) }
+    ensures read { IsErrOf result TellFault.Read
+        → HasRisen (R.take_failures reader.old) (R.take_failures reader.new) }
+    ensures write { IsErrOf result TellFault.Write
+        → HasRisen (W.put_failures writer.old) (W.put_failures writer.new) }
+    ensures ok { OnOk result ((R.take_failures reader.new ≡ R.take_failures reader.old)
+        × (W.put_failures writer.new ≡ W.put_failures writer.old)) }
 
     // After any fault but a failed write the writer is as it was.
     ensures untouched { IfErr result (λ fault. fault ≢ TellFault.Write → writer.new ≡ writer.old) }

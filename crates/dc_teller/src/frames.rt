@@ -3,7 +3,9 @@
 ghost use Rattle.std.specs.Prelude.{◌≡◌, ◌<◌, ◌∷◌, length, Ok, Err, MatchResult, IfOk, OnOk, OnErr};
 ghost use Rattle.dc_linkframe.specs.Frame.{seen};
 ghost use Rattle.dc_stream.specs.Stream.{Wrote};
-ghost use Rattle.dc_teller.specs.Frames.{front_len, frames_of, read_as, content_text, is_bad_content, short_line, long_line, frame_text, is_bad_frame, shown, is_bad, all_shown, any_bad};
+ghost use Rattle.dc_teller.specs.Frames.{front_len, frames_of, read_as, content_text};
+ghost use Rattle.dc_teller.specs.Frames.{is_bad_content, short_line, long_line, frame_text};
+ghost use Rattle.dc_teller.specs.Frames.{is_bad_frame, shown, is_bad, all_shown, any_bad};
 
 use crate::telegram::put_telegram;
 use dc_linkframe::{Frame, FrameFault, Need, need, parse};
@@ -36,7 +38,8 @@ pub fn first_frame(bytes: &[u8]) -> (&[u8], &[u8])
 
 /// The frame that the text spells, or its fault.
 pub fn read(text: &[u8]) -> Result<Frame<'_>, FrameFault>
-    ensures { MatchResult result (λ frame. read_as text.now ≡ Ok (seen frame)) (λ fault. read_as text.now ≡ Err fault) }
+    ensures { MatchResult result (λ frame. read_as text.now ≡ Ok (seen frame))
+        (λ fault. read_as text.now ≡ Err fault) }
 {
     parse(text)
 }
@@ -44,7 +47,8 @@ pub fn read(text: &[u8]) -> Result<Frame<'_>, FrameFault>
 // Writes what a body has, where the CI field says that it is a telegram, and says whether it is none.
 #[tactic(auto, using(dc_stream::proofs::Pieces::written), unfolding(crate::specs::Frames::content_text, crate::specs::Frames::is_bad_content))]
 fn put_content<W: Sink>(ci: u8, body: &[u8], out: &mut W) -> Result<bool, IoFault>
-    ensures wrote { Wrote W.written W.put_failures result out.old out.new (content_text ci body.now) }
+    ensures wrote { Wrote W.written W.put_failures result out.old out.new
+        (content_text ci body.now) }
     ensures fault { IfOk result (λ bad. bad ≡ is_bad_content ci body.now) }
 {
     if ci != VARIABLE_DATA {
@@ -82,7 +86,8 @@ fn put_long<W: Sink>(
     body: &[u8],
     out: &mut W,
 ) -> Result<(), IoFault>
-    ensures { Wrote W.written W.put_failures result out.old out.new (long_line control address ci body.now) }
+    ensures { Wrote W.written W.put_failures result out.old out.new
+        (long_line control address ci body.now) }
 {
     out.put(b"LONG")?;
     put_byte_word(out, control)?;
@@ -95,7 +100,8 @@ fn put_long<W: Sink>(
 // Writes what a frame has, and says whether its body is at fault.
 #[tactic(auto, using(dc_stream::proofs::Pieces::written))]
 fn put_frame<W: Sink>(frame: Frame<'_>, out: &mut W) -> Result<bool, IoFault>
-    ensures wrote { Wrote W.written W.put_failures result out.old out.new (frame_text (seen frame.entry)) }
+    ensures wrote { Wrote W.written W.put_failures result out.old out.new
+        (frame_text (seen frame.entry)) }
     ensures fault { IfOk result (λ bad. bad ≡ is_bad_frame (seen frame.entry)) }
 {
     match frame {
@@ -137,7 +143,8 @@ fn put_shown<W: Sink>(text: &[u8], out: &mut W) -> Result<bool, IoFault>
 /// Writes what stands for the frames of a line's bytes, and says whether a fault is among it.
 #[tactic(auto, using(dc_stream::proofs::Pieces::written, crate::proofs::Cuts::shows))]
 pub fn put_frames<W: Sink>(bytes: &[u8], out: &mut W) -> Result<bool, IoFault>
-    ensures wrote { Wrote W.written W.put_failures result out.old out.new (all_shown (frames_of bytes.now)) }
+    ensures wrote { Wrote W.written W.put_failures result out.old out.new
+        (all_shown (frames_of bytes.now)) }
     ensures fault { IfOk result (λ bad. bad ≡ any_bad (frames_of bytes.now)) }
 {
     let mut found = false;

@@ -1,6 +1,7 @@
 //! The whole input, read before anything is written.
 
-ghost use Rattle.std.specs.Prelude.{◌≡◌, ◌⊎◌, ◌<◌, ◌≤◌, length, vec_len, IfOk, IfErr, OnOk, IsErrOf};
+ghost use Rattle.std.specs.Prelude.{◌≡◌, ◌⊎◌, ◌<◌, ◌≤◌, length, vec_len, IfOk, IfErr, OnOk};
+ghost use Rattle.std.specs.Prelude.{IsErrOf};
 ghost use Rattle.dc_base.specs.Failures.{HasRisen};
 ghost use Rattle.dc_stream.specs.Stream.{Takes, IsAtEnd};
 ghost use Rattle.dc_teller.specs.Lines.{most_input};
@@ -22,11 +23,14 @@ pub fn read_input<A: Allocator, R: Source>(
     chunk: &mut [u8],
 ) -> Result<Vec<u8, A>, TellFault>
     requires { 0 < length chunk.old }
-    ensures bytes { IfOk result (λ input. Takes (R.left reader.old) (R.left reader.new) input.items) }
+    ensures bytes { IfOk result (λ input.
+        Takes (R.left reader.old) (R.left reader.new) input.items) }
     ensures end { IfOk result (λ input. vec_len input ≤ most_input → IsAtEnd (R.left reader.new)) }
-    ensures faults { IfErr result (λ fault. (fault ≡ TellFault.Read) ⊎ (fault ≡ TellFault.NoMemory)) }
+    ensures faults { IfErr result (λ fault.
+        (fault ≡ TellFault.Read) ⊎ (fault ≡ TellFault.NoMemory)) }
     ensures ok { OnOk result (R.take_failures reader.new ≡ R.take_failures reader.old) }
-    ensures read { IsErrOf result TellFault.Read → HasRisen (R.take_failures reader.old) (R.take_failures reader.new) }
+    ensures read { IsErrOf result TellFault.Read
+        → HasRisen (R.take_failures reader.old) (R.take_failures reader.new) }
 {
     // So that no growth follows: a read that begins at the limit still fits.
     let Ok(mut input) = Vec::with_capacity(alloc, MOST + CHUNK) else {

@@ -15,7 +15,8 @@ pub fn put_register<A: Allocator + Copy, W: Sink>(
     house: &House<A>,
     out: &mut W,
 ) -> Result<(), IoFault>
-    ensures { Wrote W.written W.put_failures result out.old out.new (register_text house.now.state) }
+    ensures { Wrote W.written W.put_failures result out.old out.new
+        (register_text house.now.state) }
 {
     write_meters(house, out)?;
     out.put(b"READINGS")?;

@@ -5,7 +5,8 @@ ghost use Rattle.dc_records.specs.Record.{view};
 ghost use Rattle.dc_records.specs.Seen.{ending};
 ghost use Rattle.dc_stream.specs.Stream.{Wrote};
 ghost use Rattle.dc_records.specs.Telegram.{parsed};
-ghost use Rattle.dc_teller.specs.Telegram.{meter_line, record_words, record_line, record_lines, end_line, telegram_text};
+ghost use Rattle.dc_teller.specs.Telegram.{meter_line, record_words, record_line, record_lines};
+ghost use Rattle.dc_teller.specs.Telegram.{end_line, telegram_text};
 
 use crate::seen::put_seen;
 use dc_records::{End, Header, Record, Records, Telegram};
@@ -27,7 +28,8 @@ fn put_meter<W: Sink>(header: &Header, out: &mut W) -> Result<(), IoFault>
 // Writes the numbers of what a record is about.
 #[tactic(auto, using(dc_stream::proofs::Pieces::written), unfolding(crate::specs::Telegram::record_words))]
 fn put_numbers<W: Sink>(found: &Record<'_>, out: &mut W) -> Result<(), IoFault>
-    ensures { Wrote W.written W.put_failures result out.old out.new (record_words (view found.now)) }
+    ensures { Wrote W.written W.put_failures result out.old out.new
+        (record_words (view found.now)) }
 {
     put_number_word(out, found.storage)?;
     put_number_word(out, u64::from(found.tariff))?;
@@ -82,7 +84,8 @@ fn put_end<W: Sink>(end: End<'_>, out: &mut W) -> Result<(), IoFault>
 /// Writes the lines of a telegram.
 #[tactic(auto, using(dc_stream::proofs::Pieces::written), unfolding(crate::specs::Telegram::telegram_text))]
 pub fn put_telegram<W: Sink>(telegram: &Telegram<'_>, out: &mut W) -> Result<(), IoFault>
-    ensures { Wrote W.written W.put_failures result out.old out.new (telegram_text (parsed telegram.now)) }
+    ensures { Wrote W.written W.put_failures result out.old out.new
+        (telegram_text (parsed telegram.now)) }
 {
     put_meter(&telegram.header(), out)?;
     put_records(telegram.records(), out)?;

@@ -1,5 +1,6 @@
 -- Hex digits: read in either case, written in capitals (this product).
-use Rattle.std.specs.Prelude.{ℕ, ◌+◌, ◌-◌, ◌*◌, ◌/◌, ◌%◌, ◌&&◌, nat_le, nat_lt, if◌then◌else◌, List, [], ◌∷◌, flat_map, Option, Some, None}
+use Rattle.std.specs.Prelude.{ℕ, ◌+◌, ◌-◌, ◌*◌, ◌/◌, ◌%◌, ◌&&◌, nat_le, nat_lt, if◌then◌else◌, List}
+use Rattle.std.specs.Prelude.{[], ◌∷◌, flat_map, Option, Some, None}
 use Rattle.std.specs.Io.KnownBytes.{prepend_known}
 
 -- the value of a hex digit, in either case
@@ -25,7 +26,8 @@ onto_bytes None rest = None
 unfoldable pub bytes_of : List ℕ → Option (List ℕ)
 bytes_of [] = Some []
 bytes_of (digit ∷ []) = None
-bytes_of (high ∷ low ∷ rest) = onto_bytes (pair_value (digit_value high) (digit_value low)) (bytes_of rest)
+bytes_of (high ∷ low ∷ rest) = onto_bytes (pair_value (digit_value high) (digit_value low))
+    (bytes_of rest)
 
 -- a capital hex digit
 abbrev pub upper_digit : ℕ → ℕ

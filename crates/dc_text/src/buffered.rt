@@ -26,7 +26,11 @@ impl<W: Sink + Drop, A: Allocator> Model for Buffered<W, A> {
 
     ghost Value = { Holding W };
 
-    ghost view = { λ b. record { writer = b.writer; held = take b.used b.room.items; capacity = vec_len b.room } };
+    ghost view = { λ b. record {
+      writer = b.writer;
+      held = take b.used b.room.items;
+      capacity = vec_len b.room;
+    } };
 
     ghost invariant = { λ b. b.used ≤ vec_len b.room };
 }
@@ -49,7 +53,8 @@ impl<W: Sink + Drop, A: Allocator> Buffered<W, A> {
 
     /// Puts what waits.
     pub fn flush(&mut self) -> Result<(), IoFault>
-        ensures wrote { Wrote W.written W.put_failures result self.old.writer self.new.writer self.old.held }
+        ensures wrote { Wrote W.written W.put_failures result self.old.writer self.new.writer
+            self.old.held }
         ensures empty { self.new.held ≡ [] }
     {
         let (waiting, _) = self.room.as_slice().split_at(self.used);
@@ -90,7 +95,8 @@ impl<W: Sink + Drop, A: Allocator> Buffered<W, A> {
     #[cold]
     #[tactic(auto, using(dc_stream::proofs::Pieces::written))]
     fn put_past(&mut self, piece: &[u8]) -> Result<(), IoFault>
-        ensures { Wrote (λ b. append_known (W.written b.writer) b.held) (λ b. W.put_failures b.writer) result self.old self.new piece.now }
+        ensures { Wrote (λ b. append_known (W.written b.writer) b.held)
+            (λ b. W.put_failures b.writer) result self.old self.new piece.now }
     {
         self.flush()?;
         if self.has_place(piece.len()) {

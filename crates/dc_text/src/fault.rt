@@ -24,7 +24,8 @@ pub fn put_fault_line<W: Sink>(
     number: u8,
     name: &str,
 ) -> Result<(), IoFault>
-    ensures { Wrote W.written W.put_failures result out.old out.new (fault_line what.now number name.now) }
+    ensures { Wrote W.written W.put_failures result out.old out.new
+        (fault_line what.now number name.now) }
 {
     out.put(what)?;
     out.put(b" ")?;

@@ -1,6 +1,7 @@
 //! Hex digits, read in either case and written in capitals.
 
-ghost use Rattle.std.specs.Prelude.{◌≡◌, ◌*◌, ◌<◌, ◌≤◌, length, take, Some, None, MatchOption, IfSome};
+ghost use Rattle.std.specs.Prelude.{◌≡◌, ◌*◌, ◌<◌, ◌≤◌, length, take, Some, None, MatchOption};
+ghost use Rattle.std.specs.Prelude.{IfSome};
 ghost use Rattle.dc_stream.specs.Stream.{Wrote};
 ghost use Rattle.dc_text.specs.Hex.{digit_value, bytes_of, upper_digit, upper_pair, upper_hex};
 ghost use Rattle.dc_text.specs.Words.{byte_word, hex_word};
@@ -39,7 +40,8 @@ fn value_of(digit: u8) -> Option<u8>
 /// The bytes of pairs of digits, and how many; `None` where they aren't pairs of digits.
 pub fn decode_hex(digits: &[u8], out: &mut [u8]) -> Option<usize>
     requires { length digits.now ≤ 2 * length out.old }
-    ensures value { MatchOption result (bytes_of digits.now ≡ None) (λ n. bytes_of digits.now ≡ Some (take n out.new)) }
+    ensures value { MatchOption result (bytes_of digits.now ≡ None)
+        (λ n. bytes_of digits.now ≡ Some (take n out.new)) }
     ensures count { IfSome result (λ n. 2 * n ≡ length digits.now) }
 {
     if digits.len() % 2 != 0 {

@@ -1,5 +1,6 @@
 -- A day of the calendar, and data type G (EN 13757-3, compound CP16: date).
-use Rattle.std.specs.Prelude.{ℕ, ◌+◌, ◌*◌, ◌/◌, ◌%◌, Bool, ◌&&◌, nat_le, if◌then◌else◌, List, get_or, Option, Some, None, pos}
+use Rattle.std.specs.Prelude.{ℕ, ◌+◌, ◌*◌, ◌/◌, ◌%◌, Bool, ◌&&◌, nat_le, if◌then◌else◌, List}
+use Rattle.std.specs.Prelude.{get_or, Option, Some, None, pos}
 use Rattle.std.specs.Option.{option_and_then}
 use Rattle.jiff.specs.Words.{days_in_month}
 
@@ -22,7 +23,8 @@ date_of year month day =
 
 -- The year that two digits stand for: 0 to 80 are 2000 to 2080, 81 to 99 are 1981 to 1999.
 abbrev pub short_year : ℕ → Option ℕ
-short_year y = if nat_le y 80 then Some (2000 + y) else (if nat_le y 99 then Some (1900 + y) else None)
+short_year y = if nat_le y 80 then Some (2000 + y)
+    else (if nat_le y 99 then Some (1900 + y) else None)
 
 -- The two bytes of a date. The day is bits 4 to 0 of the first and the month bits 3 to 0 of the second;
 -- the year's low three bits are bits 7 to 5 of the first, its high four bits 7 to 4 of the second.
@@ -37,7 +39,8 @@ year_bits low high = low / 32 + 8 * (high / 16)
 
 -- the date that two bytes say, once their year is known
 abbrev pub date_in : ℕ → ℕ → Option ℕ → Option Day
-date_in low high year = option_and_then (λ y. date_of y (month_bits low high) (day_bits low high)) year
+date_in low high year = option_and_then (λ y.
+    date_of y (month_bits low high) (day_bits low high)) year
 
 -- data type G
 abbrev pub type_g : List ℕ → Option Day

@@ -1,5 +1,6 @@
 -- Data points: the table of units, with the values of data fields.
-use Rattle.std.specs.Prelude.{◌≡◌, ℕ, ◌-◌, ◌≤◌, ◌&&◌, ◌==◌, if◌then◌else◌, IsTrue, List, [], ◌∷◌, ◌++◌, length, Option, Some, None, ⊤, ℤ, pos, ◌+ℤ◌}
+use Rattle.std.specs.Prelude.{◌≡◌, ℕ, ◌-◌, ◌≤◌, ◌&&◌, ◌==◌, if◌then◌else◌, IsTrue, List, [], ◌∷◌}
+use Rattle.std.specs.Prelude.{◌++◌, length, Option, Some, None, ⊤, ℤ, pos, ◌+ℤ◌}
 use Rattle.std.specs.List.{Contains}
 use Rattle.dc_records.specs.Record.{Entry, width}
 use Rattle.dc_units.specs.declared.point.Seen.{Seen}

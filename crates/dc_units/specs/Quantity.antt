@@ -1,7 +1,19 @@
 -- The printed units of quantities (this product), and the data fields in which a quantity comes.
 use Rattle.std.specs.Prelude.{ℕ, Bool, true, false, ◌&&◌, ◌||◌, ◌==◌, not, nat_le, List, [], codes}
 use Rattle.dc_units.specs.declared.quantity.Quantity.{Quantity}
-use Rattle.dc_units.specs.declared.quantity.Quantity.TheVariants.{EnergyWattHour, EnergyJoule, EnergyMegawattHour, EnergyGigajoule, Volume, Mass, PowerWatt, PowerJoulePerHour, VolumeFlowPerHour, VolumeFlowPerMinute, VolumeFlowPerSecond, MassFlow, FlowTemperature, ReturnTemperature, TemperatureDifference, ExternalTemperature, Pressure, Date, DateTime, HeatCostAllocator, ErrorFlags}
+use Rattle.dc_units.specs.declared.quantity.Quantity.TheVariants.{EnergyWattHour, EnergyJoule}
+use Rattle.dc_units.specs.declared.quantity.Quantity.TheVariants.{EnergyMegawattHour}
+use Rattle.dc_units.specs.declared.quantity.Quantity.TheVariants.{EnergyGigajoule, Volume, Mass}
+use Rattle.dc_units.specs.declared.quantity.Quantity.TheVariants.{PowerWatt, PowerJoulePerHour}
+use Rattle.dc_units.specs.declared.quantity.Quantity.TheVariants.{VolumeFlowPerHour}
+use Rattle.dc_units.specs.declared.quantity.Quantity.TheVariants.{VolumeFlowPerMinute}
+use Rattle.dc_units.specs.declared.quantity.Quantity.TheVariants.{VolumeFlowPerSecond, MassFlow}
+use Rattle.dc_units.specs.declared.quantity.Quantity.TheVariants.{FlowTemperature}
+use Rattle.dc_units.specs.declared.quantity.Quantity.TheVariants.{ReturnTemperature}
+use Rattle.dc_units.specs.declared.quantity.Quantity.TheVariants.{TemperatureDifference}
+use Rattle.dc_units.specs.declared.quantity.Quantity.TheVariants.{ExternalTemperature, Pressure}
+use Rattle.dc_units.specs.declared.quantity.Quantity.TheVariants.{Date, DateTime, HeatCostAllocator}
+use Rattle.dc_units.specs.declared.quantity.Quantity.TheVariants.{ErrorFlags}
 
 -- the printed unit; a date has none
 abbrev pub unit_of : Quantity → List ℕ

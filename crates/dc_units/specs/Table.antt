@@ -1,10 +1,23 @@
 -- The units of codes (EN 13757-3, primary VIFs and the tables behind FB and FD; OMS Volume 2), as one
 -- table over the whole value information block.
-use Rattle.std.specs.Prelude.{ℕ, ◌+◌, ◌-◌, Bool, ◌&&◌, ◌==◌, nat_eq, nat_le, List, [], ◌∷◌, length, get_or, Option, ℤ, pos, ◌+ℤ◌}
+use Rattle.std.specs.Prelude.{ℕ, ◌+◌, ◌-◌, Bool, ◌&&◌, ◌==◌, nat_eq, nat_le, List, [], ◌∷◌, length}
+use Rattle.std.specs.Prelude.{get_or, Option, ℤ, pos, ◌+ℤ◌}
 use Rattle.std.specs.List.{find, starts_with}
 use Rattle.std.specs.Option.{option_map}
 use Rattle.dc_units.specs.declared.quantity.Quantity.{Quantity}
-use Rattle.dc_units.specs.declared.quantity.Quantity.TheVariants.{EnergyWattHour, EnergyJoule, EnergyMegawattHour, EnergyGigajoule, Volume, Mass, PowerWatt, PowerJoulePerHour, VolumeFlowPerHour, VolumeFlowPerMinute, VolumeFlowPerSecond, MassFlow, FlowTemperature, ReturnTemperature, TemperatureDifference, ExternalTemperature, Pressure, Date, DateTime, HeatCostAllocator, ErrorFlags}
+use Rattle.dc_units.specs.declared.quantity.Quantity.TheVariants.{EnergyWattHour, EnergyJoule}
+use Rattle.dc_units.specs.declared.quantity.Quantity.TheVariants.{EnergyMegawattHour}
+use Rattle.dc_units.specs.declared.quantity.Quantity.TheVariants.{EnergyGigajoule, Volume, Mass}
+use Rattle.dc_units.specs.declared.quantity.Quantity.TheVariants.{PowerWatt, PowerJoulePerHour}
+use Rattle.dc_units.specs.declared.quantity.Quantity.TheVariants.{VolumeFlowPerHour}
+use Rattle.dc_units.specs.declared.quantity.Quantity.TheVariants.{VolumeFlowPerMinute}
+use Rattle.dc_units.specs.declared.quantity.Quantity.TheVariants.{VolumeFlowPerSecond, MassFlow}
+use Rattle.dc_units.specs.declared.quantity.Quantity.TheVariants.{FlowTemperature}
+use Rattle.dc_units.specs.declared.quantity.Quantity.TheVariants.{ReturnTemperature}
+use Rattle.dc_units.specs.declared.quantity.Quantity.TheVariants.{TemperatureDifference}
+use Rattle.dc_units.specs.declared.quantity.Quantity.TheVariants.{ExternalTemperature, Pressure}
+use Rattle.dc_units.specs.declared.quantity.Quantity.TheVariants.{Date, DateTime, HeatCostAllocator}
+use Rattle.dc_units.specs.declared.quantity.Quantity.TheVariants.{ErrorFlags}
 use Rattle.dc_units.specs.Number.{minus}
 
 -- Codes of one quantity: the bytes before the code byte, the first and the last code byte, and the power
@@ -24,7 +37,13 @@ vif first last quantity exponent =
 -- an extension VIF, FB or FD, and one code byte behind it
 abbrev pub behind : ℕ → ℕ → ℕ → Quantity → ℤ → Row
 behind extension first last quantity exponent =
-    record { before = extension ∷ []; first = first; last = last; quantity = quantity; exponent = exponent }
+    record {
+      before = extension ∷ [];
+      first = first;
+      last = last;
+      quantity = quantity;
+      exponent = exponent;
+    }
 
 abbrev pub table : List Row
 table =

@@ -1,15 +1,18 @@
 -- The texts of decimals, dates and values (this product).
-use Rattle.std.specs.Prelude.{ℕ, zero, suc, ◌/◌, ◌%◌, ◌*◌, ◌^◌, true, ◌==◌, if◌then◌else◌, List, [], ◌∷◌, ◌++◌, replicate, codes, decimal, ℤ, pos, negsuc, unsigned_abs}
+use Rattle.std.specs.Prelude.{ℕ, zero, suc, ◌/◌, ◌%◌, ◌*◌, ◌^◌, true, ◌==◌, if◌then◌else◌, List, []}
+use Rattle.std.specs.Prelude.{◌∷◌, ◌++◌, replicate, codes, decimal, ℤ, pos, negsuc, unsigned_abs}
 use Rattle.std.specs.Fmt.{digit_glyph}
 use Rattle.dc_units.specs.declared.decimal.Decimal.{Decimal}
 use Rattle.dc_units.specs.declared.value.Value.{Value}
-use Rattle.dc_units.specs.declared.value.Value.TheVariants.{Number, Flags, Day as OnDay, Minute, None as NoValue}
+use Rattle.dc_units.specs.declared.value.Value.TheVariants.{Number, Flags, Day as OnDay, Minute}
+use Rattle.dc_units.specs.declared.value.Value.TheVariants.{None as NoValue}
 use Rattle.dc_units.specs.Date.{Day}
 
 -- the last so many digits of a number in a base, in capitals
 unfoldable pub last_digits : ℕ → ℕ → ℕ → List ℕ
 last_digits base zero n = []
-last_digits base (suc count) n = last_digits base count (n / base) ++ (digit_glyph true (n % base) ∷ [])
+last_digits base (suc count) n = last_digits base count (n / base)
+    ++ (digit_glyph true (n % base) ∷ [])
 
 abbrev pub sign : ℤ → List ℕ
 sign (pos n) = []
@@ -34,7 +37,8 @@ decimal_text d = sign d.mantissa ++ magnitude_text (unsigned_abs d.mantissa) d.e
 -- 2024-12-31
 abbrev pub day_text : Day → List ℕ
 day_text d =
-    last_digits 10 4 d.year ++ (codes "-" ++ (last_digits 10 2 d.month ++ (codes "-" ++ last_digits 10 2 d.day)))
+    last_digits 10 4 d.year ++ (codes "-"
+    ++ (last_digits 10 2 d.month ++ (codes "-" ++ last_digits 10 2 d.day)))
 
 -- 2025-01-31T23:59
 abbrev pub minute_text : Day → ℕ → ℕ → List ℕ

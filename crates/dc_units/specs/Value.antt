@@ -3,7 +3,8 @@ use Rattle.std.specs.Prelude.{ℕ, if◌then◌else◌, List, length, Option, So
 use Rattle.dc_units.specs.declared.quantity.Quantity.{Quantity}
 use Rattle.dc_units.specs.declared.quantity.Quantity.TheVariants.{Date, DateTime, ErrorFlags}
 use Rattle.dc_units.specs.declared.value.Value.{Value}
-use Rattle.dc_units.specs.declared.value.Value.TheVariants.{Number, Flags, Day as OnDay, Minute, None as NoValue}
+use Rattle.dc_units.specs.declared.value.Value.TheVariants.{Number, Flags, Day as OnDay, Minute}
+use Rattle.dc_units.specs.declared.value.Value.TheVariants.{None as NoValue}
 use Rattle.dc_units.specs.Date.{Day, type_g}
 use Rattle.dc_units.specs.Time.{Moment, type_f}
 use Rattle.dc_units.specs.Number.{unsigned, integer, bcd}

@@ -49,11 +49,12 @@ impl Date {
         }
     }
 
-    /// The date that a text spells, as `2024-12-31`; none where it spells none, or the calendar lacks the day. Each date
-    /// has one text.
+    /// The date that a text spells, as `2024-12-31`; none where it spells none, or the calendar lacks the day. Each
+    /// date has one text.
     pub fn parse_text(text: &[u8]) -> Option<Date>
         ensures found { IfSome result (λ date. text.now ≡ day_text date) }
-        ensures only { (date : Day) → IsTrue (exists date.year date.month date.day) → text.now ≡ day_text date → result ≡ Some date }
+        ensures only { (date : Day) → IsTrue (exists date.year date.month date.day)
+            → text.now ≡ day_text date → result ≡ Some date }
     {
         if text.len() != 10 || text[4] != b'-' || text[7] != b'-' {
             return None;

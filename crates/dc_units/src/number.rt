@@ -1,7 +1,8 @@
 //! The numbers of data fields (types A and B).
 
 ghost use Rattle.std.specs.Prelude.{◌≡◌, ◌-◌, ◌*◌, ◌^◌, ◌<◌, ◌≤◌, length, IfSome};
-ghost use Rattle.dc_units.specs.Number.{unsigned, integer, bcd, bcd_digits, number_after, digit_pair};
+ghost use Rattle.dc_units.specs.Number.{unsigned, integer, bcd, bcd_digits, number_after};
+ghost use Rattle.dc_units.specs.Number.{digit_pair};
 
 use byteorder::{ByteOrder, LittleEndian};
 

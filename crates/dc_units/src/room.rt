@@ -1,5 +1,6 @@
 //! Texts are put together in a room from their end on.
-ghost use Rattle.std.specs.Prelude.{◌≡◌, ◌+◌, ◌-◌, ◌*◌, ◌/◌, ◌^◌, ◌<◌, ◌≤◌, ◌∷◌, ◌++◌, true, length, drop};
+ghost use Rattle.std.specs.Prelude.{◌≡◌, ◌+◌, ◌-◌, ◌*◌, ◌/◌, ◌^◌, ◌<◌, ◌≤◌, ◌∷◌, ◌++◌, true};
+ghost use Rattle.std.specs.Prelude.{length, drop};
 ghost use Rattle.std.specs.Fmt.{digit_glyph};
 ghost use Rattle.dc_units.specs.Text.{last_digits};
 

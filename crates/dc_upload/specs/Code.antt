@@ -3,7 +3,8 @@ use Rattle.std.specs.Prelude.{ℕ, List, codes}
 use Rattle.dc_changes.specs.declared.fault.ChangeFault.{ChangeFault}
 use Rattle.dc_changes.specs.declared.fault.ChangeFault.TheVariants as fault
 use Rattle.dc_upload.specs.declared.code.Code.{Code}
-use Rattle.dc_upload.specs.declared.code.Code.TheVariants.{Syntax, Store, Order, Known, Unknown, Address, Beyond, Gone, Full, Memory}
+use Rattle.dc_upload.specs.declared.code.Code.TheVariants.{Syntax, Store, Order, Known, Unknown}
+use Rattle.dc_upload.specs.declared.code.Code.TheVariants.{Address, Beyond, Gone, Full, Memory}
 
 abbrev pub word_of : Code → List ℕ
 word_of Syntax = codes "SYNTAX"

@@ -15,7 +15,8 @@ pub record IsCount (count : ℕ) : Type 0 where
   pub high : count ≤ 100
 
 abbrev pub IsOfficeLine : OfficeLine → Type 0
-IsOfficeLine (Command ordered) = IsNumber ordered.number × IsCommand ordered.command × NamesMeters ordered.command
+IsOfficeLine (Command ordered) = IsNumber ordered.number × IsCommand ordered.command
+    × NamesMeters ordered.command
 IsOfficeLine (Window from count) = IsNumber from × IsCount count
 IsOfficeLine Register = Unit {0}
 IsOfficeLine (Report date) = IsTrue (exists date.year date.month date.day)
@@ -23,6 +24,7 @@ IsOfficeLine (Report date) = IsTrue (exists date.year date.month date.day)
 -- the text that spells a line
 abbrev pub office_text : OfficeLine → List ℕ
 office_text (Command ordered) = line_of ordered.number ordered.command
-office_text (Window from count) = join_with_byte 32 (codes "WINDOW" ∷ decimal from ∷ decimal count ∷ [])
+office_text (Window from count) =
+    join_with_byte 32 (codes "WINDOW" ∷ decimal from ∷ decimal count ∷ [])
 office_text Register = codes "REGISTER"
 office_text (Report date) = join_with_byte 32 (codes "REPORT" ∷ day_text date ∷ [])

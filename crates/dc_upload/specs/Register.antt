@@ -8,12 +8,14 @@ use Rattle.dc_text.specs.Words.{number_word}
 
 -- the meter, its bus line and its address
 unfoldable pub place_words : Identity → MeterRow → List ℕ
-place_words meter row = codes " " ++ text_of meter ++ number_word row.line ++ codes " " ++ address_word row.address
+place_words meter row = codes " " ++ text_of meter ++ number_word row.line ++ codes " "
+    ++ address_word row.address
 
 -- `METER ident line addr flat open`, the last being the number of parts of a readout that isn't finished
 unfoldable pub meter_line : Identity × MeterRow → List ℕ
 meter_line (meter, row) =
-    codes "METER" ++ place_words meter row ++ codes " " ++ row.flat ++ number_word (length row.parts) ++ codes "\n"
+    codes "METER" ++ place_words meter row ++ codes " " ++ row.flat
+    ++ number_word (length row.parts) ++ codes "\n"
 
 -- the meters by identity
 abbrev pub meter_lines : State → List ℕ

@@ -11,7 +11,8 @@ use Rattle.dc_upload.specs.Verdict.{verdict_of}
 use Rattle.dc_upload.specs.Window.{reading_lines, window}
 use Rattle.dc_text.specs.Words.{number_word}
 use Rattle.dc_upload.specs.declared.code.Code.{Code}
-use Rattle.dc_upload.specs.declared.code.Code.TheVariants.{Syntax, Store, Order, Known, Unknown, Address, Beyond, Gone, Full, Memory}
+use Rattle.dc_upload.specs.declared.code.Code.TheVariants.{Syntax, Store, Order, Known, Unknown}
+use Rattle.dc_upload.specs.declared.code.Code.TheVariants.{Address, Beyond, Gone, Full, Memory}
 use Rattle.dc_upload.specs.declared.fault.ReplyFault.{ReplyFault}
 use Rattle.dc_upload.specs.declared.fault.ReplyFault.TheVariants.{NoMemory, Write}
 use Rattle.dc_upload.specs.declared.line.OfficeLine.{OfficeLine}
@@ -47,7 +48,8 @@ end_line count = codes "END" ++ number_word count ++ codes "\n"
 -- ---- what is shown
 
 unfoldable pub window_text : ℕ → ℕ → State → List ℕ
-window_text from count s = flat_map reading_lines (window from count s) ++ end_line (length (window from count s))
+window_text from count s = flat_map reading_lines (window from count s)
+    ++ end_line (length (window from count s))
 
 unfoldable pub register_text : State → List ℕ
 register_text s = meter_lines s ++ end_line (length s.meters)
@@ -83,6 +85,8 @@ TakesMemory Register = ⊥
 TakesMemory (Report date) = Unit {0}
 
 -- Where memory was refused, the writer is as it was; else a write failed, and a prefix of the reply is written.
-abbrev pub Tells : {W : Type 0} → (W → Option (List ℕ)) → (W → ℕ) → OfficeLine → List ℕ → W → W → ReplyFault → Type 0
+abbrev pub Tells : {W : Type 0} → (W → Option (List ℕ)) → (W → ℕ) → OfficeLine → List ℕ → W → W
+    → ReplyFault → Type 0
 Tells written failures line text old new NoMemory = TakesMemory line × (new ≡ old)
-Tells written failures line text old new Write = PutsFront (written old) (written new) text × HasRisen (failures old) (failures new)
+Tells written failures line text old new Write =
+    PutsFront (written old) (written new) text × HasRisen (failures old) (failures new)

@@ -1,5 +1,6 @@
 -- What becomes of a line of the office (this product): a repeat, a refusal, a change to be done, or something to show.
-use Rattle.std.specs.Prelude.{ℕ, ◌+◌, Bool, false, not, ◌&&◌, ◌==◌, if◌then◌else◌, Option, None, Some, List, [], ◌∷◌, find, nat_le}
+use Rattle.std.specs.Prelude.{ℕ, ◌+◌, Bool, false, not, ◌&&◌, ◌==◌, if◌then◌else◌, Option, None}
+use Rattle.std.specs.Prelude.{Some, List, [], ◌∷◌, find, nat_le}
 use Rattle.std.specs.Str.{bytes_eq}
 use Rattle.dc_changes.specs.Accepts.{is_known, is_unknown, is_address_taken, is_beyond, is_full}
 use Rattle.dc_changes.specs.Line.{line_of}
@@ -8,7 +9,8 @@ use Rattle.dc_changes.specs.declared.change.Change.{Change}
 use Rattle.dc_changes.specs.declared.change.Change.TheVariants.{Command as Numbered}
 use Rattle.dc_changes.specs.declared.command.Numbered.{Numbered as Ordered}
 use Rattle.dc_upload.specs.declared.code.Code.{Code}
-use Rattle.dc_upload.specs.declared.code.Code.TheVariants.{Syntax, Store, Order, Known, Unknown, Address, Beyond, Gone, Full, Memory}
+use Rattle.dc_upload.specs.declared.code.Code.TheVariants.{Syntax, Store, Order, Known, Unknown}
+use Rattle.dc_upload.specs.declared.code.Code.TheVariants.{Address, Beyond, Gone, Full, Memory}
 use Rattle.dc_upload.specs.declared.line.OfficeLine.{OfficeLine}
 use Rattle.dc_upload.specs.declared.line.OfficeLine.TheVariants.{Command, Window, Register, Report}
 use Rattle.dc_upload.specs.declared.verdict.Verdict.{Verdict}
@@ -16,7 +18,8 @@ use Rattle.dc_upload.specs.declared.verdict.Verdict.TheVariants.{Repeat, Do, Sho
 
 -- the command has the last number, and its line is the last line, byte for byte
 abbrev pub is_repeat : Ordered → State → Bool
-is_repeat ordered s = ordered.number == s.last_number && bytes_eq (line_of ordered.number ordered.command) s.last_line
+is_repeat ordered s = ordered.number == s.last_number && bytes_eq
+    (line_of ordered.number ordered.command) s.last_line
 
 abbrev pub repeats : OfficeLine → State → Bool
 repeats (Command ordered) s = is_repeat ordered s
@@ -60,7 +63,8 @@ stands budget (Report date) s code = false
 -- ---- the first that stands
 
 abbrev pub codes_in_order : State → List Code
-codes_in_order s = Order s.last_number ∷ Known ∷ Unknown ∷ Address ∷ Beyond ∷ Gone s.confirmed ∷ Full ∷ []
+codes_in_order s = Order s.last_number ∷ Known ∷ Unknown ∷ Address ∷ Beyond ∷ Gone s.confirmed
+    ∷ Full ∷ []
 
 abbrev pub code_against : ℕ → OfficeLine → State → Option Code
 code_against budget line s = find (stands budget line s) (codes_in_order s)
@@ -80,7 +84,8 @@ unless None line = granted line
 
 unfoldable pub verdict_of : Held → OfficeLine → Verdict
 verdict_of house line =
-    if repeats line house.state then Repeat else unless (code_against house.budget line house.state) line
+    if repeats line house.state then Repeat
+    else unless (code_against house.budget line house.state) line
 
 -- a fact of the change that is to be done
 abbrev pub IfDo : Verdict → (Change → Type 0) → Type 0

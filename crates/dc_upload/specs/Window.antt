@@ -9,7 +9,8 @@ use Rattle.dc_text.specs.Words.{number_word}
 -- `PART i moment hex`: its place, when it came, in seconds since 1970, and its body
 unfoldable pub part_line : ℕ → PartRow → List ℕ
 part_line place part =
-    codes "PART" ++ number_word place ++ number_word part.moment ++ codes " " ++ upper_hex part.body ++ codes "\n"
+    codes "PART" ++ number_word place ++ number_word part.moment ++ codes " " ++ upper_hex part.body
+    ++ codes "\n"
 
 -- parts from a place on
 abbrev pub part_lines : ℕ → List PartRow → List ℕ
@@ -18,11 +19,13 @@ part_lines place (part ∷ parts) = part_line place part ++ part_lines (place + 
 
 -- ` ident flat parts`: whose reading it is, and how many parts it has
 unfoldable pub owner_words : ReadingRow → List ℕ
-owner_words reading = codes " " ++ text_of reading.meter ++ codes " " ++ reading.flat ++ number_word (length reading.parts)
+owner_words reading = codes " " ++ text_of reading.meter ++ codes " " ++ reading.flat
+    ++ number_word (length reading.parts)
 
 -- `READING serial ident flat parts`
 unfoldable pub reading_line : ReadingRow → List ℕ
-reading_line reading = codes "READING" ++ number_word reading.serial ++ owner_words reading ++ codes "\n"
+reading_line reading = codes "READING" ++ number_word reading.serial ++ owner_words reading
+    ++ codes "\n"
 
 -- that line, and its parts from 1 on
 unfoldable pub reading_lines : ReadingRow → List ℕ

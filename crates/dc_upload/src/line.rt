@@ -1,6 +1,7 @@
 //! What the office sends.
 
-ghost use Rattle.std.specs.Prelude.{◌≡◌, ℕ, ◌≤◌, ◌∷◌, ◌++◌, List, Some, IfSome, IsSome, IsTrue, codes, length};
+ghost use Rattle.std.specs.Prelude.{◌≡◌, ℕ, ◌≤◌, ◌∷◌, ◌++◌, List, Some, IfSome, IsSome, IsTrue};
+ghost use Rattle.std.specs.Prelude.{codes, length};
 ghost use Rattle.std.specs.Fmt.{decimal};
 ghost use Rattle.dc_changes.specs.Line.{line_of};
 ghost use Rattle.dc_changes.specs.Valid.{IsNumber};
@@ -35,7 +36,8 @@ pub enum OfficeLine {
 /// The line of the office that a text spells; none where it spells none. Each has one text, of at most 120 bytes.
 pub fn parse_line(text: &[u8]) -> Option<OfficeLine>
     ensures found { IfSome result (λ line. IsOfficeLine line × (text.now ≡ office_text line)) }
-    ensures only { (line : OfficeLine) → IsOfficeLine line → text.now ≡ office_text line → result ≡ Some line }
+    ensures only { (line : OfficeLine) → IsOfficeLine line → text.now ≡ office_text line
+        → result ≡ Some line }
     ensures fits { IfSome result (λ _. length text.now ≤ 120) }
 {
     if text == b"REGISTER".as_slice() {
@@ -52,7 +54,9 @@ pub fn parse_line(text: &[u8]) -> Option<OfficeLine>
 
 fn parse_command(text: &[u8]) -> Option<OfficeLine>
     ensures found { IfSome result (λ line. IsOfficeLine line × (text.now ≡ office_text line)) }
-    ensures only { (ordered : Numbered) → IsOfficeLine (OfficeLine.Command ordered) → text.now ≡ line_of ordered.number ordered.command → result ≡ Some (OfficeLine.Command ordered) }
+    ensures only { (ordered : Numbered) → IsOfficeLine (OfficeLine.Command ordered)
+        → text.now ≡ line_of ordered.number ordered.command
+        → result ≡ Some (OfficeLine.Command ordered) }
     ensures fits { IfSome result (λ _. length text.now ≤ 120) }
 {
     let ordered = Command::parse_line(text)?;
@@ -70,8 +74,11 @@ fn behind_window(text: &[u8]) -> Option<&[u8]>
 // `from count`
 #[tactic(auto, using(dc_changes::proofs::LineSpellings::number_is_word, crate::proofs::Texts::bounds_fit))]
 fn parse_window(bounds: &[u8]) -> Option<OfficeLine>
-    ensures found { IfSome result (λ line. IsOfficeLine line × (codes "WINDOW" ++ 32 ∷ bounds.now ≡ office_text line)) }
-    ensures only { (from count : ℕ) → IsNumber from → IsCount count → bounds.now ≡ decimal from ++ 32 ∷ decimal count → result ≡ Some (OfficeLine.Window from count) }
+    ensures found { IfSome result (λ line.
+        IsOfficeLine line × (codes "WINDOW" ++ 32 ∷ bounds.now ≡ office_text line)) }
+    ensures only { (from count : ℕ) → IsNumber from → IsCount count
+        → bounds.now ≡ decimal from ++ 32 ∷ decimal count
+        → result ≡ Some (OfficeLine.Window from count) }
     ensures fits { IfSome result (λ _. length bounds.now ≤ 22) }
 {
     let (from, count) = split_word(bounds)?;
@@ -94,8 +101,10 @@ fn behind_report(text: &[u8]) -> Option<&[u8]>
 // `date`
 #[tactic(auto, using(dc_units::proofs::DayTexts::day_length))]
 fn parse_report(date: &[u8]) -> Option<OfficeLine>
-    ensures found { IfSome result (λ line. IsOfficeLine line × (codes "REPORT" ++ 32 ∷ date.now ≡ office_text line)) }
-    ensures only { (day : Day) → IsTrue (exists day.year day.month day.day) → date.now ≡ day_text day → result ≡ Some (OfficeLine.Report day) }
+    ensures found { IfSome result (λ line.
+        IsOfficeLine line × (codes "REPORT" ++ 32 ∷ date.now ≡ office_text line)) }
+    ensures only { (day : Day) → IsTrue (exists day.year day.month day.day)
+        → date.now ≡ day_text day → result ≡ Some (OfficeLine.Report day) }
     ensures fits { IfSome result (λ _. length date.now ≤ 10) }
 {
     let date = Date::parse_text(date)?;
@@ -115,5 +124,6 @@ fn parse_count(word: &[u8]) -> Option<u8>
 /// A text spells one line of the office, if any.
 #[tactic(auto, using(crate::proofs::Texts::one_text))]
 pub fn a_text_spells_one_line()
-    ensures { (line other : OfficeLine) → IsOfficeLine line → IsOfficeLine other → office_text line ≡ office_text other → line ≡ other }
+    ensures { (line other : OfficeLine) → IsOfficeLine line → IsOfficeLine other
+        → office_text line ≡ office_text other → line ≡ other }
 {}

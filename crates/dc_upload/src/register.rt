@@ -33,7 +33,8 @@ fn write_meter<A: Allocator, W: Sink>(
     row: &Meter<A>,
     out: &mut W,
 ) -> Result<(), IoFault>
-    ensures { Wrote W.written W.put_failures result out.old out.new (meter_line (meter.now, row.now)) }
+    ensures { Wrote W.written W.put_failures result out.old out.new
+        (meter_line (meter.now, row.now)) }
 {
     out.put(b"METER")?;
     put_place(out, meter, row)?;
@@ -49,7 +50,8 @@ fn put_place<A: Allocator, W: Sink>(
     meter: &Identity,
     row: &Meter<A>,
 ) -> Result<(), IoFault>
-    ensures { Wrote W.written W.put_failures result out.old out.new (place_words meter.now row.now) }
+    ensures { Wrote W.written W.put_failures result out.old out.new
+        (place_words meter.now row.now) }
 {
     put_word(out, &meter.text())?;
     put_number_word(out, u64::from(row.line()))?;
@@ -58,7 +60,8 @@ fn put_place<A: Allocator, W: Sink>(
 
 #[tactic(auto, using(dc_stream::proofs::Pieces::written))]
 fn put_address<W: Sink>(out: &mut W, address: Option<Primary>) -> Result<(), IoFault>
-    ensures { Wrote W.written W.put_failures result out.old out.new (codes " " ++ address_word address) }
+    ensures { Wrote W.written W.put_failures result out.old out.new
+        (codes " " ++ address_word address) }
 {
     match address {
         Some(address) => put_number_word(out, u64::from(address.get())),

@@ -4,7 +4,8 @@ ghost use Rattle.std.specs.Prelude.{◌≡◌, ◌++◌, IfErr, OnOk};
 ghost use Rattle.dc_changes.specs.Valid.{IsState};
 ghost use Rattle.dc_stream.specs.Stream.{Puts, Wrote};
 ghost use Rattle.dc_upload.specs.Line.{IsOfficeLine};
-ghost use Rattle.dc_upload.specs.Reply.{detail_of, done_line, end_line, refusal_line, register_text, reply_text, report_text, shown_text, Tells};
+ghost use Rattle.dc_upload.specs.Reply.{detail_of, done_line, end_line, refusal_line};
+ghost use Rattle.dc_upload.specs.Reply.{register_text, reply_text, report_text, shown_text, Tells};
 ghost use Rattle.dc_upload.specs.Verdict.{IfDo, verdict_of};
 
 use crate::register::write_meters;
@@ -31,9 +32,11 @@ pub fn write_reply<A: Allocator + Copy, W: Sink>(
 ) -> Result<(), ReplyFault>
     requires line { IsOfficeLine line.now }
     requires answered { IfDo (verdict_of house.now line.now) (λ _. ⊥) }
-    ensures text { OnOk result (Puts (W.written out.old) (W.written out.new) (reply_text house.now line.now)) }
+    ensures text { OnOk result (Puts (W.written out.old) (W.written out.new)
+        (reply_text house.now line.now)) }
     ensures well { OnOk result (W.put_failures out.new ≡ W.put_failures out.old) }
-    ensures fault { IfErr result (λ fault. Tells W.written W.put_failures line.now (reply_text house.now line.now) out.old out.new fault) }
+    ensures fault { IfErr result (λ fault. Tells W.written W.put_failures line.now
+        (reply_text house.now line.now) out.old out.new fault) }
 {
     match judge(house, line) {
         Verdict::Repeat => Ok(write_done(house.last_number(), out)?),
@@ -83,9 +86,11 @@ fn write_shown<A: Allocator + Copy, W: Sink>(
     line: &OfficeLine,
     out: &mut W,
 ) -> Result<(), ReplyFault>
-    ensures text { OnOk result (Puts (W.written out.old) (W.written out.new) (shown_text line.now house.now.state)) }
+    ensures text { OnOk result (Puts (W.written out.old) (W.written out.new)
+        (shown_text line.now house.now.state)) }
     ensures well { OnOk result (W.put_failures out.new ≡ W.put_failures out.old) }
-    ensures fault { IfErr result (λ fault. Tells W.written W.put_failures line.now (shown_text line.now house.now.state) out.old out.new fault) }
+    ensures fault { IfErr result (λ fault. Tells W.written W.put_failures line.now
+        (shown_text line.now house.now.state) out.old out.new fault) }
 {
     match *line {
         OfficeLine::Command(_) => {}
@@ -101,7 +106,8 @@ fn write_register<A: Allocator + Copy, W: Sink>(
     house: &House<A>,
     out: &mut W,
 ) -> Result<(), IoFault>
-    ensures { Wrote W.written W.put_failures result out.old out.new (register_text house.now.state) }
+    ensures { Wrote W.written W.put_failures result out.old out.new
+        (register_text house.now.state) }
 {
     write_meters(house, out)?;
     write_end(house.meters().len(), out)
@@ -115,9 +121,11 @@ fn write_report<A: Allocator + Copy, W: Sink>(
     date: Date,
     out: &mut W,
 ) -> Result<(), ReplyFault>
-    ensures text { OnOk result (Puts (W.written out.old) (W.written out.new) (report_text date house.now.state)) }
+    ensures text { OnOk result (Puts (W.written out.old) (W.written out.new)
+        (report_text date house.now.state)) }
     ensures well { OnOk result (W.put_failures out.new ≡ W.put_failures out.old) }
-    ensures fault { IfErr result (λ fault. Tells W.written W.put_failures (OfficeLine.Report date) (report_text date house.now.state) out.old out.new fault) }
+    ensures fault { IfErr result (λ fault. Tells W.written W.put_failures (OfficeLine.Report date)
+        (report_text date house.now.state) out.old out.new fault) }
 {
     let table = counted_due_table(alloc, house, date)?;
     Ok(put_table(&table.bytes, table.rows, out)?)

@@ -32,7 +32,8 @@ pub enum Verdict {
 pub fn judge<A: Allocator + Copy>(house: &House<A>, line: &OfficeLine) -> Verdict
     requires { IsOfficeLine line.now }
     ensures verdict { result ≡ verdict_of house.now line.now }
-    ensures accepted { IfDo result (λ change. IsChange change × Accepts house.now.budget change house.now.state) }
+    ensures accepted { IfDo result (λ change.
+        IsChange change × Accepts house.now.budget change house.now.state) }
 {
     match *line {
         OfficeLine::Command(ordered) => judge_command(house, ordered),
@@ -45,7 +46,8 @@ pub fn judge<A: Allocator + Copy>(house: &House<A>, line: &OfficeLine) -> Verdic
 fn judge_command<A: Allocator + Copy>(house: &House<A>, ordered: Numbered) -> Verdict
     requires { IsOfficeLine (OfficeLine.Command ordered) }
     ensures verdict { result ≡ verdict_of house.now (OfficeLine.Command ordered) }
-    ensures accepted { IfDo result (λ change. IsChange change × Accepts house.now.budget change house.now.state) }
+    ensures accepted { IfDo result (λ change.
+        IsChange change × Accepts house.now.budget change house.now.state) }
 {
     if is_repeat(house, &ordered) {
         return Verdict::Repeat;
@@ -74,7 +76,8 @@ fn is_repeat<A: Allocator + Copy>(house: &House<A>, ordered: &Numbered) -> bool
 #[tactic(auto, unfolding(crate::specs::Verdict::verdict_of))]
 fn judge_window<A: Allocator + Copy>(house: &House<A>, from: u64) -> Verdict
     ensures verdict { (count : ℕ) → result ≡ verdict_of house.now (OfficeLine.Window from count) }
-    ensures accepted { IfDo result (λ change. IsChange change × Accepts house.now.budget change house.now.state) }
+    ensures accepted { IfDo result (λ change.
+        IsChange change × Accepts house.now.budget change house.now.state) }
 {
     let confirmed = house.confirmed();
     if from <= confirmed {
@@ -86,6 +89,11 @@ fn judge_window<A: Allocator + Copy>(house: &House<A>, from: u64) -> Verdict
 /// A new command that was done is a repeat when it comes again, and the reply is `OK` and its number.
 #[tactic(auto, using(crate::proofs::Verdicts::repeated, crate::proofs::Verdicts::replied))]
 pub fn a_done_command_is_repeated()
-    ensures repeat { (house : Held) (line : OfficeLine) (change : Change) → verdict_of house line ≡ Verdict.Do change → verdict_of (record house { state = applied change house.state }) line ≡ Verdict.Repeat }
-    ensures reply { (house : Held) (ordered : Numbered) (change : Change) → verdict_of house (OfficeLine.Command ordered) ≡ Verdict.Do change → reply_text (record house { state = applied change house.state }) (OfficeLine.Command ordered) ≡ done_line ordered.number }
+    ensures repeat { (house : Held) (line : OfficeLine) (change : Change)
+        → verdict_of house line ≡ Verdict.Do change
+        → verdict_of (record house { state = applied change house.state }) line ≡ Verdict.Repeat }
+    ensures reply { (house : Held) (ordered : Numbered) (change : Change)
+        → verdict_of house (OfficeLine.Command ordered) ≡ Verdict.Do change
+        → reply_text (record house { state = applied change house.state })
+        (OfficeLine.Command ordered) ≡ done_line ordered.number }
 {}

@@ -4,7 +4,8 @@ ghost use Rattle.std.specs.Prelude.{flat_map, take};
 ghost use Rattle.std.specs.VecDeque.Iter.{deque_iter_rest};
 ghost use Rattle.dc_stream.specs.Stream.{Wrote};
 ghost use Rattle.dc_upload.specs.Reply.{window_text};
-ghost use Rattle.dc_upload.specs.Window.{owner_words, part_line, part_lines, reading_line, reading_lines};
+ghost use Rattle.dc_upload.specs.Window.{owner_words, part_line, part_lines, reading_line};
+ghost use Rattle.dc_upload.specs.Window.{reading_lines};
 
 use crate::reply::write_end;
 use crate::words::put_word;
@@ -23,7 +24,8 @@ pub fn write_window<A: Allocator + Copy, W: Sink>(
     count: u8,
     out: &mut W,
 ) -> Result<(), IoFault>
-    ensures { Wrote W.written W.put_failures result out.old out.new (window_text from count house.now.state) }
+    ensures { Wrote W.written W.put_failures result out.old out.new
+        (window_text from count house.now.state) }
 {
     let readings = house.from(from);
     let shown = readings.len().min(usize::from(count));
@@ -38,7 +40,8 @@ fn write_readings<A: Allocator, W: Sink>(
     count: usize,
     out: &mut W,
 ) -> Result<(), IoFault>
-    ensures { Wrote W.written W.put_failures result out.old out.new (flat_map reading_lines (take count (deque_iter_rest readings.entry))) }
+    ensures { Wrote W.written W.put_failures result out.old out.new
+        (flat_map reading_lines (take count (deque_iter_rest readings.entry))) }
 {
     for _ in 0..count {
         let Some(reading) = readings.next() else {

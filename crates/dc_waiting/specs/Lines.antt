@@ -1,5 +1,6 @@
 -- The eight bus lines: nobody is on a line, or a session is (this product).
-use Rattle.std.specs.Prelude.{ℕ, ◌-◌, Bool, true, false, Option, None, Some, List, map, replicate, nat_le, ◌&&◌, get_or, if◌then◌else◌}
+use Rattle.std.specs.Prelude.{ℕ, ◌-◌, Bool, true, false, Option, None, Some, List, map, replicate}
+use Rattle.std.specs.Prelude.{nat_le, ◌&&◌, get_or, if◌then◌else◌}
 use Rattle.std.proofs.Math.ListN.{set}
 use Rattle.dc_address.specs.declared.identity.Identity.{Identity}
 use Rattle.dc_readout.specs.Answer.{is_meter}

@@ -6,4 +6,5 @@ use Rattle.dc_recovery.specs.Store.{Kept, Fits}
 -- generation.
 abbrev pub IsWornFor : {D : Type 0} → ℕ → Kept D → ℕ → Type 0
 IsWornFor sectors store len =
-    (2 ^ 64 - 1 ≤ store.last + 1) ⊎ (¬ (Fits sectors store len) × (store.root.generation ≡ 2 ^ 64 - 1))
+    (2 ^ 64 - 1 ≤ store.last + 1) ⊎ (¬ (Fits sectors store len)
+    × (store.root.generation ≡ 2 ^ 64 - 1))

@@ -28,9 +28,14 @@ pub fn take<A: Allocator + Copy>(
 ) -> Result<(), TakeFault>
     requires { length (parsed telegram.now).body ≤ longest_body }
     // What stands against it is answered, and nothing else is but want of memory.
-    ensures refused { (fault : _) → refuses house.old.budget waiting.old.count (change_of moment.seconds part (parsed telegram.now)) house.old.state ≡ Some fault → result ≡ Err fault }
-    ensures accepted { refuses house.old.budget waiting.old.count (change_of moment.seconds part (parsed telegram.now)) house.old.state ≡ None → (result ≡ Ok tt) ⊎ (result ≡ Err NoMemory) }
-    ensures ok { OnOk result (IsTaken house.old house.new waiting.old waiting.new (change_of moment.seconds part (parsed telegram.now))) }
+    ensures refused { (fault : _) → refuses house.old.budget waiting.old.count
+        (change_of moment.seconds part (parsed telegram.now)) house.old.state ≡ Some fault
+        → result ≡ Err fault }
+    ensures accepted { refuses house.old.budget waiting.old.count
+        (change_of moment.seconds part (parsed telegram.now)) house.old.state ≡ None
+        → (result ≡ Ok tt) ⊎ (result ≡ Err NoMemory) }
+    ensures ok { OnOk result (IsTaken house.old house.new waiting.old waiting.new
+        (change_of moment.seconds part (parsed telegram.now))) }
     ensures house { OnErr result (house.new ≡ house.old) }
     ensures waiting { OnErr result (waiting.new ≡ waiting.old) }
 {

@@ -71,7 +71,10 @@ impl Waiting {
     pub fn push(&mut self, change: &Change<'_>)
         requires room { self.old.count < most_waiting }
         requires is_change { IsChange change.now }
-        ensures { self.new ≡ record { bytes = self.old.bytes ++ change_bytes change.now; count = self.old.count + 1 } }
+        ensures { self.new ≡ record {
+          bytes = self.old.bytes ++ change_bytes change.now;
+          count = self.old.count + 1;
+        } }
     {
         match encode_change(change, &mut self.bytes) {
             Ok(()) => {}

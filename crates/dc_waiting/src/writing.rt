@@ -40,17 +40,24 @@ pub fn write_waiting<D: Disk + Drop, A: Allocator + Copy>(
     ensures one_group { Fits (D.sectors store.old.disk) store.old (length waiting.now.bytes)
         → store.new.root ≡ store.old.root }
     ensures unchanged { IsErrOf result Stopped ⊎ IsErrOf result Worn → store.new ≡ store.old }
-    ensures device { IsErrOf result Device → HasRisen (D.failures store.old.disk) (D.failures store.new.disk) }
+    ensures device { IsErrOf result Device
+        → HasRisen (D.failures store.old.disk) (D.failures store.new.disk) }
     ensures stops { IsErrOf result Device → store.new.is_stopped ≡ true }
     ensures goes_on { OnOk result (store.new.is_stopped ≡ false) }
 
     // The register is what the store keeps, after what waits. The store keeps that then, and a stop at
     // any moment leaves an image that stands for what was kept before or for that.
-    ensures kept { (was : State) (changes : List Change) → Keeps D.sectors D.reads D.choices store.old was → SpellsChanges waiting.now.bytes changes
-        → AcceptsAll (budget_of (half_len_of (D.sectors store.old.disk))) was changes → house.now.state ≡ after was changes → OnOk result (Keeps D.sectors D.reads D.choices store.new (after was changes)) }
-    ensures any_moment { (was : State) (changes : List Change) → Keeps D.sectors D.reads D.choices store.old was → SpellsChanges waiting.now.bytes changes
-        → AcceptsAll (budget_of (half_len_of (D.sectors store.old.disk))) was changes → house.now.state ≡ after was changes
-        → LeavesOnly D.moment D.images_since store.old.disk store.new.disk (StandsForEither (half_len_of (D.sectors store.old.disk)) was (after was changes)) }
+    ensures kept { (was : State) (changes : List Change)
+        → Keeps D.sectors D.reads D.choices store.old was → SpellsChanges waiting.now.bytes changes
+        → AcceptsAll (budget_of (half_len_of (D.sectors store.old.disk))) was changes
+        → house.now.state ≡ after was changes
+        → OnOk result (Keeps D.sectors D.reads D.choices store.new (after was changes)) }
+    ensures any_moment { (was : State) (changes : List Change)
+        → Keeps D.sectors D.reads D.choices store.old was → SpellsChanges waiting.now.bytes changes
+        → AcceptsAll (budget_of (half_len_of (D.sectors store.old.disk))) was changes
+        → house.now.state ≡ after was changes
+        → LeavesOnly D.moment D.images_since store.old.disk store.new.disk
+        (StandsForEither (half_len_of (D.sectors store.old.disk)) was (after was changes)) }
     ensures before { D.keeps store.new.disk → D.keeps store.old.disk }
     ensures count { D.sectors store.new.disk ≡ D.sectors store.old.disk }
     ensures failures { D.failures store.old.disk ≤ D.failures store.new.disk }

@@ -21,28 +21,37 @@ use dc_waiting::write_waiting;
 use std::alloc::Allocator;
 
 impl<D: Disk + Drop, A: Allocator + Copy> Concentrator<D, A> {
-    /// Writes all that waits, as one group with one sync, or as the whole register where that doesn't fit, and settles
-    /// every line whose telegram it wrote. It answers the number of changes; where nothing waits, 0 without a call of the
-    /// disk. No memory is taken.
+    /// Writes all that waits, as one group with one sync, or as the whole register where that doesn't fit, and
+    /// settles every line whose telegram it wrote. It answers the number of changes; where nothing waits, 0 without a
+    /// call of the disk. No memory is taken.
     ///
     /// # Errors
-    /// `Stopped` after a failure; `Worn` where there is no next sequence or generation, and nothing has changed; `Device`
-    /// where the disk failed: what waits may be on the disk or not, and nothing more is asked or written.
+    /// `Stopped` after a failure; `Worn` where there is no next sequence or generation, and nothing has changed;
+    /// `Device` where the disk failed: what waits may be on the disk or not, and nothing more is asked or written.
     pub fn commit(&mut self) -> Result<usize, CommitFault>
-        ensures may { (origin : D) (core : Core) → IsAt (D.keeps origin) D.sectors D.reads D.choices self.old core
+        ensures may { (origin : D) (core : Core)
+            → IsAt (D.keeps origin) D.sectors D.reads D.choices self.old core
             → May self.old.house.budget core commits (committed result) }
-        ensures at { (origin : D) (core : Core) → IsAt (D.keeps origin) D.sectors D.reads D.choices self.old core
-            → IsAt (D.keeps origin) D.sectors D.reads D.choices self.new (next core commits (committed result)) }
+        ensures at { (origin : D) (core : Core)
+            → IsAt (D.keeps origin) D.sectors D.reads D.choices self.old core
+            → IsAt (D.keeps origin) D.sectors D.reads D.choices self.new
+            (next core commits (committed result)) }
 
         // A stop within it leaves what is committed and a front of what waits.
-        ensures any_moment { (origin : D) → D.keeps origin → (core : Core) → IsAt (D.keeps origin) D.sectors D.reads D.choices self.old core
-            → LeavesOnly D.moment D.images_since self.old.store.disk self.new.store.disk (StandsForFront (half_len_of (D.sectors self.old.store.disk)) core.committed core.pending) }
-        ensures device { IsErrOf result Device → HasRisen (D.failures self.old.store.disk) (D.failures self.new.store.disk) }
+        ensures any_moment { (origin : D) → D.keeps origin → (core : Core)
+            → IsAt (D.keeps origin) D.sectors D.reads D.choices self.old core
+            → LeavesOnly D.moment D.images_since self.old.store.disk self.new.store.disk
+            (StandsForFront (half_len_of (D.sectors self.old.store.disk)) core.committed
+            core.pending) }
+        ensures device { IsErrOf result Device
+            → HasRisen (D.failures self.old.store.disk) (D.failures self.new.store.disk) }
         ensures worn { IsErrOf result Worn
-            → IsWornFor (D.sectors self.old.store.disk) self.old.store (length self.old.waiting.bytes) }
+            → IsWornFor (D.sectors self.old.store.disk) self.old.store
+            (length self.old.waiting.bytes) }
 
         // What fits in the half is one group more, under the same root.
-        ensures one_group { Fits (D.sectors self.old.store.disk) self.old.store (length self.old.waiting.bytes)
+        ensures one_group { Fits (D.sectors self.old.store.disk) self.old.store
+            (length self.old.waiting.bytes)
             → self.new.store.root ≡ self.old.store.root }
         ensures unchanged { IsErrOf result Worn → self.new ≡ self.old }
         ensures empty { OnOk result (self.new.waiting.count ≡ 0) }

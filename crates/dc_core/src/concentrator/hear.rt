@@ -15,17 +15,20 @@ use dc_waiting::{is_line, take};
 use std::alloc::Allocator;
 
 impl<D: Disk + Drop, A: Allocator + Copy> Concentrator<D, A> {
-    /// Hears an answer on a line, at a moment. No byte is silence. A telegram is taken into the register and waits for a
-    /// commit; a session that failed leaves its line. Memory is taken for a telegram alone.
+    /// Hears an answer on a line, at a moment. No byte is silence. A telegram is taken into the register and waits
+    /// for a commit; a session that failed leaves its line. Memory is taken for a telegram alone.
     ///
     /// # Errors
     /// The first that stands, in the order `NoLine`, `Stopped`, `Idle`, and for a telegram `PendingFull`, `Full`,
     /// `NoMemory`; nothing has changed, and the request still waits.
     pub fn hear(&mut self, line: u8, moment: Moment, answer: &[u8]) -> Result<LineHeard, HearFault>
-        ensures may { (origin : D) (core : Core) → IsAt (D.keeps origin) D.sectors D.reads D.choices self.old core
+        ensures may { (origin : D) (core : Core)
+            → IsAt (D.keeps origin) D.sectors D.reads D.choices self.old core
             → May self.old.house.budget core (hears line moment.seconds answer.now) (heard result) }
-        ensures at { (origin : D) (core : Core) → IsAt (D.keeps origin) D.sectors D.reads D.choices self.old core
-            → IsAt (D.keeps origin) D.sectors D.reads D.choices self.new (next core (hears line moment.seconds answer.now) (heard result)) }
+        ensures at { (origin : D) (core : Core)
+            → IsAt (D.keeps origin) D.sectors D.reads D.choices self.old core
+            → IsAt (D.keeps origin) D.sectors D.reads D.choices self.new
+            (next core (hears line moment.seconds answer.now) (heard result)) }
         ensures store { self.new.store ≡ self.old.store }
         ensures budget { self.new.house.budget ≡ self.old.house.budget }
     {

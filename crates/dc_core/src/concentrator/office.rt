@@ -16,7 +16,8 @@ ghost use Rattle.dc_upload.specs.declared.code.Code.TheVariants.{Memory};
 ghost use Rattle.dc_upload.specs.declared.verdict.Verdict.TheVariants.{Do};
 ghost use Rattle.dc_core.specs.Core.{Core};
 ghost use Rattle.dc_core.specs.Event.{offices};
-ghost use Rattle.dc_core.specs.Step.{settled, removed_by, lines_after, ordered, after_commit, IsUnstored};
+ghost use Rattle.dc_core.specs.Step.{settled, removed_by, lines_after, ordered, after_commit};
+ghost use Rattle.dc_core.specs.Step.{IsUnstored};
 ghost use Rattle.dc_core.specs.Images.{IsAt};
 ghost use Rattle.dc_core.specs.Run.{IsShown, Answered, Turned};
 
@@ -35,16 +36,19 @@ use dc_waiting::Lines;
 use std::alloc::Allocator;
 
 impl<D: Disk + Drop, A: Allocator + Copy> Concentrator<D, A> {
-    /// Answers a line of the office, which comes without its line end. What waits is committed first, so nothing is judged
-    /// or shown that isn't on the disk; a new command is applied and committed before `OK`. A command that removes a meter
-    /// ends its session. Memory is taken for a new command, and for the table of a REPORT.
+    /// Answers a line of the office, which comes without its line end. What waits is committed first, so nothing is
+    /// judged or shown that isn't on the disk; a new command is applied and committed before `OK`. A command that
+    /// removes a meter ends its session. Memory is taken for a new command, and for the table of a REPORT.
     ///
     /// # Errors
     /// `WriteFault` where the writer failed. What the line did stands then, and a command's repeat answers `OK`; a
     /// prefix of the reply is written.
     pub fn office<W: Sink>(&mut self, line: &[u8], out: &mut W) -> Result<(), WriteFault>
-        ensures turned { (origin : D) (core : Core) → IsAt (D.keeps origin) D.sectors D.reads D.choices self.old core
-            → Turned (D.keeps origin) D.sectors D.failures D.reads D.choices D.moment D.images_since self.old.house.budget core (offices line.now) (Wrote W.written W.put_failures result out.old out.new) self.old self.new }
+        ensures turned { (origin : D) (core : Core)
+            → IsAt (D.keeps origin) D.sectors D.reads D.choices self.old core
+            → Turned (D.keeps origin) D.sectors D.failures D.reads D.choices D.moment D.images_since
+            self.old.house.budget core (offices line.now)
+            (Wrote W.written W.put_failures result out.old out.new) self.old self.new }
         ensures count { D.sectors self.new.store.disk ≡ D.sectors self.old.store.disk }
         ensures budget { self.new.house.budget ≡ self.old.house.budget }
         ensures fault { OnErr result (HasRisen (W.put_failures out.old) (W.put_failures out.new)) }
@@ -58,8 +62,11 @@ impl<D: Disk + Drop, A: Allocator + Copy> Concentrator<D, A> {
 
     // Reads a line and answers it.
     fn reply<W: Sink>(&mut self, text: &[u8], out: &mut W) -> Result<(), IoFault>
-        ensures turned { (origin : D) (core : Core) → IsAt (D.keeps origin) D.sectors D.reads D.choices self.old core
-            → Turned (D.keeps origin) D.sectors D.failures D.reads D.choices D.moment D.images_since self.old.house.budget core (offices text.now) (Wrote W.written W.put_failures result out.old out.new) self.old self.new }
+        ensures turned { (origin : D) (core : Core)
+            → IsAt (D.keeps origin) D.sectors D.reads D.choices self.old core
+            → Turned (D.keeps origin) D.sectors D.failures D.reads D.choices D.moment D.images_since
+            self.old.house.budget core (offices text.now)
+            (Wrote W.written W.put_failures result out.old out.new) self.old self.new }
         ensures count { D.sectors self.new.store.disk ≡ D.sectors self.old.store.disk }
         ensures budget { self.new.house.budget ≡ self.old.house.budget }
         ensures fault { OnErr result (HasRisen (W.put_failures out.old) (W.put_failures out.new)) }
@@ -77,12 +84,20 @@ impl<D: Disk + Drop, A: Allocator + Copy> Concentrator<D, A> {
 
     // Commits what waits; a store that has stopped takes no line.
     fn settle(&mut self) -> Result<(), CommitFault>
-        ensures ok { (origin : D) (core : Core) → IsAt (D.keeps origin) D.sectors D.reads D.choices self.old core
-            → OnOk result ((core.stopped ≡ false) × IsAt (D.keeps origin) D.sectors D.reads D.choices self.new (settled core)) }
-        ensures err { (origin : D) (core : Core) → IsAt (D.keeps origin) D.sectors D.reads D.choices self.old core
-            → IfErr result (λ fault. IsUnstored core fault × IsAt (D.keeps origin) D.sectors D.reads D.choices self.new (after_commit core (Err fault))) }
-        ensures any_moment { (origin : D) → D.keeps origin → (core : Core) → IsAt (D.keeps origin) D.sectors D.reads D.choices self.old core
-            → LeavesOnly D.moment D.images_since self.old.store.disk self.new.store.disk (StandsForFront (half_len_of (D.sectors self.old.store.disk)) core.committed core.pending) }
+        ensures ok { (origin : D) (core : Core)
+            → IsAt (D.keeps origin) D.sectors D.reads D.choices self.old core
+            → OnOk result ((core.stopped ≡ false)
+            × IsAt (D.keeps origin) D.sectors D.reads D.choices self.new (settled core)) }
+        ensures err { (origin : D) (core : Core)
+            → IsAt (D.keeps origin) D.sectors D.reads D.choices self.old core
+            → IfErr result (λ fault. IsUnstored core fault
+            × IsAt (D.keeps origin) D.sectors D.reads D.choices self.new
+            (after_commit core (Err fault))) }
+        ensures any_moment { (origin : D) → D.keeps origin → (core : Core)
+            → IsAt (D.keeps origin) D.sectors D.reads D.choices self.old core
+            → LeavesOnly D.moment D.images_since self.old.store.disk self.new.store.disk
+            (StandsForFront (half_len_of (D.sectors self.old.store.disk)) core.committed
+            core.pending) }
         ensures failed { IfErr result (λ fault. IsShown D.failures self.old self.new (Some fault)) }
         ensures empty { OnOk result (self.new.waiting.count ≡ 0) }
         ensures house { self.new.house ≡ self.old.house }
@@ -102,8 +117,11 @@ impl<D: Disk + Drop, A: Allocator + Copy> Concentrator<D, A> {
     fn answer<W: Sink>(&mut self, line: &OfficeLine, out: &mut W) -> Result<(), IoFault>
         requires line { IsOfficeLine line.now }
         requires empty { self.old.waiting.count ≡ 0 }
-        ensures answered { (origin : D) (core : Core) → IsAt (D.keeps origin) D.sectors D.reads D.choices self.old core → core.stopped ≡ false
-            → Answered (D.keeps origin) D.sectors D.failures D.reads D.choices D.moment D.images_since self.old.house.budget core line.now (Wrote W.written W.put_failures result out.old out.new) self.old self.new }
+        ensures answered { (origin : D) (core : Core)
+            → IsAt (D.keeps origin) D.sectors D.reads D.choices self.old core → core.stopped ≡ false
+            → Answered (D.keeps origin) D.sectors D.failures D.reads D.choices D.moment
+            D.images_since self.old.house.budget core line.now
+            (Wrote W.written W.put_failures result out.old out.new) self.old self.new }
         ensures count { D.sectors self.new.store.disk ≡ D.sectors self.old.store.disk }
         ensures budget { self.new.house.budget ≡ self.old.house.budget }
         ensures fault { OnErr result (HasRisen (W.put_failures out.old) (W.put_failures out.new)) }
@@ -129,8 +147,11 @@ impl<D: Disk + Drop, A: Allocator + Copy> Concentrator<D, A> {
         requires is_change { IsChange change.now }
         requires accepted { Accepts self.old.house.budget change.now self.old.house.state }
         requires verdict { verdict_of self.old.house line.now ≡ Do change.now }
-        ensures answered { (origin : D) (core : Core) → IsAt (D.keeps origin) D.sectors D.reads D.choices self.old core → core.stopped ≡ false
-            → Answered (D.keeps origin) D.sectors D.failures D.reads D.choices D.moment D.images_since self.old.house.budget core line.now (Wrote W.written W.put_failures result out.old out.new) self.old self.new }
+        ensures answered { (origin : D) (core : Core)
+            → IsAt (D.keeps origin) D.sectors D.reads D.choices self.old core → core.stopped ≡ false
+            → Answered (D.keeps origin) D.sectors D.failures D.reads D.choices D.moment
+            D.images_since self.old.house.budget core line.now
+            (Wrote W.written W.put_failures result out.old out.new) self.old self.new }
         ensures count { D.sectors self.new.store.disk ≡ D.sectors self.old.store.disk }
         ensures budget { self.new.house.budget ≡ self.old.house.budget }
         ensures fault { OnErr result (HasRisen (W.put_failures out.old) (W.put_failures out.new)) }
@@ -153,8 +174,12 @@ impl<D: Disk + Drop, A: Allocator + Copy> Concentrator<D, A> {
         requires empty { self.old.waiting.count ≡ 0 }
         requires is_change { IsChange change.now }
         requires accepted { Accepts self.old.house.budget change.now self.old.house.state }
-        ensures at { (origin : D) (core : Core) → IsAt (D.keeps origin) D.sectors D.reads D.choices self.old core → OnOk result (IsAt (D.keeps origin) D.sectors D.reads D.choices self.new (ordered change.now core)) }
-        ensures house { OnOk result (self.new.house ≡ record self.old.house { state = applied change.now self.old.house.state }) }
+        ensures at { (origin : D) (core : Core)
+            → IsAt (D.keeps origin) D.sectors D.reads D.choices self.old core
+            → OnOk result (IsAt (D.keeps origin) D.sectors D.reads D.choices self.new
+            (ordered change.now core)) }
+        ensures house { OnOk result (self.new.house
+            ≡ record self.old.house { state = applied change.now self.old.house.state }) }
         ensures err { OnErr result (self.new ≡ self.old) }
         ensures store { self.new.store ≡ self.old.store }
     {
@@ -174,8 +199,10 @@ fn write_answer<A: Allocator + Copy, W: Sink>(
 ) -> Result<(), IoFault>
     requires line { IsOfficeLine line.now }
     requires answered { IfDo (verdict_of house.now line.now) (λ _. ⊥) }
-    ensures told { Wrote W.written W.put_failures result out.old out.new (reply_text house.now line.now)
-        ⊎ (TakesMemory line.now × Wrote W.written W.put_failures result out.old out.new (refusal_line Memory)) }
+    ensures told { Wrote W.written W.put_failures result out.old out.new
+        (reply_text house.now line.now)
+        ⊎ (TakesMemory line.now × Wrote W.written W.put_failures result out.old out.new
+        (refusal_line Memory)) }
     ensures fault { OnErr result (HasRisen (W.put_failures out.old) (W.put_failures out.new)) }
     ensures well { OnOk result (W.put_failures out.new ≡ W.put_failures out.old) }
 {

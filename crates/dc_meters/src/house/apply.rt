@@ -1,14 +1,17 @@
 //! What a change does to a house.
 
-ghost use Rattle.std.specs.Prelude.{◌≡◌, ◌+◌, ◌-◌, ◌≤◌, ◌<◌, ◌^◌, ◌∷◌, ◌++◌, [], true, false, None, Some, IsSome, length, OnOk, OnErr, filter, nat_lt, sum_by};
+ghost use Rattle.std.specs.Prelude.{◌≡◌, ◌+◌, ◌-◌, ◌≤◌, ◌<◌, ◌^◌, ◌∷◌, ◌++◌, [], true, false, None};
+ghost use Rattle.std.specs.Prelude.{Some, IsSome, length, OnOk, OnErr, filter, nat_lt, sum_by};
 ghost use Rattle.dc_changes.specs.State.{PartRow, row_of};
-ghost use Rattle.dc_changes.specs.Apply.{applied, told, heard, commanded, moved, taken_out, confirmed_up_to, swapped, fitted, joined};
+ghost use Rattle.dc_changes.specs.Apply.{applied, told, heard, commanded, moved, taken_out};
+ghost use Rattle.dc_changes.specs.Apply.{confirmed_up_to, swapped, fitted, joined};
 ghost use Rattle.dc_changes.specs.Line.{line_of};
 ghost use Rattle.dc_changes.specs.Accepts.{Accepts, continues};
 ghost use Rattle.dc_changes.specs.Size.{size_of, meter_size, reading_size, parts_size};
 ghost use Rattle.dc_changes.specs.Flat.{IsFlat};
 ghost use Rattle.dc_changes.specs.Line.{longest_line};
-ghost use Rattle.dc_changes.specs.Valid.{IsChange, IsCommand, IsNumber, IsTelegram, IsAddress, IsMeter, IsPart, end_of_numbers};
+ghost use Rattle.dc_changes.specs.Valid.{IsChange, IsCommand, IsNumber, IsTelegram, IsAddress};
+ghost use Rattle.dc_changes.specs.Valid.{IsMeter, IsPart, end_of_numbers};
 ghost use Rattle.dc_meters.specs.Steps.{CanBeApplied};
 
 use super::House;
@@ -24,7 +27,8 @@ impl<A: Allocator + Copy> House<A> {
     pub fn apply(&mut self, change: &Change<'_>) -> Result<(), NoMemory>
         requires change { IsChange change.now }
         requires accepted { Accepts self.old.budget change.now self.old.state }
-        ensures ok { OnOk result (self.new ≡ record self.old { state = applied change.now self.old.state }) }
+        ensures ok { OnOk result (self.new
+            ≡ record self.old { state = applied change.now self.old.state }) }
         ensures err { OnErr result (self.new ≡ self.old) }
     {
         match change {
@@ -38,7 +42,8 @@ impl<A: Allocator + Copy> House<A> {
         requires absent { row_of meter self.old.state ≡ None }
         requires room { size_of (fitted meter row self.old.state) ≤ self.old.budget }
         requires is_meter { IsMeter row }
-        ensures ok { OnOk result (self.new ≡ record self.old { state = fitted meter row self.old.state }) }
+        ensures ok { OnOk result (self.new
+            ≡ record self.old { state = fitted meter row self.old.state }) }
         ensures err { OnErr result (self.new ≡ self.old) }
     {
         let size = row.size();
@@ -50,8 +55,11 @@ impl<A: Allocator + Copy> House<A> {
     /// A meter belongs to another flat.
     pub(super) fn move_to(&mut self, meter: Identity, flat: Flat) -> Result<(), NoMemory>
         requires is_flat { IsFlat flat }
-        requires room { size_of (moved meter flat (row_of meter self.old.state) self.old.state) ≤ self.old.budget }
-        ensures ok { OnOk result (self.new ≡ record self.old { state = moved meter flat (row_of meter self.old.state) self.old.state }) }
+        requires room { size_of (moved meter flat (row_of meter self.old.state) self.old.state)
+            ≤ self.old.budget }
+        ensures ok { OnOk result (self.new ≡ record self.old {
+          state = moved meter flat (row_of meter self.old.state) self.old.state;
+        }) }
         ensures err { OnErr result (self.new ≡ self.old) }
     {
         let Some(row) = self.meters.get(&meter) else {
@@ -76,8 +84,11 @@ impl<A: Allocator + Copy> House<A> {
     fn keep_open(&mut self, meter: Identity, number: u8, part: Part<A>) -> Result<(), NoMemory>
         requires continues { continues number (row_of meter self.old.state) ≡ true }
         requires part_is { IsPart part }
-        requires room { size_of (heard meter true number part (row_of meter self.old.state) self.old.state) ≤ self.old.budget }
-        ensures ok { OnOk result (self.new ≡ record self.old { state = heard meter true number part (row_of meter self.old.state) self.old.state }) }
+        requires room { size_of (heard meter true number part
+            (row_of meter self.old.state) self.old.state) ≤ self.old.budget }
+        ensures ok { OnOk result (self.new ≡ record self.old {
+          state = heard meter true number part (row_of meter self.old.state) self.old.state;
+        }) }
         ensures err { OnErr result (self.new ≡ self.old) }
     {
         let Some(row) = self.meters.get(&meter) else {
@@ -93,9 +104,12 @@ impl<A: Allocator + Copy> House<A> {
     fn finish(&mut self, meter: Identity, number: u8, part: Part<A>) -> Result<(), NoMemory>
         requires continues { continues number (row_of meter self.old.state) ≡ true }
         requires part_is { IsPart part }
-        requires room { size_of (heard meter false number part (row_of meter self.old.state) self.old.state) ≤ self.old.budget }
+        requires room { size_of (heard meter false number part
+            (row_of meter self.old.state) self.old.state) ≤ self.old.budget }
         requires serial { self.old.state.next_serial < end_of_numbers }
-        ensures ok { OnOk result (self.new ≡ record self.old { state = heard meter false number part (row_of meter self.old.state) self.old.state }) }
+        ensures ok { OnOk result (self.new ≡ record self.old {
+          state = heard meter false number part (row_of meter self.old.state) self.old.state;
+        }) }
         ensures err { OnErr result (self.new ≡ self.old) }
     {
         let Some(row) = self.meters.get(&meter) else {
@@ -120,7 +134,8 @@ impl<A: Allocator + Copy> House<A> {
         requires continues { continues number (row_of body.now.meter self.old.state) ≡ true }
         requires room { size_of (told number moment body.now self.old.state) ≤ self.old.budget }
         requires serial { body.now.more ≡ false → self.old.state.next_serial < end_of_numbers }
-        ensures ok { OnOk result (self.new ≡ record self.old { state = told number moment body.now self.old.state }) }
+        ensures ok { OnOk result (self.new
+            ≡ record self.old { state = told number moment body.now self.old.state }) }
         ensures err { OnErr result (self.new ≡ self.old) }
     {
         let part = Part::new(self.alloc, moment, body.as_slice())?;
@@ -141,7 +156,9 @@ impl<A: Allocator + Copy> House<A> {
         requires is_address { IsAddress address }
         requires absent { row_of new self.old.state ≡ None }
         requires registered { IsSome (row_of old self.old.state) }
-        ensures ok { OnOk result (self.new ≡ record self.old { state = swapped old new address (row_of old self.old.state) self.old.state }) }
+        ensures ok { OnOk result (self.new ≡ record self.old {
+          state = swapped old new address (row_of old self.old.state) self.old.state;
+        }) }
         ensures err { OnErr result (self.new ≡ self.old) }
     {
         let Some(row) = self.meters.get(&old) else {
@@ -159,7 +176,8 @@ impl<A: Allocator + Copy> House<A> {
     fn order(&mut self, command: &Command) -> Result<(), NoMemory>
         requires is_command { IsCommand command.now }
         requires unrefused { CanBeApplied self.old.budget command.now self.old.state }
-        ensures ok { OnOk result (self.new ≡ record self.old { state = commanded command.now self.old.state }) }
+        ensures ok { OnOk result (self.new
+            ≡ record self.old { state = commanded command.now self.old.state }) }
         ensures err { OnErr result (self.new ≡ self.old) }
     {
         match *command {
@@ -190,7 +208,12 @@ impl<A: Allocator + Copy> House<A> {
         requires is_number { IsNumber number }
         requires is_command { IsCommand command.now }
         requires unrefused { CanBeApplied self.old.budget command.now self.old.state }
-        ensures ok { OnOk result (self.new ≡ record self.old { state = record (commanded command.now self.old.state) { last_number = number; last_line = line_of number command.now } }) }
+        ensures ok { OnOk result (self.new ≡ record self.old {
+          state = record (commanded command.now self.old.state) {
+            last_number = number;
+            last_line = line_of number command.now;
+          };
+        }) }
         ensures err { OnErr result (self.new ≡ self.old) }
     {
         let line = command.line(number);
@@ -203,7 +226,9 @@ impl<A: Allocator + Copy> House<A> {
     fn sign(&mut self, number: u64, line: CommandLine)
         requires number { number < end_of_numbers }
         requires line { length line ≤ longest_line }
-        ensures { self.new ≡ record self.old { state = record self.old.state { last_number = number; last_line = line } } }
+        ensures { self.new ≡ record self.old {
+          state = record self.old.state { last_number = number; last_line = line };
+        } }
     {
         self.last_number = number;
         self.last_line = line;

@@ -6,7 +6,8 @@ ghost use Rattle.std.specs.BTreeMap.{is_at};
 ghost use Rattle.dc_address.specs.Identity.{identity_cmp};
 ghost use Rattle.dc_changes.specs.State.{row_of};
 ghost use Rattle.dc_changes.specs.Apply.{told};
-ghost use Rattle.dc_changes.specs.Accepts.{refusal, is_next, refused_by, telegram_refusal, command_refusal, is_taken, occupies};
+ghost use Rattle.dc_changes.specs.Accepts.{refusal, is_next, refused_by, telegram_refusal};
+ghost use Rattle.dc_changes.specs.Accepts.{command_refusal, is_taken, occupies};
 ghost use Rattle.dc_changes.specs.Size.{size_of, parts_size};
 
 use super::House;
@@ -38,7 +39,8 @@ impl<A: Allocator + Copy> House<A> {
     }
 
     fn check_telegram(&self, part: u8, body: &Body<'_>) -> Result<(), ChangeFault>
-        ensures { (moment : ℕ) → result ≡ refused_by (telegram_refusal self.now.budget part moment body.now self.now.state) }
+        ensures { (moment : ℕ) → result
+            ≡ refused_by (telegram_refusal self.now.budget part moment body.now self.now.state) }
     {
         let Some(row) = self.meter(&body.meter()) else {
             return Err(ChangeFault::Unknown);
@@ -90,7 +92,8 @@ impl<A: Allocator + Copy> House<A> {
         address: Option<Primary>,
         flat: Flat,
     ) -> Result<(), ChangeFault>
-        ensures { result ≡ refused_by (command_refusal self.now.budget (Command.Fit meter.now line address flat) self.now.state) }
+        ensures { result ≡ refused_by (command_refusal self.now.budget
+            (Command.Fit meter.now line address flat) self.now.state) }
     {
         if self.meters.contains_key(meter) {
             return Err(ChangeFault::Known);
@@ -102,7 +105,8 @@ impl<A: Allocator + Copy> House<A> {
     }
 
     fn check_move(&self, meter: &Identity, flat: Flat) -> Result<(), ChangeFault>
-        ensures { result ≡ refused_by (command_refusal self.now.budget (Command.Move meter.now flat) self.now.state) }
+        ensures { result ≡ refused_by (command_refusal self.now.budget
+            (Command.Move meter.now flat) self.now.state) }
     {
         let Some(row) = self.meters.get(meter) else {
             return Err(ChangeFault::Unknown);
@@ -112,7 +116,8 @@ impl<A: Allocator + Copy> House<A> {
     }
 
     fn check_registered(&self, meter: &Identity) -> Result<(), ChangeFault>
-        ensures { result ≡ refused_by (command_refusal self.now.budget (Command.Out meter.now) self.now.state) }
+        ensures { result ≡ refused_by (command_refusal self.now.budget
+            (Command.Out meter.now) self.now.state) }
     {
         if self.meters.contains_key(meter) {
             Ok(())
@@ -122,7 +127,8 @@ impl<A: Allocator + Copy> House<A> {
     }
 
     fn check_confirm(&self, serial: u64) -> Result<(), ChangeFault>
-        ensures { result ≡ refused_by (command_refusal self.now.budget (Command.Confirm serial) self.now.state) }
+        ensures { result ≡ refused_by (command_refusal self.now.budget
+            (Command.Confirm serial) self.now.state) }
     {
         if serial >= self.next_serial {
             Err(ChangeFault::Beyond)
@@ -137,7 +143,8 @@ impl<A: Allocator + Copy> House<A> {
         new: &Identity,
         address: Option<Primary>,
     ) -> Result<(), ChangeFault>
-        ensures { result ≡ refused_by (command_refusal self.now.budget (Command.Swap old.now new.now address) self.now.state) }
+        ensures { result ≡ refused_by (command_refusal self.now.budget
+            (Command.Swap old.now new.now address) self.now.state) }
     {
         if self.meters.contains_key(new) {
             return Err(ChangeFault::Known);
@@ -153,7 +160,8 @@ impl<A: Allocator + Copy> House<A> {
 
     /// Whether a state of this size is within the budget.
     fn check_size(&self, size: u64) -> Result<(), ChangeFault>
-        ensures { result ≡ refused_by (if nat_lt self.now.budget size then Some ChangeFault.Full else None) }
+        ensures { result ≡ refused_by (if nat_lt self.now.budget size then Some ChangeFault.Full
+            else None) }
     {
         if size > u64::from(self.budget) {
             Err(ChangeFault::Full)
@@ -173,7 +181,9 @@ impl<A: Allocator + Copy> House<A> {
     }
 
     fn is_taken_by_other(&self, old: &Identity, line: u8, address: Option<Primary>) -> bool
-        ensures { result ≡ list_any (λ e. not (is_at (identity_cmp old.now) e.0) && occupies line address e.1) self.now.state.meters }
+        ensures { result ≡ list_any (λ e.
+            not (is_at (identity_cmp old.now) e.0) && occupies line address e.1)
+            self.now.state.meters }
     {
         match address {
             Some(address) => self.meters.is_taken_by_other(old, line, address),

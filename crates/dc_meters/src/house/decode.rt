@@ -1,6 +1,7 @@
 //! A house out of bytes.
 
-ghost use Rattle.std.specs.Prelude.{◌≡◌, ◌+◌, ◌<◌, ◌≤◌, ℕ, List, Some, None, All, length, map, true, false, IfSome, IfNone, IfOk, IsErrOf};
+ghost use Rattle.std.specs.Prelude.{◌≡◌, ◌+◌, ◌<◌, ◌≤◌, ℕ, List, Some, None, All, length, map};
+ghost use Rattle.std.specs.Prelude.{true, false, IfSome, IfNone, IfOk, IsErrOf};
 ghost use Rattle.std.specs.List.Sorted.{IsStrictlySortedBy};
 ghost use Rattle.std.specs.Map.{keys_of};
 ghost use Rattle.std.specs.Ordering.{nat_cmp};
@@ -11,7 +12,8 @@ ghost use Rattle.dc_changes.specs.Line.{longest_line};
 ghost use Rattle.dc_changes.specs.State.{State, MeterRow, ReadingRow};
 ghost use Rattle.dc_changes.specs.Order.{MetersAscend, ReadingsAscend, IsNextSerial};
 ghost use Rattle.dc_changes.specs.Spelled.{SpellsState};
-ghost use Rattle.dc_changes.specs.Reading.{Gives, Reads, many, listed, count_at, entry_at, reading_at, head_at};
+ghost use Rattle.dc_changes.specs.Reading.{Gives, Reads, many, listed, count_at, entry_at};
+ghost use Rattle.dc_changes.specs.Reading.{reading_at, head_at};
 
 use super::House;
 use crate::due::due_days_of;
@@ -36,7 +38,15 @@ struct Head<'a> {
 impl<'a> Head<'a> {
     #[tactic(auto, unfolding(dc_changes::specs::Reading::head_at))]
     fn read(bytes: &'a [u8]) -> Result<(Head<'a>, &'a [u8]), DecodeFault>
-        ensures { Reads (λ x. (record { next_serial = x.0.next_serial; confirmed = x.0.confirmed; last_number = x.0.last_number; last_line = x.0.last_line.now }, x.1.now)) result (head_at bytes.now) }
+        ensures { Reads (λ x. (
+          record {
+            next_serial = x.0.next_serial;
+            confirmed = x.0.confirmed;
+            last_number = x.0.last_number;
+            last_line = x.0.last_line.now;
+          },
+          x.1.now,
+        )) result (head_at bytes.now) }
     {
         let (next_serial, rest) = long_at(bytes)?;
         let (confirmed, rest) = long_at(rest)?;
@@ -96,8 +106,10 @@ fn reading_at<A: Allocator + Copy>(
 
 /// Whether a meter comes behind all of these.
 fn is_behind<A: Allocator + Copy>(meters: &MeterMap<A>, meter: &Identity) -> bool
-    ensures yes { result ≡ true → All (λ other. identity_cmp other meter.now ≡ Less) (keys_of meters.now.entries) }
-    ensures no { result ≡ false → All (λ other. identity_cmp other meter.now ≡ Less) (keys_of meters.now.entries) → ⊥ }
+    ensures yes { result ≡ true → All (λ other.
+        identity_cmp other meter.now ≡ Less) (keys_of meters.now.entries) }
+    ensures no { result ≡ false → All (λ other.
+        identity_cmp other meter.now ≡ Less) (keys_of meters.now.entries) → ⊥ }
 {
     match meters.rows().last_key_value() {
         Some((last, _)) => meter.cmp(last).is_gt(),
@@ -112,7 +124,9 @@ fn each_meter<A: Allocator + Copy>(
 ) -> Result<(MeterMap<A>, &[u8]), DecodeFault>
     ensures found { IfOk result (λ x. many entry_at count bytes.now ≡ Some (x.0.entries, x.1.now)) }
     ensures ascend { IfOk result (λ x. MetersAscend x.0.entries) }
-    ensures bad { IsErrOf result DecodeFault.Bad → (meters : List (Identity × MeterRow)) (rest : List ℕ) → many entry_at count bytes.now ≡ Some (meters, rest) → MetersAscend meters → ⊥ }
+    ensures bad { IsErrOf result DecodeFault.Bad
+        → (meters : List (Identity × MeterRow)) (rest : List ℕ)
+        → many entry_at count bytes.now ≡ Some (meters, rest) → MetersAscend meters → ⊥ }
 {
     let mut meters = MeterMap::new(alloc);
     let mut rest = bytes;
@@ -132,9 +146,12 @@ fn meters_at<A: Allocator + Copy>(
     alloc: A,
     bytes: &[u8],
 ) -> Result<(MeterMap<A>, &[u8]), DecodeFault>
-    ensures found { IfOk result (λ x. listed count_at entry_at bytes.now ≡ Some (x.0.entries, x.1.now)) }
+    ensures found { IfOk result (λ x.
+        listed count_at entry_at bytes.now ≡ Some (x.0.entries, x.1.now)) }
     ensures ascend { IfOk result (λ x. MetersAscend x.0.entries) }
-    ensures bad { IsErrOf result DecodeFault.Bad → (meters : List (Identity × MeterRow)) (rest : List ℕ) → listed count_at entry_at bytes.now ≡ Some (meters, rest) → MetersAscend meters → ⊥ }
+    ensures bad { IsErrOf result DecodeFault.Bad
+        → (meters : List (Identity × MeterRow)) (rest : List ℕ)
+        → listed count_at entry_at bytes.now ≡ Some (meters, rest) → MetersAscend meters → ⊥ }
 {
     let (count, rest) = count_at(bytes)?;
     each_meter(alloc, count, rest)
@@ -175,7 +192,9 @@ fn each_reading<A: Allocator + Copy>(
 ) -> Result<(ReadingList<A>, &[u8]), DecodeFault>
     ensures found { IfOk result (λ x. many reading_at count bytes.now ≡ Some (x.0.items, x.1.now)) }
     ensures ascend { IfOk result (λ x. ReadingsAscend confirmed next_serial x.0.items) }
-    ensures bad { IsErrOf result DecodeFault.Bad → (readings : List ReadingRow) (rest : List ℕ) → many reading_at count bytes.now ≡ Some (readings, rest) → ReadingsAscend confirmed next_serial readings → ⊥ }
+    ensures bad { IsErrOf result DecodeFault.Bad → (readings : List ReadingRow) (rest : List ℕ)
+        → many reading_at count bytes.now ≡ Some (readings, rest)
+        → ReadingsAscend confirmed next_serial readings → ⊥ }
 {
     let mut readings = ReadingList::new(alloc);
     let mut rest = bytes;
@@ -197,9 +216,12 @@ fn readings_at<A: Allocator + Copy>(
     next_serial: u64,
     bytes: &[u8],
 ) -> Result<(ReadingList<A>, &[u8]), DecodeFault>
-    ensures found { IfOk result (λ x. listed count_at reading_at bytes.now ≡ Some (x.0.items, x.1.now)) }
+    ensures found { IfOk result (λ x.
+        listed count_at reading_at bytes.now ≡ Some (x.0.items, x.1.now)) }
     ensures ascend { IfOk result (λ x. ReadingsAscend confirmed next_serial x.0.items) }
-    ensures bad { IsErrOf result DecodeFault.Bad → (readings : List ReadingRow) (rest : List ℕ) → listed count_at reading_at bytes.now ≡ Some (readings, rest) → ReadingsAscend confirmed next_serial readings → ⊥ }
+    ensures bad { IsErrOf result DecodeFault.Bad → (readings : List ReadingRow) (rest : List ℕ)
+        → listed count_at reading_at bytes.now ≡ Some (readings, rest)
+        → ReadingsAscend confirmed next_serial readings → ⊥ }
 {
     let (count, rest) = count_at(bytes)?;
     each_reading(alloc, count, confirmed, next_serial, rest)
@@ -208,8 +230,10 @@ fn readings_at<A: Allocator + Copy>(
 /// The size of the state that the bytes spell with this last line, if it is within the budget.
 fn spelled_size(bytes: &[u8], last_line: &[u8], budget: u32) -> Option<u32>
     requires { length last_line.now ≤ length bytes.now }
-    ensures found { IfSome result (λ size. (size + length last_line.now ≡ length bytes.now + longest_line) × (size ≤ budget)) }
-    ensures none { IfNone result (length bytes.now + longest_line ≤ budget + length last_line.now → ⊥) }
+    ensures found { IfSome result (λ size.
+        (size + length last_line.now ≡ length bytes.now + longest_line) × (size ≤ budget)) }
+    ensures none { IfNone result (length bytes.now + longest_line ≤ budget + length last_line.now
+        → ⊥) }
 {
     let size = bytes.len() - last_line.len() + LONGEST_LINE;
     if size <= budget as usize {
@@ -223,8 +247,10 @@ impl<A: Allocator + Copy> House<A> {
     /// The house that the bytes spell within a budget: what [`House::encode`] writes, and nothing else.
     pub fn decode(alloc: A, bytes: &[u8], budget: u32) -> Result<House<A>, DecodeFault>
         // What is read is spelled so, and no state within the budget that is spelled so is refused.
-        ensures found { IfOk result (λ h. SpellsState budget bytes.now h.state × (h.budget ≡ budget)) }
-        ensures bad { IsErrOf result DecodeFault.Bad → (s : State) → SpellsState budget bytes.now s → ⊥ }
+        ensures found { IfOk result (λ h.
+            SpellsState budget bytes.now h.state × (h.budget ≡ budget)) }
+        ensures bad { IsErrOf result DecodeFault.Bad → (s : State) → SpellsState budget bytes.now s
+            → ⊥ }
     {
         let (head, rest) = Head::read(bytes)?;
         let Some(size) = spelled_size(bytes, head.last_line, budget) else {

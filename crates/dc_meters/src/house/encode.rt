@@ -2,7 +2,8 @@
 
 ghost use Rattle.std.specs.Prelude.{◌≡◌, ◌*◌, ◌≤◌, ◌<◌, ◌^◌, length, OnOk, OnErr};
 ghost use Rattle.std.specs.List.{flat_map};
-ghost use Rattle.dc_changes.specs.Encoding.{state_bytes, head_bytes, meters_bytes, readings_bytes, meter_bytes, reading_bytes};
+ghost use Rattle.dc_changes.specs.Encoding.{state_bytes, head_bytes, meters_bytes, readings_bytes};
+ghost use Rattle.dc_changes.specs.Encoding.{meter_bytes, reading_bytes};
 ghost use Rattle.dc_changes.specs.Writing.{IsWritten, IsStopped};
 
 use super::House;
@@ -19,8 +20,10 @@ impl<A: Allocator + Copy> House<A> {
     /// Writes the state: numbers, the last line, the meters by identity, the readings by serial. A failed put ends
     /// it. No memory is taken.
     pub fn encode<S: Sink>(&self, sink: &mut S) -> Result<(), IoFault>
-        ensures ok { OnOk result (IsWritten S.written S.put_failures S.puts sink.old sink.new (state_bytes self.now.state)) }
-        ensures err { OnErr result (IsStopped S.written S.put_failures S.puts S.breaks sink.old sink.new (state_bytes self.now.state)) }
+        ensures ok { OnOk result (IsWritten S.written S.put_failures S.puts sink.old sink.new
+            (state_bytes self.now.state)) }
+        ensures err { OnErr result (IsStopped S.written S.put_failures S.puts S.breaks sink.old
+            sink.new (state_bytes self.now.state)) }
     {
         let _ = self.size(); // for what it says: more meters or readings than a size can count, there are not
         self.put_head(sink)?;
@@ -30,8 +33,10 @@ impl<A: Allocator + Copy> House<A> {
     }
 
     fn put_head<S: Sink>(&self, sink: &mut S) -> Result<(), IoFault>
-        ensures ok { OnOk result (IsWritten S.written S.put_failures S.puts sink.old sink.new (head_bytes self.now.state)) }
-        ensures err { OnErr result (IsStopped S.written S.put_failures S.puts S.breaks sink.old sink.new (head_bytes self.now.state)) }
+        ensures ok { OnOk result (IsWritten S.written S.put_failures S.puts sink.old sink.new
+            (head_bytes self.now.state)) }
+        ensures err { OnErr result (IsStopped S.written S.put_failures S.puts S.breaks sink.old
+            sink.new (head_bytes self.now.state)) }
     {
         put_long(sink, self.next_serial())?;
         put_long(sink, self.confirmed())?;
@@ -46,8 +51,10 @@ fn put_meters<S: Sink, A: Allocator>(
     meters: &BTreeMap<Identity, Meter<A>, A>,
 ) -> Result<(), IoFault>
     requires { length meters.now.entries < 2 ^ 32 }
-    ensures ok { OnOk result (IsWritten S.written S.put_failures S.puts sink.old sink.new (meters_bytes meters.now.entries)) }
-    ensures err { OnErr result (IsStopped S.written S.put_failures S.puts S.breaks sink.old sink.new (meters_bytes meters.now.entries)) }
+    ensures ok { OnOk result (IsWritten S.written S.put_failures S.puts sink.old sink.new
+        (meters_bytes meters.now.entries)) }
+    ensures err { OnErr result (IsStopped S.written S.put_failures S.puts S.breaks sink.old sink.new
+        (meters_bytes meters.now.entries)) }
 {
     put_count(sink, meters.len() as u32)?;
     put_each_meter(sink, meters)?;
@@ -58,8 +65,10 @@ fn put_each_meter<S: Sink, A: Allocator>(
     sink: &mut S,
     meters: &BTreeMap<Identity, Meter<A>, A>,
 ) -> Result<(), IoFault>
-    ensures ok { OnOk result (IsWritten S.written S.put_failures S.puts sink.old sink.new (flat_map meter_bytes meters.now.entries)) }
-    ensures err { OnErr result (IsStopped S.written S.put_failures S.puts S.breaks sink.old sink.new (flat_map meter_bytes meters.now.entries)) }
+    ensures ok { OnOk result (IsWritten S.written S.put_failures S.puts sink.old sink.new
+        (flat_map meter_bytes meters.now.entries)) }
+    ensures err { OnErr result (IsStopped S.written S.put_failures S.puts S.breaks sink.old sink.new
+        (flat_map meter_bytes meters.now.entries)) }
 {
     for (meter, row) in meters {
         put_meter(sink, meter, row)?;
@@ -72,8 +81,10 @@ fn put_meter<S: Sink, A: Allocator>(
     meter: &Identity,
     row: &Meter<A>,
 ) -> Result<(), IoFault>
-    ensures ok { OnOk result (IsWritten S.written S.put_failures S.puts sink.old sink.new (meter_bytes (meter.now, row.now))) }
-    ensures err { OnErr result (IsStopped S.written S.put_failures S.puts S.breaks sink.old sink.new (meter_bytes (meter.now, row.now))) }
+    ensures ok { OnOk result (IsWritten S.written S.put_failures S.puts sink.old sink.new
+        (meter_bytes (meter.now, row.now))) }
+    ensures err { OnErr result (IsStopped S.written S.put_failures S.puts S.breaks sink.old sink.new
+        (meter_bytes (meter.now, row.now))) }
 {
     put_identity(sink, meter)?;
     put_byte(sink, row.line())?;
@@ -88,8 +99,10 @@ fn put_readings<S: Sink, A: Allocator>(
     readings: &VecDeque<Reading<A>, A>,
 ) -> Result<(), IoFault>
     requires { length readings.now.items < 2 ^ 32 }
-    ensures ok { OnOk result (IsWritten S.written S.put_failures S.puts sink.old sink.new (readings_bytes readings.now.items)) }
-    ensures err { OnErr result (IsStopped S.written S.put_failures S.puts S.breaks sink.old sink.new (readings_bytes readings.now.items)) }
+    ensures ok { OnOk result (IsWritten S.written S.put_failures S.puts sink.old sink.new
+        (readings_bytes readings.now.items)) }
+    ensures err { OnErr result (IsStopped S.written S.put_failures S.puts S.breaks sink.old sink.new
+        (readings_bytes readings.now.items)) }
 {
     put_count(sink, readings.len() as u32)?;
     put_each_reading(sink, readings)?;
@@ -100,8 +113,10 @@ fn put_each_reading<S: Sink, A: Allocator>(
     sink: &mut S,
     readings: &VecDeque<Reading<A>, A>,
 ) -> Result<(), IoFault>
-    ensures ok { OnOk result (IsWritten S.written S.put_failures S.puts sink.old sink.new (flat_map reading_bytes readings.now.items)) }
-    ensures err { OnErr result (IsStopped S.written S.put_failures S.puts S.breaks sink.old sink.new (flat_map reading_bytes readings.now.items)) }
+    ensures ok { OnOk result (IsWritten S.written S.put_failures S.puts sink.old sink.new
+        (flat_map reading_bytes readings.now.items)) }
+    ensures err { OnErr result (IsStopped S.written S.put_failures S.puts S.breaks sink.old sink.new
+        (flat_map reading_bytes readings.now.items)) }
 {
     for reading in readings {
         put_reading(sink, reading)?;
@@ -110,8 +125,10 @@ fn put_each_reading<S: Sink, A: Allocator>(
 }
 
 fn put_reading<S: Sink, A: Allocator>(sink: &mut S, reading: &Reading<A>) -> Result<(), IoFault>
-    ensures ok { OnOk result (IsWritten S.written S.put_failures S.puts sink.old sink.new (reading_bytes reading.now)) }
-    ensures err { OnErr result (IsStopped S.written S.put_failures S.puts S.breaks sink.old sink.new (reading_bytes reading.now)) }
+    ensures ok { OnOk result (IsWritten S.written S.put_failures S.puts sink.old sink.new
+        (reading_bytes reading.now)) }
+    ensures err { OnErr result (IsStopped S.written S.put_failures S.puts S.breaks sink.old sink.new
+        (reading_bytes reading.now)) }
 {
     put_long(sink, reading.serial())?;
     put_identity(sink, &reading.meter())?;

@@ -18,10 +18,16 @@ impl<A: Allocator + Copy> House<A> {
     /// accepted change, and `NoMemory` at a change that is accepted and finds no memory. All changes before that one
     /// stay applied.
     pub fn replay(&mut self, bytes: &[u8]) -> Result<(), DecodeFault>
-        ensures ok { OnOk result ((changes : List Change) × SpellsChanges bytes.now changes × AcceptsAll self.old.budget self.old.state changes × (self.new.state ≡ after self.old.state changes)) }
-        ensures bad { IsErrOf result DecodeFault.Bad → (changes : List Change) → SpellsChanges bytes.now changes → AcceptsAll self.old.budget self.old.state changes → ⊥ }
-        ensures no_memory { IsErrOf result DecodeFault.NoMemory → IsHeldUp self.old self.new bytes.now }
-        ensures left { IsErrOf result DecodeFault.Bad → (rest : List ℕ) × IsApplied self.old self.new bytes.now rest × BeginsUnaccepted self.new rest }
+        ensures ok { OnOk result ((changes : List Change) × SpellsChanges bytes.now changes
+            × AcceptsAll self.old.budget self.old.state changes
+            × (self.new.state ≡ after self.old.state changes)) }
+        ensures bad { IsErrOf result DecodeFault.Bad → (changes : List Change)
+            → SpellsChanges bytes.now changes → AcceptsAll self.old.budget self.old.state changes
+            → ⊥ }
+        ensures no_memory { IsErrOf result DecodeFault.NoMemory
+            → IsHeldUp self.old self.new bytes.now }
+        ensures left { IsErrOf result DecodeFault.Bad → (rest : List ℕ)
+            × IsApplied self.old self.new bytes.now rest × BeginsUnaccepted self.new rest }
         ensures budget { self.new.budget ≡ self.old.budget }
     {
         let mut rest = bytes;
@@ -37,9 +43,12 @@ impl<A: Allocator + Copy> House<A> {
     fn accept(&mut self, change: &Change<'_>) -> Result<(), DecodeFault>
         requires { IsChange change.now }
         ensures accepted { OnOk result (Accepts self.old.budget change.now self.old.state) }
-        ensures ok { OnOk result (self.new ≡ record self.old { state = applied change.now self.old.state }) }
-        ensures bad { IsErrOf result DecodeFault.Bad → Accepts self.old.budget change.now self.old.state → ⊥ }
-        ensures no_memory { IsErrOf result DecodeFault.NoMemory → Accepts self.old.budget change.now self.old.state }
+        ensures ok { OnOk result (self.new
+            ≡ record self.old { state = applied change.now self.old.state }) }
+        ensures bad { IsErrOf result DecodeFault.Bad
+            → Accepts self.old.budget change.now self.old.state → ⊥ }
+        ensures no_memory { IsErrOf result DecodeFault.NoMemory
+            → Accepts self.old.budget change.now self.old.state }
         ensures err { OnErr result (self.new ≡ self.old) }
     {
         if !self.is_next(change) || self.check(change).is_err() {
