@@ -21,7 +21,7 @@ use Rattle.dc_changes.specs.Reading.{byte_at, telegram_of, telegram_change_at, f
 use Rattle.dc_changes.proofs.Exact.{IsBytes, Taken, rest_are, Exact, Exact-both, Exact-chosen, bind_some, some_is, one_front, one_list}
 use Rattle.dc_changes.proofs.PieceSpellings.{Exact-byte, Exact-moment, Exact-serial, Exact-number, Exact-line, Exact-flat, Exact-identity, Exact-address, Exact-body}
 
--- ---- a tag, and what is behind it
+-- ---- a tag, and what is after it
 
 abbrev pub tag_of : Change → ℕ
 tag_of (Telegram part moment body) = 1

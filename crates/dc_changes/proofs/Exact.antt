@@ -188,7 +188,7 @@ module _ {X : Type 0} {Is : X → Type 0} {f : X → List ℕ} {at : Reader X} w
       let first = one_front a x y (flat_map f xs) (flat_map f ys) (All-head Is x xs all_x) (All-head Is y ys all_y) grouped in
       ap (λ (z : X). z ∷ xs) first.0 ∙ ap (λ (zs : List X). y ∷ zs) (one_list a some xs ys (All-tail Is x xs all_x) (All-tail Is y ys all_y) first.1)
 
--- ---- so many bytes
+-- ---- this many bytes
 
 abbrev cut : Bool → List ℕ → List ℕ → Option (List ℕ × List ℕ)
 cut short text rest = cond short None (Some (text, rest))

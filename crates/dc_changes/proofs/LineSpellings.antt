@@ -72,7 +72,7 @@ word_ends_at_space (byte ∷ word) rest is =
     ap (λ (test : Bool). cond test (1 + prefix_len is_inside (word ++ 32 ∷ rest)) 0) parts.0
     ∙ omega (arith, word_ends_at_space word rest parts.1)
 
--- a word with a space behind it ends at the text's first space
+-- a word with a space after it ends at the text's first space
 pub first_space_ends : (text word rest : List ℕ) → IsWord word → text ≡ word ++ 32 ∷ rest → position is_space text ≡ Some (length word)
 first_space_ends text word rest is whole =
     let ends : prefix_len is_inside (word ++ 32 ∷ rest) ≡ length word = word_ends_at_space word rest is in
@@ -80,7 +80,7 @@ first_space_ends text word rest is whole =
     subst (λ t. position is_space t ≡ Some (length word)) (sym whole)
     (ap (λ (test : Bool). cond test (Some (prefix_len is_inside (word ++ 32 ∷ rest))) None) (lt-ltb _ _ below) ∙ ap Some ends)
 
--- what stands in front of the first space, and behind it
+-- what stands in front of the first space, and after it
 pub record PartsAt (space : ℕ) (text : List ℕ) : Type 0 where
   pub is_word : IsWord (take space text)
   pub whole : text ≡ take space text ++ 32 ∷ drop 1 (drop space text)
@@ -267,7 +267,7 @@ one_command (Swap old new address) (Swap old_2 new_2 address_2) is =
     let addresses = one_address address address_2 is.command_is is.other_is second.1 in
     cc
 
--- the word after the number, and what stands behind it
+-- the word after the number, and what follows it
 text_is : (command : Command) → command_text command ≡ verb_of command ++ 32 ∷ arguments_of command
 text_is (Fit meter line address flat) = refl
 text_is (Move meter flat) = refl

@@ -22,7 +22,7 @@ IsKept-padded room bytes fits = record {
 pub IsFlat-padded : (bytes : List ℕ) → IsFlat bytes → IsFlat (take (length bytes) (padded 12 bytes))
 IsFlat-padded bytes is = subst IsFlat (sym (take-padded 12 bytes)) is
 
--- bytes written behind a text, over its zeros
+-- bytes written after a text, over its zeros
 written : (room : ℕ) (text word : List ℕ) → length text + length word ≤ room → put_mid (length text) (length word) (padded room text) word ≡ padded room (text ++ word)
 written room text word fits =
     let rest : drop (length word) (drop (length text) (padded room text)) ≡ replicate ((room - length text) - length word) 0 =

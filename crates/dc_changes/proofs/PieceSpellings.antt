@@ -36,7 +36,7 @@ Exact-byte = record { takes = λ bytes x rest are e. byte_takes bytes x rest are
 abbrev numbers_at : ℕ → Reader ℕ
 numbers_at n bytes = split_at n bytes >>= λ x. Some (little_number n x.0, x.1)
 
--- numbers of so many bytes, where these are the bytes of their number
+-- numbers of this many bytes, where these are the bytes of their number
 Exact-numbers : (n : ℕ) → ((text : List ℕ) → length text ≡ n → IsBytes text → little_bytes n (little_number n text) ≡ text) → Exact (λ (x : ℕ). x < 256 ^ n) (little_bytes n) (numbers_at n)
 Exact-numbers n back = record {
   takes = λ bytes x rest are e.

@@ -24,7 +24,7 @@ part_is_word part fits = decimal_is_word part (omega arith)
 pub moment_is_word : (moment : ℕ) → moment ≤ last_moment → IsWord (decimal moment)
 moment_is_word moment fits = decimal_is_word moment (omega arith)
 
--- what stands behind the first word and its space
+-- what follows the first word and its space
 abbrev pub words_of_telegram : ℕ → ℕ → List ℕ → List ℕ
 words_of_telegram part moment digits = join_with_byte 32 (decimal part ∷ decimal moment ∷ digits ∷ [])
 
@@ -55,7 +55,7 @@ apart line part moment bytes number command fits told is =
     let digits = decimal_is_IsNumeral number (omega arith) in
     omega (arith, digit_at (decimal number) 0 digits.0.1 digits.0.0)
 
--- what stands behind the first word of a line that tells a telegram
+-- what follows the first word of a line that tells a telegram
 pub words_are : (words : List ℕ) (part moment : ℕ) (bytes : List ℕ) (told : SpellsTelegram (codes "TELEGRAM" ++ 32 ∷ words) part moment bytes) → words ≡ words_of_telegram part moment told.digits
 words_are words part moment bytes told = (one_word (codes "TELEGRAM") (codes "TELEGRAM") words (words_of_telegram part moment told.digits) refl refl told.line_is).1
 

@@ -18,7 +18,7 @@ body_of telegram = record {
   more = continues telegram.ending;
 }
 
--- what fits a frame behind its control bytes
+-- what fits a frame after its control bytes
 abbrev pub longest_body : ℕ
 longest_body = 252
 

@@ -1,5 +1,5 @@
 -- How changes and states are spelled (this product): numbers low byte first, identities as they are sent, texts and
--- bodies behind a length byte.
+-- bodies after a length byte.
 use Rattle.std.specs.Prelude.{ℕ, Option, None, Some, List, [], ◌∷◌, ◌++◌, length}
 use Rattle.std.specs.List.{flat_map}
 use Rattle.byteorder.specs.Endian.{little_bytes}
@@ -25,7 +25,7 @@ count_bytes number = little_bytes 4 number
 unfoldable pub byte : ℕ → List ℕ
 byte value = value ∷ []
 
--- a length byte, and so many bytes
+-- a length byte, then that many bytes
 unfoldable pub counted : List ℕ → List ℕ
 counted bytes = byte (length bytes) ++ bytes
 

@@ -18,7 +18,7 @@ pub record IsFlat (name : List ℕ) : Type 0 where
   pub fits : length name ≤ longest_flat
   pub bytes_are : IsTrue (list_all is_flat_byte name)
 
--- ---- how they lie in memory: the bytes that count, and zeros behind them
+-- ---- how they lie in memory: the bytes that count, and zeros after them
 
 abbrev pub padded : ℕ → List ℕ → List ℕ
 padded room bytes = bytes ++ replicate (room - length bytes) 0

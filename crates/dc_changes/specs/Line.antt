@@ -46,7 +46,7 @@ words_of number command = decimal number ∷ command_words command
 unfoldable pub line_of : ℕ → Command → List ℕ
 line_of number command = join_with_byte 32 (words_of number command)
 
--- what stands behind the number and its space, and behind the next word and its space
+-- what follows the number and its space, and after the next word and its space
 abbrev pub command_text : Command → List ℕ
 command_text command = join_with_byte 32 (command_words command)
 

@@ -57,12 +57,12 @@ chosen meaning at bytes = at bytes >>= λ x. meaning x.0 >>= λ y. Some (y, x.1)
 abbrev pub only : {X : Type 0} → (X → Bool) → X → Option X
 only test x = if test x then Some x else None
 
--- so many
+-- this many
 abbrev pub many : {X : Type 0} → Reader X → ℕ → Reader (List X)
 many at zero bytes = Some ([], bytes)
 many at (suc n) bytes = at bytes >>= λ x. many at n x.1 >>= λ xs. Some (x.0 ∷ xs.0, xs.1)
 
--- as many as are announced
+-- the announced number of them
 abbrev pub listed : {X : Type 0} → Reader ℕ → Reader X → Reader (List X)
 listed count at bytes = count bytes >>= λ n. many at n.0 n.1
 
@@ -147,7 +147,7 @@ parts_at bytes = listed byte_at part_at bytes
 abbrev pub telegram_of : ℕ × (ℕ × BodyRow) → Change
 telegram_of x = Telegram x.0 x.1.0 x.1.1
 
--- behind the tag
+-- after the tag
 unfoldable pub telegram_change_at : Reader Change
 telegram_change_at bytes = chosen (λ (x : ℕ × (ℕ × BodyRow)). Some (telegram_of x))
     (both byte_at (both moment_at body_at)) bytes

@@ -12,7 +12,7 @@ module _ {S : Type 0} (written : S → Option (List ℕ)) (failures : S → ℕ)
     pub well : failures new ≡ failures old
     pub chain : IsChain puts old new bytes
 
-  -- a front of the bytes went in, and the put of the next piece failed
+  -- a prefix of the bytes went in, and the put of the next piece failed
   pub record IsStopped (breaks : S → List ℕ → S → Type 0) (old new : S)
       (bytes : List ℕ) : Type 0 where
     pub went : PutsFront (written old) (written new) bytes

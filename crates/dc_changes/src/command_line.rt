@@ -65,7 +65,7 @@ impl CommandLine {
         &self.bytes[..usize::from(self.len)]
     }
 
-    /// The bytes come behind the line.
+    /// The bytes come after the line.
     fn push(&mut self, bytes: &[u8])
         requires { length self.old + length bytes.now ≤ longest_line }
         ensures line { self.new ≡ self.old ++ bytes.now }
@@ -77,7 +77,7 @@ impl CommandLine {
         self.len = end as u8;
     }
 
-    /// A space and a word come behind the line.
+    /// A space and a word come after the line.
     pub(crate) fn push_word(&mut self, word: &[u8])
         requires { length self.old + 1 + length word.now ≤ longest_line }
         ensures line { self.new ≡ self.old ++ 32 ∷ word.now }
@@ -98,7 +98,7 @@ impl CommandLine {
         line
     }
 
-    /// A space and a number come behind the line.
+    /// A space and a number come after the line.
     pub(crate) fn push_number(&mut self, number: u64)
         requires number { number < end_of_numbers }
         requires room { length self.old + 1 + most_digits ≤ longest_line }

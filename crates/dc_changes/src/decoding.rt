@@ -14,7 +14,7 @@ use crate::pieces::{
 use crate::{Change, Command, DecodeFault};
 use std::alloc::Allocator;
 
-/// A telegram, behind its tag.
+/// A telegram, after its tag.
 #[tactic(auto, unfolding(crate::specs::Reading::telegram_change_at))]
 fn telegram_at(bytes: &[u8]) -> Result<(Change<'_>, &[u8]), DecodeFault>
     ensures { Reads (λ x. (x.0, x.1.now)) result (telegram_change_at bytes.now) }

@@ -3,7 +3,7 @@
 ghost use Rattle.std.specs.Prelude.{◌≡◌, ◌≤◌, length};
 ghost use Rattle.dc_changes.specs.Flat.{padded};
 
-/// The bytes, and zeros behind them.
+/// The bytes, and zeros after them.
 #[tactic(auto, using(crate::proofs::Padding::padded_copied))]
 pub fn padded<const N: usize>(bytes: &[u8]) -> [u8; N]
     requires { length bytes.now ≤ N }

@@ -49,7 +49,7 @@ pub fn length_of_spelling()
 {}
 
 /// No two states are spelled alike, and no two lists of changes; no spelling of a change begins another. No changes
-/// are spelled in no bytes, and one change more in its own bytes behind the others'.
+/// are spelled in no bytes, and one change more in its own bytes after the others'.
 #[tactic(auto, using(crate::proofs::StateSpellings::spelled_once, crate::proofs::ChangeSpellings::changes_spelled_once, crate::proofs::ChangeSpellings::one_change))]
 pub fn one_spelling()
     ensures states { (budget other : ℕ) (bytes : List ℕ) (s t : State) → budget < 2 ^ 32

@@ -15,5 +15,5 @@ pub const LONGEST_CHANGE_LINE: usize = 4096;
 /// The bytes of the longest name of a flat.
 pub const LONGEST_FLAT: usize = 12;
 
-/// The bytes of the longest body that fits a frame behind its control bytes.
+/// The bytes of the longest body that fits a frame after its control bytes.
 pub const LONGEST_BODY: usize = 252;

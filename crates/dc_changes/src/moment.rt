@@ -17,7 +17,7 @@ impl Moment {
     ghost use Rattle.std.specs.Prelude.{◌≡◌, ◌<◌, ◌≤◌, MatchOption};
     ghost use Rattle.dc_changes.specs.Valid.{last_moment};
 
-    /// The moment at so many seconds since 1970, if it is one.
+    /// The moment at this many seconds since 1970, if it is one.
     pub fn from_seconds(seconds: u64) -> Option<Moment>
         ensures { MatchOption result (last_moment < seconds)
             (λ moment. (seconds ≤ last_moment) × (moment.seconds ≡ seconds)) }

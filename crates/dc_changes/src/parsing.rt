@@ -136,7 +136,7 @@ fn parse_swap(arguments: &[u8]) -> Option<Command>
     Some(Command::Swap { old, new, address })
 }
 
-// ---- words, and a first word with what stands behind its space
+// ---- words, and a first word with what follows its space
 
 fn parse_meter(word: &[u8]) -> Option<Identity>
     ensures found { IfSome result (λ meter. IsOfBytes meter × (word.now ≡ text_of meter)) }

@@ -46,7 +46,7 @@ pub fn count_at(bytes: &[u8]) -> Result<(u32, &[u8]), DecodeFault>
     Ok((LittleEndian::read_u32(front), rest))
 }
 
-/// A length byte, and so many bytes.
+/// A length byte, and this many bytes.
 #[tactic(auto, unfolding(crate::specs::Reading::counted_at))]
 pub fn counted_at(bytes: &[u8]) -> Result<(&[u8], &[u8]), DecodeFault>
     ensures { Reads (λ x. (x.0.now, x.1.now)) result (counted_at bytes.now) }
@@ -152,7 +152,7 @@ pub fn flat_of(name: &[u8]) -> Result<Flat, DecodeFault>
     Ok(flat)
 }
 
-/// A telegram's body behind its length.
+/// A telegram's body after its length.
 #[tactic(auto, unfolding(crate::specs::Reading::body_at), using(crate::proofs::PieceSpellings::body_again, crate::proofs::PieceSpellings::body_none))]
 pub fn body_at(bytes: &[u8]) -> Result<(Body<'_>, &[u8]), DecodeFault>
     ensures read { Reads (λ x. (x.0, x.1.now)) result (body_at bytes.now) }

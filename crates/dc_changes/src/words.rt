@@ -16,7 +16,7 @@ fn first_space(text: &[u8]) -> Option<usize>
     text.iter().position(|byte| *byte == b' ')
 }
 
-/// The text up to its first space, and what stands behind that space; none where the text has no space.
+/// The text up to its first space, and what follows that space; none where the text has no space.
 pub fn split_word(text: &[u8]) -> Option<(&[u8], &[u8])>
     ensures found { IfSome result (λ parts.
         IsWord parts.0.now × (text.now ≡ parts.0.now ++ 32 ∷ parts.1.now)) }

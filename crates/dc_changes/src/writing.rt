@@ -72,7 +72,7 @@ pub fn put_identity<S: Sink>(sink: &mut S, identity: &Identity) -> Result<(), Io
     Ok(())
 }
 
-/// A length byte, and so many bytes.
+/// A length byte, and this many bytes.
 pub fn put_counted<S: Sink>(sink: &mut S, bytes: &[u8]) -> Result<(), IoFault>
     requires { length bytes.now ≤ 255 }
     ensures ok { OnOk result (IsWritten S.written S.put_failures S.puts sink.old sink.new

@@ -209,7 +209,7 @@ module _ {D : Type 0} (known : Type 0) (sectors failures : D → ℕ) (reads : D
             (λ image left. longer_front (half_len_of (sectors machine.store.disk)) core.committed core.pending [] image (at.leaves h image (only h image left)));
       }
 
-  -- what waits isn't committed
+  -- the pending changes aren't committed
   pub turned_unstored : (machine new : Machine D) (core : Core) (text : List ℕ) (line : OfficeLine) (fault : CommitFault) (wrote : List ℕ → Type 0) → Spells text line
       → IsUnstored core fault → IsAt known sectors reads choices new (after_commit core (Err fault)) → IsShown failures machine new (Some fault)
       → (known → LeavesOnly moment images_since machine.store.disk new.store.disk (StandsForFront (half_len_of (sectors machine.store.disk)) core.committed core.pending))
@@ -291,7 +291,7 @@ module _ {D : Type 0} (known : Type 0) (sectors failures : D → ℕ) (reads : D
             (left h) (answered.leaves h) (longer_front H core.committed core.pending more) behind;
       }
 
-  -- the same text, as another result tells of it
+  -- the same text, as another result states it
   pub turned_by : (machine new : Machine D) (core : Core) (event : Event) (wrote other : List ℕ → Type 0) → ((text : List ℕ) → wrote text → other text)
       → Turned known sectors failures reads choices moment images_since machine.house.budget core event wrote machine new
       → Turned known sectors failures reads choices moment images_since machine.house.budget core event other machine new

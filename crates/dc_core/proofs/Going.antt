@@ -107,7 +107,7 @@ grown half_len state promised changes more image stands =
 pub fewer : (half_len : ℕ) (state : State) (few promised : ℕ) (changes : List Change) (image : Image) → few ≤ promised → StandsForPromised half_len state promised changes image → StandsForPromised half_len state few changes image
 fewer half_len state few promised changes image less stands = let all = stands.all_promised in record { front = stands.front; all_promised = omega (arith, less, all) }
 
--- What is committed and a front of what is pending, and of what comes then, is the first state and a front of all that was accepted, with all that is promised.
+-- What is committed and a prefix of what is pending, and of what comes then, is the first state and a prefix of all that was accepted, with all that is promised.
 pub from_first : (half_len : ℕ) (state : State) (turns : List Turn) (core : Core) (more : List Change) (image : Image) → HoldsFront state turns core → StandsForFront half_len core.committed (core.pending ++ more) image
     → StandsForPromised half_len state (promised_in turns) (accepted_in (opened state) turns ++ more) image
 from_first half_len state turns core more image holds stands =

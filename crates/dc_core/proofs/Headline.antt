@@ -134,7 +134,7 @@ promised_by budget state before (offices text) (replied (shown bytes)) behind wh
 promised_by budget state before commits (committed (Ok count)) behind whole here promise = promises_behind budget state before commits (committed (Ok count)) behind (λ seen. refl) whole here
 promised_by budget state before event answer behind whole here promise = absurd promise
 
--- ---- what the office is told
+-- ---- what was answered to the office
 
 told_all : (budget : ℕ) (state : State) (before : List Turn) (text : List ℕ) (reply : Reply)
     → ((seen : Seen) → (and_seen (offices text) (replied reply) seen).promised ≡ (and_seen (offices text) (replied reply) seen).accepted)
@@ -166,7 +166,7 @@ told_turn budget state before event answer chain = tt
 
 -- ---- a front with all that is promised by number is kept
 
--- a front of a list has each shorter one
+-- a prefix of a list has each shorter one
 longer_prefix : (xs ys : List Change) (count : ℕ) → length xs ≤ count → IsPrefix xs (take count (xs ++ ys))
 longer_prefix xs ys count within =
     let rest = count - length xs in

@@ -20,7 +20,7 @@ pub mod Going
 pub mod Answering
 -- one life after another (the law of specs/Lives)
 pub mod Following
--- what the office was told is kept (the law of specs/Told)
+-- what was answered to the office is kept (the law of specs/Told)
 pub mod Told
 -- how long a request is
 pub mod Requests

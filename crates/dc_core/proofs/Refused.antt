@@ -21,7 +21,7 @@ pub answer_is : (budget : ℕ) (core : Core) (line moment : ℕ) (bytes : List �
     → hear_answer budget core line moment bytes ≡ unless_refused (refuses budget (length core.pending) (change_of moment part t) (present core)) (Accepted part (continues t.ending))
 answer_is budget core line moment bytes s part t is running who asks verdict = rw (is, running, who, asks, verdict) refl
 
--- a refusal, as the line is told
+-- a refusal, as the line is answered
 abbrev told : Result (Unit {0}) TakeFault → Result LineHeard HearFault
 told (Ok done) = Err NoMemory
 told (Err fault) = Err (hear_fault fault)

@@ -1,4 +1,4 @@
--- What the office was told is kept (the law of specs/Told).
+-- What was answered to the office is kept (the law of specs/Told).
 use Rattle.std.proofs.Common.{◌≡◌, ◌≤◌, ◌+◌, ◌-◌, ℕ, List, [], ◌∷◌, ◌++◌, length, take, refl, ap, sym, subst, ◌∙◌, arith, append_assoc, length-append}
 use Rattle.std.proofs.lemmas.List.{append-nil, take_all}
 use Rattle.std.proofs.Math.Seq.{take-append-add}
@@ -38,7 +38,7 @@ promised_more budget state front (t ∷ back) chain =
     let whole = subst (λ (ts : List Turn). promised_in (front ++ t ∷ []) ≤ promised_in ts) e rest in
     omega (arith, one, whole)
 
--- ---- what is told, is told of what is committed then
+-- ---- what is answered is answered from what is committed then
 
 pub tells_now : (budget : ℕ) (core : Core) (text : List ℕ) (reply : Reply) → MayReply budget core text reply → Tells text reply (after_reply core reply).committed
 tells_now budget core text unread may = tt

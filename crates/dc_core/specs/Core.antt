@@ -13,7 +13,7 @@ pub record Core : Type 0 where
   pub lines : List (Option Summary)
   pub stopped : Bool
 
--- the register with what waits, on which everything is judged
+-- the register with the pending changes, on which everything is judged
 abbrev pub present : Core → State
 present core = after core.committed core.pending
 

@@ -31,7 +31,7 @@ abbrev pub Does : {D : Type 0} → Ghosts D → D → ℕ → Core → List Turn
 Does g origin = DidAll (g.keeps origin) g.sectors g.failures g.reads g.choices g.moment
     g.images_since
 
--- The power went between these two states of a disk, before or within a call or behind it. This disk has what was
+-- The power went between these two states of a disk, before or within a call or after it. This disk has what was
 -- left, and nothing else.
 pub record WasLeft {D : Type 0} (g : Ghosts D) (from to disk : D) : Type 0 where
   pub image : g.images_since to (g.moment from) (g.reads disk)
@@ -46,7 +46,7 @@ IsOpening g from to =
 
 -- STOPPED before or within any disk call of any run of line answers, office lines and commits: a concentrator was
 -- opened with the state from a disk whose answers until then kept the disk model, and has done the turns `done`; at
--- some moment of the turns `more` behind them the power went. It may have gone again, any number of times, while what
+-- some moment of the turns `more` after them the power went. It may have gone again, any number of times, while what
 -- was left was opened.
 pub data WasStopped {D : Type 0} (g : Ghosts D) (state : State) (done more : List Turn) : D
     → Type 0 where

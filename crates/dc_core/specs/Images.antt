@@ -12,7 +12,7 @@ use Rattle.dc_recovery.specs.Store.{Kept, Keeps}
 use Rattle.dc_waiting.specs.Waiting.{Waiting}
 use Rattle.dc_core.specs.Core.{Core, present}
 
--- The image stands for the state after a front of the changes that leaves out none of the first so many, which are
+-- The image stands for the state after a prefix of the changes that leaves out none of the first ones, which are
 -- promised.
 pub record StandsForPromised (half_len : ℕ) (state : State) (promised : ℕ) (changes : List Change)
     (image : Image) : Type 0 where
@@ -30,9 +30,9 @@ pub record Machine (D : Type 0) : Type 0 where
 abbrev pub IsWithin : {D : Type 0} → ℕ → Machine D → Type 0
 IsWithin sectors machine = machine.house.budget ≡ budget_of (half_len_of sectors)
 
--- THE CONCENTRATOR IS IN THIS STATE. In memory: its register is what is present, what waits spells what is pending
--- and is accepted behind what is committed, and its lines are those. Where what the disk held is known: each image
--- that a stop may leave stands for what is committed and a front of what is pending, and where the store isn't
+-- THE CONCENTRATOR IS IN THIS STATE. In memory: its register is what is present, the waiting bytes spell what is
+-- pending and is accepted after what is committed, and its lines are those. Where what the disk held is known: each
+-- image that a stop may leave stands for what is committed and a prefix of what is pending, and where the store isn't
 -- stopped, for what is committed.
 pub record IsAt {D : Type 0} (known : Type 0) (sectors : D → ℕ) (reads : D → Image)
     (choices : D → Choices) (machine : Machine D) (core : Core) : Type 0 where

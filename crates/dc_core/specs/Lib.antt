@@ -21,7 +21,7 @@ pub mod Known
 pub mod Toggled
 -- one life after another: what a life leaves may be opened, and is then what it stood for
 pub mod Lives
--- what the office was told is kept by every state that may be found later
+-- what was answered to the office is kept by every state that may be found later
 pub mod Told
 -- the line of text of each answer
 pub mod Text

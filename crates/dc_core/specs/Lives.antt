@@ -8,7 +8,7 @@ use Rattle.dc_recovery.specs.Halves.{half_len_of}
 use Rattle.dc_recovery.specs.Stands.{Reads, EachStands}
 use Rattle.dc_core.specs.Images.{StandsForPromised}
 
--- the state is that after a front of the changes which has all that is promised
+-- the state is that after a prefix of the changes which has all that is promised
 pub record IsFront (state : State) (promised : ℕ) (changes : List Change)
     (found : State) : Type 0 where
   pub count : ℕ

@@ -64,11 +64,11 @@ abbrev pub seen_from : Seen → List Turn → Seen
 seen_from seen [] = seen
 seen_from seen (turn ∷ turns) = seen_from (and_seen turn.0 turn.1 seen) turns
 
--- so many of the first accepted changes are promised
+-- the number of the first accepted changes that are promised
 abbrev pub promised_in : List Turn → ℕ
 promised_in turns = (seen_from nothing_seen turns).promised
 
--- Of the changes that were accepted, what is committed is the state after a front that has all that is promised, and
+-- Of the changes that were accepted, what is committed is the state after a prefix that has all that is promised, and
 -- the rest is pending.
 pub record HoldsFront (state : State) (turns : List Turn) (core : Core) : Type 0 where
   pub count : ℕ

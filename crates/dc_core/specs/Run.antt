@@ -30,7 +30,7 @@ event_of (Hear line moment answer) = hears line moment.seconds answer.now
 event_of Commit = commits
 event_of (Office text) = offices text.now
 
--- the fault of a commit that an answer tells of
+-- the fault of a commit that an answer names
 abbrev pub fault_in : Answer → Option CommitFault
 fault_in (committed (Err fault)) = Some fault
 fault_in (replied (unstored fault)) = Some fault
@@ -62,7 +62,8 @@ pub record Answered {D : Type 0} (known : Type 0) (sectors failures : D → ℕ)
       (StandsForFront (half_len_of (sectors old.store.disk)) core.committed (taken_with reply))
 
 -- ONE EVENT in a state: an answer that it may have, its text is what was written, and the concentrator is in the next
--- state. A stop at any moment of it leaves what is committed and a front of what waits and of what it accepted.
+-- state. A stop at any moment of it leaves what is committed and a prefix of the pending changes and of what it
+-- accepted.
 pub record Turned {D : Type 0} (known : Type 0) (sectors failures : D → ℕ) (reads : D → Image)
     (choices : D → Choices) (moment : D → ℕ) (images_since : D → ℕ → Image → Type 0) (budget : ℕ)
     (core : Core) (event : Event) (wrote : List ℕ → Type 0) (old new : Machine D) : Type 0 where
@@ -76,7 +77,7 @@ pub record Turned {D : Type 0} (known : Type 0) (sectors failures : D → ℕ) (
       (core.pending ++ accepted_by core event answer))
 
 -- ONE TURN, machine to machine: the event may have this answer, and the concentrator is in the next state. A stop at
--- any moment of it leaves what is committed and a front of what waits and of what it accepted.
+-- any moment of it leaves what is committed and a prefix of the pending changes and of what it accepted.
 pub record Did {D : Type 0} (known : Type 0) (sectors failures : D → ℕ) (reads : D → Image)
     (choices : D → Choices) (moment : D → ℕ) (images_since : D → ℕ → Image → Type 0) (budget : ℕ)
     (core : Core) (turn : Turn) (old new : Machine D) : Type 0 where
@@ -100,11 +101,11 @@ DidAll {D} known sectors failures reads choices moment images_since budget core
     turn old mid × DidAll known sectors failures reads choices moment images_since budget
     (next core turn.0 turn.1) turns mid new
 
--- A RUN of these events, behind the turns that were before, in a life that began with the state: the turns make a
+-- A RUN of these events, after the turns that were before, in a life that began with the state: the turns make a
 -- chain of steps, machine to machine, their text is what was written, and the concentrator is where the chain ends.
 -- There what is promised is committed, and the register knows what comes. A stop at any moment of the run leaves an
--- image that stands for the state after a front of what was accepted, with all that was promised before the run; a
--- stop behind it, with all that is promised then.
+-- image that stands for the state after a prefix of what was accepted, with all that was promised before the run; a
+-- stop after it, with all that is promised then.
 pub record Ran {D : Type 0} (known : Type 0) (sectors failures : D → ℕ) (reads : D → Image)
     (choices : D → Choices) (moment : D → ℕ) (images_since : D → ℕ → Image → Type 0) (budget : ℕ)
     (state : State) (before : List Turn) (events : List Event) (wrote : List ℕ → Type 0)

@@ -115,7 +115,7 @@ session_after s ready = Some (heard_by s ready)
 session_after s (new part telegram) = Some (heard_by s (new part telegram))
 session_after s (failed why) = None
 
--- a telegram adds its change to what waits
+-- a telegram adds its change to the pending changes
 abbrev pub and_pending : ℕ → List Change → Verdict → List Change
 and_pending moment pending again = pending
 and_pending moment pending ready = pending
@@ -141,11 +141,11 @@ after_hear core line moment bytes (Err fault) = core
 abbrev pub IsAccepted : Result LineHeard HearFault → Type 0
 IsAccepted answer = (part : ℕ) × (more : Bool) × (answer ≡ Ok (Accepted part more))
 
--- want of memory stands in place of an accepted telegram alone
+-- out of memory stands in place of an accepted telegram alone
 abbrev pub MayHear : Result LineHeard HearFault → Result LineHeard HearFault → Type 0
 MayHear right answer = (answer ≡ right) ⊎ ((answer ≡ Err NoMemory) × IsAccepted right)
 
--- ---- what waits is committed
+-- ---- the pending changes are committed
 
 -- All that waits is committed, and each line settles its telegram; where nothing waits, nothing changes.
 abbrev pub settled_core : Core → List Change → Core
@@ -216,7 +216,7 @@ pub record Spells (text : List ℕ) (line : OfficeLine) : Type 0 where
   pub is_line : IsOfficeLine line
   pub text_is : text ≡ office_text line
 
--- why what waits isn't committed: as of a commit, but what has stopped takes no line at all
+-- why the pending changes aren't committed: as of a commit, but what has stopped takes no line at all
 abbrev pub IsUnstored : Core → CommitFault → Type 0
 IsUnstored core Device = (core.pending ≢ []) × (core.stopped ≡ false)
 IsUnstored core Worn = (core.pending ≢ []) × (core.stopped ≡ false)

@@ -35,7 +35,7 @@ abbrev pub asked_text : Option (List ℕ) → List ℕ
 asked_text (Some request) = codes "SEND " ++ upper_hex request ++ codes "\n"
 asked_text None = codes "NONE\n"
 
--- why a session ended; a telegram's own fault stands behind it
+-- why a session ended; a telegram's own fault stands after it
 abbrev pub failed_text : Why → List ℕ
 failed_text (Content fault) = codes "FAILED "
     ++ fault_text (why_number (Content fault)) (why_name (Content fault)) ++ codes " "

@@ -1,4 +1,4 @@
--- What the office was told is kept by every state that may be found later (this product).
+-- What was answered to the office is kept by every state that may be found later (this product).
 use Rattle.std.specs.Prelude.{◌≡◌, ℕ, List, [], ◌∷◌, ◌++◌}
 use Rattle.dc_changes.specs.State.{State}
 use Rattle.dc_changes.specs.declared.change.Change.{Change}
@@ -11,7 +11,7 @@ use Rattle.dc_core.specs.Transcript.{Turn, leads, IsChain, accepted_in}
 use Rattle.dc_core.specs.Promised.{promised_in}
 use Rattle.dc_core.specs.Lives.{IsFront}
 
--- what a reply tells of a state: `OK n`, that n is the last command's number; readings, meters or due-date values,
+-- what a reply says of a state: `OK n`, that n is the last command's number; readings, meters or due-date values,
 -- that it has those
 abbrev pub Tells : List ℕ → Reply → State → Type 0
 Tells text (repeated number) s = s.last_number ≡ number
@@ -19,23 +19,23 @@ Tells text (obeyed number change) s = s.last_number ≡ number
 Tells text (shown bytes) s = (line : OfficeLine) × (Spells text line × (bytes ≡ shown_text line s))
 Tells text reply s = Unit {0}
 
--- The reply tells of what was committed when it was given, and the state is that after a front of what was accepted
+-- The reply states what was committed when it was given, and the state is that after a prefix of what was accepted
 -- since.
 pub record ComesFrom (text : List ℕ) (reply : Reply) (answered : State) (since : List Change)
     (found : State) : Type 0 where
   pub tells : Tells text reply answered
   pub front : IsFront answered 0 since found
 
--- where the reply tells of a state
+-- where the reply states a state
 abbrev pub IfTelling : Reply → Type 0 → Type 0
 IfTelling (repeated number) P = P
 IfTelling (obeyed number change) P = P
 IfTelling (shown bytes) P = P
 IfTelling reply P = Unit {0}
 
--- WHAT THE OFFICE IS TOLD IS KEPT, in every chain of steps from a concentrator that was just opened: whatever state
--- may be found after it, or after a stop within the next event, which may accept more, has every command acknowledged
--- and every reading shown, and then what was accepted since.
+-- WHAT WAS ANSWERED TO THE OFFICE IS KEPT, in every chain of steps from a concentrator that was just opened: whatever
+-- state may be found after it, or after a stop within the next event, which may accept more, has every command
+-- acknowledged and every reading shown, and then what was accepted since.
 abbrev pub ToldIsKept : Type 0
 ToldIsKept = (budget : ℕ) (state : State) (before : List Turn) (text : List ℕ) (reply : Reply)
     (later : List Turn) (more : List Change) (found : State)

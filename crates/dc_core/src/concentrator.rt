@@ -1,4 +1,4 @@
-//! The concentrator: a store, the register that it keeps, what waits for a commit, and the lines.
+//! The concentrator: a store, the register that it keeps, the pending changes, and the lines.
 
 ghost use Rattle.std.specs.Prelude.{◌≡◌, ◌≢◌, ◌≤◌, ◌<◌, ℕ, List, Err, OnOk, IfOk, IfErr, IfSome};
 ghost use Rattle.std.specs.Prelude.{MatchResult, false, length};
@@ -192,7 +192,7 @@ impl<D: Disk + Drop, A: Allocator + Copy> Concentrator<D, A> {
         &self.house
     }
 
-    /// Gives the disk back, and writes nothing: what waits is given up. Unless the disk has failed, each
+    /// Gives the disk back, and writes nothing: the pending changes are given up. Unless the disk has failed, each
     /// image that it may leave stands for what is committed, and so that is what opening it again gives.
     pub fn close(self) -> D
         ensures disk { result ≡ self.store.disk }

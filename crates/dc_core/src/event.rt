@@ -21,7 +21,7 @@ pub enum Event<'a> {
         moment: Moment,
         answer: &'a [u8],
     },
-    /// What waits is written.
+    /// The pending changes are written.
     Commit,
     /// A line of the office comes, without its line end.
     Office {

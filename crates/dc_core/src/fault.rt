@@ -111,7 +111,7 @@ impl From<TakeFault> for HearFault {
     }
 }
 
-/// Why a commit answers no number; what waits still waits.
+/// Why a commit answers no number; the changes stay pending.
 #[derive(Clone, Copy, Debug, PartialEq, Eq, Error)]
 #[error("{} {}", self.number(), self.name())]
 pub enum CommitFault {

@@ -6,8 +6,8 @@ ghost use Rattle.dc_core.specs.Promised.{PromisedIsCommitted};
 ghost use Rattle.dc_core.specs.Toggled.{SettlingToggles};
 ghost use Rattle.dc_core.specs.Told.{ToldIsKept};
 
-/// In every chain of steps from a concentrator that was just opened, what is committed is the register after a front of
-/// the changes accepted, which has all that is promised; the rest is pending.
+/// In every chain of steps from a concentrator that was just opened, what is committed is the register after a prefix
+/// of the changes accepted, which has all that is promised; the rest is pending.
 pub fn what_is_promised_is_committed()
     ensures { PromisedIsCommitted }
 {}
@@ -18,7 +18,7 @@ pub fn no_telegram_asked_for_is_unknown()
     ensures { NoneIsUnknown }
 {}
 
-/// The request behind a settled telegram has the other frame count bit, and nothing is asked before it is settled.
+/// The request after a settled telegram has the other frame count bit, and nothing is asked before it is settled.
 pub fn a_settled_telegram_toggles_the_bit()
     ensures { SettlingToggles }
 {}
@@ -30,7 +30,8 @@ pub fn an_image_of_a_life_may_be_opened()
 {}
 
 /// Whatever state may be found after every such chain, or after a stop within the next event, comes from one of which
-/// the office was told: with the last command's number where a line was answered `OK`, and with what it was shown.
+/// was answered to the office: with the last command's number where a line was answered `OK`, and with what it was
+/// shown.
 pub fn what_the_office_is_told_is_kept()
     ensures { ToldIsKept }
 {}

@@ -1,15 +1,15 @@
-//! The data concentrator of a house: eight bus lines, a register on a disk, and one commit for what waits (this
-//! product; the frame count bit is that of EN 13757-2).
+//! The data concentrator of a house: eight bus lines, a register on a disk, and one commit for the pending changes
+//! (this product; the frame count bit is that of EN 13757-2).
 //!
 //! A meter goes on to its next telegram when the frame count bit of the request is toggled, and can't go back. So a
 //! [`Concentrator`] asks for the next telegram only after the last one is on the disk: what is heard waits, a
 //! [`Concentrator::commit`] writes all that waits with one sync, and only then do its lines go on.
 //!
-//! The billing office is answered by what is on the disk: [`Concentrator::office`] commits what waits before it
-//! judges a line, and a command before it acknowledges it.
+//! The billing office is answered by what is on the disk: [`Concentrator::office`] commits the pending changes before
+//! it judges a line, and a command before it acknowledges it.
 //!
 //! Proved: each call is a step of the definition in `specs/Step.antt`, in each state that the concentrator may be in.
-//! Stopped before or within any call of the disk, what is opened again is the register after a front of what was
+//! Stopped before or within any call of the disk, what is opened again is the register after a prefix of what was
 //! accepted, which has every telegram after which another request was asked on its line, every command acknowledged and
 //! every reading shown to the office, and all that was accepted before a commit that answered a number
 //! (in one clause: [`Concentrator::open`], `the_headline`; [`what_is_promised_is_committed`],

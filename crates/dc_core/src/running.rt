@@ -19,10 +19,10 @@ impl<D: Disk + Drop, A: Allocator + Copy> Concentrator<D, A> {
     /// Does the events in order, and writes the text of each answer.
     ///
     /// # Errors
-    /// `WriteFault` where the writer failed. The event at which it did is done, and none behind it; how much of the
+    /// `WriteFault` where the writer failed. The event at which it did is done, and none after it; how much of the
     /// text was written isn't known.
     pub fn run<W: Sink>(&mut self, events: &[Event<'_>], out: &mut W) -> Result<(), WriteFault>
-        // Behind whatever went before in this life, the events make a chain of steps, and what is written is its text.
+        // After whatever went before in this life, the events make a chain of steps, and what is written is its text.
         ensures ran { (origin : D) (state : State) (before : List Turn)
             → IsChain self.old.house.budget (opened state) before
             → IsAt (D.keeps origin) D.sectors D.reads D.choices self.old

@@ -18,7 +18,7 @@ field-number_bytes n at number front rest long fits =
     ∙ ap (little_number n) (drop_at front (little_bytes n number ++ rest) at long)
     ∙ little_number-reads_back n number rest fits
 
--- a number reads no byte behind its own
+-- a number reads no byte after its own
 pub field-append : (n at : ℕ) (front rest : List ℕ) → at + n ≤ length front → field n at (front ++ rest) ≡ field n at front
 field-append n at front rest within =
     ap (little_number n) (drop-append-le at front rest (omega arith)) ∙ little_from-append n (drop at front) rest (omega (arith, length-drop at front))
@@ -34,7 +34,7 @@ put_number n at number k old buffer within rest is =
     ap (λ (l : List ℕ). take at old ++ (buffer ++ l)) none
     ∙ ap (λ (l : List ℕ). take at old ++ l) (append-nil buffer ∙ is ∙ ap (λ (l : List ℕ). little_bytes n number ++ drop n l) all ∙ ap (λ (l : List ℕ). little_bytes n number ++ l) tail)
 
--- A number written behind a front that stands already goes to its end.
+-- A number written after a prefix that stands already goes to its end.
 pub written_behind : (n at number : ℕ) (front rest old new : List ℕ) → old ≡ front ++ rest → length front ≡ at → new ≡ take at old ++ (number_bytes n number ++ drop (at + n) old)
     → new ≡ (front ++ number_bytes n number) ++ drop n rest
 written_behind n at number front rest old new is long put =

@@ -10,7 +10,7 @@ pub mod Reading
 pub mod Missing
 -- the masks of a walk are masks
 pub mod Digits
--- a search on a bus that tells its meters
+-- a search on a bus that states its meters
 pub mod Searching
 -- a search within its budget
 pub mod Budgets

@@ -1,4 +1,4 @@
--- Where no answer stands: blocks have one spelling, so what was taken tells that none does.
+-- Where no answer stands: blocks have one spelling, so what was taken says that none does.
 use Rattle.std.proofs.Common.{◌≡◌, ◌⊎◌, inl, inr, ℕ, ◌+◌, ◌-◌, ◌<◌, ◌≤◌, List, [], ◌∷◌, ◌++◌, Option, Some, None, length, drop, arith, ap, sym, ◌∙◌, append_assoc, append-nil, length-append, subst}
 use Rattle.std.specs.List.{All}
 use Rattle.std.proofs.Math.Seq.{drop-append_seam}
@@ -10,7 +10,7 @@ use Rattle.dc_gateway.specs.Blocks.{Answers, IsBlock, block, blocks_bytes, most_
 use Rattle.dc_gateway.specs.Talk.{HasNoAnswer, IsFront, TakesFront}
 use Rattle.dc_gateway.proofs.Reading.{Reading}
 
--- no answer of at most so many blocks stands in front
+-- no answer of at most this many blocks stands in front
 abbrev NoneWithin : ℕ → List ℕ → Type 0
 NoneWithin limit bytes = (blocks : List (List ℕ)) (rest : List ℕ) → All IsBlock blocks → length blocks ≤ limit → bytes ≡ blocks_bytes blocks ++ (0 ∷ rest) → ⊥
 
@@ -34,13 +34,13 @@ none_in_cut limit count bytes short (b ∷ blocks) rest each few is =
     ap length others ∙ length-append (b ++ blocks_bytes blocks) (0 ∷ rest) ∙ ap (λ (n : ℕ). n + length (0 ∷ rest)) (length-append b (blocks_bytes blocks)) in
     absurd (omega (arith, long, same, short))
 
--- behind the last block that an answer may have
+-- after the last block that an answer may have
 none_past : (count : ℕ) (bytes : List ℕ) → 0 < count → NoneWithin 0 (count ∷ bytes)
 none_past count bytes some [] rest each few is =
     let same : count ≡ 0 = ap first_byte is in absurd (omega (arith, same, some))
 none_past count bytes some (b ∷ blocks) rest each few is = absurd (omega (arith, few))
 
--- behind a block
+-- after a block
 none_behind : (limit : ℕ) (b tail : List ℕ) → 0 < length b → NoneWithin limit tail → NoneWithin (limit + 1) (block b ++ tail)
 none_behind limit b tail some none [] rest each few is =
     let same : length b ≡ 0 = ap first_byte is in absurd (omega (arith, same, some))
@@ -58,7 +58,7 @@ none_behind_all (b ∷ blocks) limit tail each none =
     let more : limit + length blocks + 1 ≡ limit + length (b ∷ blocks) = omega arith in
     subst (λ (n : ℕ). NoneWithin n ((block b ++ blocks_bytes blocks) ++ tail)) more (subst (NoneWithin (limit + length blocks + 1)) (sym (append_assoc (block b) (blocks_bytes blocks) tail)) later)
 
--- the front of a block at the end of all bytes
+-- the prefix of a block at the end of all bytes
 none_in_front : (limit before : ℕ) (front : List ℕ) → IsFront before front → NoneWithin limit front
 none_in_front limit before [] is = none_at_end limit
 none_in_front limit before (count ∷ bytes) is = none_in_cut limit count bytes is.0
@@ -81,7 +81,7 @@ ended (Some bytes) (Some left) so end =
     let limit : ℕ = most_blocks - length so.blocks in
     no_answer bytes (none_after so.blocks limit bytes so.front so.are.each (omega (arith, so.are.few)) is (none_in_front limit (length so.blocks) so.front so.is_front))
 
--- It told of one block too many.
+-- It counted one block too many.
 past_by : (old new : Option (List ℕ)) (blocks : List (List ℕ)) (count : ℕ) → All IsBlock blocks → length blocks ≡ most_blocks → Takes old new (blocks_bytes blocks ++ (count ∷ [])) → 0 < count → HasNoAnswer old
 past_by None new blocks count each all taken some = tt
 past_by (Some bytes) None blocks count each all taken some = cc

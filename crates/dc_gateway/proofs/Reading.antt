@@ -12,7 +12,7 @@ use Rattle.dc_gateway.specs.Talk.{IsContent, IsCut, TakesAnswer, TakesFront}
 use Rattle.dc_gateway.proofs.Keeping.{length-kept, take-take-append}
 use Rattle.dc_gateway.proofs.Taking.{takes-none}
 
--- so many blocks were taken
+-- this many blocks were taken
 pub record Reading (old new : Option (List ℕ)) (count : ℕ) (answer : List ℕ) : Type 0 where
   pub blocks : List (List ℕ)
   pub each : All IsBlock blocks
@@ -86,7 +86,7 @@ front_cut old a b new number count held so few length_is cut = record {
   taken = takes-both old a new (blocks_bytes so.blocks) (count ∷ cut.bytes) so.taken (takes-both a b new (count ∷ []) cut.bytes length_is cut.taken);
 }
 
--- behind the length of one too many
+-- after the length of one too many
 pub front_past : (old a new : Option (List ℕ)) (number count : ℕ) (held : List ℕ) → Reading old a number held → number ≡ most_blocks → Takes a new (count ∷ []) → 0 < count → TakesFront old new
 front_past old a new number count held so all length_is some = record {
   blocks = so.blocks;

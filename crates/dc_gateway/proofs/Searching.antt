@@ -1,4 +1,4 @@
--- A search on a bus that tells its meters: what holds before each of its steps.
+-- A search on a bus that states its meters: what holds before each of its steps.
 use Rattle.std.proofs.Common.{◌≡◌, ◌⊎◌, inl, inr, ℕ, ◌+◌, ◌<◌, ◌≤◌, Bool, true, false, List, [], ◌∷◌, Option, Some, None, length, filter, take, nat_lt, arith, refl, ap, sym, ◌∙◌, subst}
 use Rattle.std.specs.Prelude.{option_map}
 use Rattle.std.proofs.lemmas.List.{take_all}
@@ -17,7 +17,7 @@ use Rattle.dc_search.proofs.Walks.{walk_finds_all}
 use Rattle.dc_gateway.specs.Bus.{Acknowledge, IsHeard, IsSearched, Respond}
 use Rattle.dc_gateway.proofs.Digits.{AreDecimal, decimal_visited, is_mask}
 
--- the selections so far are the front of the walk
+-- the selections so far are a prefix of the walk
 pub record Calm (meters : List Identity) (budget : ℕ) (s : SearchState) : Type 0 where
   pub so : Swept meters budget s
   pub decimal : AreDecimal s.due

@@ -18,7 +18,7 @@ same_left None (Some bytes) is = cc
 same_left (Some bytes) None is = cc
 same_left (Some bytes) (Some left) is = sym is
 
--- a front of the content of a block, while so many bytes are to come
+-- a prefix of the content of a block, while this many bytes are to come
 pub record SoFar (old new : Option (List ℕ)) (count left : ℕ) (before after : List ℕ) : Type 0 where
   pub bytes : List ℕ
   pub long : length bytes + left ≡ count

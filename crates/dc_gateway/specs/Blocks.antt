@@ -1,4 +1,4 @@
--- Blocks, as a gateway speaks them (this product): a length, and so many bytes.
+-- Blocks, as a gateway speaks them (this product): a length, then that many bytes.
 use Rattle.std.specs.Prelude.{◌≡◌, ℕ, ◌<◌, ◌≤◌, List, ◌∷◌, ◌++◌, length, take}
 use Rattle.std.specs.List.{All, concat, flat_map}
 

@@ -19,20 +19,20 @@ OnLost Lost P = P
 
 -- ---- what was taken
 
--- An answer was taken, up to its block of length 0 and no byte behind it.
+-- An answer was taken, up to its block of length 0 and no byte after it.
 pub record TakesAnswer (old new : Option (List ℕ)) (answer : List ℕ) : Type 0 where
   pub blocks : List (List ℕ)
   pub are : AreBlocks blocks
   pub taken : Takes old new (blocks_bytes blocks ++ 0 ∷ [])
   pub kept : answer ≡ kept_of blocks
 
--- The front of a block: nothing, or its length and fewer bytes than that; behind the last block that an answer may
+-- The prefix of a block: nothing, or its length and fewer bytes than that; after the last block that an answer may
 -- have, the length alone.
 abbrev pub IsFront : ℕ → List ℕ → Type 0
 IsFront before [] = Unit {0}
 IsFront before (count ∷ bytes) = (length bytes < count) × (before ≡ most_blocks → bytes ≡ [])
 
--- Blocks of an answer were taken, and then a front of the next one.
+-- Blocks of an answer were taken, and then a prefix of the next one.
 pub record TakesFront (old new : Option (List ℕ)) : Type 0 where
   pub blocks : List (List ℕ)
   pub are : AreBlocks blocks

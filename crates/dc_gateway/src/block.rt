@@ -50,7 +50,7 @@ pub fn take_length<R: Source>(reader: &mut R) -> Result<u8, IoFault>
     Ok(length[0])
 }
 
-/// Takes so many bytes into the answer; the end of the reader is a fault.
+/// Takes this many bytes into the answer; the end of the reader is a fault.
 pub fn take_content<R: Source>(
     reader: &mut R,
     count: u8,

@@ -22,13 +22,13 @@ pub trait Bus {
 
     // Those that are selected.
     ghost selected: { Self → List Meter };
-    // Whether all is silence from here on.
+    // Whether all is silence from now on.
     ghost lost: { Self → Bool };
 
     // What a request and the answer that is heard of it do to the bus.
     ghost asks: { Self → List ℕ → List ℕ → Self → Type 0 };
 
-    /// Whether the bus is lost, and all is silence from here on.
+    /// Whether the bus is lost, and all is silence from now on.
     fn is_lost(&self) -> bool
         ensures { result ≡ lost self.now };
 
@@ -87,7 +87,7 @@ pub fn search_over<A: Allocator + Copy, B: Bus>(
     ensures asked { IfOk result (λ search. HasAsked B.asks budget bus.old bus.new search) }
     ensures stopped { OnErr result ((search : SearchState)
         × HasAsked B.asks budget bus.old bus.new search) }
-    // Where the bus tells its meters, it follows their walk.
+    // Where the bus states its meters, it follows their walk.
     ensures walk { IfOk result (λ search.
         IfSome (B.meters bus.old) (λ told. IsSearched told budget search)) }
     ensures meters { B.meters bus.new ≡ B.meters bus.old }

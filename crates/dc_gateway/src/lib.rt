@@ -2,7 +2,7 @@
 //! many bytes.
 //!
 //! [`exchange`] sends a request as one block and takes the answer, which is blocks up to one of length 0. It reads no
-//! byte behind that one, and returns for every reader and writer. [`Gateway`] is both ends: once an exchange is lost
+//! byte after that one, and returns for every reader and writer. [`Gateway`] is both ends: once an exchange is lost
 //! it is silent, and touches neither of them.
 //!
 //! A [`Bus`] is whatever meters are asked over, and [`search_over`] searches one, a lost one in silence; a [`Gateway`]

@@ -23,7 +23,7 @@ pub enum Talk {
 
 /// Sends a request, and takes the answer to it. It returns whatever the ends do.
 ///
-/// The answer is the first 300 bytes of its blocks, and nothing behind the block of length 0 is read.
+/// The answer is the first 300 bytes of its blocks, and nothing after the block of length 0 is read.
 pub fn exchange<R: Source, W: Sink>(reader: &mut R, writer: &mut W, request: &FrameBuf) -> Talk
     requires { length request.now ≤ most_block }
     // An answer stood there, and the one block of the request went out.
@@ -37,7 +37,7 @@ pub fn exchange<R: Source, W: Sink>(reader: &mut R, writer: &mut W, request: &Fr
     ensures writer_well { IfAnswer result (λ _.
         W.put_failures writer.new ≡ W.put_failures writer.old) }
 
-    // It is lost where no answer stands there, or an end failed.
+    // It is lost where no answer is there, or an end failed.
     ensures lost { OnLost result (HasRisen (W.put_failures writer.old) (W.put_failures writer.new)
         ⊎ (HasRisen (R.take_failures reader.old) (R.take_failures reader.new)
         ⊎ HasNoAnswer (R.left reader.old))) }

@@ -63,7 +63,7 @@ module _ (i : Identity) (r1 : telegram_at first_body ≡ Ok (told i 1 first_body
   abbrev second_told : List ℕ
   second_told = spelling (long 0x08 1 0x72 second_body)
 
-  -- the meter's place and bit; the session's stage, tries, count and what waits; what is committed; what is under way
+  -- the meter's place and bit; the session's stage, tries, count and the pending changes; what is committed; what is under way
   abbrev at : ℕ → Option Bool → Stage → ℕ → ℕ → Option (List ℕ) → List (List ℕ) → List (List ℕ) → Bool → LateWorld
   at place bit stage tries n waiting parts way clear = record {
     world = record {

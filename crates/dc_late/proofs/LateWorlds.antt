@@ -164,7 +164,7 @@ module _ (W : List (List ℕ) → Type 0) (tail : (x : List ℕ) (xs : List (Lis
 
 -- ---- nothing is left where no answer was missed
 
--- behind what is no frame, a frame that is heard is the last one
+-- after what is no frame, a frame that is heard is the last one
 alone_under_way : (last : Option Last) (request sent : List ℕ) (way : List (List ℕ)) (x : List ℕ) (more : List (List ℕ)) (f : FrameSeen) → AllByRecursion IsUnreadable way
     → past_copies last request (way ++ sent ∷ []) ≡ x ∷ more → frame_of x ≡ Some f → more ≡ []
 alone_under_way last request sent [] x more f all e is = go (is_copy last request sent) e

@@ -35,7 +35,7 @@ new_late_world meters = record {
   clear = true;
 }
 
--- A readout is to begin; the oldest so many answers arrive and are dropped; the session's request goes out, the line
+-- A readout is to begin; the oldest answers arrive and are dropped; the session's request goes out, the line
 -- does this to it and to its answer, and an answer is heard in time or isn't; what was heard is committed; the
 -- concentrator stops.
 pub data LateEvent : Type 0 where

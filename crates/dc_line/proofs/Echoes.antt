@@ -27,7 +27,7 @@ not_true : (b : Bool) → (b ≡ true → ⊥) → b ≡ false
 not_true true other = absurd (other refl)
 not_true false other = refl
 
--- of two fronts of one list the shorter one is a front of the other
+-- of two prefixes of one list the shorter one is a prefix of the other
 pub shorter_front : (xs ys us vs : List ℕ) → xs ++ ys ≡ us ++ vs → length xs ≤ length us → us ≡ xs ++ drop (length xs) us
 shorter_front xs ys us vs same fits =
     let cut : xs ≡ take (length xs) us =
@@ -134,7 +134,7 @@ none_came (r ∷ rest) true is =
     let none : (length (r ∷ rest) == 0) ≡ false = ne_eqb (length (r ∷ rest)) 0 (λ z. omega arith) in absurd (false≢true (sym none ∙ sym is))
 none_came (r ∷ rest) false is = refl
 
--- as many are wanted as the answer misses, and of what may be an echo no more than is missing of it
+-- as many are wanted as the answer misses, and of what may be an echo at most what is missing of it
 pub kept_wanted : (request answer : List ℕ) (echoed front : Bool) → IsKept request answer echoed → front ≡ begins answer request
     → wanted_of request (came_by request answer echoed) ≡ (if echoed then missing_of answer else if front then min (missing_of answer) (length request - length answer) else missing_of answer)
 kept_wanted request answer true front kept is = wanted_echoed request answer
@@ -198,7 +198,7 @@ plain_stays request answer more is few other =
             let front = shorter_front request (drop (length request) (answer ++ more)) answer more (sym whole) ge in
             false≢true (sym is ∙ begins_same request answer (drop (length request) answer) front)
 
--- bytes behind an echo, or that aren't one yet
+-- bytes after an echo, or that aren't one yet
 pub kept_more : (request answer more after : List ℕ) (echoed : Bool) → IsKept request answer echoed → length more ≤ wanted_of request (came_by request answer echoed) → after ≡ take most_answer (answer ++ more)
     → (echoed ≡ false → after ≡ request → ⊥) → IsKept request after echoed
 kept_more request answer more after echoed kept few is other =

@@ -35,7 +35,7 @@ stays_bad (a ∷ b ∷ []) further e = grind (arith, nat_tests)
 stays_bad (a ∷ b ∷ c ∷ []) further e = grind (arith, nat_tests)
 stays_bad (a ∷ b ∷ c ∷ d ∷ rest) further e = grind (arith, nat_tests)
 
--- with no more than is missing, every byte is heard
+-- with at most what is missing, every byte is heard
 pub exact_more : (bytes more : List ℕ) → 0 < missing_of bytes → length more ≤ missing_of bytes → length (bytes ++ more) ≤ most_answer → heard_of (bytes ++ more) ≡ bytes ++ more
 exact_more bytes more some fewer fits = by_need (need_of bytes) refl (need_of (bytes ++ more)) refl
   where

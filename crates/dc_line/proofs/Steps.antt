@@ -73,7 +73,7 @@ over_stays answer rest exact (no_frame is long) =
     let cut : take most_answer answer ≡ answer = sym (ap (λ (m : Need). front_by m answer) is) ∙ exact in
     ap (λ (m : Need). front_by m (answer ++ rest)) (stays_bad answer rest is) ∙ take-append-le most_answer answer rest long ∙ cut
 
--- no front of a frame is over, but the whole
+-- no prefix of a frame is over, but the whole
 over_no_front : (answer more : List ℕ) → IsFrame (answer ++ more) → IsOver answer → more ≡ []
 over_no_front answer [] frame over = refl
 over_no_front answer (m ∷ more) frame (whole_frame is) =

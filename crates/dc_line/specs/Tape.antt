@@ -13,7 +13,7 @@ pub record Taped : Type 0 where
 abbrev pub tape_waits : Taped → ℕ
 tape_waits tape = waits_of (length tape.events)
 
--- what comes is the front of the bytes that are left
+-- what comes is a prefix of the bytes that are left
 abbrev pub TapeHears : Taped → Sound → Taped → Type 0
 TapeHears old sound new = old.bytes ≡ bytes_of sound ++ new.bytes
 

@@ -20,7 +20,7 @@ use std::time::{Duration, Instant};
 /// How many milliseconds without a byte end an answer that has begun.
 pub const GAP: u64 = 500;
 
-// So many reads at most drop what came late.
+// This many reads at most drop what came late.
 const MOST_DISCARDS: usize = 64;
 
 // So often at most it is polled again where a signal broke a poll or a read off.
@@ -37,16 +37,16 @@ pub struct PollWire<S: Read + Write + AsRawFd + Drop, C: Clock + Drop> {
     stream: S,
     clock: C,
     patience: Duration,
-    // When the request went out, the last byte came or the last silence was told.
+    // When the request went out, the last byte came or the last silence was answered.
     since: Instant,
-    // Whether a byte came since, and no gap after it was told.
+    // Whether a byte came since, and no gap after it was answered.
     begun: bool,
     waits: u16,
     failures: u64,
 }
 
 impl<S: Read + Write + AsRawFd + Drop, C: Clock + Drop> PollWire<S, C> {
-    /// The stream as a wire that is silent after so many milliseconds.
+    /// The stream as a wire that is silent after this many milliseconds.
     ///
     /// # Errors
     /// The clock fails.
@@ -214,7 +214,7 @@ fn millis_of(time: Duration) -> i32 {
     i32::try_from(time.as_millis()).map_or(i32::MAX, |millis| millis.saturating_add(1))
 }
 
-// What is there within so many milliseconds; no byte where there is nothing.
+// What is there within this many milliseconds; no byte where there is nothing.
 fn read_within<S: Read + AsRawFd>(
     stream: &mut S,
     millis: i32,

@@ -14,7 +14,7 @@ use std::marker::Model;
 /// What comes next on a tape.
 #[derive(Clone, Copy, Debug, PartialEq, Eq)]
 pub enum Event {
-    /// So many bytes, in as many pieces as they are asked for.
+    /// This many bytes, in as many pieces as they are asked for.
     Bytes(usize),
     /// Nothing yet.
     Nothing,

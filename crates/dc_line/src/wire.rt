@@ -10,7 +10,7 @@ use dc_stream::IoFault;
 /// What came on a wire by now.
 #[derive(Clone, Copy, Debug, PartialEq, Eq)]
 pub enum Came {
-    /// So many bytes, one at least.
+    /// This many bytes, one at least.
     Bytes(usize),
     /// Nothing yet.
     Nothing,

@@ -10,20 +10,20 @@ pub take-padded : (bytes : List ℕ) (len : ℕ) → len ≡ length bytes → ta
 take-padded bytes len counted =
     ap (λ n. take n (padded bytes)) counted ∙ take-append_seam bytes (replicate (capacity - length bytes) 0)
 
--- bytes with zeros behind them are a buffer's
+-- bytes with zeros after them are a buffer's
 pub IsBuffer-padded : (bytes : List ℕ) (len : ℕ) → len ≡ length bytes → len ≤ capacity → IsBuffer (padded bytes) len
 IsBuffer-padded bytes len counted fits =
     let front = take-padded bytes len counted in
     record { fits = fits; counted = ap length front ∙ sym counted; zeros = ap padded front }
 
--- the zeros behind bytes and more bytes
+-- the zeros after bytes and more bytes
 fewer_zeros : (bytes more : List ℕ) → drop (length more) (drop (length bytes) (padded bytes)) ≡ replicate (capacity - length (bytes ++ more)) 0
 fewer_zeros bytes more =
     ap (drop (length more)) (drop-append_seam bytes (replicate (capacity - length bytes) 0))
     ∙ drop-replicate (length more) (capacity - length bytes) 0
     ∙ ap (λ n. replicate n 0) (omega (arith, length-append bytes more))
 
--- bytes written behind others stand before the zeros
+-- bytes written after others stand before the zeros
 written : (bytes more : List ℕ) → put_mid (length bytes) (length more) (padded bytes) more ≡ padded (bytes ++ more)
 written bytes more =
     ap (λ front. front ++ (more ++ drop (length more) (drop (length bytes) (padded bytes)))) (take-padded bytes (length bytes) refl)

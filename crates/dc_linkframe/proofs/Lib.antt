@@ -8,5 +8,5 @@ pub mod Readings
 pub mod Checksums
 -- what a buffer keeps when bytes are added
 pub mod Buffers
--- what `need` tells of the frame at the front
+-- what `need` says of the frame at the front
 pub mod Cutting

@@ -13,7 +13,7 @@ use Rattle.dc_linkframe.specs.Frame.{FrameSeen, ack, short, long, seen, checksum
 use Rattle.dc_linkframe.specs.Fault.{fault_of, stands, content_of}
 use Rattle.dc_linkframe.specs.Reading.{frame_of, fields_of, unless_faulty}
 
--- fronts of one length, of one list, are one
+-- prefixes of one length, of one list, are one
 same_front : (xs ys xs' ys' : List ℕ) → xs ++ ys ≡ xs' ++ ys' → length xs ≡ length xs' → xs ≡ xs'
 same_front xs ys xs' ys' e l =
     sym (take-append_seam xs ys) ∙ ap (take (length xs)) e ∙ ap (λ n. take n (xs' ++ ys')) l ∙ take-append_seam xs' ys'

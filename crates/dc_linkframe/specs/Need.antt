@@ -4,7 +4,7 @@ use Rattle.dc_linkframe.specs.declared.needs.Need.{Need}
 use Rattle.dc_linkframe.specs.declared.needs.Need.TheVariants.{More, Whole, Bad}
 use Rattle.dc_linkframe.specs.Fault.{begins_ack, begins_short, begins_long, lengths_agree}
 
--- a frame of so many bytes: it is whole, or some are missing
+-- a frame of this many bytes: it is whole, or some are missing
 abbrev pub up_to : ℕ → List ℕ → Need
 up_to whole text = if nat_lt (length text) whole then More (whole - length text) else Whole whole
 

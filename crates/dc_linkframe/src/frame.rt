@@ -25,7 +25,7 @@ pub const ACK: u8 = 0xE5;
 /// The byte that begins a short frame.
 pub(crate) const SHORT: u8 = 0x10;
 
-/// The byte that begins a long frame, and stands again behind its two length bytes.
+/// The byte that begins a long frame, and is repeated after its two length bytes.
 pub(crate) const LONG: u8 = 0x68;
 
 /// The byte that ends a short and a long frame.

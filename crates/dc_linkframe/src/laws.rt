@@ -39,7 +39,7 @@ pub fn control_bytes_are_the_standards()
         × (SELECTION ≡ selection) }
 {}
 
-/// What `need` tells of what `parse` will answer.
+/// What `need` says of what `parse` will answer.
 pub fn need_agrees_with_parse()
     // A whole frame lies in what came, and no fault of its length or its start stands in it.
     ensures whole { (text : List ℕ) (n : ℕ) → need_of text ≡ Need.Whole n → n ≤ length text }

@@ -3,9 +3,9 @@
 /// What the frame at the front of some bytes needs.
 #[derive(Clone, Copy, Debug, PartialEq, Eq)]
 pub enum Need {
-    /// At least so many bytes are missing.
+    /// At least this many bytes are missing.
     More(usize),
-    /// The first so many bytes are the frame's.
+    /// The frame is whole: its length in bytes.
     Whole(usize),
     /// No frame begins so.
     Bad,

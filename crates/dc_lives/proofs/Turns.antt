@@ -6,7 +6,7 @@ use Rattle.dc_linkframe.specs.Frame.{FrameSeen}
 use Rattle.dc_lives.specs.Meter.{Meter, Position, moved_by, at_reset}
 use Rattle.dc_lives.specs.World.{all_moved}
 
--- the first so many have moved
+-- the first n have moved
 abbrev pub moved_to : ℕ → FrameSeen → List Meter → List Position → List Position
 moved_to zero frame ms ps = ps
 moved_to (suc i) frame [] ps = ps

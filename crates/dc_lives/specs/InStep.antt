@@ -8,7 +8,7 @@ use Rattle.dc_readout.specs.declared.stage.Stage.TheVariants.{Ended}
 use Rattle.dc_lives.specs.Meter.{Meter, Position}
 use Rattle.dc_lives.specs.World.{World, Running, IsWhole, more_after}
 
--- the bit of the request after so many settled telegrams, and the one before it
+-- the bit of the request after this many settled telegrams, and the one before it
 abbrev pub bit_after : ℕ → Bool
 bit_after n = n % 2 == 0
 

@@ -96,7 +96,7 @@ abbrev pub response : Meter → Option (List ℕ) → Option FrameSeen
 response meter None = None
 response meter (Some body) = Some (long rsp_ud (unwrap_or meter.address 0) variable_data body)
 
--- what a meter that stands there now answers to the frame that brought it there
+-- what a meter that is there now answers to the frame that brought it there
 unfoldable pub answer_to : FrameSeen → Meter → Position → Option FrameSeen
 answer_to ack meter p = None
 answer_to (short control address) meter p =

@@ -78,7 +78,7 @@ impl<A: Allocator> Bodies<A> {
         self.bodies.len()
     }
 
-    /// Whether there is none.
+    /// Whether there is nothing.
     pub fn is_empty(&self) -> bool
         ensures { result ≡ (length self.now == 0) }
     {

@@ -9,7 +9,7 @@ pub enum Outcome {
     ReplyLost,
     /// Each meter sees the request, and one byte is heard that is no frame.
     ReplyUnreadable,
-    /// Each meter sees the request, and its reply is heard, or silence where there is none.
+    /// Each meter sees the request, and its reply is heard, or silence where it sends nothing.
     AsSent,
 }
 

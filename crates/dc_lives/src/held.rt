@@ -1,4 +1,4 @@
-//! What a life leaves behind.
+//! What a life leaves.
 
 use crate::body::Bodies;
 use std::alloc::Allocator;

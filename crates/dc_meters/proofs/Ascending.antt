@@ -1,4 +1,4 @@
--- What comes behind all others in an order.
+-- What comes after all others in an order.
 use Rattle.std.proofs.Common.{◌≡◌, ℕ, ◌-◌, ◌<◌, List, [], ◌∷◌, ◌++◌, length, map, get_or, true, false, Option, None, Some, cond, refl, ap, subst, ◌∙◌, arith, inl, inr}
 use Rattle.std.specs.Prelude.{All, slice_get}
 use Rattle.std.specs.List.{AllByRecursion}
@@ -24,7 +24,7 @@ module _ {K : Type 0} {R : K → K → Ordering} where
   pub turned : IsTotalOrder R → (a b : K) → R a b ≡ Less → R b a ≡ Greater
   turned total a b less = total.antisymm b a ∙ ap ordering_reverse less
 
-  -- what is behind all keys goes to their end
+  -- what is after all keys goes to their end
   pub insert_last : {X : Type 0} → IsTotalOrder R → (es : List (K × X)) (k : K) (v : X) → All (λ q. R q k ≡ Less) (keys_of es) → insert_entry R es k v ≡ es ++ (k, v) ∷ []
   insert_last total [] k v all = refl
   insert_last {X} total (e ∷ es) k v all =
@@ -32,7 +32,7 @@ module _ {K : Type 0} {R : K → K → Ordering} where
       let more = insert_last total es k v (All-tail (λ q. R q k ≡ Less) e.0 (keys_of es) all) in
       rw (first, more) refl
 
--- a meter behind all others isn't among them
+-- a meter after all others isn't among them
 pub absent_behind : (es : List (Identity × MeterRow)) (meter : Identity) → All (λ q. identity_cmp q meter ≡ Less) (keys_of es) → lookup (is_at (identity_cmp meter)) es ≡ None
 absent_behind [] meter all = refl
 absent_behind (e ∷ es) meter all =
@@ -54,7 +54,7 @@ before_next R f (y ∷ xs) x zs sorted =
 gt_test : (o : Ordering) → o ≡ Greater → is_gt o ≡ false → ⊥
 gt_test o greater no_gt = let yes : is_gt o ≡ true = ap is_gt greater in cc
 
--- a meter that isn't behind the last isn't behind all
+-- a meter that isn't after the last isn't after all
 pub not_behind : (es : List (Identity × MeterRow)) (i : ℕ) (k meter : Identity) (row : MeterRow) → slice_get es i ≡ Some (k, row) → is_gt (identity_cmp meter k) ≡ false
     → All (λ other. identity_cmp other meter ≡ Less) (keys_of es) → ⊥
 not_behind es i k meter row at no_gt all =
@@ -63,7 +63,7 @@ not_behind es i k meter row at no_gt all =
     subst (λ (q : Identity). identity_cmp q meter ≡ Less) (get_or_from_slice_get (keys_of es) i k k key) (all i k (slice_get_within (keys_of es) i k key)) in
     gt_test (identity_cmp meter k) (turned identities_total k meter here) no_gt
 
--- what comes behind the last reading comes behind all
+-- what comes after the last reading comes after all
 pub all_before : (readings : List ReadingRow) (last : ReadingRow) (serial : ℕ) → IsStrictlySortedBy nat_cmp (map (λ (r : ReadingRow). r.serial) readings)
     → slice_get readings (length readings - 1) ≡ Some last → last.serial < serial → All (λ (r : ReadingRow). r.serial < serial) readings
 all_before readings last serial sorted at below k d within =

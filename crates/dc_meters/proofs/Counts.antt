@@ -1,4 +1,4 @@
--- Reading so many, one after the other, as a loop does.
+-- Reading this many, one after the other, as a loop does.
 use Rattle.std.proofs.Common.{◌≡◌, ℕ, suc, ◌-◌, ◌+◌, ◌≤◌, ◌<◌, List, [], ◌∷◌, ◌++◌, Option, Some, None, refl, sym, ap, ◌∙◌, append_assoc, append-nil, arith}
 use Rattle.dc_changes.specs.declared.decode_fault.DecodeFault.{DecodeFault}
 use Rattle.dc_changes.specs.declared.decode_fault.DecodeFault.TheVariants.{Bad, NoMemory}
@@ -42,7 +42,7 @@ module _ {X : Type 0} where
       let one : with_front front (many at (count - i) bytes) ≡ Some (front, bytes) = rw k (ap (λ (ns : List X). Some (ns, bytes)) (append-nil front)) in
       sym so_far ∙ one
 
-  -- what was read before is the front of what is read
+  -- what was read before is a prefix of what is read
   pub front_of : (front : List X) (read : Option (List X × List ℕ)) (all : List X) (rest : List ℕ) → with_front front read ≡ Some (all, rest) → (more : List X) × (all ≡ front ++ more)
   front_of front (Some x) all rest e = (x.0, ap (λ (p : List X × List ℕ). p.0) (some_is (all, rest) (front ++ x.0, x.1) (sym e)))
   front_of front None all rest e = absurd cc

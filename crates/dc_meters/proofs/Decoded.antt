@@ -16,7 +16,7 @@ use Rattle.dc_changes.proofs.StateSpellings.{Exact-head, Reads, reads_takes, rea
 
 -- ---- what is left to read of a state
 
--- behind the head
+-- after the head
 pub record LeftOf (s : State) (head : Head) (rest : List ℕ) : Type 0 where
   pub head_is : head_of s ≡ head
   pub after_meters : List ℕ
@@ -41,7 +41,7 @@ pub too_large : (budget : ℕ) (bytes : List ℕ) (s : State) (head : Head) (res
 too_large budget bytes s head rest spells left =
     omega (arith, state_len s, spells.is_state.size_fits, ap length spells.spelled, ap (λ (h : Head). length h.last_line) left.head_is)
 
--- behind the meters
+-- after the meters
 pub behind_meters : (s : State) (head : Head) (rest : List ℕ) (meters : List (Identity × MeterRow)) (after : List ℕ) → LeftOf s head rest → listed count_at entry_at rest ≡ Some (meters, after)
     → listed count_at reading_at after ≡ Some (s.readings, [])
 behind_meters s head rest meters after left found =
@@ -52,7 +52,7 @@ pub ascend_of : (budget : ℕ) (s : State) (head : Head) → IsState budget s �
 ascend_of budget s head is same =
     subst (λ (h : Head). ReadingsAscend h.confirmed h.next_serial s.readings) same (record { ascend = is.readings_ascend; are_open = is.serials_are })
 
--- behind the readings is nothing
+-- after the readings is nothing
 pub behind_readings : (readings : List ReadingRow) (found : List ReadingRow) (after rest : List ℕ) → listed count_at reading_at after ≡ Some (readings, []) → listed count_at reading_at after ≡ Some (found, rest) → rest ≡ []
 behind_readings readings found after rest whole read =
     ap (λ (p : List ReadingRow × List ℕ). p.1) (some_is (found, rest) (readings, []) (sym read ∙ whole))

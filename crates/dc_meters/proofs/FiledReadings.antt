@@ -1,4 +1,4 @@
--- Serials under keys, where a reading comes behind all others and where the first goes.
+-- Serials under keys, where a reading comes after all others and where the first goes.
 use Rattle.std.proofs.Common.{◌≡◌, ℕ, ◌<◌, Bool, true, false, cond, List, [], ◌∷◌, ◌++◌, refl, sym, ap, ◌∙◌, map, arith}
 use Rattle.std.specs.Prelude.{◌&&◌, ◌||◌, All, not}
 use Rattle.std.specs.List.{list_any, AllByRecursion}

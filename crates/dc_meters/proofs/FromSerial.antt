@@ -1,4 +1,4 @@
--- Where the readings with at least a serial begin, and what stands there.
+-- Where the readings with at least a serial begin, and what is there.
 use Rattle.std.proofs.Common.{◌≡◌, ℕ, ◌<◌, ◌≤◌, ◌∙◌, Bool, true, false, cond, List, [], ◌∷◌, Option, Some, None, length, drop, get_or, map, refl, sym, subst, ap, arith, suc, zero}
 use Rattle.std.specs.Prelude.{All, filter, find, nat_le, nat_lt, slice_index_or, ◌==◌}
 use Rattle.std.specs.List.{AllByRecursion}
@@ -24,7 +24,7 @@ serials_rise readings sorted i j d before within =
     let rise = non_decreasing_from_sorted (map serial_of readings) sorted i j d.serial before (omega (arith, length-map readings serial_of)) in
     omega (arith, rise, get_or-map serial_of readings i d, get_or-map serial_of readings j d)
 
--- what passes a test stands behind what doesn't
+-- what passes a test stands after what doesn't
 pub filter_behind : {X : Type 0} (p : X → Bool) (xs : List X) (i : ℕ) → ((k : ℕ) (d : X) → k < i → k < length xs → p (get_or xs k d) ≡ false)
     → ((k : ℕ) (d : X) → i ≤ k → k < length xs → p (get_or xs k d) ≡ true) → filter p xs ≡ drop i xs
 filter_behind p [] zero before behind = refl

@@ -1,4 +1,4 @@
--- Meters that are told apart by their rows.
+-- Meters that are distinguished by their rows.
 use Rattle.std.proofs.Common.{◌≡◌, Bool, true, false, Some, None, refl, sym, ap, ◌∙◌}
 use Rattle.std.specs.Map.{lookup}
 use Rattle.std.specs.BTreeMap.{is_at}

@@ -53,7 +53,7 @@ module _ (flats new_flats : List Place) (bus new_bus : List BusPlace) (old meter
     on_bus = placed_less bus_cmp meter_on_bus hangs_at bus new_bus old meters meter indexed.on_bus row found bus_is map_is;
   }
 
-  -- two flats of which a new place tells that they differ
+  -- two flats of which a new place says that they differ
   flats_apart : (row after : MeterRow) → lookup (is_at (identity_cmp meter)) old ≡ Some row → among place_cmp flats (record { flat = after.flat; meter = meter }) ≡ false → (q : Place) → is_in_flat q row ≡ true → is_in_flat q after ≡ true → ⊥
   flats_apart row after found away q here there =
       let one : q.flat ≡ row.flat = slice_cmp-IsAntisymmetric nat_cmp-IsAntisymmetric q.flat row.flat (equal_from _ here) in

@@ -7,9 +7,9 @@ pub mod Empty  -- the empty register is a state
 mod Acceptance  -- what an accepted change says
 mod Loops  -- pieces of a list, one after the other
 mod PartLists  -- parts read one after the other
-mod Counts  -- as many as are counted
+mod Counts  -- the counted number of them
 mod Replays  -- changes applied as they are read
-mod Ascending  -- what comes behind all others
+mod Ascending  -- what comes after all others
 mod Lists  -- meters and readings read in order
 mod Decoded  -- a house out of bytes
 pub mod DueDates  -- the days of due-date values

@@ -29,7 +29,7 @@ pub record AreMetersUpTo (count : ℕ) (bytes : List ℕ) (meters : List (Identi
   pub read : IsReadOf entry_at count bytes meters i rest
   pub ascend : MetersAscend meters
 
--- a meter that isn't behind those before it is in no ascending list
+-- a meter that isn't after those before it is in no ascending list
 pub meter_refused : (count : ℕ) (bytes : List ℕ) (meters : List (Identity × MeterRow)) (i : ℕ) (rest : List ℕ) (meter : Identity) (row : MeterRow) (after : List ℕ) (all : List (Identity × MeterRow)) (end : List ℕ)
     → AreMetersUpTo count bytes meters i rest → i < count → entry_at rest ≡ Some ((meter, row), after) → (All (λ other. identity_cmp other meter ≡ Less) (keys_of meters) → ⊥)
     → many entry_at count bytes ≡ Some (all, end) → MetersAscend all → ⊥

@@ -44,7 +44,7 @@ is_on_bus line address p = (p.line == line) && (p.address == address)
 abbrev pub among : {P : Type 0} → (P → P → Ordering) → List P → P → Bool
 among cmp places q = list_any (is_at (cmp q)) places
 
--- the meter with this row stands there
+-- the meter with this row is there
 abbrev pub is_in_flat : Place → MeterRow → Bool
 is_in_flat q row = is_eq (slice_cmp nat_cmp q.flat row.flat)
 

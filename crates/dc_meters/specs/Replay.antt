@@ -7,7 +7,7 @@ use Rattle.dc_changes.specs.History.{after, AcceptsAll}
 use Rattle.dc_changes.specs.Encoding.{change_bytes, changes_bytes}
 use Rattle.dc_changes.specs.Valid.{IsChange}
 
--- a front of the bytes spells changes, each accepted in turn and applied; the rest is behind it
+-- a prefix of the bytes spells changes, each accepted in turn and applied; the rest is after it
 pub record IsApplied (old new : Held) (bytes rest : List ℕ) : Type 0 where
   pub changes : List Change
   pub spelled : bytes ≡ changes_bytes changes ++ rest

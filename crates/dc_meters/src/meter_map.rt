@@ -158,7 +158,7 @@ impl<A: Allocator + Copy> MeterMap<A> {
             Some(row) => row.flat(),
         };
         if !self.orders.by_flat.insert(Place { flat, meter })? {
-            // It stands there already.
+            // It is there already.
             return Ok(());
         }
         let row = self.rows.get_mut(&meter).unwrap();

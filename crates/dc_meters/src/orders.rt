@@ -43,7 +43,7 @@ impl<A: Allocator + Copy> Orders<A> {
         }
     }
 
-    /// Files a reading that isn't filed, of so many due days. Where memory is refused, nothing is filed.
+    /// Files a reading that isn't filed, of this many due days. Where memory is refused, nothing is filed.
     pub(crate) fn file(&mut self, ended: Ended, days: &[Date]) -> Result<(), NoMemory>
         requires no_meter { IsUnfiled identity_cmp ended.serial self.old.by_meter.keys }
         requires no_day { IsUnfiled day_cmp ended.serial self.old.by_day.keys }

@@ -49,7 +49,7 @@ impl<A: Allocator + Copy> ReadingList<A> {
         }
     }
 
-    /// A reading more, behind all others.
+    /// A reading more, after all others.
     pub(crate) fn push(&mut self, reading: Reading<A>) -> Result<(), NoMemory>
         requires later { All (λ r. r.serial < reading.serial) self.old.items }
         ensures ok { OnOk result (self.new.items ≡ self.old.items ++ reading ∷ []) }
@@ -65,7 +65,7 @@ impl<A: Allocator + Copy> ReadingList<A> {
         Ok(())
     }
 
-    /// The open parts of a meter become a reading, behind all others; gives the bytes that it is counted as. Where
+    /// The open parts of a meter become a reading, after all others; gives the bytes that it is counted as. Where
     /// memory is refused, the meter keeps its parts.
     pub(crate) fn close(
         &mut self,

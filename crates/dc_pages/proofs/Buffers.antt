@@ -17,7 +17,7 @@ module _ (used count k : ℕ) (page bytes : List ℕ) (is : IsBuffer used page) 
   front_long : length (take used (drop 24 page)) ≡ used
   front_long = let long = is.long in length-take-le used (drop 24 page) (omega (arith, length-drop 24 page))
 
-  -- what is behind the head, with the bytes put in
+  -- what is after the head, with the bytes put in
   content : drop 24 grown ≡ (take used (drop 24 page) ++ bytes) ++ replicate (488 - (used + count)) 0
   content =
       let long = is.long in
@@ -57,7 +57,7 @@ sealed site session index used page new is e =
     e ∙ ap (λ (l : List ℕ). head_bytes site.kind site.version used index session site.sequence ++ l) is.clean
     ∙ ap (λ (n : ℕ). head_bytes site.kind site.version n index session site.sequence ++ (take used (drop 24 page) ++ replicate (488 - n) 0)) full
 
--- a head leaves the buffer behind it
+-- a head leaves the rest of the buffer
 pub headed_buffer : (kind version index session sequence used : ℕ) (page new : List ℕ) → IsBuffer used page → length new ≡ 512 → new ≡ head_bytes kind version used index session sequence ++ drop 24 page
     → IsBuffer used new
 headed_buffer kind version index session sequence used page new is long e =
@@ -71,7 +71,7 @@ buffer_long used page buffer is e =
     let small = is.small in
     ap length (sym e) ∙ length-take-le used (drop 24 page) (omega (arith, length-drop 24 page))
 
--- what one step of a put takes: a front of what is left of the bytes
+-- what one step of a put takes: a prefix of what is left of the bytes
 pub part_taken : (at count free : ℕ) (bytes : List ℕ) → at ≤ length bytes → count ≡ min free (length (take (length bytes - at) (drop at bytes)))
     → (take count (take (length bytes - at) (drop at bytes)) ≡ take count (drop at bytes)) × (length (take count (drop at bytes)) ≡ count) × (count ≡ min free (length bytes - at))
 part_taken at count free bytes within e =

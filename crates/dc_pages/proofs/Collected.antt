@@ -102,7 +102,7 @@ cut_neither site session payload bytes i n image is at e page_not commit_not = r
   no_commit = λ lt some commit. commit_not some (subst (IsCommit site session i) e commit);
 }
 
--- a page behind one that isn't full
+-- a page after one that isn't full
 pub cut_short : (site : Site) (session s : ℕ) (payload content bytes : List ℕ) (i n : ℕ) (image : Image) → site.kind ≢ commit_kind → IsBegun site session payload i image
     → n ≡ site.first + i → image n ≡ Bytes bytes → (length payload ≡ 488 * i → ⊥) → IsPage site s i content (Bytes bytes) → IsCutAt site n image
 cut_short site session s payload content bytes i n image other is at e not_full page = record {

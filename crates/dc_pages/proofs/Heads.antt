@@ -10,7 +10,7 @@ set_two [] a b long = absurd (omega arith)
 set_two (x ∷ []) a b long = absurd (omega arith)
 set_two (x ∷ y ∷ sector) a b long = refl
 
--- the two bytes, and then each number behind the one before
+-- the two bytes, and then each number after the one before
 pub head_written : (kind version used index session sequence : ℕ) (old a b c d e : List ℕ) → a ≡ (kind ∷ version ∷ []) ++ drop 2 old
     → b ≡ take 2 a ++ (number_bytes 2 used ++ drop 4 a) → c ≡ take 4 b ++ (number_bytes 4 index ++ drop 8 b)
     → d ≡ take 8 c ++ (number_bytes 8 session ++ drop 16 c) → e ≡ take 16 d ++ (number_bytes 8 sequence ++ drop 24 d)

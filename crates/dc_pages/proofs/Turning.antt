@@ -33,7 +33,7 @@ part_of_points site session index old written image fits pages at = record {
     not_both : (k : ℕ) → site.first ≤ k → k < site.first + index → (k < site.first) ⊎ (site.limit ≤ k) → ⊥
     not_both k le lt out = ⊎_elim (λ below. omega (arith, below)) (λ above. omega (arith, above)) out
 
--- a write behind those that were torn
+-- a write after those that were torn
 pub torn_more : (first count : ℕ) (old before : Image) (choices : Choices) (bytes : List ℕ) → ((k : ℕ) (s : Sector) → Contains (choices k) s → TornAt first count old before k s)
     → (k : ℕ) (s : Sector) → Contains (added choices (first + count) bytes k) s → TornAt first (count + 1) old (put before (first + count) bytes) k s
 torn_more first count old before choices bytes torn k s is = ⊎_elim here (λ (other : k ≡ first + count → ⊥).
@@ -129,7 +129,7 @@ module _ {D : Type 0} (reads : D → Image) (choices : D → Choices) (moment : 
     any_moment = flush_left start mid new index payload bytes fits page is time;
   }
 
-  -- the commit sector behind all pages
+  -- the commit sector after all pages
   module _ (start mid new : D) (pages : ℕ) (payload : List ℕ) (some : 488 * (pages - 1) < length payload) (all : length payload ≤ 488 * pages) (fits : site.first + pages < site.limit)
       (commit : IsCommit site session pages (Bytes (commit_bytes site session pages))) (is : on_disk start mid pages payload)
       (time : Elapses (moment mid) (moment new) (images_since mid) (images_since new) (IsImage (added (choices mid) (site.first + pages) (commit_bytes site session pages)))) where

@@ -15,11 +15,11 @@ pub record Draft : Type 0 where
 abbrev pub draft_len : Draft → ℕ
 draft_len draft = page_payload * draft.pages + length draft.buffer
 
--- so many bytes more and a commit sector fit
+-- this many bytes more and a commit sector fit
 abbrev pub HasRoom : Draft → ℕ → Type 0
 HasRoom draft more = page_payload * draft.site.first + draft_len draft + more + page_payload
     ≤ page_payload * draft.site.limit
 
--- so many bytes and a commit sector fit from a sector on, in a half that ends before `limit`
+-- this many bytes and a commit sector fit from a sector on, in a half that ends before `limit`
 abbrev pub FitsAt : ℕ → ℕ → ℕ → Type 0
 FitsAt first limit len = page_payload * first + len + page_payload ≤ page_payload * limit

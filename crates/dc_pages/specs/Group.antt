@@ -7,7 +7,7 @@ use Rattle.dc_sectors.specs.Disk.{Image}
 use Rattle.dc_fields.specs.Fields.{field, number_bytes}
 use Rattle.dc_pages.specs.declared.site.Site.{Site}
 
--- a page's sector: the bytes of its head, and the bytes of payload behind it
+-- a page's sector: the bytes of its head, and the bytes of payload after it
 abbrev pub head_len : ℕ
 head_len = 24
 
@@ -33,7 +33,7 @@ pub record IsHead (kind version used index session sequence : ℕ) (bytes : List
   pub session_is : field 8 8 bytes ≡ session
   pub sequence_is : field 8 16 bytes ≡ sequence
 
--- a readable page of that group with this content; what stands behind its used bytes isn't looked at
+-- a readable page of that group with this content; what follows its used bytes isn't looked at
 pub record IsPage (site : Site) (session index : ℕ) (content : List ℕ)
     (sector : Sector) : Type 0 where
   pub bytes : List ℕ
@@ -41,7 +41,7 @@ pub record IsPage (site : Site) (session index : ℕ) (content : List ℕ)
   pub head : IsHead site.kind site.version (length content) index session site.sequence bytes
   pub content_is : take (length content) (drop head_len bytes) ≡ content
 
--- a readable commit sector of that group, of so many pages
+-- a readable commit sector of that group, of this many pages
 pub record IsCommit (site : Site) (session pages : ℕ) (sector : Sector) : Type 0 where
   pub bytes : List ℕ
   pub readable : sector ≡ Bytes bytes
@@ -90,12 +90,12 @@ head_bytes kind version used index session sequence =
     ((((kind ∷ version ∷ []) ++ number_bytes 2 used) ++ number_bytes 4 index)
     ++ number_bytes 8 session) ++ number_bytes 8 sequence
 
--- the sector that is written for a page, with zeros behind its content
+-- the sector that is written for a page, with zeros after its content
 unfoldable pub page_bytes : (site : Site) (session index : ℕ) → List ℕ → List ℕ
 page_bytes site session index content =
     head_bytes site.kind site.version (length content) index session site.sequence
     ++ (content ++ replicate (page_payload - length content) 0)
 
--- the sector that is written for the commit of so many pages: it has no content
+-- the sector that is written for the commit of this many pages: it has no content
 abbrev pub commit_bytes : (site : Site) (session pages : ℕ) → List ℕ
 commit_bytes site session pages = page_bytes (record site { kind = commit_kind }) session pages []

@@ -1,4 +1,4 @@
--- How a sector fits behind the pages that were read (this product's image format).
+-- How a sector fits after the pages that were read (this product's image format).
 use Rattle.std.specs.Prelude.{◌≡◌, ◌⊎◌, ◌<◌, ◌≤◌, ℕ, Bool, true, false, List, length, take, drop}
 use Rattle.std.specs.Prelude.{Result, Ok, Err}
 use Rattle.dc_sectors.specs.declared.sector.Sector.TheVariants.{Bytes}
@@ -11,7 +11,7 @@ use Rattle.dc_pages.specs.declared.reader.Fit.{Fit}
 use Rattle.dc_pages.specs.declared.reader.Fit.TheVariants.{Page, Commit, Neither}
 use Rattle.dc_pages.specs.declared.site.Site.{Site}
 
--- behind `pages` pages of that session, or as the first
+-- after `pages` pages of that session, or as the first
 abbrev pub Judged : (site : Site) (session pages : ℕ) → List ℕ → Fit → Type 0
 Judged site session pages bytes (Page used s) =
     ((pages ≡ 0) ⊎ (s ≡ session)) × (0 < used) × (used ≤ page_payload)

@@ -8,7 +8,7 @@ pub mod Draft
 pub mod Fault
 -- groups of stamped sectors
 pub mod Group
--- how a sector fits behind the pages that were read
+-- how a sector fits after the pages that were read
 pub mod Judging
 -- what is promised of groups and images, each proved by the lemma that is named beside it
 pub mod Laws

@@ -12,7 +12,7 @@ pub record IsBegun (site : Site) (session : ℕ) (payload : List ℕ) (i : ℕ)
   pub fits : site.first + i ≤ site.limit
   pub page : (k : ℕ) → k < i → IsPage site session k (piece k payload) (image (site.first + k))
 
--- The sectors before n are pages of one group, and n is the first that doesn't fit behind them: it is
+-- The sectors before n are pages of one group, and n is the first that doesn't fit after them: it is
 -- no further page of it and no commit sector, or the half ends there. A page that isn't full is the last.
 pub record IsCutAt (site : Site) (n : ℕ) (image : Image) : Type 0 where
   pub session : ℕ

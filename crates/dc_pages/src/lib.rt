@@ -1,6 +1,6 @@
 //! Groups of stamped sectors: what is written together is read together, or not at all.
 //!
-//! This product's own format. A group is pages of 488 bytes of payload and a commit sector behind them,
+//! This product's own format. A group is pages of 488 bytes of payload and a commit sector after them,
 //! all stamped with one session and one sequence. Whether a group is complete is decided by the stamps
 //! alone, so that one sync makes the whole group durable. A [`Site`] says which group is meant, and where
 //! it lies.

@@ -39,7 +39,7 @@ impl Site {
             && usize::from(head.used) <= PAYLOAD
     }
 
-    // The head is that of the group's commit sector, behind so many pages of that session.
+    // The head is that of the group's commit sector, after this many pages of that session.
     fn is_commit(&self, head: &Head, session: u64, pages: u32) -> bool
         ensures { IsTrue result ↔ ((head.now.kind ≡ commit_kind)
             × (head.now.version ≡ self.now.version) × (head.now.sequence ≡ self.now.sequence)
@@ -53,7 +53,7 @@ impl Site {
             && head.used == 0
     }
 
-    // How a sector fits behind so many pages of that session.
+    // How a sector fits after this many pages of that session.
     fn judge(&self, bytes: &[u8; 512], session: u64, pages: u32) -> Fit
         requires { self.now.kind ≢ commit_kind }
         ensures { Judged self.now session pages bytes.now result }
@@ -72,9 +72,9 @@ impl Site {
     }
 }
 
-/// How a sector fits behind the pages that were read.
+/// How a sector fits after the pages that were read.
 pub(crate) enum Fit {
-    /// As a page with so many used bytes, of that session.
+    /// As a page with this many used bytes, of that session.
     Page(u16, u64),
     /// As the commit sector.
     Commit,
@@ -110,7 +110,7 @@ impl<A: Allocator> Reading<A> {
         Ok(())
     }
 
-    /// Reads the sector behind the pages, and says whether it completes the group.
+    /// Reads the sector after the pages, and says whether it completes the group.
     fn read_next<D: Disk>(&mut self, disk: &mut D, at: u32) -> Result<bool, GroupFault>
         requires kind { self.old.site.kind ≢ commit_kind }
         requires more { self.old.pages < 2 ^ 32 - 1 }

@@ -65,7 +65,7 @@ impl GroupWriter {
         self.site.limit
     }
 
-    /// Whether so many bytes more and the commit sector fit.
+    /// Whether this many bytes more and the commit sector fit.
     pub fn has_room(&self, more: usize) -> bool
         ensures { IsTrue result ↔ HasRoom self.now more }
     {

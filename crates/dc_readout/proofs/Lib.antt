@@ -1,6 +1,6 @@
 -- lemmas by topic
 
--- what each meaning tells of the line of the table that it comes from
+-- what each meaning says of the line of the table that it comes from
 pub mod Table
 -- what a telegram is that a session takes, by the table of answers
 pub mod Taken

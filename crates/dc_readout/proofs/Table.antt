@@ -1,4 +1,4 @@
--- What each meaning tells of the line of the table that it comes from.
+-- What each meaning says of the line of the table that it comes from.
 use Rattle.std.proofs.Common.{◌≡◌, ℕ, ◌+◌, ◌≤◌, ◌⊎◌, inl, inr, Bool, true, false, not, ◌&&◌, Option, Some, None, Ok, Err, Result, cond, eqb, arith, refl, sym, ◌∙◌, ap}
 use Rattle.std.proofs.lemmas.Bool.{eq-eqb}
 use Rattle.dc_linkframe.specs.Frame.{FrameSeen, ack, short, long}

@@ -70,7 +70,7 @@ abbrev pub commands : Option ℕ → ℕ
 commands None = 2
 commands (Some address) = 1
 
--- where a session stands after these verdicts, with so many telegrams settled
+-- where a session stands after these verdicts, with this many telegrams settled
 abbrev pub stage_of : Option ℕ → List Verdict → ℕ → Stage
 stage_of address verdicts settled =
     if list_any is_failed verdicts then Ended

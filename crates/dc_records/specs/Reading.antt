@@ -31,7 +31,7 @@ chain_len many room last (next ∷ rest) =
 abbrev pub split_at : ℕ → List ℕ → Result (List ℕ × List ℕ) BodyFault
 split_at n bytes = if nat_lt (length bytes) n then Err Cut else Ok (take n bytes, drop n bytes)
 
--- a length byte, and so many bytes
+-- a length byte, then that many bytes
 abbrev pub counted_at : List ℕ → Result (List ℕ × List ℕ) BodyFault
 counted_at [] = Err Cut
 counted_at (byte ∷ rest) = if nat_lt byte 0xC0 then split_at byte rest

@@ -52,7 +52,7 @@ subunit_digit dife = dife / 64 % 2
 abbrev pub IsLength : ℕ → ℕ → Type 0
 IsLength byte n = ((byte < 0xC0) × (n ≡ byte)) ⊎ ((0xC0 ≤ byte) × (byte < 0xF0) × (n ≡ byte % 16))
 
--- a length byte, and so many bytes
+-- a length byte, then that many bytes
 pub record IsCounted (text content : List ℕ) : Type 0 where
   pub byte : ℕ
   pub parts : text ≡ byte ∷ content

@@ -33,7 +33,7 @@ fn chain_len(many: BodyFault, room: usize, last: u8, bytes: &[u8]) -> Result<usi
     }
 }
 
-// A length byte and so many bytes: those bytes, and the rest.
+// A length byte, then that many bytes: those bytes, and the rest.
 fn counted(bytes: &[u8]) -> Result<(&[u8], &[u8]), BodyFault>
     ensures { Gives (λ x. (x.0.now, x.1.now)) result (counted_at bytes.now) }
 {

@@ -45,7 +45,7 @@ stands_by = StandsBy
 abbrev is_ready : ℕ → Root → ℕ → ℕ → State → Image → Type 0
 is_ready = IsReady
 
--- where the next group would go: behind the half's first sector, at most at its end
+-- where the next group would go: after the half's first sector, at most at its end
 pub place_within : (half_len : ℕ) (root : Root) (image : Image) (m place : ℕ) (state : State) → holds half_len root image m place state
     → (half_start half_len root.half < place) × (place ≤ half_end half_len root.half)
 place_within half_len root image zero place state is = let fits = is.group.fits in let end = is.end in (omega arith, omega arith)

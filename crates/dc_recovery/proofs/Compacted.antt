@@ -32,7 +32,7 @@ wider small great state le is = record {
   size_fits = (let fits = is.size_fits in omega arith);
 }
 
--- what is compacted: an image that is ready behind m groups, and the sequence that comes next
+-- what is compacted: an image that is ready after m groups, and the sequence that comes next
 pub record IsCompactable (half_len : ℕ) (root : Root) (m place sequence : ℕ) (state : State) (old : Image) : Type 0 where
   pub ready : IsReady half_len root m place state old
   pub small : root.half ≤ 1

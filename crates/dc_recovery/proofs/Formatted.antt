@@ -40,7 +40,7 @@ pub record IsFormatted (half_len : ℕ) (payload : List ℕ) (pages : ℕ) (stat
   pub root_is : IsRoot (first_root half_len) (image 2)
   pub group : IsGroup (base_site half_len (first_root half_len)) 1 payload pages image
   pub spells : SpellsState (budget_of half_len) payload state
-  -- the other root slot, and what lies behind the group
+  -- the other root slot, and what lies after the group
   pub other_slot : image 1 ≡ blank
   pub behind : (k : ℕ) → 3 + (pages + 1) ≤ k → k < 3 + 2 * half_len → image k ≡ blank
 

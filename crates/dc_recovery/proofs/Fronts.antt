@@ -1,4 +1,4 @@
--- For the crates above: images that stand for the state after a front of some changes.
+-- For the crates above: images that stand for the state after a prefix of some changes.
 use Rattle.std.proofs.Common.{⊎_elim, ◌+◌, ℕ, List, ◌++◌, length, take, ap, sym, subst, ◌∙◌, arith, length-append}
 use Rattle.std.proofs.lemmas.List.{take-append-le, take_all}
 use Rattle.std.proofs.Math.Seq.{take-append-add}
@@ -14,7 +14,7 @@ either_is_front half_len state changes image either = ⊎_elim
     (λ done. record { count = length changes; within = omega arith; stands = subst (λ (l : List Change). Stands half_len (after state l) image) (sym (take_all (length changes) changes (omega arith))) done })
     either
 
--- a front of a list is one of a longer list
+-- a prefix of a list is one of a longer list
 pub longer_front : (half_len : ℕ) (state : State) (changes more : List Change) (image : Image) → StandsForFront half_len state changes image → StandsForFront half_len state (changes ++ more) image
 longer_front half_len state changes more image front =
     let within = front.within in
@@ -24,7 +24,7 @@ longer_front half_len state changes more image front =
       stands = subst (λ (l : List Change). Stands half_len (after state l) image) (sym (take-append-le front.count changes more front.within)) front.stands;
     }
 
--- a front of what comes behind some changes is one of all
+-- a prefix of what comes after some changes is one of all
 pub front_behind : (half_len : ℕ) (state : State) (done more : List Change) (image : Image) → StandsForFront half_len (after state done) more image → StandsForFront half_len state (done ++ more) image
 front_behind half_len state done more image front =
     let within = front.within in

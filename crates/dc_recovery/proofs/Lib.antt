@@ -12,7 +12,7 @@ pub mod Drafts
 pub mod Encoded
 -- what an image stands for when it is formatted: a root of generation 1, a base group, and zeros
 pub mod Formatted
--- for the crates above: images that stand for the state after a front of some changes
+-- for the crates above: images that stand for the state after a prefix of some changes
 pub mod Fronts
 -- an image reads as one state
 pub mod Once

@@ -23,7 +23,7 @@ module _ {D : Type 0} (moment : D → ℕ) (images_since : D → ℕ → Image �
   pub not_read : (old : D) → ((image : Image) → images_since old (moment old) image → IsImage (choices old) image) → LeavesOnly moment images_since old old (IsImage (choices old))
   not_read old only = started moment images_since old (IsImage (choices old)) only
 
-  -- a sync behind a run of calls, whatever it answers; the premise on the images is the trait's counts_now
+  -- a sync after a run of calls, whatever it answers; the premise on the images is the trait's counts_now
   pub synced_behind : (old mid new : D) (P : Image → Type 0) → ((t : ℕ) (image : Image) → t ≤ moment mid → IsImage (choices mid) image → images_since mid t image)
       → LeavesOnly moment images_since old mid P → Elapses (moment mid) (moment new) (images_since mid) (images_since new) (IsImage (choices mid)) → LeavesOnly moment images_since old new P
   synced_behind old mid new P counts run time =

@@ -34,7 +34,7 @@ module _ (half_len : ℕ) (most : half_len ≤ 65536) (image : Image) where
   abbrev HasBaseGroup : Root → Type 0
   HasBaseGroup root = IsComplete (base_site half_len root) image
 
-  -- one group of changes behind m of them
+  -- one group of changes after m of them
   abbrev HasMoreBehind : Root → ℕ → ℕ → State → Type 0
   HasMoreBehind root m end state = HasMore half_len root (Holds half_len root image m) (root.base_sequence + suc m) end state image
 
@@ -52,7 +52,7 @@ module _ (half_len : ℕ) (most : half_len ≤ 65536) (image : Image) where
       let e : m + suc k ≡ suc (m + k) = omega arith in
       has_next root k m is.from is.was (subst (λ (n : ℕ). Holds half_len root image n is.from is.was) e is.before)
 
-  -- EACH STEP THAT FAILS EXCLUDES THOSE BEHIND IT
+  -- EACH STEP THAT FAILS EXCLUDES THOSE AFTER IT
 
   stops_at_root : (n : ℕ) (root : Root) → NoCurrent n → IsCurrent half_len root image → ⊥
   stops_at_root n root (inl none) current = none.rootless.none root current.chosen.here
@@ -215,7 +215,7 @@ module _ (half_len : ℕ) (most : half_len ≤ 65536) (image : Image) where
   one_refusal Device g tells tells' why why' = absurd tells
   one_refusal NoMemory g tells tells' why why' = absurd tells
 
-  -- an image whose root isn't spent behind the groups that are read isn't worn
+  -- an image whose root isn't spent after the groups that are read isn't worn
   pub not_worn : (root : Root) (m place : ℕ) (state : State) → ReadsBy half_len root m place state image → (IsSpent root (root.base_sequence + m) → ⊥) → IsWorn half_len image → ⊥
   not_worn root m place state by fine worn =
       let same : worn.root ≡ root = one_root worn.root root image worn.by.chosen by.chosen in

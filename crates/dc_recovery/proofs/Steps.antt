@@ -11,7 +11,7 @@ use Rattle.dc_recovery.specs.Sites.{base_site, change_site}
 use Rattle.dc_recovery.specs.Stands.{IsSequence, IsCurrent, IsReached, IsRead}
 use Rattle.dc_recovery.specs.Refusal.{IsDamagedAt}
 
--- the group of a site was read, in so many sectors
+-- the group of a site was read, in this many sectors
 abbrev IsThere : Site → List ℕ → ℕ → Image → Type 0
 IsThere site payload sectors image = (session : ℕ) × (pages : ℕ) × IsGroup site session payload pages image × (sectors ≡ pages + 1)
 
@@ -107,7 +107,7 @@ group_bad half_len root place last site sectors payload was image reached at_sit
       no_changes = none;
     })
 
--- behind the last complete group the image is read
+-- after the last complete group the image is read
 pub all_read : (half_len : ℕ) (root : Root) (place last : ℕ) (state : State) (image : Image) → IsReached half_len root place last state image
     → ((sequence : ℕ) → sequence ≡ last + 1 → IsSequence sequence → IsComplete (change_site half_len root sequence place) image → ⊥) → IsRead half_len root place last state image
 all_read half_len root place last state image reached none =

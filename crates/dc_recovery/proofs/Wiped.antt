@@ -59,13 +59,13 @@ blank_unformatted image blanks root has =
     (λ lost. lost_is_no_root root (image (slot root.generation)) lost has)
     (blanks (slot root.generation) at.0 at.1)
 
--- a group goes behind the slots
+-- a group goes after the slots
 pub attempt_unformatted : (site : Site) (session : ℕ) (payload : List ℕ) (zeros image : Image) → 3 ≤ site.first
     → ((k : ℕ) → 1 ≤ k → k ≤ 2 → zeros k ≡ blank) → IsAttempt site session payload zeros image → IsUnformatted image
 attempt_unformatted site session payload zeros image from blanks attempt =
     blank_unformatted image (λ k low up. inl (⊎_elim (λ part. part.outside k (inl (omega arith))) (λ torn. torn.torn.outside k (inl (omega arith))) attempt ∙ blanks k low up))
 
--- ZEROS WERE WRITTEN: the disk is settled, and blank behind sector 0.
+-- ZEROS WERE WRITTEN: the disk is settled, and blank after sector 0.
 pub record IsBlanked {D : Type 0} (reads : D → Image) (choices : D → Choices) (half_len : ℕ) (disk : D) : Type 0 where
   pub still : choices disk ≡ settled (reads disk)
   pub blanks : (k : ℕ) → 1 ≤ k → k < 3 + 2 * half_len → reads disk k ≡ blank
@@ -110,7 +110,7 @@ module _ {D : Type 0} {reads : D → Image} {choices : D → Choices} {half_len 
       next : Root
       next = next_of (zero_root half_len)
 
--- THE CALLS OF A FORMAT, one after another, with a sync behind each: zeros, the base group, and the first root
+-- THE CALLS OF A FORMAT, one after another, with a sync after each: zeros, the base group, and the first root
 module _ {D : Type 0} (moment : D → ℕ) (images_since : D → ℕ → Image → Type 0) (reads : D → Image) (half_len : ℕ) (start : D) where
   pub zeros_written : (wiped : D) → IsUnformatted (reads start) → LeavesOnly moment images_since start wiped (IsWiped (reads start)) → LeavesOnly moment images_since start wiped (IsBlankOrEmpty half_len)
   zeros_written wiped none wiping = weakened moment images_since start wiped (IsWiped (reads start)) (IsBlankOrEmpty half_len) wiping (λ image left. inl (wiped_unformatted (reads start) image none left))

@@ -17,7 +17,7 @@ longest_half = 65536
 abbrev pub half_len_of : ℕ → ℕ
 half_len_of sectors = min longest_half ((sectors - 3) / 2)
 
--- the first sector of a half, and the number behind its last one
+-- the first sector of a half, and the number after its last one
 abbrev pub half_start : ℕ → ℕ → ℕ
 half_start half_len half = 3 + half_len * half
 

@@ -45,7 +45,7 @@ pub record HasBadBase (half_len n : ℕ) (image : Image) : Type 0 where
   pub no_state : (state : State) → SpellsState (budget_of half_len) payload state → ⊥
   pub at : n ≡ half_start half_len root.half
 
--- a complete group of changes, behind those that could be read, spells no changes that are accepted in turn
+-- a complete group of changes, after those that could be read, spells no changes that are accepted in turn
 pub record HasBadGroup (half_len n : ℕ) (image : Image) : Type 0 where
   pub root : Root
   pub current : IsCurrent half_len root image
@@ -72,7 +72,7 @@ pub record HasOtherVersion (image : Image) : Type 0 where
   pub chosen : IsChosen root image
   pub other_version : IsKnown root.version → ⊥
 
--- A root has no next generation or no next session; or it is of version 1, and behind a group of that sequence there
+-- A root has no next generation or no next session; or it is of version 1, and after a group of that sequence there
 -- aren't the two generations and the sequence that make it one of version 2.
 abbrev pub IsSpent : Root → ℕ → Type 0
 IsSpent root last = ((root.generation ≡ 2 ^ 64 - 1) ⊎ (root.session ≡ 2 ^ 64 - 1))

@@ -36,7 +36,7 @@ compacted root sequence = record root {
 }
 
 -- THE ROOT IN FORCE ONCE AN IMAGE IS OPENED whose last group has that sequence: the next session's. An image of
--- version 1 has been compacted behind it.
+-- version 1 has been compacted after it.
 abbrev pub IsOpenedRoot : Root → ℕ → Root → Type 0
 IsOpenedRoot root last now = ((root.version ≡ image_version) × (now ≡ opened root))
     ⊎ ((root.version ≢ image_version) × (now ≡ compacted (opened root) (last + 1)))

@@ -106,7 +106,7 @@ pub record IsReady (half_len : ℕ) (root : Root) (m place : ℕ) (state : State
   pub stands : StandsBy half_len root m place state image
   pub unused : IsUnused half_len root.session (root.base_sequence + suc m) image
 
--- The image is ready behind the groups up to one of sequence `last`, and the next would go to `place`.
+-- The image is ready after the groups up to one of sequence `last`, and the next would go to `place`.
 pub record IsBegun (half_len : ℕ) (root : Root) (place last : ℕ) (state : State)
     (image : Image) : Type 0 where
   pub m : ℕ
@@ -152,7 +152,7 @@ abbrev pub StandsForEither : ℕ → State → State → Image → Type 0
 StandsForEither half_len before after image =
     Stands half_len before image ⊎ Stands half_len after image
 
--- the image stands for the state after a front of those changes
+-- the image stands for the state after a prefix of those changes
 pub record StandsForFront (half_len : ℕ) (state : State) (changes : List Change)
     (image : Image) : Type 0 where
   pub count : ℕ

@@ -23,7 +23,7 @@ pub record IsLaidOut (sectors : ℕ) (root : Root) (place : ℕ) : Type 0 where
   pub from : half_start (half_len_of sectors) root.half ≤ place
   pub within : place ≤ half_end (half_len_of sectors) root.half
 
--- a group of so many bytes fits behind the place
+-- a group of this many bytes fits after the place
 abbrev pub Fits : {D : Type 0} → ℕ → Kept D → ℕ → Type 0
 Fits sectors store len = FitsAt store.place (half_end (half_len_of sectors) store.root.half) len
 

@@ -18,7 +18,7 @@ abbrev pub IsAttempt : (site : Site) (session : ℕ) → List ℕ → Image → 
 IsAttempt site session payload old image =
     IsPartOf site session old image ⊎ IsTornGroup site session payload old image
 
--- the whole group is written, in so many sectors
+-- the whole group is written, in this many sectors
 pub record IsWritten (site : Site) (session : ℕ) (payload : List ℕ) (count : ℕ)
     (old image : Image) : Type 0 where
   pub pages : ℕ

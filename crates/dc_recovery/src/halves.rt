@@ -12,7 +12,7 @@ pub(crate) const FEWEST_SECTORS: u32 = 131;
 /// The most sectors that a half has.
 const LONGEST_HALF: u32 = 65536;
 
-/// The number of sectors of a half, on a disk of so many.
+/// The number of sectors of a half, on a disk of this many.
 pub(crate) fn half_len_of(sectors: u32) -> u32
     requires { fewest_sectors ≤ sectors }
     ensures exact { result ≡ half_len_of sectors }
@@ -32,7 +32,7 @@ pub(crate) fn half_start(half_len: u32, half: u8) -> u32
     if half == 0 { 3 } else { 3 + half_len }
 }
 
-/// The number behind a half's last sector.
+/// The number after a half's last sector.
 pub(crate) fn half_end(half_len: u32, half: u8) -> u32
     requires small { half ≤ 1 }
     requires most { half_len ≤ longest_half }

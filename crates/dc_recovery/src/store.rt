@@ -40,7 +40,7 @@ use dc_sectors::{Disk, Failed};
 use std::alloc::Allocator;
 use std::marker::Model;
 
-/// An open image. It writes groups of changes behind those that are there, and the whole state into the
+/// An open image. It writes groups of changes after those that are there, and the whole state into the
 /// other half.
 #[derive(Drop)]
 pub struct Store<D: Disk + Drop> {
@@ -130,7 +130,7 @@ impl<D: Disk + Drop> Store<D> {
     }
 
     /// Opens the image: reads the state, and begins a session by the next root. An image of version 1 becomes one of
-    /// version 2: behind the session's root the whole state goes into the other half, and the root after it names that.
+    /// version 2: after the session's root the whole state goes into the other half, and the root after it names that.
     ///
     /// # Errors
     ///
@@ -233,7 +233,7 @@ impl<D: Disk + Drop> Store<D> {
         self.is_stopped
     }
 
-    /// Whether a group of so many bytes fits in the half's rest: its pages of 488 bytes, and one commit sector.
+    /// Whether a group of this many bytes fits in the half's rest: its pages of 488 bytes, and one commit sector.
     pub fn fits(&self, len: usize) -> bool
         ensures { IsTrue result ↔ Fits (D.sectors self.now.disk) self.now len }
     {
@@ -242,7 +242,7 @@ impl<D: Disk + Drop> Store<D> {
         pages < (limit - self.place) as usize
     }
 
-    /// Writes a group of encoded changes behind those that are there, and syncs.
+    /// Writes a group of encoded changes after those that are there, and syncs.
     ///
     /// # Errors
     ///

@@ -73,7 +73,7 @@ above_count date r (x ∷ rs) above =
 not_after : (date : Day) (x r : ReadingRow) → r.serial ≤ x.serial → is_later date x r ≡ false
 not_after date x r below = never_later (is_eq (identity_cmp x.meter r.meter)) (nat_lt x.serial r.serial) (has_value date r) (le-ltb x.serial r.serial below)
 
--- each of these readings has a later one among all where the run over those behind it finds one
+-- each of these readings has a later one among all where the run over those after it finds one
 abbrev Agrees : Day → List ReadingRow → List ReadingRow → Type 0
 Agrees date all [] = Unit {0}
 Agrees date all (r ∷ rs) = (list_any (is_later date r) all ≡ is_some (last_of date r.meter rs)) × Agrees date all rs

@@ -29,7 +29,7 @@ pub fn due_table<A: Allocator + Copy>(
     Ok(bytes)
 }
 
-/// The due-date table for a date with the number of its rows, which are found once. The only error is want of memory.
+/// The due-date table for a date with the number of its rows, which are found once. The only error is out of memory.
 pub fn counted_due_table<A: Allocator + Copy>(
     alloc: A,
     house: &House<A>,
@@ -59,7 +59,7 @@ pub fn counted_due_table<A: Allocator + Copy>(
     })
 }
 
-/// The rows of the due-date table for a date, its header not counted. The only error is want of memory.
+/// The rows of the due-date table for a date, its header not counted. The only error is out of memory.
 pub fn due_rows<A: Allocator + Copy>(
     alloc: A,
     house: &House<A>,

@@ -5,11 +5,11 @@
 //! ends with a line feed. The values are those that the meters sent: exact decimals, flags in hex, `none` where a meter
 //! had no value to give.
 //!
-//! Proved: each table has exactly the text of its definition, or memory was refused and there is none; a count of rows
-//! is that of the table's rows. The definitions are a filter and a sort over the meters and the readings of the state:
-//! of each meter with a due-date value for the date the last reading that has one, also where the meter was taken out,
-//! by the flat of the readout and then by identity ([`due_table`]); each meter by flat and then by identity
-//! ([`register_table`]).
+//! Proved: each table has exactly the text of its definition, or memory was refused and there is no table; a count of
+//! rows is that of the table's rows. The definitions are a filter and a sort over the meters and the readings of the
+//! state: of each meter with a due-date value for the date the last reading that has one, also where the meter was
+//! taken out, by the flat of the readout and then by identity ([`due_table`]); each meter by flat and then by
+//! identity ([`register_table`]).
 #![tactic(auto)]
 
 mod due;

@@ -18,7 +18,7 @@ use itoa::Buffer;
 use std::alloc::Allocator;
 
 /// The register table: a header, and a line for each registered meter, by flat and then by identity. The only error is
-/// want of memory.
+/// out of memory.
 pub fn register_table<A: Allocator + Copy>(
     alloc: A,
     house: &House<A>,

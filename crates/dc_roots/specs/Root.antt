@@ -14,7 +14,7 @@ magic = 0x4D ∷ 0x42 ∷ 0x44 ∷ 0x43 ∷ []
 abbrev pub slot : ℕ → ℕ
 slot generation = 1 + generation % 2
 
--- The sector is readable and is a valid root that says this. The two bytes behind the half's, and
+-- The sector is readable and is a valid root that says this. The two bytes after the half's, and
 -- those from 36 on, aren't looked at.
 pub record IsRoot (root : Root) (sector : Sector) : Type 0 where
   pub bytes : List ℕ

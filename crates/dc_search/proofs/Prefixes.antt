@@ -64,7 +64,7 @@ digit_at (suc width) (suc place) number below total = digit_at width place numbe
 one_more_digit : (x d p : ℕ) → d < 10 → ((d == x % 10) && (x / 10 == p)) ≡ (x == p * 10 + d)
 one_more_digit x d p small = grind (arith, nat_tests)
 
--- the masks of a walk: these digits, which write this number, before so many free places
+-- the masks of a walk: these digits, which write this number, before this many free places
 pub record Node (digits : List ℕ) (free number : ℕ) : Type 0 where
   pub count : length digits + free ≡ 8
   pub value : number_from_digits 10 digits ≡ number

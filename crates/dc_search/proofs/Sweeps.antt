@@ -27,7 +27,7 @@ abbrev pub AreShort : List (List ℕ) → Type 0
 AreShort [] = Unit {0}
 AreShort (digits ∷ rest) = (length digits ≤ 8) × AreShort rest
 
--- the selections so far are the front of the walk, and the masks due are where the rest of it begins
+-- the selections so far are a prefix of the walk, and the masks due are where the rest of it begins
 pub record Swept (bus : List Identity) (budget : ℕ) (s : SearchState) : Type 0 where
   pub left : drop s.selections (walk_of bus) ≡ flat_map (walk_from bus) s.due
   pub found_so : s.found ≡ found_of (take s.selections (walk_of bus))

@@ -1,4 +1,4 @@
--- What the answer to a request for data tells of a search (EN 13757-2, RSP_UD; EN 13757-3, CI 72h).
+-- What the answer to a request for data says of a search (EN 13757-2, RSP_UD; EN 13757-3, CI 72h).
 use Rattle.std.specs.Prelude.{ℕ, ◌&&◌, List, Option, Some, None, Result, Ok, Err, ◌==◌}
 use Rattle.std.specs.Prelude.{if◌then◌else◌}
 use Rattle.dc_address.specs.declared.identity.Identity.{Identity}

@@ -1,6 +1,6 @@
 -- the definitions that contracts cite
 
--- what the answer to a request for data tells of a search (EN 13757-2, RSP_UD; EN 13757-3, CI 72h)
+-- what the answer to a request for data says of a search (EN 13757-2, RSP_UD; EN 13757-3, CI 72h)
 pub mod Answer
 -- how a mask of the walk is kept
 pub mod Branch

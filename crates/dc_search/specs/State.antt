@@ -117,7 +117,7 @@ abbrev pub due_of : Option (List ℕ) → List (List ℕ) → List (List ℕ)
 due_of None later = []
 due_of (Some digits) later = digits ∷ reverse later
 
--- nothing is kept behind nothing
+-- nothing is kept after nothing
 abbrev pub is_ended : Option (List ℕ) → List (List ℕ) → Bool
 is_ended None [] = true
 is_ended None (digits ∷ more) = false

@@ -23,7 +23,7 @@ pub enum Step {
 
 impl Step {
     /// The frame that is sent for it: the selection by the mask, or the request for data with frame count
-    /// bit 1. At the end there is none.
+    /// bit 1. At the end there is no request.
     pub fn request(&self) -> Option<FrameBuf>
         ensures exact { result ≡ option_map spelling (request_by self.now) }
         ensures short { IfSome result (λ request. length request ≤ 17) }

@@ -5,7 +5,7 @@ use Rattle.std.specs.Prelude.{ℕ, Bool, List, take, Option, Some, None, Result,
 pub data Call : Type 0 where
   -- the file's length in bytes; none where the call failed
   Measured : Option ℕ → Call
-  -- a read of so many bytes from this byte on, and the bytes that came: the first of them, or all
+  -- a read of this many bytes from this byte on, and the bytes that came: the first of them, or all
   Got : ℕ → ℕ → Option (List ℕ) → Call
   -- a write of these bytes from this byte on, and how many of them were taken
   Put : ℕ → List ℕ → Option ℕ → Call

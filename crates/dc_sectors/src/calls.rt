@@ -12,9 +12,9 @@ pub struct Calls {
     pub made: u64,
     /// How many failed; at `u64::MAX` it stays.
     pub failed: u64,
-    /// After so many more all fail.
+    /// After this many more all fail.
     pub fuse: Option<u64>,
-    /// After so many more one fails.
+    /// After this many more one fails.
     pub fails_at: Option<u64>,
 }
 

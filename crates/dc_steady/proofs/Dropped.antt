@@ -28,7 +28,7 @@ past_one last request answer copy is = ap (λ (b : Bool). if b then [] else answ
 length_one : (answers : List (List ℕ)) (answer : List ℕ) → length (answers ++ answer ∷ []) ≡ length answers + 1
 length_one answers answer = length-append answers (answer ∷ [])
 
--- so many answers were given, and each was a copy
+-- this many answers were given, and each was a copy
 pub record Copies {B : Type 0} (gives : B → List ℕ → B → Type 0) (last : Option Last) (request : List ℕ) (before : ℕ) (old now : B) (count : ℕ) : Type 0 where
   pub dropped : List (List ℕ)
   pub gave : IsRun gives old dropped now

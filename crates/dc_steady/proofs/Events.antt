@@ -42,7 +42,7 @@ silence_no_copy (Some l) request is = by_answer l.answer is
 
 -- ---- what is heard over a link
 
--- in time, or not, and then so many copies are dropped
+-- in time, or not, and then this many copies are dropped
 abbrev pub IsHeardLate : Option Last → List ℕ → List (List ℕ) → List (List ℕ) → List ℕ → Type 0
 IsHeardLate last request way left heard =
     (record { heard = heard; left = left } ≡ listened true last request way) ⊎ ((count : ℕ) × (heard ≡ []) × (left ≡ drop count way))

@@ -56,7 +56,7 @@ judged meters outcome frame r heard world = record world {
   running = running_after (verdict_by r.session heard) r;
 }
 
--- ONE EVENT, as the line layer lets it happen: the oldest so many answers arrive and are dropped before a request;
+-- ONE EVENT, as the line layer lets it happen: the oldest answers arrive and are dropped before a request;
 -- a readout begins where the line is clear, or after it has settled, under the PREMISE that nothing is under way when
 -- nothing came for twice the patience; the session's request goes out, and the session judges what the line hears of
 -- it; what was heard is committed; the concentrator stops, and what begins again has a new line.

@@ -13,7 +13,7 @@ and_late late count = min (late + count) (2 ^ 64 - 1)
 
 -- ---- a request and what is heard of it
 
--- so many answers at most are taken of one request; where all are copies, it is silence
+-- this many answers at most are taken of one request; where all are copies, it is silence
 abbrev pub most_copies : ℕ
 most_copies = 8
 
@@ -90,7 +90,7 @@ pub record StillWaits {B : Type 0} (gives : B → List ℕ → B → Type 0) (wa
 
 -- ---- quiet
 
--- so many answers and silences at most are taken of a line that settles
+-- this many answers and silences at most are taken of a line that settles
 abbrev pub most_settling : ℕ
 most_settling = 64
 

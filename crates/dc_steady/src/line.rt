@@ -14,7 +14,7 @@ use dc_gateway::AnswerBuf;
 use dc_line::{HalfBus, QuietBus};
 use dc_linkframe::FrameBuf;
 
-// So many answers and silences at most are taken of a line that settles.
+// This many answers and silences at most are taken of a line that settles.
 const MOST_SETTLING: u8 = 64;
 
 /// A bus whose answers may come late, the last long frame that was heard on it, and whether it is

@@ -8,7 +8,7 @@ use dc_gateway::AnswerBuf;
 use dc_line::HalfBus;
 use dc_linkframe::FrameBuf;
 
-// So many answers at most are taken of one request.
+// This many answers at most are taken of one request.
 const MOST_COPIES: u8 = 8;
 
 // The first answer that is no copy of the last long frame, or silence; nothing, where no answer is

@@ -72,7 +72,7 @@ begins_with-more all front more begins =
 pub begins_with-same : (known : Option (List ℕ)) → begins_with known known ≡ true
 begins_with-same known = begins_with-rest known known [] (sym (append_known-nil known))
 
--- bytes that are told, and more
+-- bytes that are known, and more
 pub begins_with-told : (all more : List ℕ) → begins_with (Some (all ++ more)) (Some all) ≡ true
 begins_with-told all more = begins_with-rest (Some (all ++ more)) (Some all) more refl
 
@@ -104,7 +104,7 @@ puts_front-second {old} {between} {new} a {b} first p = record {
   begins = let P : Option (List ℕ) → Type 0 = λ m. begins_with m new ≡ true in subst P (ap (λ (m : Option (List ℕ)). append_known m b) first ∙ append_known-more old a b) p.begins;
 }
 
--- a prefix of a piece, behind pieces that went in and before a rest
+-- a prefix of a piece, after pieces that went in and before a rest
 pub puts_front-within : {old between new : Option (List ℕ)} (before piece rest : List ℕ) {all : List ℕ} → Puts old between before → before ++ (piece ++ rest) ≡ all → PutsFront between new piece → PutsFront old new all
 puts_front-within {old} {between} {new} before piece rest {all} went is front =
     let P : List ℕ → Type 0 = λ xs. PutsFront old new xs in subst P is (puts_front-second before went (puts_front-first rest front))

@@ -5,7 +5,7 @@ ghost use Rattle.std.specs.Prelude.{◌≡◌, vec_len, IfOk};
 use dc_base::NoMemory;
 use std::alloc::Allocator;
 
-/// So many bytes. What they are is left open: a proof that saw them would write them out.
+/// This many bytes. What they are is left open: a proof that saw them would write them out.
 pub fn room<A: Allocator>(alloc: A, len: usize) -> Result<Vec<u8, A>, NoMemory>
     ensures { IfOk result (λ bytes. vec_len bytes ≡ len) }
 {

@@ -52,7 +52,7 @@ pub trait Sink {
         ensures bytes { OnOk result (Puts (written self.old) (written self.new) bytes.now) }
         ensures well { OnOk result (put_failures self.new ≡ put_failures self.old) }
 
-        // After a failed put what is written is a front of what would have been. It is counted.
+        // After a failed put what is written is a prefix of what would have been. It is counted.
         ensures err { OnErr result (PutsFront (written self.old) (written self.new) bytes.now) }
         ensures failed { OnErr result (HasRisen (put_failures self.old) (put_failures self.new)) }
 

@@ -85,7 +85,7 @@ pub record IsFolded (input text : List ℕ) (found : Bool) : Type 0 where
   pub text_is : text ≡ fold_text reads
   pub found_is : found ≡ any_unread reads
 
--- ---- the steps: what lines do to a house and to the text behind which their answers go
+-- ---- the steps: what lines do to a house and to the text after which their answers go
 
 pub record IsStep (line : List ℕ) (unread : Bool) (old new : Held)
     (before text : List ℕ) : Type 0 where

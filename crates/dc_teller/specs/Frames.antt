@@ -15,7 +15,7 @@ use Rattle.dc_records.specs.Telegram.{Parsed, telegram_at}
 use Rattle.dc_text.specs.Words.{number_word, byte_word, fault_line}
 use Rattle.dc_teller.specs.Telegram.{telegram_text}
 
--- how many bytes the text at the front has: as many as make a whole frame, or else all that are left
+-- how many bytes the text at the front has: those of a whole frame, or else all that are left
 abbrev pub len_by : List ℕ → Need → ℕ
 len_by bytes (Whole n) = n
 len_by bytes (More n) = length bytes
@@ -24,7 +24,7 @@ len_by bytes Bad = length bytes
 abbrev pub front_len : List ℕ → ℕ
 front_len bytes = len_by bytes (need_of bytes)
 
--- One text after the other, in so many turns.
+-- One text after the other, in this many turns.
 abbrev pub cut : ℕ → List ℕ → List (List ℕ)
 cut zero bytes = []
 cut (suc turns) [] = []

@@ -24,7 +24,7 @@ unfoldable pub record_line : Entry → List ℕ
 record_line r = codes "RECORD" ++ (record_words r
     ++ (hex_word r.vib ++ (hex_word r.content ++ (seen_word r ++ codes "\n"))))
 
--- how it ends, and how many bytes of the manufacturer's data stand there
+-- how it ends, and how many bytes of the manufacturer's data are there
 abbrev pub end_line : Ending → List ℕ
 end_line plain = codes "END\n"
 end_line (last rest) = codes "LAST" ++ number_word (length rest) ++ codes "\n"

@@ -154,7 +154,7 @@ pub fn fold_lines<A: Allocator + Copy, R: Source, W: Sink>(
     ensures too_long { IsErrOf result TellFault.TooLong
         → IfSome (R.left reader.old) (λ input. most_input < length input) }
 
-    // A fault of an end is told only where that end counted a failure.
+    // A fault of an end is reported only where that end counted a failure.
     ensures read { IsErrOf result TellFault.Read
         → HasRisen (R.take_failures reader.old) (R.take_failures reader.new) }
     ensures write { IsErrOf result TellFault.Write

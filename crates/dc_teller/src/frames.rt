@@ -44,7 +44,7 @@ pub fn read(text: &[u8]) -> Result<Frame<'_>, FrameFault>
     parse(text)
 }
 
-// Writes what a body has, where the CI field says that it is a telegram, and says whether it is none.
+// Writes what a body has, where the CI field says that it is a telegram, and says whether it isn't one.
 #[tactic(auto, using(dc_stream::proofs::Pieces::written), unfolding(crate::specs::Frames::content_text, crate::specs::Frames::is_bad_content))]
 fn put_content<W: Sink>(ci: u8, body: &[u8], out: &mut W) -> Result<bool, IoFault>
     ensures wrote { Wrote W.written W.put_failures result out.old out.new

@@ -33,7 +33,7 @@ pub fn hex_is_read_back()
 pub fn frames_are_told_in_turn()
     // Each byte belongs to one text, whatever the bytes are.
     ensures whole { (bytes : List ℕ) → concat (frames_of bytes) ≡ bytes }
-    // Frames that follow one another are told as they are, one by one.
+    // Frames that follow one another are printed as they are, one by one.
     ensures frames { (frames : List FrameSeen) → AllByRecursion HasRoom frames
         → frames_of (flat_map spelling frames) ≡ map spelling frames }
     ensures text { (frames : List FrameSeen) → AllByRecursion HasRoom frames

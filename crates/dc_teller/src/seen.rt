@@ -1,4 +1,4 @@
-//! The data point of a record, behind its data.
+//! The data point of a record, after its data.
 
 ghost use Rattle.std.specs.Prelude.{◌≡◌, OnOk, OnErr};
 ghost use Rattle.dc_records.specs.Record.{view};
@@ -33,7 +33,7 @@ fn put_point<W: Sink>(point: &Point, out: &mut W) -> Result<(), IoFault>
     put_unit(&point.value, point.quantity, out)
 }
 
-// Writes a point, or that there is none.
+// Writes a point, or that the record has no point.
 #[tactic(auto, using(dc_stream::proofs::Pieces::written))]
 fn put_answer<W: Sink>(seen: &Seen, out: &mut W) -> Result<(), IoFault>
     ensures { Wrote W.written W.put_failures result out.old out.new (seen_text seen.now) }

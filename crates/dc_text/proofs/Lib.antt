@@ -4,7 +4,7 @@
 pub mod Digits
 -- one more pair of digits, read or written
 mod Pairs
--- a piece placed behind the first bytes of a room
+-- a piece placed after the first bytes of a room
 pub mod Placed
 -- what the table of digits' values has at each place
 mod Values

@@ -1,4 +1,4 @@
--- A piece placed behind the first bytes of a room.
+-- A piece placed after the first bytes of a room.
 use Rattle.std.proofs.Common.{◌≡◌, ℕ, ◌+◌, List, ◌++◌, length, take, sym, ap, ◌∙◌}
 use Rattle.std.proofs.Math.Seq.{take-append-add}
 

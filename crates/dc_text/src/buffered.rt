@@ -36,7 +36,7 @@ impl<W: Sink + Drop, A: Allocator> Model for Buffered<W, A> {
 }
 
 impl<W: Sink + Drop, A: Allocator> Buffered<W, A> {
-    /// The writer behind room for so many bytes.
+    /// The writer behind room for this many bytes.
     ///
     /// # Errors
     /// Where memory is refused, and the writer is then let go.
@@ -51,7 +51,7 @@ impl<W: Sink + Drop, A: Allocator> Buffered<W, A> {
         })
     }
 
-    /// Puts what waits.
+    /// Writes what is buffered.
     pub fn flush(&mut self) -> Result<(), IoFault>
         ensures wrote { Wrote W.written W.put_failures result self.old.writer self.new.writer
             self.old.held }
@@ -63,7 +63,7 @@ impl<W: Sink + Drop, A: Allocator> Buffered<W, A> {
         put
     }
 
-    /// Puts what waits, and gives the writer back with the answer.
+    /// Writes what is buffered, and gives the writer back with the answer.
     pub fn finish(self) -> (W, Result<(), IoFault>)
         ensures { Wrote W.written W.put_failures result.1 self.writer result.0 self.held }
     {
@@ -73,7 +73,7 @@ impl<W: Sink + Drop, A: Allocator> Buffered<W, A> {
         (writer, put)
     }
 
-    // Whether so many bytes more fit.
+    // Whether this many bytes more fit.
     #[inline]
     fn has_place(&self, count: usize) -> bool
         ensures { IsTrue result ↔ (length self.now.held + count ≤ self.now.capacity) }
@@ -91,7 +91,7 @@ impl<W: Sink + Drop, A: Allocator> Buffered<W, A> {
         self.used += piece.len();
     }
 
-    // Puts what waits, and then a piece that had no place behind it.
+    // Writes what is buffered, and then a piece that had no place after it.
     #[cold]
     #[tactic(auto, using(dc_stream::proofs::Pieces::written))]
     fn put_past(&mut self, piece: &[u8]) -> Result<(), IoFault>
@@ -123,7 +123,7 @@ impl<W: Sink + Drop, A: Allocator> Sink for Buffered<W, A> {
     }
 }
 
-// Places a piece behind the first `at` bytes.
+// Places a piece after the first `at` bytes.
 #[inline]
 #[tactic(auto, using(crate::proofs::Placed::piece_placed))]
 fn place(bytes: &mut [u8], at: usize, piece: &[u8])

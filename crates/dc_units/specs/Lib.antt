@@ -8,7 +8,7 @@ pub mod Number
 pub mod Point
 -- the printed units of quantities (this product), and the data fields in which a quantity comes
 pub mod Quantity
--- the units of codes (EN 13757-3, primary VIFs and the tables behind FB and FD; OMS Volume 2)
+-- the units of codes (EN 13757-3, primary VIFs and the tables after FB and FD; OMS Volume 2)
 pub mod Table
 -- the texts of decimals, dates and values (this product)
 pub mod Text

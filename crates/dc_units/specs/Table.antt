@@ -1,4 +1,4 @@
--- The units of codes (EN 13757-3, primary VIFs and the tables behind FB and FD; OMS Volume 2), as one
+-- The units of codes (EN 13757-3, primary VIFs and the tables after FB and FD; OMS Volume 2), as one
 -- table over the whole value information block.
 use Rattle.std.specs.Prelude.{ℕ, ◌+◌, ◌-◌, Bool, ◌&&◌, ◌==◌, nat_eq, nat_le, List, [], ◌∷◌, length}
 use Rattle.std.specs.Prelude.{get_or, Option, ℤ, pos, ◌+ℤ◌}
@@ -34,7 +34,7 @@ abbrev pub vif : ℕ → ℕ → Quantity → ℤ → Row
 vif first last quantity exponent =
     record { before = []; first = first; last = last; quantity = quantity; exponent = exponent }
 
--- an extension VIF, FB or FD, and one code byte behind it
+-- an extension VIF, FB or FD, and one code byte after it
 abbrev pub behind : ℕ → ℕ → ℕ → Quantity → ℤ → Row
 behind extension first last quantity exponent =
     record {

@@ -8,7 +8,7 @@ use Rattle.dc_units.specs.declared.value.Value.TheVariants.{Number, Flags, Day a
 use Rattle.dc_units.specs.declared.value.Value.TheVariants.{None as NoValue}
 use Rattle.dc_units.specs.Date.{Day}
 
--- the last so many digits of a number in a base, in capitals
+-- the last digits of a number in a base, this many, in capitals
 unfoldable pub last_digits : ℕ → ℕ → ℕ → List ℕ
 last_digits base zero n = []
 last_digits base (suc count) n = last_digits base count (n / base)
@@ -18,11 +18,11 @@ abbrev pub sign : ℤ → List ℕ
 sign (pos n) = []
 sign (negsuc n) = codes "-"
 
--- A number and so many zeros; nothing is `0`.
+-- A number and this many zeros; nothing is `0`.
 abbrev pub whole_text : ℕ → ℕ → List ℕ
 whole_text n zeros = if n == 0 then codes "0" else decimal n ++ replicate zeros 48
 
--- A number with so many of its digits behind the point, and at least one before.
+-- A number with this many of its digits after the point, and at least one before.
 abbrev pub fraction_text : ℕ → ℕ → List ℕ
 fraction_text n places = decimal (n / 10 ^ places) ++ (codes "." ++ last_digits 10 places n)
 

@@ -48,7 +48,7 @@ fn put_magnitude(n: u64, exponent: i8, room: &mut [u8], end: usize) -> usize
     }
 }
 
-/// Writes n with so many digits behind the point.
+/// Writes n with this many digits after the point.
 #[tactic(auto, using(crate::proofs::Ascii::fraction_ascii))]
 fn put_fraction(n: u64, places: usize, room: &mut [u8], end: usize) -> usize
     requires few { places ≤ 128 }
@@ -62,7 +62,7 @@ fn put_fraction(n: u64, places: usize, room: &mut [u8], end: usize) -> usize
     write_digits(whole, room, end - places - 1)
 }
 
-/// Writes n and so many zeros, but nothing as `0`.
+/// Writes n and this many zeros, but nothing as `0`.
 #[tactic(auto, using(crate::proofs::Ascii::whole_ascii))]
 fn put_whole(n: u64, zeros: usize, room: &mut [u8], end: usize) -> usize
     requires few { zeros ≤ 128 }

@@ -3,8 +3,8 @@ ghost use Rattle.std.specs.Prelude.{◌≡◌, ℕ, ◌/◌, ◌^◌, ◌<◌, �
 ghost use Rattle.std.specs.Str.Parse.{digits_value};
 ghost use Rattle.dc_units.specs.Text.{last_digits};
 
-/// A number with digits behind the point loses nothing: the digits before and behind the point are, read
-/// on, the mantissa again, and behind the point there are as many as were asked for.
+/// A number with digits after the point loses nothing: the digits before and after the point are, read
+/// on, the mantissa again, and after the point there are the digits that were asked for.
 pub fn texts_are_exact()
     ensures digits { (n places : ℕ) → n < 2 ^ 64
         → digits_value 10 (decimal (n / 10 ^ places) ++ last_digits 10 places n) ≡ n }

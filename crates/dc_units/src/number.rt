@@ -16,7 +16,7 @@ pub(crate) fn unsigned(bytes: &[u8]) -> u64
     LittleEndian::read_uint(bytes, bytes.len())
 }
 
-/// Two's complement of 1 to 8 bytes, the lowest first (type B). The least number is none.
+/// Two's complement of 1 to 8 bytes, the lowest first (type B). The least number counts as no number.
 #[tactic(auto, using(crate::proofs::Bytes::signed_bytes))]
 pub(crate) fn integer(bytes: &[u8]) -> Option<i64>
     requires { (1 ≤ length bytes.now) × (length bytes.now ≤ 8) }
@@ -28,7 +28,7 @@ pub(crate) fn integer(bytes: &[u8]) -> Option<i64>
     Some(LittleEndian::read_int(bytes, bytes.len()))
 }
 
-/// The least number of so many bytes in two's complement, as the bytes say it.
+/// The least number of this many bytes in two's complement, as the bytes say it.
 #[inline]
 fn least(len: usize) -> u64
     requires { (1 ≤ len) × (len ≤ 8) }
@@ -38,7 +38,7 @@ fn least(len: usize) -> u64
 }
 
 /// Packed BCD of 1 to 6 bytes, the lowest first (type A). F as the highest digit means minus, any other
-/// digit above 9 is none.
+/// digit above 9 is no number.
 pub(crate) fn bcd(bytes: &[u8]) -> Option<i64>
     requires { (1 ≤ length bytes.now) × (length bytes.now ≤ 6) }
     ensures { result ≡ bcd bytes.now }

@@ -4,7 +4,7 @@ ghost use Rattle.std.specs.Prelude.{length, drop};
 ghost use Rattle.std.specs.Fmt.{digit_glyph};
 ghost use Rattle.dc_units.specs.Text.{last_digits};
 
-/// The longest text of a value has so many bytes at most.
+/// The longest text of a value has this many bytes at most.
 pub const TEXT_ROOM: usize = 512;
 
 /// A digit, 0 to 15, in ASCII.

@@ -49,7 +49,7 @@ fn primary(vif: u8) -> Option<(Quantity, i8)>
     Some(unit)
 }
 
-/// The units of the codes behind FB.
+/// The units of the codes after FB.
 #[tactic(auto, unfolding(crate::specs::Table::row_of))]
 fn behind_fb(code: u8) -> Option<(Quantity, i8)>
     ensures { result ≡ unit_at (0xFB ∷ code ∷ []) }

@@ -12,7 +12,7 @@ use std::fmt;
 #[derive(Clone, Copy, Debug, PartialEq, Eq)]
 pub enum Value {
     Number(Decimal),
-    /// Flags in so many bytes; bit 0 is the lowest bit of the first byte sent.
+    /// Flags in this many bytes; bit 0 is the lowest bit of the first byte sent.
     Flags { len: u8, bits: u64 },
     /// A day.
     Day(Date),

@@ -24,7 +24,7 @@ use Rattle.dc_upload.specs.declared.verdict.Verdict.TheVariants.{Repeat, Do, Sho
 unfoldable pub done_line : ℕ → List ℕ
 done_line number = codes "OK" ++ number_word number ++ codes "\n"
 
--- the number behind a code's word, if it has one
+-- the number after a code's word, if it has one
 abbrev pub detail_of : Code → List ℕ
 detail_of Syntax = []
 detail_of Store = []
@@ -75,7 +75,7 @@ text_for (Refuse code) line s = refusal_line code
 unfoldable pub reply_text : Held → OfficeLine → List ℕ
 reply_text house line = text_for (verdict_of house line) line house.state
 
--- ---- why there is none
+-- ---- why there is no reply
 
 -- memory is wanted for a REPORT alone
 abbrev pub TakesMemory : OfficeLine → Type 0

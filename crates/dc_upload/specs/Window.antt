@@ -31,6 +31,6 @@ reading_line reading = codes "READING" ++ number_word reading.serial ++ owner_wo
 unfoldable pub reading_lines : ReadingRow → List ℕ
 reading_lines reading = reading_line reading ++ part_lines 1 reading.parts
 
--- the readings with at least a serial, so many of them at most
+-- the readings with at least a serial, this many of them at most
 abbrev pub window : ℕ → ℕ → State → List ReadingRow
 window from count s = take count (readings_from from s.readings)

@@ -17,7 +17,7 @@ use dc_report::Date;
 pub enum OfficeLine {
     /// A command under its number: `n FIT ident line addr flat` and the like.
     Command(Numbered),
-    /// `WINDOW from count`: the readings from a serial on, at most so many.
+    /// `WINDOW from count`: the readings from a serial on, at most this many.
     Window {
         /// The first serial, from 1, of at most 18 digits.
         from: u64,
@@ -63,7 +63,7 @@ fn parse_command(text: &[u8]) -> Option<OfficeLine>
     Some(OfficeLine::Command(ordered))
 }
 
-// What stands behind `WINDOW` and a space.
+// What follows `WINDOW` and a space.
 fn behind_window(text: &[u8]) -> Option<&[u8]>
     ensures found { IfSome result (λ bounds. text.now ≡ codes "WINDOW" ++ 32 ∷ bounds.now) }
     ensures only { (bounds : List ℕ) → text.now ≡ codes "WINDOW" ++ 32 ∷ bounds → IsSome result }
@@ -90,7 +90,7 @@ fn parse_window(bounds: &[u8]) -> Option<OfficeLine>
     Some(OfficeLine::Window { from, count })
 }
 
-// What stands behind `REPORT` and a space.
+// What follows `REPORT` and a space.
 fn behind_report(text: &[u8]) -> Option<&[u8]>
     ensures found { IfSome result (λ date. text.now ≡ codes "REPORT" ++ 32 ∷ date.now) }
     ensures only { (date : List ℕ) → text.now ≡ codes "REPORT" ++ 32 ∷ date → IsSome result }

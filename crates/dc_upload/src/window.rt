@@ -15,7 +15,7 @@ use dc_text::{put_hex, put_number_word};
 use std::alloc::Allocator;
 use std::collections::vec_deque::Iter;
 
-/// Writes the readings from a serial on, at most so many, with their parts, and how many they were. What stands
+/// Writes the readings from a serial on, at most this many, with their parts, and how many they were. What stands
 /// before that serial isn't gone over.
 #[tactic(auto, using(dc_stream::proofs::Pieces::written), unfolding(crate::specs::Reply::window_text))]
 pub fn write_window<A: Allocator + Copy, W: Sink>(
@@ -33,7 +33,7 @@ pub fn write_window<A: Allocator + Copy, W: Sink>(
     write_end(shown, out)
 }
 
-// The first of the readings, so many.
+// The first of the readings, this many.
 #[tactic(auto, using(dc_stream::proofs::Pieces::written))]
 fn write_readings<A: Allocator, W: Sink>(
     mut readings: Iter<'_, Reading<A>>,

@@ -4,7 +4,7 @@
 pub mod Lines
 -- what is kept of the changes that aren't committed yet
 pub mod Waiting
--- a telegram that is taken into the register and into what waits
+-- a telegram that is taken into the register and into the pending changes
 pub mod Taking
--- when what waits can't be written
+-- when the pending changes can't be written
 pub mod Writing

@@ -1,4 +1,4 @@
--- A telegram that is taken into the register and into what waits (this product).
+-- A telegram that is taken into the register and into the pending changes (this product).
 use Rattle.std.specs.Prelude.{◌≡◌, ℕ, ◌+◌, ◌++◌, Option, None, Some, is_some, nat_le, if◌then◌else◌}
 use Rattle.dc_records.specs.Telegram.{Parsed}
 use Rattle.dc_changes.specs.declared.change.Change.{Change}

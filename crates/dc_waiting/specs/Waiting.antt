@@ -8,7 +8,7 @@ pub record Waiting : Type 0 where
   pub bytes : List ℕ
   pub count : ℕ
 
--- at most so many changes wait for a commit
+-- at most this many changes wait for a commit
 abbrev pub most_waiting : ℕ
 most_waiting = 4
 

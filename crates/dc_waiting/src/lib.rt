@@ -1,4 +1,4 @@
-//! What waits for a commit (this product): the telegrams that were taken and aren't on the disk yet, and the eight
+//! The pending changes (this product): the telegrams that were taken and aren't on the disk yet, and the eight
 //! bus lines that wait with them.
 //!
 //! A telegram is taken by [`take`]: the register has it from then on, and its change waits, encoded, in a buffer of

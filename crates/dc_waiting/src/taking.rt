@@ -1,4 +1,4 @@
-//! The taking of a telegram: into the register, and among what waits.
+//! The taking of a telegram: into the register, and among the pending changes.
 
 ghost use Rattle.std.specs.Prelude.{◌≡◌, ◌⊎◌, ◌≤◌, length, None, Some, Ok, Err, OnOk, OnErr};
 ghost use Rattle.dc_changes.specs.Body.{longest_body};
@@ -13,8 +13,8 @@ use dc_meters::House;
 use dc_records::Telegram;
 use std::alloc::Allocator;
 
-/// Takes a telegram: applies it to the register, and adds its change to what waits. The body is copied once, into the
-/// register.
+/// Takes a telegram: applies it to the register, and adds its change to the pending changes. The body is copied once,
+/// into the register.
 ///
 /// # Errors
 /// `PendingFull` where no more changes may wait, then `Full` where the register refuses the telegram, then `NoMemory`.
@@ -27,7 +27,7 @@ pub fn take<A: Allocator + Copy>(
     telegram: &Telegram<'_>,
 ) -> Result<(), TakeFault>
     requires { length (parsed telegram.now).body ≤ longest_body }
-    // What stands against it is answered, and nothing else is but want of memory.
+    // What stands against it is answered, and nothing else is but out of memory.
     ensures refused { (fault : _) → refuses house.old.budget waiting.old.count
         (change_of moment.seconds part (parsed telegram.now)) house.old.state ≡ Some fault
         → result ≡ Err fault }

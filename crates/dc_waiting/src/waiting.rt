@@ -10,7 +10,7 @@ use dc_changes::{Change, encode_change};
 use dc_stream::{FixedSink, IoFault};
 use std::marker::Model;
 
-// At most so many changes wait.
+// At most this many changes wait.
 const MOST: u8 = 4;
 
 // Room for as many of the longest change.

@@ -1,4 +1,4 @@
-//! The commit of what waits.
+//! The commit of the pending changes.
 
 ghost use Rattle.std.specs.Prelude.{◌≡◌, ◌≤◌, length, IsErrOf, OnOk};
 ghost use Rattle.dc_base.specs.Failures.{HasRisen};
@@ -27,7 +27,8 @@ impl<D: Disk + Drop, A: Allocator + Copy> Concentrator<D, A> {
     ///
     /// # Errors
     /// `Stopped` after a failure; `Worn` where there is no next sequence or generation, and nothing has changed;
-    /// `Device` where the disk failed: what waits may be on the disk or not, and nothing more is asked or written.
+    /// `Device` where the disk failed: the pending changes may be on the disk or not, and nothing more is asked or
+    /// written.
     pub fn commit(&mut self) -> Result<usize, CommitFault>
         ensures may { (origin : D) (core : Core)
             → IsAt (D.keeps origin) D.sectors D.reads D.choices self.old core
@@ -37,7 +38,7 @@ impl<D: Disk + Drop, A: Allocator + Copy> Concentrator<D, A> {
             → IsAt (D.keeps origin) D.sectors D.reads D.choices self.new
             (next core commits (committed result)) }
 
-        // A stop within it leaves what is committed and a front of what waits.
+        // A stop within it leaves what is committed and a prefix of the pending changes.
         ensures any_moment { (origin : D) → D.keeps origin → (core : Core)
             → IsAt (D.keeps origin) D.sectors D.reads D.choices self.old core
             → LeavesOnly D.moment D.images_since self.old.store.disk self.new.store.disk

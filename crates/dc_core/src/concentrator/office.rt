@@ -36,9 +36,10 @@ use dc_waiting::Lines;
 use std::alloc::Allocator;
 
 impl<D: Disk + Drop, A: Allocator + Copy> Concentrator<D, A> {
-    /// Answers a line of the office, which comes without its line end. What waits is committed first, so nothing is
-    /// judged or shown that isn't on the disk; a new command is applied and committed before `OK`. A command that
-    /// removes a meter ends its session. Memory is taken for a new command, and for the table of a REPORT.
+    /// Answers a line of the office, which comes without its line end. The pending changes are committed first, so
+    /// nothing is judged or shown that isn't on the disk; a new command is applied and committed before `OK`. A
+    /// command that removes a meter ends its session. Memory is taken for a new command, and for the table of a
+    /// REPORT.
     ///
     /// # Errors
     /// `WriteFault` where the writer failed. What the line did stands then, and a command's repeat answers `OK`; a
@@ -82,7 +83,7 @@ impl<D: Disk + Drop, A: Allocator + Copy> Concentrator<D, A> {
         self.answer(&line, out)
     }
 
-    // Commits what waits; a store that has stopped takes no line.
+    // Commits the pending changes; a store that has stopped takes no line.
     fn settle(&mut self) -> Result<(), CommitFault>
         ensures ok { (origin : D) (core : Core)
             → IsAt (D.keeps origin) D.sectors D.reads D.choices self.old core

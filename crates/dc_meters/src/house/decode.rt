@@ -104,7 +104,7 @@ fn reading_at<A: Allocator + Copy>(
     Ok((Reading::new(serial, meter, flat, parts, due_days), rest))
 }
 
-/// Whether a meter comes behind all of these.
+/// Whether a meter comes after all of these.
 fn is_behind<A: Allocator + Copy>(meters: &MeterMap<A>, meter: &Identity) -> bool
     ensures yes { result ≡ true → All (λ other.
         identity_cmp other meter.now ≡ Less) (keys_of meters.now.entries) }
@@ -157,7 +157,7 @@ fn meters_at<A: Allocator + Copy>(
     each_meter(alloc, count, rest)
 }
 
-/// Whether a reading of this serial comes behind all of these.
+/// Whether a reading of this serial comes after all of these.
 fn is_later<A: Allocator + Copy>(readings: &ReadingList<A>, serial: u64) -> bool
     requires { IsStrictlySortedBy nat_cmp (map (λ r. r.serial) readings.now.items) }
     ensures yes { result ≡ true → All (λ r. r.serial < serial) readings.now.items }
@@ -169,7 +169,7 @@ fn is_later<A: Allocator + Copy>(readings: &ReadingList<A>, serial: u64) -> bool
     }
 }
 
-/// Whether a serial is the next of a state's readings: between the mark and the next serial, behind all of these.
+/// Whether a serial is the next of a state's readings: between the mark and the next serial, after all of these.
 fn is_next_serial<A: Allocator + Copy>(
     readings: &ReadingList<A>,
     confirmed: u64,

@@ -74,7 +74,7 @@ chain_many many room last (next ∷ ten) more goes len =
     let some : eqb room 0 ≡ false = grind (arith, nat_tests) in
     rw (on, some, chain_many many (room - 1) next ten more goes.1 (omega arith)) refl
 
--- ---- so many bytes
+-- ---- this many bytes
 
 -- what completes a text
 record Completes (P : List ℕ → Type 0) (bytes : List ℕ) : Type 0 where
@@ -92,7 +92,7 @@ split_err n bytes f e =
       | inr p ↦ absurd (let w = p.1 in cc)
     ]
 
--- ---- a length byte, and so many bytes
+-- ---- a length byte, then that many bytes
 
 abbrev HasCounted : List ℕ → Type 0
 HasCounted text = (content : List ℕ) × IsCounted text content

@@ -66,7 +66,7 @@ chain_again many room last (next ∷ chain) rest h le =
     let some : eqb room 0 ≡ false = grind (arith, nat_tests) in
     rw (more, some, chain_again many (room - 1) next chain rest h.1 (omega arith)) (ap (λ (k : ℕ). Ok k) (add-one (length chain)))
 
--- ---- so many bytes
+-- ---- this many bytes
 
 pub record Split (n : ℕ) (bytes front rest : List ℕ) : Type 0 where
   pub parts : bytes ≡ front ++ rest
@@ -83,7 +83,7 @@ split_again n front rest len =
     let long : ltb (length (front ++ rest)) n ≡ false = le-ltb _ _ (omega (arith, length-append front rest)) in
     rw (long, take_at front rest n len, drop_at front rest n len) refl
 
--- ---- a length byte, and so many bytes
+-- ---- a length byte, then that many bytes
 
 pub record Counted (bytes content rest : List ℕ) : Type 0 where
   pub text : List ℕ

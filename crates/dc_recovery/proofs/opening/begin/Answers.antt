@@ -9,7 +9,7 @@ use Rattle.dc_recovery.proofs.opening.begin.Given.{Over}
 use Rattle.dc_recovery.proofs.opening.begin.Goals.{After-compact_into_other_half}
 use Rattle.dc_recovery.proofs.opening.begin.Goals as goal
 
--- THE SESSION HAS BEGUN, behind m groups, and the state is compacted with the next sequence.
+-- THE SESSION HAS BEGUN, after m groups, and the state is compacted with the next sequence.
 record HasBegun (g : Over) (c : After-compact_into_other_half g) (m : ℕ) : Type 0 where
   at : c.args.found.now.last + 1 ≡ c.in_ok-begun.begun.base_sequence + suc m
   ready : IsReady c.args.half_len c.in_ok-begun.begun m c.args.found.now.place c.args.found.now.house.state (g.D.Disk.reads c.begin_session.new.disk)

@@ -22,7 +22,7 @@ at_inside : (g : Over) (c : After-write_waiting g) (origin : g.row.D.Denot) (cor
     → IsAt (g.D.Disk.keeps origin) g.D.Disk.sectors g.D.Disk.reads g.D.Disk.choices (inside g c) core
 at_inside g c origin core at = subst (λ (b : Machine (g.row.D.Denot)). IsAt (g.D.Disk.keeps origin) g.D.Disk.sectors g.D.Disk.reads g.D.Disk.choices b core) (sym c.self.view_is) at
 
--- while what waits is written, and behind it, whatever that answers
+-- while the pending changes are written, and after it, whatever that answers
 left_inside : (g : Over) (c : After-write_waiting g) (origin : g.row.D.Denot) → g.D.Disk.keeps origin → (core : Core) → IsAt (g.D.Disk.keeps origin) g.D.Disk.sectors g.D.Disk.reads g.D.Disk.choices c.args.self.now core → c.self.inside.store.is_stopped ≡ false
     → LeavesOnly g.D.Disk.moment g.D.Disk.images_since c.self.inside.store.disk c.write_waiting.new.store.disk (StandsForFront (half_len_of (g.D.Disk.sectors c.self.inside.store.disk)) core.committed core.pending)
 left_inside g c origin h core at runs =

@@ -6,7 +6,7 @@ use Rattle.dc_waiting.proofs.Broken.{no_break}
 use Rattle.dc_waiting.proofs.waiting.Waiting.push.Goals.{After-encode_change}
 use Rattle.dc_waiting.proofs.waiting.Waiting.push.Goals as goal
 
--- THE CHANGE HAS ROOM behind those that wait.
+-- THE CHANGE HAS ROOM after those that wait.
 record HasRoom (c : After-encode_change) : Type 0 where
   few : c.self.inside.count + 1 ≤ most_waiting
   short : length c.self.inside.bytes.bytes + length (change_bytes c.args.change.now) ≤ longest_change * (c.self.inside.count + 1)
