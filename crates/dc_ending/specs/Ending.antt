@@ -2,11 +2,13 @@
 use Rattle.std.specs.Prelude.{ℕ, List, [], ◌++◌, codes, Option, None, Some}
 use Rattle.dc_recovery.specs.Fault.{open_number, open_name, format_number, format_name}
 use Rattle.dc_recovery.specs.declared.fault.OpenFault.{OpenFault}
-use Rattle.dc_recovery.specs.declared.fault.OpenFault.TheVariants.{NotImage, Damaged, Version, Worn, Device, NoMemory}
+use Rattle.dc_recovery.specs.declared.fault.OpenFault.TheVariants.{NotImage, Damaged, Version, Worn}
+use Rattle.dc_recovery.specs.declared.fault.OpenFault.TheVariants.{Device, NoMemory}
 use Rattle.dc_text.specs.Words.{fault_text, number_word}
 use Rattle.dc_ending.specs.Escape.{escaped}
 use Rattle.dc_ending.specs.declared.ending.Ending.{Ending}
-use Rattle.dc_ending.specs.declared.ending.Ending.TheVariants.{Clean, Faulty, Words, Format, Open, File, Gateway, Memory}
+use Rattle.dc_ending.specs.declared.ending.Ending.TheVariants.{Clean, Faulty, Words, Format, Open}
+use Rattle.dc_ending.specs.declared.ending.Ending.TheVariants.{File, Gateway, Memory}
 
 abbrev pub status_of : Ending → ℕ
 status_of Clean = 0
@@ -18,7 +20,7 @@ status_of (File name) = 4
 status_of Gateway = 4
 status_of Memory = 4
 
--- a name behind what is at fault with it
+-- a name after what is at fault with it
 unfoldable pub named_line : List ℕ → List ℕ → List ℕ
 named_line what name = what ++ escaped name ++ codes "\n"
 
@@ -36,17 +38,20 @@ abbrev pub sector_word : Option ℕ → List ℕ
 sector_word None = []
 sector_word (Some sector) = number_word sector
 
--- a fault's number and name behind what it is a fault of, and the sector at which it is
+-- a fault's number and name after what it is a fault of, and the sector at which it is
 unfoldable pub fault_line : List ℕ → ℕ → List ℕ → Option ℕ → List ℕ
-fault_line what number name sector = what ++ fault_text number name ++ sector_word sector ++ codes "\n"
+fault_line what number name sector =
+    what ++ fault_text number name ++ sector_word sector ++ codes "\n"
 
 -- the line, with its line feed
 abbrev pub line_of : Ending → List ℕ
 line_of Clean = []
 line_of Faulty = []
 line_of (Words what) = named_line (codes "mbdc: ") what.now
-line_of (Format fault) = fault_line (codes "mbdc: format: ") (format_number fault) (format_name fault) None
-line_of (Open fault) = fault_line (codes "mbdc: open: ") (open_number fault) (open_name fault) (damaged_at fault)
+line_of (Format fault) = fault_line (codes "mbdc: format: ") (format_number fault)
+    (format_name fault) None
+line_of (Open fault) = fault_line (codes "mbdc: open: ") (open_number fault) (open_name fault)
+    (damaged_at fault)
 line_of (File name) = named_line (codes "mbdc: file: ") name.now
 line_of Gateway = codes "mbdc: gateway\n"
 line_of Memory = codes "mbdc: memory\n"

@@ -1,11 +1,15 @@
 -- What an engine's answer makes of a run (this product).
 use Rattle.std.specs.Prelude.{◌≡◌, ℕ, Bool, true, false, List, codes, Result, Ok, Err}
 use Rattle.dc_recovery.specs.declared.fault.OpenFault.{OpenFault}
-use Rattle.dc_recovery.specs.declared.fault.OpenFault.TheVariants.{NotImage, Damaged, Version, Worn, Device, NoMemory as NoMemoryToOpen}
+use Rattle.dc_recovery.specs.declared.fault.OpenFault.TheVariants.{NotImage, Damaged, Version, Worn}
+use Rattle.dc_recovery.specs.declared.fault.OpenFault.TheVariants.{Device}
+use Rattle.dc_recovery.specs.declared.fault.OpenFault.TheVariants.{NoMemory as NoMemoryToOpen}
 use Rattle.dc_poller.specs.declared.fault.ProgramFault.{ProgramFault}
-use Rattle.dc_poller.specs.declared.fault.ProgramFault.TheVariants.{Read, TooLong, Write, NoMemory, Open as NotOpened}
+use Rattle.dc_poller.specs.declared.fault.ProgramFault.TheVariants.{Read, TooLong, Write, NoMemory}
+use Rattle.dc_poller.specs.declared.fault.ProgramFault.TheVariants.{Open as NotOpened}
 use Rattle.dc_ending.specs.declared.ending.Ending.{Ending}
-use Rattle.dc_ending.specs.declared.ending.Ending.TheVariants.{Clean, Faulty, Words, Format, Open, File, Gateway, Memory}
+use Rattle.dc_ending.specs.declared.ending.Ending.TheVariants.{Clean, Faulty, Words, Format, Open}
+use Rattle.dc_ending.specs.declared.ending.Ending.TheVariants.{File, Gateway, Memory}
 
 -- the run ended by a fault of the file with that name
 abbrev pub IsOfFile : Ending → List ℕ → Type 0

@@ -2,7 +2,8 @@
 
 ghost use Rattle.std.specs.Prelude.{◌≡◌};
 ghost use Rattle.dc_stream.specs.Stream.{Wrote};
-ghost use Rattle.dc_ending.specs.Ending.{damaged_at, fault_line, line_of, named_line, sector_word, status_of};
+ghost use Rattle.dc_ending.specs.Ending.{damaged_at, fault_line, line_of, named_line, sector_word};
+ghost use Rattle.dc_ending.specs.Ending.{status_of};
 ghost use Rattle.dc_ending.specs.Outcome.{EndsAs};
 
 use crate::escape::put_escaped;
@@ -17,7 +18,7 @@ pub const STREAM: &str = "-";
 /// How a run ended (this product).
 #[derive(Clone, Copy)]
 pub enum Ending<'a> {
-    /// All was told, or done; help and the version were shown.
+    /// Everything was printed, or done; help and the version were shown.
     Clean,
     /// A line of the input was at fault, as the output says.
     Faulty,
@@ -36,8 +37,8 @@ pub enum Ending<'a> {
 }
 
 impl Ending<'_> {
-    /// The status: 0, 1 for a fault in an input line, 2 for the words, 3 for an image or its disk, 4 for a file, a socket
-    /// or memory.
+    /// The status: 0, 1 for a fault in an input line, 2 for the words, 3 for an image or its disk, 4 for a file, a
+    /// socket or memory.
     pub fn status(&self) -> u8
         ensures { result ≡ status_of self.now }
     {
@@ -50,7 +51,7 @@ impl Ending<'_> {
         }
     }
 
-    /// Puts the line, with its line feed: `mbdc: ` and what happened. Where the status is 0 or 1 there is none, and
+    /// Puts the line, with its line feed: `mbdc: ` and what happened. Where the status is 0 or 1 there is no line, and
     /// nothing is put. No memory.
     ///
     /// # Errors
@@ -96,7 +97,8 @@ fn put_store<W: Sink>(
     name: &str,
     sector: Option<u32>,
 ) -> Result<(), IoFault>
-    ensures { Wrote W.written W.put_failures result out.old out.new (fault_line what.now number name.now sector) }
+    ensures { Wrote W.written W.put_failures result out.old out.new
+        (fault_line what.now number name.now sector) }
 {
     out.put(what)?;
     put_fault(out, number, name)?;

@@ -30,7 +30,8 @@ fn put_shown<W: Sink>(out: &mut W, c: char) -> Result<(), IoFault>
 
 #[tactic(auto, using(dc_stream::proofs::Pieces::written, crate::proofs::Escapes::one_more))]
 fn put_escape<W: Sink>(out: &mut W, c: char) -> Result<(), IoFault>
-    ensures { Wrote W.written W.put_failures result out.old out.new (encode_utf8_all (escape_default c)) }
+    ensures { Wrote W.written W.put_failures result out.old out.new
+        (encode_utf8_all (escape_default c)) }
 {
     for x in c.escape_default() {
         put_char(out, x)?;
