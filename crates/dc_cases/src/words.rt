@@ -13,6 +13,8 @@ pub enum Word {
     Format,
     Run,
     Decode,
+    Json,
+    Explain,
     Fold,
     Report,
     Open,
@@ -47,11 +49,13 @@ pub enum Word {
     Encode,
 }
 
-const WORDS: [(&str, Word); 36] = [
+const WORDS: [(&str, Word); 38] = [
     ("disk", Word::Disk),
     ("format", Word::Format),
     ("run", Word::Run),
     ("decode", Word::Decode),
+    ("json", Word::Json),
+    ("explain", Word::Explain),
     ("fold", Word::Fold),
     ("report", Word::Report),
     ("open", Word::Open),

@@ -11,6 +11,7 @@ use dc_address::Identity;
 use dc_core::Concentrator;
 use dc_ending::{Ending, ending_of};
 use dc_gateway::ListedBus;
+use dc_json::{explain_lines, json_lines};
 use dc_poller::{Halt, ProgramFault, Report, report_on, run_script, search};
 use dc_recovery::Store;
 use dc_sectors::MemoryDisk;
@@ -54,6 +55,8 @@ impl World {
             Word::Format => self.format(out),
             Word::Run => self.run(input, out),
             Word::Decode => self.decode(input, out),
+            Word::Json => self.json(input, out),
+            Word::Explain => self.explain(input, out),
             Word::Fold => self.fold(input, out),
             Word::Report => self.report(rest, out),
             Word::Open => self.open(out),
@@ -150,6 +153,20 @@ impl World {
         let mut reader = Input::new(input, self.limits);
         let mut writer = Output::new(self.heap, self.limits);
         let told = decode_lines(self.heap, &mut reader, &mut writer);
+        self.ends(writer.as_slice(), outcome_of(told), out)
+    }
+
+    fn json(&mut self, input: &[u8], out: &mut Bytes<Global>) -> Result<(), CaseFault> {
+        let mut reader = Input::new(input, self.limits);
+        let mut writer = Output::new(self.heap, self.limits);
+        let told = json_lines(self.heap, &mut reader, &mut writer);
+        self.ends(writer.as_slice(), outcome_of(told), out)
+    }
+
+    fn explain(&mut self, input: &[u8], out: &mut Bytes<Global>) -> Result<(), CaseFault> {
+        let mut reader = Input::new(input, self.limits);
+        let mut writer = Output::new(self.heap, self.limits);
+        let told = explain_lines(self.heap, &mut reader, &mut writer);
         self.ends(writer.as_slice(), outcome_of(told), out)
     }
 
