@@ -10,12 +10,12 @@ ghost use Rattle.dc_inspect.specs.Text.{refused_line};
 ghost use Rattle.dc_inspect.specs.Told.{IsOfLook, Tells, TellsImage, TellsSmall, disk_line, image_text, seen_text};
 ghost use Rattle.dc_recovery.specs.declared.fault.OpenFault.TheVariants.{NotImage};
 
-use dc_poller::ProgramFault;
 use crate::look::{Look, Slots, look_at, read_slots};
 use crate::summary::summary_of;
 use crate::text::{
     put_number_line, put_place, put_refusal, put_refused_line, put_slot, put_summary,
 };
+use dc_poller::ProgramFault;
 use dc_recovery::{FEWEST_SECTORS, Found, OpenFault, half_len_of};
 use dc_sectors::{Disk, Failed};
 use dc_stream::{Bytes, IoFault, Sink};
