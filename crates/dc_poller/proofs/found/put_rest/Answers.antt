@@ -1,6 +1,5 @@
 use Rattle.std.proofs.Common.{ℕ, List, ◌++◌, ap, ◌∙◌, subst}
 use Rattle.std.specs.Prelude.{flat_map}
-use Rattle.dc_search.specs.State.{step_of}
 use Rattle.dc_search.specs.declared.step.Step.{Step}
 use Rattle.dc_stream.specs.Stream.{Wrote}
 use Rattle.dc_poller.specs.Search.{budget_line, selections_line, shared_line}
