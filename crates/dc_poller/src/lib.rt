@@ -31,7 +31,7 @@ mod searching;
 mod told;
 
 pub use fault::ProgramFault;
-pub use found::put_search;
+pub use found::{put_search, put_search_after};
 pub use halt::Halt;
 pub use laws::{a_run_is_one_life, a_script_line_asks_for_one_thing};
 pub use report::{Report, report_on};
