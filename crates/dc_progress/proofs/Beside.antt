@@ -27,22 +27,23 @@ use Rattle.dc_changes.specs.declared.change.Change.{Change}
 use Rattle.dc_changes.specs.State.{State, MeterRow, row_of}
 use Rattle.dc_changes.proofs.History.{after_of_push}
 use Rattle.dc_waiting.specs.Lines.{is_line, line_count, settled_at, settled_on, settled_lines}
-use Rattle.dc_waiting.specs.Taking.{change_of}
+use Rattle.dc_waiting.specs.Taking.{change_of, refuses}
 use Rattle.dc_core.specs.declared.fault.HearFault.TheVariants.{Stopped}
 use Rattle.dc_core.specs.declared.line_heard.LineHeard.{LineHeard}
+use Rattle.dc_core.specs.declared.line_heard.LineHeard.TheVariants.{Again, Ready, Accepted}
 use Rattle.dc_core.specs.Core.{Core, present, session_of, with_session}
 use Rattle.dc_core.specs.Event.{Event, Answer, starts, asks, hears, commits, offices, started, asked, heard, committed, replied}
-use Rattle.dc_core.specs.Step.{May, next, is_on, address_in, ask_answer, answer_on, session_after, judged, heard_on, settled_core}
+use Rattle.dc_core.specs.Step.{May, next, MayHear, is_on, address_in, ask_answer, hear_answer, answer_on, verdict_answer, session_after, judged, heard_on, settled_core}
 use Rattle.dc_core.specs.Transcript.{Turn, leads, IsChain}
-use Rattle.dc_progress.specs.Beside.{Bus, bus_at_first, bus_after, IsElsewhere, Serves, rests, asks_it, has_none, gives_it, commits_it, goes_by, IsOnlyOn, HasRead, GoesBeside, ReadoutsEndBesideOthers}
+use Rattle.dc_progress.specs.Beside.{Bus, bus_at_first, bus_after, IsElsewhere, Serves, rests, asks_it, has_none, gives_it, commits_it, goes_by, IsOnlyOn, HasRead, IsHeardOn, IsNoFailure, GoesBeside, ReadoutsEndBesideOthers}
 use Rattle.dc_progress.specs.Needs.{IsOwnTelegram, CanBegin}
 use Rattle.dc_progress.specs.Progress.{requests_of}
 use Rattle.dc_progress.specs.Rounds.{Scene, begun_on, losses_by, row_after}
 use Rattle.dc_progress.proofs.Heard.{Judged, resets_all, resets_again, selects_again, requests_again, resets, selects, requests}
-use Rattle.dc_progress.proofs.Rounds.{get_settled, asks_nothing, asked_is, some_more}
+use Rattle.dc_progress.proofs.Rounds.{GoesOn, hear_is, is_good, taken_good, right_answer, get_settled, asks_nothing, asked_is, some_more}
 use Rattle.dc_progress.proofs.Left.{IsLeft, IsDue, within_due, one_less, one_lost}
 use Rattle.dc_progress.proofs.Own.{Open, Telegram, some_left, telegram, told_by, told_is, open_more, is_read}
-use Rattle.dc_progress.proofs.Others.{start_parts, row_line, heard_line, places_differ, low_place, settled_meter, Keeps, other_keeps}
+use Rattle.dc_progress.proofs.Others.{no_failure, not_both, start_parts, row_line, heard_line, places_differ, low_place, settled_meter, Keeps, other_keeps}
 
 -- ---- the readout
 
@@ -433,12 +434,14 @@ module _ (budget line : ℕ) (meters : List Meter) (start : Scene) (place : ℕ)
     record Went : Type 0 where
       verdict : Verdict
       is : verdict_by s bytes ≡ verdict
+      good : (answer : LineHeard) → verdict_answer budget core moment verdict ≡ Ok answer → GoesOn answer
       known : Known now (judged core line moment s verdict)
 
     ready_runs : (j : Judgement ready) (stage : Stage) → after_command f.stage s.address ≡ stage → IsDue total stage s.address now.heard now.lost now.row (length f.left) → Went
     ready_runs j stage next_stage due = record {
       verdict = ready;
       is = judged_here ready j;
+      good = λ answer e. is_good Ready answer tt e;
       known = goes_on_by ready j (heard_by s ready) stage refl refl (ap (λ (y : Stage). after_command y s.address) f.stage_is ∙ next_stage) refl refl refl (omega arith) due;
     }
 
@@ -446,6 +449,7 @@ module _ (budget line : ℕ) (meters : List Meter) (start : Scene) (place : ℕ)
     again_runs j stage e tried due = record {
       verdict = again;
       is = judged_here again j;
+      good = λ answer e. is_good Again answer tt e;
       known = goes_on_by again j (heard_by s again) stage refl refl (f.stage_is ∙ e) refl refl refl tried due;
     }
 
@@ -536,6 +540,7 @@ module _ (budget line : ℕ) (meters : List Meter) (start : Scene) (place : ℕ)
       new_step = record {
         verdict = verdict_new;
         is = judged_here verdict_new j;
+        good = λ answer e. taken_good (refuses budget (length core.pending) (change_of moment (s.settled + 1) p.t) (present core)) (Accepted (s.settled + 1) (continues p.t.ending)) answer tt e;
         known = record {
           going = going_then verdict_new;
           at = inr (inl (record {
@@ -625,6 +630,12 @@ module _ (budget line : ℕ) (meters : List Meter) (start : Scene) (place : ℕ)
     step_by ReplyUnreadable e = lost_at (ap losses_by e) (ap (row_after bus.row) e) f.stage refl
     step_by AsSent e = sent_at e f.stage refl
 
+    step_good : (answer : LineHeard) → hear_answer budget core line moment bytes ≡ Ok answer → GoesOn answer
+    step_good answer e =
+        let w = step_by outcome refl in
+        let asks_it : asked_by s ≡ Some frame = x.out frame waits in
+        w.good answer (sym (ap (verdict_answer budget core moment) w.is) ∙ sym (hear_is budget line core s begins.0 g.goes x.on moment bytes frame asks_it) ∙ e)
+
     step : Known now (heard_on core line moment bytes (session_of core line))
     step =
         let w = step_by outcome refl in
@@ -640,16 +651,40 @@ module _ (budget line : ℕ) (meters : List Meter) (start : Scene) (place : ℕ)
       by (inr (inl x)) = absurd (let bad = sym x.silent ∙ waits in cc)
       by (inr (inr x)) = absurd (let bad = sym x.silent ∙ waits in cc)
 
+  good_at : (bus : Bus) (core : Core) (moment : ℕ) (bytes : List ℕ) (answer : LineHeard) (outcome : Outcome) (frame : FrameSeen) → bus.waits ≡ Some frame → bytes ≡ heard_in outcome frame meters bus.positions → row_after bus.row outcome < 3
+      → MayHear (hear_answer budget core line moment bytes) (Ok answer) → Known bus core → GoesOn answer
+  good_at bus core moment bytes answer outcome frame waits bytes_are few may_hear k = by k.at
+    where
+      by : IsAt bus core → GoesOn answer
+      by (inl x) =
+          let right = right_answer (hear_answer budget core line moment bytes) (Ok answer) may_hear (λ e. cc) in
+          step_good bus core moment k.going x outcome frame waits few answer (sym (ap (hear_answer budget core line moment) bytes_are) ∙ sym right)
+      by (inr (inl x)) = absurd (let bad = sym x.silent ∙ waits in cc)
+      by (inr (inr x)) = absurd (let bad = sym x.silent ∙ waits in cc)
+
   -- ---- all turns
 
-  along : {bus last : Bus} {turns : List Turn} (core : Core) → Known bus core → IsChain budget core turns → Serves line meters bus turns last → Known last (leads core turns)
-  along core k chain rests = k
-  along {bus = bus} core k chain (asks_it {request = request} more) = along core (asked_on_it bus core request chain.0 k) chain.1 more
-  along core k chain (has_none more) = along core k chain.1 more
-  along {bus = bus} core k chain (gives_it {moment = moment} {bytes = bytes} outcome frame waits bytes_are few more) =
-      along (heard_on core line moment bytes (session_of core line)) (heard_at bus core moment bytes outcome frame waits bytes_are few k) chain.1 more
-  along {bus = bus} core k chain (commits_it more) = along (settled_core core core.pending) (commit_by bus core k.going core.pending k.at) chain.1 more
-  along {bus = bus} core k chain (goes_by {turn = turn} away more) = along (next core turn.0 turn.1) (elsewhere bus core turn.0 turn.1 away chain.0 k) chain.1 more
+  abbrev NeverFails : List Turn → Type 0
+  NeverFails turns = AllByRecursion (λ (turn : Turn). IsHeardOn line turn.0 → IsNoFailure turn.1) turns
+
+  along : {bus last : Bus} {turns : List Turn} (core : Core) → Known bus core → IsChain budget core turns → Serves line meters bus turns last → Known last (leads core turns) × NeverFails turns
+  along core k chain rests = (k, tt)
+  along {bus = bus} core k chain (asks_it {request = request} more) =
+      let rest = along core (asked_on_it bus core request chain.0 k) chain.1 more in
+      (rest.0, ((λ e. absurd e), rest.1))
+  along core k chain (has_none more) =
+      let rest = along core k chain.1 more in
+      (rest.0, ((λ e. absurd e), rest.1))
+  along {bus = bus} core k chain (gives_it {moment = moment} {bytes = given} {answer = answer} outcome frame waits bytes_are few more) =
+      let good = good_at bus core moment given answer outcome frame waits bytes_are few chain.0 k in
+      let rest = along (heard_on core line moment given (session_of core line)) (heard_at bus core moment given outcome frame waits bytes_are few k) chain.1 more in
+      (rest.0, ((λ e. no_failure answer good), rest.1))
+  along {bus = bus} core k chain (commits_it more) =
+      let rest = along (settled_core core core.pending) (commit_by bus core k.going core.pending k.at) chain.1 more in
+      (rest.0, ((λ e. absurd e), rest.1))
+  along {bus = bus} core k chain (goes_by {turn = turn} away more) =
+      let rest = along (next core turn.0 turn.1) (elsewhere bus core turn.0 turn.1 away chain.0 k) chain.1 more in
+      (rest.0, ((λ e. absurd (not_both line turn.0 away e)), rest.1))
 
   -- ---- the start
 
@@ -725,27 +760,30 @@ module _ (budget line : ℕ) (meters : List Meter) (start : Scene) (place : ℕ)
       ∙ ap (λ (y : Stage). is_some (option_map spelling (asked_at y s.meter s.address s.settled))) f.stage_is
       ∙ some_asked f.stage s.address bus.heard bus.lost bus.row (length f.left) s.settled s.meter f.due
 
-  goes_beside : (last : Bus) (core : Core) → Going core → IsAt last core → GoesBeside line meter row parts start.core core last
-  goes_beside last core g (inl x) =
+  goes_beside : (turns : List Turn) (last : Bus) (core : Core) → NeverFails turns → Going core → IsAt last core → GoesBeside line meter row parts start.core core turns last
+  goes_beside turns last core never g (inl x) =
       let b = bounds last (present core) x.facts in
       record {
+        never_fails = never;
         within = b.0;
         thrice = b.1;
         goes_on = λ s on none. asks_some last core g x;
         ends = λ none. absurd (let bad = sym x.on ∙ none in cc);
       }
-  goes_beside last core g (inr (inl x)) =
+  goes_beside turns last core never g (inr (inl x)) =
       let b = bounds_after (settled_on (Some x.session)) last (present core) x.later in
       record {
+        never_fails = never;
         within = b.0;
         thrice = b.1;
         goes_on = λ s on none. absurd (x.pends none);
         ends = λ none. absurd (let bad = sym x.on ∙ none in cc);
       }
-  goes_beside last core g (inr (inr x)) =
+  goes_beside turns last core never g (inr (inr x)) =
       let most = x.all.most in
       let thrice = x.all.thrice in
       record {
+        never_fails = never;
         within = omega (arith, most);
         thrice = omega (arith, thrice);
         goes_on = λ s on none. absurd (let bad = sym x.free ∙ on in cc);
@@ -755,4 +793,4 @@ module _ (budget line : ℕ) (meters : List Meter) (start : Scene) (place : ℕ)
 pub readouts_end_beside_others : ReadoutsEndBesideOthers
 readouts_end_beside_others budget line meters scene place meter row parts turns last may only chain serves =
     let k = along budget line meters scene place meter row parts may (begun_on line meter.identity scene).core (at_first budget line meters scene place meter row parts may only) chain serves in
-    goes_beside budget line meters scene place meter row parts may last (leads (begun_on line meter.identity scene).core turns) k.going k.at
+    goes_beside budget line meters scene place meter row parts may turns last (leads (begun_on line meter.identity scene).core turns) k.1 k.0.going k.0.at

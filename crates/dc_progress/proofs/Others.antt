@@ -23,6 +23,10 @@ use Rattle.dc_core.specs.declared.fault.HearFault.TheVariants.{NoLine}
 use Rattle.dc_core.specs.declared.line_heard.LineHeard.{LineHeard}
 use Rattle.dc_core.specs.Step.{MayHear, is_on}
 use Rattle.dc_core.proofs.Registered.{row_of_other}
+use Rattle.dc_core.specs.declared.line_heard.LineHeard.TheVariants.{Again, Ready, Accepted, Failed}
+use Rattle.dc_core.specs.Event.{Event, starts, asks, hears, commits, offices, heard}
+use Rattle.dc_progress.specs.Beside.{IsElsewhere, IsHeardOn, IsNoFailure}
+use Rattle.dc_progress.proofs.Rounds.{GoesOn}
 use Rattle.dc_progress.specs.Beside.{readings_of}
 
 -- ---- the answers of other turns
@@ -105,3 +109,18 @@ module _ (meter : Identity) where
         ∙ ap (λ (rs : List ReadingRow). filter (is_of meter) s.readings ++ rs) (none_of reading (apart m ne))
         ∙ append-nil (filter (is_of meter) s.readings);
   }
+
+-- ---- failures
+
+pub no_failure : (answer : LineHeard) → GoesOn answer → IsNoFailure (heard (Ok answer))
+no_failure Again good = tt
+no_failure Ready good = tt
+no_failure (Accepted part more) good = tt
+no_failure (Failed why) good = absurd good
+
+pub not_both : (line : ℕ) (event : Event) → IsElsewhere line event → IsHeardOn line event → ⊥
+not_both line (starts other meter) away on = on
+not_both line (asks other) away on = on
+not_both line (hears other moment bytes) away on = away on
+not_both line commits away on = on
+not_both line (offices text) away on = on

@@ -63,6 +63,15 @@ GoesOn Ready = Unit {0}
 GoesOn (Accepted part more) = Unit {0}
 GoesOn (Failed why) = ⊥
 
+pub is_good : (good answer : LineHeard) → GoesOn good → ◌≡◌ {A = Result LineHeard HearFault} (Ok good) (Ok answer) → GoesOn answer
+is_good good answer goes e =
+    let same : good ≡ answer = cc in
+    subst GoesOn same goes
+
+pub taken_good : (refused : Option TakeFault) (good answer : LineHeard) → GoesOn good → unless_refused refused good ≡ Ok answer → GoesOn answer
+taken_good None good answer goes e = is_good good answer goes e
+taken_good (Some fault) good answer goes e = absurd cc
+
 pub record Told (answer : Result LineHeard HearFault) : Type 0 where
   pub good : LineHeard
   pub is : answer ≡ Ok good
@@ -133,6 +142,12 @@ module _ (budget line : ℕ) (core : Core) (s : Summary) (is : is_line line ≡ 
   hears_again moment bytes frame asks verdict =
       let some : is_some (asked_by s) ≡ true = ap is_some asks in
       rw (is, runs, on, some, verdict) refl
+
+  -- what is answered by the verdict
+  pub hear_is : (moment : ℕ) (bytes : List ℕ) (frame : FrameSeen) → asked_by s ≡ Some frame → hear_answer budget core line moment bytes ≡ verdict_answer budget core moment (verdict_by s bytes)
+  hear_is moment bytes frame asks =
+      let some : is_some (asked_by s) ≡ true = ap is_some asks in
+      rw (is, runs, on, some) refl
 
   not_refused : (change : Change) → core.pending ≡ [] → refusal budget change (present core) ≡ None → refuses budget (length core.pending) change (present core) ≡ None
   not_refused change none unrefused =

@@ -12,8 +12,9 @@ use Rattle.dc_lives.specs.World.{positions_after, heard_in}
 use Rattle.dc_changes.specs.State.{State, MeterRow, PartRow, ReadingRow, row_of}
 use Rattle.dc_meters.specs.Orders.{is_of}
 use Rattle.dc_core.specs.declared.line_heard.LineHeard.{LineHeard}
+use Rattle.dc_core.specs.declared.line_heard.LineHeard.TheVariants.{Failed}
 use Rattle.dc_core.specs.Core.{Core, present, session_of, opened}
-use Rattle.dc_core.specs.Event.{Event, starts, asks, hears, commits, offices, started, asked, heard, committed}
+use Rattle.dc_core.specs.Event.{Event, Answer, starts, asks, hears, commits, offices, started, asked, heard, committed}
 use Rattle.dc_core.specs.Step.{ask_answer}
 use Rattle.dc_core.specs.Transcript.{Turn, leads, IsChain}
 use Rattle.dc_progress.specs.Needs.{IsThere, CanBegin}
@@ -99,12 +100,26 @@ pub record HasRead (meter : Identity) (row : MeterRow) (parts : List (List ℕ))
       ++ record { serial = serial; meter = meter; flat = row.flat; parts = read } ∷ []
   pub none_open : row_of meter now ≡ Some (record row { parts = [] })
 
--- After some turns: the exchanges are no more than the readout's requests and one for each loss,
--- and no more than three for each request. While the session is on the line and nothing is pending,
--- a request is asked. Where nobody is on the line any more, the meter is read, and that is
--- committed.
+-- an answer is heard on this line
+abbrev pub IsHeardOn : ℕ → Event → Type 0
+IsHeardOn line (starts other meter) = ⊥
+IsHeardOn line (asks other) = ⊥
+IsHeardOn line (hears other moment bytes) = other ≡ line
+IsHeardOn line commits = ⊥
+IsHeardOn line (offices text) = ⊥
+
+-- the readout doesn't end in a failure by it
+abbrev pub IsNoFailure : Answer → Type 0
+IsNoFailure (heard (Ok (Failed why))) = ⊥
+IsNoFailure answer = Unit {0}
+
+-- By these turns the readout never fails. The exchanges are no more than its requests and one for
+-- each loss, and no more than three for each request. While the session is on the line and nothing
+-- is pending, a request is asked. Where nobody is on the line any more, the meter is read, and that
+-- is committed.
 pub record GoesBeside (line : ℕ) (meter : Meter) (row : MeterRow) (parts : List (List ℕ))
-    (before now : Core) (last : Bus) : Type 0 where
+    (before now : Core) (turns : List Turn) (last : Bus) : Type 0 where
+  pub never_fails : AllByRecursion (λ (turn : Turn). IsHeardOn line turn.0 → IsNoFailure turn.1) turns
   pub within : last.heard ≤ requests_of meter.address parts + last.lost
   pub thrice : last.heard ≤ 3 * requests_of meter.address parts
   pub goes_on : (s : Summary) → session_of now line ≡ Some s → now.pending ≡ []
@@ -121,7 +136,7 @@ ReadoutsEndBesideOthers = (budget line : ℕ) (meters : List Meter) (scene : Sce
     → IsChain budget (begun_on line meter.identity scene).core turns
     → Serves line meters (bus_at_first scene.positions) turns last
     → GoesBeside line meter row parts scene.core
-    (leads (begun_on line meter.identity scene).core turns) last
+    (leads (begun_on line meter.identity scene).core turns) turns last
 
 -- ---- in a run of many readouts
 
@@ -147,4 +162,4 @@ ReadoutsOfARunEnd = (budget : ℕ) (state : State) (before : List Turn) (line : 
     → row.address ≡ meter.address
     → Serves line meters (bus_at_first positions) turns last
     → GoesBeside line meter row parts (leads (opened state) before)
-    (leads (opened state) (before ++ (starts line meter.identity, started (Ok tt)) ∷ turns)) last
+    (leads (opened state) (before ++ (starts line meter.identity, started (Ok tt)) ∷ turns)) turns last
