@@ -1,12 +1,13 @@
 -- A readout beside those of other lines, turn after turn (the theorem of specs/Beside).
 use Rattle.std.proofs.Common.{◌≡◌, ◌≢◌, ◌⊎◌, inl, inr, ⊎_elim, ℕ, ◌+◌, ◌*◌, ◌-◌, ◌≤◌, ◌<◌, Bool, true, false, Option, Some, None, Ok, Err, List, [], ◌∷◌, ◌++◌, length, map, drop, get_or, arith, refl, sym, ◌∙◌, ap, subst, length-append, append_assoc, get_or-set_same, get_or-set_other}
-use Rattle.std.specs.Prelude.{slice_get, option_map, unwrap_or, is_some, if◌then◌else◌}
+use Rattle.std.specs.Prelude.{slice_get, option_map, unwrap_or, is_some, if◌then◌else◌, IsSome, nat_le}
 use Rattle.std.specs.List.{AllByRecursion}
 use Rattle.std.proofs.Math.ListN.{set}
 use Rattle.std.proofs.lemmas.List.{length-map, length-set}
 use Rattle.std.proofs.lemmas.Bool.{cases_eq}
 use Rattle.dc_linkframe.specs.Frame.{FrameSeen, spelling}
 use Rattle.dc_linkframe.specs.Reading.{frame_of}
+use Rattle.dc_linkframe.proofs.Spellings.{frame_of-spelling}
 use Rattle.dc_address.specs.declared.identity.Identity.{Identity}
 use Rattle.dc_records.specs.Body.{continues}
 use Rattle.dc_readout.specs.declared.stage.Stage.{Stage}
@@ -27,7 +28,9 @@ use Rattle.dc_changes.specs.declared.change.Change.{Change}
 use Rattle.dc_changes.specs.State.{State, MeterRow, row_of}
 use Rattle.dc_changes.proofs.History.{after_of_push}
 use Rattle.dc_waiting.specs.Lines.{is_line, line_count, settled_at, settled_on, settled_lines}
-use Rattle.dc_waiting.specs.Taking.{change_of, refuses}
+use Rattle.dc_waiting.specs.Taking.{change_of}
+use Rattle.dc_waiting.specs.Waiting.{most_waiting}
+use Rattle.dc_changes.specs.Accepts.{refusal}
 use Rattle.dc_core.specs.declared.fault.HearFault.TheVariants.{Stopped}
 use Rattle.dc_core.specs.declared.line_heard.LineHeard.{LineHeard}
 use Rattle.dc_core.specs.declared.line_heard.LineHeard.TheVariants.{Again, Ready, Accepted}
@@ -35,15 +38,15 @@ use Rattle.dc_core.specs.Core.{Core, present, session_of, with_session}
 use Rattle.dc_core.specs.Event.{Event, Answer, starts, asks, hears, commits, offices, started, asked, heard, committed, replied}
 use Rattle.dc_core.specs.Step.{May, next, MayHear, is_on, address_in, ask_answer, hear_answer, answer_on, verdict_answer, session_after, judged, heard_on, settled_core}
 use Rattle.dc_core.specs.Transcript.{Turn, leads, IsChain}
-use Rattle.dc_progress.specs.Beside.{Bus, bus_at_first, bus_after, IsElsewhere, Serves, rests, asks_it, has_none, gives_it, commits_it, goes_by, IsOnlyOn, HasRead, IsHeardOn, IsNoFailure, GoesBeside, ReadoutsEndBesideOthers}
+use Rattle.dc_progress.specs.Beside.{Bus, bus_at_first, bus_after, IsElsewhere, Serves, rests, asks_it, has_none, gives_it, commits_it, goes_by, IsOnlyOn, HasRead, IsHeardOn, IsNoFailure, IsTakenUnlessFull, GoesBeside, ReadoutsEndBesideOthers}
 use Rattle.dc_progress.specs.Needs.{IsOwnTelegram, CanBegin}
 use Rattle.dc_progress.specs.Progress.{requests_of}
 use Rattle.dc_progress.specs.Rounds.{Scene, begun_on, losses_by, row_after}
 use Rattle.dc_progress.proofs.Heard.{Judged, resets_all, resets_again, selects_again, requests_again, resets, selects, requests}
-use Rattle.dc_progress.proofs.Rounds.{GoesOn, hear_is, is_good, taken_good, right_answer, get_settled, asks_nothing, asked_is, some_more}
-use Rattle.dc_progress.proofs.Left.{IsLeft, IsDue, within_due, one_less, one_lost}
+use Rattle.dc_progress.proofs.Rounds.{get_settled, asks_nothing, right_answer, asked_is, hear_is, room_alone, some_more}
+use Rattle.dc_progress.proofs.Left.{IsLeft, IsDue, within_due, one_less, one_lost, some_asked}
 use Rattle.dc_progress.proofs.Own.{Open, Telegram, some_left, telegram, told_by, told_is, open_more, is_read}
-use Rattle.dc_progress.proofs.Others.{no_failure, not_both, start_parts, row_line, heard_line, places_differ, low_place, settled_meter, Keeps, other_keeps}
+use Rattle.dc_progress.proofs.Others.{not_both, start_parts, row_line, heard_line, places_differ, low_place, settled_meter, Keeps, other_keeps}
 
 -- ---- the readout
 
@@ -434,14 +437,14 @@ module _ (budget line : ℕ) (meters : List Meter) (start : Scene) (place : ℕ)
     record Went : Type 0 where
       verdict : Verdict
       is : verdict_by s bytes ≡ verdict
-      good : (answer : LineHeard) → verdict_answer budget core moment verdict ≡ Ok answer → GoesOn answer
+      fits : IsTakenUnlessFull (verdict_answer budget core moment verdict)
       known : Known now (judged core line moment s verdict)
 
     ready_runs : (j : Judgement ready) (stage : Stage) → after_command f.stage s.address ≡ stage → IsDue total stage s.address now.heard now.lost now.row (length f.left) → Went
     ready_runs j stage next_stage due = record {
       verdict = ready;
       is = judged_here ready j;
-      good = λ answer e. is_good Ready answer tt e;
+      fits = tt;
       known = goes_on_by ready j (heard_by s ready) stage refl refl (ap (λ (y : Stage). after_command y s.address) f.stage_is ∙ next_stage) refl refl refl (omega arith) due;
     }
 
@@ -449,7 +452,7 @@ module _ (budget line : ℕ) (meters : List Meter) (start : Scene) (place : ℕ)
     again_runs j stage e tried due = record {
       verdict = again;
       is = judged_here again j;
-      good = λ answer e. is_good Again answer tt e;
+      fits = tt;
       known = goes_on_by again j (heard_by s again) stage refl refl (f.stage_is ∙ e) refl refl refl tried due;
     }
 
@@ -540,7 +543,7 @@ module _ (budget line : ℕ) (meters : List Meter) (start : Scene) (place : ℕ)
       new_step = record {
         verdict = verdict_new;
         is = judged_here verdict_new j;
-        good = λ answer e. taken_good (refuses budget (length core.pending) (change_of moment (s.settled + 1) p.t) (present core)) (Accepted (s.settled + 1) (continues p.t.ending)) answer tt e;
+        fits = room_alone (nat_le most_waiting (length core.pending)) (is_some (refusal budget (change_of moment (s.settled + 1) p.t) (present core))) (s.settled + 1) (continues p.t.ending);
         known = record {
           going = going_then verdict_new;
           at = inr (inl (record {
@@ -630,11 +633,10 @@ module _ (budget line : ℕ) (meters : List Meter) (start : Scene) (place : ℕ)
     step_by ReplyUnreadable e = lost_at (ap losses_by e) (ap (row_after bus.row) e) f.stage refl
     step_by AsSent e = sent_at e f.stage refl
 
-    step_good : (answer : LineHeard) → hear_answer budget core line moment bytes ≡ Ok answer → GoesOn answer
-    step_good answer e =
+    step_fits : IsTakenUnlessFull (hear_answer budget core line moment bytes)
+    step_fits =
         let w = step_by outcome refl in
-        let asks_it : asked_by s ≡ Some frame = x.out frame waits in
-        w.good answer (sym (ap (verdict_answer budget core moment) w.is) ∙ sym (hear_is budget line core s begins.0 g.goes x.on moment bytes frame asks_it) ∙ e)
+        subst IsTakenUnlessFull (sym (hear_is budget line core s begins.0 g.goes x.on moment bytes frame (x.out frame waits) ∙ ap (verdict_answer budget core moment) w.is)) w.fits
 
     step : Known now (heard_on core line moment bytes (session_of core line))
     step =
@@ -651,16 +653,17 @@ module _ (budget line : ℕ) (meters : List Meter) (start : Scene) (place : ℕ)
       by (inr (inl x)) = absurd (let bad = sym x.silent ∙ waits in cc)
       by (inr (inr x)) = absurd (let bad = sym x.silent ∙ waits in cc)
 
+  fits_at : (bus : Bus) (core : Core) (moment : ℕ) (outcome : Outcome) (frame : FrameSeen) → bus.waits ≡ Some frame → row_after bus.row outcome < 3
+      → Going core → IsAt bus core → IsTakenUnlessFull (hear_answer budget core line moment (heard_in outcome frame meters bus.positions))
+  fits_at bus core moment outcome frame waits few g (inl x) = step_fits bus core moment g x outcome frame waits few
+  fits_at bus core moment outcome frame waits few g (inr (inl x)) = absurd (let bad = sym x.silent ∙ waits in cc)
+  fits_at bus core moment outcome frame waits few g (inr (inr x)) = absurd (let bad = sym x.silent ∙ waits in cc)
+
   good_at : (bus : Bus) (core : Core) (moment : ℕ) (bytes : List ℕ) (answer : LineHeard) (outcome : Outcome) (frame : FrameSeen) → bus.waits ≡ Some frame → bytes ≡ heard_in outcome frame meters bus.positions → row_after bus.row outcome < 3
-      → MayHear (hear_answer budget core line moment bytes) (Ok answer) → Known bus core → GoesOn answer
-  good_at bus core moment bytes answer outcome frame waits bytes_are few may_hear k = by k.at
-    where
-      by : IsAt bus core → GoesOn answer
-      by (inl x) =
-          let right = right_answer (hear_answer budget core line moment bytes) (Ok answer) may_hear (λ e. cc) in
-          step_good bus core moment k.going x outcome frame waits few answer (sym (ap (hear_answer budget core line moment) bytes_are) ∙ sym right)
-      by (inr (inl x)) = absurd (let bad = sym x.silent ∙ waits in cc)
-      by (inr (inr x)) = absurd (let bad = sym x.silent ∙ waits in cc)
+      → MayHear (hear_answer budget core line moment bytes) (Ok answer) → Known bus core → IsNoFailure (heard (Ok answer))
+  good_at bus core moment bytes answer outcome frame waits bytes_are few may_hear k =
+      let right = right_answer (hear_answer budget core line moment bytes) (Ok answer) may_hear (λ e. cc) in
+      subst IsTakenUnlessFull (sym (ap (hear_answer budget core line moment) bytes_are) ∙ sym right) (fits_at bus core moment outcome frame waits few k.going k.at)
 
   -- ---- all turns
 
@@ -678,7 +681,7 @@ module _ (budget line : ℕ) (meters : List Meter) (start : Scene) (place : ℕ)
   along {bus = bus} core k chain (gives_it {moment = moment} {bytes = given} {answer = answer} outcome frame waits bytes_are few more) =
       let good = good_at bus core moment given answer outcome frame waits bytes_are few chain.0 k in
       let rest = along (heard_on core line moment given (session_of core line)) (heard_at bus core moment given outcome frame waits bytes_are few k) chain.1 more in
-      (rest.0, ((λ e. no_failure answer good), rest.1))
+      (rest.0, ((λ e. good), rest.1))
   along {bus = bus} core k chain (commits_it more) =
       let rest = along (settled_core core core.pending) (commit_by bus core k.going core.pending k.at) chain.1 more in
       (rest.0, ((λ e. absurd e), rest.1))
@@ -745,29 +748,23 @@ module _ (budget line : ℕ) (meters : List Meter) (start : Scene) (place : ℕ)
   bounds_after (Some s) bus state a = bounds bus state a.0
   bounds_after None bus state a = let most = a.all.most in let thrice = a.all.thrice in (omega (arith, most), omega (arith, thrice))
 
-  some_asked : (stage : Stage) (address : Option ℕ) (done lost tries left settled : ℕ) (who : Identity) → IsDue total stage address done lost tries left → is_some (option_map spelling (asked_at stage who address settled)) ≡ true
-  some_asked Resets address done lost tries left settled who due = refl
-  some_asked Selects address done lost tries left settled who due = refl
-  some_asked Requests address done lost tries left settled who due = refl
-  some_asked (Pending more) address done lost tries left settled who due = absurd due
-  some_asked Ended address done lost tries left settled who due = absurd due
-
-  asks_some : (bus : Bus) (core : Core) → Going core → Asks bus core → is_some (ask_answer core line) ≡ true
+  asks_some : (bus : Bus) (core : Core) → Going core → Asks bus core → (request : List ℕ) × (ask_answer core line ≡ Some request) × IsSome (frame_of request)
   asks_some bus core g x =
       let f = x.facts in
       let s = f.running.session in
-      ap is_some (asked_is budget line core s begins.0 g.goes x.on)
-      ∙ ap (λ (y : Stage). is_some (option_map spelling (asked_at y s.meter s.address s.settled))) f.stage_is
-      ∙ some_asked f.stage s.address bus.heard bus.lost bus.row (length f.left) s.settled s.meter f.due
+      let asks_it = some_asked total f.stage s.address bus.heard bus.lost bus.row (length f.left) s.settled s.meter f.due in
+      let is : asked_by s ≡ Some asks_it.0 = ap (λ (y : Stage). asked_at y s.meter s.address s.settled) f.stage_is ∙ asks_it.1 in
+      (spelling asks_it.0, asked_is budget line core s begins.0 g.goes x.on ∙ ap (option_map spelling) is, ap is_some (frame_of-spelling asks_it.0))
 
-  goes_beside : (turns : List Turn) (last : Bus) (core : Core) → NeverFails turns → Going core → IsAt last core → GoesBeside line meter row parts start.core core turns last
+  goes_beside : (turns : List Turn) (last : Bus) (core : Core) → NeverFails turns → Going core → IsAt last core → GoesBeside budget line meters meter row parts start.core core turns last
   goes_beside turns last core never g (inl x) =
       let b = bounds last (present core) x.facts in
       record {
         never_fails = never;
         within = b.0;
         thrice = b.1;
-        goes_on = λ s on none. asks_some last core g x;
+        asks_on = λ s on none. asks_some last core g x;
+        takes = λ outcome frame moment waits few. fits_at last core moment outcome frame waits few g (inl x);
         ends = λ none. absurd (let bad = sym x.on ∙ none in cc);
       }
   goes_beside turns last core never g (inr (inl x)) =
@@ -776,7 +773,8 @@ module _ (budget line : ℕ) (meters : List Meter) (start : Scene) (place : ℕ)
         never_fails = never;
         within = b.0;
         thrice = b.1;
-        goes_on = λ s on none. absurd (x.pends none);
+        asks_on = λ s on none. absurd (x.pends none);
+        takes = λ outcome frame moment waits few. fits_at last core moment outcome frame waits few g (inr (inl x));
         ends = λ none. absurd (let bad = sym x.on ∙ none in cc);
       }
   goes_beside turns last core never g (inr (inr x)) =
@@ -786,7 +784,8 @@ module _ (budget line : ℕ) (meters : List Meter) (start : Scene) (place : ℕ)
         never_fails = never;
         within = omega (arith, most);
         thrice = omega (arith, thrice);
-        goes_on = λ s on none. absurd (let bad = sym x.free ∙ on in cc);
+        asks_on = λ s on none. absurd (let bad = sym x.free ∙ on in cc);
+        takes = λ outcome frame moment waits few. fits_at last core moment outcome frame waits few g (inr (inr x));
         ends = λ none. x.kept_read;
       }
 

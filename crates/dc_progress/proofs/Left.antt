@@ -1,10 +1,13 @@
 -- The requests that are left of a readout, after so many exchanges and losses.
-use Rattle.std.proofs.Common.{◌≡◌, ℕ, ◌+◌, ◌*◌, ◌≤◌, ◌<◌, Option, Some, None, arith}
+use Rattle.std.proofs.Common.{◌≡◌, ℕ, ◌+◌, ◌*◌, ◌≤◌, ◌<◌, Option, Some, None, arith, refl}
 use Rattle.dc_readout.specs.declared.stage.Stage.{Stage}
 use Rattle.dc_readout.specs.declared.stage.Stage.TheVariants.{Resets, Selects, Requests, Pending, Ended}
 use Rattle.dc_readout.specs.Session.{commands}
 use Rattle.dc_lives.specs.declared.event.Outcome.{Outcome}
 use Rattle.dc_progress.specs.Rounds.{losses_by, row_after}
+use Rattle.dc_linkframe.specs.Frame.{FrameSeen}
+use Rattle.dc_address.specs.declared.identity.Identity.{Identity}
+use Rattle.dc_readout.specs.Summary.{reset_of, selection_of, request_of, asked_at}
 
 module _ (total : ℕ) where
   -- after so many exchanges with so many losses, so many of them in a row at last
@@ -39,3 +42,10 @@ module _ (total : ℕ) where
       let most = due.most in
       let thrice = due.thrice in
       record { most = omega (arith, most, one); thrice = omega (arith, thrice, more) }
+
+  pub some_asked : (stage : Stage) (address : Option ℕ) (done lost tries left settled : ℕ) (who : Identity) → IsDue stage address done lost tries left → (frame : FrameSeen) × (asked_at stage who address settled ≡ Some frame)
+  some_asked Resets address done lost tries left settled who due = (reset_of address, refl)
+  some_asked Selects address done lost tries left settled who due = (selection_of who, refl)
+  some_asked Requests address done lost tries left settled who due = (request_of address settled, refl)
+  some_asked (Pending more) address done lost tries left settled who due = absurd due
+  some_asked Ended address done lost tries left settled who due = absurd due

@@ -112,12 +112,6 @@ module _ (meter : Identity) where
 
 -- ---- failures
 
-pub no_failure : (answer : LineHeard) → GoesOn answer → IsNoFailure (heard (Ok answer))
-no_failure Again good = tt
-no_failure Ready good = tt
-no_failure (Accepted part more) good = tt
-no_failure (Failed why) good = absurd good
-
 pub not_both : (line : ℕ) (event : Event) → IsElsewhere line event → IsHeardOn line event → ⊥
 not_both line (starts other meter) away on = on
 not_both line (asks other) away on = on

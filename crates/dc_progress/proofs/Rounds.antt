@@ -23,6 +23,7 @@ use Rattle.dc_core.specs.declared.fault.HearFault.TheVariants.{NoLine, Idle, NoM
 use Rattle.dc_core.specs.Core.{Core, present, session_of}
 use Rattle.dc_core.specs.Step.{ask_answer, asked_on, hear_answer, answer_on, verdict_answer, unless_refused, MayHear, session_after, judged, heard_on, after_hear, settled_core}
 use Rattle.dc_core.proofs.Refused.{answer_is}
+use Rattle.dc_progress.specs.Beside.{IsTakenUnlessFull}
 
 -- ---- a commit
 
@@ -63,14 +64,11 @@ GoesOn Ready = Unit {0}
 GoesOn (Accepted part more) = Unit {0}
 GoesOn (Failed why) = ⊥
 
-pub is_good : (good answer : LineHeard) → GoesOn good → ◌≡◌ {A = Result LineHeard HearFault} (Ok good) (Ok answer) → GoesOn answer
-is_good good answer goes e =
-    let same : good ≡ answer = cc in
-    subst GoesOn same goes
-
-pub taken_good : (refused : Option TakeFault) (good answer : LineHeard) → GoesOn good → unless_refused refused good ≡ Ok answer → GoesOn answer
-taken_good None good answer goes e = is_good good answer goes e
-taken_good (Some fault) good answer goes e = absurd cc
+-- a telegram is refused for want of room alone
+pub room_alone : (few is : Bool) (part : ℕ) (more : Bool) → IsTakenUnlessFull (unless_refused (if few then Some TakePendingFull else if is then Some TakeFull else None) (Accepted part more))
+room_alone true is part more = tt
+room_alone false true part more = tt
+room_alone false false part more = tt
 
 pub record Told (answer : Result LineHeard HearFault) : Type 0 where
   pub good : LineHeard

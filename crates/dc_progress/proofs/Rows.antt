@@ -220,4 +220,4 @@ readouts_of_a_run_end budget state before line meters positions place meter row 
     let begins : CanBegin line meters scene place meter row parts =
     record { there = there; lines = lines_are_kept budget state before cut.0; may_start = may; registered = registered; address = address } in
     let ends = readouts_end_beside_others budget line meters scene place meter row parts turns last begins (only_on core line meter.identity rows may free) cut.1.1 serves in
-    subst (λ (now : Core). GoesBeside line meter row parts core now turns last) (sym (leads_append (opened state) before ((starts line meter.identity, started (Ok tt)) ∷ turns))) ends
+    subst (λ (now : Core). GoesBeside budget line meters meter row parts core now turns last) (sym (leads_append (opened state) before ((starts line meter.identity, started (Ok tt)) ∷ turns))) ends

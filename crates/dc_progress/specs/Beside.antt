@@ -1,7 +1,7 @@
 -- A readout beside those of other lines (this product). Between its requests, their answers and the
 -- commits, other lines begin, ask and hear in any order.
 use Rattle.std.specs.List.{AllByRecursion}
-use Rattle.std.specs.Prelude.{◌≡◌, ◌≢◌, ℕ, ◌+◌, ◌*◌, ◌≤◌, ◌<◌, Option, None, Some, IsSome, Ok, List, [], ◌∷◌, ◌++◌, map, filter}
+use Rattle.std.specs.Prelude.{◌≡◌, ◌≢◌, ℕ, ◌+◌, ◌*◌, ◌≤◌, ◌<◌, Option, None, Some, IsSome, Ok, List, [], ◌∷◌, ◌++◌, map, filter, Result, Err}
 use Rattle.dc_linkframe.specs.Frame.{FrameSeen}
 use Rattle.dc_linkframe.specs.Reading.{frame_of}
 use Rattle.dc_address.specs.declared.identity.Identity.{Identity}
@@ -13,9 +13,11 @@ use Rattle.dc_changes.specs.State.{State, MeterRow, PartRow, ReadingRow, row_of}
 use Rattle.dc_meters.specs.Orders.{is_of}
 use Rattle.dc_core.specs.declared.line_heard.LineHeard.{LineHeard}
 use Rattle.dc_core.specs.declared.line_heard.LineHeard.TheVariants.{Failed}
+use Rattle.dc_core.specs.declared.fault.HearFault.{HearFault}
+use Rattle.dc_core.specs.declared.fault.HearFault.TheVariants.{Full, PendingFull}
 use Rattle.dc_core.specs.Core.{Core, present, session_of, opened}
 use Rattle.dc_core.specs.Event.{Event, Answer, starts, asks, hears, commits, offices, started, asked, heard, committed}
-use Rattle.dc_core.specs.Step.{ask_answer}
+use Rattle.dc_core.specs.Step.{ask_answer, hear_answer}
 use Rattle.dc_core.specs.Transcript.{Turn, leads, IsChain}
 use Rattle.dc_progress.specs.Needs.{IsThere, CanBegin}
 use Rattle.dc_progress.specs.Progress.{requests_of}
@@ -113,17 +115,28 @@ abbrev pub IsNoFailure : Answer → Type 0
 IsNoFailure (heard (Ok (Failed why))) = ⊥
 IsNoFailure answer = Unit {0}
 
+-- An answer is taken, unless the register is full or too many changes are pending.
+abbrev pub IsTakenUnlessFull : Result LineHeard HearFault → Type 0
+IsTakenUnlessFull (Ok answer) = IsNoFailure (heard (Ok answer))
+IsTakenUnlessFull (Err Full) = Unit {0}
+IsTakenUnlessFull (Err PendingFull) = Unit {0}
+IsTakenUnlessFull (Err fault) = ⊥
+
 -- By these turns the readout never fails. The exchanges are no more than its requests and one for
 -- each loss, and no more than three for each request. While the session is on the line and nothing
--- is pending, a request is asked. Where nobody is on the line any more, the meter is read, and that
--- is committed.
-pub record GoesBeside (line : ℕ) (meter : Meter) (row : MeterRow) (parts : List (List ℕ))
-    (before now : Core) (turns : List Turn) (last : Bus) : Type 0 where
+-- is pending, a request is asked, and while one waits, whatever the line makes of it is taken,
+-- unless there is no room. Where nobody is on the line any more, the meter is read, and that is
+-- committed.
+pub record GoesBeside (budget line : ℕ) (meters : List Meter) (meter : Meter) (row : MeterRow)
+    (parts : List (List ℕ)) (before now : Core) (turns : List Turn) (last : Bus) : Type 0 where
   pub never_fails : AllByRecursion (λ (turn : Turn). IsHeardOn line turn.0 → IsNoFailure turn.1) turns
   pub within : last.heard ≤ requests_of meter.address parts + last.lost
   pub thrice : last.heard ≤ 3 * requests_of meter.address parts
-  pub goes_on : (s : Summary) → session_of now line ≡ Some s → now.pending ≡ []
-      → IsSome (ask_answer now line)
+  pub asks_on : (s : Summary) → session_of now line ≡ Some s → now.pending ≡ []
+      → (request : List ℕ) × (ask_answer now line ≡ Some request) × IsSome (frame_of request)
+  pub takes : (outcome : Outcome) (frame : FrameSeen) (moment : ℕ)
+      → last.waits ≡ Some frame → row_after last.row outcome < 3
+      → IsTakenUnlessFull (hear_answer budget now line moment (heard_in outcome frame meters last.positions))
   pub ends : session_of now line ≡ None
       → HasRead meter.identity row parts (present before) now.committed
 
@@ -135,7 +148,7 @@ ReadoutsEndBesideOthers = (budget line : ℕ) (meters : List Meter) (scene : Sce
     → IsOnlyOn line meter.identity scene.core
     → IsChain budget (begun_on line meter.identity scene).core turns
     → Serves line meters (bus_at_first scene.positions) turns last
-    → GoesBeside line meter row parts scene.core
+    → GoesBeside budget line meters meter row parts scene.core
     (leads (begun_on line meter.identity scene).core turns) turns last
 
 -- ---- in a run of many readouts
@@ -161,5 +174,5 @@ ReadoutsOfARunEnd = (budget : ℕ) (state : State) (before : List Turn) (line : 
     → row_of meter.identity (present (leads (opened state) before)) ≡ Some row
     → row.address ≡ meter.address
     → Serves line meters (bus_at_first positions) turns last
-    → GoesBeside line meter row parts (leads (opened state) before)
+    → GoesBeside budget line meters meter row parts (leads (opened state) before)
     (leads (opened state) (before ++ (starts line meter.identity, started (Ok tt)) ∷ turns)) turns last
