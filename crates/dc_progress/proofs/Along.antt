@@ -40,6 +40,7 @@ use Rattle.dc_progress.specs.Needs.{IsOwnTelegram, MayBeRead}
 use Rattle.dc_progress.specs.Progress.{IsRead, requests_of, GoesWell, ReadoutsEnd, RunsThrough, UndisturbedReadoutsEnd}
 use Rattle.dc_progress.specs.Rounds.{Scene, Round, IsRound, scene_after, AreRounds, scene_behind, begun_on, losses_by, losses_in, row_after, LoseFew}
 use Rattle.dc_progress.proofs.Heard.{Judged, resets_all, resets_again, selects_again, requests_again, resets, selects, requests}
+use Rattle.dc_progress.proofs.Left.{IsLeft as LeftOf, IsDue as DueOf, within_due, one_less as less_of, one_lost as lost_of}
 use Rattle.dc_progress.proofs.Parts.{Next, next_of}
 use Rattle.dc_progress.proofs.Register.{Holds, row_same, told_by, told_is, unrefused, read_now, joined_is, holds_more, reads}
 use Rattle.dc_progress.proofs.Rounds.{Settled, Told, asks_nothing, right_answer, still_running, never_memory, asked_is, hears_again, hears_ready, hears_new, settled_behind, lines_judged, some_more}
@@ -72,18 +73,11 @@ module _ (budget line : ℕ) (meters : List Meter) (start : Scene) (place : ℕ)
   -- ---- what holds behind each round
 
   -- after so many rounds with so many losses, so many of them in a row at last, so many requests are left
-  pub record IsLeft (done lost tries left : ℕ) : Type 0 where
-    pub least : total ≤ done + left
-    pub most : done + left ≤ total + lost
-    pub thrice : done + 3 * left ≤ 3 * total + tries
+  abbrev pub IsLeft : ℕ → ℕ → ℕ → ℕ → Type 0
+  IsLeft done lost tries left = LeftOf total done lost tries left
 
   abbrev pub IsDue : Stage → Option ℕ → ℕ → ℕ → ℕ → ℕ → Type 0
-  IsDue Resets address done lost tries left = IsLeft done lost tries (commands address + left)
-  IsDue Selects None done lost tries left = IsLeft done lost tries (1 + left)
-  IsDue Selects (Some a) done lost tries left = ⊥
-  IsDue Requests address done lost tries left = IsLeft done lost tries left
-  IsDue (Pending more) address done lost tries left = ⊥
-  IsDue Ended address done lost tries left = ⊥
+  IsDue stage address done lost tries left = DueOf total stage address done lost tries left
 
   abbrev pub IsQuiet : Stage → List Change → Type 0
   IsQuiet Requests pending = pending ≡ []
@@ -234,27 +228,14 @@ module _ (budget line : ℕ) (meters : List Meter) (start : Scene) (place : ℕ)
         )
 
     -- and requests are left
-    less_at : (stage : Stage) (address : Option ℕ) → IsDue stage address done lost tries (length x.left) → done < total + lost
-    less_at Resets address due = let some = some_left in let most = due.most in omega (arith, most, some)
-    less_at Selects None due = let some = some_left in let most = due.most in omega (arith, most, some)
-    less_at Selects (Some a) due = absurd due
-    less_at Requests address due = let some = some_left in let most = due.most in omega (arith, most, some)
-    less_at (Pending more) address due = absurd due
-    less_at Ended address due = absurd due
+    bounds : (done < total + lost) × (done < 3 * total)
+    bounds = within_due total x.stage s.address done lost tries (length x.left) x.few some_left x.due
 
     less : done < total + lost
-    less = less_at x.stage s.address x.due
-
-    thrice_at : (stage : Stage) (address : Option ℕ) → IsDue stage address done lost tries (length x.left) → done < 3 * total
-    thrice_at Resets address due = let some = some_left in let thrice = due.thrice in let few = x.few in omega (arith, thrice, some, few)
-    thrice_at Selects None due = let some = some_left in let thrice = due.thrice in let few = x.few in omega (arith, thrice, some, few)
-    thrice_at Selects (Some a) due = absurd due
-    thrice_at Requests address due = let some = some_left in let thrice = due.thrice in let few = x.few in omega (arith, thrice, some, few)
-    thrice_at (Pending more) address due = absurd due
-    thrice_at Ended address due = absurd due
+    less = bounds.0
 
     pub thrice_less : done < 3 * total
-    thrice_less = thrice_at x.stage s.address x.due
+    thrice_less = bounds.1
 
     -- ---- what a round comes to
 
@@ -304,19 +285,10 @@ module _ (budget line : ℕ) (meters : List Meter) (start : Scene) (place : ℕ)
 
       -- one round more, and one request less or one loss more
       one_less : (n left : ℕ) → IsLeft done lost tries n → n ≡ 1 + left → IsLeft (done + 1) lost_then tries_then left
-      one_less n left due one =
-          let least = due.least in
-          let most = due.most in
-          let thrice = due.thrice in
-          let few = x.few in
-          record { least = omega (arith, least, one); most = omega (arith, most, one); thrice = omega (arith, thrice, one, few) }
+      one_less n left due one = less_of total done lost tries n left r.outcome x.few due one
 
       one_lost : (n : ℕ) → IsLeft done lost tries n → losses_by r.outcome ≡ 1 → tries_then ≡ tries + 1 → IsLeft (done + 1) lost_then tries_then n
-      one_lost n due one more =
-          let least = due.least in
-          let most = due.most in
-          let thrice = due.thrice in
-          record { least = omega (arith, least); most = omega (arith, most, one); thrice = omega (arith, thrice, more) }
+      one_lost n due one more = lost_of total done lost tries n r.outcome due one more
 
       -- where it leads, and how its answer was told
       record Went : Type 0 where

@@ -33,7 +33,6 @@ use Rattle.dc_waiting.specs.Waiting.{most_waiting}
 use Rattle.dc_changes.specs.Accepts.{refusal}
 use Rattle.dc_core.specs.declared.fault.HearFault.TheVariants.{Stopped}
 use Rattle.dc_core.specs.declared.line_heard.LineHeard.{LineHeard}
-use Rattle.dc_core.specs.declared.line_heard.LineHeard.TheVariants.{Again, Ready, Accepted}
 use Rattle.dc_core.specs.Core.{Core, present, session_of, with_session}
 use Rattle.dc_core.specs.Event.{Event, Answer, starts, asks, hears, commits, offices, started, asked, heard, committed, replied}
 use Rattle.dc_core.specs.Step.{May, next, MayHear, is_on, address_in, ask_answer, hear_answer, answer_on, verdict_answer, session_after, judged, heard_on, settled_core}
@@ -715,7 +714,7 @@ module _ (budget line : ℕ) (meters : List Meter) (start : Scene) (place : ℕ)
         own = may.there.own;
         tried = omega arith;
         few = omega arith;
-        due = record { most = omega arith; thrice = omega arith };
+        due = record { least = omega arith; most = omega arith; thrice = omega arith };
         holds = record { opened = row.parts; found = may.registered; are_open = inl refl; readings = refl };
       }
 
@@ -742,7 +741,11 @@ module _ (budget line : ℕ) (meters : List Meter) (start : Scene) (place : ℕ)
   -- ---- the end
 
   bounds : (bus : Bus) (state : State) (f : FactsOf bus state) → (bus.heard ≤ total + bus.lost) × (bus.heard ≤ 3 * total)
-  bounds bus state f = within_due total f.stage f.running.session.address bus.heard bus.lost bus.row (length f.left) f.few (some_left first meter row parts f.running.session.settled f.left f.whole) f.due
+  bounds bus state f =
+      let w = within_due total f.stage f.running.session.address bus.heard bus.lost bus.row (length f.left) f.few (some_left first meter row parts f.running.session.settled f.left f.whole) f.due in
+      let most = w.0 in
+      let thrice = w.1 in
+      (omega (arith, most), omega (arith, thrice))
 
   bounds_after : (o : Option Summary) (bus : Bus) (state : State) → AfterCommit o bus state → (bus.heard ≤ total + bus.lost) × (bus.heard ≤ 3 * total)
   bounds_after (Some s) bus state a = bounds bus state a.0

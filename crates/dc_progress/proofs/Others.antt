@@ -23,10 +23,8 @@ use Rattle.dc_core.specs.declared.fault.HearFault.TheVariants.{NoLine}
 use Rattle.dc_core.specs.declared.line_heard.LineHeard.{LineHeard}
 use Rattle.dc_core.specs.Step.{MayHear, is_on}
 use Rattle.dc_core.proofs.Registered.{row_of_other}
-use Rattle.dc_core.specs.declared.line_heard.LineHeard.TheVariants.{Again, Ready, Accepted, Failed}
-use Rattle.dc_core.specs.Event.{Event, starts, asks, hears, commits, offices, heard}
-use Rattle.dc_progress.specs.Beside.{IsElsewhere, IsHeardOn, IsNoFailure}
-use Rattle.dc_progress.proofs.Rounds.{GoesOn}
+use Rattle.dc_core.specs.Event.{Event, starts, asks, hears, commits, offices}
+use Rattle.dc_progress.specs.Beside.{IsElsewhere, IsHeardOn}
 use Rattle.dc_progress.specs.Beside.{readings_of}
 
 -- ---- the answers of other turns

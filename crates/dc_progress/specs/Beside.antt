@@ -129,14 +129,16 @@ IsTakenUnlessFull (Err fault) = ⊥
 -- committed.
 pub record GoesBeside (budget line : ℕ) (meters : List Meter) (meter : Meter) (row : MeterRow)
     (parts : List (List ℕ)) (before now : Core) (turns : List Turn) (last : Bus) : Type 0 where
-  pub never_fails : AllByRecursion (λ (turn : Turn). IsHeardOn line turn.0 → IsNoFailure turn.1) turns
+  pub never_fails :
+      AllByRecursion (λ (turn : Turn). IsHeardOn line turn.0 → IsNoFailure turn.1) turns
   pub within : last.heard ≤ requests_of meter.address parts + last.lost
   pub thrice : last.heard ≤ 3 * requests_of meter.address parts
   pub asks_on : (s : Summary) → session_of now line ≡ Some s → now.pending ≡ []
       → (request : List ℕ) × (ask_answer now line ≡ Some request) × IsSome (frame_of request)
   pub takes : (outcome : Outcome) (frame : FrameSeen) (moment : ℕ)
       → last.waits ≡ Some frame → row_after last.row outcome < 3
-      → IsTakenUnlessFull (hear_answer budget now line moment (heard_in outcome frame meters last.positions))
+      → IsTakenUnlessFull
+      (hear_answer budget now line moment (heard_in outcome frame meters last.positions))
   pub ends : session_of now line ≡ None
       → HasRead meter.identity row parts (present before) now.committed
 
@@ -175,4 +177,5 @@ ReadoutsOfARunEnd = (budget : ℕ) (state : State) (before : List Turn) (line : 
     → row.address ≡ meter.address
     → Serves line meters (bus_at_first positions) turns last
     → GoesBeside budget line meters meter row parts (leads (opened state) before)
-    (leads (opened state) (before ++ (starts line meter.identity, started (Ok tt)) ∷ turns)) turns last
+    (leads (opened state) (before ++ (starts line meter.identity, started (Ok tt)) ∷ turns))
+    turns last
