@@ -1,6 +1,7 @@
 //! Which bus line has which link.
 
-ghost use Rattle.std.specs.Prelude.{◌≡◌, ◌≤◌, ◌+◌, ℕ, [], ◌∷◌, None, IfSome, OnOk, OnErr, ◌++◌, codes};
+ghost use Rattle.std.specs.Prelude.{◌≡◌, ◌≤◌, ◌+◌, ◌++◌, ◌∷◌, ℕ, [], None, IfSome, OnOk, OnErr};
+ghost use Rattle.std.specs.Prelude.{codes};
 ghost use Rattle.std.specs.List.{All};
 ghost use Rattle.dc_words.specs.Link.{word_of};
 ghost use Rattle.dc_words.specs.Links.{Adds, line_word};
@@ -46,7 +47,8 @@ impl<'a> Links<'a> {
     /// # Errors
     /// [`LinkFault`]: no line from 1 to 8, no link, or the line has one already. Nothing is changed then.
     pub fn add(&mut self, word: &'a str) -> Result<(), LinkFault>
-        ensures added { OnOk result ((place : ℕ) × (link : Link) × (word.now ≡ line_word place link) × Adds place link self.old.links self.new.links) }
+        ensures added { OnOk result ((place : ℕ) × (link : Link) × (word.now ≡ line_word place link)
+            × Adds place link self.old.links self.new.links) }
         ensures kept { OnErr result (self.new ≡ self.old) }
     {
         let (line, link) = word.split_once('=').ok_or(LinkFault::NoLine)?;
@@ -59,7 +61,8 @@ impl<'a> Links<'a> {
     /// # Errors
     /// [`LinkFault::Port`], and [`LinkFault::Twice`] where line 1 has a link already.
     pub fn add_gateway(&mut self, place: &'a str) -> Result<(), LinkFault>
-        ensures added { OnOk result ((link : Link) × (word_of link ≡ codes "blocks://" ++ place.now) × Adds 0 link self.old.links self.new.links) }
+        ensures added { OnOk result ((link : Link) × (word_of link ≡ codes "blocks://" ++ place.now)
+            × Adds 0 link self.old.links self.new.links) }
         ensures kept { OnErr result (self.new ≡ self.old) }
     {
         self.put(0, LinkName::gateway(place)?)
