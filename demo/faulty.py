@@ -16,19 +16,20 @@ from transparent import Transparent
 
 CLOSE = None
 STALL = 0.8  # seconds: longer than the gap that ends an answer
-SHARE = 0.3  # of the answers, of each fault but CLOSE
-CLOSING = 0.1  # of the telegrams
+SHARE = 0.3  # of the answers
 
 
 def whole(rng, request, answer):
     return [(0, answer)]
 
 
-def closes(rng, request, answer):
-    """The connection ends within a frame."""
-    if len(answer) <= len(ACK) or rng.random() >= CLOSING:
-        return [(0, answer)]
-    return [(0, answer[:rng.randrange(1, len(answer))]), (0.05, CLOSE)]
+def closes(share, otherwise=whole):
+    """The connection ends within this share of the telegrams."""
+    def fault(rng, request, answer):
+        if len(answer) <= len(ACK) or rng.random() >= share:
+            return otherwise(rng, request, answer)
+        return [(0, answer[:rng.randrange(1, len(answer))]), (0.05, CLOSE)]
+    return fault
 
 
 def stalls(rng, request, answer):
