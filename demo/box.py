@@ -92,7 +92,8 @@ class Truth:
             self.check(int(serial) not in self.promised, f"serial {serial} was given before")
             self.promised[int(serial)] = name
         if not ended.was_killed:
-            self.check(ended.printed[-1:] == [f"END {len(read)} {len(failed)}"], f"poll ended with {ended.printed[-1:]}")
+            end = f"END {len(read)} {len(failed)}"
+            self.check(ended.printed[-1:] == [end], f"poll ended with {ended.printed[-1:]} and not {end}")
             self.check(ended.status == bool(failed), f"poll ended with status {ended.status}")
         return {name for _, name, _, _ in read}
 

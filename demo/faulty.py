@@ -50,6 +50,11 @@ def late(longest):
     return lambda rng, request, answer: [(rng.uniform(0, longest) if rng.random() < SHARE else 0, answer)]
 
 
+def always_late(seconds):
+    """Each answer comes so many seconds after its request."""
+    return lambda rng, request, answer: [(seconds, answer)]
+
+
 def together(*faults):
     """One of these faults at each exchange."""
     return lambda rng, request, answer: rng.choice(faults)(rng, request, answer)
@@ -82,7 +87,7 @@ class Faulty(Transparent):
 
     def reply(self, request, write):
         answer, now = self.carry(request), time.monotonic()
-        self.write = write
+        self.write, self.delivered = write, None  # where answers come late, a next request doesn't say what was heard
         for seconds, piece in self.fault(self.rng, request, answer):
             self.counts["late"] += seconds > 0
             self.under_way.put((now + seconds, piece))
