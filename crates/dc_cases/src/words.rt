@@ -124,7 +124,7 @@ pub fn small(text: &str) -> Result<u32, CaseFault> {
     }
 }
 
-// The bytes of one word; `-` is none.
+// The bytes of one word; `-` has no bytes.
 fn piece(heap: Global, text: &str) -> Result<Vec<u8>, CaseFault> {
     let digits = if text == "-" { "" } else { text };
     let mut bytes = room(heap, digits.len())?;

@@ -1,8 +1,8 @@
-//! Tests of disks and of the store on a disk in memory: the bytes of groups, roots and images, what is refused, what wears
-//! out, images of version 1, and what two lives leave behind.
+//! Tests of disks and of the store on a disk in memory: the bytes of groups, roots and images, what is refused,
+//! exhausted counters, images of version 1, and what two lives leave.
 //!
-//! What a stop or a fault at each call leaves is tried with whole lives (dc_tests). There is no product code here: what
-//! these tests use is what a program sees.
+//! A crash or a fault at each call is tried with whole lives (dc_tests). The crate has no product code: these tests use
+//! what a program sees.
 #![tactic(auto)]
 
 #[cfg(test)]

@@ -140,7 +140,7 @@ pub fn blank(heap: Global) -> Result<MemoryDisk<Global>, Fail> {
     }
 }
 
-/// An image of 131 sectors behind these commands.
+/// An image of 131 sectors after these commands.
 pub fn image(
     rt: &impl Abort,
     heap: Global,

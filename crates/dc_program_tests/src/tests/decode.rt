@@ -22,7 +22,7 @@ RECORD 0 2 1 0 04 371802 = 218370 Wh
 END
 ";
 
-// The text for these lines goes behind what the writer held, and the answer tells whether a fault is in it.
+// The text for these lines follows what the writer held, and the answer says whether a fault is in it.
 fn is_told(
     rt: &(impl Abort + AllocGlobal),
     lines: &[u8],

@@ -17,7 +17,7 @@ TELEGRAM 1 100 7856341224400107010000000C13785634121F
 TELEGRAM 2 100 785634122440010702000000426C1F3C4C1300503412
 ";
 
-// The text for these lines goes behind what the writer held, and the answer tells whether a SYNTAX is in it.
+// The text for these lines follows what the writer held, and the answer says whether a SYNTAX is in it.
 fn is_folded(
     rt: &(impl Abort + AllocGlobal),
     lines: &[u8],

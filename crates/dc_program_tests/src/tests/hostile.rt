@@ -51,7 +51,7 @@ fn losses(text: &[u8]) -> usize {
     text.windows(LOSS.len()).filter(|it| *it == LOSS).count()
 }
 
-/// A gateway whose take of that number fails: how often it is told as lost.
+/// A gateway whose take of that number fails: how often its loss is printed.
 fn lost_at_take(rt: &(impl Abort + AllocGlobal), takes: u64) -> Result<usize, Fail> {
     let reader = FailingSource::after(takes, ANSWERS, 1);
     let text = polled(rt, (reader, Bytes::new(rt.alloc())))?;
@@ -79,7 +79,7 @@ fn each_take_and_each_put_fails_in_turn(rt: HostRuntime) -> Result<(), Fail> {
     Ok(())
 }
 
-/// A gateway that gives this piece so many times.
+/// A gateway that sends this piece that many times.
 fn repeated(heap: Global, piece: &[u8], times: u64) -> Result<Bytes<Global>, Fail> {
     let mut blocks = Bytes::new(heap);
     for _ in 0..times {

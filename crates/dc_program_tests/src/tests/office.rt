@@ -1,4 +1,4 @@
-//! Lines of the office whose reply fails, or whose memory is refused.
+//! Lines of the office whose reply fails, or that are out of memory.
 
 ghost use Rattle.std.specs.Prelude.{None};
 
@@ -19,7 +19,7 @@ const BUDGET: u32 = 15_616;
 
 const FIT: &[u8] = b"1 FIT 12345678.PAD.01.07 1 1 A1";
 
-// The meter 12345678.PAD.01.07 tells a volume, and then a date and the volume on it.
+// The meter 12345678.PAD.01.07 sends a volume, and then a date and the volume on it.
 const FIRST: &[u8] =
     b"\x78\x56\x34\x12\x24\x40\x01\x07\x01\x00\x00\x00\x0C\x13\x78\x56\x34\x12\x1F";
 
@@ -140,7 +140,7 @@ fn read_on<A: Allocator + Copy>(
     hear(rt, house, 2, LAST)
 }
 
-// Whether the table is made with the k-th request refused; where it isn't, it is want of memory, with nothing written,
+// Whether the table is made with the k-th request refused; else it is out of memory, with nothing written,
 // and the same line is then answered.
 fn is_made<'a, A: Allocator>(
     rt: &(impl Abort + AllocGlobal),
@@ -176,7 +176,7 @@ fn tables_want_memory<'a, A: Allocator>(
     Err(Fail::from("a table of at most 100 requests"))
 }
 
-// Each request for memory is refused in turn. At last there is none to be refused.
+// Each request for memory is refused in turn, until no request is left.
 #[test]
 fn a_report_that_wants_memory_writes_nothing(rt: HostRuntime) -> Result<(), Fail> {
     let heap = Refusing::new(rt.alloc());

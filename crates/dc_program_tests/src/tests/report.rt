@@ -1,4 +1,4 @@
-//! Tables whose memory is refused.
+//! Tables that are out of memory.
 use super::common::{blank, joined};
 use super::run::{FIRST, LAST, run};
 use super::streams::FailingSink;
@@ -40,7 +40,7 @@ fn is_want(outcome: Result<(), ProgramFault>) -> bool {
         || outcome == Err(ProgramFault::Open(OpenFault::NoMemory))
 }
 
-// Each growth is refused in turn, of the opening first and of the table at last.
+// Each growth is refused in turn, first of the opening, then of the table.
 fn is_refused_in_turn(rt: &(impl Abort + AllocGlobal), report: Report) -> Result<(), Fail> {
     let disk = read_out(rt.alloc())?;
     let heap = Refusing::new(rt.alloc());

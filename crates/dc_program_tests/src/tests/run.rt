@@ -111,7 +111,7 @@ fn each_refused_growth_is_told(rt: HostRuntime) -> Result<(), Fail> {
         }
         match outcome {
             Err(fault) => assert_eq!(rt; bytes, 0),
-            // A telegram was refused for want of memory, as the text says.
+            // A telegram was refused as out of memory, as the text says.
             Ok(faulty) => assert!(rt; !faulty),
         }
     }

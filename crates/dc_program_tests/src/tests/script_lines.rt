@@ -157,7 +157,7 @@ NO GATEWAY
     Ok(())
 }
 
-// Each loss is told once, in the words of its line.
+// Each loss is printed once, in the words of its line.
 #[test]
 fn each_line_tells_its_loss_once(rt: HostRuntime) -> Result<(), Fail> {
     let heap = rt.alloc();

@@ -1,4 +1,4 @@
-//! Searches whose memory is refused.
+//! Searches that are out of memory.
 use super::common::blank;
 use dc_poller::{ProgramFault, run_script};
 use dc_stream::{Bytes, IoFault, Source};
@@ -47,7 +47,7 @@ fn a_search_without_memory_ends_the_script(rt: HostRuntime) -> Result<(), Fail> 
     Ok(())
 }
 
-// The gateway is lost and then memory is refused: the loss is told.
+// The gateway is lost, then a growth is refused: the loss is printed.
 #[test]
 fn a_loss_is_told_where_memory_is_refused(rt: HostRuntime) -> Result<(), Fail> {
     let heap = Refusing::new(rt.alloc());

@@ -3,7 +3,7 @@
 use dc_base::one_failure_more;
 use dc_stream::{IoFault, Sink, Source};
 
-/// Gives so many bytes at most with each take, and fails after so many takes.
+/// Gives at most that many bytes with each take, and fails after that many takes.
 #[derive(Drop)]
 pub struct FailingSource<'a> {
     bytes: &'a [u8],
@@ -13,7 +13,7 @@ pub struct FailingSource<'a> {
 }
 
 impl<'a> FailingSource<'a> {
-    /// These bytes, in takes of `at_most`; the take after `takes` of them fails, and each behind it.
+    /// These bytes, in takes of `at_most`; the take after `takes` of them fails, and each later one.
     pub fn after(takes: u64, bytes: &'a [u8], at_most: usize) -> FailingSource<'a> {
         FailingSource {
             bytes,
@@ -45,7 +45,7 @@ impl<'a> Source for FailingSource<'a> {
     }
 }
 
-/// Counts the bytes that are put, and fails after so many puts.
+/// Counts the bytes that are put, and fails after that many puts.
 #[derive(Drop)]
 pub struct FailingSink {
     puts: u64,
@@ -54,7 +54,7 @@ pub struct FailingSink {
 }
 
 impl FailingSink {
-    /// The put after so many fails, and each behind it.
+    /// The put after that many fails, and each later one.
     pub fn after(puts: u64) -> FailingSink {
         FailingSink {
             puts,

@@ -20,7 +20,7 @@ fn meter(n: u8) -> Result<Identity, Fail> {
     Ok(meter.ok_or("meter")?)
 }
 
-// Some change, which may be refused. A telegram tells a volume of the 30th or the 31st of December.
+// Some change, which may be refused. A telegram has a volume of the 30th or the 31st of December.
 fn some_change(
     heap: Global,
     number: u64,
@@ -49,7 +49,7 @@ fn some_change(
     })
 }
 
-// The calls by a serial say that it is the reading's, with so many readings from it on.
+// The calls by a serial say that it is the reading's, with that many readings from it on.
 fn serial_agrees<A: Allocator + Copy>(
     rt: &impl Abort,
     house: &House<A>,
@@ -63,7 +63,7 @@ fn serial_agrees<A: Allocator + Copy>(
     assert_eq!(rt; found, Some(reading.meter()));
 }
 
-// Beyond the readings there are none.
+// Beyond the readings no reading is found.
 fn nothing_is_beyond<A: Allocator + Copy>(rt: &impl Abort, house: &House<A>) {
     assert_eq!(rt; house.from(house.next_serial()).len(), 0);
     assert!(rt; house.reading(house.next_serial()).is_none());
@@ -127,7 +127,7 @@ fn days_agree<A: Allocator + Copy>(rt: &impl Abort, house: &House<A>) -> Result<
     Ok(())
 }
 
-// The place is behind the one before, and that of its meter.
+// The place is after the one before, and that of its meter.
 fn place_agrees<A: Allocator + Copy>(
     rt: &impl Abort,
     house: &House<A>,

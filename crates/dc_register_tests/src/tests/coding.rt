@@ -6,7 +6,7 @@ use refusing_alloc::Refusing;
 use std::alloc::Allocator;
 use std::test::Fail;
 
-// The meter 12345678.PAD.01.07, with nothing to tell.
+// The meter 12345678.PAD.01.07, without a record.
 const TELEGRAM: &[u8] = b"\x78\x56\x34\x12\x24\x40\x01\x07\x01\x00\x00\x00";
 
 fn put_telegram<A: Allocator>(bytes: &mut Bytes<A>) -> Result<(), Fail> {

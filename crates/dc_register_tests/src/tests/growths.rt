@@ -37,7 +37,7 @@ fn refused_at(
     Ok(true)
 }
 
-/// Refuses each request of the change behind these: how many there are.
+/// Refuses each request of the change after these; returns how many requests it makes.
 fn requests_of(rt: &impl Abort, alloc: Global, before: &[&[u8]], line: &[u8]) -> Result<u64, Fail> {
     for request in 1..20u64 {
         let heap = Refusing::new(alloc);
@@ -60,7 +60,7 @@ fn each_growth_of_a_change(rt: HostRuntime) -> Result<(), Fail> {
     Ok(())
 }
 
-/// A house with so many meters, all but the first without a primary address.
+/// A house with that many meters, all but the first without a primary address.
 fn with_meters<A: Allocator + Copy>(
     rt: &impl Abort,
     heap: Global,
@@ -178,7 +178,7 @@ fn each_growth_of_a_replay(rt: HostRuntime) -> Result<(), Fail> {
     Ok(())
 }
 
-/// Whether memory is refused for the storage dates of a reading.
+/// Whether the storage dates of a reading are out of memory.
 fn is_refused<A: Allocator + Copy>(alloc: A, reading: &Reading<A>) -> bool {
     matches!(StorageDates::of(alloc, reading.parts()), Err(NoMemory))
 }

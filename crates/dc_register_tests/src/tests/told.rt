@@ -1,4 +1,4 @@
-//! Changes, told to a house by their lines.
+//! Changes that a house is given as lines.
 
 ghost use Rattle.dc_changes.specs.Valid.{IsChange};
 
@@ -15,7 +15,7 @@ pub const BUDGET: u32 = 15_616;
 
 pub const FIT: &[u8] = b"1 FIT 12345678.PAD.01.07 1 1 A1";
 
-// The meter tells a volume, and then a date and the volume on it.
+// The meter sends a volume, and then a date and the volume on it.
 pub const FIRST: &[u8] = b"TELEGRAM 1 100 7856341224400107010000000C13785634121F";
 
 pub const LAST: &[u8] = b"TELEGRAM 2 100 785634122440010702000000426C1F3C4C1300503412";
@@ -75,7 +75,7 @@ pub fn behind<A: Allocator + Copy>(
     Ok(house)
 }
 
-/// The bytes of the state behind these changes.
+/// The bytes of the state after these changes.
 pub fn spelled_behind(
     rt: &impl Abort,
     heap: Global,

@@ -15,7 +15,7 @@ const FIRST: &[u8] = b"TELEGRAM 1 100 7856341224400107010000000C13785634121F";
 
 const LAST: &[u8] = b"TELEGRAM 2 100 785634122440010702000000426C1F3C4C1300503412";
 
-/// The image, opened, whose disk fails in the first call behind the opening.
+/// The image, opened, whose disk fails in the first call after the opening.
 fn failing(heap: Global) -> Result<Life, Fail> {
     let mut disk = formatted(heap, 131)?;
     disk.fail_once(calls_of_open(heap, &disk)?);

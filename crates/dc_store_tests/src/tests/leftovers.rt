@@ -1,4 +1,4 @@
-//! What two lives leave behind is no group.
+//! What two lives leave in the halves is no group.
 
 use super::images::stop_at;
 use super::life::{

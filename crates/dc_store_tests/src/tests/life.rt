@@ -28,7 +28,7 @@ pub struct Found {
     pub readings: usize,
 }
 
-/// A disk of so many sectors, formatted.
+/// A formatted disk of that many sectors.
 pub fn formatted(heap: Global, sectors: u32) -> Result<MemoryDisk<Global>, Fail> {
     match Store::format(MemoryDisk::new(heap, sectors)?) {
         Ok(disk) => Ok(disk),

@@ -19,7 +19,7 @@ const FIRST_ROOT: Root = Root {
     half_len: 64,
 };
 
-/// Writes the root behind this one.
+/// Writes the root after this one.
 fn put_next(rt: &impl Abort, disk: &mut MemoryDisk<Global>, root: &Root) -> Result<(), Fail> {
     assert!(rt; disk.count() == 131);
     assert!(rt; root.half == 0);
@@ -123,7 +123,7 @@ fn appends_no_more(rt: &impl Abort, heap: Global, disk: MemoryDisk<Global>) -> R
     Ok(end == Err(StoreFault::Worn) && closed(life).calls() == calls)
 }
 
-/// Behind a base group of the last sequence there is no next one.
+/// No sequence follows that of a base group with the last one.
 #[test]
 fn the_last_sequence_is_only_read(rt: HostRuntime) -> Result<(), Fail> {
     let heap = rt.alloc();

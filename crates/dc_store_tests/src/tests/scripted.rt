@@ -17,7 +17,7 @@ const B: [u8; 512] = [0xB; 512];
 enum Step {
     /// What the file does.
     Plain,
-    /// It takes or gives so many bytes at most.
+    /// It takes or gives at most that many bytes.
     Part(usize),
     /// It fails.
     Fails,

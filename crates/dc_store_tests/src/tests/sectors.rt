@@ -45,7 +45,7 @@ pub fn commit(session: u8, sequence: u8) -> [u8; 512] {
     stamped(0x43, 0, 1, session, sequence, &[])
 }
 
-/// A sector that begins so, with zeros behind.
+/// A sector that begins so, then zeros.
 pub fn sector(front: &[u8]) -> [u8; 512]
     requires { length front.now ≤ 512 }
 {

@@ -125,8 +125,8 @@ fn each_opens_as(
     Ok(images.len() as u64)
 }
 
-/// An open of the image in which so many calls pass, and those behind them fail, or the next one alone: how many images
-/// were opened behind it; none where no call failed.
+/// Opens the image so that this many calls pass, and the later ones fail, or the next one alone. Returns how many images
+/// were opened after it; none where no call failed.
 fn opens_in_the_end(
     rt: &impl Abort,
     heap: Global,

@@ -11,7 +11,7 @@ use std::ops::Range;
 use std::process::Abort;
 use std::test::Fail;
 
-/// Whether the image is opened, as this state. Otherwise nothing is said of it but that it is none, or that a root slot
+/// Whether the image is opened, as this state. Otherwise it is no image, or a root slot
 /// can't be read.
 fn is_opened(
     rt: &impl Abort,
@@ -67,7 +67,7 @@ fn images_stand(
     Ok((images.len() as u64, ones))
 }
 
-/// A format of a copy of the disk of which so many calls pass; none where it succeeds.
+/// Formats a copy of the disk so that this many calls pass; none where it succeeds.
 fn stopped_format(
     disk: &MemoryDisk<Global>,
     passes: u64,

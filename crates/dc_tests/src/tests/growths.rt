@@ -1,4 +1,4 @@
-//! Each growth is refused in turn: that of the register is told as want of memory and the same call then succeeds, that of
+//! Each growth is refused in turn: that of the register is answered as out of memory and the same call then succeeds, that of
 //! the disk or of a writer is its failure.
 
 use super::life::{Life, blank_on, state_of, states_of};
@@ -15,7 +15,7 @@ use std::test::Fail;
 
 type OverRefusing<'a> = Concentrator<MemoryDisk<Global>, &'a Refusing<Global>>;
 
-/// Opens the image, again where memory was refused: how often it was.
+/// Opens the image, again where it is out of memory; returns how often it was.
 fn opened<'a>(
     rt: &impl Abort,
     heap: &'a Refusing<Global>,
@@ -34,7 +34,7 @@ fn opened<'a>(
     }
 }
 
-/// Does the steps, each again where memory was refused: how often it was.
+/// Does the steps, each again where it is out of memory; returns how often it was.
 fn goes_on(
     rt: &impl Abort,
     heap: Global,

@@ -8,7 +8,7 @@ use dc_base::NoMemory;
 use dc_sectors::{MemoryDisk, Pick};
 use std::alloc::{Allocator, Global};
 
-/// Where so many sectors are pending, each choice of them is an image.
+/// With at most that many pending sectors, each choice of them is an image.
 const FEW: usize = 7;
 
 /// What becomes of a sector: as at the last sync, as last written, unreadable, or as one of its earlier writes left it,
@@ -138,7 +138,7 @@ pub fn stopped<A: Allocator + Copy>(
     Ok(image)
 }
 
-/// The disk as it is, with no record of what came before: what waits for a sync is given up.
+/// The disk as it is, with no record of what came before: unsynced writes are given up.
 pub fn rested<A: Allocator + Copy>(
     heap: Global,
     disk: &MemoryDisk<A>,

@@ -23,12 +23,12 @@ pub enum Deed<'a> {
     Office(&'a [u8]),
 }
 
-/// One step of a life: what is done, the text that a run writes for it, and then how many changes are accepted behind it,
+/// One step of a life: what is done, the text that a run writes for it, and then how many changes are accepted after it,
 /// and how many of them are promised.
 #[derive(Clone, Copy)]
 pub struct Step<'a>(pub Deed<'a>, pub &'a [u8], pub usize, pub usize);
 
-/// A life. The changes stand as their lines.
+/// A life. The changes are given as lines.
 #[derive(Drop)]
 pub struct Life<'a> {
     pub disk: MemoryDisk<Global>,
@@ -89,7 +89,7 @@ pub fn state_of<D: Disk + Drop>(heap: Global, disk: D) -> Result<Bytes<Global>, 
     }
 }
 
-/// The states before the changes and behind each of them, by a house that replays them.
+/// The states before the changes and after each of them, by a house that replays them.
 pub fn states_of(heap: Global, life: &Life<'_>) -> Result<Vec<Bytes<Global>, Global>, Fail> {
     let mut house = match Store::open(heap, life.disk.copy()?) {
         Ok((_, house)) => house,

@@ -155,7 +155,7 @@ pub const SWAPPED: [Step<'static>; 7] = [
 
 pub const SWAPPED_DONE: [&[u8]; 3] = [FIT, FIRST_PART, SWAP];
 
-/// The first command doesn't fit behind those of a full half, and goes with the whole register into the other one.
+/// The first command doesn't fit after those of a full half, and goes with the whole register into the other one.
 pub const COMPACTED: [Step<'static>; 2] = [
     Step(Deed::Office(b"32 CONFIRM 0"), b"OK 32\n", 1, 1),
     Step(Deed::Office(b"33 CONFIRM 0"), b"OK 33\n", 2, 2),

@@ -38,7 +38,7 @@ pub fn span_at(steps: &[Step<'_>], at: usize) -> Span {
     Span { promised, accepted }
 }
 
-/// A life in which so many calls of the disk pass and none behind them: the disk as it stopped, and what may be left;
+/// A life in which this many calls of the disk pass and no later one: the disk as it stopped, and its possible contents;
 /// none where no call failed.
 pub fn stopped_life(
     heap: Global,

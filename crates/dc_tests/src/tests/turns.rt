@@ -29,7 +29,7 @@ pub enum Told {
     NoMemory,
 }
 
-/// Does a step, and says what it answered; an answer that is none of these is a failed test.
+/// Does a step, and says what it answered; another answer is a failed test.
 pub fn turn<D: Disk + Drop, A: Allocator + Copy>(
     heap: Global,
     core: &mut Concentrator<D, A>,
@@ -70,7 +70,7 @@ pub fn go<D: Disk + Drop, A: Allocator + Copy>(
     Ok(None)
 }
 
-/// An event by its call. A line of the office is told by its text.
+/// An event by its call. A line of the office is its text.
 pub fn call<D: Disk + Drop, A: Allocator + Copy, W: Sink>(
     core: &mut Concentrator<D, A>,
     event: &Event<'_>,
@@ -109,7 +109,7 @@ pub fn call<D: Disk + Drop, A: Allocator + Copy, W: Sink>(
     }
 }
 
-// What a text tells, where this one is wanted.
+// What a text says, where this one is wanted.
 fn told_by(text: &[u8], wanted: &[u8]) -> Result<Told, Fail> {
     if text == wanted {
         return Ok(Told::Done);

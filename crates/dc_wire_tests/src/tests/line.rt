@@ -40,7 +40,7 @@ pub fn request(bit: bool) -> FrameBuf
     frame
 }
 
-/// The next answer of a bus is this one, after so many calls without an answer.
+/// Makes this the next answer of a bus, after that many calls without an answer.
 pub fn gives<B: HalfBus>(rt: &impl Abort, bus: &mut B, waits: usize, expected: &[u8]) {
     for _ in 0..waits {
         assert!(rt; bus.hear().is_none());

@@ -104,7 +104,7 @@ fn meters_of_one_address_are_not_regular(rt: HostRuntime) -> Result<(), Fail> {
     Ok(())
 }
 
-// A meter with so many bodies; the last of them ends the readout, or says that more follow.
+// A meter with that many bodies; the last of them ends the readout, or says that more follow.
 fn meter<A: Allocator + Copy>(
     alloc: A,
     number: u32,

@@ -7,7 +7,7 @@ use dc_records::{BodyFault, End, Header, Record, Telegram};
 use std::fmt::Write;
 use std::test::Fail;
 
-// The header of meter 12345678 of PAD, version 1, water, access number 85; and a body with three records behind it.
+// The header of meter 12345678 of PAD, version 1, water, access number 85; and a body of three records after it.
 const HEADER: [u8; 12] = [
     0x78, 0x56, 0x34, 0x12, 0x24, 0x40, 0x01, 0x07, 0x55, 0x00, 0x00, 0x00,
 ];

@@ -83,7 +83,7 @@ fn eight_copies_are_silence(rt: HostRuntime) -> Result<(), Fail> {
     Ok(())
 }
 
-// Settles for so many steps.
+// Settles for that many steps.
 fn settles<B: QuietBus>(bus: &mut B, steps: usize) {
     for _ in 0..steps {
         bus.settle();
