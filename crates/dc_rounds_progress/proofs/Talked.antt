@@ -1,28 +1,27 @@
 -- A talk that is served, thing after thing (for the theorem of specs/Talked).
-use Rattle.std.proofs.Common.{◌≡◌, ℕ, ◌<◌, Bool, true, false, Option, Some, None, Result, Ok, Err, List, [], ◌∷◌, ◌++◌, refl, sym, ◌∙◌, ap, subst}
-use Rattle.std.specs.Prelude.{flat_map, if◌then◌else◌, ◌==◌}
+use Rattle.std.proofs.Common.{◌≡◌, ℕ, ◌<◌, Bool, true, false, Some, None, Result, Ok, Err, List, [], ◌∷◌, ◌++◌, refl, sym, ◌∙◌, ap, subst}
+use Rattle.std.specs.Prelude.{if◌then◌else◌, ◌==◌}
 use Rattle.std.specs.List.{AllByRecursion}
 use Rattle.std.proofs.lemmas.Bool.{eq-eqb}
 use Rattle.dc_linkframe.specs.Frame.{FrameSeen}
 use Rattle.dc_linkframe.specs.Reading.{frame_of}
 use Rattle.dc_lives.specs.declared.event.Outcome.{Outcome}
-use Rattle.dc_lives.specs.Meter.{Meter, Position}
+use Rattle.dc_lives.specs.Meter.{Meter}
 use Rattle.dc_lives.specs.World.{heard_in}
-use Rattle.dc_changes.specs.State.{State, MeterRow}
 use Rattle.dc_core.specs.declared.line_heard.LineHeard.{LineHeard}
 use Rattle.dc_core.specs.declared.fault.HearFault.{HearFault}
 use Rattle.dc_core.specs.declared.fault.CommitFault.{CommitFault}
-use Rattle.dc_core.specs.Event.{Event, starts, asks, hears, commits, offices, started, asked, heard, committed}
+use Rattle.dc_core.specs.Event.{starts, asks, hears, commits, offices, asked, heard, committed}
 use Rattle.dc_core.specs.Transcript.{Turn}
 use Rattle.dc_progress.specs.Beside.{Bus as Line, bus_at_first, bus_after, IsElsewhere, IsOfLines, Serves, rests as none_more, asks_it, has_none as asks_none, gives_it, commits_it, goes_by}
 use Rattle.dc_progress.specs.Rounds.{row_after}
 use Rattle.dc_progress.proofs.Rows.{readouts_of_a_run_end}
 use Rattle.dc_rounds.specs.Bus.{Bus}
-use Rattle.dc_rounds.specs.Happening.{Told, Happening, does, tells, is_on, happened_on, happened_turns, turns_of}
+use Rattle.dc_rounds.specs.Happening.{Happening, does, tells, is_on, happened_on, happened_turns, turns_of}
 use Rattle.dc_rounds.specs.Talking.{Talk, Talks, rests, settles_it, begins, has_none, sends_it, waits_it, takes_it, hears_it, stands_by, tells_it, loses_it}
 use Rattle.dc_rounds.specs.declared.phase.Request.{Request}
 use Rattle.dc_rounds.specs.declared.phase.Request.TheVariants.{Quiet, Sent, Answered}
-use Rattle.dc_rounds_progress.specs.Talked.{IsDone, GivesTo, IsServed, ReadoutsOfAPollEnd}
+use Rattle.dc_rounds_progress.specs.Talked.{IsDone, IsServed, ReadoutsOfAPollEnd}
 
 -- ---- what happens on other lines
 
