@@ -12,7 +12,9 @@ import subprocess
 import sys
 
 LIST = pathlib.Path(__file__).with_name("commands.txt")
-OF_THE_PROGRAM = ["--help", "--version"]
+OF_THE_PROGRAM = ["--verbose", "--help", "--version"]
+OF_EACH_COMMAND = OF_THE_PROGRAM[:2]
+NO_GROUPS = {"Arguments:", "Options:", "Example:"}  # the other sections of a help
 SCHEMES = ["tcp://", "serial:", "blocks://"]
 BUS_LINES = range(1, 9)
 FILES = {"FILE", "IMAGE", "SCRIPT"}  # the words that are completed as names of files
@@ -20,10 +22,11 @@ USAGE = 2
 
 
 class Command:
-    """A command: its name, its words, and the options among them with the name of their value (None: a flag)."""
+    """A command: its name, its words, its group, and the options among its words with the name of their value (None: a flag)."""
 
-    def __init__(self, line):
+    def __init__(self, line, group):
         self.name, _, self.words = line.partition(" ")
+        self.group = group
         plain = re.sub(r"[\[\]|]|\.\.\.", " ", self.words).split()
         self.options, self.arguments = {}, []
         for word, after in zip(plain, [*plain[1:], ""]):
@@ -39,8 +42,13 @@ class Command:
 
 
 def listed():
-    lines = LIST.read_text().splitlines()
-    return [Command(line) for line in lines if line and not line.startswith("#")]
+    commands, group = [], None
+    for line in LIST.read_text().splitlines():
+        if line.endswith(":"):
+            group = line
+        elif line and not line.startswith("#"):
+            commands.append(Command(line, group))
+    return commands
 
 
 class Help:
@@ -49,17 +57,22 @@ class Help:
     def __init__(self, program, *command):
         done = subprocess.run([program, *command, "--help"], capture_output=True, text=True, check=True)
         self.about = done.stdout.split("\n", 1)[0]
-        self.commands, self.arguments, self.options, section = {}, [], {}, None
+        self.commands, self.arguments, self.options, self.examples, section = {}, [], {}, [], ""
         for line in done.stdout.splitlines():
             if not line.startswith(" "):
                 section = line
-            elif section == "Commands:" and (found := re.match(r"  (\S+)(?:  +(.*))?$", line)):
-                self.commands[found[1]] = found[2] or ""
+            elif section == "Example:":
+                self.examples.append(line.strip())
+            elif not command and self.is_group(section) and (found := re.match(r"  (\S+)  +(.*)$", line)):
+                self.commands[found[1]] = (section, found[2])
             elif section == "Arguments:" and (found := re.match(r"  ([<\[])([^>\]]+)[>\]](?:\.\.\.)?(?:  |$)", line)):
                 self.arguments.append((found[2], found[1] == "<"))
             elif section == "Options:":
                 self.read_option(line)
-        self.commands.pop("help", None)
+
+    @staticmethod
+    def is_group(section):
+        return section.endswith(":") and section not in NO_GROUPS
 
     def read_option(self, line):
         found = re.match(r"  (?:-\w,|   ) (--[\w-]+)(?: <([^>]+)>)?(?:\.\.\.)?(?:  +(.*))?$", line)
@@ -69,11 +82,16 @@ class Help:
 
 def differences(program):
     commands = {it.name: it for it in listed()}
-    in_help = Help(program).commands
+    of_program = Help(program)
+    in_help = of_program.commands
     for name in sorted(commands.keys() ^ in_help.keys()):
         yield f"command {name}: {'not in the list' if name in in_help else 'not in the help'}"
     for name in sorted(commands.keys() & in_help.keys()):
         command, of_command = commands[name], Help(program, name)
+        if in_help[name] != (command.group, of_command.about):
+            yield f"command {name}: the help of the program has {in_help[name]}, not {command.group, of_command.about}"
+        if not any(f"mbdc {name}" in example for example in of_command.examples):
+            yield f"command {name}: its help has no example of it"
         options = {option: value for option, (value, _) in of_command.options.items()}
         for what, in_list, shown in (("arguments", command.arguments, of_command.arguments),
                                      ("options", command.options, options)):
@@ -85,7 +103,7 @@ def bash_case(command):
     """One arm: what follows each option, and else the arguments or the options."""
     values = [f"            {option}) kind={kind_of(value)} ;;" for option, value in command.options.items() if value]
     kinds = dict.fromkeys(kind_of(argument) for argument, _ in command.arguments)
-    return "\n".join([f"    {command.name})", f"        options='{' '.join([*command.options, '--help'])}'",
+    return "\n".join([f"    {command.name})", f"        options='{' '.join([*command.options, *OF_EACH_COMMAND])}'",
                       f"        kind={''.join(kinds) if len(kinds) == 1 else shlex.quote(' '.join(kinds))}",
                       *(['        case $before in', *values, "        esac"] if values else []), "        ;;"])
 
@@ -157,10 +175,10 @@ def zsh_case(program, command):
         specs.append(f"'{'*' if is_repeated else ''}{option}[{text}]{shown}'")
     for argument, is_required in command.arguments:
         specs.append(f"':{'' if is_required else ':'}{zsh_text(argument)}:{zsh_action(argument)}'")
-    return f"    {command.name})\n        _arguments {' '.join([*specs, HELP_IN_ZSH])}\n        ;;"
+    return f"    {command.name})\n        _arguments {' '.join([*specs, *OF_EACH_IN_ZSH])}\n        ;;"
 
 
-HELP_IN_ZSH = "'--help[Print help]'"
+OF_EACH_IN_ZSH = ["'--verbose[Says why a command failed]'", "'--help[Print help]'"]
 ZSH = """#compdef mbdc
 # Completion of mbdc for zsh.
 # Made by packaging/words.py from packaging/commands.txt.
@@ -199,7 +217,7 @@ _mbdc "$@"
 
 def zsh(program):
     commands, texts = listed(), Help(program).commands
-    about = (f"        '{it.name}:{zsh_text(texts.get(it.name, ''))}'" for it in commands)
+    about = (f"        '{it.name}:{zsh_text(texts.get(it.name, ('', ''))[1])}'" for it in commands)
     return ZSH.format(commands="\n".join(about), cases="\n".join(zsh_case(program, it) for it in commands),
                       schemes=" ".join(SCHEMES), lines=" ".join(map(str, BUS_LINES)), own=" ".join(OF_THE_PROGRAM))
 
@@ -229,7 +247,15 @@ def commands_of(program):
         options = [f".TP\n\\fB{roff(option)}\\fR{f' {chr(92)}fI{value}{chr(92)}fR' if value else ''}\n{roff(text)}."
                    for option, (value, text) in of_command.options.items()]
         texts += [".RS", *options, ".RE"] if options else []
-    return "\n".join(texts) + "\n"
+    return "\n".join([*texts, VERBOSE_IN_ROFF]) + "\n"
+
+
+VERBOSE_IN_ROFF = """.PP
+Each command takes
+.BR \\-\\-verbose :
+where its line on standard error names a file, a bus line or a disk, a second line
+.B mbdc: reason:
+has what the system said of it."""
 
 
 def main():

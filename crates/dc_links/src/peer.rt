@@ -10,6 +10,7 @@ use dc_stream::{ReadSource, WriteSink};
 use dc_words::LinkName;
 use std::fs::{File, OpenOptions};
 use std::io;
+use std::io::{ErrorKind, IsTerminal};
 use std::net::{Net, TcpStream};
 use std::rt::{Clock, Files};
 use std::time::Duration;
@@ -44,7 +45,7 @@ impl<C: Clock + Copy> Peer<C> {
     /// Connects a link by its name.
     ///
     /// # Errors
-    /// The host isn't found, takes no connection within 10 s, or the terminal can't be opened.
+    /// The host isn't found, takes no connection within 10 s, or there is no terminal to be opened.
     pub fn connect(rt: &C, name: &LinkName<'_>) -> io::Result<Peer<C>>
     where
         C: Files<File = File> + Net<Stream = TcpStream>,
@@ -56,11 +57,7 @@ impl<C: Clock + Copy> Peer<C> {
                 stream.set_write_timeout(Some(Duration::from_secs(WRITING)))?;
                 Ok(Peer::Tcp(stream))
             }
-            LinkName::Serial(path) => {
-                let mut options = OpenOptions::new();
-                options.read(true).write(true);
-                Ok(Peer::Serial(options.open(rt, path)?))
-            }
+            LinkName::Serial(path) => Ok(Peer::Serial(open_terminal(rt, path)?)),
             LinkName::Blocks(place) => Ok(Peer::Blocks(Connection::new(rt, place)?)),
         }
     }
@@ -85,4 +82,15 @@ impl<C: Clock + Copy> Peer<C> {
             }
         }
     }
+}
+
+// A file that is no terminal has no meters behind it: what is written to it is lost, or spoils it.
+fn open_terminal<R: Files<File = File>>(rt: &R, path: &str) -> io::Result<File> {
+    let mut options = OpenOptions::new();
+    options.read(true).write(true);
+    let file = options.open(rt, path)?;
+    if file.is_terminal() {
+        return Ok(file);
+    }
+    Err(io::Error::new(ErrorKind::InvalidInput, "it is no terminal"))
 }

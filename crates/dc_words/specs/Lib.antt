@@ -3,3 +3,5 @@
 pub mod Fault
 -- how a link is spelled
 pub mod Link
+-- which line has which link
+pub mod Links

@@ -1,103 +1,166 @@
-//! What `mbdc COMMAND --help` prints after the words: columns, lines and faults.
+//! What `mbdc --help` prints, and what `mbdc COMMAND --help` prints after the words: an example,
+//! columns, lines and faults.
 
 /// The version, and the logic in which the program is proved: `rt version` names it too.
 pub const VERSION: &str = "0.1.0, logic dac8208d650f15bf";
 
-/// Of all commands.
-pub const STATUSES: &str =
-    "Status: 0 done, 1 a line of the input was at fault, 2 the words, 3 the image or its disk, 4 a file, the \
-gateway or memory.\nWith 2, 3 and 4 one line on standard error says what happened.";
+/// Of the program. Each command has the first line of its own help here; packaging/words.py
+/// compares them.
+pub const PROGRAM: &str = "Data concentrator of wired M-Bus submeters
+
+Usage: mbdc [OPTIONS] [COMMAND]
+
+Read the house:
+  poll    Reads every registered meter on the connected lines, all lines at once
+  run     Opens the image, does what the script's lines ask for, and prints the answers
+  scan    Searches one bus for meters, without an image
+  read    Reads one meter on one bus and prints its telegrams, without an image
+
+Look:
+  decode  Prints what each M-Bus frame says: link fields, meter, records, end
+  fold    Applies telegrams and commands to an empty register, and prints it
+  report  Prints a table of what an image holds: its register, or the due-date values for a date
+
+Maintain:
+  format  Makes an image that holds an empty register
+  demo    Reads a simulated meter through a gateway in this process, and reports its value
+
+Options:
+      --verbose  Prints a second line on standard error that says why the command failed
+  -h, --help     Print help
+  -V, --version  Print version
+
+Without a command mbdc decodes standard input.
+mbdc COMMAND --help prints the words of a command, with an example.
+Status: 0 done, 1 a line of the input was at fault or a meter wasn't read, 2 the words,
+  3 the image or its disk, 4 a file, a link or memory.
+With 2, 3 and 4 one line on standard error says what happened.";
 
 /// Of `decode`.
-pub const DECODE: &str = "Each line of the input is bytes in hex digits. Printed of each frame:\n  \
-ACK | SHORT C A | LONG C A CI length\n  \
-METER ident access status\n  \
-RECORD storage tariff subunit function vib data = value unit\n  \
-END, LAST bytes or MORE bytes\n\
-Faults: FRAME FAULT 1 Empty, 2 Start, 3 Truncated, 4 Lengths, 5 Trailing, 6 Stop, 7 Checksum;\n  \
-BODY FAULT 1 Short, 2 BadIdentity, 3 Encrypted, 4 ReservedDif, 5 TooManyDife, 6 TooManyVife, 7 BadLength,\n  \
-8 PlainTextExtension, 9 Cut; HEX FAULT";
+pub const DECODE: &str = "Example:
+  echo 10 40 05 45 16 | mbdc decode --explain
+
+Each line of the input is bytes in hex digits. Printed of each frame:
+  ACK | SHORT C A | LONG C A CI length
+  METER ident access status
+  RECORD storage tariff subunit function vib data = value unit
+  END, LAST bytes or MORE bytes
+Faults: FRAME FAULT 1 Empty, 2 Start, 3 Truncated, 4 Lengths, 5 Trailing, 6 Stop, 7 Checksum;
+  BODY FAULT 1 Short, 2 BadIdentity, 3 Encrypted, 4 ReservedDif, 5 TooManyDife, 6 TooManyVife,
+  7 BadLength, 8 PlainTextExtension, 9 Cut; HEX FAULT";
 
 /// Of `fold`.
-pub const FOLD: &str = "Lines of the input:\n  \
-TELEGRAM part moment hex\n  \
-n FIT ident line addr flat | n MOVE ident flat | n OUT ident | n CONFIRM serial | n SWAP old new addr\n\
-Printed: OK, ORDER last, REFUSED fault or SYNTAX for each; then METER ident line addr flat open for each meter,\n  \
-READINGS count and SIZE bytes\n\
+pub const FOLD: &str = "Example:
+  echo 1 FIT 12345678.PAD.01.07 1 S A1 > lines.txt && mbdc fold lines.txt
+
+Lines of the input:
+  TELEGRAM part moment hex
+  n FIT ident line addr flat | n MOVE ident flat | n OUT ident | n CONFIRM serial |
+  n SWAP old new addr
+Printed: OK, ORDER last, REFUSED fault or SYNTAX for each; then METER ident line addr flat open for
+  each meter, READINGS count and SIZE bytes
 Faults: 1 Unknown, 2 Known, 3 AddressTaken, 4 Beyond, 5 Full";
 
 /// Of `format`.
-pub const FORMAT: &str =
-    "A new image is made as IMAGE.0.half-made, readable by its owner alone, and gets its name once it is whole.\n\
-A file that is there already is formatted in place where it has exactly that length and holds zeros alone.\n\
-Faults: mbdc: format: 2 AlreadyFormatted, 3 Device; mbdc: file: IMAGE where the file can't be made, has another\n  \
-length or other content, is a link or a folder, or is open in another mbdc";
+pub const FORMAT: &str = "Example:
+  mbdc format house.image 2051
+
+A new image is made as IMAGE.0.half-made, readable by its owner alone, and gets its name once it is
+whole. A file that is there already is formatted in place where it has exactly that length and holds
+zeros alone.
+Faults: mbdc: format: 2 AlreadyFormatted, 3 Device; mbdc: file: IMAGE where the file can't be made,
+  has another length or other content, is a link or a folder, or is open in another mbdc";
 
 /// Of `run`.
-pub const RUN: &str = "Lines of the script, and what each prints:\n  \
-AT seconds         sets the time stamp (Unix seconds) of the answers that follow: nothing\n  \
-START line ident   begins the readout of a meter: STARTED\n  \
-ASK line           asks for the line's next request: SEND hex, or NONE\n  \
-HEAR line [hex]    an answer, or silence: AGAIN, READY, PART p MORE, PART p LAST, FAILED n Name\n  \
-COMMIT             writes the pending changes to the image: COMMITTED n\n  \
-OFFICE text        a line of the billing office, see below: its reply\n  \
-POLL line ident    reads a meter through the gateway: each step as above; GATEWAY LOST, NO GATEWAY\n  \
-SEARCH budget      searches for meters with at most that many selections: FOUND ident, SHARED number,\n                     \
-BUDGET where it was spent, SELECTIONS n\n  \
-What is refused prints REFUSED n Name. Another line prints LINE i SYNTAX and ends the script.\n\
-Lines of the office, and their replies:\n  \
-n FIT ident line addr flat    adds a meter: OK n, once it is on the disk, as for each command\n  \
-n MOVE ident flat             gives it to another flat\n  \
-n OUT ident                   removes it\n  \
-n SWAP old new addr           replaces it by another meter\n  \
-n CONFIRM serial              releases the readings up to that serial\n  \
-WINDOW from count             READING serial ident flat parts, PART i moment hex; END readings\n  \
-REGISTER                      METER ident line addr flat open; END meters\n  \
-REPORT date                   the values that are dated by that date, as CSV; END rows\n  \
-Else ERR SYNTAX, STORE, ORDER last, KNOWN, UNKNOWN, ADDRESS, BEYOND, GONE confirmed, FULL or MEMORY.\n\
-Words:\n  \
-line    bus line, 1 to 8; the gateway is line 1\n  \
-ident   number, manufacturer, version and device type of a meter, as 12345678.PAD.01.07\n  \
-addr    its primary address, 1 to 250, or S for secondary addressing: it is selected by its ident\n  \
-flat    1 to 12 of A-Z a-z 0-9 . - / _\n  \
-n       the number of the last command plus 1\n\
-Faults: mbdc: open: 1 NotImage, 2 Damaged sector, 3 Version, 4 Worn, 5 Device; mbdc: memory; mbdc: gateway;\n  \
-mbdc: file: IMAGE where the file can't be opened or is open in another mbdc";
+pub const RUN: &str = "Example:
+  mbdc run house.image lines.txt --line 1=tcp://192.0.2.10:10001 --line 2=serial:/dev/ttyUSB0
+
+Lines of the script, and what each prints:
+  AT seconds          sets the time stamp (Unix seconds) of the answers that follow: nothing
+  START line ident    begins the readout of a meter: STARTED
+  ASK line            asks for the line's next request: SEND hex, or NONE
+  HEAR line [hex]     an answer, or silence: AGAIN, READY, PART p MORE, PART p LAST, FAILED n Name
+  COMMIT              writes the pending changes to the image: COMMITTED n
+  OFFICE text         a line of the billing office, see below: its reply
+  POLL line ident     reads a meter on a connected bus line: each step as above
+  SEARCH budget       searches for meters on bus line 1, with at most that many selections:
+                      FOUND ident, SHARED number, BUDGET where it was spent, SELECTIONS n
+  SEARCH budget line  searches on that bus line
+  LINE n LOST         once, where the connection of bus line n ended or failed: it is silent from
+                      then on; of --gateway GATEWAY LOST
+  LATE line n         after a search: n late answers were dropped; make --patience longer
+  NO GATEWAY          for a POLL or a SEARCH on a bus line that isn't connected
+  What is refused prints REFUSED n Name. Another line prints LINE i SYNTAX and ends the script.
+Lines of the office, and their replies:
+  n FIT ident line addr flat  adds a meter: OK n, once it is on the disk, as for each command
+  n MOVE ident flat           gives it to another flat
+  n OUT ident                 removes it
+  n SWAP old new addr         replaces it by another meter
+  n CONFIRM serial            releases the readings up to that serial
+  WINDOW from count           READING serial ident flat parts, PART i moment hex; END readings
+  REGISTER                    METER ident line addr flat open; END meters
+  REPORT date                 the values that are dated by that date, as CSV; END rows
+  Else ERR SYNTAX, STORE, ORDER last, KNOWN, UNKNOWN, ADDRESS, BEYOND, GONE confirmed, FULL or
+  MEMORY.
+Words:
+  line    bus line, 1 to 8
+  ident   number, manufacturer, version and device type of a meter, as 12345678.PAD.01.07
+  addr    its primary address, 1 to 250, or S for secondary addressing: it is selected by its ident
+  flat    1 to 12 of A-Z a-z 0-9 . - / _
+  n       the number of the last command plus 1
+Faults: mbdc: open: 1 NotImage, 2 Damaged sector, 3 Version, 4 Worn, 5 Device; mbdc: memory;
+  mbdc: gateway where a link can't be connected; mbdc: file: IMAGE where the file can't be opened or
+  is open in another mbdc";
 
 /// Of `report`.
-pub const REPORT: &str =
-    "Printed of the register: flat,meter,medium,line,address,open; of a date the values that are dated by it:\n  \
-flat,meter,serial,storage,function,tariff,subunit,value,unit\n\
-The image is opened as by run, so its next session is written.\n\
-Faults: mbdc: open: 1 NotImage, 2 Damaged sector, 3 Version, 4 Worn, 5 Device; mbdc: file: IMAGE where the\n  \
-file can't be opened or is open in another mbdc; mbdc: memory";
+pub const REPORT: &str = "Example:
+  mbdc report house.image 2024-12-31
+
+Printed of the register: flat,meter,medium,line,address,open; of a date the values that are dated
+  by it: flat,meter,serial,storage,function,tariff,subunit,value,unit
+The image is opened as by run, so its next session is written.
+Faults: mbdc: open: 1 NotImage, 2 Damaged sector, 3 Version, 4 Worn, 5 Device; mbdc: memory;
+  mbdc: file: IMAGE where the file can't be opened or is open in another mbdc";
 
 /// Of `demo`.
-pub const DEMO: &str =
-    "Nothing is left behind: the image is in memory, and the gateway is a socket of this process to itself on 127.0.0.1.\n\
-Printed is what run prints: a meter is fitted and read out, each part committed before the next is asked for, and the\n  \
-value at its due date reported.\n\
+pub const DEMO: &str = "Example:
+  mbdc demo
+
+Nothing is left behind: the image is in memory, and the gateway is a socket of this process to
+itself on 127.0.0.1. Printed is what run prints: a meter is fitted and read out, each part committed
+before the next is asked for, and the value at its due date reported.
 Faults: mbdc: gateway where no such socket is given; mbdc: memory";
 
 /// Of `poll`.
-pub const POLL: &str =
-    "Each line's meters are read one after the other, in order of identity, all lines at once. Telegrams are committed\n\
-to the image before the next ones are requested. Printed as each readout ends:\n  \
-READ ident serial parts   a whole reading, with its serial and its number of parts\n  \
-FAILED ident n Name       the last try failed, and why, as in run\n  \
-REFUSED ident n Name      the register or the disk refused it\n  \
-LINE n LOST               the connection of line n ended or failed\n  \
-LATE line n               so many late answers were dropped on that line: make --patience longer\n  \
-END read failed\n\
+pub const POLL: &str = "Example:
+  mbdc poll house.image --line 1=tcp://192.0.2.10:10001 --line 2=serial:/dev/ttyUSB0
+
+Each line's meters are read one after the other, in order of identity, all lines at once. Telegrams
+are committed to the image before the next ones are requested. Printed as each readout ends:
+  READ ident serial parts  a whole reading, with its serial and its number of parts
+  FAILED ident n Name      the last try failed, and why, as in run
+  REFUSED ident n Name     the register or the disk refused it
+  LINE n LOST              the connection of line n ended or failed
+  LATE line n              so many late answers were dropped on that line: make --patience longer
+  END read failed
+On a terminal, standard error shows how far it is.
 Status: 0 every meter was read, 1 one wasn't, 3 the image, 4 a link, a file or memory.";
 
 /// Of `scan`.
-pub const SCAN: &str =
-    "Printed: FOUND ident for each meter, SHARED number for a number that more than one meter has, BUDGET where the\n\
-budget was spent, SELECTIONS n. With --primary: ADDRESS n for each address that acknowledges, and its ident where\n\
-its telegram can be read. A meter begins its readout anew afterwards; nothing is stored.";
+pub const SCAN: &str = "Example:
+  mbdc scan tcp://192.0.2.10:10001
+
+Printed: FOUND ident for each meter, SHARED number for a number that more than one meter has, BUDGET
+where the budget was spent, SELECTIONS n, and LATE n where n late answers were dropped. With
+--primary: ADDRESS n for each address that acknowledges, and its ident where its telegram can be
+read. A meter begins its readout anew afterwards; nothing is stored.
+Faults: mbdc: gateway where the link can't be connected or is lost; mbdc: memory";
 
 /// Of `read`.
-pub const READ: &str =
-    "Printed is what decode prints of the telegrams, each before the meter is asked for the next one. Nothing is\n\
-stored. Where the readout fails, FAILED n Name is the last line and the status is 1.";
+pub const READ: &str = "Example:
+  mbdc read tcp://192.0.2.10:10001 12345678.PAD.01.07
+
+Printed is what decode prints of the telegrams, each before the meter is asked for the next one.
+Nothing is stored. Where the readout fails, FAILED n Name follows and the status is 1. LATE n comes
+last where n late answers were dropped.
+Faults: mbdc: gateway where the link can't be connected or is lost; mbdc: memory";

@@ -1,7 +1,8 @@
 //! The words of the command line, read with `clap`: what the program is asked to do.
 //!
-//! [`task_of`] makes a [`Task`] of the words. A bus line's link is named by a word such as `1=tcp://10.0.0.7:10001`
-//! ([`Links`], [`LinkName`]). What is wrong with the words is a [`WordsFault`].
+//! [`call_of`] makes a [`Call`] of the words, which has a [`Task`]. A bus line's link is named by a
+//! word such as `1=tcp://10.0.0.7:10001` ([`Links`], [`LinkName`]). What is wrong with the words is a
+//! [`WordsFault`].
 #![tactic(auto)]
 
 mod fault;
@@ -15,5 +16,5 @@ pub use fault::{LinkFault, WordsFault};
 pub use help::VERSION;
 pub use link::LinkName;
 pub use links::{LINES, Links};
-pub use task::{Engine, Form, MeterName, Scan, Task};
-pub use words::task_of;
+pub use task::{Call, Engine, Form, MeterName, PollTask, RunTask, Scan, Task};
+pub use words::call_of;

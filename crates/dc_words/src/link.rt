@@ -1,6 +1,6 @@
 //! The name of a link: how a bus line is reached.
 
-ghost use Rattle.std.specs.Prelude.{◌≡◌, ◌≢◌, IfOk, IfErr, IsErrOf};
+ghost use Rattle.std.specs.Prelude.{◌≡◌, ◌≢◌, IfOk, IfErr, IsErrOf, ◌++◌, codes};
 ghost use Rattle.dc_words.specs.Link.{word_of};
 
 use crate::fault::LinkFault;
@@ -48,7 +48,10 @@ impl<'a> LinkName<'a> {
     ///
     /// # Errors
     /// [`LinkFault::Port`].
-    pub fn gateway(place: &'a str) -> Result<LinkName<'a>, LinkFault> {
+    pub fn gateway(place: &'a str) -> Result<LinkName<'a>, LinkFault>
+        ensures blocks { IfOk result (λ link. word_of link ≡ codes "blocks://" ++ place.now) }
+        ensures fault { IfErr result (λ fault. fault ≡ LinkFault.Port) }
+    {
         Ok(LinkName::Blocks(with_port(place)?))
     }
 }

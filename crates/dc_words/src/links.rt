@@ -1,6 +1,11 @@
 //! Which bus line has which link.
 
-ghost use Rattle.std.specs.Prelude.{◌≡◌, ◌≤◌, IfSome, IfOk};
+ghost use Rattle.std.specs.Prelude.{◌≡◌, ◌≤◌, ◌+◌, ◌++◌, ◌∷◌, ℕ, [], None, IfSome, OnOk, OnErr};
+ghost use Rattle.std.specs.Prelude.{codes};
+ghost use Rattle.std.specs.List.{All};
+ghost use Rattle.dc_words.specs.Link.{word_of};
+ghost use Rattle.dc_words.specs.Links.{Adds, line_word};
+ghost use Rattle.dc_words.specs.declared.link.LinkName.{LinkName as Link};
 
 use crate::fault::LinkFault;
 use crate::link::LinkName;
@@ -11,19 +16,24 @@ pub const LINES: usize = 8;
 /// The links of the bus lines 1 to 8; no line has two.
 #[derive(Clone, Copy)]
 pub struct Links<'a> {
-    links: [Option<LinkName<'a>>; LINES],
+    /// The links by line: the first is that of line 1.
+    pub links: [Option<LinkName<'a>>; LINES],
 }
 
 impl<'a> Links<'a> {
     /// No line has a link.
-    pub fn none() -> Self {
+    pub fn none() -> Self
+        ensures { All (λ link. link ≡ None) result.links }
+    {
         Links {
             links: [None; LINES],
         }
     }
 
     /// The links by line: the first is that of line 1.
-    pub fn by_line(&self) -> &[Option<LinkName<'a>>; LINES] {
+    pub fn by_line(&self) -> &[Option<LinkName<'a>>; LINES]
+        ensures { result.now ≡ self.now.links }
+    {
         &self.links
     }
 
@@ -36,7 +46,11 @@ impl<'a> Links<'a> {
     ///
     /// # Errors
     /// [`LinkFault`]: no line from 1 to 8, no link, or the line has one already. Nothing is changed then.
-    pub fn add(&mut self, word: &'a str) -> Result<(), LinkFault> {
+    pub fn add(&mut self, word: &'a str) -> Result<(), LinkFault>
+        ensures added { OnOk result ((place : ℕ) × (link : Link) × (word.now ≡ line_word place link)
+            × Adds place link self.old.links self.new.links) }
+        ensures kept { OnErr result (self.new ≡ self.old) }
+    {
         let (line, link) = word.split_once('=').ok_or(LinkFault::NoLine)?;
         let place = place_of(line).ok_or(LinkFault::NoLine)?;
         self.put(place, LinkName::parse(link)?)
@@ -46,12 +60,18 @@ impl<'a> Links<'a> {
     ///
     /// # Errors
     /// [`LinkFault::Port`], and [`LinkFault::Twice`] where line 1 has a link already.
-    pub fn add_gateway(&mut self, place: &'a str) -> Result<(), LinkFault> {
+    pub fn add_gateway(&mut self, place: &'a str) -> Result<(), LinkFault>
+        ensures added { OnOk result ((link : Link) × (word_of link ≡ codes "blocks://" ++ place.now)
+            × Adds 0 link self.old.links self.new.links) }
+        ensures kept { OnErr result (self.new ≡ self.old) }
+    {
         self.put(0, LinkName::gateway(place)?)
     }
 
     fn put(&mut self, place: usize, link: LinkName<'a>) -> Result<(), LinkFault>
         requires { place ≤ 7 }
+        ensures added { OnOk result (Adds place link.entry self.old.links self.new.links) }
+        ensures kept { OnErr result (self.new ≡ self.old) }
     {
         if self.links[place].is_some() {
             return Err(LinkFault::Twice);
@@ -63,7 +83,8 @@ impl<'a> Links<'a> {
 
 // The place of a line among the links, by its one digit.
 fn place_of(line: &str) -> Option<usize>
-    ensures { IfSome result (λ place. place ≤ 7) }
+    ensures within { IfSome result (λ place. place ≤ 7) }
+    ensures digit { IfSome result (λ place. line.now ≡ (49 + place) ∷ []) }
 {
     match line.as_bytes() {
         [digit @ b'1'..=b'8'] => Some(usize::from(*digit - b'1')),

@@ -42,6 +42,45 @@ pub enum MeterName {
     Primary(Primary),
 }
 
+/// A script over an image, in files.
+#[derive(Clone, Copy)]
+pub struct RunTask<'a> {
+    /// The image's file.
+    pub image: &'a str,
+    /// The script's file.
+    pub script: &'a str,
+    /// Where the gateway is, as `HOST:PORT`.
+    pub gateway: Option<&'a str>,
+    /// The links of the bus lines; none where only a gateway is named.
+    pub links: Links<'a>,
+    /// How many milliseconds of silence end an answer.
+    pub patience: u16,
+}
+
+/// The readout of the registered meters over an image.
+#[derive(Drop)]
+pub struct PollTask<'a> {
+    /// The image's file.
+    pub image: &'a str,
+    /// The links of the bus lines.
+    pub links: Links<'a>,
+    /// The meters that are read; all of the connected lines where it is empty.
+    pub only: Vec<Identity>,
+    /// How often a readout is begun at most.
+    pub tries: u8,
+    /// How many milliseconds of silence end an answer.
+    pub patience: u16,
+}
+
+/// A call of the program: what it is asked to do, and how much it says.
+#[derive(Drop)]
+pub struct Call<'a> {
+    /// What is to be done.
+    pub task: Task<'a>,
+    /// Whether it says on standard error why it failed.
+    pub is_verbose: bool,
+}
+
 /// What the words ask for.
 #[derive(Drop)]
 pub enum Task<'a> {
@@ -60,18 +99,7 @@ pub enum Task<'a> {
         sectors: u32,
     },
     /// A script over an image, in files.
-    Run {
-        /// The image's file.
-        image: &'a str,
-        /// The script's file.
-        script: &'a str,
-        /// Where the gateway is, as `HOST:PORT`.
-        gateway: Option<&'a str>,
-        /// The links of the bus lines; none where only a gateway is named.
-        links: Links<'a>,
-        /// How many milliseconds of silence end an answer.
-        patience: u16,
-    },
+    Run(RunTask<'a>),
     /// A table of what an image holds.
     Report {
         /// The image's file.
@@ -80,18 +108,7 @@ pub enum Task<'a> {
         table: &'a str,
     },
     /// The readout of the registered meters over an image.
-    Poll {
-        /// The image's file.
-        image: &'a str,
-        /// The links of the bus lines.
-        links: Links<'a>,
-        /// The meters that are read; all of the connected lines where it is empty.
-        only: Vec<Identity>,
-        /// How often a readout is begun at most.
-        tries: u8,
-        /// How many milliseconds of silence end an answer.
-        patience: u16,
-    },
+    Poll(PollTask<'a>),
     /// A search for meters on one bus, without an image.
     Scan {
         /// The bus.

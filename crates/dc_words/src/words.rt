@@ -4,13 +4,16 @@ use crate::fault::{LinkFault, WordsFault};
 use crate::help;
 use crate::link::LinkName;
 use crate::links::Links;
-use crate::task::{Engine, Form, MeterName, Scan, Task};
+use crate::task::{Call, Engine, Form, MeterName, PollTask, RunTask, Scan, Task};
 use clap::{Arg, ArgAction, ArgMatches, Command, value_parser};
 use dc_address::{Identity, Primary};
 use std::alloc::{AllocError, Global};
 
 // The least and the greatest number of sectors: what the file of the largest image holds.
 const SECTORS: (i64, i64) = (131, 131_075);
+
+// The place in help of an option that each command has: after its own.
+const LAST: usize = 90;
 
 fn decode_command<'a>(alloc: Global) -> Result<Command<'a>, AllocError> {
     let file = Arg::new(alloc, "FILE").help("Lines of hex digits [default: standard input]");
@@ -185,13 +188,21 @@ fn demo_command<'a>(alloc: Global) -> Result<Command<'a>, AllocError> {
     Ok(command)
 }
 
+// It may stand before a command and after it.
+fn verbose_arg<'a>(alloc: Global) -> Arg<'a> {
+    Arg::new(alloc, "VERBOSE")
+        .long("verbose")
+        .action(ArgAction::SetTrue)
+        .global(true)
+        .display_order(LAST)
+        .help("Prints a second line on standard error that says why the command failed")
+}
+
 fn program<'a>(alloc: Global) -> Result<Command<'a>, AllocError> {
     Command::new(alloc, "mbdc")
         .version(help::VERSION)
-        .about(
-            "Data concentrator of wired M-Bus submeters; without a command it decodes standard input",
-        )
-        .after_help(help::STATUSES)
+        .override_help(help::PROGRAM)
+        .arg(verbose_arg(alloc))?
         .subcommand(decode_command(alloc)?)?
         .subcommand(fold_command(alloc)?)?
         .subcommand(format_command(alloc)?)?
@@ -203,12 +214,19 @@ fn program<'a>(alloc: Global) -> Result<Command<'a>, AllocError> {
         .subcommand(demo_command(alloc)?)
 }
 
-/// The task that the words name. The first word is the program's name.
+/// What the words ask for. The first word is the program's name.
 ///
 /// # Errors
-/// [`WordsFault`]: they name none. Help and the version are such, too.
-pub fn task_of<'a>(alloc: Global, words: &'a [String]) -> Result<Task<'a>, WordsFault> {
+/// [`WordsFault`]: they name no task. Help and the version are such, too.
+pub fn call_of<'a>(alloc: Global, words: &'a [String]) -> Result<Call<'a>, WordsFault> {
     let matches = program(alloc)?.try_get_matches_from(words)?;
+    Ok(Call {
+        task: task_of(alloc, &matches)?,
+        is_verbose: matches.get_flag("VERBOSE"),
+    })
+}
+
+fn task_of<'a>(alloc: Global, matches: &ArgMatches<'a>) -> Result<Task<'a>, WordsFault> {
     let Some((name, inner)) = matches.subcommand() else {
         return Ok(Task::Lines {
             engine: Engine::Decode(Form::Text),
@@ -294,13 +312,13 @@ fn run_task<'a>(image: &'a str, inner: &ArgMatches<'a>) -> Result<Task<'a>, Word
     {
         links.add_gateway(place)?;
     }
-    Ok(Task::Run {
+    Ok(Task::Run(RunTask {
         image,
         script: inner.get_str("SCRIPT").unwrap_or_default(),
         gateway,
         links,
         patience: patience_of(inner),
-    })
+    }))
 }
 
 fn poll_task<'a>(
@@ -317,13 +335,13 @@ fn poll_task<'a>(
     if links.is_empty() {
         return Err(WordsFault::NoLink);
     }
-    Ok(Task::Poll {
+    Ok(Task::Poll(PollTask {
         image,
         links,
         only,
         tries: inner.get_one("TRIES").unwrap_or_default(),
         patience: patience_of(inner),
-    })
+    }))
 }
 
 fn links_of<'a>(inner: &ArgMatches<'a>) -> Result<Links<'a>, LinkFault> {

@@ -1,10 +1,12 @@
 //! The commands `scan` and `read`: one bus, without an image.
 
+use crate::host::Host;
+use crate::why::{Noted, Why};
 use dc_ending::{Ending, STREAM};
 use dc_gateway::Bus;
 use dc_installer::{Readout, ScanFault, identify, read, scan, scan_primary};
 use dc_line::{Both, QuietBus};
-use dc_links::{Peer, SystemBus, Waiter};
+use dc_links::{Peer, ScriptLink, SystemBus, Waiter};
 use dc_stream::{IoFault, Sink, WriteSink};
 use dc_text::put_number_word;
 use dc_words::{LinkName, MeterName, Scan};
@@ -15,29 +17,37 @@ use std::net::{Net, TcpStream};
 use std::rt::{Clock, Files};
 
 // A bus that is asked alone.
-type OneBus<'a, C> = Both<SystemBus<'a, C>, Waiter>;
+type OneBus<'a, C> = ScriptLink<SystemBus<'a, C>, Waiter>;
 
 /// Searches a bus for meters, and prints those that it finds.
-pub fn scan_bus<'a, R>(rt: &R, link: &LinkName<'_>, what: Scan, patience: u16) -> Ending<'a>
+pub fn scan_bus<'a, R>(
+    host: &Host<'_, R>,
+    link: &LinkName<'_>,
+    what: Scan,
+    patience: u16,
+) -> Ending<'a>
 where
     R: Files<File = File> + Net<Stream = TcpStream> + Clock + Copy + Print + AllocGlobal,
 {
-    let Ok(peer) = Peer::connect(rt, link) else {
-        return Ending::Gateway;
+    let peer = match Peer::connect(host.rt, link) {
+        Ok(peer) => peer,
+        Err(error) => return host.why.link(None, error),
     };
-    let Ok(mut bus) = quiet_bus(rt, &peer, patience) else {
-        return Ending::Gateway;
+    let mut bus = match quiet_bus(host.rt, &peer, patience) {
+        Ok(bus) => bus,
+        Err(error) => return host.why.link(None, error),
     };
-    let Ok(printer) = LineWriter::new(rt.alloc(), io::writer(rt)) else {
+    let printer = Noted::new(io::writer(host.rt), host.why);
+    let Ok(printer) = LineWriter::new(host.rt.alloc(), printer) else {
         return Ending::Memory;
     };
     let mut writer = WriteSink::new(printer);
     let found = match what {
-        Scan::Wildcards(budget) => scan(rt.alloc(), budget, &mut bus, &mut writer),
+        Scan::Wildcards(budget) => scan(host.rt.alloc(), budget, &mut bus, &mut writer),
         Scan::Primary => scan_primary(&mut bus, &mut writer).map_err(|_| ScanFault::Write),
     };
     match found {
-        Ok(()) => end_of(&bus, writer, Ending::Clean),
+        Ok(()) => end_of(host.why, &bus, writer, Ending::Clean),
         Err(ScanFault::Write) => Ending::File(STREAM),
         Err(ScanFault::NoMemory) => Ending::Memory,
     }
@@ -45,7 +55,7 @@ where
 
 /// Reads a meter on a bus, and prints its telegrams.
 pub fn read_on_bus<'a, R>(
-    rt: &R,
+    host: &Host<'_, R>,
     link: &LinkName<'_>,
     meter: MeterName,
     patience: u16,
@@ -53,19 +63,22 @@ pub fn read_on_bus<'a, R>(
 where
     R: Files<File = File> + Net<Stream = TcpStream> + Clock + Copy + Print + AllocGlobal,
 {
-    let Ok(peer) = Peer::connect(rt, link) else {
-        return Ending::Gateway;
+    let peer = match Peer::connect(host.rt, link) {
+        Ok(peer) => peer,
+        Err(error) => return host.why.link(None, error),
     };
-    let Ok(mut bus) = quiet_bus(rt, &peer, patience) else {
-        return Ending::Gateway;
+    let mut bus = match quiet_bus(host.rt, &peer, patience) {
+        Ok(bus) => bus,
+        Err(error) => return host.why.link(None, error),
     };
-    let Ok(printer) = LineWriter::new(rt.alloc(), io::writer(rt)) else {
+    let printer = Noted::new(io::writer(host.rt), host.why);
+    let Ok(printer) = LineWriter::new(host.rt.alloc(), printer) else {
         return Ending::Memory;
     };
     let mut writer = WriteSink::new(printer);
     match read_named(&mut bus, meter, &mut writer) {
-        Ok(Readout::Whole) => end_of(&bus, writer, Ending::Clean),
-        Ok(Readout::Failed) => end_of(&bus, writer, Ending::Faulty),
+        Ok(Readout::Whole) => end_of(host.why, &bus, writer, Ending::Clean),
+        Ok(Readout::Failed) => end_of(host.why, &bus, writer, Ending::Faulty),
         Err(IoFault) => Ending::File(STREAM),
     }
 }
@@ -81,7 +94,7 @@ fn quiet_bus<'b, C: Clock + Copy>(
         pause: Waiter,
     };
     both.make_ready();
-    Ok(both)
+    Ok(ScriptLink { both })
 }
 
 // A meter without an identity is asked for it.
@@ -104,14 +117,16 @@ fn read_named<B: Bus, W: Sink>(
 
 // How it ends: what is held back goes out, late answers are counted, and a lost link is named.
 fn end_of<'a, C: Clock + Copy, W: Write + Drop>(
+    why: &Why,
     bus: &OneBus<'_, C>,
     mut writer: WriteSink<W>,
     ending: Ending<'a>,
 ) -> Ending<'a> {
-    if put_late(bus.bus.late(), &mut writer).is_err() || writer.flush().is_err() {
+    if put_late(bus.both.bus.late(), &mut writer).is_err() || writer.flush().is_err() {
         return Ending::File(STREAM);
     }
     if bus.is_lost() {
+        why.say("the connection ended or failed");
         return Ending::Gateway;
     }
     ending

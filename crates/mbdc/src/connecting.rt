@@ -1,5 +1,6 @@
 //! Connecting the links of the bus lines.
 
+use crate::host::Host;
 use dc_ending::Ending;
 use dc_links::Peer;
 use dc_words::Links;
@@ -11,16 +12,21 @@ use std::rt::{Clock, Files};
 ///
 /// # Errors
 /// How the command ends: a link can't be connected, or memory was refused.
-pub fn connect_all<'a, R>(rt: &R, links: &Links<'_>) -> Result<Vec<Option<Peer<R>>>, Ending<'a>>
+pub fn connect_all<'a, R>(
+    host: &Host<'_, R>,
+    links: &Links<'_>,
+) -> Result<Vec<Option<Peer<R>>>, Ending<'a>>
 where
     R: Files<File = File> + Net<Stream = TcpStream> + Clock + Copy + AllocGlobal,
 {
-    let mut peers = Vec::new(rt.alloc());
+    let mut peers = Vec::new(host.rt.alloc());
+    let mut line: u8 = 0;
     for link in links.by_line() {
+        line = line.saturating_add(1);
         let peer = match link {
-            Some(name) => match Peer::connect(rt, name) {
+            Some(name) => match Peer::connect(host.rt, name) {
                 Ok(peer) => Some(peer),
-                Err(_) => return Err(Ending::Gateway),
+                Err(error) => return Err(host.why.link(Some(line), error)),
             },
             None => None,
         };

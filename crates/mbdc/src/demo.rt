@@ -1,6 +1,8 @@
 //! The command `demo`: a gateway, a meter and the concentrator in one process, over a loopback socket to itself.
 
+use crate::host::Host;
 use crate::tasks::{ROOM, flushed};
+use crate::why::Noted;
 use dc_address::{Identity, Primary};
 use dc_base::NoMemory;
 use dc_ending::{Ending, STREAM, ending_of};
@@ -41,21 +43,22 @@ type Ends = (
 );
 
 /// Plays the demo, and prints what `run` prints of its script.
-pub fn play<R>(rt: &R) -> Ending<'static>
+pub fn play<R>(host: &Host<'_, R>) -> Ending<'static>
 where
     R: Net<Stream = TcpStream, Listener = TcpListener> + Print + AllocGlobal,
 {
-    let Ok(bus) = one_meter(rt.alloc()) else {
+    let Ok(bus) = one_meter(host.rt.alloc()) else {
         return Ending::Memory;
     };
-    let Ok(ends) = join(rt, bus) else {
-        return Ending::Gateway;
+    let ends = match join(host.rt, bus) {
+        Ok(ends) => ends,
+        Err(error) => return host.why.link(None, error),
     };
-    let Ok(disk) = MemoryDisk::new(rt.alloc(), SECTORS) else {
+    let Ok(disk) = MemoryDisk::new(host.rt.alloc(), SECTORS) else {
         return Ending::Memory;
     };
     match Store::format(disk) {
-        Ok(disk) => ending_of(work(rt, disk, ends), STREAM),
+        Ok(disk) => ending_of(work(host, disk, ends), STREAM),
         Err((fault, _)) => Ending::Format(fault),
     }
 }
@@ -91,13 +94,14 @@ where
 }
 
 fn work<R: Print + AllocGlobal>(
-    rt: &R,
+    host: &Host<'_, R>,
     disk: MemoryDisk<Global>,
     ends: Ends,
 ) -> Result<bool, ProgramFault> {
-    let mut reader = Bytes::from_slice(rt.alloc(), SCRIPT)?;
-    let mut writer = Buffered::new(rt.alloc(), ROOM, WriteSink::new(io::writer(rt)))?;
-    let (_, outcome) = run_script(rt.alloc(), disk, &mut reader, &mut writer, Some(ends));
+    let mut reader = Bytes::from_slice(host.rt.alloc(), SCRIPT)?;
+    let printer = Noted::new(io::writer(host.rt), host.why);
+    let mut writer = Buffered::new(host.rt.alloc(), ROOM, WriteSink::new(printer))?;
+    let (_, outcome) = run_script(host.rt.alloc(), disk, &mut reader, &mut writer, Some(ends));
     let faulty = outcome?;
     flushed(writer)?;
     Ok(faulty)

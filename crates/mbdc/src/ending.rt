@@ -7,6 +7,7 @@ ghost use Rattle.clap.specs.declared.error.kind.ErrorKind.TheVariants.{DisplayHe
 ghost use Rattle.dc_ending.specs.Ending.{status_of};
 ghost use Rattle.dc_words.specs.Fault.{IfMistake};
 
+use crate::why::{Reason, Why};
 use clap::Error;
 use clap::error::ErrorKind;
 use dc_ending::{Ending, STREAM};
@@ -28,6 +29,9 @@ const NO_LINK: &str = "no bus line has a link; try mbdc poll --help";
 // A line that is no longer goes out as one write.
 const LINE: usize = 8_192;
 
+// What stands between the words of a fault of the system and its number.
+const NUMBERED: &str = " (os error ";
+
 /// Tells how the run ended, and gives its status.
 pub fn told(rt: &HostRuntime, ending: &Ending) -> ExitCode
     ensures { exit_status result ≡ status_of ending.now }
@@ -43,6 +47,28 @@ fn put_line(rt: &HostRuntime, ending: &Ending) -> Result<(), IoFault> {
     };
     ending.put_line(&mut out)?;
     out.flush()
+}
+
+/// Prints on a second line why the run failed, where the system said it.
+pub fn told_why(rt: &HostRuntime, ending: &Ending, why: &Why) {
+    if let Ending::File(_) | Ending::Gateway | Ending::Format(_) | Ending::Open(_) = ending
+        && let Some(reason) = why.last()
+        && let Ok(line) = reason_line(rt.alloc(), &reason)
+    {
+        let _ = rt.stderr().write_all(line.as_bytes());
+    }
+}
+
+fn reason_line(alloc: Global, reason: &Reason) -> Result<String, AllocError> {
+    let said = format!(in alloc; "{}", reason.error)?;
+    let words = match said.rsplit_once(NUMBERED) {
+        Some((words, _)) => words,
+        None => said.as_str(),
+    };
+    match reason.line {
+        Some(line) => format!(in alloc; "mbdc: reason: line {line}: {words}\n"),
+        None => format!(in alloc; "mbdc: reason: {words}\n"),
+    }
 }
 
 /// Tells what is wrong with the words, and gives the status.

@@ -1,7 +1,9 @@
 //! The command `format`: an image in a file.
 
 use crate::half_made::{HalfMade, is_same_file};
-use crate::image::open_image;
+use crate::host::Host;
+use crate::image::{lock, open_image};
+use crate::why::{Noted, Why};
 use dc_ending::Ending;
 use dc_recovery::{FormatFault, Store};
 use dc_roots::{RootFault, choose};
@@ -21,56 +23,72 @@ pub const SECTORS: (i64, i64) = (131, 131_075);
 /// of exactly that many sectors that holds zeros alone is formatted in place. No symbolic link is followed, and no other
 /// file is touched.
 pub fn format_image<'a, R: Files<File = File> + AllocGlobal>(
-    rt: &R,
+    host: &Host<'_, R>,
     name: &'a str,
     sectors: u32,
 ) -> Ending<'a> {
     let length = 512 * u64::from(sectors);
-    match fs::symlink_metadata(rt, name) {
-        Ok(seen) => format_in_place(rt, name, &seen, length),
-        Err(error) if error.kind() == ErrorKind::NotFound => make_image(rt, name, length),
-        Err(_) => Ending::File(name),
+    match fs::symlink_metadata(host.rt, name) {
+        Ok(seen) => format_in_place(host, name, &seen, length),
+        Err(error) if error.kind() == ErrorKind::NotFound => make_image(host, name, length),
+        Err(error) => host.why.file(name, error),
     }
 }
 
 fn format_in_place<'a, R: Files<File = File>>(
-    rt: &R,
+    host: &Host<'_, R>,
     name: &'a str,
     seen: &Metadata,
     length: u64,
 ) -> Ending<'a> {
-    let Ok(file) = open_seen(rt, name, seen) else {
-        return Ending::File(name);
+    let formatted = match open_seen(host.rt, name, seen) {
+        Ok(file) => format_blank(host.why, file, length),
+        Err(error) => Err(error),
     };
-    match format_blank(file, length) {
+    formatted_as(host.why, name, formatted)
+}
+
+// How it ends.
+fn formatted_as<'a>(
+    why: &Why,
+    name: &'a str,
+    formatted: io::Result<Option<FormatFault>>,
+) -> Ending<'a> {
+    match formatted {
         Ok(None) => Ending::Clean,
         Ok(Some(fault)) => Ending::Format(fault),
-        Err(_) => Ending::File(name),
+        Err(error) => why.file(name, error),
     }
 }
 
 // Formats a file that holds zeros alone. An image is named, and whatever else a file holds is kept.
-fn format_blank(file: File, length: u64) -> io::Result<Option<FormatFault>> {
+fn format_blank(why: &Why, file: File, length: u64) -> io::Result<Option<FormatFault>> {
     if is_blank(&file, length)? {
-        return format_file(file, length);
+        return format_file(why, file, length);
     }
-    let mut disk = FileDisk::new(file)?;
+    let mut disk = FileDisk::new(Noted::new(file, why))?;
     if disk.count() <= 2 {
-        return Err(io::Error::from(ErrorKind::InvalidInput));
+        return Err(other_content());
     }
     match choose(&mut disk) {
         Ok(_) => Ok(Some(FormatFault::AlreadyFormatted)),
         Err(RootFault::Device) => Ok(Some(FormatFault::Device)),
-        Err(RootFault::NoRoot(_) | RootFault::Worn) => Err(io::Error::from(
-            ErrorKind::InvalidInput,
-        )),
+        Err(RootFault::NoRoot(_) | RootFault::Worn) => Err(other_content()),
     }
+}
+
+fn other_content() -> io::Error {
+    io::Error::new(ErrorKind::InvalidInput, "it holds other bytes than zeros")
+}
+
+fn other_length() -> io::Error {
+    io::Error::new(ErrorKind::InvalidInput, "it has another length")
 }
 
 // Whether a file of that length holds zeros alone, as `truncate` makes it.
 fn is_blank(file: &File, length: u64) -> io::Result<bool> {
     if file.metadata()?.len() != length {
-        return Err(io::Error::from(ErrorKind::InvalidInput));
+        return Err(other_length());
     }
     for place in 0..length / 512 {
         let mut sector = [1; 512];
@@ -85,60 +103,57 @@ fn is_blank(file: &File, length: u64) -> io::Result<bool> {
 // The regular file that was seen under the name. Another one may have come there since.
 fn open_seen<R: Files<File = File>>(rt: &R, name: &str, seen: &Metadata) -> io::Result<File> {
     if !seen.is_file() {
-        return Err(io::Error::from(ErrorKind::InvalidInput));
+        return Err(io::Error::new(ErrorKind::InvalidInput, "it is no regular file"));
     }
     let file = open_image(rt, name)?;
     if !is_same_file(&file.metadata()?, seen) {
-        return Err(io::Error::from(ErrorKind::NotFound));
+        return Err(io::Error::new(ErrorKind::NotFound, "another file came under that name"));
     }
     Ok(file)
 }
 
 fn make_image<'a, R: Files<File = File> + AllocGlobal>(
-    rt: &R,
+    host: &Host<'_, R>,
     name: &'a str,
     length: u64,
 ) -> Ending<'a> {
     // `format ""` and `format folder/` name no file.
     if name.is_empty() || name.ends_with('/') {
+        host.why.say("it is no name of a file");
         return Ending::File(name);
     }
-    let half_made = match HalfMade::create(rt, name) {
+    let half_made = match HalfMade::create(host.rt, name) {
         Ok(half_made) => half_made,
         Err(error) if error.kind() == ErrorKind::OutOfMemory => return Ending::Memory,
-        Err(_) => return Ending::File(name),
+        Err(error) => return host.why.file(name, error),
     };
-    let ending = match put_in_place(rt, &half_made, name, length) {
-        Ok(None) => Ending::Clean,
-        Ok(Some(fault)) => Ending::Format(fault),
-        Err(_) => Ending::File(name),
-    };
-    half_made.unlink(rt);
-    ending
+    let formatted = put_in_place(host, &half_made, name, length);
+    half_made.unlink(host.rt);
+    formatted_as(host.why, name, formatted)
 }
 
 // The file is locked, so that nobody runs the image before `format` has ended.
 fn put_in_place<R: Files<File = File>>(
-    rt: &R,
+    host: &Host<'_, R>,
     half_made: &HalfMade,
     name: &str,
     length: u64,
 ) -> io::Result<Option<FormatFault>> {
-    half_made.file.try_lock()?;
+    lock(&half_made.file)?;
     half_made.file.set_len(length)?;
-    let fault = format_file(half_made.file.try_clone()?, length)?;
+    let fault = format_file(host.why, half_made.file.try_clone()?, length)?;
     if fault.is_none() {
-        half_made.link(rt, name)?;
+        half_made.link(host.rt, name)?;
     }
     Ok(fault)
 }
 
 // Formats a file of that length.
-fn format_file(file: File, length: u64) -> io::Result<Option<FormatFault>> {
+fn format_file(why: &Why, file: File, length: u64) -> io::Result<Option<FormatFault>> {
     if file.metadata()?.len() != length {
-        return Err(io::Error::from(ErrorKind::InvalidInput));
+        return Err(other_length());
     }
-    match Store::format(FileDisk::new(file)?) {
+    match Store::format(FileDisk::new(Noted::new(file, why))?) {
         Ok(_) => Ok(None),
         Err((fault, _)) => Ok(Some(fault)),
     }

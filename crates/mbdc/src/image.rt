@@ -1,7 +1,8 @@
 //! The file of an image: one program at a time has it open.
 
-use std::fs::{File, OpenOptions};
+use std::fs::{File, OpenOptions, TryLockError};
 use std::io;
+use std::io::ErrorKind;
 use std::os::fd::AsRawFd;
 use std::rt::Files;
 
@@ -35,6 +36,22 @@ pub fn open_locked<R: Files<File = File>>(
     name: &str,
 ) -> io::Result<File> {
     let file = options.open(rt, name)?;
-    file.try_lock()?;
+    lock(&file)?;
     Ok(file)
+}
+
+/// Locks a file that is open.
+pub fn lock(file: &File) -> io::Result<()> {
+    locked(file.try_lock())
+}
+
+fn locked(tried: Result<(), TryLockError>) -> io::Result<()> {
+    match tried {
+        Ok(()) => Ok(()),
+        Err(TryLockError::WouldBlock) => Err(io::Error::new(
+            ErrorKind::WouldBlock,
+            "it is open in another mbdc",
+        )),
+        Err(TryLockError::Error(error)) => Err(error),
+    }
 }

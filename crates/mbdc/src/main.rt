@@ -8,19 +8,24 @@ mod demo;
 mod ending;
 mod format;
 mod half_made;
+mod host;
 mod image;
 mod poll;
+mod progress;
 mod report;
 mod script;
 mod tasks;
+mod why;
 
 use dc_ending::Ending;
-use dc_words::task_of;
-use ending::{told, told_words};
-use std::io::ErrorKind;
+use dc_words::{Call, call_of};
+use ending::{told, told_why, told_words};
+use host::Host;
+use std::io::{ErrorKind, IsTerminal};
 use std::process::ExitCode;
 use std::rt::Env;
 use std::{env, io};
+use why::Why;
 
 fn words_of(rt: &(impl Env + AllocGlobal)) -> io::Result<Vec<String>> {
     let mut words = Vec::new(rt.alloc());
@@ -41,8 +46,24 @@ fn main(rt: HostRuntime) -> ExitCode {
             &Ending::Words("the words aren't UTF-8 text; try mbdc --help"),
         ),
     };
-    match task_of(rt.alloc(), words.as_slice()) {
-        Ok(task) => told(&rt, &tasks::run(&rt, &task)),
+    match call_of(rt.alloc(), words.as_slice()) {
+        Ok(call) => answer(&rt, &call),
         Err(fault) => told_words(&rt, &fault),
     }
+}
+
+// Does what the words ask for, and says how that ended.
+fn answer(rt: &HostRuntime, call: &Call<'_>) -> ExitCode {
+    let why = Why::new();
+    let host = Host {
+        rt,
+        why: &why,
+        is_watched: rt.stderr().is_terminal(),
+    };
+    let ending = tasks::run(&host, &call.task);
+    let status = told(rt, &ending);
+    if call.is_verbose {
+        told_why(rt, &ending, &why);
+    }
+    status
 }

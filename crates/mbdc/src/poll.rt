@@ -1,34 +1,38 @@
 //! The command `poll`: the registered meters of an image are read over the bus lines.
 
 use crate::connecting::connect_all;
+use crate::host::Host;
 use crate::image::open_image;
-use dc_address::Identity;
+use crate::progress::{Counted, Progress};
+use crate::why::Noted;
 use dc_changes::Moment;
 use dc_ending::{Ending, ending_of};
 use dc_line::QuietBus;
 use dc_links::{LinkBus, Peer, SystemBus, Watch};
 use dc_poller::ProgramFault;
-use dc_rounds::{Plan, Station, Timer, poll_image};
+use dc_rounds::{Outcome, Plan, Station, Timer, poll_image};
 use dc_sectors::FileDisk;
 use dc_stream::WriteSink;
-use dc_words::Links;
+use dc_words::PollTask;
 use std::alloc::Global;
-use std::fs::File;
+use std::fs::{File, OpenFile};
 use std::io;
 use std::io::LineWriter;
 use std::net::{Net, TcpStream};
+use std::os::unix::fs::FileExt;
 use std::rt::{Clock, Files};
 use std::time::{SystemTime, UNIX_EPOCH};
 
 /// The clock of a poll, and its wait for all lines at once.
 #[derive(Drop)]
-struct SystemTimer<C: Clock + Copy> {
+struct SystemTimer<'p, 'h, C: Clock + Copy> {
     clock: C,
     // The last moment that the clock gave; it stays where the clock fails.
     last: Moment,
+    progress: &'p Progress<'h, C>,
 }
 
-impl<C: Clock + Copy> Timer<SystemBus<'_, C>> for SystemTimer<C> {
+impl<C: Clock + Copy + Eprint> Timer<SystemBus<'_, C>> for SystemTimer<'_, '_, C> {
     ghost use Rattle.std.specs.Prelude.{⊤};
 
     ghost tells = { λ _ _ _. ⊤ };
@@ -46,6 +50,7 @@ impl<C: Clock + Copy> Timer<SystemBus<'_, C>> for SystemTimer<C> {
     }
 
     fn pause(&mut self, stations: &[Station<'_, SystemBus<'_, C>>]) {
+        self.progress.show(stations);
         let mut watch = Watch::new();
         for station in stations {
             if station.is_waiting() || !station.bus.is_ready() {
@@ -57,66 +62,82 @@ impl<C: Clock + Copy> Timer<SystemBus<'_, C>> for SystemTimer<C> {
 }
 
 /// Reads the registered meters of the image in that file over the links of their lines, or those meters alone that are named.
-pub fn poll_on_image<'a, R>(
-    rt: &R,
-    image: &'a str,
-    links: &Links<'_>,
-    only: &[Identity],
-    tries: u8,
-    patience: u16,
-) -> Ending<'a>
+pub fn poll_on_image<'a, R>(host: &Host<'_, R>, task: &PollTask<'a>) -> Ending<'a>
 where
-    R: Files<File = File> + Net<Stream = TcpStream> + Clock + Copy + Print + AllocGlobal,
+    R: Files<File = File> + Net<Stream = TcpStream> + Clock + Copy + Print + Eprint + AllocGlobal,
 {
-    let Ok(file) = open_image(rt, image) else {
-        return Ending::File(image);
+    let file = match open_image(host.rt, task.image) {
+        Ok(file) => file,
+        Err(error) => return host.why.file(task.image, error),
     };
-    let Ok(disk) = FileDisk::new(file) else {
-        return Ending::File(image);
+    let disk = match FileDisk::new(Noted::new(file, host.why)) {
+        Ok(disk) => disk,
+        Err(error) => return host.why.file(task.image, error),
     };
-    let peers = match connect_all(rt, links) {
+    let peers = match connect_all(host, &task.links) {
         Ok(peers) => peers,
         Err(ending) => return ending,
     };
-    let buses = match buses_of(rt, peers.as_slice(), patience) {
+    let buses = match buses_of(host, peers.as_slice(), task.patience) {
         Ok(buses) => buses,
         Err(ending) => return ending,
     };
-    let Ok(printer) = LineWriter::new(rt.alloc(), io::writer(rt)) else {
-        return Ending::Memory;
-    };
-    let mut writer = WriteSink::new(printer);
-    let mut timer = SystemTimer {
-        clock: *rt,
-        last: Moment { seconds: 0 },
-    };
     let plan = Plan {
         buses,
-        only,
-        tries: tries.max(1),
+        only: task.only.as_slice(),
+        tries: task.tries.max(1),
     };
-    let (_, outcome) = poll_image(rt.alloc(), disk, plan, &mut timer, &mut writer);
-    if !matches!(outcome, Err(ProgramFault::Write)) && writer.flush().is_err() {
-        return ending_of(Err(ProgramFault::Write), image);
+    match poll(host, disk, plan) {
+        Ok(outcome) => ending_of(Ok(outcome.failed > 0), task.image),
+        Err(fault) => ending_of(Err(fault), task.image),
     }
-    match outcome {
-        Ok(outcome) => ending_of(Ok(outcome.failed > 0), image),
-        Err(fault) => ending_of(Err(fault), image),
+}
+
+// Reads the meters of the plan. What is printed goes out line by line.
+fn poll<D, R>(
+    host: &Host<'_, R>,
+    disk: FileDisk<D>,
+    plan: Plan<'_, Global, SystemBus<'_, R>>,
+) -> Result<Outcome, ProgramFault>
+where
+    D: FileExt + OpenFile + Drop,
+    R: Clock + Copy + Print + Eprint + AllocGlobal,
+{
+    let printer = Noted::new(io::writer(host.rt), host.why);
+    let Ok(writer) = LineWriter::new(host.rt.alloc(), printer) else {
+        return Err(ProgramFault::NoMemory);
+    };
+    let progress = Progress::new(*host);
+    let mut out = WriteSink::new(Counted {
+        writer,
+        progress: &progress,
+        is_begin: true,
+    });
+    let mut timer = SystemTimer {
+        clock: *host.rt,
+        last: Moment { seconds: 0 },
+        progress: &progress,
+    };
+    let (_, outcome) = poll_image(host.rt.alloc(), disk, plan, &mut timer, &mut out);
+    progress.clear();
+    if !matches!(outcome, Err(ProgramFault::Write)) && out.flush().is_err() {
+        return Err(ProgramFault::Write);
     }
+    outcome
 }
 
 // The bus of each line; one without a link is absent.
 fn buses_of<'p, 'e, R: Clock + Copy + AllocGlobal>(
-    rt: &R,
+    host: &Host<'_, R>,
     peers: &'p [Option<Peer<R>>],
     patience: u16,
 ) -> Result<Vec<SystemBus<'p, R>, Global>, Ending<'e>> {
-    let mut buses = Vec::new(rt.alloc());
+    let mut buses = Vec::new(host.rt.alloc());
     for peer in peers {
         let bus = match peer {
-            Some(peer) => match peer.bus(*rt, patience) {
+            Some(peer) => match peer.bus(*host.rt, patience) {
                 Ok(bus) => bus,
-                Err(_) => return Err(Ending::Gateway),
+                Err(error) => return Err(host.why.link(None, error)),
             },
             None => LinkBus::Absent,
         };

@@ -1,7 +1,9 @@
 //! The command `report`: a table of what an image in a file holds.
 
+use crate::host::Host;
 use crate::image::open_image;
 use crate::tasks::{ROOM, flushed};
+use crate::why::Noted;
 use dc_ending::{Ending, ending_of};
 use dc_poller::{ProgramFault, Report, report_on};
 use dc_sectors::FileDisk;
@@ -17,30 +19,32 @@ const NO_TABLE: &str =
     "TABLE is neither 'register' nor a date that exists, as 2024-12-31; try mbdc --help";
 
 /// Prints the table that the word asks for, of the image in that file.
-pub fn report_on_image<'a, R>(rt: &R, image: &'a str, table: &str) -> Ending<'a>
+pub fn report_on_image<'a, R>(host: &Host<'_, R>, image: &'a str, table: &str) -> Ending<'a>
 where
     R: Files<File = File> + Print + AllocGlobal,
 {
     let Some(report) = Report::parse(table.as_bytes()) else {
         return Ending::Words(NO_TABLE);
     };
-    let Ok(file) = open_image(rt, image) else {
-        return Ending::File(image);
+    let file = match open_image(host.rt, image) {
+        Ok(file) => file,
+        Err(error) => return host.why.file(image, error),
     };
-    let Ok(disk) = FileDisk::new(file) else {
-        return Ending::File(image);
-    };
-    ending_of(work(rt, disk, report), image)
+    match FileDisk::new(Noted::new(file, host.why)) {
+        Ok(disk) => ending_of(work(host, disk, report), image),
+        Err(error) => host.why.file(image, error),
+    }
 }
 
 // Writes the table of a disk to standard output. No line of an input can be at fault.
 fn work<D: FileExt + OpenFile + Drop, R: Print + AllocGlobal>(
-    rt: &R,
+    host: &Host<'_, R>,
     disk: FileDisk<D>,
     report: Report,
 ) -> Result<bool, ProgramFault> {
-    let mut writer = Buffered::new(rt.alloc(), ROOM, WriteSink::new(io::writer(rt)))?;
-    let (_, outcome) = report_on(rt.alloc(), disk, report, &mut writer);
+    let printer = Noted::new(io::writer(host.rt), host.why);
+    let mut writer = Buffered::new(host.rt.alloc(), ROOM, WriteSink::new(printer))?;
+    let (_, outcome) = report_on(host.rt.alloc(), disk, report, &mut writer);
     outcome?;
     flushed(writer)?;
     Ok(false)

@@ -1,14 +1,17 @@
 //! The command `run`: a script over an image in a file.
 
 use crate::connecting::connect_all;
+use crate::host::Host;
 use crate::image::open_image;
-use dc_ending::{Ending, ending_of};
+use crate::tasks::ended;
+use crate::why::Noted;
+use dc_ending::Ending;
 use dc_line::Both;
 use dc_links::{Connection, Ends, Peer, ScriptLink, SystemBus, Waiter};
 use dc_poller::{ProgramFault, Slot, run_script, run_script_over};
 use dc_sectors::FileDisk;
 use dc_stream::{ReadSource, WriteSink};
-use dc_words::Links;
+use dc_words::RunTask;
 use std::fs::{File, OpenFile};
 use std::io::{LineWriter, Read};
 use std::net::{Net, TcpStream};
@@ -20,92 +23,103 @@ use std::{fs, io};
 type LineSlot<'a, C> = Slot<ScriptLink<SystemBus<'a, C>, Waiter>>;
 
 /// Runs the script over the image, from file to file, with the links of the bus lines, or the gateway of bus line 1.
-pub fn run_on_image<'a, R>(
-    rt: &R,
-    image: &'a str,
-    script: &'a str,
-    gateway: Option<&'a str>,
-    links: &Links<'_>,
-    patience: u16,
-) -> Ending<'a>
+pub fn run_on_image<'a, R>(host: &Host<'_, R>, task: &RunTask<'a>) -> Ending<'a>
 where
     R: Files<File = File> + Net<Stream = TcpStream> + Clock + Copy + Print + AllocGlobal,
 {
-    let Ok(file) = open_image(rt, image) else {
-        return Ending::File(image);
+    let file = match open_image(host.rt, task.image) {
+        Ok(file) => file,
+        Err(error) => return host.why.file(task.image, error),
     };
-    let Ok(disk) = FileDisk::new(file) else {
-        return Ending::File(image);
+    let disk = match FileDisk::new(Noted::new(file, host.why)) {
+        Ok(disk) => disk,
+        Err(error) => return host.why.file(task.image, error),
     };
-    let Ok(lines) = fs::open(rt, script) else {
-        return Ending::File(script);
+    let lines = match fs::open(host.rt, task.script) {
+        Ok(lines) => Noted::new(lines, host.why),
+        Err(error) => return host.why.file(task.script, error),
     };
-    if !links.is_empty() {
-        return run_over_links(rt, disk, lines, links, patience, script);
+    if task.links.is_empty() {
+        run_over_gateway(host, disk, lines, task)
+    } else {
+        run_over_links(host, disk, lines, task)
     }
-    let connection = match gateway {
+}
+
+// Runs the lines of a file over a disk, with the gateway of bus line 1, where one is named.
+fn run_over_gateway<'a, F, D, R>(
+    host: &Host<'_, R>,
+    disk: FileDisk<D>,
+    lines: F,
+    task: &RunTask<'a>,
+) -> Ending<'a>
+where
+    F: Read + Drop,
+    D: FileExt + OpenFile + Drop,
+    R: Net<Stream = TcpStream> + Clock + Copy + Print + AllocGlobal,
+{
+    let connection = match task.gateway {
         None => None,
-        Some(address) => match Connection::new(rt, address) {
+        Some(address) => match Connection::new(host.rt, address) {
             Ok(connection) => Some(connection),
-            Err(_) => return Ending::Gateway,
+            Err(error) => return host.why.link(Some(1), error),
         },
     };
     let ends = connection.as_ref().map(Connection::ends);
-    ending_of(work(rt, disk, lines, ends), script)
+    ended(host.why, work(host, disk, lines, ends), task.script)
 }
 
 // Runs the lines of a file over a disk, with the links of the bus lines.
 fn run_over_links<'a, F, D, R>(
-    rt: &R,
+    host: &Host<'_, R>,
     disk: FileDisk<D>,
     lines: F,
-    links: &Links<'_>,
-    patience: u16,
-    script: &'a str,
+    task: &RunTask<'a>,
 ) -> Ending<'a>
 where
     F: Read + Drop,
     D: FileExt + OpenFile + Drop,
     R: Files<File = File> + Net<Stream = TcpStream> + Clock + Copy + Print + AllocGlobal,
 {
-    let peers = match connect_all(rt, links) {
+    let peers = match connect_all(host, &task.links) {
         Ok(peers) => peers,
         Err(ending) => return ending,
     };
-    let mut slots = match slots_of(rt, &peers, patience) {
+    let mut slots = match slots_of(host, &peers, task.patience) {
         Ok(slots) => slots,
         Err(ending) => return ending,
     };
     let mut reader = ReadSource::new(lines);
-    let Ok(printer) = LineWriter::new(rt.alloc(), io::writer(rt)) else {
+    let printer = Noted::new(io::writer(host.rt), host.why);
+    let Ok(printer) = LineWriter::new(host.rt.alloc(), printer) else {
         return Ending::Memory;
     };
     let mut writer = WriteSink::new(printer);
     let (_, outcome) = run_script_over(
-        rt.alloc(),
+        host.rt.alloc(),
         disk,
         &mut reader,
         &mut writer,
         slots.as_mut_slice(),
     );
     if !matches!(outcome, Err(ProgramFault::Write)) && writer.flush().is_err() {
-        return ending_of(Err(ProgramFault::Write), script);
+        return ended(host.why, Err(ProgramFault::Write), task.script);
     }
-    ending_of(outcome, script)
+    ended(host.why, outcome, task.script)
 }
 
 // The bus of each line that has a link.
 fn slots_of<'p, 'e, R: Clock + Copy + AllocGlobal>(
-    rt: &R,
+    host: &Host<'_, R>,
     peers: &'p [Option<Peer<R>>],
     patience: u16,
 ) -> Result<Vec<Option<LineSlot<'p, R>>>, Ending<'e>> {
-    let mut slots = Vec::new(rt.alloc());
+    let mut slots = Vec::new(host.rt.alloc());
     for peer in peers {
         let slot = match peer {
-            Some(peer) => match peer.bus(*rt, patience) {
+            Some(peer) => match peer.bus(*host.rt, patience) {
                 Ok(bus) => Some(slot_of(bus)),
-                Err(_) => return Err(Ending::Gateway),
+                Err(error) => return Err(host.why.link(None, error)),
             },
             None => None,
         };
@@ -127,17 +141,18 @@ fn slot_of<C: Clock + Copy>(bus: SystemBus<'_, C>) -> LineSlot<'_, C> {
 // Runs the lines of a file over a disk. Each line is printed as it is answered: a readout takes seconds, and what was
 // committed is printed also where the run is killed later.
 fn work<F: Read + Drop, D: FileExt + OpenFile + Drop, R: Clock + Copy + Print + AllocGlobal>(
-    rt: &R,
+    host: &Host<'_, R>,
     disk: FileDisk<D>,
     lines: F,
     gateway: Option<Ends<'_, R>>,
 ) -> Result<bool, ProgramFault> {
     let mut reader = ReadSource::new(lines);
-    let Ok(printer) = LineWriter::new(rt.alloc(), io::writer(rt)) else {
+    let printer = Noted::new(io::writer(host.rt), host.why);
+    let Ok(printer) = LineWriter::new(host.rt.alloc(), printer) else {
         return Err(ProgramFault::NoMemory);
     };
     let mut writer = WriteSink::new(printer);
-    let (_, outcome) = run_script(rt.alloc(), disk, &mut reader, &mut writer, gateway);
+    let (_, outcome) = run_script(host.rt.alloc(), disk, &mut reader, &mut writer, gateway);
     if !matches!(outcome, Err(ProgramFault::Write)) && writer.flush().is_err() {
         return Err(ProgramFault::Write);
     }

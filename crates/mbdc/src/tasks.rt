@@ -3,9 +3,11 @@
 use crate::bench::{read_on_bus, scan_bus};
 use crate::demo;
 use crate::format::format_image;
+use crate::host::Host;
 use crate::poll::poll_on_image;
 use crate::report::report_on_image;
 use crate::script::run_on_image;
+use crate::why::{Noted, Why};
 use dc_ending::{Ending, STREAM, ending_of};
 use dc_json::{explain_lines, json_lines};
 use dc_poller::ProgramFault;
@@ -15,7 +17,7 @@ use dc_text::Buffered;
 use dc_words::{Engine, Form, Task};
 use std::alloc::Allocator;
 use std::fs::File;
-use std::io::Write;
+use std::io::{Read, Write};
 use std::net::{Net, TcpListener, TcpStream};
 use std::rt::{Clock, Files};
 use std::{fs, io};
@@ -24,7 +26,7 @@ use std::{fs, io};
 pub const ROOM: usize = 65_536;
 
 /// Does what the words ask for.
-pub fn run<'a, R>(rt: &R, task: &Task<'a>) -> Ending<'a>
+pub fn run<'a, R>(host: &Host<'_, R>, task: &Task<'a>) -> Ending<'a>
 where
     R: Files<File = File>
         + Net<Stream = TcpStream, Listener = TcpListener>
@@ -32,70 +34,76 @@ where
         + Copy
         + Input
         + Print
+        + Eprint
         + AllocGlobal,
 {
     match task {
         Task::Lines {
             engine,
             file: Some(name),
-        } => work_on_file(rt, *engine, name),
-        Task::Lines { engine, file: None } => ending_of(
-            work(rt, *engine, &mut ReadSource::new(rt.reader())),
-            STREAM,
-        ),
-        Task::Format { image, sectors } => format_image(rt, image, *sectors),
-        Task::Run {
-            image,
-            script,
-            gateway,
-            links,
-            patience,
-        } => run_on_image(rt, image, script, *gateway, links, *patience),
-        Task::Report { image, table } => report_on_image(rt, image, table),
+        } => work_on_file(host, *engine, name),
+        Task::Lines { engine, file: None } => work_on(host, *engine, host.rt.reader(), STREAM),
+        Task::Format { image, sectors } => format_image(host, image, *sectors),
+        Task::Run(task) => run_on_image(host, task),
+        Task::Report { image, table } => report_on_image(host, image, table),
         Task::Scan {
             link,
             scan,
             patience,
-        } => scan_bus(rt, link, *scan, *patience),
+        } => scan_bus(host, link, *scan, *patience),
         Task::Read {
             link,
             meter,
             patience,
-        } => read_on_bus(rt, link, *meter, *patience),
-        Task::Poll {
-            image,
-            links,
-            only,
-            tries,
-            patience,
-        } => poll_on_image(rt, image, links, only.as_slice(), *tries, *patience),
-        Task::Demo => demo::play(rt),
+        } => read_on_bus(host, link, *meter, *patience),
+        Task::Poll(task) => poll_on_image(host, task),
+        Task::Demo => demo::play(host),
     }
 }
 
 fn work_on_file<'a, R: Files + Print + AllocGlobal>(
-    rt: &R,
+    host: &Host<'_, R>,
     engine: Engine,
     name: &'a str,
 ) -> Ending<'a> {
-    match fs::open(rt, name) {
-        Ok(file) => ending_of(work(rt, engine, &mut ReadSource::new(file)), name),
-        Err(_) => Ending::File(name),
+    match fs::open(host.rt, name) {
+        Ok(file) => work_on(host, engine, file, name),
+        Err(error) => host.why.file(name, error),
     }
+}
+
+fn work_on<'a, R: Print + AllocGlobal, F: Read + Drop>(
+    host: &Host<'_, R>,
+    engine: Engine,
+    file: F,
+    name: &'a str,
+) -> Ending<'a> {
+    let mut reader = ReadSource::new(Noted::new(file, host.why));
+    ended(host.why, work(host, engine, &mut reader), name)
+}
+
+/// How a run over this input ended. An input that is too long is no fault of the system.
+pub fn ended<'a>(why: &Why, outcome: Result<bool, ProgramFault>, input: &'a str) -> Ending<'a> {
+    if let Err(ProgramFault::TooLong) = outcome {
+        why.say("it has more than 1 MiB");
+    }
+    ending_of(outcome, input)
 }
 
 // Runs the engine from what the source has left to standard output. It writes in large pieces.
 fn work<R: Print + AllocGlobal, S: Source>(
-    rt: &R,
+    host: &Host<'_, R>,
     engine: Engine,
     reader: &mut S,
 ) -> Result<bool, ProgramFault> {
-    let mut writer = Buffered::new(rt.alloc(), ROOM, WriteSink::new(io::writer(rt)))?;
+    let alloc = host.rt.alloc();
+    let printer = Noted::new(io::writer(host.rt), host.why);
+    let mut writer = Buffered::new(alloc, ROOM, WriteSink::new(printer))?;
     let found = match engine {
-        Engine::Decode(Form::Text) => decode_lines(rt.alloc(), reader, &mut writer)?,
-        Engine::Decode(Form::Json) => json_lines(rt.alloc(), reader, &mut writer)?,
-        Engine::Decode(Form::Table) => explain_lines(rt.alloc(), reader, &mut writer)?,
-        Engine::Fold => fold_lines(rt.alloc(), reader, &mut writer)?,
+        Engine::Decode(Form::Text) => decode_lines(alloc, reader, &mut writer)?,
+        Engine::Decode(Form::Json) => json_lines(alloc, reader, &mut writer)?,
+        Engine::Decode(Form::Table) => explain_lines(alloc, reader, &mut writer)?,
+        Engine::Fold => fold_lines(alloc, reader, &mut writer)?,
     };
     flushed(writer)?;
     Ok(found)

@@ -1,0 +1,134 @@
+//! How far a poll is, on a terminal.
+
+use crate::host::Host;
+use dc_line::QuietBus;
+use dc_rounds::{Phase, Station};
+use std::cell::Cell;
+use std::io;
+use std::io::Write;
+use std::rt::Clock;
+use std::time::Instant;
+
+// Back to the first column, and nothing behind it.
+const CLEAR: &str = "\r\u{1b}[K";
+
+/// The line on standard error that says how far a poll is: `37 of 120 meters, 2 failed, 41 s`. Where
+/// that is no terminal there is none.
+#[derive(Drop)]
+pub struct Progress<'h, R> {
+    host: Host<'h, R>,
+    begun: Option<Instant>,
+    // The meters that are to be read; none before the first round.
+    meters: Cell<u64>,
+    done: Cell<u64>,
+    failed: Cell<u64>,
+    // The meters and the seconds that are on the terminal.
+    shown: Cell<Option<(u64, u64)>>,
+}
+
+impl<'h, R: Clock + Eprint> Progress<'h, R> {
+    /// The poll begins.
+    pub fn new(host: Host<'h, R>) -> Self {
+        let begun = Instant::now(host.rt).ok();
+        Progress {
+            host,
+            begun,
+            meters: Cell::new(0),
+            done: Cell::new(0),
+            failed: Cell::new(0),
+            shown: Cell::new(None),
+        }
+    }
+
+    /// Shows it, where it isn't what the terminal shows.
+    pub fn show<B: QuietBus + Drop>(&self, stations: &[Station<'_, B>]) {
+        if !self.host.is_watched {
+            return;
+        }
+        if self.meters.get() == 0 {
+            self.meters
+                .set(self.done.get().saturating_add(meters_of(stations)));
+        }
+        let (done, seconds) = (self.done.get(), self.seconds());
+        if self.shown.get() != Some((done, seconds)) {
+            self.put(done, seconds);
+            self.shown.set(Some((done, seconds)));
+        }
+    }
+
+    fn put(&self, done: u64, seconds: u64) {
+        let meters = self.meters.get().max(done);
+        let failed = self.failed.get();
+        let _ = eprint!(self.host.rt;
+            "{}{done} of {meters} meters, {failed} failed, {seconds} s",
+            CLEAR
+        );
+    }
+
+    /// Clears the line, before another one is written to the terminal.
+    pub fn clear(&self) {
+        if self.shown.get().is_some() {
+            let _ = self.host.rt.eprint(CLEAR);
+            self.shown.set(None);
+        }
+    }
+
+    fn seconds(&self) -> u64 {
+        match self.begun {
+            Some(begun) => match begun.elapsed(self.host.rt) {
+                Ok(elapsed) => elapsed.as_secs(),
+                Err(_) => 0,
+            },
+            None => 0,
+        }
+    }
+
+    // A line of the poll's text begins with these bytes.
+    fn count(&self, begin: &[u8]) {
+        let is_failed = begin.starts_with(b"FAILED") || begin.starts_with(b"REFUSED");
+        if is_failed {
+            self.failed.set(self.failed.get().saturating_add(1));
+        }
+        if is_failed || begin.starts_with(b"READ") {
+            self.done.set(self.done.get().saturating_add(1));
+        }
+    }
+}
+
+// The meters that aren't done with.
+fn meters_of<B: QuietBus + Drop>(stations: &[Station<'_, B>]) -> u64 {
+    let mut count: u64 = 0;
+    for station in stations {
+        count = count.saturating_add(station.left.len() as u64);
+        if matches!(station.phase, Phase::Over(_)) {
+            count = count.saturating_add(1);
+        }
+    }
+    count
+}
+
+/// The text of a poll, whose lines are counted. The progress is cleared before each of them.
+#[derive(Drop)]
+pub struct Counted<'p, 'h, R, W: Write + Drop> {
+    /// Where the text goes.
+    pub writer: W,
+    /// What is counted.
+    pub progress: &'p Progress<'h, R>,
+    /// Whether a line begins.
+    pub is_begin: bool,
+}
+
+impl<R: Clock + Eprint, W: Write + Drop> Write for Counted<'_, '_, R, W> {
+    fn write(&mut self, bytes: &[u8]) -> io::Result<usize> {
+        if self.is_begin {
+            self.progress.clear();
+            self.progress.count(bytes);
+        }
+        self.is_begin = bytes.last() == Some(&b'\n');
+        self.writer.write(bytes)
+    }
+
+    fn flush(&mut self) -> io::Result<()> {
+        self.writer.flush()
+    }
+}

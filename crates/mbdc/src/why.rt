@@ -1,0 +1,146 @@
+//! Why a run failed: what the system said of the call by which it did.
+
+use dc_ending::Ending;
+use std::cell::Cell;
+use std::fs::{File, Metadata, OpenFile};
+use std::io;
+use std::io::{ErrorKind, Read, Write};
+use std::os::unix::fs::FileExt;
+
+/// What the system said of a call that failed, and of which bus line's link.
+#[derive(Clone, Copy)]
+pub struct Reason {
+    /// The bus line, where the call was of its link.
+    pub line: Option<u8>,
+    /// What the system said.
+    pub error: io::Error,
+}
+
+/// The last call that failed in a way that may end the run.
+#[derive(Drop)]
+pub struct Why {
+    last: Cell<Option<Reason>>,
+}
+
+impl Why {
+    /// No call failed.
+    pub fn new() -> Self {
+        Why {
+            last: Cell::new(None),
+        }
+    }
+
+    /// The last call that failed.
+    pub fn last(&self) -> Option<Reason> {
+        self.last.get()
+    }
+
+    /// A call failed. One that a signal broke off is made again.
+    pub fn note(&self, error: io::Error) {
+        if error.kind() != ErrorKind::Interrupted {
+            self.last.set(Some(Reason { line: None, error }));
+        }
+    }
+
+    /// Something was refused that no call of the system refuses.
+    pub fn say(&self, words: &str) {
+        self.note(io::Error::new(ErrorKind::InvalidInput, words));
+    }
+
+    /// How a run ends by a fault of a file.
+    pub fn file<'a>(&self, name: &'a str, error: io::Error) -> Ending<'a> {
+        self.note(error);
+        Ending::File(name)
+    }
+
+    /// How a run ends by a fault of a link, of that bus line.
+    pub fn link<'a>(&self, line: Option<u8>, error: io::Error) -> Ending<'a> {
+        self.last.set(Some(Reason { line, error }));
+        Ending::Gateway
+    }
+}
+
+/// A file or a stream whose failed calls are noted.
+#[derive(Drop)]
+pub struct Noted<'w, T: Drop> {
+    inner: T,
+    why: &'w Why,
+}
+
+impl<'w, T: Drop> Noted<'w, T> {
+    /// Notes its failed calls there.
+    pub fn new(inner: T, why: &'w Why) -> Self {
+        Noted { inner, why }
+    }
+
+    fn noted<V: Drop>(&self, answer: io::Result<V>) -> io::Result<V> {
+        if let Err(error) = answer {
+            self.why.note(error);
+        }
+        answer
+    }
+}
+
+impl<T: Read + Drop> Read for Noted<'_, T> {
+    fn read(&mut self, room: &mut [u8]) -> io::Result<usize> {
+        let answer = self.inner.read(room);
+        if let Err(error) = answer {
+            self.why.note(error);
+        }
+        answer
+    }
+}
+
+impl<T: Write + Drop> Write for Noted<'_, T> {
+    fn write(&mut self, bytes: &[u8]) -> io::Result<usize> {
+        let answer = self.inner.write(bytes);
+        if let Err(error) = answer {
+            self.why.note(error);
+        }
+        answer
+    }
+
+    fn flush(&mut self) -> io::Result<()> {
+        let answer = self.inner.flush();
+        if let Err(error) = answer {
+            self.why.note(error);
+        }
+        answer
+    }
+}
+
+impl FileExt for Noted<'_, File> {
+    fn read_at(&self, room: &mut [u8], at: u64) -> io::Result<usize> {
+        let answer = self.inner.read_at(room, at);
+        if let Err(error) = answer {
+            self.why.note(error);
+        }
+        answer
+    }
+
+    fn write_at(&self, bytes: &[u8], at: u64) -> io::Result<usize> {
+        let answer = self.inner.write_at(bytes, at);
+        if let Err(error) = answer {
+            self.why.note(error);
+        }
+        answer
+    }
+}
+
+impl OpenFile for Noted<'_, File> {
+    fn metadata(&self) -> io::Result<Metadata> {
+        self.inner.metadata()
+    }
+
+    fn set_len(&self, size: u64) -> io::Result<()> {
+        self.inner.set_len(size)
+    }
+
+    fn sync_all(&self) -> io::Result<()> {
+        self.noted(self.inner.sync_all())
+    }
+
+    fn sync_data(&self) -> io::Result<()> {
+        self.noted(self.inner.sync_data())
+    }
+}
