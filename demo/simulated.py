@@ -150,6 +150,15 @@ class Gateway(threading.Thread):
         changed = bytes([data[place] ^ self.rng.randrange(1, 256)])
         return data[:place] + self.rng.choice((changed, b"")) + data[place + 1:]
 
+    def together(self, replies):
+        """What several meters are heard as."""
+        return COLLISION
+
+    def reply(self, request, write):
+        """Passes on the answer to a request unframed."""
+        if answer := self.carry(request):
+            write(answer)
+
     def carry(self, request):
         """The answer that comes back, after what the line did to both ways."""
         if self.happens("lost requests", LOST):
@@ -158,7 +167,7 @@ class Gateway(threading.Thread):
         replies = {meter: reply for meter in self.meters if frame and (reply := meter.hear(*frame, self.moment))}
         self.counts["telegrams"] += sum(len(reply) > 1 for reply in replies.values())
         if len(replies) != 1 or self.happens("lost replies", LOST):
-            return COLLISION if len(replies) > 1 else b""
+            return self.together(list(replies.values())) if len(replies) > 1 else b""
         meter, reply = replies.popitem()
         heard = self.garble(reply)
         is_last = len(reply) > 1 and meter.place == len(meter.readouts[-1].bodies) - 1

@@ -5,6 +5,8 @@ By hand it prints the port, and each meter with its primary address or `S` and i
 """
 
 import argparse
+import contextlib
+import functools
 import os
 import random
 import sys
@@ -38,24 +40,27 @@ class Transparent(Gateway):
             if self.delivered:  # its last telegram is committed before anything else is asked for
                 self.delivered.is_promised, self.delivered = True, None
             self.counts["requests"] += 1
-            if answer := self.carry(request):
-                connection.sendall(answer)
+            self.reply(request, connection.sendall)
 
 
 class SerialPort(threading.Thread):
-    """The same bus behind a pseudo-terminal, which stands for a serial port."""
+    """The same bus behind a pseudo-terminal, which stands for a serial port: one of its own, or the one at a path."""
 
-    def __init__(self, bus):
+    def __init__(self, bus, path=None):
         super().__init__(daemon=True)
-        self.bus, (self.master, self.port) = bus, os.openpty()
-        tty.setraw(self.port)
-        self.path = os.ttyname(self.port)
+        self.bus, self.path = bus, path
+        if path:
+            self.near = os.open(path, os.O_RDWR | os.O_NOCTTY)
+            tty.setraw(self.near)
+        else:
+            self.near, self.far = os.openpty()
+            tty.setraw(self.far)
+            self.path = os.ttyname(self.far)
 
     def run(self):
-        with os.fdopen(self.master, "rb") as stream:
+        with contextlib.suppress(OSError), os.fdopen(self.near, "rb") as stream:  # it may be unplugged
             while request := next_request(stream):
-                if answer := self.bus.carry(request):
-                    os.write(self.master, answer)
+                self.bus.reply(request, functools.partial(os.write, self.near))
 
 
 def main():
