@@ -8,3 +8,5 @@ mod InputObjects
 mod Objects
 -- an object on a line of its own
 mod Written
+-- a flat's name is ASCII
+mod Flats

@@ -12,3 +12,5 @@ pub mod Telegram
 pub mod Frame
 -- the lines that are written for an input
 pub mod Text
+-- the rows of the tables of `report`
+pub mod Report

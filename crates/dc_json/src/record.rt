@@ -43,9 +43,9 @@ fn put_sent<A: Allocator + Copy>(
     Ok(())
 }
 
-// Writes a value, or null.
+/// Writes a value, or null.
 #[tactic(auto, unfolding(crate::specs::Record::value_json))]
-fn put_value<A: Allocator>(out: &mut Writer<A>, value: &Value) -> Result<(), NoMemory>
+pub(crate) fn put_value<A: Allocator>(out: &mut Writer<A>, value: &Value) -> Result<(), NoMemory>
     ensures { Adds result out.old out.new (json_tokens (value_json value.now)) }
 {
     if matches!(value, Value::None) {
@@ -57,9 +57,9 @@ fn put_value<A: Allocator>(out: &mut Writer<A>, value: &Value) -> Result<(), NoM
     Ok(())
 }
 
-// Writes a unit, or null for none.
+/// Writes a unit, or null for none.
 #[tactic(auto, unfolding(crate::specs::Record::unit_json))]
-fn put_unit<A: Allocator>(out: &mut Writer<A>, unit: &str) -> Result<(), NoMemory>
+pub(crate) fn put_unit<A: Allocator>(out: &mut Writer<A>, unit: &str) -> Result<(), NoMemory>
     ensures { Adds result out.old out.new (json_tokens (unit_json unit.now)) }
 {
     if unit.is_empty() {

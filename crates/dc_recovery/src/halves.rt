@@ -6,13 +6,13 @@ ghost use Rattle.dc_recovery.specs.Halves.{half_len_of, half_start, half_end, bu
 use dc_pages::PAYLOAD;
 
 /// The fewest sectors that an image has: halves of 64.
-pub(crate) const FEWEST_SECTORS: u32 = 131;
+pub const FEWEST_SECTORS: u32 = 131;
 
 /// The most sectors that a half has.
 const LONGEST_HALF: u32 = 65536;
 
 /// The number of sectors of a half, on a disk of so many.
-pub(crate) fn half_len_of(sectors: u32) -> u32
+pub fn half_len_of(sectors: u32) -> u32
     requires { fewest_sectors ≤ sectors }
     ensures exact { result ≡ half_len_of sectors }
     ensures some { shortest_half ≤ result }
@@ -23,7 +23,7 @@ pub(crate) fn half_len_of(sectors: u32) -> u32
 }
 
 /// The first sector of a half.
-pub(crate) fn half_start(half_len: u32, half: u8) -> u32
+pub fn half_start(half_len: u32, half: u8) -> u32
     requires small { half ≤ 1 }
     requires most { half_len ≤ longest_half }
     ensures exact { result ≡ half_start half_len half }
@@ -32,7 +32,7 @@ pub(crate) fn half_start(half_len: u32, half: u8) -> u32
 }
 
 /// The number behind a half's last sector.
-pub(crate) fn half_end(half_len: u32, half: u8) -> u32
+pub fn half_end(half_len: u32, half: u8) -> u32
     requires small { half ≤ 1 }
     requires most { half_len ≤ longest_half }
     ensures exact { result ≡ half_end half_len half }

@@ -31,5 +31,8 @@ mod store;
 mod writing;
 
 pub use fault::{FormatFault, OpenFault, StoreFault};
+pub use halves::{FEWEST_SECTORS, half_end, half_len_of, half_start};
 pub use laws::{a_refused_image_is_not_read, one_refusal, reads_as_one_state};
+pub use opening::is_spent;
+pub use reading::{Found, read_image};
 pub use store::Store;

@@ -50,7 +50,7 @@ fn begin_session<D: Disk>(disk: &mut D, root: &Root) -> Result<Root, OpenFault>
 }
 
 /// No session can begin on an image with that root, behind a group of that sequence.
-fn is_spent(root: &Root, last: u64) -> bool
+pub fn is_spent(root: &Root, last: u64) -> bool
     ensures { IsTrue result ↔ IsSpent root.now last }
 {
     if root.generation == u64::MAX || root.session == u64::MAX {

@@ -58,7 +58,7 @@ fn current_root<D: Disk>(disk: &mut D, half_len: u32) -> Result<Root, OpenFault>
 
 /// What was read so far: the root in force, the state, the place of the next group, and the sequence of the last one.
 #[derive(Drop)]
-pub(crate) struct Found<A: Allocator + Copy> {
+pub struct Found<A: Allocator + Copy> {
     pub root: Root,
     pub house: House<A>,
     pub place: u32,
@@ -177,7 +177,7 @@ fn read_groups<A: Allocator + Copy, D: Disk>(
 }
 
 /// Reads the whole image: from the root in force to the state.
-pub(crate) fn read_image<A: Allocator + Copy, D: Disk>(
+pub fn read_image<A: Allocator + Copy, D: Disk>(
     alloc: A,
     disk: &mut D,
     half_len: u32,

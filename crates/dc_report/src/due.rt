@@ -70,7 +70,8 @@ pub fn due_rows<A: Allocator + Copy>(
     Ok(rows(alloc, house, date)?.len())
 }
 
-fn rows<A: Allocator + Copy>(
+/// The rows of the due-date table for a date. The only error is want of memory.
+pub fn rows<A: Allocator + Copy>(
     alloc: A,
     house: &House<A>,
     date: Date,

@@ -21,7 +21,7 @@ mod row;
 mod table;
 
 pub use dc_units::Date;
-pub use due::{counted_due_table, due_rows, due_table};
+pub use due::{counted_due_table, due_rows, due_table, rows};
 pub use register::{register_rows, register_table};
 pub use row::Row;
 pub use table::Table;

@@ -13,7 +13,7 @@ use dc_sectors::{Disk, Failed, ReadFault};
 
 /// What a slot holds.
 #[derive(Clone, Copy)]
-pub(crate) enum Held {
+pub enum Held {
     /// A valid root of that slot.
     Valid(Root),
     /// Something else.
@@ -39,8 +39,8 @@ fn held_by(bytes: &[u8; 512], slot: u32) -> Held
     }
 }
 
-/// Reads a slot.
-fn read_slot<D: Disk>(disk: &mut D, slot: u32) -> Result<Held, Failed>
+/// Reads a slot: sector 1 or 2 of the disk. An unreadable one is no failure.
+pub fn read_slot<D: Disk>(disk: &mut D, slot: u32) -> Result<Held, Failed>
     requires { slot < D.sectors disk.old }
     ensures held { D.keeps disk.new → IfOk result (IsHeld slot (D.reads disk.old slot)) }
     ensures half { IfOk result NamesHalf }

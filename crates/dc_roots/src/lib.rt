@@ -4,7 +4,7 @@
 //! 1 + g mod 2, so that the next root never overwrites the one in force, and names the session, the
 //! half that is in use and the sequence of its base group.
 //!
-//! [`choose`] answers the valid root of greater generation. [`write_next`] writes the next root into
+//! [`choose`] answers the valid root of greater generation, and [`read_slot`] what one slot holds. [`write_next`] writes the next root into
 //! the other slot and nothing else; it doesn't sync.
 #![tactic(auto)]
 
@@ -14,7 +14,7 @@ mod format;
 mod root;
 mod writer;
 
-pub use chooser::choose;
+pub use chooser::{Held, choose, read_slot};
 pub use fault::RootFault;
 pub use root::Root;
 pub use writer::write_next;

@@ -13,5 +13,6 @@ mod search;
 mod simulated;
 mod steady;
 mod stream;
+mod tables;
 mod text;
 mod units;

@@ -51,8 +51,8 @@ fn explained<A: Allocator + Copy>(
     Ok((writer, found))
 }
 
-// The lines are written as this text, and a fault is met or not.
-fn is_written(
+/// The lines are written as this text, and a fault is met or not.
+pub fn is_written(
     rt: &(impl Abort + AllocGlobal),
     lines: &[u8],
     text: &[u8],

@@ -1,0 +1,4 @@
+-- lemmas by topic
+
+-- summaries, field by field
+mod Sums

@@ -1,0 +1,100 @@
+-- The lines of `inspect`: a fact a line, its name and its numbers (this product).
+use Rattle.std.specs.Prelude.{ℕ, ◌-◌, List, [], ◌++◌, length, codes, slice_get, Option, Some, None, option_map}
+use Rattle.dc_text.specs.Words.{number_word, fault_text}
+use Rattle.dc_changes.specs.State.{State, ReadingRow}
+use Rattle.dc_changes.specs.Size.{size_of}
+use Rattle.dc_roots.specs.declared.root.Root.{Root}
+use Rattle.dc_roots.specs.declared.chooser.Held.{Held}
+use Rattle.dc_roots.specs.declared.chooser.Held.TheVariants.{Valid, Other, Lost}
+use Rattle.dc_recovery.specs.Fault.{open_number, open_name}
+use Rattle.dc_recovery.specs.Halves.{half_start, half_end}
+use Rattle.dc_recovery.specs.declared.fault.OpenFault.{OpenFault}
+use Rattle.dc_recovery.specs.declared.fault.OpenFault.TheVariants.{NotImage, Damaged, Version, Worn, Device, NoMemory}
+use Rattle.dc_inspect.specs.declared.summary.Summary.{Summary}
+
+-- a line of a name and a number, and of a name and two
+unfoldable pub number_line : List ℕ → ℕ → List ℕ
+number_line name n = name ++ number_word n ++ codes "\n"
+
+unfoldable pub pair_line : List ℕ → ℕ → ℕ → List ℕ
+pair_line name a b = name ++ number_word a ++ number_word b ++ codes "\n"
+
+-- what a root says: its version, generation and session, and the half that it names
+unfoldable pub root_words : Root → List ℕ
+root_words root = number_word root.version ++ number_word root.generation ++ number_word root.session ++ number_word root.half ++ codes "\n"
+
+-- what a root slot holds: the slot is the sector, 1 or 2
+abbrev pub held_words : Held → List ℕ
+held_words (Valid root) = root_words root
+held_words Other = codes " NONE\n"
+held_words Lost = codes " UNREADABLE\n"
+
+unfoldable pub slot_line : ℕ → Held → List ℕ
+slot_line slot held = codes "ROOT" ++ number_word slot ++ held_words held
+
+-- the version of the root in force, its half, how many groups of changes follow the base group, and how many sectors of
+-- the half are in use and free
+unfoldable pub place_text : ℕ → Root → ℕ → ℕ → List ℕ
+place_text half_len root last place =
+    number_line (codes "VERSION") root.version
+    ++ (number_line (codes "HALF") root.half
+    ++ (number_line (codes "GROUPS") (last - root.base_sequence)
+    ++ pair_line (codes "SECTORS") (place - half_start half_len root.half) (half_end half_len root.half - place)))
+
+-- the word of a serial
+unfoldable pub serial_word : Option ℕ → List ℕ
+serial_word None = []
+serial_word (Some serial) = number_word serial
+
+-- how many readings wait for the office, and the first and the last serial of them
+unfoldable pub readings_words : List ℕ → Summary → List ℕ
+readings_words name sum = name ++ (number_word sum.readings ++ (serial_word sum.first ++ (serial_word sum.last ++ codes "\n")))
+
+abbrev pub readings_line : Summary → List ℕ
+readings_line sum = readings_words (codes "READINGS") sum
+
+-- the state's size and the greatest that it may have, in bytes; its meters and readings; up to which serial the office has
+-- confirmed; the number of the last command
+unfoldable pub summary_text : Summary → List ℕ
+summary_text sum =
+    pair_line (codes "SIZE") sum.size sum.budget
+    ++ (number_line (codes "METERS") sum.meters
+    ++ (readings_line sum
+    ++ (number_line (codes "MARK") sum.confirmed ++ number_line (codes "COMMAND") sum.command)))
+
+-- the serial of the reading at an index, if there is one
+abbrev pub serial_at : ℕ → List ReadingRow → Option ℕ
+serial_at i readings = option_map (λ (r : ReadingRow). r.serial) (slice_get readings i)
+
+-- a state within a budget, summed up
+abbrev pub summary_of : ℕ → State → Summary
+summary_of budget s = record {
+  size = size_of s;
+  budget = budget;
+  meters = length s.meters;
+  readings = length s.readings;
+  first = serial_at 0 s.readings;
+  last = serial_at (length s.readings - 1) s.readings;
+  confirmed = s.confirmed;
+  command = s.last_number;
+}
+
+-- the sector at which an image is damaged
+unfoldable pub sector_word : OpenFault → List ℕ
+sector_word NotImage = []
+sector_word (Damaged sector) = number_word sector
+sector_word Version = []
+sector_word Worn = []
+sector_word Device = []
+sector_word NoMemory = []
+
+-- why an image doesn't open: the fault's number and name, and the sector
+unfoldable pub fault_words : ℕ → List ℕ → OpenFault → List ℕ
+fault_words number name fault = fault_text number name ++ (sector_word fault ++ codes "\n")
+
+abbrev pub refused_line : OpenFault → List ℕ
+refused_line fault = codes "REFUSED " ++ fault_words (open_number fault) (open_name fault) fault
+
+abbrev pub refusal_text : Option OpenFault → List ℕ
+refusal_text None = []
+refusal_text (Some fault) = refused_line fault

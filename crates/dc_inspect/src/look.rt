@@ -1,0 +1,106 @@
+//! What is seen of an image that is only read.
+
+ghost use Rattle.std.specs.Prelude.{◌≡◌, ◌<◌, ◌≤◌, ◌+◌, ◌*◌, IfOk, IfErr, IfSome, OnOk, OnErr};
+ghost use Rattle.dc_base.specs.Failures.{HasRisen};
+ghost use Rattle.dc_recovery.specs.Halves.{budget_of, half_start, half_end, longest_half};
+ghost use Rattle.dc_recovery.specs.Looked.{OnlyLooked};
+ghost use Rattle.dc_recovery.specs.Refusal.{TellsOfImage};
+ghost use Rattle.dc_inspect.specs.Look.{AreHeld, IsSeen, IsStop};
+ghost use Rattle.dc_inspect.specs.Told.{IsOfLook, IsWearOf};
+
+use dc_poller::ProgramFault;
+use dc_recovery::{Found, OpenFault, is_spent, read_image};
+use dc_roots::{Held, Root, read_slot};
+use dc_sectors::{Disk, Failed};
+use std::alloc::Allocator;
+
+/// What the two root slots hold.
+#[derive(Clone, Copy)]
+pub(crate) struct Slots {
+    /// Sector 1.
+    pub first: Held,
+    /// Sector 2.
+    pub second: Held,
+}
+
+/// What an image was read as, and why it doesn't open.
+#[derive(Drop)]
+pub(crate) struct Look<A: Allocator + Copy> {
+    /// What was read of it, where it reads as a state.
+    pub found: Option<Found<A>>,
+    /// Why it doesn't open, if it doesn't.
+    pub refusal: Option<OpenFault>,
+}
+
+/// Reads both root slots.
+pub(crate) fn read_slots<D: Disk>(disk: &mut D) -> Result<Slots, Failed>
+    requires { 2 < D.sectors disk.old }
+    ensures held { D.keeps disk.new → IfOk result (λ slots. AreHeld (D.reads disk.old) slots) }
+    ensures looked { OnlyLooked D.keeps D.reads D.choices D.moment D.images_since D.sectors D.failures disk.old disk.new }
+    ensures passed { OnOk result (D.failures disk.new ≡ D.failures disk.old) }
+    ensures failed { OnErr result (HasRisen (D.failures disk.old) (D.failures disk.new)) }
+{
+    let first = read_slot(disk, 1)?;
+    let second = read_slot(disk, 2)?;
+    Ok(Slots { first, second })
+}
+
+// What a fault of reading is: a refusal, which is a fact of the image, or what stops the look.
+fn refusal_of(fault: OpenFault) -> Result<OpenFault, ProgramFault>
+    ensures told { IfOk result (λ refusal. (refusal ≡ fault) × TellsOfImage fault) }
+    ensures stopped { IfErr result (IsStop fault) }
+{
+    match fault {
+        OpenFault::Device => Err(ProgramFault::Open(OpenFault::Device)),
+        OpenFault::NoMemory => Err(ProgramFault::NoMemory),
+        OpenFault::NotImage | OpenFault::Damaged(_) | OpenFault::Version | OpenFault::Worn => {
+            Ok(fault)
+        }
+    }
+}
+
+// Why an image that reads doesn't open, if it doesn't.
+fn wear_of(root: &Root, last: u64) -> Option<OpenFault>
+    ensures { IsWearOf root.now last result }
+{
+    if is_spent(root, last) {
+        Some(OpenFault::Worn)
+    } else {
+        None
+    }
+}
+
+/// Reads what an image holds, as opening reads it.
+pub(crate) fn look_at<A: Allocator + Copy, D: Disk>(
+    alloc: A,
+    disk: &mut D,
+    half_len: u32,
+) -> Result<Look<A>, ProgramFault>
+    requires most { half_len ≤ longest_half }
+    requires fits { 3 + 2 * half_len ≤ D.sectors disk.old }
+    ensures seen { D.keeps disk.new → IfOk result (λ look. IsSeen half_len (D.reads disk.old) look.found look.refusal) }
+    ensures looked { OnlyLooked D.keeps D.reads D.choices D.moment D.images_since D.sectors D.failures disk.old disk.new }
+    ensures budget { IfOk result (λ look. IfSome look.found (λ found. found.house.budget ≡ budget_of half_len)) }
+    ensures half { IfOk result (λ look. IfSome look.found (λ found. found.root.half ≤ 1)) }
+    ensures from { IfOk result (λ look. IfSome look.found (λ found. half_start half_len found.root.half ≤ found.place)) }
+    ensures within { IfOk result (λ look. IfSome look.found (λ found. found.place ≤ half_end half_len found.root.half)) }
+    ensures passed { OnOk result (D.failures disk.new ≡ D.failures disk.old) }
+    ensures faults { IfErr result (IsOfLook (HasRisen (D.failures disk.old) (D.failures disk.new)) ⊥) }
+{
+    match read_image(alloc, disk, half_len) {
+        Ok(found) => {
+            let refusal = wear_of(&found.root, found.last);
+            Ok(Look {
+                found: Some(found),
+                refusal,
+            })
+        }
+        Err(fault) => {
+            let refusal = refusal_of(fault)?;
+            Ok(Look {
+                found: None,
+                refusal: Some(refusal),
+            })
+        }
+    }
+}

@@ -1,0 +1,81 @@
+//! The engine of `report --json`: a table of what an image holds, as JSON Lines.
+
+ghost use Rattle.std.specs.Prelude.{◌≡◌, ◌≢◌, ◌≤◌, ◌<◌, Err, IfOk, IfErr, OnOk, IsErrOf};
+ghost use Rattle.dc_base.specs.Failures.{HasRisen};
+ghost use Rattle.dc_recovery.specs.Halves.{fewest_sectors, half_len_of};
+ghost use Rattle.dc_recovery.specs.Refusal.{IsRefused, TellsOfImage};
+ghost use Rattle.dc_recovery.specs.Stands.{EachStands, StandsForOne};
+ghost use Rattle.dc_recovery.specs.declared.fault.OpenFault.TheVariants.{NotImage, Worn, Device};
+ghost use Rattle.dc_sectors.specs.Disk.{LeavesOnly};
+ghost use Rattle.dc_stream.specs.Stream.{Puts};
+ghost use Rattle.dc_poller.specs.Fault.{IfOpen, IsOfImage};
+ghost use Rattle.dc_inspect.specs.Report.{IsShown, table_lines};
+
+use dc_base::NoMemory;
+use dc_json::{due_json, register_json};
+use dc_meters::House;
+use dc_poller::{ProgramFault, Report};
+use dc_recovery::Store;
+use dc_sectors::Disk;
+use dc_stream::{IoFault, Sink};
+use std::alloc::Allocator;
+
+/// Opens the image, writes a table of what it holds as JSON Lines (RFC 8259), with one put, and closes it. The table is made whole before anything
+/// is written. Opening begins a session, so the image's next root is written; nothing else is. The disk comes back whatever
+/// happens.
+///
+/// # Errors
+/// [`ProgramFault::Open`] where the image wasn't opened, and [`ProgramFault::NoMemory`] where memory was refused for the
+/// table, both with the writer as it was; [`ProgramFault::Write`] where the writer failed.
+pub fn report_json_on<D: Disk + Drop, A: Allocator + Copy, W: Sink>(
+    alloc: A,
+    disk: D,
+    report: Report,
+    writer: &mut W,
+) -> (D, Result<(), ProgramFault>)
+    // The table is that of the state which the image reads as.
+    ensures told { D.keeps result.0 → OnOk result.1 (IsShown (half_len_of (D.sectors disk)) report (D.reads disk) (Puts (W.written writer.old) (W.written writer.new))) }
+    ensures well { OnOk result.1 (W.put_failures writer.new ≡ W.put_failures writer.old) }
+
+    // An image that isn't opened is refused as the store refuses it; one that stands is refused only as worn.
+    ensures small { D.sectors disk < fewest_sectors → result.1 ≡ Err (ProgramFault.Open NotImage) }
+    ensures refused { D.keeps result.0 → fewest_sectors ≤ D.sectors disk → IfErr result.1 (λ fault. IfOpen fault (λ e. IsRefused (half_len_of (D.sectors disk)) (D.reads disk) e)) }
+    ensures premise { D.keeps result.0 → fewest_sectors ≤ D.sectors disk → EachStands (half_len_of (D.sectors disk)) (D.choices disk) → IfErr result.1 (λ fault. IfOpen fault (λ e. TellsOfImage e → e ≡ Worn)) }
+    ensures device { IfErr result.1 (λ fault. IfOpen fault (λ e. e ≡ Device → HasRisen (D.failures disk) (D.failures result.0))) }
+
+    // Whatever happens, a stop leaves an image that stands for a state that one of the disk's images stood for.
+    ensures any_moment { D.keeps result.0 → EachStands (half_len_of (D.sectors disk)) (D.choices disk)
+        → LeavesOnly D.moment D.images_since disk result.0 (StandsForOne (half_len_of (D.sectors disk)) (D.choices disk)) }
+
+    // Nothing is read but the image, and only a failed write touches the writer.
+    ensures faults { IfErr result.1 IsOfImage }
+    ensures write { IsErrOf result.1 ProgramFault.Write → HasRisen (W.put_failures writer.old) (W.put_failures writer.new) }
+    ensures untouched { IfErr result.1 (λ fault. fault ≢ ProgramFault.Write → writer.new ≡ writer.old) }
+{
+    let (store, house) = match Store::open(alloc, disk) {
+        Ok((store, house)) => (store, house),
+        Err((fault, disk)) => return (disk, Err(ProgramFault::Open(fault))),
+    };
+    let table = match lines_of(alloc, house, report) {
+        Ok(table) => table,
+        Err(NoMemory) => return (store.close(), Err(ProgramFault::NoMemory)),
+    };
+    match writer.put(table.as_slice()) {
+        Ok(()) => (store.close(), Ok(())),
+        Err(IoFault) => (store.close(), Err(ProgramFault::Write)),
+    }
+}
+
+// The lines of the table of a house that isn't wanted any more.
+fn lines_of<A: Allocator + Copy>(
+    alloc: A,
+    house: House<A>,
+    report: Report,
+) -> Result<Vec<u8, A>, NoMemory>
+    ensures { IfOk result (λ table. table.items ≡ table_lines report house.state) }
+{
+    match report {
+        Report::Register => register_json(alloc, &house),
+        Report::Due(date) => due_json(alloc, &house, date),
+    }
+}

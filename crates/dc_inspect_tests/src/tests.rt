@@ -1,0 +1,5 @@
+//! What is tried on looks into images, by topic.
+
+mod images;
+mod inspect;
+mod report;

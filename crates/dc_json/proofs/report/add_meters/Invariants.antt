@@ -1,0 +1,13 @@
+use Rattle.std.proofs.Common.{◌≡◌, ◌++◌}
+use Rattle.std.specs.List.{flat_map}
+use Rattle.dc_meters.specs.Places.{by_flat}
+use Rattle.dc_json.specs.Report.{line_at}
+use Rattle.dc_json.proofs.report.add_meters.Given as goal
+
+-- the lines so far, and those of the places that are left, make the whole
+abbrev pub invariant-loop-place : goal.invariant-loop-place
+invariant-loop-place g l = record {
+  can : (goal.iterator-loop-place g).can_next l.place-iterator;
+  ends : (goal.iterator-loop-place g).is_finite l.place-iterator;
+  text : l.grown.items ++ flat_map (line_at l.house.state) l.place-iterator ≡ l.fn.text.items ++ flat_map (line_at l.house.state) (by_flat l.house.state.meters);
+}
