@@ -1,25 +1,51 @@
 -- The search for meters on a bus, without an image (EN 13757-3, wildcards; EN 13757-2, primary addresses).
-use Rattle.std.specs.Prelude.{◌≡◌, ℕ, ◌≤◌, Bool, true, false, IsTrue, List, [], ◌∷◌, ◌++◌, codes, Option, None, Some, IfSome}
+use Rattle.std.specs.Prelude.{◌≡◌, ℕ, ◌-◌, ◌≤◌, Bool, true, false, ◌&&◌, ◌==◌, if◌then◌else◌, IsTrue, List, [], ◌∷◌, ◌++◌, codes, Option, None, Some, IfSome}
 use Rattle.dc_address.specs.Text.{text_of}
 use Rattle.dc_address.specs.declared.identity.Identity.{Identity}
 use Rattle.dc_gateway.specs.Bus.{Exchange, HasAsked, IsSearched}
 use Rattle.dc_linkframe.specs.Control.{request_to, reset_to}
 use Rattle.dc_linkframe.specs.Frame.{FrameSeen, ack, short, long, spelling}
 use Rattle.dc_linkframe.specs.Reading.{frame_of}
-use Rattle.dc_poller.specs.Search.{search_text}
+use Rattle.dc_poller.specs.Search.{search_text, search_text_after}
 use Rattle.dc_search.specs.Answer.{answer_of}
 use Rattle.dc_search.specs.State.{SearchState, is_idle, step_of}
 use Rattle.dc_text.specs.Words.{number_word}
 
--- A wildcard search that ended within its budget: its requests are all that went out, and this is printed of it.
-pub record Scanned {B : Type 0} (asks : B → List ℕ → List ℕ → B → Type 0)
-    (meters : Option (List Identity)) (budget : ℕ) (old new : B) (wrote : List ℕ → Type 0) : Type 0 where
-  pub search : SearchState
-  pub asked : HasAsked asks budget old new search
+-- A wildcard search that ended within its budget: the bus settled before it, and its requests are all that went out.
+pub record IsLook {B : Type 0} (settles : B → B → Type 0) (ready : B → Bool) (asks : B → List ℕ → List ℕ → B → Type 0)
+    (meters : B → Option (List Identity)) (budget : ℕ) (old new : B) (search : SearchState) : Type 0 where
+  pub between : B
+  pub settled : settles old between
+  pub quiet : ready between ≡ true
+  pub asked : HasAsked asks budget between new search
   pub ended : IsTrue (is_idle (step_of search))
   pub within : search.selections ≤ budget
-  pub walk : IfSome meters (λ known. IsSearched known budget search)
-  pub text : wrote (search_text search)
+  pub walk : IfSome (meters old) (λ known. IsSearched known budget search)
+  pub same_meters : meters new ≡ meters old
+
+-- neither a meter nor a number that more than one meter has
+abbrev pub is_none : {X : Type 0} → List X → Bool
+is_none [] = true
+is_none (x ∷ more) = false
+
+abbrev pub finds_nobody : SearchState → Bool
+finds_nobody search = is_none search.found && is_none search.shared
+
+-- somebody was found, or the budget is spent
+abbrev pub is_enough : ℕ → SearchState → Bool
+is_enough budget search = if finds_nobody search then search.selections == budget else true
+
+-- THE SCAN OF A BUS, as it is printed: one search. Where it finds nobody and budget is left, there is a second one with what
+-- is left, and the text is that of the second one, with the selections of both.
+pub data Scanned {B : Type 0} (settles : B → B → Type 0) (ready : B → Bool) (asks : B → List ℕ → List ℕ → B → Type 0)
+    (meters : B → Option (List Identity)) (budget : ℕ) (old new : B) (wrote : List ℕ → Type 0) : Type 0 where
+  at_once : (search : SearchState) → IsLook settles ready asks meters budget old new search
+      → is_enough budget search ≡ true
+      → wrote (search_text search) → Scanned settles ready asks meters budget old new wrote
+  once_more : (first second : SearchState) (between : B) → IsLook settles ready asks meters budget old between first
+      → is_enough budget first ≡ false
+      → IsLook settles ready asks meters (budget - first.selections) between new second
+      → wrote (search_text_after first.selections second) → Scanned settles ready asks meters budget old new wrote
 
 -- ---- primary addresses
 

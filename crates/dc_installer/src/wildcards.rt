@@ -1,13 +1,16 @@
 //! The wildcard search for meters.
 
-ghost use Rattle.std.specs.Prelude.{◌≡◌, OnOk, IsErrOf};
+ghost use Rattle.std.specs.Prelude.{◌≡◌, ◌+◌, ◌≤◌, IfOk, OnOk, IsErrOf};
 ghost use Rattle.dc_base.specs.Failures.{HasRisen};
 ghost use Rattle.dc_stream.specs.Stream.{Puts};
-ghost use Rattle.dc_installer.specs.Scan.{Scanned};
+ghost use Rattle.dc_poller.specs.ScriptLine.{greatest_budget};
+ghost use Rattle.dc_poller.specs.Search.{search_text, search_text_after};
+ghost use Rattle.dc_installer.specs.Scan.{IsLook, Scanned, finds_nobody, is_enough};
 
 use dc_base::NoMemory;
-use dc_gateway::{Bus, search_over};
-use dc_poller::put_search;
+use dc_gateway::search_over;
+use dc_poller::{ScriptBus, put_search, put_search_after};
+use dc_search::Search;
 use dc_stream::{IoFault, Sink};
 use std::alloc::Allocator;
 use thiserror::Error;
@@ -26,24 +29,98 @@ pub enum ScanFault {
 /// Searches a bus for meters by wildcards (EN 13757-3), with at most `budget` selections, and prints what it found: each
 /// meter, each number that more than one meter has, whether the budget was spent, and the number of selections.
 ///
+/// The bus settles first, so that no late answer is taken for one to the search. Where the search finds nobody and budget
+/// is left, the bus settles again and is searched once more, as an answer that came late hides a meter. Then the text is
+/// that of the second search, with the selections of both.
+///
 /// # Errors
 /// [`ScanFault::Write`], and [`ScanFault::NoMemory`] with nothing written.
-pub fn scan<A: Allocator + Copy, B: Bus, W: Sink>(
+pub fn scan<A: Allocator + Copy, B: ScriptBus, W: Sink>(
     alloc: A,
     budget: u32,
     bus: &mut B,
     out: &mut W,
 ) -> Result<(), ScanFault>
-    ensures scanned { OnOk result (Scanned B.asks (B.meters bus.old) budget bus.old bus.new
+    ensures scanned { OnOk result (Scanned B.settles B.ready B.asks B.meters budget bus.old bus.new
         (Puts (W.written out.old) (W.written out.new))) }
-    ensures write { IsErrOf result ScanFault.Write → HasRisen (W.put_failures out.old) (W.put_failures out.new) }
+    ensures write { IsErrOf result ScanFault.Write
+        → HasRisen (W.put_failures out.old) (W.put_failures out.new) }
     ensures unwritten { IsErrOf result ScanFault.NoMemory → out.new ≡ out.old }
 {
-    match search_over(alloc, budget, bus) {
-        Ok(search) => match put_search(&search, out) {
-            Ok(()) => Ok(()),
-            Err(IoFault) => Err(ScanFault::Write),
-        },
+    let first = match look(alloc, budget, bus) {
+        Ok(search) => search,
+        Err(NoMemory) => return Err(ScanFault::NoMemory),
+    };
+    let spent = first.selections();
+    if is_enough(&first, budget) {
+        return print_first(&first, out);
+    }
+    match look(alloc, budget - spent, bus) {
+        Ok(second) => print_second(spent, &second, out),
         Err(NoMemory) => Err(ScanFault::NoMemory),
+    }
+}
+
+// A search of a bus that settled.
+fn look<A: Allocator + Copy, B: ScriptBus>(
+    alloc: A,
+    budget: u32,
+    bus: &mut B,
+) -> Result<Search<A>, NoMemory>
+    ensures { IfOk result (λ search.
+        IsLook B.settles B.ready B.asks B.meters budget bus.old bus.new search) }
+{
+    bus.settle();
+    search_over(alloc, budget, bus)
+}
+
+// Whether somebody was found, or the budget is spent.
+fn is_enough<A: Allocator + Copy>(search: &Search<A>, budget: u32) -> bool
+    ensures { result ≡ is_enough budget search.now }
+{
+    if found_nobody(search) {
+        search.selections() == budget
+    } else {
+        true
+    }
+}
+
+// Neither a meter nor a shared number.
+fn found_nobody<A: Allocator + Copy>(search: &Search<A>) -> bool
+    ensures { result ≡ finds_nobody search.now }
+{
+    search.found().is_empty() && search.shared().is_empty()
+}
+
+fn print_first<A: Allocator + Copy, W: Sink>(
+    search: &Search<A>,
+    out: &mut W,
+) -> Result<(), ScanFault>
+    ensures text { OnOk result (Puts (W.written out.old) (W.written out.new) (search_text search.now)) }
+    ensures write { IsErrOf result ScanFault.Write
+        → HasRisen (W.put_failures out.old) (W.put_failures out.new) }
+    ensures only { IsErrOf result ScanFault.NoMemory → ⊥ }
+{
+    match put_search(search, out) {
+        Ok(()) => Ok(()),
+        Err(IoFault) => Err(ScanFault::Write),
+    }
+}
+
+fn print_second<A: Allocator + Copy, W: Sink>(
+    before: u32,
+    search: &Search<A>,
+    out: &mut W,
+) -> Result<(), ScanFault>
+    requires { before + search.now.selections ≤ greatest_budget }
+    ensures text { OnOk result (Puts (W.written out.old) (W.written out.new)
+        (search_text_after before search.now)) }
+    ensures write { IsErrOf result ScanFault.Write
+        → HasRisen (W.put_failures out.old) (W.put_failures out.new) }
+    ensures only { IsErrOf result ScanFault.NoMemory → ⊥ }
+{
+    match put_search_after(before, search, out) {
+        Ok(()) => Ok(()),
+        Err(IoFault) => Err(ScanFault::Write),
     }
 }

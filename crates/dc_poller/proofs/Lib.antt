@@ -14,6 +14,8 @@ pub mod Wents
 pub mod Ways
 -- single events, by the calls that they are
 pub mod Tolds
+-- what goes over the buses, one line after the other
+pub mod Traffics
 -- what ends a script, by what a put gave
 pub mod Halts
 -- two pieces of what a search found

@@ -135,39 +135,42 @@ module _ {D : Type 0} (known : Type 0) (sectors failures : D → ℕ) (reads : D
   pub searched_ran : (budget : ℕ) (state : State) (before : List Turn) (moment most line late : ℕ) (meters : Option (List Identity)) (links : List LineLink) (found : LineLink) (after : Link) (talked : List Exchange → Type 0) (wrote : List ℕ → Type 0) (first new : Machine D) (result : Result (Unit {0}) Halt) → line_in links line ≡ found → HasBus found.link
       → (found.is_gateway ≡ true → late ≡ 0)
       → TurnsWent known sectors failures reads choices moment_of images_since budget state before (Comes meters (record { line = line; is_gateway = found.is_gateway }) most late found.link after talked wrote result) first new
-      → OnOk result (LineRan known sectors failures reads choices moment_of images_since budget state before moment (search most line) links (with_link links line after) wrote first new)
+      → OnOk result (LineRan known sectors failures reads choices moment_of images_since budget state before moment (search most line) links (with_link links line after) wrote talked first new)
   searched_ran budget state before moment most line late meters links found after talked wrote first new (Ok done) is has_found prompt_found some_found =
       let has_bus = subst (λ (f : LineLink). HasBus f.link) (sym is) has_found in
       let prompt = subst (λ (f : LineLink). f.is_gateway ≡ true → late ≡ 0) (sym is) prompt_found in
       let some = subst (λ (f : LineLink). TurnsWent known sectors failures reads choices moment_of images_since budget state before (Comes meters (record { line = line; is_gateway = f.is_gateway }) most late f.link after talked wrote (Ok done)) first new) (sym is) some_found in record {
         turns = some.turns;
+        exchanges = some.are_such.1;
         line = some.are_such.0;
-        does = inl (record { has_bus = has_bus; after = after; does_so = record { late = late; prompt = prompt; exchanges = some.are_such.1; searches = told_nowhere meters (port_in links line) most late (link_in links line) after some.turns some.are_such.1 some.are_such.0 some.are_such.2 }; left_is = refl });
+        does = inl (record { has_bus = has_bus; after = after; does_so = record { late = late; prompt = prompt; searches = told_nowhere meters (port_in links line) most late (link_in links line) after some.turns some.are_such.1 some.are_such.0 some.are_such.2 }; left_is = refl });
         went = some.went;
         text = some.are_such.4;
+        over = some.are_such.3;
       }
   searched_ran budget state before moment most line late meters links found after talked wrote first new (Err halt) is has_found prompt some = tt
 
   pub searched_cut : (budget : ℕ) (state : State) (before : List Turn) (moment most line late : ℕ) (meters : Option (List Identity)) (links : List LineLink) (found : LineLink) (after : Link) (talked : List Exchange → Type 0) (wrote : List ℕ → Type 0) (first new : Machine D) (result : Result (Unit {0}) Halt) → line_in links line ≡ found → HasBus found.link
       → TurnsWent known sectors failures reads choices moment_of images_since budget state before (Comes meters (record { line = line; is_gateway = found.is_gateway }) most late found.link after talked wrote result) first new
-      → OnWrite result (LineCut known sectors failures reads choices moment_of images_since budget state before moment (search most line) links first new)
+      → OnWrite result (LineCut known sectors failures reads choices moment_of images_since budget state before moment (search most line) links talked first new)
   searched_cut budget state before moment most line late meters links found after talked wrote first new (Ok done) is has_found some = tt
   searched_cut budget state before moment most line late meters links found after talked wrote first new (Err Write) is has_found some_found =
       let has_bus = subst (λ (f : LineLink). HasBus f.link) (sym is) has_found in
       let some = subst (λ (f : LineLink). TurnsWent known sectors failures reads choices moment_of images_since budget state before (Comes meters (record { line = line; is_gateway = f.is_gateway }) most late f.link after talked wrote (Err Write)) first new) (sym is) some_found in
-      record { turns = some.turns; does = inl (has_bus, (some.are_such.0, some.are_such.1)); went = some.went }
+      record { turns = some.turns; exchanges = some.are_such.0; does = inl (has_bus, some.are_such.1); went = some.went; over = some.are_such.2 }
   searched_cut budget state before moment most line late meters links found after talked wrote first new (Err NoMemory) is has_found some = tt
 
   pub searched_starved : (budget : ℕ) (state : State) (before : List Turn) (most line late : ℕ) (meters : Option (List Identity)) (links : List LineLink) (found : LineLink) (after : Link) (talked : List Exchange → Type 0) (wrote : List ℕ → Type 0) (first new : Machine D) (result : Result (Unit {0}) Halt) → line_in links line ≡ found → HasBus found.link
       → TurnsWent known sectors failures reads choices moment_of images_since budget state before (Comes meters (record { line = line; is_gateway = found.is_gateway }) most late found.link after talked wrote result) first new
-      → OnNoMemory result (LineStarved known sectors failures reads choices moment_of images_since budget state before (search most line) links wrote first new)
+      → OnNoMemory result (LineStarved known sectors failures reads choices moment_of images_since budget state before (search most line) links wrote talked first new)
   searched_starved budget state before most line late meters links found after talked wrote first new (Ok done) is has_found some = tt
   searched_starved budget state before most line late meters links found after talked wrote first new (Err Write) is has_found some = tt
   searched_starved budget state before most line late meters links found after talked wrote first new (Err NoMemory) is has_found some_found =
       let has_bus = subst (λ (f : LineLink). HasBus f.link) (sym is) has_found in
       let some = subst (λ (f : LineLink). TurnsWent known sectors failures reads choices moment_of images_since budget state before (Comes meters (record { line = line; is_gateway = f.is_gateway }) most late f.link after talked wrote (Err NoMemory)) first new) (sym is) some_found in record {
-        last = record { turns = some.turns; text = some.are_such.0; left = with_link links line after };
-        starves = record { budget = most; line = line; asked_is = refl; exchanges = some.are_such.1; starves = record { has_bus = has_bus; after = after; does_so = some.are_such.2; left_is = refl } };
+        last = record { turns = some.turns; exchanges = some.are_such.1; text = some.are_such.0; left = with_link links line after };
+        starves = record { budget = most; line = line; asked_is = refl; starves = record { has_bus = has_bus; after = after; does_so = some.are_such.2; left_is = refl } };
         went = some.went;
         text = some.are_such.4;
+        over = some.are_such.3;
       }

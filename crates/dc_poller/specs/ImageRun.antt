@@ -11,6 +11,7 @@ use Rattle.dc_core.specs.Transcript.{Turn}
 use Rattle.dc_teller.specs.Lines.{lines_of}
 use Rattle.dc_poller.specs.Link.{LineLink}
 use Rattle.dc_poller.specs.Script.{ScriptRan, ScriptCut}
+use Rattle.dc_poller.specs.Traffic.{Traffic}
 
 -- The concentrator that was opened on the disk has the state that the image reads as. A stop within the opening leaves
 -- an image that stands for a state that one of the disk's images stood for. Where the disk is what was left of an earlier life
@@ -35,17 +36,17 @@ pub record ImageWent {D : Type 0} (g : Ghosts D) (left : Option (List ℕ)) (scr
   pub went : script (lines_of input) state first last
   pub disk_is : new ≡ last.store.disk
 
--- Its lines are done; the bus lines are found like this.
-abbrev pub ImageRan : {D : Type 0} → Ghosts D → List LineLink → Option (List ℕ) → Bool → (List ℕ → Type 0) → D → D → Type 0
-ImageRan g links left faulty wrote =
+-- Its lines are done, with this traffic over the buses; the bus lines are found like this.
+abbrev pub ImageRan : {D : Type 0} → Ghosts D → List LineLink → Option (List ℕ) → Bool → (List ℕ → Type 0) → (List Traffic → Type 0) → D → D → Type 0
+ImageRan g links left faulty wrote carries =
     ImageWent g left (λ lines state first last.
-    ScriptRan (g.keeps first.store.disk) g.sectors g.failures g.reads g.choices g.moment g.images_since first.house.budget state [] links lines faulty wrote first last)
+    ScriptRan (g.keeps first.store.disk) g.sectors g.failures g.reads g.choices g.moment g.images_since first.house.budget state [] links lines faulty wrote carries first last)
 
 -- A failed write ended it.
-abbrev pub ImageCut : {D : Type 0} → Ghosts D → List LineLink → Option (List ℕ) → D → D → Type 0
-ImageCut g links left =
+abbrev pub ImageCut : {D : Type 0} → Ghosts D → List LineLink → Option (List ℕ) → (List Traffic → Type 0) → D → D → Type 0
+ImageCut g links left carries =
     ImageWent g left (λ lines state first last.
-    ScriptCut (g.keeps first.store.disk) g.sectors g.failures g.reads g.choices g.moment g.images_since first.house.budget state [] links lines first last)
+    ScriptCut (g.keeps first.store.disk) g.sectors g.failures g.reads g.choices g.moment g.images_since first.house.budget state [] links lines carries first last)
 
 -- THE TURNS ARE ONE LIFE, which began with the state and ended at the last machine. Wherever the turns are split, a machine
 -- was between the two parts, and a disk that has what a power cut left at any moment after that `WasStopped`.

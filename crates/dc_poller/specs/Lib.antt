@@ -23,6 +23,8 @@ pub mod Search
 pub mod Slots
 -- a script that a search without memory ended
 pub mod Starved
+-- what goes over the buses of a script's lines
+pub mod Traffic
 -- what is known of a poll between two of its calls
 pub mod Way
 -- turns of a concentrator that were run

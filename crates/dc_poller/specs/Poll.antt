@@ -159,22 +159,24 @@ rounds_in (happening ∷ more) = count_of happening + rounds_in more
 abbrev pub IsEnd : List Happening → Due → Type 0
 IsEnd happened due = (due ≡ is_over) ⊎ (rounds_in happened ≡ most_rounds)
 
--- A POLL, from its start to its end: these turns and this text.
-pub record Polls (port : Port) (moment : ℕ) (meter : Identity) (link left : Link) (turns : List Turn) (text : List ℕ) : Type 0 where
+-- A POLL, from its start to its end: these turns, these exchanges over the bus, and this text.
+pub record Polls (port : Port) (moment : ℕ) (meter : Identity) (link left : Link) (turns : List Turn) (exchanges : List Exchange) (text : List ℕ) : Type 0 where
   pub happened : List Happening
   pub last : Phase
   pub way : IsWay port moment meter (record { due = to_start; link = link }) happened last
   pub ends : IsEnd happened last.due
   pub left_is : left ≡ last.link
   pub turns_are : turns ≡ happened_turns happened
+  pub exchanges_are : exchanges ≡ happened_exchanges happened
   pub text_is : text ≡ happened_text port happened
 
--- some first turns of a poll
-pub record PollsPart (port : Port) (moment : ℕ) (meter : Identity) (link : Link) (turns : List Turn) : Type 0 where
+-- some first turns of a poll, and its exchanges until then
+pub record PollsPart (port : Port) (moment : ℕ) (meter : Identity) (link : Link) (turns : List Turn) (exchanges : List Exchange) : Type 0 where
   pub happened : List Happening
   pub last : Phase
   pub way : IsWay port moment meter (record { due = to_start; link = link }) happened last
   pub turns_are : turns ≡ happened_turns happened
+  pub exchanges_are : exchanges ≡ happened_exchanges happened
 
 -- ---- over the bus
 

@@ -1,5 +1,5 @@
 -- A search for meters over a bus line (this product): what waits is committed first, and nothing is selected while a readout of that line waits.
-use Rattle.std.specs.Prelude.{◌≡◌, ◌⊎◌, ℕ, zero, suc, Bool, true, false, ◌-◌, ◌≤◌, IsTrue, Option, None, Some, IfSome, Result, Ok, Err, List, [], ◌∷◌, ◌++◌, codes, flat_map, map}
+use Rattle.std.specs.Prelude.{◌≡◌, ◌⊎◌, ℕ, zero, suc, Bool, true, false, ◌+◌, ◌-◌, ◌≤◌, IsTrue, Option, None, Some, IfSome, Result, Ok, Err, List, [], ◌∷◌, ◌++◌, codes, flat_map, map}
 use Rattle.dc_address.specs.Digits.{decimal_digits}
 use Rattle.dc_address.specs.Text.{decimal_code, text_of}
 use Rattle.dc_address.specs.declared.identity.Identity.{Identity}
@@ -39,6 +39,10 @@ selections_line count = codes "SELECTIONS" ++ number_word count ++ codes "\n"
 
 abbrev pub search_text : SearchState → List ℕ
 search_text search = flat_map found_line search.found ++ (flat_map shared_line search.shared ++ (budget_line (step_of search) ++ selections_line search.selections))
+
+-- the text of a search that comes after another, by which so many selections were made: they count too
+abbrev pub search_text_after : ℕ → SearchState → List ℕ
+search_text_after before search = flat_map found_line search.found ++ (flat_map shared_line search.shared ++ (budget_line (step_of search) ++ selections_line (before + search.selections)))
 
 -- that answers came late while it searched, where some did
 abbrev pub late_text : Port → ℕ → List ℕ
@@ -112,10 +116,9 @@ Searches meters port budget late link left turns exchanges text =
     IsRefused link left turns exchanges text ⊎ (IsBusy port.line link left turns exchanges text ⊎ Finds meters port budget late link left turns exchanges text)
 
 -- One over a line of a script: none comes late over a gateway.
-pub record SearchesOn (port : Port) (budget : ℕ) (link left : Link) (turns : List Turn) (text : List ℕ) : Type 0 where
+pub record SearchesOn (port : Port) (budget : ℕ) (link left : Link) (turns : List Turn) (exchanges : List Exchange) (text : List ℕ) : Type 0 where
   pub late : ℕ
   pub prompt : port.is_gateway ≡ true → late ≡ 0
-  pub exchanges : List Exchange
   pub searches : Searches None port budget late link left turns exchanges text
 
 -- ---- where it ends the script

@@ -1,11 +1,12 @@
 //! What a search found, as text.
 
-ghost use Rattle.std.specs.Prelude.{◌≡◌, ◌<◌, ◌/◌, ◌%◌, ◌++◌, flat_map, map};
+ghost use Rattle.std.specs.Prelude.{◌≡◌, ◌<◌, ◌≤◌, ◌+◌, ◌/◌, ◌%◌, ◌++◌, flat_map, map};
 ghost use Rattle.dc_address.specs.Digits.{decimal_digits};
 ghost use Rattle.dc_address.specs.Text.{decimal_code};
 ghost use Rattle.dc_stream.specs.Stream.{Wrote};
 ghost use Rattle.dc_search.specs.State.{step_of};
-ghost use Rattle.dc_poller.specs.Search.{budget_line, found_line, late_text, search_text, selections_line, shared_line};
+ghost use Rattle.dc_poller.specs.Search.{budget_line, found_line, late_text, search_text, search_text_after, selections_line, shared_line};
+ghost use Rattle.dc_poller.specs.ScriptLine.{greatest_budget};
 
 use crate::port::Port;
 use dc_address::Identity;
@@ -23,16 +24,38 @@ pub fn put_search<A: Allocator + Copy, W: Sink>(
     ensures { Wrote W.written W.put_failures result out.old out.new (search_text search.now) }
 {
     put_found(search.found(), out)?;
-    put_rest(search, out)
+    put_rest(search, search.selections(), out)
 }
 
-// What stands behind the meters found.
+/// Puts what a search found, as [`put_search`] does, where an earlier search of the same bus made `before` selections: the
+/// number of selections is that of both.
 #[tactic(auto, using(dc_stream::proofs::Pieces::written))]
-fn put_rest<A: Allocator + Copy, W: Sink>(search: &Search<A>, out: &mut W) -> Result<(), IoFault>
-    ensures { Wrote W.written W.put_failures result out.old out.new (flat_map shared_line search.now.shared ++ (budget_line (step_of search.now) ++ selections_line search.now.selections)) }
+pub fn put_search_after<A: Allocator + Copy, W: Sink>(
+    before: u32,
+    search: &Search<A>,
+    out: &mut W,
+) -> Result<(), IoFault>
+    requires { before + search.now.selections ≤ greatest_budget }
+    ensures { Wrote W.written W.put_failures result out.old out.new
+        (search_text_after before search.now) }
+{
+    put_found(search.found(), out)?;
+    put_rest(search, before + search.selections(), out)
+}
+
+// What comes after the meters found.
+#[tactic(auto, using(dc_stream::proofs::Pieces::written))]
+fn put_rest<A: Allocator + Copy, W: Sink>(
+    search: &Search<A>,
+    selections: u32,
+    out: &mut W,
+) -> Result<(), IoFault>
+    ensures { Wrote W.written W.put_failures result out.old out.new
+        (flat_map shared_line search.now.shared
+        ++ (budget_line (step_of search.now) ++ selections_line selections)) }
 {
     put_shared(search.shared(), out)?;
-    put_end(search.next(), search.selections(), out)
+    put_end(search.next(), selections, out)
 }
 
 #[tactic(auto, using(dc_stream::proofs::Pieces::written))]

@@ -4,7 +4,8 @@
 //! event of a concentrator, the poll of a meter over a bus line, or a search for meters over it. The buses of the lines
 //! are any [`ScriptBus`]; [`run_script`] has a gateway alone, behind line 1. What it writes, and
 //! what it leaves of the image at every moment, is what the run of these events writes and leaves (`specs/Script.antt`,
-//! `specs/Poll.antt`, `specs/Search.antt`, `specs/ImageRun.antt`).
+//! `specs/Poll.antt`, `specs/Search.antt`, `specs/ImageRun.antt`). Over the bus of a bus line go the exchanges of the lines
+//! that name it, and nothing else (`specs/Traffic.antt`).
 //!
 //! [`report_on`] opens an image and writes a table of what it holds ([`Report`]), made whole before it is written.
 //!
@@ -31,7 +32,7 @@ mod searching;
 mod told;
 
 pub use fault::ProgramFault;
-pub use found::put_search;
+pub use found::{put_search, put_search_after};
 pub use halt::Halt;
 pub use laws::{a_run_is_one_life, a_script_line_asks_for_one_thing};
 pub use report::{Report, report_on};

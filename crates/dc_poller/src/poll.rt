@@ -47,6 +47,7 @@ pub fn poll<D: Disk + Drop, A: Allocator + Copy, B: ScriptBus, W: Sink>(
     ensures fault { OnErr result (HasRisen (W.put_failures out.old) (W.put_failures out.new)) }
     ensures well { OnOk result (W.put_failures out.new ≡ W.put_failures out.old) }
     ensures budget { concentrator.new.house.budget ≡ concentrator.old.house.budget }
+    ensures untouched { B.lost bus.old ≡ true → bus.new ≡ bus.old }
 {
     match settle_bus(port, bus, out) {
         Ok(()) => start_and_read(port, concentrator, bus, meter, moment, out),
@@ -60,6 +61,7 @@ fn settle_bus<B: ScriptBus, W: Sink>(port: Port, bus: &mut B, out: &mut W) -> Re
     ensures settled { port.is_gateway ≡ false
         → B.settles bus.old bus.new × (B.ready bus.new ≡ true) }
     ensures lost { B.lost bus.old ≡ true → B.lost bus.new ≡ true }
+    ensures untouched { B.lost bus.old ≡ true → bus.new ≡ bus.old }
     ensures told { Wrote W.written W.put_failures result out.old out.new
         (loss_text port (link_by (B.lost bus.old)) (link_by (B.lost bus.new))) }
     ensures unwritten { OnErr result ((port.is_gateway ≡ false)
@@ -93,6 +95,7 @@ fn start_and_read<D: Disk + Drop, A: Allocator + Copy, B: ScriptBus, W: Sink>(
     ensures fault { OnErr result (HasRisen (W.put_failures out.old) (W.put_failures out.new)) }
     ensures well { OnOk result (W.put_failures out.new ≡ W.put_failures out.old) }
     ensures budget { concentrator.new.house.budget ≡ concentrator.old.house.budget }
+    ensures untouched { B.lost bus.old ≡ true → bus.new ≡ bus.old }
 {
     match told_start(concentrator, port.line, meter, out) {
         Ok(started) => match started {
@@ -119,6 +122,7 @@ fn read_parts<D: Disk + Drop, A: Allocator + Copy, B: ScriptBus, W: Sink>(
     ensures fault { OnErr result (HasRisen (W.put_failures out.old) (W.put_failures out.new)) }
     ensures well { OnOk result (W.put_failures out.new ≡ W.put_failures out.old) }
     ensures budget { concentrator.new.house.budget ≡ concentrator.old.house.budget }
+    ensures untouched { B.lost bus.old ≡ true → bus.new ≡ bus.old }
 {
     'rounds: for _ in 0..MOST_ROUNDS {
         match ask_and_hear(port, concentrator, bus, moment, out) {
@@ -149,6 +153,7 @@ fn ask_and_hear<D: Disk + Drop, A: Allocator + Copy, B: ScriptBus, W: Sink>(
     ensures fault { OnErr result (HasRisen (W.put_failures out.old) (W.put_failures out.new)) }
     ensures well { OnOk result (W.put_failures out.new ≡ W.put_failures out.old) }
     ensures budget { concentrator.new.house.budget ≡ concentrator.old.house.budget }
+    ensures untouched { B.lost bus.old ≡ true → bus.new ≡ bus.old }
 {
     match told_ask(concentrator, port.line, out) {
         Ok(asked) => match asked {
@@ -177,6 +182,7 @@ fn exchange<D: Disk + Drop, A: Allocator + Copy, B: ScriptBus, W: Sink>(
     ensures fault { OnErr result (HasRisen (W.put_failures out.old) (W.put_failures out.new)) }
     ensures well { OnOk result (W.put_failures out.new ≡ W.put_failures out.old) }
     ensures budget { concentrator.new.house.budget ≡ concentrator.old.house.budget }
+    ensures untouched { B.lost bus.old ≡ true → bus.new ≡ bus.old }
 {
     match ask_bus(port, bus, request, out) {
         Ok(answer) => hear(port, concentrator, moment, answer.as_slice(), out),
@@ -193,6 +199,7 @@ fn ask_bus<B: ScriptBus, W: Sink>(
 ) -> Result<AnswerBuf, IoFault>
     requires { length request.now ≤ longest_request }
     ensures lost { B.lost bus.old ≡ true → B.lost bus.new ≡ true }
+    ensures untouched { B.lost bus.old ≡ true → bus.new ≡ bus.old }
     ensures heard { IfOk result (λ answer. (length answer ≤ most_answer)
         × IsHeardOver (link_by (B.lost bus.new)) answer) }
     // The request goes out as it is, and the answer is what came to it; also where the loss isn't written.

@@ -13,6 +13,7 @@ ghost use Rattle.dc_poller.specs.Fault.{IfOpen, IsOfReading, IsOfSearch};
 ghost use Rattle.dc_poller.specs.ImageRun.{ImageRan, ImageCut};
 ghost use Rattle.dc_poller.specs.Link.{link_at_first, links_of, only_gateway};
 ghost use Rattle.dc_poller.specs.Starved.{ImageStarved};
+ghost use Rattle.dc_poller.specs.Traffic.{AreCarried, OverGateway, gateway_slot};
 
 use crate::fault::ProgramFault;
 use crate::halt::Halt;
@@ -64,16 +65,22 @@ pub fn run_script_over<
     lines: &mut [Option<Slot<B>>],
 ) -> (D, Result<bool, ProgramFault>)
     // Where each image of the disk stands for some state: the run is that of the script's lines, of which exactly the text
-    // is written, and the image is left as that run leaves it.
+    // is written, and the image is left as that run leaves it. Over the bus of each bus line go the exchanges of the
+    // script's lines that name it, in their order, and nothing else; a lost bus is untouched.
     ensures ran { (D.keeps disk → EachStands (half_len_of (D.sectors disk)) (D.choices disk))
-        → IfOk result.1 (λ faulty. ImageRan D.Disk (links_of B.lost lines.old) (R.left reader.old) faulty (Puts (W.written writer.old) (W.written writer.new)) disk result.0) }
+        → IfOk result.1 (λ faulty. ImageRan D.Disk (links_of B.lost lines.old) (R.left reader.old) faulty
+        (Puts (W.written writer.old) (W.written writer.new))
+        (AreCarried B.lost B.asks B.settles B.ready lines.old lines.new) disk result.0) }
     ensures cut { (D.keeps disk → EachStands (half_len_of (D.sectors disk)) (D.choices disk))
-        → IsErrOf result.1 ProgramFault.Write → ImageCut D.Disk (links_of B.lost lines.old) (R.left reader.old) disk result.0 }
+        → IsErrOf result.1 ProgramFault.Write → ImageCut D.Disk (links_of B.lost lines.old) (R.left reader.old)
+        (AreCarried B.lost B.asks B.settles B.ready lines.old lines.new) disk result.0 }
     // Memory is refused before the image is opened, or to a search: then what is left of the image and the text are those of
     // the run up to it.
     ensures starved { (D.keeps disk → EachStands (half_len_of (D.sectors disk)) (D.choices disk))
         → IsErrOf result.1 ProgramFault.NoMemory → ((result.0 ≡ disk) × (writer.new ≡ writer.old))
-        ⊎ ImageStarved D.Disk (links_of B.lost lines.old) (R.left reader.old) (Puts (W.written writer.old) (W.written writer.new)) disk result.0 }
+        ⊎ ImageStarved D.Disk (links_of B.lost lines.old) (R.left reader.old)
+        (Puts (W.written writer.old) (W.written writer.new))
+        (AreCarried B.lost B.asks B.settles B.ready lines.old lines.new) disk result.0 }
 
     // An image that isn't opened is refused as the store refuses it; one that stands is refused only as worn.
     ensures small { D.sectors disk < 131 → MatchResult result.1 (λ faulty. ⊥) (λ fault. IfOpen fault (λ e. (e ≡ NotImage) × (result.0 ≡ disk))) }
@@ -145,16 +152,22 @@ pub fn run_script<
     gateway: Option<(GR, GW)>,
 ) -> (D, Result<bool, ProgramFault>)
     // Where each image of the disk stands for some state: the run is that of the script's lines, of which exactly the text
-    // is written, and the image is left as that run leaves it.
+    // is written, and the image is left as that run leaves it. Over the gateway go the exchanges of these lines in their
+    // order, and nothing else until it is left.
     ensures ran { (D.keeps disk → EachStands (half_len_of (D.sectors disk)) (D.choices disk))
-        → IfOk result.1 (λ faulty. ImageRan D.Disk (only_gateway (link_at_first gateway)) (R.left reader.old) faulty (Puts (W.written writer.old) (W.written writer.new)) disk result.0) }
+        → IfOk result.1 (λ faulty. OverGateway GR.Source GW.Sink gateway (λ carries.
+        ImageRan D.Disk (only_gateway (link_at_first gateway)) (R.left reader.old) faulty
+        (Puts (W.written writer.old) (W.written writer.new)) carries disk result.0)) }
     ensures cut { (D.keeps disk → EachStands (half_len_of (D.sectors disk)) (D.choices disk))
-        → IsErrOf result.1 ProgramFault.Write → ImageCut D.Disk (only_gateway (link_at_first gateway)) (R.left reader.old) disk result.0 }
+        → IsErrOf result.1 ProgramFault.Write → OverGateway GR.Source GW.Sink gateway (λ carries.
+        ImageCut D.Disk (only_gateway (link_at_first gateway)) (R.left reader.old) carries disk result.0) }
     // Memory is refused before the image is opened, or to a search: then what is left of the image and the text are those of
     // the run up to it.
     ensures starved { (D.keeps disk → EachStands (half_len_of (D.sectors disk)) (D.choices disk))
         → IsErrOf result.1 ProgramFault.NoMemory → ((result.0 ≡ disk) × (writer.new ≡ writer.old))
-        ⊎ ImageStarved D.Disk (only_gateway (link_at_first gateway)) (R.left reader.old) (Puts (W.written writer.old) (W.written writer.new)) disk result.0 }
+        ⊎ OverGateway GR.Source GW.Sink gateway (λ carries.
+        ImageStarved D.Disk (only_gateway (link_at_first gateway)) (R.left reader.old)
+        (Puts (W.written writer.old) (W.written writer.new)) carries disk result.0) }
 
     // An image that isn't opened is refused as the store refuses it; one that stands is refused only as worn.
     ensures small { D.sectors disk < 131 → MatchResult result.1 (λ faulty. ⊥) (λ fault. IfOpen fault (λ e. (e ≡ NotImage) × (result.0 ≡ disk))) }
@@ -217,8 +230,9 @@ fn only_line<A: Allocator + Copy, GR: Source + Drop, GW: Sink + Drop>(
     alloc: A,
     gateway: Option<(GR, GW)>,
 ) -> Result<Vec<Option<Slot<Gateway<GR, GW>>>, A>, NoMemory>
-    ensures { IfOk result (λ lines. links_of ⟦<Gateway<GR, GW> as Bus>⟧.lost lines.items
+    ensures links { IfOk result (λ lines. links_of ⟦<Gateway<GR, GW> as Bus>⟧.lost lines.items
         ≡ only_gateway (link_at_first gateway)) }
+    ensures slots { IfOk result (λ lines. lines.items ≡ gateway_slot gateway ∷ []) }
 {
     let mut lines = Vec::new(alloc);
     lines.push(joined(gateway))?;
@@ -229,8 +243,9 @@ fn only_line<A: Allocator + Copy, GR: Source + Drop, GW: Sink + Drop>(
 fn joined<GR: Source + Drop, GW: Sink + Drop>(
     gateway: Option<(GR, GW)>,
 ) -> Option<Slot<Gateway<GR, GW>>>
-    ensures { links_of ⟦<Gateway<GR, GW> as Bus>⟧.lost (result ∷ [])
+    ensures links { links_of ⟦<Gateway<GR, GW> as Bus>⟧.lost (result ∷ [])
         ≡ only_gateway (link_at_first gateway) }
+    ensures slot { result ≡ gateway_slot gateway }
 {
     match gateway {
         Some((reader, writer)) => Some(Slot {

@@ -13,6 +13,7 @@ ghost use Rattle.dc_poller.specs.Slots.{IsKept};
 ghost use Rattle.dc_poller.specs.Script.{ScriptCut, ScriptRan, LineCut, LineRan, moment_behind, no_gateway};
 ghost use Rattle.dc_poller.specs.ScriptLine.{IsPlain, poll as polls, search as searches, seen};
 ghost use Rattle.dc_poller.specs.Starved.{LineStarved, ScriptStarved};
+ghost use Rattle.dc_poller.specs.Traffic.{AreCarried, IsCarried, PollsOver, SearchesOver};
 ghost use Rattle.dc_poller.specs.Went.{BehindAnyRun, TurnWent};
 
 use crate::halt::{Halt, written};
@@ -42,11 +43,11 @@ pub fn run_lines<D: Disk + Drop, A: Allocator + Copy, B: ScriptBus + Drop, W: Si
 ) -> Result<bool, Halt>
     requires { longest_input_line ≤ 2 * length bytes.old }
     ensures ran { BehindAnyRun D.keeps D.sectors D.reads D.choices concentrator.old (λ origin state before.
-        IfOk result (λ faulty. ScriptRan (D.keeps origin) D.sectors D.failures D.reads D.choices D.moment D.images_since concentrator.old.house.budget state before (links_of B.lost slots.old) (lines_of input.now) faulty (Puts (W.written out.old) (W.written out.new)) concentrator.old concentrator.new)) }
+        IfOk result (λ faulty. ScriptRan (D.keeps origin) D.sectors D.failures D.reads D.choices D.moment D.images_since concentrator.old.house.budget state before (links_of B.lost slots.old) (lines_of input.now) faulty (Puts (W.written out.old) (W.written out.new)) (AreCarried B.lost B.asks B.settles B.ready slots.old slots.new) concentrator.old concentrator.new)) }
     ensures cut { BehindAnyRun D.keeps D.sectors D.reads D.choices concentrator.old (λ origin state before.
-        OnWrite result (ScriptCut (D.keeps origin) D.sectors D.failures D.reads D.choices D.moment D.images_since concentrator.old.house.budget state before (links_of B.lost slots.old) (lines_of input.now) concentrator.old concentrator.new)) }
+        OnWrite result (ScriptCut (D.keeps origin) D.sectors D.failures D.reads D.choices D.moment D.images_since concentrator.old.house.budget state before (links_of B.lost slots.old) (lines_of input.now) (AreCarried B.lost B.asks B.settles B.ready slots.old slots.new) concentrator.old concentrator.new)) }
     ensures starved { BehindAnyRun D.keeps D.sectors D.reads D.choices concentrator.old (λ origin state before.
-        OnNoMemory result (ScriptStarved (D.keeps origin) D.sectors D.failures D.reads D.choices D.moment D.images_since concentrator.old.house.budget state before (links_of B.lost slots.old) (lines_of input.now) (Puts (W.written out.old) (W.written out.new)) concentrator.old concentrator.new)) }
+        OnNoMemory result (ScriptStarved (D.keeps origin) D.sectors D.failures D.reads D.choices D.moment D.images_since concentrator.old.house.budget state before (links_of B.lost slots.old) (lines_of input.now) (Puts (W.written out.old) (W.written out.new)) (AreCarried B.lost B.asks B.settles B.ready slots.old slots.new) concentrator.old concentrator.new)) }
     // Memory is refused to a search alone, which needs a line that has a bus.
     ensures through { OnNoMemory result (¬ (AreAbsent (links_of B.lost slots.old))) }
     ensures counted { IsCounted result (W.put_failures out.old) (W.put_failures out.new) }
@@ -82,11 +83,11 @@ fn run_line<D: Disk + Drop, A: Allocator + Copy, B: ScriptBus + Drop, W: Sink>(
     out: &mut W,
 ) -> Result<(), Halt>
     ensures ran { BehindAnyRun D.keeps D.sectors D.reads D.choices concentrator.old (λ origin state before.
-        OnOk result (LineRan (D.keeps origin) D.sectors D.failures D.reads D.choices D.moment D.images_since concentrator.old.house.budget state before moment.seconds (seen asked.now) (links_of B.lost slots.old) (links_of B.lost slots.new) (Puts (W.written out.old) (W.written out.new)) concentrator.old concentrator.new)) }
+        OnOk result (LineRan (D.keeps origin) D.sectors D.failures D.reads D.choices D.moment D.images_since concentrator.old.house.budget state before moment.seconds (seen asked.now) (links_of B.lost slots.old) (links_of B.lost slots.new) (Puts (W.written out.old) (W.written out.new)) (IsCarried B.lost B.asks B.settles B.ready (seen asked.now) slots.old slots.new) concentrator.old concentrator.new)) }
     ensures cut { BehindAnyRun D.keeps D.sectors D.reads D.choices concentrator.old (λ origin state before.
-        OnWrite result (LineCut (D.keeps origin) D.sectors D.failures D.reads D.choices D.moment D.images_since concentrator.old.house.budget state before moment.seconds (seen asked.now) (links_of B.lost slots.old) concentrator.old concentrator.new)) }
+        OnWrite result (LineCut (D.keeps origin) D.sectors D.failures D.reads D.choices D.moment D.images_since concentrator.old.house.budget state before moment.seconds (seen asked.now) (links_of B.lost slots.old) (IsCarried B.lost B.asks B.settles B.ready (seen asked.now) slots.old slots.new) concentrator.old concentrator.new)) }
     ensures starved { BehindAnyRun D.keeps D.sectors D.reads D.choices concentrator.old (λ origin state before.
-        OnNoMemory result (LineStarved (D.keeps origin) D.sectors D.failures D.reads D.choices D.moment D.images_since concentrator.old.house.budget state before (seen asked.now) (links_of B.lost slots.old) (Puts (W.written out.old) (W.written out.new)) concentrator.old concentrator.new)) }
+        OnNoMemory result (LineStarved (D.keeps origin) D.sectors D.failures D.reads D.choices D.moment D.images_since concentrator.old.house.budget state before (seen asked.now) (links_of B.lost slots.old) (Puts (W.written out.old) (W.written out.new)) (IsCarried B.lost B.asks B.settles B.ready (seen asked.now) slots.old slots.new) concentrator.old concentrator.new)) }
     ensures through { OnNoMemory result (¬ (AreAbsent (links_of B.lost slots.old))) }
     ensures absent { AreAbsent (links_of B.lost slots.old) → AreAbsent (links_of B.lost slots.new) }
     ensures counted { IsCounted result (W.put_failures out.old) (W.put_failures out.new) }
@@ -110,9 +111,9 @@ fn run_plain<D: Disk + Drop, A: Allocator + Copy, B: ScriptBus + Drop, W: Sink>(
 ) -> Result<(), IoFault>
     requires { IsPlain (seen asked.now) }
     ensures ran { BehindAnyRun D.keeps D.sectors D.reads D.choices concentrator.old (λ origin state before.
-        OnOk result (LineRan (D.keeps origin) D.sectors D.failures D.reads D.choices D.moment D.images_since concentrator.old.house.budget state before moment.seconds (seen asked.now) (links_of B.lost slots.old) (links_of B.lost slots.new) (Puts (W.written out.old) (W.written out.new)) concentrator.old concentrator.new)) }
+        OnOk result (LineRan (D.keeps origin) D.sectors D.failures D.reads D.choices D.moment D.images_since concentrator.old.house.budget state before moment.seconds (seen asked.now) (links_of B.lost slots.old) (links_of B.lost slots.new) (Puts (W.written out.old) (W.written out.new)) (IsCarried B.lost B.asks B.settles B.ready (seen asked.now) slots.old slots.new) concentrator.old concentrator.new)) }
     ensures cut { BehindAnyRun D.keeps D.sectors D.reads D.choices concentrator.old (λ origin state before.
-        OnErr result (LineCut (D.keeps origin) D.sectors D.failures D.reads D.choices D.moment D.images_since concentrator.old.house.budget state before moment.seconds (seen asked.now) (links_of B.lost slots.old) concentrator.old concentrator.new)) }
+        OnErr result (LineCut (D.keeps origin) D.sectors D.failures D.reads D.choices D.moment D.images_since concentrator.old.house.budget state before moment.seconds (seen asked.now) (links_of B.lost slots.old) (IsCarried B.lost B.asks B.settles B.ready (seen asked.now) slots.old slots.new) concentrator.old concentrator.new)) }
     ensures fault { OnErr result (HasRisen (W.put_failures out.old) (W.put_failures out.new)) }
     ensures well { OnOk result (W.put_failures out.new ≡ W.put_failures out.old) }
     ensures absent { AreAbsent (links_of B.lost slots.old) → AreAbsent (links_of B.lost slots.new) }
@@ -152,9 +153,9 @@ fn poll_line<D: Disk + Drop, A: Allocator + Copy, B: ScriptBus + Drop, W: Sink>(
     out: &mut W,
 ) -> Result<(), IoFault>
     ensures ran { BehindAnyRun D.keeps D.sectors D.reads D.choices concentrator.old (λ origin state before.
-        OnOk result (LineRan (D.keeps origin) D.sectors D.failures D.reads D.choices D.moment D.images_since concentrator.old.house.budget state before moment.seconds (polls line meter.now) (links_of B.lost slots.old) (links_of B.lost slots.new) (Puts (W.written out.old) (W.written out.new)) concentrator.old concentrator.new)) }
+        OnOk result (LineRan (D.keeps origin) D.sectors D.failures D.reads D.choices D.moment D.images_since concentrator.old.house.budget state before moment.seconds (polls line meter.now) (links_of B.lost slots.old) (links_of B.lost slots.new) (Puts (W.written out.old) (W.written out.new)) (IsCarried B.lost B.asks B.settles B.ready (polls line meter.now) slots.old slots.new) concentrator.old concentrator.new)) }
     ensures cut { BehindAnyRun D.keeps D.sectors D.reads D.choices concentrator.old (λ origin state before.
-        OnErr result (LineCut (D.keeps origin) D.sectors D.failures D.reads D.choices D.moment D.images_since concentrator.old.house.budget state before moment.seconds (polls line meter.now) (links_of B.lost slots.old) concentrator.old concentrator.new)) }
+        OnErr result (LineCut (D.keeps origin) D.sectors D.failures D.reads D.choices D.moment D.images_since concentrator.old.house.budget state before moment.seconds (polls line meter.now) (links_of B.lost slots.old) (IsCarried B.lost B.asks B.settles B.ready (polls line meter.now) slots.old slots.new) concentrator.old concentrator.new)) }
     ensures fault { OnErr result (HasRisen (W.put_failures out.old) (W.put_failures out.new)) }
     ensures well { OnOk result (W.put_failures out.new ≡ W.put_failures out.old) }
     ensures absent { AreAbsent (links_of B.lost slots.old) → AreAbsent (links_of B.lost slots.new) }
@@ -176,9 +177,9 @@ fn poll_slot<D: Disk + Drop, A: Allocator + Copy, B: ScriptBus + Drop, W: Sink>(
     out: &mut W,
 ) -> Result<(), IoFault>
     ensures ran { (links : List LineLink) → line_in links line ≡ line_of B.lost slot.old → BehindAnyRun D.keeps D.sectors D.reads D.choices concentrator.old (λ origin state before.
-        OnOk result (LineRan (D.keeps origin) D.sectors D.failures D.reads D.choices D.moment D.images_since concentrator.old.house.budget state before moment.seconds (polls line meter.now) links (with_link links line (line_of B.lost slot.new).link) (Puts (W.written out.old) (W.written out.new)) concentrator.old concentrator.new)) }
+        OnOk result (LineRan (D.keeps origin) D.sectors D.failures D.reads D.choices D.moment D.images_since concentrator.old.house.budget state before moment.seconds (polls line meter.now) links (with_link links line (line_of B.lost slot.new).link) (Puts (W.written out.old) (W.written out.new)) (λ exchanges. PollsOver B.lost B.asks B.settles B.ready line exchanges slot.old slot.new) concentrator.old concentrator.new)) }
     ensures cut { (links : List LineLink) → line_in links line ≡ line_of B.lost slot.old → BehindAnyRun D.keeps D.sectors D.reads D.choices concentrator.old (λ origin state before.
-        OnErr result (LineCut (D.keeps origin) D.sectors D.failures D.reads D.choices D.moment D.images_since concentrator.old.house.budget state before moment.seconds (polls line meter.now) links concentrator.old concentrator.new)) }
+        OnErr result (LineCut (D.keeps origin) D.sectors D.failures D.reads D.choices D.moment D.images_since concentrator.old.house.budget state before moment.seconds (polls line meter.now) links (λ exchanges. PollsOver B.lost B.asks B.settles B.ready line exchanges slot.old slot.new) concentrator.old concentrator.new)) }
     ensures fault { OnErr result (HasRisen (W.put_failures out.old) (W.put_failures out.new)) }
     ensures well { OnOk result (W.put_failures out.new ≡ W.put_failures out.old) }
     ensures kept { IsKept B.lost slot.old slot.new }
@@ -206,11 +207,11 @@ fn search_line<D: Disk + Drop, A: Allocator + Copy, B: ScriptBus + Drop, W: Sink
     out: &mut W,
 ) -> Result<(), Halt>
     ensures ran { (moment : ℕ) → BehindAnyRun D.keeps D.sectors D.reads D.choices concentrator.old (λ origin state before.
-        OnOk result (LineRan (D.keeps origin) D.sectors D.failures D.reads D.choices D.moment D.images_since concentrator.old.house.budget state before moment (searches budget line) (links_of B.lost slots.old) (links_of B.lost slots.new) (Puts (W.written out.old) (W.written out.new)) concentrator.old concentrator.new)) }
+        OnOk result (LineRan (D.keeps origin) D.sectors D.failures D.reads D.choices D.moment D.images_since concentrator.old.house.budget state before moment (searches budget line) (links_of B.lost slots.old) (links_of B.lost slots.new) (Puts (W.written out.old) (W.written out.new)) (IsCarried B.lost B.asks B.settles B.ready (searches budget line) slots.old slots.new) concentrator.old concentrator.new)) }
     ensures cut { (moment : ℕ) → BehindAnyRun D.keeps D.sectors D.reads D.choices concentrator.old (λ origin state before.
-        OnWrite result (LineCut (D.keeps origin) D.sectors D.failures D.reads D.choices D.moment D.images_since concentrator.old.house.budget state before moment (searches budget line) (links_of B.lost slots.old) concentrator.old concentrator.new)) }
+        OnWrite result (LineCut (D.keeps origin) D.sectors D.failures D.reads D.choices D.moment D.images_since concentrator.old.house.budget state before moment (searches budget line) (links_of B.lost slots.old) (IsCarried B.lost B.asks B.settles B.ready (searches budget line) slots.old slots.new) concentrator.old concentrator.new)) }
     ensures starved { BehindAnyRun D.keeps D.sectors D.reads D.choices concentrator.old (λ origin state before.
-        OnNoMemory result (LineStarved (D.keeps origin) D.sectors D.failures D.reads D.choices D.moment D.images_since concentrator.old.house.budget state before (searches budget line) (links_of B.lost slots.old) (Puts (W.written out.old) (W.written out.new)) concentrator.old concentrator.new)) }
+        OnNoMemory result (LineStarved (D.keeps origin) D.sectors D.failures D.reads D.choices D.moment D.images_since concentrator.old.house.budget state before (searches budget line) (links_of B.lost slots.old) (Puts (W.written out.old) (W.written out.new)) (IsCarried B.lost B.asks B.settles B.ready (searches budget line) slots.old slots.new) concentrator.old concentrator.new)) }
     ensures through { OnNoMemory result (¬ (AreAbsent (links_of B.lost slots.old))) }
     ensures absent { AreAbsent (links_of B.lost slots.old) → AreAbsent (links_of B.lost slots.new) }
     ensures counted { IsCounted result (W.put_failures out.old) (W.put_failures out.new) }
@@ -232,11 +233,11 @@ fn search_slot<D: Disk + Drop, A: Allocator + Copy, B: ScriptBus + Drop, W: Sink
     out: &mut W,
 ) -> Result<(), Halt>
     ensures ran { (links : List LineLink) (moment : ℕ) → line_in links line ≡ line_of B.lost slot.old → BehindAnyRun D.keeps D.sectors D.reads D.choices concentrator.old (λ origin state before.
-        OnOk result (LineRan (D.keeps origin) D.sectors D.failures D.reads D.choices D.moment D.images_since concentrator.old.house.budget state before moment (searches budget line) links (with_link links line (line_of B.lost slot.new).link) (Puts (W.written out.old) (W.written out.new)) concentrator.old concentrator.new)) }
+        OnOk result (LineRan (D.keeps origin) D.sectors D.failures D.reads D.choices D.moment D.images_since concentrator.old.house.budget state before moment (searches budget line) links (with_link links line (line_of B.lost slot.new).link) (Puts (W.written out.old) (W.written out.new)) (λ exchanges. SearchesOver B.lost B.asks exchanges slot.old slot.new) concentrator.old concentrator.new)) }
     ensures cut { (links : List LineLink) (moment : ℕ) → line_in links line ≡ line_of B.lost slot.old → BehindAnyRun D.keeps D.sectors D.reads D.choices concentrator.old (λ origin state before.
-        OnWrite result (LineCut (D.keeps origin) D.sectors D.failures D.reads D.choices D.moment D.images_since concentrator.old.house.budget state before moment (searches budget line) links concentrator.old concentrator.new)) }
+        OnWrite result (LineCut (D.keeps origin) D.sectors D.failures D.reads D.choices D.moment D.images_since concentrator.old.house.budget state before moment (searches budget line) links (λ exchanges. SearchesOver B.lost B.asks exchanges slot.old slot.new) concentrator.old concentrator.new)) }
     ensures starved { (links : List LineLink) → line_in links line ≡ line_of B.lost slot.old → BehindAnyRun D.keeps D.sectors D.reads D.choices concentrator.old (λ origin state before.
-        OnNoMemory result (LineStarved (D.keeps origin) D.sectors D.failures D.reads D.choices D.moment D.images_since concentrator.old.house.budget state before (searches budget line) links (Puts (W.written out.old) (W.written out.new)) concentrator.old concentrator.new)) }
+        OnNoMemory result (LineStarved (D.keeps origin) D.sectors D.failures D.reads D.choices D.moment D.images_since concentrator.old.house.budget state before (searches budget line) links (Puts (W.written out.old) (W.written out.new)) (λ exchanges. SearchesOver B.lost B.asks exchanges slot.old slot.new) concentrator.old concentrator.new)) }
     ensures through { OnNoMemory result (¬ ((line_of B.lost slot.old).link ≡ absent)) }
     ensures kept { IsKept B.lost slot.old slot.new }
     ensures counted { IsCounted result (W.put_failures out.old) (W.put_failures out.new) }

@@ -20,6 +20,7 @@ pub trait ScriptBus: Bus {
     fn settle(&mut self)
         ensures step { settles self.old self.new }
         ensures ready { ready self.new ≡ true }
+        ensures meters { Self.meters self.new ≡ Self.meters self.old }
         ensures untouched { Self.lost self.old ≡ true → self.new ≡ self.old };
 
     /// How many late answers were dropped.

@@ -1,6 +1,6 @@
 //! `SEARCH`: meters are searched for over a bus line.
 
-ghost use Rattle.std.specs.Prelude.{◌≡◌, ◌++◌};
+ghost use Rattle.std.specs.Prelude.{◌≡◌, ◌++◌, true};
 ghost use Rattle.dc_gateway.specs.Bus.{AreExchanged};
 ghost use Rattle.dc_stream.specs.Stream.{Puts, Wrote};
 ghost use Rattle.dc_poller.specs.Halt.{IsCounted};
@@ -36,6 +36,7 @@ pub fn search<D: Disk + Drop, A: Allocator + Copy, B: ScriptBus, W: Sink>(
         (λ exchanges. AreExchanged B.asks bus.old exchanges bus.new) (Puts (W.written out.old) (W.written out.new)) result) concentrator.old concentrator.new) }
     ensures counted { IsCounted result (W.put_failures out.old) (W.put_failures out.new) }
     ensures budget { concentrator.new.house.budget ≡ concentrator.old.house.budget }
+    ensures untouched { B.lost bus.old ≡ true → bus.new ≡ bus.old }
 {
     search_on(alloc, GATEWAY, concentrator, bus, budget, out)
 }
@@ -55,6 +56,7 @@ pub fn search_on<D: Disk + Drop, A: Allocator + Copy, B: ScriptBus, W: Sink>(
         (λ exchanges. AreExchanged B.asks bus.old exchanges bus.new) (Puts (W.written out.old) (W.written out.new)) result) concentrator.old concentrator.new) }
     ensures counted { IsCounted result (W.put_failures out.old) (W.put_failures out.new) }
     ensures budget { concentrator.new.house.budget ≡ concentrator.old.house.budget }
+    ensures untouched { B.lost bus.old ≡ true → bus.new ≡ bus.old }
 {
     match quiet_commit(concentrator) {
         Ok(_) => match quiet_ask(concentrator, port.line) {
@@ -77,6 +79,7 @@ fn search_bus<A: Allocator + Copy, B: ScriptBus, W: Sink>(
         (link_by (B.lost bus.old)) (link_by (B.lost bus.new))
         (λ exchanges. AreExchanged B.asks bus.old exchanges bus.new) (Puts (W.written out.old) (W.written out.new)) result }
     ensures counted { IsCounted result (W.put_failures out.old) (W.put_failures out.new) }
+    ensures untouched { B.lost bus.old ≡ true → bus.new ≡ bus.old }
 {
     let was_lost = bus.is_lost();
     let before = bus.late();

@@ -1,6 +1,5 @@
 use Rattle.std.proofs.Common.{ℕ, List, ◌++◌, ap, ◌∙◌, subst}
 use Rattle.std.specs.Prelude.{flat_map}
-use Rattle.dc_search.specs.State.{step_of}
 use Rattle.dc_search.specs.declared.step.Step.{Step}
 use Rattle.dc_stream.specs.Stream.{Wrote}
 use Rattle.dc_poller.specs.Search.{budget_line, selections_line, shared_line}
@@ -11,9 +10,8 @@ pub returns : goal.returns
 returns g c =
     let s = c.args.search.now in
     let shared = flat_map shared_line c.shared.result.now in
-    let behind = budget_line c.next.result ++ selections_line c.selections.result in
+    let behind = budget_line c.next.result ++ selections_line c.args.selections in
     let same = ap (λ (numbers : List ℕ). flat_map shared_line numbers ++ behind) c.shared.ensures
-    ∙ ap (λ (step : Step). flat_map shared_line s.shared ++ (budget_line step ++ selections_line c.selections.result)) c.next.ensures
-    ∙ ap (λ (count : ℕ). flat_map shared_line s.shared ++ (budget_line (step_of s) ++ selections_line count)) c.selections.ensures in
+    ∙ ap (λ (step : Step). flat_map shared_line s.shared ++ (budget_line step ++ selections_line c.args.selections)) c.next.ensures in
     subst (λ (text : List ℕ). Wrote g.W.Sink.written g.W.Sink.put_failures c.put_end.result c.args.out.now c.put_end.new.out text) same
     (wrote_both g.W.Sink.written g.W.Sink.put_failures c.args.out.now c.put_shared.new.out c.put_end.new.out shared behind c.put_end.result c.in_ok-put_shared.ensures.0 c.in_ok-put_shared.ensures.1 c.put_end.ensures)

@@ -5,6 +5,7 @@ use Rattle.dc_stream.proofs.Pieces.{puts-both}
 use Rattle.dc_poller.specs.Link.{link_by}
 use Rattle.dc_poller.specs.Poll.{to_start, rounds_in, happened_exchanges}
 use Rattle.dc_poller.proofs.LineRuns.{on_ok}
+use Rattle.dc_poller.proofs.Traffics.{untouched_both}
 use Rattle.dc_poller.proofs.Wents.{went_none}
 use Rattle.dc_poller.proofs.Ways.{way_as, way_settled, way_then, if_fails_after, end_after, exchanges_append, settles_unasked, settles_in_no_round, settle_fails, not_a_gateway}
 use Rattle.dc_poller.proofs.poll.poll.Goals as goal
@@ -52,3 +53,7 @@ returns-in-Err-clause-went g c origin state before chain at =
       },
     ))
     (λ text p. tt)
+
+pub returns-in-Ok-clause-untouched : goal.returns-in-Ok-clause-untouched
+returns-in-Ok-clause-untouched g c =
+    untouched_both g.B.Bus.lost c.args.bus.now c.settle_bus.new.bus c.start_and_read.new.bus c.settle_bus.ensures.untouched c.start_and_read.ensures.untouched

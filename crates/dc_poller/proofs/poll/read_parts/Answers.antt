@@ -5,6 +5,7 @@ use Rattle.dc_poller.specs.Poll.{Phase}
 use Rattle.dc_poller.specs.Way.{goes_on}
 use Rattle.dc_poller.proofs.Wents.{went_none}
 use Rattle.dc_base.specs.Failures.{HasRisen}
+use Rattle.dc_poller.proofs.Traffics.{untouched_both}
 use Rattle.dc_poller.proofs.Ways.{way_none, way_as, way_then, rounds_append, exchanged_after, fails_after}
 use Rattle.dc_poller.proofs.poll.read_parts.Goals as goal
 
@@ -13,6 +14,7 @@ rounds-init g c =
     record {
       budget = refl;
       well = refl;
+      untouched = λ is. refl;
       so_far = λ meter origin state before chain at. way_none (g.D.Disk.keeps origin) g.D.Disk.sectors g.D.Disk.failures g.D.Disk.reads g.D.Disk.choices g.D.Disk.moment g.D.Disk.images_since c.args.concentrator.now.house.budget state before c.args.port c.args.moment.seconds meter _ _ _ c.args.concentrator.now (went_none (g.D.Disk.keeps origin) g.D.Disk.sectors g.D.Disk.failures g.D.Disk.reads g.D.Disk.choices g.D.Disk.moment g.D.Disk.images_since c.args.concentrator.now.house.budget state before c.args.concentrator.now chain at (λ h image left. g.met.D.Disk.only_now c.args.concentrator.now.store.disk image left)) (refl, refl, refl) (puts-none (g.W.Sink.written c.args.out.now));
     }
 
@@ -21,6 +23,7 @@ rounds-preserved g c =
     record {
       budget = c.ask_and_hear.ensures.budget ∙ c.rounds.invariant.budget;
       well = c.in-Ok.ensures.well ∙ c.rounds.invariant.well;
+      untouched = untouched_both g.B.Bus.lost c.args.bus.now c.rounds.bus c.ask_and_hear.new.bus c.rounds.invariant.untouched c.ask_and_hear.ensures.untouched;
       so_far = λ meter origin state before chain at.
           let w = g.W.Sink.written in
           let first = c.args.concentrator.now in
@@ -61,6 +64,10 @@ pub returns-then-not-more-clause-budget : goal.returns-then-not-more-clause-budg
 returns-then-not-more-clause-budget g c =
     c.ask_and_hear.ensures.budget ∙ c.rounds.invariant.budget
 
+pub returns-then-not-more-clause-untouched : goal.returns-then-not-more-clause-untouched
+returns-then-not-more-clause-untouched g c =
+    untouched_both g.B.Bus.lost c.args.bus.now c.rounds.bus c.ask_and_hear.new.bus c.rounds.invariant.untouched c.ask_and_hear.ensures.untouched
+
 pub returns-in-Err-clause-went : goal.returns-in-Err-clause-went
 returns-in-Err-clause-went g c meter origin state before chain at =
     let w = g.W.Sink.written in
@@ -85,6 +92,10 @@ pub returns-in-Err-clause-budget : goal.returns-in-Err-clause-budget
 returns-in-Err-clause-budget g c =
     c.ask_and_hear.ensures.budget ∙ c.rounds.invariant.budget
 
+pub returns-in-Err-clause-untouched : goal.returns-in-Err-clause-untouched
+returns-in-Err-clause-untouched g c =
+    untouched_both g.B.Bus.lost c.args.bus.now c.rounds.bus c.ask_and_hear.new.bus c.rounds.invariant.untouched c.ask_and_hear.ensures.untouched
+
 pub returns-clause-went : goal.returns-clause-went
 returns-clause-went g c meter origin state before chain at =
     let one = c.rounds.invariant.so_far meter origin state before chain at in
@@ -98,3 +109,7 @@ returns-clause-well g c =
 pub returns-clause-budget : goal.returns-clause-budget
 returns-clause-budget g c =
     c.rounds.invariant.budget
+
+pub returns-clause-untouched : goal.returns-clause-untouched
+returns-clause-untouched g c =
+    c.rounds.invariant.untouched

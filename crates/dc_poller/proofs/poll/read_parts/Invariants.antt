@@ -1,4 +1,4 @@
-use Rattle.std.proofs.Common.{◌≡◌, List}
+use Rattle.std.proofs.Common.{◌≡◌, true, List}
 use Rattle.dc_address.specs.declared.identity.Identity.{Identity}
 use Rattle.dc_changes.specs.State.{State}
 use Rattle.dc_core.specs.Core.{opened}
@@ -15,6 +15,7 @@ abbrev pub invariant-rounds : goal.invariant-rounds
 invariant-rounds g l = record {
   budget : l.concentrator.house.budget ≡ l.fn.concentrator.house.budget;
   well : g.W.Sink.put_failures l.out ≡ g.W.Sink.put_failures l.fn.out;
+  untouched : g.B.Bus.lost l.fn.bus ≡ true → l.bus ≡ l.fn.bus;
   so_far : (meter : Identity) (origin : g.row.D.Denot) (state : State) (before : List Turn) → IsChain l.fn.concentrator.house.budget (opened state) before → IsAt (g.D.Disk.keeps origin) g.D.Disk.sectors g.D.Disk.reads g.D.Disk.choices l.fn.concentrator (leads (opened state) before)
       → Way (g.D.Disk.keeps origin) g.D.Disk.sectors g.D.Disk.failures g.D.Disk.reads g.D.Disk.choices g.D.Disk.moment g.D.Disk.images_since l.fn.concentrator.house.budget state before l.port l.moment.seconds meter (record { due = to_ask; link = link_by (g.B.Bus.lost l.fn.bus) })
       (λ happened last. (last ≡ record { due = to_ask; link = link_by (g.B.Bus.lost l.bus) }) × (rounds_in happened ≡ l.counter)

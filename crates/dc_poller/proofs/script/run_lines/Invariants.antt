@@ -3,6 +3,7 @@ use Rattle.dc_changes.specs.Valid.{last_moment}
 use Rattle.dc_stream.specs.Stream.{Puts}
 use Rattle.dc_teller.specs.Lines.{lines_of, longest_input_line}
 use Rattle.dc_poller.specs.Link.{AreAbsent, links_of}
+use Rattle.dc_poller.specs.Traffic.{AreCarried}
 use Rattle.dc_poller.proofs.LineRuns.{SoFar}
 use Rattle.dc_poller.proofs.script.run_lines.Given as goal
 
@@ -15,7 +16,7 @@ invariant-lines g l = record {
   moment : l.moment.0 ≤ last_moment;
   absent : AreAbsent (links_of g.B.Bus.lost l.fn.slots) → AreAbsent (links_of g.B.Bus.lost l.slots);
   so_far : (origin : g.row.D.Denot) → SoFar (g.D.Disk.keeps origin) g.D.Disk.sectors g.D.Disk.failures g.D.Disk.reads g.D.Disk.choices g.D.Disk.moment g.D.Disk.images_since l.fn.concentrator.house.budget (links_of g.B.Bus.lost l.fn.slots) (links_of g.B.Bus.lost l.slots) (lines_of l.input) (lines_of l.rest) l.moment.0 l.count
-      (Puts (g.W.Sink.written l.fn.out) (g.W.Sink.written l.out)) l.fn.concentrator l.concentrator;
+      (Puts (g.W.Sink.written l.fn.out) (g.W.Sink.written l.out)) (AreCarried g.B.Bus.lost g.B.Bus.asks g.B.ScriptBus.settles g.B.ScriptBus.ready l.fn.slots l.slots) l.fn.concentrator l.concentrator;
 }
 
 abbrev pub decreases-lines : goal.decreases-lines
