@@ -24,5 +24,7 @@ pub mod Counts
 pub mod Polling
 -- where no round is left, all lines are over
 pub mod Exhausting
+-- which meters are read on which line
+pub mod Planning
 -- a life of the concentrator from the disk to the disk
 pub mod ImagePolls

@@ -3,7 +3,7 @@ use Rattle.std.proofs.Common.{◌≡◌, ℕ, List, [], ◌∷◌, ◌++◌, ref
 use Rattle.dc_sectors.specs.Disk.{Image, IsImage}
 use Rattle.dc_sectors.specs.declared.device.Disk.{Ghosts}
 use Rattle.dc_changes.specs.State.{State}
-use Rattle.dc_core.specs.Core.{Core, opened}
+use Rattle.dc_core.specs.Core.{Core, opened, present}
 use Rattle.dc_core.specs.Event.{Event, Answer}
 use Rattle.dc_core.specs.Images.{Machine, IsAt}
 use Rattle.dc_core.specs.Transcript.{Turn, leads, IsChain}
@@ -67,3 +67,10 @@ module _ {D : Type 0} (g : Ghosts D) where
   runs_as one such first new a goes origin state before chain at =
       let p = a origin state before chain at in
       record { happened = p.happened; are_such = goes (leads (opened state) before) p.happened p.are_such; went = p.went }
+
+  -- less is said of them, where it may be said what the register was
+  pub runs_from : (one such : Core → List Happening → Type 0) (first new : Machine D) → Runs g one first new
+      → ((core : Core) (happened : List Happening) → first.house.state ≡ present core → one core happened → such core happened) → Runs g such first new
+  runs_from one such first new a goes origin state before chain at =
+      let p = a origin state before chain at in
+      record { happened = p.happened; are_such = goes (leads (opened state) before) p.happened at.house_is p.are_such; went = p.went }

@@ -1,16 +1,17 @@
 -- What a poll does to an image (this product): the concentrator is opened, the meters are read, and it is closed.
-use Rattle.std.specs.Prelude.{◌≡◌, ℕ, ◌<◌, ◌≤◌, ◌^◌, List, [], Option, length}
-use Rattle.std.specs.List.{All}
+use Rattle.std.specs.Prelude.{◌≡◌, ℕ, ◌-◌, ◌^◌, min, List, [], Option, take}
+use Rattle.dc_address.specs.declared.identity.Identity.{Identity}
 use Rattle.dc_changes.specs.State.{State}
-use Rattle.dc_core.specs.Core.{Core}
+use Rattle.dc_core.specs.Core.{Core, present}
 use Rattle.dc_core.specs.Images.{Machine}
 use Rattle.dc_poller.specs.ImageRun.{IsOpenedOn}
 use Rattle.dc_sectors.specs.declared.device.Disk.{Ghosts}
 use Rattle.dc_stream.specs.Stream.{Puts}
 use Rattle.dc_rounds.specs.Bus.{Bus}
 use Rattle.dc_rounds.specs.Happening.{Happening}
+use Rattle.dc_rounds.specs.Planned.{ArePlanned, has_bus, refused_count, refused_text}
 use Rattle.dc_rounds.specs.Polls.{PollsAll}
-use Rattle.dc_rounds.specs.Round.{Happens, IsFresh, most_lines}
+use Rattle.dc_rounds.specs.Round.{Happens, most_lines}
 use Rattle.dc_rounds.specs.declared.outcome.Outcome.{Outcome}
 use Rattle.dc_rounds.specs.declared.station.Station.{Station}
 
@@ -25,17 +26,17 @@ pub record ImageTurned {D : Type 0} (g : Ghosts D) (such : Core → List Happeni
   pub happens : Happens g first.store.disk state [] such first last
   pub disk_is : new ≡ last.store.disk
 
--- Up to eight lines are polled, none of whose meters was started. Meters that can't be read were refused before; these
--- count as failed, and their text is in `before`.
+-- THE METERS OF A PLAN ARE READ. The lines are those of the first eight buses; on each whose bus isn't lost the meters
+-- of the register that hang there are read, or those of them that are named, in order of identity. Before it, a line of text
+-- is written for each naming of a meter that can't be read; these count as failed (up to 2^32 - 1 of them).
 pub record PlanPolled {B T : Type 0} (g : Bus B) (told : T → ℕ → T → Type 0) (passes : T → T → Type 0)
-    (tries : ℕ) (first last : T) (new : Option (List ℕ)) (now : Outcome)
+    (buses : List B) (only : List Identity) (tries : ℕ) (first last : T) (old new : Option (List ℕ)) (now : Outcome)
     (core : Core) (happened : List Happening) : Type 0 where
   pub olds : List (Station B)
   pub news : List (Station B)
-  pub before : Option (List ℕ)
-  pub refused : ℕ
-  pub lines : length olds ≤ most_lines
-  pub fresh : All IsFresh olds
-  pub few : refused < 2 ^ 32
-  pub polls : PollsAll g told passes tries olds news first last (Puts before new)
-      (record { read = 0; failed = refused }) now core happened
+  pub between : Option (List ℕ)
+  pub planned : ArePlanned g.lost (present core) only buses olds
+  pub refuses : Puts old between (refused_text (has_bus g.lost (take most_lines buses)) (present core) only)
+  pub polls : PollsAll g told passes tries olds news first last (Puts between new)
+      (record { read = 0; failed = min (2 ^ 32 - 1) (refused_count (has_bus g.lost (take most_lines buses)) (present core) only) })
+      now core happened

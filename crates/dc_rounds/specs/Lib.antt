@@ -16,5 +16,7 @@ pub mod Station
 pub mod Round
 -- what a poll does, round after round
 pub mod Polls
+-- which meters are read on which line, and which are refused before
+pub mod Planned
 -- what a poll does to an image
 pub mod ImagePoll

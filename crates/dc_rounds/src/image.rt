@@ -1,7 +1,6 @@
 //! The engine of `poll`: the registered meters of an image are read over the buses of their lines.
 
-ghost use Rattle.std.specs.Prelude.{◌≡◌, ◌<◌, ◌≤◌, ◌^◌, ◌⊎◌, IfErr, IfOk, IsErrOf, OnErr, OnOk, [], MatchResult, length, vec_len};
-ghost use Rattle.std.specs.List.{All};
+ghost use Rattle.std.specs.Prelude.{◌≡◌, ◌<◌, ◌≤◌, ◌-◌, ◌^◌, IfErr, IfOk, IsErrOf, OnErr, OnOk, [], MatchResult, length, map, min};
 ghost use Rattle.dc_base.specs.Failures.{HasRisen};
 ghost use Rattle.dc_poller.specs.Fault.{IfOpen};
 ghost use Rattle.dc_recovery.specs.Halves.{half_len_of};
@@ -9,11 +8,14 @@ ghost use Rattle.dc_recovery.specs.Refusal.{IsRefused, TellsOfImage};
 ghost use Rattle.dc_recovery.specs.Stands.{EachStands, StandsForOne};
 ghost use Rattle.dc_recovery.specs.declared.fault.OpenFault.TheVariants.{NotImage, Worn, Device};
 ghost use Rattle.dc_rounds.specs.ImagePoll.{ImageTurned, PlanPolled};
-ghost use Rattle.dc_rounds.specs.Round.{IsFresh, Runs, most_lines};
+ghost use Rattle.dc_rounds.specs.Planned.{AreQueues, AreStations, has_bus, is_wanted, queue_on, refusal_line, refusal_of, refused_count, refused_text, wanted_on};
+ghost use Rattle.dc_rounds.specs.Round.{Runs, most_lines};
 ghost use Rattle.dc_sectors.specs.Disk.{LeavesOnly};
+ghost use Rattle.dc_stream.specs.Stream.{Puts, Wrote};
 
 use crate::end::Refusal;
 use crate::ending::put_refused;
+use crate::lines::line_at;
 use crate::outcome::Outcome;
 use crate::readout::read_on;
 use crate::station::Station;
@@ -62,8 +64,8 @@ pub fn poll_image<D: Disk + Drop, A: Allocator + Copy, B: QuietBus + Drop, T: Ti
     // opened, and the image is left as that run leaves it.
     ensures polled { (D.keeps disk → EachStands (half_len_of (D.sectors disk)) (D.choices disk))
         → IfOk result.1 (λ outcome. ImageTurned D.Disk (λ core happened.
-        PlanPolled B.QuietBus T.tells T.passes plan.entry.tries timer.old timer.new (W.written out.new) outcome
-        core happened) disk result.0) }
+        PlanPolled B.QuietBus T.tells T.passes plan.entry.buses.items plan.entry.only.now plan.entry.tries
+        timer.old timer.new (W.written out.old) (W.written out.new) outcome core happened) disk result.0) }
     ensures cut { (D.keeps disk → EachStands (half_len_of (D.sectors disk)) (D.choices disk))
         → IsErrOf result.1 ProgramFault.Write → ImageTurned D.Disk (λ core happened. Unit {0}) disk result.0 }
     ensures starved { (D.keeps disk → EachStands (half_len_of (D.sectors disk)) (D.choices disk))
@@ -106,14 +108,20 @@ fn poll<D: Disk + Drop, A: Allocator + Copy, B: QuietBus + Drop, T: Timer<B>, W:
 ) -> Result<Outcome, ProgramFault>
     requires { 0 < plan.tries }
     ensures went { Runs D.Disk (λ core happened. IfOk result (λ outcome.
-        PlanPolled B.QuietBus T.tells T.passes plan.entry.tries timer.old timer.new (W.written out.new) outcome
-        core happened)) concentrator.old concentrator.new }
+        PlanPolled B.QuietBus T.tells T.passes plan.entry.buses.items plan.entry.only.now plan.entry.tries
+        timer.old timer.new (W.written out.old) (W.written out.new) outcome core happened))
+        concentrator.old concentrator.new }
     ensures starved { IsErrOf result ProgramFault.NoMemory → (out.new ≡ out.old)
         × Runs D.Disk (λ core happened. happened ≡ []) concentrator.old concentrator.new }
     ensures write { IsErrOf result ProgramFault.Write → HasRisen (W.put_failures out.old) (W.put_failures out.new) }
     ensures opened { IfErr result (λ fault. IfOpen fault (λ e. ⊥)) }
 {
-    let Plan { buses, only, tries } = plan;
+    let Plan {
+        mut buses,
+        only,
+        tries,
+    } = plan;
+    buses.truncate(MOST_LINES);
     let queues = match queues_of(alloc, concentrator.house(), buses.as_slice(), only) {
         Ok(queues) => queues,
         Err(_) => return Err(ProgramFault::NoMemory),
@@ -146,27 +154,44 @@ fn queues_of<A: Allocator + Copy, B: QuietBus + Drop>(
     house: &House<A>,
     buses: &[B],
     only: &[Identity],
-) -> Result<Vec<Vec<Identity, A>, A>, NoMemory> {
+) -> Result<Vec<Vec<Identity, A>, A>, NoMemory>
+    requires { length buses.now ≤ most_lines }
+    ensures count { IfOk result (λ queues. length queues.items ≡ length buses.now) }
+    ensures queues { IfOk result (λ queues. AreQueues (λ v. v.items) B.lost house.now.state only.now buses.now queues.items) }
+{
     let mut queues = Vec::new(alloc);
-    let mut line: u8 = 0;
-    'lines: for bus in buses {
-        line = line.saturating_add(1);
-        if bus.is_lost() {
-            queues.push(Vec::new(alloc))?;
-        } else {
-            queues.push(queue_of(alloc, house, line, only)?)?;
-        }
+    'lines: for at in 0..buses.len() {
+        let queue = queue_of(alloc, house, line_at(at), buses[at].is_lost(), only)?;
+        queues.push(queue)?;
     }
     Ok(queues)
 }
 
-// The meters of one line, in order of identity.
+// The meters of one line, in order of identity, unless it is lost.
 fn queue_of<A: Allocator + Copy>(
     alloc: A,
     house: &House<A>,
     line: u8,
+    is_lost: bool,
     only: &[Identity],
-) -> Result<Vec<Identity, A>, NoMemory> {
+) -> Result<Vec<Identity, A>, NoMemory>
+    ensures { IfOk result (λ queue. queue.items ≡ queue_on house.now.state only.now line is_lost) }
+{
+    if is_lost {
+        return Ok(Vec::new(alloc));
+    }
+    wanted_on(alloc, house, line, only)
+}
+
+// The registered meters of a line that are wanted, in order of identity.
+fn wanted_on<A: Allocator + Copy>(
+    alloc: A,
+    house: &House<A>,
+    line: u8,
+    only: &[Identity],
+) -> Result<Vec<Identity, A>, NoMemory>
+    ensures { IfOk result (λ queue. queue.items ≡ wanted_on house.now.state only.now line) }
+{
     let mut queue = Vec::new(alloc);
     'meters: for (meter, row) in house.meters() {
         if row.line() == line && is_wanted(meter, only) {
@@ -177,7 +202,9 @@ fn queue_of<A: Allocator + Copy>(
 }
 
 // Where none is named, all are wanted.
-fn is_wanted(meter: &Identity, only: &[Identity]) -> bool {
+fn is_wanted(meter: &Identity, only: &[Identity]) -> bool
+    ensures { result ≡ is_wanted only.now meter.now }
+{
     only.is_empty() || only.contains(meter)
 }
 
@@ -187,44 +214,57 @@ fn stations_of<'a, A: Allocator + Copy, B: QuietBus + Drop>(
     buses: Vec<B, A>,
     queues: &'a [Vec<Identity, A>],
 ) -> Result<Vec<Station<'a, B>, A>, NoMemory>
-    ensures count { IfOk result (λ stations. length stations.items ≤ most_lines) }
-    ensures fresh { IfOk result (λ stations. All IsFresh stations.items) }
+    requires { length queues.now ≡ length buses.items }
+    ensures buses { IfOk result (λ stations. map (λ s. s.bus) stations.items ≡ buses.items) }
+    ensures each { IfOk result (λ stations. AreStations (λ v. v.items) B.lost queues.now stations.items) }
 {
     let mut stations = Vec::new(alloc);
     'lines: for bus in buses {
-        let at = stations.len();
-        if at >= MOST_LINES || at >= queues.len() {
-            return Ok(stations);
-        }
         let said = bus.is_lost();
-        let mut station = Station::new(bus, queues[at].as_slice());
+        let mut station = Station::new(bus, queues[stations.len()].as_slice());
         station.said = said;
         stations.push(station)?;
     }
     Ok(stations)
 }
 
-// The meters that are named and can't be read are refused. How many.
+// For each naming of a meter that can't be read, a line of text is written. How many.
+#[tactic(auto, using(dc_stream::proofs::Pieces::written))]
 fn refuse_others<A: Allocator + Copy, B: QuietBus + Drop, W: Sink>(
     house: &House<A>,
     stations: &[Station<'_, B>],
     only: &[Identity],
     out: &mut W,
 ) -> Result<u64, IoFault>
-    ensures few { IfOk result (λ refused. refused < 2 ^ 32) }
+    ensures text { OnOk result (Puts (W.written out.old) (W.written out.new)
+        (refused_text (has_bus B.lost (map (λ s. s.bus) stations.now)) house.now.state only.now)) }
     ensures fault { OnErr result (HasRisen (W.put_failures out.old) (W.put_failures out.new)) }
     ensures well { OnOk result (W.put_failures out.new ≡ W.put_failures out.old) }
+    ensures count { IfOk result (λ refused. refused
+        ≡ min (2 ^ 32 - 1) (refused_count (has_bus B.lost (map (λ s. s.bus) stations.now)) house.now.state only.now)) }
 {
     let mut refused: u32 = 0;
     'meters: for meter in only {
-        if let Some(fault) = refusal_of(house, stations, meter) {
-            match put_refused(out, meter, Refusal::Start(fault)) {
-                Ok(()) => refused = refused.saturating_add(1),
-                Err(fault) => return Err(fault),
-            }
-        }
+        let refusal = refusal_of(house, stations, meter);
+        put_refusal(out, meter, refusal)?;
+        refused = refused.saturating_add(u32::from(refusal.is_some()));
     }
     Ok(u64::from(refused))
+}
+
+// `REFUSED ident n Name`, where it is refused.
+#[tactic(auto, using(dc_stream::proofs::Pieces::written))]
+fn put_refusal<W: Sink>(
+    out: &mut W,
+    meter: &Identity,
+    refusal: Option<StartFault>,
+) -> Result<(), IoFault>
+    ensures { Wrote W.written W.put_failures result out.old out.new (refusal_line meter.now refusal) }
+{
+    match refusal {
+        Some(fault) => put_refused(out, meter, Refusal::Start(fault)),
+        None => Ok(()),
+    }
 }
 
 // Why a meter can't be read, before it is started.
@@ -232,7 +272,9 @@ fn refusal_of<A: Allocator + Copy, B: QuietBus + Drop>(
     house: &House<A>,
     stations: &[Station<'_, B>],
     meter: &Identity,
-) -> Option<StartFault> {
+) -> Option<StartFault>
+    ensures { result ≡ refusal_of (has_bus B.lost (map (λ s. s.bus) stations.now)) house.now.state meter.now }
+{
     match house.meter(meter) {
         Some(row) => {
             if has_bus(stations, row.line()) {
@@ -245,10 +287,12 @@ fn refusal_of<A: Allocator + Copy, B: QuietBus + Drop>(
     }
 }
 
-// Whether a line has a bus.
-fn has_bus<B: QuietBus + Drop>(stations: &[Station<'_, B>], line: u8) -> bool {
+// Whether a line has a bus that isn't lost.
+fn has_bus<B: QuietBus + Drop>(stations: &[Station<'_, B>], line: u8) -> bool
+    ensures { result ≡ has_bus B.lost (map (λ s. s.bus) stations.now) line }
+{
     match stations.get(usize::from(line).saturating_sub(1)) {
-        Some(station) => !station.said,
+        Some(station) => !station.bus.is_lost(),
         None => false,
     }
 }

@@ -1,10 +1,13 @@
-use Rattle.std.proofs.Common.{◌≤◌, length}
-use Rattle.std.specs.List.{All}
-use Rattle.dc_rounds.specs.Round.{IsFresh}
+use Rattle.std.proofs.Common.{◌≡◌, ◌++◌, map}
+use Rattle.std.specs.Vec.Iter.{into_iter_items}
+use Rattle.dc_rounds.specs.Planned.{AreStations}
+use Rattle.dc_rounds.specs.declared.station.Station.{Station}
 use Rattle.dc_rounds.proofs.image.stations_of.Given as goal
 
 abbrev pub invariant-lines : goal.invariant-lines
-invariant-lines g l =
-    (goal.iterator-lines g).can_next l.bus-iterator ×
-    (goal.iterator-lines g).is_finite l.bus-iterator ×
-    (length l.stations.items ≤ 8) × All IsFresh l.stations.items
+invariant-lines g l = record {
+  can : (goal.iterator-lines g).can_next l.bus-iterator;
+  ends : (goal.iterator-lines g).is_finite l.bus-iterator;
+  buses : map (λ (s : Station g.row.B.Denot). s.bus) l.stations.items ++ into_iter_items l.bus-iterator ≡ l.fn.buses.items;
+  each : AreStations (λ v. v.items) g.B.HalfBus.lost l.queues l.stations.items;
+}
