@@ -11,19 +11,20 @@ pub const PROGRAM: &str = "Data concentrator of wired M-Bus submeters
 Usage: mbdc [OPTIONS] [COMMAND]
 
 Read the house:
-  poll    Reads every registered meter on the connected lines, all lines at once
-  run     Opens the image, does what the script's lines ask for, and prints the answers
-  scan    Searches one bus for meters, without an image
-  read    Reads one meter on one bus and prints its telegrams, without an image
+  poll     Reads every registered meter on the connected lines, all lines at once
+  run      Opens the image, does what the script's lines ask for, and prints the answers
+  scan     Searches one bus for meters, without an image
+  read     Reads one meter on one bus and prints its telegrams, without an image
 
 Look:
-  decode  Prints what each M-Bus frame says: link fields, meter, records, end
-  fold    Applies telegrams and commands to an empty register, and prints it
-  report  Prints a table of what an image holds: its register, or the due-date values for a date
+  decode   Prints what each M-Bus frame says: link fields, meter, records, end
+  fold     Applies telegrams and commands to an empty register, and prints it
+  report   Prints a table of what an image holds: its register, or the due-date values for a date
+  inspect  Prints what an image holds, and changes nothing
 
 Maintain:
-  format  Makes an image that holds an empty register
-  demo    Reads a simulated meter through a gateway in this process, and reports its value
+  format   Makes an image that holds an empty register
+  demo     Reads a simulated meter through a gateway in this process, and reports its value
 
 Options:
       --verbose  Prints a second line on standard error that says why the command failed
@@ -117,8 +118,21 @@ pub const REPORT: &str = "Example:
   mbdc report house.image 2024-12-31
 
 Printed of the register: flat,meter,medium,line,address,open; of a date the values that are dated
-  by it: flat,meter,serial,storage,function,tariff,subunit,value,unit
+  by it: flat,meter,serial,storage,function,tariff,subunit,value,unit. With --json an object a row
 The image is opened as by run, so its next session is written.
+Faults: mbdc: open: 1 NotImage, 2 Damaged sector, 3 Version, 4 Worn, 5 Device; mbdc: memory;
+  mbdc: file: IMAGE where the file can't be opened or is open in another mbdc";
+
+/// Of `inspect`.
+pub const INSPECT: &str = "Example:
+  mbdc inspect house.image
+
+Printed, a fact a line: DISK sectors; ROOT slot version generation session half, or NONE or
+  UNREADABLE, of each root slot; then of an image that reads as a state VERSION, HALF, GROUPS,
+  SECTORS used free, SIZE bytes most, METERS, READINGS n first last, MARK serial, COMMAND n; and
+  REFUSED n Name [sector] of one that doesn't open.
+Nothing is written, not even the next session. While a command has the image open, inspect doesn't
+  read it.
 Faults: mbdc: open: 1 NotImage, 2 Damaged sector, 3 Version, 4 Worn, 5 Device; mbdc: memory;
   mbdc: file: IMAGE where the file can't be opened or is open in another mbdc";
 
@@ -143,7 +157,7 @@ are committed to the image before the next ones are requested. Printed as each r
   LINE n LOST              the connection of line n ended or failed
   LATE line n              so many late answers were dropped on that line: make --patience longer
   END read failed
-On a terminal, standard error shows how far it is.
+With --json an object an event. On a terminal, standard error shows how far it is.
 Status: 0 every meter was read, 1 one wasn't, 3 the image, 4 a link, a file or memory.";
 
 /// Of `scan`.

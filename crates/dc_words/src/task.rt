@@ -68,6 +68,8 @@ pub struct PollTask<'a> {
     pub only: Vec<Identity>,
     /// How often a readout is begun at most.
     pub tries: u8,
+    /// Whether its events are printed as JSON Lines.
+    pub is_json: bool,
     /// How many milliseconds of silence end an answer.
     pub patience: u16,
 }
@@ -106,6 +108,13 @@ pub enum Task<'a> {
         image: &'a str,
         /// The word for the table.
         table: &'a str,
+        /// Whether its rows are printed as JSON Lines.
+        is_json: bool,
+    },
+    /// What an image holds, without opening it.
+    Inspect {
+        /// The image's file.
+        image: &'a str,
     },
     /// The readout of the registered meters over an image.
     Poll(PollTask<'a>),

@@ -116,6 +116,10 @@ fn poll_command<'a>(alloc: Global) -> Result<Command<'a>, AllocError> {
         .value_parser(value_parser!(u8).range(1..=9))
         .default_value("2")
         .help("How often a readout is begun at most, from 1 to 9");
+    let json = Arg::new(alloc, "JSON")
+        .long("json")
+        .action(ArgAction::SetTrue)
+        .help("Prints JSON Lines, an object an event");
     Command::new(alloc, "poll")
         .about("Reads every registered meter on the connected lines, all lines at once")
         .after_help(help::POLL)
@@ -123,6 +127,7 @@ fn poll_command<'a>(alloc: Global) -> Result<Command<'a>, AllocError> {
         .arg(line_arg(alloc).required(true))?
         .arg(only)?
         .arg(tries)?
+        .arg(json)?
         .arg(patience_arg(alloc))
 }
 
@@ -172,13 +177,25 @@ fn report_command<'a>(alloc: Global) -> Result<Command<'a>, AllocError> {
     let table = Arg::new(alloc, "TABLE")
         .required(true)
         .help("register, or a date, as 2024-12-31");
+    let json = Arg::new(alloc, "JSON")
+        .long("json")
+        .action(ArgAction::SetTrue)
+        .help("Prints JSON Lines, an object a row");
     Command::new(alloc, "report")
         .about(
             "Prints a table of what an image holds: its register, or the due-date values for a date",
         )
         .after_help(help::REPORT)
         .arg(image)?
+        .arg(json)?
         .arg(table)
+}
+
+fn inspect_command<'a>(alloc: Global) -> Result<Command<'a>, AllocError> {
+    Command::new(alloc, "inspect")
+        .about("Prints what an image holds, and changes nothing")
+        .after_help(help::INSPECT)
+        .arg(image_arg(alloc))
 }
 
 fn demo_command<'a>(alloc: Global) -> Result<Command<'a>, AllocError> {
@@ -209,6 +226,7 @@ fn program<'a>(alloc: Global) -> Result<Command<'a>, AllocError> {
         .subcommand(poll_command(alloc)?)?
         .subcommand(run_command(alloc)?)?
         .subcommand(report_command(alloc)?)?
+        .subcommand(inspect_command(alloc)?)?
         .subcommand(scan_command(alloc)?)?
         .subcommand(read_command(alloc)?)?
         .subcommand(demo_command(alloc)?)
@@ -298,7 +316,9 @@ fn image_task<'a>(
         "report" => Ok(Task::Report {
             image,
             table: inner.get_str("TABLE").unwrap_or_default(),
+            is_json: inner.get_flag("JSON"),
         }),
+        "inspect" => Ok(Task::Inspect { image }),
         "run" => run_task(image, inner),
         _ => poll_task(alloc, image, inner),
     }
@@ -340,6 +360,7 @@ fn poll_task<'a>(
         links,
         only,
         tries: inner.get_one("TRIES").unwrap_or_default(),
+        is_json: inner.get_flag("JSON"),
         patience: patience_of(inner),
     }))
 }

@@ -10,6 +10,7 @@ mod format;
 mod half_made;
 mod host;
 mod image;
+mod inspect;
 mod poll;
 mod progress;
 mod report;

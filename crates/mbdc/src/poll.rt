@@ -7,6 +7,7 @@ use crate::progress::{Counted, Progress};
 use crate::why::Noted;
 use dc_changes::Moment;
 use dc_ending::{Ending, ending_of};
+use dc_events::EventSink;
 use dc_line::QuietBus;
 use dc_links::{LinkBus, Peer, SystemBus, Watch};
 use dc_poller::ProgramFault;
@@ -87,7 +88,7 @@ where
         only: task.only.as_slice(),
         tries: task.tries.max(1),
     };
-    match poll(host, disk, plan) {
+    match poll(host, disk, plan, task.is_json) {
         Ok(outcome) => ending_of(Ok(outcome.failed > 0), task.image),
         Err(fault) => ending_of(Err(fault), task.image),
     }
@@ -98,6 +99,7 @@ fn poll<D, R>(
     host: &Host<'_, R>,
     disk: FileDisk<D>,
     plan: Plan<'_, Global, SystemBus<'_, R>>,
+    is_json: bool,
 ) -> Result<Outcome, ProgramFault>
 where
     D: FileExt + OpenFile + Drop,
@@ -118,7 +120,13 @@ where
         last: Moment { seconds: 0 },
         progress: &progress,
     };
-    let (_, outcome) = poll_image(host.rt.alloc(), disk, plan, &mut timer, &mut out);
+    let alloc = host.rt.alloc();
+    let (_, outcome) = if is_json {
+        let mut events = EventSink::new(&mut out);
+        poll_image(alloc, disk, plan, &mut timer, &mut events)
+    } else {
+        poll_image(alloc, disk, plan, &mut timer, &mut out)
+    };
     progress.clear();
     if !matches!(outcome, Err(ProgramFault::Write)) && out.flush().is_err() {
         return Err(ProgramFault::Write);

@@ -9,7 +9,7 @@ use std::io::Write;
 use std::rt::Clock;
 use std::time::Instant;
 
-// Back to the first column, and nothing behind it.
+// Back to the first column, and nothing after it.
 const CLEAR: &str = "\r\u{1b}[K";
 
 /// The line on standard error that says how far a poll is: `37 of 120 meters, 2 failed, 41 s`. Where
@@ -83,13 +83,17 @@ impl<'h, R: Clock + Eprint> Progress<'h, R> {
         }
     }
 
-    // A line of the poll's text begins with these bytes.
+    // A line of the poll's text, or an object of its events, begins with these bytes.
     fn count(&self, begin: &[u8]) {
-        let is_failed = begin.starts_with(b"FAILED") || begin.starts_with(b"REFUSED");
+        let is_failed = begin.starts_with(b"FAILED")
+            || begin.starts_with(b"REFUSED")
+            || begin.starts_with(b"{\"event\":\"failed\"")
+            || begin.starts_with(b"{\"event\":\"refused\"");
         if is_failed {
             self.failed.set(self.failed.get().saturating_add(1));
         }
-        if is_failed || begin.starts_with(b"READ") {
+        let is_read = begin.starts_with(b"READ") || begin.starts_with(b"{\"event\":\"read\"");
+        if is_failed || is_read {
             self.done.set(self.done.get().saturating_add(1));
         }
     }

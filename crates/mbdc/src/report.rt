@@ -5,6 +5,7 @@ use crate::image::open_image;
 use crate::tasks::{ROOM, flushed};
 use crate::why::Noted;
 use dc_ending::{Ending, ending_of};
+use dc_inspect::report_json_on;
 use dc_poller::{ProgramFault, Report, report_on};
 use dc_sectors::FileDisk;
 use dc_stream::WriteSink;
@@ -19,7 +20,12 @@ const NO_TABLE: &str =
     "TABLE is neither 'register' nor a date that exists, as 2024-12-31; try mbdc --help";
 
 /// Prints the table that the word asks for, of the image in that file.
-pub fn report_on_image<'a, R>(host: &Host<'_, R>, image: &'a str, table: &str) -> Ending<'a>
+pub fn report_on_image<'a, R>(
+    host: &Host<'_, R>,
+    image: &'a str,
+    table: &str,
+    is_json: bool,
+) -> Ending<'a>
 where
     R: Files<File = File> + Print + AllocGlobal,
 {
@@ -31,7 +37,7 @@ where
         Err(error) => return host.why.file(image, error),
     };
     match FileDisk::new(Noted::new(file, host.why)) {
-        Ok(disk) => ending_of(work(host, disk, report), image),
+        Ok(disk) => ending_of(work(host, disk, report, is_json), image),
         Err(error) => host.why.file(image, error),
     }
 }
@@ -41,10 +47,16 @@ fn work<D: FileExt + OpenFile + Drop, R: Print + AllocGlobal>(
     host: &Host<'_, R>,
     disk: FileDisk<D>,
     report: Report,
+    is_json: bool,
 ) -> Result<bool, ProgramFault> {
     let printer = Noted::new(io::writer(host.rt), host.why);
     let mut writer = Buffered::new(host.rt.alloc(), ROOM, WriteSink::new(printer))?;
-    let (_, outcome) = report_on(host.rt.alloc(), disk, report, &mut writer);
+    let alloc = host.rt.alloc();
+    let (_, outcome) = if is_json {
+        report_json_on(alloc, disk, report, &mut writer)
+    } else {
+        report_on(alloc, disk, report, &mut writer)
+    };
     outcome?;
     flushed(writer)?;
     Ok(false)

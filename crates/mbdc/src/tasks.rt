@@ -4,6 +4,7 @@ use crate::bench::{read_on_bus, scan_bus};
 use crate::demo;
 use crate::format::format_image;
 use crate::host::Host;
+use crate::inspect::inspect_image;
 use crate::poll::poll_on_image;
 use crate::report::report_on_image;
 use crate::script::run_on_image;
@@ -45,7 +46,12 @@ where
         Task::Lines { engine, file: None } => work_on(host, *engine, host.rt.reader(), STREAM),
         Task::Format { image, sectors } => format_image(host, image, *sectors),
         Task::Run(task) => run_on_image(host, task),
-        Task::Report { image, table } => report_on_image(host, image, table),
+        Task::Report {
+            image,
+            table,
+            is_json,
+        } => report_on_image(host, image, table, *is_json),
+        Task::Inspect { image } => inspect_image(host, image),
         Task::Scan {
             link,
             scan,

@@ -1,0 +1,52 @@
+//! The command `inspect`: what an image in a file holds.
+
+use crate::host::Host;
+use crate::image::open_locked;
+use crate::tasks::{ROOM, flushed};
+use crate::why::Noted;
+use dc_ending::{Ending, STREAM, ending_of};
+use dc_inspect::inspect;
+use dc_poller::ProgramFault;
+use dc_recovery::OpenFault;
+use dc_sectors::FileDisk;
+use dc_stream::WriteSink;
+use dc_text::Buffered;
+use std::fs::{File, OpenFile, OpenOptions};
+use std::io;
+use std::os::unix::fs::FileExt;
+use std::rt::Files;
+
+/// Prints what the image in that file holds, or why it doesn't open. The file is opened to read alone, and locked as
+/// long as it is open.
+pub fn inspect_image<'a, R>(host: &Host<'_, R>, image: &'a str) -> Ending<'a>
+where
+    R: Files<File = File> + Print + AllocGlobal,
+{
+    let mut options = OpenOptions::new();
+    options.read(true);
+    let file = match open_locked(host.rt, &options, image) {
+        Ok(file) => file,
+        Err(error) => return host.why.file(image, error),
+    };
+    let mut disk = match FileDisk::new(Noted::new(file, host.why)) {
+        Ok(disk) => disk,
+        Err(error) => return host.why.file(image, error),
+    };
+    match look(host, &mut disk) {
+        Ok(None) => Ending::Clean,
+        Ok(Some(fault)) => Ending::Open(fault),
+        Err(fault) => ending_of(Err(fault), STREAM),
+    }
+}
+
+// Writes what the disk's image holds to standard output, and answers why it doesn't open.
+fn look<D: FileExt + OpenFile + Drop, R: Print + AllocGlobal>(
+    host: &Host<'_, R>,
+    disk: &mut FileDisk<D>,
+) -> Result<Option<OpenFault>, ProgramFault> {
+    let printer = Noted::new(io::writer(host.rt), host.why);
+    let mut writer = Buffered::new(host.rt.alloc(), ROOM, WriteSink::new(printer))?;
+    let refusal = inspect(host.rt.alloc(), disk, &mut writer)?;
+    flushed(writer)?;
+    Ok(refusal)
+}
