@@ -16,11 +16,17 @@ AreHeld image slots = IsHeld 1 (image 1) slots.first × IsHeld 2 (image 2) slots
 
 -- what was found, as what was seen
 abbrev pub seen_of : {A : Type 0} → Found A → Seen
-seen_of found = record { root = found.root; last = found.last; place = found.place; state = found.house.state }
+seen_of found = record {
+  root = found.root;
+  last = found.last;
+  place = found.place;
+  state = found.house.state;
+}
 
 abbrev pub IsSeen : {A : Type 0} → ℕ → Image → Option (Found A) → Option OpenFault → Type 0
 IsSeen half_len image found refusal = IsLook half_len image (option_map seen_of found) refusal
 
 -- what stops a look, where reading answers that fault
 abbrev pub IsStop : OpenFault → ProgramFault → Type 0
-IsStop fault stop = ((fault ≡ Device) × (stop ≡ Open Device)) ⊎ ((fault ≡ NoMemory) × (stop ≡ Refused))
+IsStop fault stop = ((fault ≡ Device) × (stop ≡ Open Device))
+    ⊎ ((fault ≡ NoMemory) × (stop ≡ Refused))

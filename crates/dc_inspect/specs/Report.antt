@@ -12,7 +12,8 @@ table_lines Register state = register_lines state
 table_lines (Due date) state = due_lines date state
 
 -- The table of the state that the image reads as was written.
-pub record IsShown (half_len : ℕ) (report : Report) (image : Image) (wrote : List ℕ → Type 0) : Type 0 where
+pub record IsShown (half_len : ℕ) (report : Report) (image : Image)
+    (wrote : List ℕ → Type 0) : Type 0 where
   pub state : State
   pub reads : Reads half_len state image
   pub text : wrote (table_lines report state)

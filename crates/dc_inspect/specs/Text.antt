@@ -1,5 +1,6 @@
 -- The lines of `inspect`: a fact a line, its name and its numbers (this product).
-use Rattle.std.specs.Prelude.{ℕ, ◌-◌, List, [], ◌++◌, length, codes, slice_get, Option, Some, None, option_map}
+use Rattle.std.specs.Prelude.{ℕ, ◌-◌, List, [], ◌++◌, length, codes, slice_get, Option, Some, None}
+use Rattle.std.specs.Prelude.{option_map}
 use Rattle.dc_text.specs.Words.{number_word, fault_text}
 use Rattle.dc_changes.specs.State.{State, ReadingRow}
 use Rattle.dc_changes.specs.Size.{size_of}
@@ -9,7 +10,8 @@ use Rattle.dc_roots.specs.declared.chooser.Held.TheVariants.{Valid, Other, Lost}
 use Rattle.dc_recovery.specs.Fault.{open_number, open_name}
 use Rattle.dc_recovery.specs.Halves.{half_start, half_end}
 use Rattle.dc_recovery.specs.declared.fault.OpenFault.{OpenFault}
-use Rattle.dc_recovery.specs.declared.fault.OpenFault.TheVariants.{NotImage, Damaged, Version, Worn, Device, NoMemory}
+use Rattle.dc_recovery.specs.declared.fault.OpenFault.TheVariants.{NotImage, Damaged, Version, Worn}
+use Rattle.dc_recovery.specs.declared.fault.OpenFault.TheVariants.{Device, NoMemory}
 use Rattle.dc_inspect.specs.declared.summary.Summary.{Summary}
 
 -- a line of a name and a number, and of a name and two
@@ -21,7 +23,8 @@ pair_line name a b = name ++ number_word a ++ number_word b ++ codes "\n"
 
 -- what a root says: its version, generation and session, and the half that it names
 unfoldable pub root_words : Root → List ℕ
-root_words root = number_word root.version ++ number_word root.generation ++ number_word root.session ++ number_word root.half ++ codes "\n"
+root_words root = number_word root.version ++ number_word root.generation
+    ++ number_word root.session ++ number_word root.half ++ codes "\n"
 
 -- what a root slot holds: the slot is the sector, 1 or 2
 abbrev pub held_words : Held → List ℕ
@@ -39,7 +42,8 @@ place_text half_len root last place =
     number_line (codes "VERSION") root.version
     ++ (number_line (codes "HALF") root.half
     ++ (number_line (codes "GROUPS") (last - root.base_sequence)
-    ++ pair_line (codes "SECTORS") (place - half_start half_len root.half) (half_end half_len root.half - place)))
+    ++ pair_line (codes "SECTORS") (place - half_start half_len root.half)
+    (half_end half_len root.half - place)))
 
 -- the word of a serial
 unfoldable pub serial_word : Option ℕ → List ℕ
@@ -48,13 +52,14 @@ serial_word (Some serial) = number_word serial
 
 -- how many readings wait for the office, and the first and the last serial of them
 unfoldable pub readings_words : List ℕ → Summary → List ℕ
-readings_words name sum = name ++ (number_word sum.readings ++ (serial_word sum.first ++ (serial_word sum.last ++ codes "\n")))
+readings_words name sum = name ++ (number_word sum.readings
+    ++ (serial_word sum.first ++ (serial_word sum.last ++ codes "\n")))
 
 abbrev pub readings_line : Summary → List ℕ
 readings_line sum = readings_words (codes "READINGS") sum
 
--- the state's size and the greatest that it may have, in bytes; its meters and readings; up to which serial the office has
--- confirmed; the number of the last command
+-- the state's size and the greatest that it may have, in bytes; its meters and readings; up to which serial the
+-- office has confirmed; the number of the last command
 unfoldable pub summary_text : Summary → List ℕ
 summary_text sum =
     pair_line (codes "SIZE") sum.size sum.budget

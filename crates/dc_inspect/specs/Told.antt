@@ -1,4 +1,4 @@
--- What `inspect` tells of a disk's image (this product): the state that it reads as, by the definitions that opening is
+-- What `inspect` says of a disk's image (this product): the state that it reads as, by the definitions that opening is
 -- held to, or its one refusal.
 use Rattle.std.specs.Prelude.{◌≡◌, ◌⊎◌, ◌<◌, ◌≤◌, ℕ, List, [], ◌++◌, codes, Option, Some, None}
 use Rattle.dc_sectors.specs.Disk.{Image}
@@ -12,30 +12,36 @@ use Rattle.dc_recovery.specs.Stands.{IsRead}
 use Rattle.dc_recovery.specs.declared.fault.OpenFault.{OpenFault}
 use Rattle.dc_recovery.specs.declared.fault.OpenFault.TheVariants.{NotImage, Worn, Device}
 use Rattle.dc_poller.specs.declared.fault.ProgramFault.{ProgramFault}
-use Rattle.dc_poller.specs.declared.fault.ProgramFault.TheVariants.{Read, TooLong, Write, NoMemory, Open}
-use Rattle.dc_inspect.specs.Text.{number_line, slot_line, place_text, summary_of, summary_text, refused_line, refusal_text}
+use Rattle.dc_poller.specs.declared.fault.ProgramFault.TheVariants.{Read, TooLong, Write, NoMemory}
+use Rattle.dc_poller.specs.declared.fault.ProgramFault.TheVariants.{Open}
+use Rattle.dc_inspect.specs.Text.{number_line, slot_line, place_text, summary_of, summary_text}
+use Rattle.dc_inspect.specs.Text.{refused_line, refusal_text}
 
--- what an image was read as: the root in force, the sequence of the last group, the place of the next one, and the state
+-- what an image was read as: the root in force, the sequence of the last group, the place of the next one, and the
+-- state
 pub record Seen : Type 0 where
   pub root : Root
   pub last : ℕ
   pub place : ℕ
   pub state : State
 
--- why an image that reads doesn't open: no session can begin behind that root and the group of that sequence
+-- why an image that reads doesn't open: no session can begin after that root and the group of that sequence
 abbrev pub IsWearOf : Root → ℕ → Option OpenFault → Type 0
 IsWearOf root last None = IsSpent root last → ⊥
 IsWearOf root last (Some fault) = (fault ≡ Worn) × IsSpent root last
 
 -- what an image reads as and why it doesn't open: either is a fact of the image
 abbrev pub IsLook : ℕ → Image → Option Seen → Option OpenFault → Type 0
-IsLook half_len image (Some seen) refusal = IsRead half_len seen.root seen.place seen.last seen.state image × IsWearOf seen.root seen.last refusal
+IsLook half_len image (Some seen) refusal =
+    IsRead half_len seen.root seen.place seen.last seen.state image
+    × IsWearOf seen.root seen.last refusal
 IsLook half_len image None None = ⊥
 IsLook half_len image None (Some fault) = TellsOfImage fault × IsRefused half_len image fault
 
 abbrev pub seen_text : ℕ → Option Seen → List ℕ
 seen_text half_len None = []
-seen_text half_len (Some seen) = place_text half_len seen.root seen.last seen.place ++ summary_text (summary_of (budget_of half_len) seen.state)
+seen_text half_len (Some seen) = place_text half_len seen.root seen.last seen.place
+    ++ summary_text (summary_of (budget_of half_len) seen.state)
 
 -- the line of a disk: its sectors
 abbrev pub disk_line : ℕ → List ℕ
@@ -47,13 +53,15 @@ image_text half_len first second seen refusal =
     slot_line 1 first ++ (slot_line 2 second ++ (seen_text half_len seen ++ refusal_text refusal))
 
 -- A disk that is too small for an image is none.
-pub record TellsSmall (sectors : ℕ) (refusal : Option OpenFault) (wrote : List ℕ → Type 0) : Type 0 where
+pub record TellsSmall (sectors : ℕ) (refusal : Option OpenFault)
+    (wrote : List ℕ → Type 0) : Type 0 where
   pub small : sectors < fewest_sectors
   pub refusal_is : refusal ≡ Some NotImage
   pub text : wrote (disk_line sectors ++ refused_line NotImage)
 
 -- The slots, what the image reads as, and why it doesn't open, were told.
-pub record TellsImage (sectors : ℕ) (image : Image) (refusal : Option OpenFault) (wrote : List ℕ → Type 0) : Type 0 where
+pub record TellsImage (sectors : ℕ) (image : Image) (refusal : Option OpenFault)
+    (wrote : List ℕ → Type 0) : Type 0 where
   pub enough : fewest_sectors ≤ sectors
   pub first : Held
   pub second : Held
@@ -63,9 +71,10 @@ pub record TellsImage (sectors : ℕ) (image : Image) (refusal : Option OpenFaul
   pub look : IsLook (half_len_of sectors) image seen refusal
   pub text : wrote (disk_line sectors ++ image_text (half_len_of sectors) first second seen refusal)
 
--- WHAT IS TOLD of a disk of so many sectors with that image, and why it doesn't open
+-- WHAT IS TOLD of a disk of this many sectors with that image, and why it doesn't open
 abbrev pub Tells : ℕ → Image → Option OpenFault → (List ℕ → Type 0) → Type 0
-Tells sectors image refusal wrote = TellsSmall sectors refusal wrote ⊎ TellsImage sectors image refusal wrote
+Tells sectors image refusal wrote =
+    TellsSmall sectors refusal wrote ⊎ TellsImage sectors image refusal wrote
 
 -- what stops a look: memory, the disk or the writer, of which an end has counted its failure
 abbrev pub IsOfLook : Type 0 → Type 0 → ProgramFault → Type 0

@@ -1,13 +1,16 @@
 //! The engine of `inspect`.
 
-ghost use Rattle.std.specs.Prelude.{◌≡◌, ◌≢◌, ◌<◌, ◌≤◌, ◌++◌, Some, IfOk, IfErr, IfSome, OnOk, option_map};
+ghost use Rattle.std.specs.Prelude.{◌≡◌, ◌≢◌, ◌<◌, ◌≤◌, ◌++◌, Some, IfOk, IfErr, IfSome, OnOk};
+ghost use Rattle.std.specs.Prelude.{option_map};
 ghost use Rattle.dc_base.specs.Failures.{HasRisen};
 ghost use Rattle.dc_stream.specs.Stream.{Puts, Wrote};
-ghost use Rattle.dc_recovery.specs.Halves.{budget_of, fewest_sectors, half_start, half_end, longest_half};
+ghost use Rattle.dc_recovery.specs.Halves.{budget_of, fewest_sectors, half_start, half_end};
+ghost use Rattle.dc_recovery.specs.Halves.{longest_half};
 ghost use Rattle.dc_recovery.specs.Looked.{OnlyLooked};
 ghost use Rattle.dc_inspect.specs.Look.{seen_of};
 ghost use Rattle.dc_inspect.specs.Text.{refused_line};
-ghost use Rattle.dc_inspect.specs.Told.{IsOfLook, Tells, TellsImage, TellsSmall, disk_line, image_text, seen_text};
+ghost use Rattle.dc_inspect.specs.Told.{IsOfLook, Tells, TellsImage, TellsSmall, disk_line};
+ghost use Rattle.dc_inspect.specs.Told.{image_text, seen_text};
 ghost use Rattle.dc_recovery.specs.declared.fault.OpenFault.TheVariants.{NotImage};
 
 use crate::look::{Look, Slots, look_at, read_slots};
@@ -21,7 +24,7 @@ use dc_sectors::{Disk, Failed};
 use dc_stream::{Bytes, IoFault, Sink};
 use std::alloc::Allocator;
 
-// Puts what is told of an image behind the line of its disk.
+// Puts what is told of an image after the line of its disk.
 #[tactic(auto, using(dc_stream::proofs::Pieces::written), unfolding(crate::specs::Told::image_text))]
 fn put_image<A: Allocator + Copy, W: Sink>(
     out: &mut W,
@@ -32,9 +35,13 @@ fn put_image<A: Allocator + Copy, W: Sink>(
     requires most { half_len ≤ longest_half }
     requires budget { IfSome look.now.found (λ found. found.house.budget ≡ budget_of half_len) }
     requires half { IfSome look.now.found (λ found. found.root.half ≤ 1) }
-    requires from { IfSome look.now.found (λ found. half_start half_len found.root.half ≤ found.place) }
-    requires within { IfSome look.now.found (λ found. found.place ≤ half_end half_len found.root.half) }
-    ensures { Wrote W.written W.put_failures result out.old out.new (image_text half_len slots.now.first slots.now.second (option_map seen_of look.now.found) look.now.refusal) }
+    requires from { IfSome look.now.found (λ found.
+        half_start half_len found.root.half ≤ found.place) }
+    requires within { IfSome look.now.found (λ found.
+        found.place ≤ half_end half_len found.root.half) }
+    ensures { Wrote W.written W.put_failures result out.old out.new
+        (image_text half_len slots.now.first slots.now.second
+        (option_map seen_of look.now.found) look.now.refusal) }
 {
     put_slot(out, 1, &slots.first)?;
     put_slot(out, 2, &slots.second)?;
@@ -54,7 +61,8 @@ fn put_found<A: Allocator + Copy, W: Sink>(
     requires half { IfSome found.now (λ found. found.root.half ≤ 1) }
     requires from { IfSome found.now (λ found. half_start half_len found.root.half ≤ found.place) }
     requires within { IfSome found.now (λ found. found.place ≤ half_end half_len found.root.half) }
-    ensures { Wrote W.written W.put_failures result out.old out.new (seen_text half_len (option_map seen_of found.now)) }
+    ensures { Wrote W.written W.put_failures result out.old out.new
+        (seen_text half_len (option_map seen_of found.now)) }
 {
     match found {
         None => Ok(()),
@@ -77,9 +85,13 @@ fn put_disk<A: Allocator + Copy, W: Sink>(
     requires most { half_len ≤ longest_half }
     requires budget { IfSome look.now.found (λ found. found.house.budget ≡ budget_of half_len) }
     requires half { IfSome look.now.found (λ found. found.root.half ≤ 1) }
-    requires from { IfSome look.now.found (λ found. half_start half_len found.root.half ≤ found.place) }
-    requires within { IfSome look.now.found (λ found. found.place ≤ half_end half_len found.root.half) }
-    ensures { Wrote W.written W.put_failures result out.old out.new (disk_line sectors ++ image_text half_len slots.now.first slots.now.second (option_map seen_of look.now.found) look.now.refusal) }
+    requires from { IfSome look.now.found (λ found.
+        half_start half_len found.root.half ≤ found.place) }
+    requires within { IfSome look.now.found (λ found.
+        found.place ≤ half_end half_len found.root.half) }
+    ensures { Wrote W.written W.put_failures result out.old out.new
+        (disk_line sectors ++ image_text half_len slots.now.first slots.now.second
+        (option_map seen_of look.now.found) look.now.refusal) }
 {
     put_number_line(out, b"DISK", u64::from(sectors))?;
     put_image(out, half_len, slots, look)
@@ -88,7 +100,8 @@ fn put_disk<A: Allocator + Copy, W: Sink>(
 // Puts what is told of a disk that is too small for an image.
 #[tactic(auto, using(dc_stream::proofs::Pieces::written))]
 fn put_small<W: Sink>(out: &mut W, sectors: u32) -> Result<(), IoFault>
-    ensures { Wrote W.written W.put_failures result out.old out.new (disk_line sectors ++ refused_line NotImage) }
+    ensures { Wrote W.written W.put_failures result out.old out.new
+        (disk_line sectors ++ refused_line NotImage) }
 {
     put_number_line(out, b"DISK", u64::from(sectors))?;
     put_refused_line(out, OpenFault::NotImage)
@@ -103,10 +116,14 @@ fn tell_image<A: Allocator + Copy, D: Disk>(
 ) -> Result<Option<OpenFault>, ProgramFault>
     requires sectors { sectors ≡ D.sectors disk.old }
     requires enough { fewest_sectors ≤ sectors }
-    ensures told { D.keeps disk.new → IfOk result (λ refusal. TellsImage sectors (D.reads disk.old) refusal (Puts (Some text.old.bytes) (Some text.new.bytes))) }
-    ensures looked { OnlyLooked D.keeps D.reads D.choices D.moment D.images_since D.sectors D.failures disk.old disk.new }
+    ensures told { D.keeps disk.new → IfOk result (λ refusal.
+        TellsImage sectors (D.reads disk.old) refusal
+        (Puts (Some text.old.bytes) (Some text.new.bytes))) }
+    ensures looked { OnlyLooked D.keeps D.reads D.choices D.moment D.images_since D.sectors
+        D.failures disk.old disk.new }
     ensures passed { OnOk result (D.failures disk.new ≡ D.failures disk.old) }
-    ensures faults { IfErr result (IsOfLook (HasRisen (D.failures disk.old) (D.failures disk.new)) ⊥) }
+    ensures faults { IfErr result (IsOfLook
+        (HasRisen (D.failures disk.old) (D.failures disk.new)) ⊥) }
 {
     let half_len = half_len_of(sectors);
     let slots = match read_slots(disk) {
@@ -126,7 +143,8 @@ fn tell_small<A: Allocator>(
     text: &mut Bytes<A>,
 ) -> Result<Option<OpenFault>, ProgramFault>
     requires { sectors < fewest_sectors }
-    ensures told { IfOk result (λ refusal. TellsSmall sectors refusal (Puts (Some text.old.bytes) (Some text.new.bytes))) }
+    ensures told { IfOk result (λ refusal.
+        TellsSmall sectors refusal (Puts (Some text.old.bytes) (Some text.new.bytes))) }
     ensures faults { IfErr result (λ fault. fault ≡ ProgramFault.NoMemory) }
 {
     match put_small(text, sectors) {
@@ -141,10 +159,14 @@ fn tell_disk<A: Allocator + Copy, D: Disk>(
     disk: &mut D,
     text: &mut Bytes<A>,
 ) -> Result<Option<OpenFault>, ProgramFault>
-    ensures told { D.keeps disk.new → IfOk result (λ refusal. Tells (D.sectors disk.old) (D.reads disk.old) refusal (Puts (Some text.old.bytes) (Some text.new.bytes))) }
-    ensures looked { OnlyLooked D.keeps D.reads D.choices D.moment D.images_since D.sectors D.failures disk.old disk.new }
+    ensures told { D.keeps disk.new → IfOk result (λ refusal.
+        Tells (D.sectors disk.old) (D.reads disk.old) refusal
+        (Puts (Some text.old.bytes) (Some text.new.bytes))) }
+    ensures looked { OnlyLooked D.keeps D.reads D.choices D.moment D.images_since D.sectors
+        D.failures disk.old disk.new }
     ensures passed { OnOk result (D.failures disk.new ≡ D.failures disk.old) }
-    ensures faults { IfErr result (IsOfLook (HasRisen (D.failures disk.old) (D.failures disk.new)) ⊥) }
+    ensures faults { IfErr result (IsOfLook
+        (HasRisen (D.failures disk.old) (D.failures disk.new)) ⊥) }
 {
     let sectors = disk.count();
     if sectors < FEWEST_SECTORS {
@@ -153,30 +175,37 @@ fn tell_disk<A: Allocator + Copy, D: Disk>(
     tell_image(alloc, disk, sectors, text)
 }
 
-/// Reads the image and writes what it holds, a fact a line. Nothing is written to the disk and nothing is synced, not even
-/// the next root. The answer is why the image doesn't open, if it doesn't: a fact of the image, which the text tells too.
+/// Reads the image and writes what it holds, a fact a line. Nothing is written to the disk and nothing is synced, not
+/// even the next root. The answer is why the image doesn't open, if it doesn't: a fact of the image, which the text
+/// tells too.
 ///
-/// The image is read as [`Store::open`](dc_recovery::Store::open) reads it. The text is made whole before it is written, with
-/// one put.
+/// The image is read as [`Store::open`](dc_recovery::Store::open) reads it. The text is made whole before it is
+/// written, with one put.
 ///
 /// # Errors
-/// `Open(Device)` where a read of the disk failed and [`ProgramFault::NoMemory`] where memory was refused, both with the
-/// writer as it was; [`ProgramFault::Write`] where the writer failed.
+/// `Open(Device)` where a read of the disk failed and [`ProgramFault::NoMemory`] where memory was refused, both with
+/// the writer as it was; [`ProgramFault::Write`] where the writer failed.
 pub fn inspect<D: Disk, A: Allocator + Copy, W: Sink>(
     alloc: A,
     disk: &mut D,
     writer: &mut W,
 ) -> Result<Option<OpenFault>, ProgramFault>
     // What is told is the state that the image reads as, or the image's one refusal.
-    ensures told { D.keeps disk.new → IfOk result (λ refusal. Tells (D.sectors disk.old) (D.reads disk.old) refusal (Puts (W.written writer.old) (W.written writer.new))) }
-    ensures well { OnOk result ((D.failures disk.new ≡ D.failures disk.old) × (W.put_failures writer.new ≡ W.put_failures writer.old)) }
+    ensures told { D.keeps disk.new → IfOk result (λ refusal.
+        Tells (D.sectors disk.old) (D.reads disk.old) refusal
+        (Puts (W.written writer.old) (W.written writer.new))) }
+    ensures well { OnOk result ((D.failures disk.new ≡ D.failures disk.old)
+        × (W.put_failures writer.new ≡ W.put_failures writer.old)) }
 
     // The disk reads as before, and so does what a stop at any moment leaves.
-    ensures looked { OnlyLooked D.keeps D.reads D.choices D.moment D.images_since D.sectors D.failures disk.old disk.new }
+    ensures looked { OnlyLooked D.keeps D.reads D.choices D.moment D.images_since D.sectors
+        D.failures disk.old disk.new }
 
     // A fault of an end is answered only where that end counted a failure, and only a failed write touches the writer.
-    ensures faults { IfErr result (IsOfLook (HasRisen (D.failures disk.old) (D.failures disk.new)) (HasRisen (W.put_failures writer.old) (W.put_failures writer.new))) }
-    ensures untouched { IfErr result (λ fault. fault ≢ ProgramFault.Write → writer.new ≡ writer.old) }
+    ensures faults { IfErr result (IsOfLook (HasRisen (D.failures disk.old) (D.failures disk.new))
+        (HasRisen (W.put_failures writer.old) (W.put_failures writer.new))) }
+    ensures untouched { IfErr result (λ fault.
+        fault ≢ ProgramFault.Write → writer.new ≡ writer.old) }
 {
     let mut text = Bytes::new(alloc);
     let refusal = tell_disk(alloc, disk, &mut text)?;

@@ -36,7 +36,8 @@ pub(crate) struct Look<A: Allocator + Copy> {
 pub(crate) fn read_slots<D: Disk>(disk: &mut D) -> Result<Slots, Failed>
     requires { 2 < D.sectors disk.old }
     ensures held { D.keeps disk.new → IfOk result (λ slots. AreHeld (D.reads disk.old) slots) }
-    ensures looked { OnlyLooked D.keeps D.reads D.choices D.moment D.images_since D.sectors D.failures disk.old disk.new }
+    ensures looked { OnlyLooked D.keeps D.reads D.choices D.moment D.images_since D.sectors
+        D.failures disk.old disk.new }
     ensures passed { OnOk result (D.failures disk.new ≡ D.failures disk.old) }
     ensures failed { OnErr result (HasRisen (D.failures disk.old) (D.failures disk.new)) }
 {
@@ -78,14 +79,20 @@ pub(crate) fn look_at<A: Allocator + Copy, D: Disk>(
 ) -> Result<Look<A>, ProgramFault>
     requires most { half_len ≤ longest_half }
     requires fits { 3 + 2 * half_len ≤ D.sectors disk.old }
-    ensures seen { D.keeps disk.new → IfOk result (λ look. IsSeen half_len (D.reads disk.old) look.found look.refusal) }
-    ensures looked { OnlyLooked D.keeps D.reads D.choices D.moment D.images_since D.sectors D.failures disk.old disk.new }
-    ensures budget { IfOk result (λ look. IfSome look.found (λ found. found.house.budget ≡ budget_of half_len)) }
+    ensures seen { D.keeps disk.new → IfOk result (λ look.
+        IsSeen half_len (D.reads disk.old) look.found look.refusal) }
+    ensures looked { OnlyLooked D.keeps D.reads D.choices D.moment D.images_since D.sectors
+        D.failures disk.old disk.new }
+    ensures budget { IfOk result (λ look.
+        IfSome look.found (λ found. found.house.budget ≡ budget_of half_len)) }
     ensures half { IfOk result (λ look. IfSome look.found (λ found. found.root.half ≤ 1)) }
-    ensures from { IfOk result (λ look. IfSome look.found (λ found. half_start half_len found.root.half ≤ found.place)) }
-    ensures within { IfOk result (λ look. IfSome look.found (λ found. found.place ≤ half_end half_len found.root.half)) }
+    ensures from { IfOk result (λ look.
+        IfSome look.found (λ found. half_start half_len found.root.half ≤ found.place)) }
+    ensures within { IfOk result (λ look.
+        IfSome look.found (λ found. found.place ≤ half_end half_len found.root.half)) }
     ensures passed { OnOk result (D.failures disk.new ≡ D.failures disk.old) }
-    ensures faults { IfErr result (IsOfLook (HasRisen (D.failures disk.old) (D.failures disk.new)) ⊥) }
+    ensures faults { IfErr result (IsOfLook
+        (HasRisen (D.failures disk.old) (D.failures disk.new)) ⊥) }
 {
     match read_image(alloc, disk, half_len) {
         Ok(found) => {

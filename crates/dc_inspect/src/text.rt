@@ -3,7 +3,10 @@
 ghost use Rattle.std.specs.Prelude.{◌≤◌, ◌++◌};
 ghost use Rattle.dc_stream.specs.Stream.{Wrote};
 ghost use Rattle.dc_recovery.specs.Halves.{half_start, half_end, longest_half};
-ghost use Rattle.dc_inspect.specs.Text.{held_words, number_line, pair_line, place_text, readings_words, fault_words, refused_line, refusal_text, root_words, sector_word, serial_word, slot_line, summary_text};
+ghost use Rattle.dc_inspect.specs.Text.{held_words, number_line, pair_line, place_text};
+ghost use Rattle.dc_inspect.specs.Text.{readings_words, fault_words, refused_line, refusal_text};
+ghost use Rattle.dc_inspect.specs.Text.{root_words, sector_word, serial_word, slot_line};
+ghost use Rattle.dc_inspect.specs.Text.{summary_text};
 
 use crate::summary::Summary;
 use dc_recovery::{Found, OpenFault, half_end, half_start};
@@ -25,7 +28,8 @@ pub(crate) fn put_number_line<W: Sink>(out: &mut W, name: &[u8], number: u64) ->
 // Puts a line of a name and two numbers.
 #[tactic(auto, using(dc_stream::proofs::Pieces::written), unfolding(crate::specs::Text::pair_line))]
 fn put_pair_line<W: Sink>(out: &mut W, name: &[u8], first: u64, second: u64) -> Result<(), IoFault>
-    ensures { Wrote W.written W.put_failures result out.old out.new (pair_line name.now first second) }
+    ensures { Wrote W.written W.put_failures result out.old out.new
+        (pair_line name.now first second) }
 {
     out.put(name)?;
     put_number_word(out, first)?;
@@ -77,7 +81,8 @@ pub(crate) fn put_place<A: Allocator + Copy, W: Sink>(
     requires half { found.now.root.half ≤ 1 }
     requires from { half_start half_len found.now.root.half ≤ found.now.place }
     requires within { found.now.place ≤ half_end half_len found.now.root.half }
-    ensures { Wrote W.written W.put_failures result out.old out.new (place_text half_len found.now.root found.now.last found.now.place) }
+    ensures { Wrote W.written W.put_failures result out.old out.new
+        (place_text half_len found.now.root found.now.last found.now.place) }
 {
     let Found {
         root,
@@ -104,10 +109,11 @@ fn put_serial<W: Sink>(out: &mut W, serial: Option<u64>) -> Result<(), IoFault>
     }
 }
 
-// Puts how many readings there are, and the first and the last serial, behind a name.
+// Puts how many readings there are, and the first and the last serial, after a name.
 #[tactic(auto, using(dc_stream::proofs::Pieces::written), unfolding(crate::specs::Text::readings_words))]
 fn put_readings<W: Sink>(out: &mut W, name: &[u8], sum: &Summary) -> Result<(), IoFault>
-    ensures { Wrote W.written W.put_failures result out.old out.new (readings_words name.now sum.now) }
+    ensures { Wrote W.written W.put_failures result out.old out.new
+        (readings_words name.now sum.now) }
 {
     out.put(name)?;
     put_number_word(out, sum.readings as u64)?;
@@ -147,14 +153,15 @@ fn put_fault_words<W: Sink>(
     name: &str,
     fault: OpenFault,
 ) -> Result<(), IoFault>
-    ensures { Wrote W.written W.put_failures result out.old out.new (fault_words number name.now fault) }
+    ensures { Wrote W.written W.put_failures result out.old out.new
+        (fault_words number name.now fault) }
 {
     put_fault(out, number, name)?;
     put_sector(out, fault)?;
     out.put(b"\n")
 }
 
-// Puts a fault and its sector behind a word.
+// Puts a fault and its sector after a word.
 #[tactic(auto, using(dc_stream::proofs::Pieces::written))]
 fn put_refused<W: Sink>(
     out: &mut W,
@@ -163,7 +170,8 @@ fn put_refused<W: Sink>(
     name: &str,
     fault: OpenFault,
 ) -> Result<(), IoFault>
-    ensures { Wrote W.written W.put_failures result out.old out.new (what.now ++ fault_words number name.now fault) }
+    ensures { Wrote W.written W.put_failures result out.old out.new
+        (what.now ++ fault_words number name.now fault) }
 {
     out.put(what)?;
     put_fault_words(out, number, name, fault)

@@ -55,7 +55,7 @@ module _ {B : Type 0} (asks : B → List ℕ → List ℕ → B → Type 0) wher
   and_others old mid new address more line later first rest =
       (first.0 ++ rest.0, exchanged-both asks old mid new first.0 rest.0 first.1 rest.1, (first.0, rest.0, line, later, refl, refl, first.2, rest.2))
 
--- the last so many addresses are the first of them and the ones after it
+-- the last this many addresses are the first of them and the ones after it
 pub last_addresses : (left : ℕ) → 1 ≤ left → left ≤ 250
     → range_with_len (251 - left) left ≡ (251 - left) ∷ range_with_len (251 - (left - 1)) (left - 1)
 last_addresses zero some few = elim some [ ]

@@ -1,7 +1,8 @@
 -- The readout of one meter on a bus, as its telegrams are printed (EN 13757-2, frame count bit; EN 13757-3).
 use Rattle.std.specs.Prelude.{◌≡◌, ◌⊎◌, ℕ, List, [], ◌∷◌, ◌++◌, None, Some, length, option_map}
 use Rattle.dc_linkframe.specs.Frame.{spelling}
-use Rattle.dc_readout.specs.Summary.{Summary, Verdict, again, ready, new, failed, asked_by, heard_by, settled_by, verdict_by}
+use Rattle.dc_readout.specs.Summary.{Summary, Verdict, again, ready, new, failed, asked_by}
+use Rattle.dc_readout.specs.Summary.{heard_by, settled_by, verdict_by}
 use Rattle.dc_gateway.specs.Bus.{AreExchanged, Exchange}
 use Rattle.dc_core.specs.Text.{failed_text}
 use Rattle.dc_teller.specs.Frames.{all_shown, frames_of}
@@ -32,11 +33,13 @@ abbrev pub AreRead : Summary → List Exchange → List ℕ → Summary → Type
 AreRead session [] text last = (text ≡ []) × (last ≡ session)
 AreRead session (exchange ∷ more) text last =
     (option_map spelling (asked_by session) ≡ Some exchange.request)
-    × (rest : List ℕ) × (text ≡ printed (verdict_by session exchange.answer) exchange.answer ++ rest)
+    × (rest : List ℕ) × (text ≡ printed (verdict_by session exchange.answer) exchange.answer
+    ++ rest)
     × AreRead (after session exchange.answer) more rest last
 
 -- These exchanges are all that happened to the bus, and this was printed of them.
-pub record Reads {B : Type 0} (asks : B → List ℕ → List ℕ → B → Type 0) (old new : B) (session : Summary)
+pub record Reads {B : Type 0} (asks : B → List ℕ → List ℕ → B → Type 0) (old new : B)
+    (session : Summary)
     (wrote : List ℕ → Type 0) : Type 0 where
   pub exchanges : List Exchange
   pub happened : AreExchanged asks old exchanges new
@@ -46,11 +49,13 @@ pub record Reads {B : Type 0} (asks : B → List ℕ → List ℕ → B → Type
   pub printed_it : wrote text
 
 -- A readout that ended, or made as many requests as it may.
-pub record IsReadOn {B : Type 0} (asks : B → List ℕ → List ℕ → B → Type 0) (old new : B) (session : Summary)
+pub record IsReadOn {B : Type 0} (asks : B → List ℕ → List ℕ → B → Type 0) (old new : B)
+    (session : Summary)
     (most : ℕ) (wrote : List ℕ → Type 0) : Type 0 where
   pub reads : Reads asks old new session wrote
   pub ended : (asked_by reads.last ≡ None) ⊎ (length reads.exchanges ≡ most)
 
 -- A failed write ended it: no request went out after the answer whose text failed.
-abbrev pub IsCutOff : {B : Type 0} → (B → List ℕ → List ℕ → B → Type 0) → B → B → Summary → (List ℕ → Type 0) → Type 0
+abbrev pub IsCutOff : {B : Type 0} → (B → List ℕ → List ℕ → B → Type 0) → B → B → Summary
+    → (List ℕ → Type 0) → Type 0
 IsCutOff asks first last session wrote = Reads asks first last session wrote

@@ -1,5 +1,6 @@
 -- The search for meters on a bus, without an image (EN 13757-3, wildcards; EN 13757-2, primary addresses).
-use Rattle.std.specs.Prelude.{◌≡◌, ℕ, ◌-◌, ◌≤◌, Bool, true, false, ◌&&◌, ◌==◌, if◌then◌else◌, IsTrue, List, [], ◌∷◌, ◌++◌, codes, Option, None, Some, IfSome}
+use Rattle.std.specs.Prelude.{◌≡◌, ℕ, ◌-◌, ◌≤◌, Bool, true, false, ◌&&◌, ◌==◌, if◌then◌else◌}
+use Rattle.std.specs.Prelude.{IsTrue, List, [], ◌∷◌, ◌++◌, codes, Option, None, Some, IfSome}
 use Rattle.dc_address.specs.Text.{text_of}
 use Rattle.dc_address.specs.declared.identity.Identity.{Identity}
 use Rattle.dc_gateway.specs.Bus.{Exchange, HasAsked, IsSearched}
@@ -12,8 +13,10 @@ use Rattle.dc_search.specs.State.{SearchState, is_idle, step_of}
 use Rattle.dc_text.specs.Words.{number_word}
 
 -- A wildcard search that ended within its budget: the bus settled before it, and its requests are all that went out.
-pub record IsLook {B : Type 0} (settles : B → B → Type 0) (ready : B → Bool) (asks : B → List ℕ → List ℕ → B → Type 0)
-    (meters : B → Option (List Identity)) (budget : ℕ) (old new : B) (search : SearchState) : Type 0 where
+pub record IsLook {B : Type 0} (settles : B → B → Type 0) (ready : B → Bool)
+    (asks : B → List ℕ → List ℕ → B → Type 0)
+    (meters : B → Option (List Identity)) (budget : ℕ) (old new : B)
+    (search : SearchState) : Type 0 where
   pub between : B
   pub settled : settles old between
   pub quiet : ready between ≡ true
@@ -35,17 +38,21 @@ finds_nobody search = is_none search.found && is_none search.shared
 abbrev pub is_enough : ℕ → SearchState → Bool
 is_enough budget search = if finds_nobody search then search.selections == budget else true
 
--- THE SCAN OF A BUS, as it is printed: one search. Where it finds nobody and budget is left, there is a second one with what
--- is left, and the text is that of the second one, with the selections of both.
-pub data Scanned {B : Type 0} (settles : B → B → Type 0) (ready : B → Bool) (asks : B → List ℕ → List ℕ → B → Type 0)
-    (meters : B → Option (List Identity)) (budget : ℕ) (old new : B) (wrote : List ℕ → Type 0) : Type 0 where
+-- THE SCAN OF A BUS, as it is printed: one search. Where it finds nobody and budget is left, there is a second one
+-- with what is left, and the text is that of the second one, with the selections of both.
+pub data Scanned {B : Type 0} (settles : B → B → Type 0) (ready : B → Bool)
+    (asks : B → List ℕ → List ℕ → B → Type 0)
+    (meters : B → Option (List Identity)) (budget : ℕ) (old new : B)
+    (wrote : List ℕ → Type 0) : Type 0 where
   at_once : (search : SearchState) → IsLook settles ready asks meters budget old new search
       → is_enough budget search ≡ true
       → wrote (search_text search) → Scanned settles ready asks meters budget old new wrote
-  once_more : (first second : SearchState) (between : B) → IsLook settles ready asks meters budget old between first
+  once_more : (first second : SearchState) (between : B)
+      → IsLook settles ready asks meters budget old between first
       → is_enough budget first ≡ false
       → IsLook settles ready asks meters (budget - first.selections) between new second
-      → wrote (search_text_after first.selections second) → Scanned settles ready asks meters budget old new wrote
+      → wrote (search_text_after first.selections second)
+      → Scanned settles ready asks meters budget old new wrote
 
 -- ---- primary addresses
 
@@ -55,7 +62,8 @@ identity_word (Some meter) = codes " " ++ text_of meter
 
 -- an address that acknowledged, and whose telegram it was, where that could be read
 abbrev pub address_line : ℕ → Option Identity → List ℕ
-address_line address meter = codes "ADDRESS" ++ (number_word address ++ (identity_word meter ++ codes "\n"))
+address_line address meter = codes "ADDRESS"
+    ++ (number_word address ++ (identity_word meter ++ codes "\n"))
 
 -- the greatest primary address
 abbrev pub greatest : ℕ
@@ -78,7 +86,8 @@ pub data Identifies (address : ℕ) : List Exchange → Option Identity → Type
   is_silent : {answer : List ℕ} → is_ack (frame_of answer) ≡ false
       → Identifies address (resets address answer ∷ []) None
   answers : {answer telegram : List ℕ} → is_ack (frame_of answer) ≡ true
-      → Identifies address (resets address answer ∷ requests address telegram ∷ []) (answer_of telegram)
+      → Identifies address (resets address answer ∷ requests address telegram ∷ [])
+      (answer_of telegram)
 
 -- The same, with what is printed of it.
 pub data AsksOne (address : ℕ) : List Exchange → List ℕ → Type 0 where
@@ -92,5 +101,6 @@ pub data AsksOne (address : ℕ) : List Exchange → List ℕ → Type 0 where
 abbrev pub AsksEach : List ℕ → List Exchange → List ℕ → Type 0
 AsksEach [] exchanges text = (exchanges ≡ []) × (text ≡ [])
 AsksEach (address ∷ more) exchanges text =
-    (first rest : List Exchange) × (line later : List ℕ) × (exchanges ≡ first ++ rest) × (text ≡ line ++ later)
+    (first rest : List Exchange) × (line later : List ℕ) × (exchanges ≡ first ++ rest)
+    × (text ≡ line ++ later)
     × AsksOne address first line × AsksEach more rest later

@@ -9,7 +9,8 @@ ghost use Rattle.dc_linkframe.specs.Control.{request_to, reset_to};
 ghost use Rattle.dc_linkframe.specs.Frame.{spelling};
 ghost use Rattle.dc_linkframe.specs.Reading.{frame_of};
 ghost use Rattle.dc_stream.specs.Stream.{Puts, Wrote};
-ghost use Rattle.dc_installer.specs.Scan.{AsksEach, AsksOne, Identifies, address_line, greatest, identity_word, is_ack};
+ghost use Rattle.dc_installer.specs.Scan.{AsksEach, AsksOne, Identifies, address_line, greatest};
+ghost use Rattle.dc_installer.specs.Scan.{identity_word, is_ack};
 
 use dc_address::{Identity, Primary};
 use dc_gateway::Bus;
@@ -22,8 +23,8 @@ use dc_text::put_number_word;
 // The greatest primary address.
 const GREATEST: u8 = 250;
 
-/// Asks each primary address from 1 to 250 (EN 13757-2), and prints each that acknowledges, with the meter whose telegram
-/// it answers where that can be read.
+/// Asks each primary address from 1 to 250 (EN 13757-2), and prints each that acknowledges, with the meter whose
+/// telegram it answers where that can be read.
 ///
 /// # Errors
 /// A write failed.
@@ -52,7 +53,7 @@ pub fn identify<B: Bus>(bus: &mut B, address: Primary) -> Option<Identity>
     }
 }
 
-// The last so many addresses.
+// The last this many addresses.
 fn scan_last<B: Bus, W: Sink>(left: u8, bus: &mut B, out: &mut W) -> Result<(), IoFault>
     requires { left ≤ greatest }
     ensures asked { OnOk result ((exchanges : List Exchange) × (text : List ℕ)

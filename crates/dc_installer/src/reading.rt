@@ -1,6 +1,7 @@
 //! The readout of one meter.
 
-ghost use Rattle.std.specs.Prelude.{◌≡◌, ◌≤◌, ℕ, List, None, Some, IfOk, OnOk, OnErr, length, option_map};
+ghost use Rattle.std.specs.Prelude.{◌≡◌, ◌≤◌, ℕ, List, None, Some, IfOk, OnOk, OnErr, length};
+ghost use Rattle.std.specs.Prelude.{option_map};
 ghost use Rattle.dc_base.specs.Failures.{HasRisen};
 ghost use Rattle.dc_core.specs.Step.{longest_request};
 ghost use Rattle.dc_linkframe.specs.Frame.{spelling};
@@ -29,8 +30,9 @@ pub enum Readout {
     Failed,
 }
 
-/// Reads a meter on a bus, at its primary address or by selection, and prints its telegrams as `decode` does. A telegram is
-/// printed before the next one is requested, as the meter discards it then. Where the readout fails, the last line says why.
+/// Reads a meter on a bus, at its primary address or by selection, and prints its telegrams as `decode` does. A
+/// telegram is printed before the next one is requested, as the meter discards it then. Where the readout fails, the
+/// last line says why.
 ///
 /// # Errors
 /// A write failed. No further request goes out then, so the meter still has the telegram that wasn't printed.
@@ -40,7 +42,8 @@ pub fn read<B: Bus, W: Sink>(
     address: Option<Primary>,
     out: &mut W,
 ) -> Result<Readout, IoFault>
-    ensures read { OnOk result (IsReadOn B.asks bus.old bus.new (begun meter.now address) most_requests
+    ensures read { OnOk result (IsReadOn B.asks bus.old bus.new
+        (begun meter.now address) most_requests
         (Puts (W.written out.old) (W.written out.new))) }
     ensures unwritten { OnErr result (IsCutOff B.asks bus.old bus.new (begun meter.now address)
         (PutsFront (W.written out.old) (W.written out.new))) }
@@ -50,7 +53,7 @@ pub fn read<B: Bus, W: Sink>(
     read_on(bus, Session::start(*meter, address), MOST_REQUESTS, out)
 }
 
-// Goes on with a session, by so many requests at most.
+// Goes on with a session, by this many requests at most.
 fn read_on<B: Bus, W: Sink>(
     bus: &mut B,
     session: Session,
@@ -109,7 +112,8 @@ fn exchange<B: Bus, W: Sink>(
 
 // Prints a telegram, or why the readout failed.
 fn put_read<W: Sink>(heard: &Heard<'_>, answer: &[u8], out: &mut W) -> Result<(), IoFault>
-    ensures { Wrote W.written W.put_failures result out.old out.new (printed (verdict heard.now) answer.now) }
+    ensures { Wrote W.written W.put_failures result out.old out.new
+        (printed (verdict heard.now) answer.now) }
 {
     match heard {
         Heard::New { .. } => match put_frames(answer, out) {

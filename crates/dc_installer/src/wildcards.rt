@@ -26,12 +26,12 @@ pub enum ScanFault {
     NoMemory,
 }
 
-/// Searches a bus for meters by wildcards (EN 13757-3), with at most `budget` selections, and prints what it found: each
-/// meter, each number that more than one meter has, whether the budget was spent, and the number of selections.
+/// Searches a bus for meters by wildcards (EN 13757-3), with at most `budget` selections, and prints what it found:
+/// each meter, each number that more than one meter has, whether the budget was spent, and the number of selections.
 ///
-/// The bus settles first, so that no late answer is taken for one to the search. Where the search finds nobody and budget
-/// is left, the bus settles again and is searched once more, as an answer that came late hides a meter. Then the text is
-/// that of the second search, with the selections of both.
+/// The bus settles first, so that no late answer is taken for one to the search. Where the search finds nobody and
+/// budget is left, the bus settles again and is searched once more, as an answer that came late hides a meter. Then
+/// the text is that of the second search, with the selections of both.
 ///
 /// # Errors
 /// [`ScanFault::Write`], and [`ScanFault::NoMemory`] with nothing written.
@@ -96,7 +96,8 @@ fn print_first<A: Allocator + Copy, W: Sink>(
     search: &Search<A>,
     out: &mut W,
 ) -> Result<(), ScanFault>
-    ensures text { OnOk result (Puts (W.written out.old) (W.written out.new) (search_text search.now)) }
+    ensures text { OnOk result (Puts (W.written out.old) (W.written out.new)
+        (search_text search.now)) }
     ensures write { IsErrOf result ScanFault.Write
         → HasRisen (W.put_failures out.old) (W.put_failures out.new) }
     ensures only { IsErrOf result ScanFault.NoMemory → ⊥ }

@@ -1,6 +1,7 @@
--- A link frame as JSON, or the fault that stands in its place (this product; frames are those of EN 13757-2, bodies those of
--- EN 13757-3).
-use Rattle.std.specs.Prelude.{ℕ, ◌==◌, if◌then◌else◌, List, [], ◌∷◌, ◌++◌, codes, Option, Some, None, Result, Ok, Err, map}
+-- A link frame as JSON, or the fault that stands in its place (this product; frames are those of EN 13757-2, bodies
+-- those of EN 13757-3).
+use Rattle.std.specs.Prelude.{ℕ, ◌==◌, if◌then◌else◌, List, [], ◌∷◌, ◌++◌, codes, Option, Some}
+use Rattle.std.specs.Prelude.{None, Result, Ok, Err, map}
 use Rattle.hex.specs.Hex.{encode_upper}
 use Rattle.json.specs.Json.{Json, string}
 use Rattle.dc_linkframe.specs.declared.fault.FrameFault.{FrameFault}
@@ -17,7 +18,8 @@ use Rattle.dc_json.specs.Telegram.{telegram_fields}
 
 -- where a fault is found: in a line's digits, a frame or a body
 unfoldable pub fault_fields : List ℕ → ℕ → List ℕ → List Field
-fault_fields place number name = (codes "kind", string place) ∷ (codes "number", count number) ∷ (codes "name", string name) ∷ []
+fault_fields place number name = (codes "kind", string place) ∷ (codes "number", count number)
+    ∷ (codes "name", string name) ∷ []
 
 unfoldable pub fault_field : List ℕ → ℕ → List ℕ → Field
 fault_field place number name = (codes "fault", object_of (fault_fields place number name))
@@ -44,25 +46,30 @@ bytes_field name bytes = (name, string (encode_upper bytes))
 abbrev pub body_fields : List ℕ → Result Parsed BodyFault → List Field
 body_fields body (Ok t) = telegram_fields t
 body_fields body (Err f) =
-    bytes_field (codes "body") body ∷ fault_field (codes "body") (records.number_of f) (records.name_of f) ∷ []
+    bytes_field (codes "body") body ∷ fault_field (codes "body") (records.number_of f)
+    (records.name_of f) ∷ []
 
 -- a body is read for CI 72
 unfoldable pub content_fields : ℕ → List ℕ → List Field
 content_fields ci body =
-    if ci == variable_data then body_fields body (telegram_at body) else bytes_field (codes "body") body ∷ []
+    if ci == variable_data then body_fields body (telegram_at body)
+    else bytes_field (codes "body") body ∷ []
 
 abbrev pub frame_fields : ℕ → FrameSeen → List Field
 frame_fields line ack = place_fields line (codes "ack")
-frame_fields line (short control address) = place_fields line (codes "short") ++ link_fields control address
+frame_fields line (short control address) =
+    place_fields line (codes "short") ++ link_fields control address
 frame_fields line (long control address ci body) =
-    place_fields line (codes "long") ++ (link_fields control address ++ (ci_fields ci ++ content_fields ci body))
+    place_fields line (codes "long")
+    ++ (link_fields control address ++ (ci_fields ci ++ content_fields ci body))
 
 -- the frame that a text spells, or the fault that it has
 abbrev pub read_fields : ℕ → List ℕ → Result FrameSeen FrameFault → List Field
 read_fields line text (Ok frame) = frame_fields line frame
 read_fields line text (Err f) =
     place_fields line (codes "none")
-    ++ (bytes_field (codes "bytes") text ∷ fault_field (codes "frame") (link.number_of f) (link.name_of f) ∷ [])
+    ++ (bytes_field (codes "bytes") text
+    ∷ fault_field (codes "frame") (link.number_of f) (link.name_of f) ∷ [])
 
 unfoldable pub text_fields : ℕ → List ℕ → List Field
 text_fields line text = read_fields line text (read_as text)
@@ -72,7 +79,8 @@ text_json line text = object_of (text_fields line text)
 
 -- a line that isn't pairs of hex digits, or is too long
 unfoldable pub hex_fault_fields : ℕ → List Field
-hex_fault_fields line = place_fields line (codes "none") ++ (fault_field (codes "hex") 1 (codes "Hex") ∷ [])
+hex_fault_fields line = place_fields line (codes "none")
+    ++ (fault_field (codes "hex") 1 (codes "Hex") ∷ [])
 
 unfoldable pub hex_fault_json : ℕ → Json
 hex_fault_json line = object_of (hex_fault_fields line)

@@ -1,6 +1,7 @@
 -- JSON objects as lists of fields, and what a call adds to a text (RFC 8259; this product).
 use Rattle.std.specs.Prelude.{◌≡◌, ℕ, List, [], ◌∷◌, ◌++◌, map, decimal, Result, OnOk}
-use Rattle.json.specs.Json.{Json, number, object, array, Items, no_items, item, Members, no_members, member}
+use Rattle.json.specs.Json.{Json, number, object, array, Items, no_items, item, Members, no_members}
+use Rattle.json.specs.Json.{member}
 use Rattle.json.specs.Token.{Token}
 use Rattle.json.specs.Tree.{json_tokens}
 use Rattle.json.specs.Written.{Written}

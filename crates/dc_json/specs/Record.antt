@@ -1,12 +1,14 @@
 -- A data record as JSON (this product; the fields are those of EN 13757-3, data record).
-use Rattle.std.specs.Prelude.{ℕ, ◌%◌, if◌then◌else◌, List, [], ◌∷◌, ◌++◌, codes, length, ◌==◌, map, Option, Some, None}
+use Rattle.std.specs.Prelude.{ℕ, ◌%◌, if◌then◌else◌, List, [], ◌∷◌, ◌++◌, codes, length, ◌==◌, map}
+use Rattle.std.specs.Prelude.{Option, Some, None}
 use Rattle.hex.specs.Hex.{encode_upper}
 use Rattle.json.specs.Json.{Json, string, null}
 use Rattle.dc_records.specs.Record.{Entry}
 use Rattle.dc_units.specs.declared.point.Seen.{Seen}
 use Rattle.dc_units.specs.declared.point.Seen.TheVariants.{Point as Known, Other}
 use Rattle.dc_units.specs.declared.value.Value.{Value}
-use Rattle.dc_units.specs.declared.value.Value.TheVariants.{Number, Flags, Day as OnDay, Minute, None as NoValue}
+use Rattle.dc_units.specs.declared.value.Value.TheVariants.{Number, Flags, Day as OnDay, Minute}
+use Rattle.dc_units.specs.declared.value.Value.TheVariants.{None as NoValue}
 use Rattle.dc_units.specs.Point.{seen_of}
 use Rattle.dc_units.specs.Quantity.{unit_of}
 use Rattle.dc_units.specs.Text.{value_text}
@@ -27,7 +29,8 @@ about_fields e =
 
 -- its value information block and its data as sent
 unfoldable pub sent_fields : Entry → List Field
-sent_fields e = (codes "vib", string (encode_upper e.vib)) ∷ (codes "data", string (encode_upper e.content)) ∷ []
+sent_fields e = (codes "vib", string (encode_upper e.vib))
+    ∷ (codes "data", string (encode_upper e.content)) ∷ []
 
 -- the name of a VIFE
 unfoldable pub qualifier : ℕ → Json
@@ -40,8 +43,8 @@ quantity_fields e =
     ∷ (codes "qualifiers", array_of (map qualifier (qualifiers e.vib)))
     ∷ []
 
--- A value is a text: an exact decimal, a date or a date and time of ISO 8601, flags in hex. A meter that has none to give
--- has null.
+-- A value is a text: an exact decimal, a date or a date and time of ISO 8601, flags in hex. A meter that has none to
+-- give has null.
 unfoldable pub value_json : Value → Json
 value_json (Number decimal) = string (value_text (Number decimal))
 value_json (Flags len bits) = string (value_text (Flags len bits))
@@ -64,7 +67,8 @@ plain_fields (Some plain) = value_fields (codes "plain") (value_json plain.0) (u
 
 -- by the due-date table, as `decode` prints it
 abbrev pub seen_fields : Seen → Option (Value × List ℕ) → List Field
-seen_fields (Known p) plain = value_fields (codes "point") (value_json p.value) (unit_json (unit_of p.quantity))
+seen_fields (Known p) plain = value_fields (codes "point") (value_json p.value)
+    (unit_json (unit_of p.quantity))
 seen_fields Other plain = plain_fields plain
 
 unfoldable pub reading_fields : Entry → List Field

@@ -25,12 +25,14 @@ address_json (Some address) = count address
 
 -- the flat and the meter that a row is about
 unfoldable pub whose_fields : List ℕ → Identity → List Field
-whose_fields flat meter = (codes "flat", string flat) ∷ (codes "meter", object_of (identity_fields meter)) ∷ []
+whose_fields flat meter = (codes "flat", string flat)
+    ∷ (codes "meter", object_of (identity_fields meter)) ∷ []
 
 -- where a meter hangs, and how many parts of a readout are open
 unfoldable pub station_fields : MeterRow → List Field
 station_fields row =
-    (codes "line", count row.line) ∷ (codes "address", address_json row.address) ∷ (codes "open", count (length row.parts)) ∷ []
+    (codes "line", count row.line) ∷ (codes "address", address_json row.address)
+    ∷ (codes "open", count (length row.parts)) ∷ []
 
 -- a registered meter
 abbrev pub meter_fields : Identity → MeterRow → List Field
@@ -70,7 +72,8 @@ point_fields serial p =
 
 -- a row of the due-date table
 abbrev pub row_fields : Day → Row → List Field
-row_fields date row = date_fields date ++ (whose_fields row.flat row.meter ++ point_fields row.serial row.point)
+row_fields date row = date_fields date
+    ++ (whose_fields row.flat row.meter ++ point_fields row.serial row.point)
 
 unfoldable pub row_json : Day → Row → Json
 row_json date row = object_of (row_fields date row)

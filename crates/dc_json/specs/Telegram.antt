@@ -20,7 +20,8 @@ header_fields h =
 
 -- whether more records follow in the next telegram, and the manufacturer's data
 unfoldable pub ending_fields : Bool → Json → List Field
-ending_fields more_follows data_sent = (codes "more", boolean more_follows) ∷ (codes "manufacturer_data", data_sent) ∷ []
+ending_fields more_follows data_sent =
+    (codes "more", boolean more_follows) ∷ (codes "manufacturer_data", data_sent) ∷ []
 
 unfoldable pub end_fields : Ending → List Field
 end_fields plain = ending_fields false null

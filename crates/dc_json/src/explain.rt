@@ -161,9 +161,9 @@ fn put_lines<W: Sink>(
     Ok(found)
 }
 
-/// Writes what the lines of hex digits that the reader has left say, in words: each frame, the meter, its status, a table of
-/// its records, and of each fault where it lies in the line (in bytes, from 0) and what was expected there. The answer says
-/// whether a fault of a line, a frame or a body was met.
+/// Writes what the lines of hex digits that the reader has left say, in words: each frame, the meter, its status, a
+/// table of its records, and of each fault where it lies in the line (in bytes, from 0) and what was expected there.
+/// The answer says whether a fault of a line, a frame or a body was met.
 ///
 /// The whole input is read, and the whole text made, before anything is written.
 ///
@@ -177,11 +177,14 @@ pub fn explain_lines<A: Allocator + Copy, R: Source, W: Sink>(
 ) -> Result<bool, TellFault>
     // An input over the limit is refused, and no other is refused for its length.
     ensures fits { OnOk result (IfSome (R.left reader.old) (λ input. length input ≤ most_input)) }
-    ensures too_long { IsErrOf result TellFault.TooLong → IfSome (R.left reader.old) (λ input. most_input < length input) }
+    ensures too_long { IsErrOf result TellFault.TooLong
+        → IfSome (R.left reader.old) (λ input. most_input < length input) }
 
     // A fault of an end is answered only where that end counted a failure.
-    ensures read { IsErrOf result TellFault.Read → HasRisen (R.take_failures reader.old) (R.take_failures reader.new) }
-    ensures write { IsErrOf result TellFault.Write → HasRisen (W.put_failures writer.old) (W.put_failures writer.new) }
+    ensures read { IsErrOf result TellFault.Read
+        → HasRisen (R.take_failures reader.old) (R.take_failures reader.new) }
+    ensures write { IsErrOf result TellFault.Write
+        → HasRisen (W.put_failures writer.old) (W.put_failures writer.new) }
 
     // After any fault but a failed write the writer is as it was.
     ensures untouched { IfErr result (λ fault. fault ≢ TellFault.Write → writer.new ≡ writer.old) }

@@ -4,7 +4,9 @@ ghost use Rattle.std.specs.Prelude.{◌≡◌, ◌∷◌, [], ◌++◌, codes, E
 ghost use Rattle.dc_linkframe.specs.Frame.{seen, long};
 ghost use Rattle.dc_teller.specs.Frames.{is_bad_content, is_bad_frame, is_bad};
 ghost use Rattle.dc_json.specs.Object.{Adds, fields_tokens};
-ghost use Rattle.dc_json.specs.Frame.{fault_fields, fault_field, place_fields, link_fields, ci_fields, bytes_field, body_fields, content_fields, frame_fields, read_fields, text_fields};
+ghost use Rattle.dc_json.specs.Frame.{fault_fields, fault_field, place_fields, link_fields};
+ghost use Rattle.dc_json.specs.Frame.{ci_fields, bytes_field, body_fields, content_fields};
+ghost use Rattle.dc_json.specs.Frame.{frame_fields, read_fields, text_fields};
 
 use crate::put::{begin_object, end_object, put_count, put_hex, put_name, put_text};
 use crate::telegram::put_telegram;
@@ -47,7 +49,8 @@ pub(crate) fn put_fault<A: Allocator>(
     number: u8,
     name: &str,
 ) -> Result<(), NoMemory>
-    ensures { Adds result out.old out.new (fields_tokens (fault_field place.now number name.now ∷ [])) }
+    ensures { Adds result out.old out.new
+        (fields_tokens (fault_field place.now number name.now ∷ [])) }
 {
     put_name(out, "fault")?;
     begin_object(out)?;
@@ -131,7 +134,8 @@ fn put_frame_fault<A: Allocator + Copy>(
     Ok(())
 }
 
-// Writes what a body has, where the CI field says that it is a telegram, else its bytes, and says whether it is at fault.
+// Writes what a body has, where the CI field says that it is a telegram, else its bytes, and says whether it is at
+// fault.
 #[tactic(auto, unfolding(crate::specs::Frame::content_fields, dc_teller::specs::Frames::is_bad_content))]
 fn put_content<A: Allocator + Copy>(
     alloc: A,
@@ -165,7 +169,8 @@ fn put_short<A: Allocator>(
     control: u8,
     address: u8,
 ) -> Result<(), NoMemory>
-    ensures { Adds result out.old out.new (fields_tokens (place_fields line (codes "short") ++ link_fields control address)) }
+    ensures { Adds result out.old out.new
+        (fields_tokens (place_fields line (codes "short") ++ link_fields control address)) }
 {
     put_place(out, line, "short")?;
     put_link(out, control, address)?;
@@ -180,7 +185,8 @@ fn put_long<A: Allocator + Copy>(
     head: Head,
     body: &[u8],
 ) -> Result<bool, NoMemory>
-    ensures tokens { Adds result out.old out.new (fields_tokens (frame_fields line (long head.control head.address head.ci body.now))) }
+    ensures tokens { Adds result out.old out.new
+        (fields_tokens (frame_fields line (long head.control head.address head.ci body.now))) }
     ensures fault { IfOk result (λ bad. bad ≡ is_bad_content head.ci body.now) }
 {
     let Head {
@@ -202,7 +208,8 @@ fn put_frame<A: Allocator + Copy>(
     line: u64,
     frame: Frame<'_>,
 ) -> Result<bool, NoMemory>
-    ensures tokens { Adds result out.old out.new (fields_tokens (frame_fields line (seen frame.entry))) }
+    ensures tokens { Adds result out.old out.new
+        (fields_tokens (frame_fields line (seen frame.entry))) }
     ensures fault { IfOk result (λ bad. bad ≡ is_bad_frame (seen frame.entry)) }
 {
     match frame {

@@ -1,6 +1,7 @@
 //! The engine of JSON lines: from a source's lines of hex digits to a sink's objects.
 
-ghost use Rattle.std.specs.Prelude.{◌≡◌, ◌≢◌, ◌<◌, ◌≤◌, ◌++◌, length, map, IfSome, IfOk, IfErr, OnOk, IsErrOf};
+ghost use Rattle.std.specs.Prelude.{◌≡◌, ◌≢◌, ◌<◌, ◌≤◌, ◌++◌, length, map, IfSome, IfOk, IfErr};
+ghost use Rattle.std.specs.Prelude.{OnOk, IsErrOf};
 ghost use Rattle.dc_base.specs.Failures.{HasRisen};
 ghost use Rattle.dc_stream.specs.Stream.{Puts};
 ghost use Rattle.dc_teller.specs.Frames.{frames_of, is_bad, any_bad};
@@ -33,7 +34,8 @@ fn add_text<A: Allocator + Copy>(
     line: u64,
     bytes: &[u8],
 ) -> Result<(Vec<u8, A>, bool), NoMemory>
-    ensures text { IfOk result (λ added. added.0.items ≡ text.items ++ value_line (text_json line bytes.now)) }
+    ensures text { IfOk result (λ added.
+        added.0.items ≡ text.items ++ value_line (text_json line bytes.now)) }
     ensures fault { IfOk result (λ added. added.1 ≡ is_bad bytes.now) }
 {
     let mut out = Writer::new(text);
@@ -67,7 +69,8 @@ fn add_frames<A: Allocator + Copy>(
     line: u64,
     bytes: &[u8],
 ) -> Result<(Vec<u8, A>, bool), NoMemory>
-    ensures text { IfOk result (λ added. added.0.items ≡ text.items ++ lines_text (map (text_json line) (frames_of bytes.now))) }
+    ensures text { IfOk result (λ added.
+        added.0.items ≡ text.items ++ lines_text (map (text_json line) (frames_of bytes.now))) }
     ensures fault { IfOk result (λ added. added.1 ≡ any_bad (frames_of bytes.now)) }
 {
     let mut grown = text;
@@ -83,7 +86,8 @@ fn add_frames<A: Allocator + Copy>(
     Ok((grown, found))
 }
 
-// Adds the objects of a line, and says whether a fault is among them. `digits` and `bytes` are room for what is decoded.
+// Adds the objects of a line, and says whether a fault is among them. `digits` and `bytes` are room for what is
+// decoded.
 #[tactic(auto, unfolding(crate::specs::Text::line_objects, dc_teller::specs::Text::is_bad_line))]
 fn add_line<A: Allocator + Copy>(
     alloc: A,
@@ -94,7 +98,8 @@ fn add_line<A: Allocator + Copy>(
 ) -> Result<(Vec<u8, A>, bool), NoMemory>
     requires digits { longest_input_line ≤ length digits.old }
     requires bytes { most_spelled ≤ length bytes.old }
-    ensures text { IfOk result (λ added. added.0.items ≡ text.items ++ lines_text (line_objects numbered.now.number numbered.now.line.now)) }
+    ensures text { IfOk result (λ added. added.0.items ≡ text.items ++ lines_text
+        (line_objects numbered.now.number numbered.now.line.now)) }
     ensures fault { IfOk result (λ added. added.1 ≡ is_bad_line numbered.now.line.now) }
 {
     let Numbered { number, line } = *numbered;
@@ -137,9 +142,9 @@ fn add_lines<A: Allocator + Copy>(
     Ok((grown, found))
 }
 
-/// Writes what the lines of hex digits that the reader has left stand for as JSON Lines (RFC 8259): an object for each
-/// frame and for each fault of a line or a frame, in order. The answer says whether a fault of a line, a frame or a body
-/// is among it.
+/// Writes what the lines of hex digits that the reader has left stand for as JSON Lines (RFC 8259): an object for
+/// each frame and for each fault of a line or a frame, in order. The answer says whether a fault of a line, a frame
+/// or a body is among it.
 ///
 /// The whole input is read, and the whole text made, before anything is written. The text is defined by
 /// `specs/Text.antt`, over the frames of EN 13757-2 and the telegrams of EN 13757-3; the value of a record is that of
@@ -154,18 +159,24 @@ pub fn json_lines<A: Allocator + Copy, R: Source, W: Sink>(
     writer: &mut W,
 ) -> Result<bool, TellFault>
     // What is written is the text for the input, byte for byte.
-    ensures text { OnOk result (IfSome (R.left reader.old) (λ input. Puts (W.written writer.old) (W.written writer.new) (json_text input))) }
+    ensures text { OnOk result (IfSome (R.left reader.old)
+        (λ input. Puts (W.written writer.old) (W.written writer.new) (json_text input))) }
     // The answer says whether a fault is among it.
-    ensures fault { IfOk result (λ found. IfSome (R.left reader.old) (λ input. found ≡ has_fault input)) }
+    ensures fault { IfOk result (λ found.
+        IfSome (R.left reader.old) (λ input. found ≡ has_fault input)) }
 
     // An input over the limit is refused, and no other is refused for its length.
     ensures fits { OnOk result (IfSome (R.left reader.old) (λ input. length input ≤ most_input)) }
-    ensures too_long { IsErrOf result TellFault.TooLong → IfSome (R.left reader.old) (λ input. most_input < length input) }
+    ensures too_long { IsErrOf result TellFault.TooLong
+        → IfSome (R.left reader.old) (λ input. most_input < length input) }
 
     // A fault of an end is answered only where that end counted a failure.
-    ensures read { IsErrOf result TellFault.Read → HasRisen (R.take_failures reader.old) (R.take_failures reader.new) }
-    ensures write { IsErrOf result TellFault.Write → HasRisen (W.put_failures writer.old) (W.put_failures writer.new) }
-    ensures ok { OnOk result ((R.take_failures reader.new ≡ R.take_failures reader.old) × (W.put_failures writer.new ≡ W.put_failures writer.old)) }
+    ensures read { IsErrOf result TellFault.Read
+        → HasRisen (R.take_failures reader.old) (R.take_failures reader.new) }
+    ensures write { IsErrOf result TellFault.Write
+        → HasRisen (W.put_failures writer.old) (W.put_failures writer.new) }
+    ensures ok { OnOk result ((R.take_failures reader.new ≡ R.take_failures reader.old)
+        × (W.put_failures writer.new ≡ W.put_failures writer.old)) }
 
     // After any fault but a failed write the writer is as it was.
     ensures untouched { IfErr result (λ fault. fault ≢ TellFault.Write → writer.new ≡ writer.old) }

@@ -111,7 +111,8 @@ pub(crate) fn put_hex<A: Allocator + Copy>(
     name: &str,
     bytes: &[u8],
 ) -> Result<(), NoMemory>
-    ensures { Adds result out.old out.new (Token.key name.now ∷ Token.string (encode_upper bytes.now) ∷ []) }
+    ensures { Adds result out.old out.new
+        (Token.key name.now ∷ Token.string (encode_upper bytes.now) ∷ []) }
 {
     let digits = hex::encode_upper(alloc, bytes)?;
     put_text(out, name, digits.as_str())?;

@@ -6,7 +6,9 @@ ghost use Rattle.json.specs.Tree.{json_tokens};
 ghost use Rattle.dc_records.specs.Record.{view};
 ghost use Rattle.dc_names.specs.Plain.{plain_view};
 ghost use Rattle.dc_json.specs.Object.{Adds, fields_tokens, values_tokens};
-ghost use Rattle.dc_json.specs.Record.{about_fields, sent_fields, quantity_fields, reading_fields, plain_fields, value_fields, value_json, unit_json, qualifier, record_json};
+ghost use Rattle.dc_json.specs.Record.{about_fields, sent_fields, quantity_fields, reading_fields};
+ghost use Rattle.dc_json.specs.Record.{plain_fields, value_fields, value_json, unit_json};
+ghost use Rattle.dc_json.specs.Record.{qualifier, record_json};
 
 use crate::put::{
     ascii, begin_array, begin_object, end_array, end_object, put_count, put_hex, put_name,
@@ -77,7 +79,8 @@ fn put_reading<A: Allocator>(
     value: &Value,
     unit: &str,
 ) -> Result<(), NoMemory>
-    ensures { Adds result out.old out.new (fields_tokens (value_fields reading.now (value_json value.now) (unit_json unit.now))) }
+    ensures { Adds result out.old out.new
+        (fields_tokens (value_fields reading.now (value_json value.now) (unit_json unit.now))) }
 {
     put_text(out, "reading", reading)?;
     put_name(out, "value")?;
@@ -90,7 +93,8 @@ fn put_reading<A: Allocator>(
 // Writes what is read of a record that the due-date table leaves as other.
 #[tactic(auto, unfolding(crate::specs::Record::value_fields, crate::specs::Object::fields_tokens))]
 fn put_plain<A: Allocator>(out: &mut Writer<A>, plain: &Option<Plain>) -> Result<(), NoMemory>
-    ensures { Adds result out.old out.new (fields_tokens (plain_fields (option_map plain_view plain.now))) }
+    ensures { Adds result out.old out.new
+        (fields_tokens (plain_fields (option_map plain_view plain.now))) }
 {
     match plain {
         Some(plain) => put_reading(out, "plain", &plain.value, plain.unit),

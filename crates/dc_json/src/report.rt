@@ -5,7 +5,9 @@ ghost use Rattle.std.specs.List.{flat_map};
 ghost use Rattle.dc_meters.specs.Places.{by_flat};
 ghost use Rattle.json.specs.Tree.{json_tokens};
 ghost use Rattle.dc_json.specs.Object.{Adds, fields_tokens};
-ghost use Rattle.dc_json.specs.Report.{address_json, date_fields, due_lines, line_at, meter_json, point_fields, register_lines, row_json, row_line, station_fields, whose_fields};
+ghost use Rattle.dc_json.specs.Report.{address_json, date_fields, due_lines, line_at, meter_json};
+ghost use Rattle.dc_json.specs.Report.{point_fields, register_lines, row_json, row_line};
+ghost use Rattle.dc_json.specs.Report.{station_fields, whose_fields};
 ghost use Rattle.dc_json.specs.Text.{value_line};
 
 use crate::meter::put_meter;
@@ -88,7 +90,8 @@ fn add_meter<A: Allocator + Copy>(
     meter: &Identity,
     row: &Meter<A>,
 ) -> Result<Vec<u8, A>, NoMemory>
-    ensures { IfOk result (λ added. added.items ≡ text.items ++ value_line (meter_json meter.now row.now)) }
+    ensures { IfOk result (λ added. added.items ≡ text.items
+        ++ value_line (meter_json meter.now row.now)) }
 {
     let mut out = Writer::new(text);
     begin_object(&mut out)?;
@@ -106,7 +109,8 @@ fn add_row<A: Allocator + Copy>(
     date: Date,
     row: &Row,
 ) -> Result<Vec<u8, A>, NoMemory>
-    ensures { IfOk result (λ added. added.items ≡ text.items ++ value_line (row_json date row.now)) }
+    ensures { IfOk result (λ added. added.items ≡ text.items
+        ++ value_line (row_json date row.now)) }
 {
     let mut out = Writer::new(text);
     begin_object(&mut out)?;
@@ -124,7 +128,8 @@ fn add_meters<A: Allocator + Copy>(
     text: Vec<u8, A>,
     house: &House<A>,
 ) -> Result<Vec<u8, A>, NoMemory>
-    ensures { IfOk result (λ added. added.items ≡ text.items ++ flat_map (line_at house.now.state) (by_flat house.now.state.meters)) }
+    ensures { IfOk result (λ added. added.items ≡ text.items
+        ++ flat_map (line_at house.now.state) (by_flat house.now.state.meters)) }
 {
     let mut grown = text;
     for place in house.meters_by_flat() {
@@ -150,8 +155,8 @@ fn add_rows<A: Allocator + Copy>(
     Ok(grown)
 }
 
-/// The register as JSON Lines (RFC 8259): an object for each registered meter, by flat and then by identity. The only error
-/// is want of memory.
+/// The register as JSON Lines (RFC 8259): an object for each registered meter, by flat and then by identity. The only
+/// error is out of memory.
 pub fn register_json<A: Allocator + Copy>(
     alloc: A,
     house: &House<A>,
@@ -162,7 +167,7 @@ pub fn register_json<A: Allocator + Copy>(
 }
 
 /// The due-date table for a date as JSON Lines (RFC 8259): an object for each row, in the order of
-/// [`due_table`](dc_report::due_table). The only error is want of memory.
+/// [`due_table`](dc_report::due_table). The only error is out of memory.
 pub fn due_json<A: Allocator + Copy>(
     alloc: A,
     house: &House<A>,

@@ -17,7 +17,7 @@ const UNIT: usize = 11;
 
 const NUMBER: usize = 8;
 
-// Writes so many spaces, and one.
+// Writes this many spaces, and one.
 fn put_spaces<W: Sink>(out: &mut W, count: usize) -> Result<(), IoFault> {
     'spaces: for _ in 0..count {
         out.put(b" ")?;

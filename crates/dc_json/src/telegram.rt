@@ -7,7 +7,8 @@ ghost use Rattle.dc_records.specs.Seen.{ending};
 ghost use Rattle.dc_records.specs.Telegram.{parsed};
 ghost use Rattle.dc_json.specs.Object.{Adds, fields_tokens, values_tokens};
 ghost use Rattle.dc_json.specs.Record.{record_json};
-ghost use Rattle.dc_json.specs.Telegram.{header_fields, records_field, ending_fields, end_fields, telegram_fields};
+ghost use Rattle.dc_json.specs.Telegram.{header_fields, records_field, ending_fields, end_fields};
+ghost use Rattle.dc_json.specs.Telegram.{telegram_fields};
 
 use crate::meter::{put_meter, put_status_object};
 use crate::put::{begin_array, end_array, put_count, put_flag, put_hex, put_name, put_null};
@@ -66,7 +67,8 @@ fn put_ending<A: Allocator + Copy>(
     more: bool,
     rest: &[u8],
 ) -> Result<(), NoMemory>
-    ensures { Adds result out.old out.new (fields_tokens (ending_fields more (string (encode_upper rest.now)))) }
+    ensures { Adds result out.old out.new
+        (fields_tokens (ending_fields more (string (encode_upper rest.now)))) }
 {
     put_flag(out, "more", more)?;
     put_hex(alloc, out, "manufacturer_data", rest)?;

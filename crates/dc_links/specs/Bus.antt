@@ -1,5 +1,5 @@
--- What happens to a bus of one of two kinds (this product): what happens to the one that it is. Where there is none, nothing
--- does.
+-- What happens to a bus of one of two kinds (this product): what happens to the one that it is. Where there is none,
+-- nothing does.
 use Rattle.std.specs.Prelude.{◌≡◌, ℕ, Bool, true, List, []}
 use Rattle.dc_links.specs.declared.bus.LinkBus.{LinkBus}
 use Rattle.dc_links.specs.declared.bus.LinkBus.TheVariants.{First, Second, Absent}
@@ -44,7 +44,8 @@ gives_by a b Absent answer (First new) = ⊥
 gives_by a b Absent answer (Second new) = ⊥
 gives_by a b Absent answer Absent = answer ≡ []
 
-abbrev pub waits_by : {A B : Type 0} → (A → A → Type 0) → (B → B → Type 0) → LinkBus A B → LinkBus A B → Type 0
+abbrev pub waits_by : {A B : Type 0} → (A → A → Type 0) → (B → B → Type 0) → LinkBus A B
+    → LinkBus A B → Type 0
 waits_by a b (First old) (First new) = a old new
 waits_by a b (First old) (Second new) = ⊥
 waits_by a b (First old) Absent = ⊥

@@ -5,7 +5,8 @@ use Rattle.dc_line.specs.declared.bus.HalfBus.{Ghosts as HalfGhosts}
 use Rattle.dc_links.specs.declared.script.ScriptLink.{ScriptLink}
 
 -- A lost link is untouched. Over another one this is heard of the request, or silence where the link is lost by it.
-pub record LinkAsks {B P : Type 0} (half : HalfGhosts B) (old : ScriptLink B P) (request answer : List ℕ)
+pub record LinkAsks {B P : Type 0} (half : HalfGhosts B) (old : ScriptLink B P)
+    (request answer : List ℕ)
     (new : ScriptLink B P) : Type 0 where
   pub untouched : half.lost old.both.bus ≡ true → new ≡ old
   pub silence : half.lost new.both.bus ≡ true → answer ≡ []

@@ -11,8 +11,8 @@ use std::time::{Duration, Instant};
 // How many seconds each address of the gateway has to take the connection.
 const CONNECTING: u64 = 10;
 
-// How many seconds an exchange takes at most, from its request to the end of its answer. The longest frame takes 10 s at
-// 300 baud, and a meter up to a second before it answers.
+// How many seconds an exchange takes at most, from its request to the end of its answer. The longest frame takes 10 s
+// at 300 baud, and a meter up to a second before it answers.
 const EXCHANGE: u64 = 15;
 
 /// The stream from which answers come, and the one to which requests go.

@@ -62,7 +62,7 @@ impl<C: Clock + Copy> Peer<C> {
         }
     }
 
-    /// Its bus, silent after so many milliseconds.
+    /// Its bus, silent after this many milliseconds.
     ///
     /// # Errors
     /// The clock fails.

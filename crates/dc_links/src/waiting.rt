@@ -8,10 +8,10 @@ use libc::types::pollfd;
 use std::rt::Clock;
 use std::time::Duration;
 
-// A wait takes at least so many milliseconds where no byte comes.
+// A wait takes at least this many milliseconds where no byte comes.
 const LEAST: u128 = 5;
 
-// And at most so many, so that what is shown of the progress is fresh.
+// And at most this many, so that what is shown of the progress is fresh.
 const LONGEST: u128 = 1_000;
 
 /// The buses of which one is waited for: at most eight.
@@ -64,8 +64,8 @@ impl Watch {
         }
     }
 
-    /// Waits until a byte may have come on one of them, or the silence of one is over: five milliseconds at least, unless a
-    /// byte comes, and a second at most. Without a bus it doesn't wait.
+    /// Waits until a byte may have come on one of them, or the silence of one is over: five milliseconds at least,
+    /// unless a byte comes, and a second at most. Without a bus it doesn't wait.
     pub fn wait(mut self) {
         if self.is_ready || self.count == 0 {
             return;

@@ -45,7 +45,7 @@ module _ (port : Port) (budget moment place : ℕ) (meters : List Meter) (start 
   abbrev pub scene_of : Bus → Core → Scene
   scene_of bus core = record { core = core; positions = bus.positions }
 
-  -- ---- what is known by what is due, after so many requests
+  -- ---- what is known by what is due, after this many requests
 
   pub record Asking (bus : Bus) (core : Core) (k : ℕ) : Type 0 where
     pub done : ℕ

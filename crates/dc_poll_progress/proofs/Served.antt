@@ -41,7 +41,7 @@ module _ (port : Port) (budget moment place : ℕ) (meters : List Meter) (start 
   abbrev phase_of : Due → Phase
   phase_of due = record { due = due; link = linked }
 
-  -- what may happen from here on, to the end
+  -- what may happen from now on, to the end
   record Rest (due : Due) (bus : Bus) (core : Core) : Type 0 where
     happened : List Happening
     last : Phase

@@ -65,7 +65,7 @@ on_err (Ok x) B b = tt
 on_err (Err e) B b = b
 
 module _ {D : Type 0} (known : Type 0) (sectors failures : D → ℕ) (reads : D → Image) (choices : D → Choices) (moment_of : D → ℕ) (images_since : D → ℕ → Image → Type 0) where
-  -- the lines so far, and how the bus lines are behind them
+  -- the lines so far, and how the bus lines are after them
   pub record LinesSoFar (budget : ℕ) (state : State) (before : List Turn) (link now : List LineLink) (done : List LineSeen) (wrote : List ℕ → Type 0) (carries : List Traffic → Type 0) (first new : Machine D) : Type 0 where
     pub lines : LinesRan known sectors failures reads choices moment_of images_since budget state before link done wrote carries first new
     pub link_is : links_after link lines.deeds ≡ now

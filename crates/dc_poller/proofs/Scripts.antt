@@ -76,7 +76,7 @@ no_space_in (byte ∷ front) rest is = no_space_in front rest (and_parts (is_ins
 no_space : (line : ℕ) (front rest : List ℕ) → line ≤ greatest_line → decimal line ≡ front ++ 32 ∷ rest → ⊥
 no_space line front rest fits same = no_space_in front rest (subst IsWord same (line_is_word line fits))
 
--- where no space stands behind the first word, the answer is silence
+-- where no space stands after the first word, the answer is silence
 pub only_silence : (text words : List ℕ) → text ≡ codes "HEAR" ++ 32 ∷ words → ((word rest : List ℕ) → IsWord word → words ≡ word ++ 32 ∷ rest → ⊥)
     → (line : ℕ) (answer : List ℕ) → IsLineOf text (hear line answer) → words ≡ decimal line
 only_silence text words is none line [] told =
@@ -90,7 +90,7 @@ pub record IsHeard (word digits : List ℕ) (line : ℕ) (answer : List ℕ) : T
   pub some : 0 < length answer
   pub bytes_are : bytes_of digits ≡ Some answer
 
--- where one stands there, digits stand behind it
+-- where one is there, digits stand after it
 pub only_digits : (text words word digits : List ℕ) → text ≡ codes "HEAR" ++ 32 ∷ words → IsWord word → words ≡ word ++ 32 ∷ digits
     → (line : ℕ) (answer : List ℕ) → IsLineOf text (hear line answer) → IsHeard word digits line answer
 only_digits text words word digits is is_word parts line [] told =
@@ -155,12 +155,12 @@ named_by text words word rest is is_word parts budget line fits (inl told) =
 named_by text words word rest is is_word parts budget line fits (inr told) =
     one_word word (decimal budget) rest (decimal line) is_word (budget_is_word budget fits) (sym parts ∙ ap (drop 7) (sym is ∙ told))
 
--- where no space stands behind the first word, no line is named
+-- where no space stands after the first word, no line is named
 pub only_unnamed : (text words : List ℕ) → text ≡ codes "SEARCH" ++ 32 ∷ words → ((word rest : List ℕ) → IsWord word → words ≡ word ++ 32 ∷ rest → ⊥)
     → (budget line : ℕ) → IsLineOf text (search budget line) → words ≡ decimal budget
 only_unnamed text words is none budget line told = unnamed_by text words is none budget line told.has_bounds.0 told.spells
 
--- where one stands there, a line is named behind it
+-- where one is there, a line is named after it
 pub only_named : (text words word rest : List ℕ) → text ≡ codes "SEARCH" ++ 32 ∷ words → IsWord word → words ≡ word ++ 32 ∷ rest
     → (budget line : ℕ) → IsLineOf text (search budget line) → (word ≡ decimal budget) × (rest ≡ decimal line)
 only_named text words word rest is is_word parts budget line told = named_by text words word rest is is_word parts budget line told.has_bounds.0 told.spells

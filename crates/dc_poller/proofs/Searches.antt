@@ -81,7 +81,7 @@ pub prompt_by : (gateway : Bool) (before after : ℕ) → gateway ≡ true → l
 prompt_by true before after is = refl
 prompt_by false before after is = absurd_bool is
 
--- a search over a bus that tells its meters, where nobody asks for them
+-- a search over a bus that states its meters, where nobody asks for them
 pub told_nowhere : (meters : Option (List Identity)) (port : Port) (budget late : ℕ) (link left : Link) (turns : List Turn) (exchanges : List Exchange) (text : List ℕ)
     → Searches meters port budget late link left turns exchanges text → Searches None port budget late link left turns exchanges text
 told_nowhere meters port budget late link left turns exchanges text (inl refused) = inl refused

@@ -191,7 +191,7 @@ end_grows (Err e) link h happened last none ends = tt
 round_grows : (more : Bool) (link : Link) (few rounds : ℕ) (h : Happening) (happened : List Happening) (last : Phase) → count_of h + few ≡ rounds → IsRound more link few happened last → IsRound more link rounds (h ∷ happened) last
 round_grows more link few rounds h happened last is round = let r = round.rounds_are in record { last_is = round.last_is; rounds_are = omega (arith, is, r) }
 
--- behind what is no round
+-- after what is no round
 pub end_after : {X E : Type 0} (result : Result X E) (link : Link) (front happened : List Happening) (last : Phase) → rounds_in front ≡ 0
     → OnOk result (IsEnd happened last.due × (last.link ≡ link)) → OnOk result (IsEnd (front ++ happened) last.due × (last.link ≡ link))
 end_after (Ok x) link front happened last none ends = (⊎_elim (λ over. inl over) (λ full. inr (omega (arith, none, full, rounds_append front happened))) ends.0, ends.1)

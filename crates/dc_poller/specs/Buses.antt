@@ -7,7 +7,9 @@ use Rattle.dc_stream.specs.declared.stream.Sink.{Ghosts as SinkGhosts}
 use Rattle.dc_stream.specs.declared.stream.Source.{Ghosts as SourceGhosts}
 
 -- a gateway that is lost over a request is heard in silence
-pub gateway_is_silent : {R W : Type 0} (reader : SourceGhosts R) (writer : SinkGhosts W) (old new : Gateway R W) (request answer : List ℕ) → Asks reader writer old request answer new → new.lost ≡ true → answer ≡ []
+pub gateway_is_silent : {R W : Type 0} (reader : SourceGhosts R) (writer : SinkGhosts W)
+    (old new : Gateway R W) (request answer : List ℕ) → Asks reader writer old request answer new
+    → new.lost ≡ true → answer ≡ []
 gateway_is_silent reader writer old new request answer asked is_lost = asked.silence is_lost
 
 is_false : Bool → Type 0

@@ -3,9 +3,13 @@ use Rattle.std.specs.Prelude.{◌≡◌, ℕ, List, codes}
 use Rattle.dc_recovery.specs.declared.fault.OpenFault.{OpenFault}
 use Rattle.dc_poller.specs.Link.{AreAbsent, LineLink}
 use Rattle.dc_poller.specs.declared.fault.ProgramFault.{ProgramFault}
-use Rattle.dc_poller.specs.declared.fault.ProgramFault.TheVariants.{Read, TooLong, Write, NoMemory, Open}
+use Rattle.dc_poller.specs.declared.fault.ProgramFault.TheVariants.{Read, TooLong, Write, NoMemory}
+use Rattle.dc_poller.specs.declared.fault.ProgramFault.TheVariants.{Open}
 use Rattle.dc_teller.specs.declared.fault.TellFault.{TellFault}
-use Rattle.dc_teller.specs.declared.fault.TellFault.TheVariants.{Read as NotRead, TooLong as TooMuch, Write as NotWritten, NoMemory as Refused}
+use Rattle.dc_teller.specs.declared.fault.TellFault.TheVariants.{Read as NotRead}
+use Rattle.dc_teller.specs.declared.fault.TellFault.TheVariants.{TooLong as TooMuch}
+use Rattle.dc_teller.specs.declared.fault.TellFault.TheVariants.{Write as NotWritten}
+use Rattle.dc_teller.specs.declared.fault.TellFault.TheVariants.{NoMemory as Refused}
 
 abbrev pub number_of : ProgramFault → ℕ
 number_of Read = 1

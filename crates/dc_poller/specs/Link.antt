@@ -1,5 +1,6 @@
 -- How a script finds the bus lines (this product).
-use Rattle.std.specs.Prelude.{◌≡◌, ℕ, zero, suc, Bool, true, false, Option, None, Some, List, [], ◌∷◌, ◌++◌, codes, get_or, map, set, if◌then◌else◌}
+use Rattle.std.specs.Prelude.{◌≡◌, ℕ, zero, suc, Bool, true, false, Option, None, Some, List, []}
+use Rattle.std.specs.Prelude.{◌∷◌, ◌++◌, codes, get_or, map, set, if◌then◌else◌}
 use Rattle.dc_text.specs.Words.{number_word}
 use Rattle.dc_poller.specs.declared.port.Port.{Port}
 use Rattle.dc_poller.specs.declared.script_bus.Slot.{Slot}
@@ -29,7 +30,7 @@ IsHeardOver lost bytes = bytes ≡ []
 
 -- ---- the lines of a script
 
--- A line: whether a gateway is behind it, and how its bus is found.
+-- A line: whether a gateway is after it, and how its bus is found.
 pub record LineLink : Type 0 where
   pub is_gateway : Bool
   pub link : Link
@@ -51,12 +52,16 @@ port_in links line = record { line = line; is_gateway = (line_in links line).is_
 -- these lines, where this one is found like that
 abbrev pub with_link : List LineLink → ℕ → Link → List LineLink
 with_link links zero link = links
-with_link links (suc n) link = set links n (record { is_gateway = (get_or links n unlinked).is_gateway; link = link })
+with_link links (suc n) link = set links n
+    (record { is_gateway = (get_or links n unlinked).is_gateway; link = link })
 
 -- the lines of these slots, by which of their buses are lost
 abbrev pub line_of : {B : Type 0} → (B → Bool) → Option (Slot B) → LineLink
 line_of lost_is None = unlinked
-line_of lost_is (Some slot) = record { is_gateway = slot.is_gateway; link = link_by (lost_is slot.bus) }
+line_of lost_is (Some slot) = record {
+  is_gateway = slot.is_gateway;
+  link = link_by (lost_is slot.bus);
+}
 
 abbrev pub links_of : {B : Type 0} → (B → Bool) → List (Option (Slot B)) → List LineLink
 links_of lost_is slots = map (line_of lost_is) slots
@@ -65,8 +70,10 @@ links_of lost_is slots = map (line_of lost_is) slots
 abbrev pub AreAbsent : List LineLink → Type 0
 AreAbsent links = (line : ℕ) → link_in links line ≡ absent
 
--- A line that has a bus, of which this holds: how it was found, and how it is left. The other lines are found as before.
-pub record Through (links left : List LineLink) (line : ℕ) (does : Port → Link → Link → Type 0) : Type 0 where
+-- A line that has a bus, of which this holds: how it was found, and how it is left. The other lines are found as
+-- before.
+pub record Through (links left : List LineLink) (line : ℕ)
+    (does : Port → Link → Link → Type 0) : Type 0 where
   pub has_bus : HasBus (link_in links line)
   pub after : Link
   pub does_so : does (port_in links line) (link_in links line) after
@@ -94,7 +101,8 @@ only_gateway lost = record { is_gateway = true; link = lost } ∷ []
 -- ---- a loss
 
 abbrev pub loss_line : Port → List ℕ
-loss_line port = if port.is_gateway then codes "GATEWAY LOST\n" else (codes "LINE" ++ number_word port.line ++ codes " LOST\n")
+loss_line port = if port.is_gateway then codes "GATEWAY LOST\n"
+    else (codes "LINE" ++ number_word port.line ++ codes " LOST\n")
 
 -- it is told once
 abbrev pub loss_text : Port → Link → Link → List ℕ

@@ -1,7 +1,9 @@
 -- The readout of a meter over a bus line (this product): each thing that happens is due by the one before it.
-use Rattle.std.specs.Prelude.{◌≡◌, ◌⊎◌, ℕ, Bool, true, false, ◌+◌, ◌≤◌, None, Some, Result, Ok, Err, List, [], ◌∷◌, length, flat_map}
+use Rattle.std.specs.Prelude.{◌≡◌, ◌⊎◌, ℕ, Bool, true, false, ◌+◌, ◌≤◌, None, Some, Result, Ok, Err}
+use Rattle.std.specs.Prelude.{List, [], ◌∷◌, length, flat_map}
 use Rattle.dc_address.specs.declared.identity.Identity.{Identity}
-use Rattle.dc_core.specs.Event.{Event, Answer, starts, asks, hears, commits, started, asked, heard, committed, replied}
+use Rattle.dc_core.specs.Event.{Event, Answer, starts, asks, hears, commits, started, asked, heard}
+use Rattle.dc_core.specs.Event.{committed, replied}
 use Rattle.dc_core.specs.Text.{answer_text}
 use Rattle.dc_core.specs.Transcript.{Turn}
 use Rattle.dc_core.specs.declared.fault.HearFault.{HearFault}
@@ -13,7 +15,8 @@ use Rattle.dc_gateway.specs.Bus.{AreExchanged, Exchange}
 use Rattle.dc_poller.specs.Link.{Link, linked, lost, IsHeardOver, loss_line}
 use Rattle.dc_poller.specs.declared.port.Port.{Port}
 
--- no readout asks more often: three tries at a reset, a selection and each of 32 parts, and once more where nothing is to be asked
+-- no readout asks more often: three tries at a reset, a selection and each of 32 parts, and once more where nothing
+-- is to be asked
 abbrev pub most_rounds : ℕ
 most_rounds = 103
 
@@ -68,10 +71,12 @@ MayBeLost port is_over = ⊥
 -- The request that was asked for is sent. A lost bus answers with silence, and it is lost at most once.
 abbrev pub IsDue : Port → ℕ → Identity → Phase → Happening → Type 0
 IsDue port moment meter phase (does turn) = IsDueEvent port moment meter phase.due turn.0
-IsDue port moment meter phase (talks exchange) = (phase.due ≡ to_send exchange.request) × (length exchange.answer ≤ most_answer) × IsHeardOver phase.link exchange.answer
+IsDue port moment meter phase (talks exchange) =
+    (phase.due ≡ to_send exchange.request) × (length exchange.answer ≤ most_answer)
+    × IsHeardOver phase.link exchange.answer
 IsDue port moment meter phase loses = (phase.link ≡ linked) × MayBeLost port phase.due
 
--- ---- what is due behind it
+-- ---- what is due after it
 
 -- a part is committed, and then comes the next request; a failure or a refusal is the end
 abbrev pub behind_heard : Result LineHeard HearFault → Due
@@ -103,10 +108,12 @@ behind phase loses = record { due = phase.due; link = lost }
 
 -- ---- all that happens
 
--- each thing is due behind those before it, and this is the phase behind all
+-- each thing is due after those before it, and this is the phase after all
 abbrev pub IsWay : Port → ℕ → Identity → Phase → List Happening → Phase → Type 0
 IsWay port moment meter phase [] last = last ≡ phase
-IsWay port moment meter phase (happening ∷ more) last = IsDue port moment meter phase happening × IsWay port moment meter (behind phase happening) more last
+IsWay port moment meter phase (happening ∷ more) last =
+    IsDue port moment meter phase happening
+    × IsWay port moment meter (behind phase happening) more last
 
 abbrev pub turns_of : Happening → List Turn
 turns_of (does turn) = turn ∷ []
@@ -160,7 +167,8 @@ abbrev pub IsEnd : List Happening → Due → Type 0
 IsEnd happened due = (due ≡ is_over) ⊎ (rounds_in happened ≡ most_rounds)
 
 -- A POLL, from its start to its end: these turns, these exchanges over the bus, and this text.
-pub record Polls (port : Port) (moment : ℕ) (meter : Identity) (link left : Link) (turns : List Turn) (exchanges : List Exchange) (text : List ℕ) : Type 0 where
+pub record Polls (port : Port) (moment : ℕ) (meter : Identity) (link left : Link)
+    (turns : List Turn) (exchanges : List Exchange) (text : List ℕ) : Type 0 where
   pub happened : List Happening
   pub last : Phase
   pub way : IsWay port moment meter (record { due = to_start; link = link }) happened last
@@ -171,7 +179,8 @@ pub record Polls (port : Port) (moment : ℕ) (meter : Identity) (link left : Li
   pub text_is : text ≡ happened_text port happened
 
 -- some first turns of a poll, and its exchanges until then
-pub record PollsPart (port : Port) (moment : ℕ) (meter : Identity) (link : Link) (turns : List Turn) (exchanges : List Exchange) : Type 0 where
+pub record PollsPart (port : Port) (moment : ℕ) (meter : Identity) (link : Link) (turns : List Turn)
+    (exchanges : List Exchange) : Type 0 where
   pub happened : List Happening
   pub last : Phase
   pub way : IsWay port moment meter (record { due = to_start; link = link }) happened last
@@ -180,8 +189,11 @@ pub record PollsPart (port : Port) (moment : ℕ) (meter : Identity) (link : Lin
 
 -- ---- over the bus
 
--- What a poll does to its bus: unless it is a gateway, it settles, so that no answer is under way; then these exchanges happen, and nothing else.
-pub record IsPolled {B : Type 0} (settles : B → B → Type 0) (ready : B → Bool) (asks_of : B → List ℕ → List ℕ → B → Type 0) (port : Port) (old : B) (exchanges : List Exchange) (new : B) : Type 0 where
+-- What a poll does to its bus: unless it is a gateway, it settles, so that no answer is under way; then these
+-- exchanges happen, and nothing else.
+pub record IsPolled {B : Type 0} (settles : B → B → Type 0) (ready : B → Bool)
+    (asks_of : B → List ℕ → List ℕ → B → Type 0) (port : Port) (old : B) (exchanges : List Exchange)
+    (new : B) : Type 0 where
   pub between : B
   pub gateway : port.is_gateway ≡ true → between ≡ old
   pub settled : port.is_gateway ≡ false → settles old between × (ready between ≡ true)

@@ -19,7 +19,8 @@ table_text Register state = register_text state
 table_text (Due date) state = due_text date state
 
 -- The table of the state that the image reads as was written.
-pub record IsTold (half_len : ℕ) (report : Report) (image : Image) (wrote : List ℕ → Type 0) : Type 0 where
+pub record IsTold (half_len : ℕ) (report : Report) (image : Image)
+    (wrote : List ℕ → Type 0) : Type 0 where
   pub state : State
   pub reads : Reads half_len state image
   pub text : wrote (table_text report state)

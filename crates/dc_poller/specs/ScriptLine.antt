@@ -9,7 +9,9 @@ use Rattle.dc_changes.specs.Valid.{last_moment}
 use Rattle.dc_text.specs.Hex.{bytes_of}
 use Rattle.dc_teller.specs.Lines.{longest_input_line}
 use Rattle.dc_poller.specs.declared.script_line.ScriptLine.{ScriptLine}
-use Rattle.dc_poller.specs.declared.script_line.ScriptLine.TheVariants.{Nothing, At, Start, Ask, Hear, Commit, Office, Poll, Search}
+use Rattle.dc_poller.specs.declared.script_line.ScriptLine.TheVariants.{Nothing, At, Start, Ask}
+use Rattle.dc_poller.specs.declared.script_line.ScriptLine.TheVariants.{Hear, Commit, Office, Poll}
+use Rattle.dc_poller.specs.declared.script_line.ScriptLine.TheVariants.{Search}
 
 -- what a line asks for, without where its bytes lie
 pub data LineSeen : Type 0 where
@@ -65,11 +67,12 @@ HasBounds (office line) = Unit {0}
 HasBounds (poll line meter) = (line ≤ greatest_line) × IsOfBytes meter
 HasBounds (search budget line) = (budget ≤ greatest_budget) × (line ≤ greatest_line)
 
--- what stands behind the number of a line: nothing for silence, else a space and the answer's bytes in hex digits of
+-- what follows the number of a line: nothing for silence, else a space and the answer's bytes in hex digits of
 -- either case
 abbrev pub SpellsAnswer : List ℕ → List ℕ → Type 0
 SpellsAnswer [] behind = behind ≡ []
-SpellsAnswer (byte ∷ bytes) behind = (digits : List ℕ) × (bytes_of digits ≡ Some (byte ∷ bytes)) × (behind ≡ 32 ∷ digits)
+SpellsAnswer (byte ∷ bytes) behind =
+    (digits : List ℕ) × (bytes_of digits ≡ Some (byte ∷ bytes)) × (behind ≡ 32 ∷ digits)
 
 pub record SpellsHear (text : List ℕ) (line : ℕ) (answer : List ℕ) : Type 0 where
   pub behind : List ℕ
@@ -79,17 +82,20 @@ pub record SpellsHear (text : List ℕ) (line : ℕ) (answer : List ℕ) : Type 
 -- a search that names no line is one of the first
 abbrev pub SpellsSearch : List ℕ → ℕ → ℕ → Type 0
 SpellsSearch text budget line =
-    ((line ≡ 1) × (text ≡ join_with_byte 32 (codes "SEARCH" ∷ decimal budget ∷ []))) ⊎ (text ≡ join_with_byte 32 (codes "SEARCH" ∷ decimal budget ∷ decimal line ∷ []))
+    ((line ≡ 1) × (text ≡ join_with_byte 32 (codes "SEARCH" ∷ decimal budget ∷ [])))
+    ⊎ (text ≡ join_with_byte 32 (codes "SEARCH" ∷ decimal budget ∷ decimal line ∷ []))
 
 abbrev pub Spells : List ℕ → LineSeen → Type 0
 Spells text nothing = text ≡ []
 Spells text (at moment) = text ≡ join_with_byte 32 (codes "AT" ∷ decimal moment ∷ [])
-Spells text (start line meter) = text ≡ join_with_byte 32 (codes "START" ∷ decimal line ∷ text_of meter ∷ [])
+Spells text (start line meter) = text
+    ≡ join_with_byte 32 (codes "START" ∷ decimal line ∷ text_of meter ∷ [])
 Spells text (ask line) = text ≡ join_with_byte 32 (codes "ASK" ∷ decimal line ∷ [])
 Spells text (hear line answer) = SpellsHear text line answer
 Spells text commit = text ≡ codes "COMMIT"
 Spells text (office line) = text ≡ join_with_byte 32 (codes "OFFICE" ∷ line ∷ [])
-Spells text (poll line meter) = text ≡ join_with_byte 32 (codes "POLL" ∷ decimal line ∷ text_of meter ∷ [])
+Spells text (poll line meter) = text
+    ≡ join_with_byte 32 (codes "POLL" ∷ decimal line ∷ text_of meter ∷ [])
 Spells text (search budget line) = SpellsSearch text budget line
 
 -- a line that isn't too long and spells this

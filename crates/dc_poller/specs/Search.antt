@@ -1,5 +1,8 @@
--- A search for meters over a bus line (this product): what waits is committed first, and nothing is selected while a readout of that line waits.
-use Rattle.std.specs.Prelude.{◌≡◌, ◌⊎◌, ℕ, zero, suc, Bool, true, false, ◌+◌, ◌-◌, ◌≤◌, IsTrue, Option, None, Some, IfSome, Result, Ok, Err, List, [], ◌∷◌, ◌++◌, codes, flat_map, map}
+-- A search for meters over a bus line (this product): the pending changes are committed first, and nothing is
+-- selected while a readout of that line waits.
+use Rattle.std.specs.Prelude.{◌≡◌, ◌⊎◌, ℕ, zero, suc, Bool, true, false, ◌+◌, ◌-◌, ◌≤◌, IsTrue}
+use Rattle.std.specs.Prelude.{Option, None, Some, IfSome, Result, Ok, Err, List, [], ◌∷◌, ◌++◌}
+use Rattle.std.specs.Prelude.{codes, flat_map, map}
 use Rattle.dc_address.specs.Digits.{decimal_digits}
 use Rattle.dc_address.specs.Text.{decimal_code, text_of}
 use Rattle.dc_address.specs.declared.identity.Identity.{Identity}
@@ -38,11 +41,15 @@ abbrev pub selections_line : ℕ → List ℕ
 selections_line count = codes "SELECTIONS" ++ number_word count ++ codes "\n"
 
 abbrev pub search_text : SearchState → List ℕ
-search_text search = flat_map found_line search.found ++ (flat_map shared_line search.shared ++ (budget_line (step_of search) ++ selections_line search.selections))
+search_text search = flat_map found_line search.found ++ (flat_map shared_line search.shared
+    ++ (budget_line (step_of search) ++ selections_line search.selections))
 
--- the text of a search that comes after another, by which so many selections were made: they count too
+-- the text of a search that comes after another, by which this many selections were made: they count too
 abbrev pub search_text_after : ℕ → SearchState → List ℕ
-search_text_after before search = flat_map found_line search.found ++ (flat_map shared_line search.shared ++ (budget_line (step_of search) ++ selections_line (before + search.selections)))
+search_text_after before search =
+    flat_map found_line search.found
+    ++ (flat_map shared_line search.shared
+    ++ (budget_line (step_of search) ++ selections_line (before + search.selections)))
 
 -- that answers came late while it searched, where some did
 abbrev pub late_text : Port → ℕ → List ℕ
@@ -56,9 +63,10 @@ late_by false before after = after - before
 
 -- ---- what was searched
 
--- A search that is over, within its budget: the exchanges are those of its steps, and it is what their answers lead to. Where the bus tells
--- its meters, it follows their walk, and over a lost one that of none.
-pub record IsOver (meters : Option (List Identity)) (budget : ℕ) (link : Link) (exchanges : List Exchange) (search : SearchState) : Type 0 where
+-- A search that is over, within its budget: the exchanges are those of its steps, and it is what their answers lead
+-- to. Where the bus states its meters, it follows their walk, and over a lost one that of none.
+pub record IsOver (meters : Option (List Identity)) (budget : ℕ) (link : Link)
+    (exchanges : List Exchange) (search : SearchState) : Type 0 where
   pub ended : IsTrue (is_idle (step_of search))
   pub within : search.selections ≤ budget
   pub asked : AreAskedBy (new_search budget) exchanges search
@@ -67,7 +75,8 @@ pub record IsOver (meters : Option (List Identity)) (budget : ℕ) (link : Link)
 
 -- the exchanges are some first ones of a search
 abbrev pub AreOfSearch : ℕ → List Exchange → Type 0
-AreOfSearch budget exchanges = (search : SearchState) × AreAskedBy (new_search budget) exchanges search
+AreOfSearch budget exchanges = (search : SearchState)
+    × AreAskedBy (new_search budget) exchanges search
 
 -- what may become of the bus meanwhile
 abbrev pub IsLeft : Link → Link → Type 0
@@ -85,7 +94,8 @@ refused_turns fault = (commits, committed (Err fault)) ∷ []
 abbrev pub looked_turns : ℕ → ℕ → Option (List ℕ) → List Turn
 looked_turns line count request = (commits, committed (Ok count)) ∷ (asks line, asked request) ∷ []
 
-pub record IsRefused (link left : Link) (turns : List Turn) (exchanges : List Exchange) (text : List ℕ) : Type 0 where
+pub record IsRefused (link left : Link) (turns : List Turn) (exchanges : List Exchange)
+    (text : List ℕ) : Type 0 where
   pub fault : CommitFault
   pub turns_are : turns ≡ refused_turns fault
   pub text_is : text ≡ answer_text (committed (Err fault))
@@ -93,7 +103,8 @@ pub record IsRefused (link left : Link) (turns : List Turn) (exchanges : List Ex
   pub left_is : left ≡ link
 
 -- a readout of the line waits, which a selection would begin anew
-pub record IsBusy (line : ℕ) (link left : Link) (turns : List Turn) (exchanges : List Exchange) (text : List ℕ) : Type 0 where
+pub record IsBusy (line : ℕ) (link left : Link) (turns : List Turn) (exchanges : List Exchange)
+    (text : List ℕ) : Type 0 where
   pub count : ℕ
   pub request : List ℕ
   pub turns_are : turns ≡ looked_turns line count (Some request)
@@ -102,7 +113,9 @@ pub record IsBusy (line : ℕ) (link left : Link) (turns : List Turn) (exchanges
   pub left_is : left ≡ link
 
 -- none does: that the bus was lost is told first, and how many answers came late last
-pub record Finds (meters : Option (List Identity)) (port : Port) (budget late : ℕ) (link left : Link) (turns : List Turn) (exchanges : List Exchange) (text : List ℕ) : Type 0 where
+pub record Finds (meters : Option (List Identity)) (port : Port) (budget late : ℕ)
+    (link left : Link) (turns : List Turn) (exchanges : List Exchange)
+    (text : List ℕ) : Type 0 where
   pub count : ℕ
   pub search : SearchState
   pub turns_are : turns ≡ looked_turns port.line count None
@@ -110,13 +123,17 @@ pub record Finds (meters : Option (List Identity)) (port : Port) (budget late : 
   pub text_is : text ≡ loss_text port link left ++ (search_text search ++ late_text port late)
   pub left_is : IsLeft link left
 
--- A SEARCH, over a bus that tells these meters or none, on which so many answers came late.
-abbrev pub Searches : Option (List Identity) → Port → ℕ → ℕ → Link → Link → List Turn → List Exchange → List ℕ → Type 0
+-- A SEARCH, over a bus that tells these meters or none, on which this many answers came late.
+abbrev pub Searches : Option (List Identity) → Port → ℕ → ℕ → Link → Link → List Turn
+    → List Exchange → List ℕ → Type 0
 Searches meters port budget late link left turns exchanges text =
-    IsRefused link left turns exchanges text ⊎ (IsBusy port.line link left turns exchanges text ⊎ Finds meters port budget late link left turns exchanges text)
+    IsRefused link left turns exchanges text
+    ⊎ (IsBusy port.line link left turns exchanges text
+    ⊎ Finds meters port budget late link left turns exchanges text)
 
 -- One over a line of a script: none comes late over a gateway.
-pub record SearchesOn (port : Port) (budget : ℕ) (link left : Link) (turns : List Turn) (exchanges : List Exchange) (text : List ℕ) : Type 0 where
+pub record SearchesOn (port : Port) (budget : ℕ) (link left : Link) (turns : List Turn)
+    (exchanges : List Exchange) (text : List ℕ) : Type 0 where
   pub late : ℕ
   pub prompt : port.is_gateway ≡ true → late ≡ 0
   pub searches : Searches None port budget late link left turns exchanges text
@@ -127,11 +144,13 @@ pub record SearchesOn (port : Port) (budget : ℕ) (link left : Link) (turns : L
 abbrev pub SearchesPart : ℕ → ℕ → List Turn → List Exchange → Type 0
 SearchesPart line budget turns exchanges =
     ((fault : CommitFault) × (turns ≡ refused_turns fault) × (exchanges ≡ []))
-    ⊎ (((count : ℕ) × (request : List ℕ) × (turns ≡ looked_turns line count (Some request)) × (exchanges ≡ []))
+    ⊎ (((count : ℕ) × (request : List ℕ) × (turns ≡ looked_turns line count (Some request))
+    × (exchanges ≡ []))
     ⊎ ((count : ℕ) × (turns ≡ looked_turns line count None) × AreOfSearch budget exchanges))
 
 -- Memory was refused to it: nothing that it found is written.
-pub record Starves (port : Port) (budget : ℕ) (link left : Link) (turns : List Turn) (exchanges : List Exchange) (text : List ℕ) : Type 0 where
+pub record Starves (port : Port) (budget : ℕ) (link left : Link) (turns : List Turn)
+    (exchanges : List Exchange) (text : List ℕ) : Type 0 where
   pub count : ℕ
   pub turns_are : turns ≡ looked_turns port.line count None
   pub asked : AreOfSearch budget exchanges
@@ -141,16 +160,27 @@ pub record Starves (port : Port) (budget : ℕ) (link left : Link) (turns : List
 -- ---- what a call of it comes to
 
 -- Over the bus, which is left like that: `talked` holds of the exchanges that happened to it.
-abbrev pub Talked : Option (List Identity) → Port → ℕ → ℕ → Link → Link → (List Exchange → Type 0) → (List ℕ → Type 0) → Result (Unit {0}) Halt → Type 0
+abbrev pub Talked : Option (List Identity) → Port → ℕ → ℕ → Link → Link → (List Exchange → Type 0)
+    → (List ℕ → Type 0) → Result (Unit {0}) Halt → Type 0
 Talked meters port budget late link left talked wrote (Ok done) =
-    (exchanges : List Exchange) × (search : SearchState) × IsOver meters budget link exchanges search × IsLeft link left × talked exchanges × wrote (loss_text port link left ++ (search_text search ++ late_text port late))
-Talked meters port budget late link left talked wrote (Err Write) = (exchanges : List Exchange) × AreOfSearch budget exchanges × talked exchanges
-Talked meters port budget late link left talked wrote (Err NoMemory) = (exchanges : List Exchange) × AreOfSearch budget exchanges × IsLeft link left × talked exchanges × wrote (loss_text port link left)
+    (exchanges : List Exchange) × (search : SearchState)
+    × IsOver meters budget link exchanges search × IsLeft link left × talked exchanges
+    × wrote (loss_text port link left ++ (search_text search ++ late_text port late))
+Talked meters port budget late link left talked wrote (Err Write) =
+    (exchanges : List Exchange) × AreOfSearch budget exchanges × talked exchanges
+Talked meters port budget late link left talked wrote (Err NoMemory) =
+    (exchanges : List Exchange) × AreOfSearch budget exchanges × IsLeft link left × talked exchanges
+    × wrote (loss_text port link left)
 
 -- with its turns
-abbrev pub Comes : Option (List Identity) → Port → ℕ → ℕ → Link → Link → (List Exchange → Type 0) → (List ℕ → Type 0) → Result (Unit {0}) Halt → List Turn → Type 0
+abbrev pub Comes : Option (List Identity) → Port → ℕ → ℕ → Link → Link → (List Exchange → Type 0)
+    → (List ℕ → Type 0) → Result (Unit {0}) Halt → List Turn → Type 0
 Comes meters port budget late link left talked wrote (Ok done) turns =
-    (text : List ℕ) × (exchanges : List Exchange) × Searches meters port budget late link left turns exchanges text × talked exchanges × wrote text
-Comes meters port budget late link left talked wrote (Err Write) turns = (exchanges : List Exchange) × SearchesPart port.line budget turns exchanges × talked exchanges
+    (text : List ℕ) × (exchanges : List Exchange)
+    × Searches meters port budget late link left turns exchanges text × talked exchanges
+    × wrote text
+Comes meters port budget late link left talked wrote (Err Write) turns =
+    (exchanges : List Exchange) × SearchesPart port.line budget turns exchanges × talked exchanges
 Comes meters port budget late link left talked wrote (Err NoMemory) turns =
-    (text : List ℕ) × (exchanges : List Exchange) × Starves port budget link left turns exchanges text × talked exchanges × wrote text
+    (text : List ℕ) × (exchanges : List Exchange)
+    × Starves port budget link left turns exchanges text × talked exchanges × wrote text

@@ -5,7 +5,8 @@ ghost use Rattle.dc_address.specs.Digits.{decimal_digits};
 ghost use Rattle.dc_address.specs.Text.{decimal_code};
 ghost use Rattle.dc_stream.specs.Stream.{Wrote};
 ghost use Rattle.dc_search.specs.State.{step_of};
-ghost use Rattle.dc_poller.specs.Search.{budget_line, found_line, late_text, search_text, search_text_after, selections_line, shared_line};
+ghost use Rattle.dc_poller.specs.Search.{budget_line, found_line, late_text, search_text};
+ghost use Rattle.dc_poller.specs.Search.{search_text_after, selections_line, shared_line};
 ghost use Rattle.dc_poller.specs.ScriptLine.{greatest_budget};
 
 use crate::port::Port;
@@ -27,8 +28,8 @@ pub fn put_search<A: Allocator + Copy, W: Sink>(
     put_rest(search, search.selections(), out)
 }
 
-/// Puts what a search found, as [`put_search`] does, where an earlier search of the same bus made `before` selections: the
-/// number of selections is that of both.
+/// Puts what a search found, as [`put_search`] does, where an earlier search of the same bus made `before`
+/// selections: the number of selections is that of both.
 #[tactic(auto, using(dc_stream::proofs::Pieces::written))]
 pub fn put_search_after<A: Allocator + Copy, W: Sink>(
     before: u32,
@@ -60,7 +61,8 @@ fn put_rest<A: Allocator + Copy, W: Sink>(
 
 #[tactic(auto, using(dc_stream::proofs::Pieces::written))]
 fn put_end<W: Sink>(step: Step, selections: u32, out: &mut W) -> Result<(), IoFault>
-    ensures { Wrote W.written W.put_failures result out.old out.new (budget_line step ++ selections_line selections) }
+    ensures { Wrote W.written W.put_failures result out.old out.new
+        (budget_line step ++ selections_line selections) }
 {
     put_budget(step, out)?;
     put_selections(selections, out)
@@ -68,7 +70,8 @@ fn put_end<W: Sink>(step: Step, selections: u32, out: &mut W) -> Result<(), IoFa
 
 #[tactic(auto, using(dc_stream::proofs::Pieces::written))]
 fn put_found<W: Sink>(meters: &[Identity], out: &mut W) -> Result<(), IoFault>
-    ensures { Wrote W.written W.put_failures result out.old out.new (flat_map found_line meters.now) }
+    ensures { Wrote W.written W.put_failures result out.old out.new
+        (flat_map found_line meters.now) }
 {
     for meter in meters {
         put_meter(meter, out)?;
@@ -87,7 +90,8 @@ fn put_meter<W: Sink>(meter: &Identity, out: &mut W) -> Result<(), IoFault>
 
 #[tactic(auto, using(dc_stream::proofs::Pieces::written))]
 fn put_shared<W: Sink>(numbers: &[u32], out: &mut W) -> Result<(), IoFault>
-    ensures { Wrote W.written W.put_failures result out.old out.new (flat_map shared_line numbers.now) }
+    ensures { Wrote W.written W.put_failures result out.old out.new
+        (flat_map shared_line numbers.now) }
 {
     for number in numbers {
         put_number(*number, out)?;

@@ -14,15 +14,17 @@ use dc_sectors::Disk;
 /// A line of a script asks for one thing, if any.
 #[tactic(auto, using(crate::proofs::Scripts::one_line))]
 pub fn a_script_line_asks_for_one_thing()
-    ensures { (text : List ℕ) (asked other : LineSeen) → IsLineOf text asked → IsLineOf text other → asked ≡ other }
+    ensures { (text : List ℕ) (asked other : LineSeen) → IsLineOf text asked → IsLineOf text other
+        → asked ≡ other }
 {}
 
-/// The turns of a script that was run over an image, whole or up to a fault, are one life: cut off at any moment of it, the
-/// disk was stopped in the sense of the headline (the clause `the_headline` of `Concentrator::open`).
+/// The turns of a script that was run over an image, whole or up to a fault, are one life: cut off at any moment of
+/// it, the disk was stopped in the sense of the headline (the clause `the_headline` of `Concentrator::open`).
 pub fn a_run_is_one_life<D: Disk + Drop>()
     ensures { (state : State) (turns : List Turn) (first last : Machine D)
         → IsOpened D.Disk state first → D.keeps first.store.disk
-        → Went (D.keeps first.store.disk) D.sectors D.failures D.reads D.choices D.moment D.images_since
+        → Went (D.keeps first.store.disk) D.sectors D.failures D.reads D.choices D.moment
+        D.images_since
         first.house.budget state [] turns first last
         → IsOneLife D.Disk state turns last }
 {}

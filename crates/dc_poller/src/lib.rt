@@ -1,17 +1,17 @@
 //! The engines of the program `mbdc` that work on an image, over any source and any sink of bytes.
 //!
-//! [`run_script_over`] reads the lines of a script ([`ScriptLine`]), opens an image and does what they ask for: a line is one
-//! event of a concentrator, the poll of a meter over a bus line, or a search for meters over it. The buses of the lines
-//! are any [`ScriptBus`]; [`run_script`] has a gateway alone, behind line 1. What it writes, and
-//! what it leaves of the image at every moment, is what the run of these events writes and leaves (`specs/Script.antt`,
-//! `specs/Poll.antt`, `specs/Search.antt`, `specs/ImageRun.antt`). Over the bus of a bus line go the exchanges of the lines
-//! that name it, and nothing else (`specs/Traffic.antt`).
+//! [`run_script_over`] reads the lines of a script ([`ScriptLine`]), opens an image and does what they ask for: a
+//! line is one event of a concentrator, the poll of a meter over a bus line, or a search for meters over it. The
+//! buses of the lines are any [`ScriptBus`]; [`run_script`] has a gateway alone, after line 1. What it writes, and
+//! what it leaves of the image at every moment, is what the run of these events writes and leaves
+//! (`specs/Script.antt`, `specs/Poll.antt`, `specs/Search.antt`, `specs/ImageRun.antt`). Over the bus of a bus line
+//! go the exchanges of the lines that name it, and nothing else (`specs/Traffic.antt`).
 //!
 //! [`report_on`] opens an image and writes a table of what it holds ([`Report`]), made whole before it is written.
 //!
 //! Read and write faults are answered only where that end counted a failure, and a script over 1 MiB is never worked
-//! on. The script is read before the image is opened. What only tells of its input, the commands `decode` and `fold`, is
-//! `dc_teller`'s; so is how an input comes apart into lines.
+//! on. The script is read before the image is opened. What only says of its input, the commands `decode` and `fold`,
+//! is `dc_teller`'s; so is how an input comes apart into lines.
 //!
 //! Law: [`a_script_line_asks_for_one_thing`].
 #![tactic(auto)]

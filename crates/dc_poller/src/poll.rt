@@ -8,7 +8,9 @@ ghost use Rattle.dc_gateway.specs.Blocks.{most_answer};
 ghost use Rattle.dc_gateway.specs.Bus.{AreExchanged};
 ghost use Rattle.dc_stream.specs.Stream.{Puts, Wrote};
 ghost use Rattle.dc_poller.specs.Link.{Link, link_by, loss_text, IsHeardOver};
-ghost use Rattle.dc_poller.specs.Poll.{IsEnd, IsPolled, to_start, to_ask, to_send, to_hear, to_commit, to_make_room, to_hear_again, behind_heard, happened_exchanges};
+ghost use Rattle.dc_poller.specs.Poll.{IsEnd, IsPolled, to_start, to_ask, to_send, to_hear};
+ghost use Rattle.dc_poller.specs.Poll.{to_commit, to_make_room, to_hear_again, behind_heard};
+ghost use Rattle.dc_poller.specs.Poll.{happened_exchanges};
 ghost use Rattle.dc_poller.specs.Way.{FailsInLast, IsRound, Way};
 ghost use Rattle.dc_poller.specs.Went.{BehindAnyRun};
 ghost use Rattle.dc_poller.specs.declared.port.Port.{Port};
@@ -25,12 +27,12 @@ use dc_sectors::Disk;
 use dc_stream::{IoFault, Sink};
 use std::alloc::Allocator;
 
-// No readout asks more often: three tries at a reset, a selection and each of 32 parts, and once more where nothing is to
-// be asked.
+// No readout asks more often: three tries at a reset, a selection and each of 32 parts, and once more where nothing
+// is to be asked.
 const MOST_ROUNDS: usize = 103;
 
-/// Reads a meter over a bus line, at a moment. The bus settles first, so that the readout begins where no answer is under
-/// way.
+/// Reads a meter over a bus line, at a moment. The bus settles first, so that the readout begins where no answer is
+/// under way.
 pub fn poll<D: Disk + Drop, A: Allocator + Copy, B: ScriptBus, W: Sink>(
     port: Port,
     concentrator: &mut Concentrator<D, A>,
@@ -39,11 +41,15 @@ pub fn poll<D: Disk + Drop, A: Allocator + Copy, B: ScriptBus, W: Sink>(
     moment: Moment,
     out: &mut W,
 ) -> Result<(), IoFault>
-    ensures went { BehindAnyRun D.keeps D.sectors D.reads D.choices concentrator.old (λ origin state before.
+    ensures went { BehindAnyRun D.keeps D.sectors D.reads D.choices concentrator.old
+        (λ origin state before.
         Way (D.keeps origin) D.sectors D.failures D.reads D.choices D.moment D.images_since concentrator.old.house.budget state before port moment.seconds meter.now (record { due = to_start; link = link_by (B.lost bus.old) })
-        (λ happened last. OnOk result (IsEnd happened last.due × (last.link ≡ link_by (B.lost bus.new))) × OnErr result (FailsInLast W.Sink port out.old out.new happened)
+        (λ happened last. OnOk result (IsEnd happened last.due
+        × (last.link ≡ link_by (B.lost bus.new)))
+        × OnErr result (FailsInLast W.Sink port out.old out.new happened)
         × IsPolled B.settles B.ready B.asks port bus.old (happened_exchanges happened) bus.new)
-        (λ text. OnOk result (Puts (W.written out.old) (W.written out.new) text)) concentrator.old concentrator.new) }
+        (λ text. OnOk result (Puts (W.written out.old) (W.written out.new) text)) concentrator.old
+        concentrator.new) }
     ensures fault { OnErr result (HasRisen (W.put_failures out.old) (W.put_failures out.new)) }
     ensures well { OnOk result (W.put_failures out.new ≡ W.put_failures out.old) }
     ensures budget { concentrator.new.house.budget ≡ concentrator.old.house.budget }
@@ -87,11 +93,15 @@ fn start_and_read<D: Disk + Drop, A: Allocator + Copy, B: ScriptBus, W: Sink>(
     moment: Moment,
     out: &mut W,
 ) -> Result<(), IoFault>
-    ensures went { BehindAnyRun D.keeps D.sectors D.reads D.choices concentrator.old (λ origin state before.
+    ensures went { BehindAnyRun D.keeps D.sectors D.reads D.choices concentrator.old
+        (λ origin state before.
         Way (D.keeps origin) D.sectors D.failures D.reads D.choices D.moment D.images_since concentrator.old.house.budget state before port moment.seconds meter.now (record { due = to_start; link = link_by (B.lost bus.old) })
-        (λ happened last. OnOk result (IsEnd happened last.due × (last.link ≡ link_by (B.lost bus.new))) × OnErr result (FailsInLast W.Sink port out.old out.new happened)
+        (λ happened last. OnOk result (IsEnd happened last.due
+        × (last.link ≡ link_by (B.lost bus.new)))
+        × OnErr result (FailsInLast W.Sink port out.old out.new happened)
         × AreExchanged B.asks bus.old (happened_exchanges happened) bus.new)
-        (λ text. OnOk result (Puts (W.written out.old) (W.written out.new) text)) concentrator.old concentrator.new) }
+        (λ text. OnOk result (Puts (W.written out.old) (W.written out.new) text)) concentrator.old
+        concentrator.new) }
     ensures fault { OnErr result (HasRisen (W.put_failures out.old) (W.put_failures out.new)) }
     ensures well { OnOk result (W.put_failures out.new ≡ W.put_failures out.old) }
     ensures budget { concentrator.new.house.budget ≡ concentrator.old.house.budget }
@@ -114,11 +124,15 @@ fn read_parts<D: Disk + Drop, A: Allocator + Copy, B: ScriptBus, W: Sink>(
     moment: Moment,
     out: &mut W,
 ) -> Result<(), IoFault>
-    ensures went { (meter : Meter) → BehindAnyRun D.keeps D.sectors D.reads D.choices concentrator.old (λ origin state before.
+    ensures went { (meter : Meter) → BehindAnyRun D.keeps D.sectors D.reads D.choices
+        concentrator.old (λ origin state before.
         Way (D.keeps origin) D.sectors D.failures D.reads D.choices D.moment D.images_since concentrator.old.house.budget state before port moment.seconds meter (record { due = to_ask; link = link_by (B.lost bus.old) })
-        (λ happened last. OnOk result (IsEnd happened last.due × (last.link ≡ link_by (B.lost bus.new))) × OnErr result (FailsInLast W.Sink port out.old out.new happened)
+        (λ happened last. OnOk result (IsEnd happened last.due
+        × (last.link ≡ link_by (B.lost bus.new)))
+        × OnErr result (FailsInLast W.Sink port out.old out.new happened)
         × AreExchanged B.asks bus.old (happened_exchanges happened) bus.new)
-        (λ text. OnOk result (Puts (W.written out.old) (W.written out.new) text)) concentrator.old concentrator.new) }
+        (λ text. OnOk result (Puts (W.written out.old) (W.written out.new) text)) concentrator.old
+        concentrator.new) }
     ensures fault { OnErr result (HasRisen (W.put_failures out.old) (W.put_failures out.new)) }
     ensures well { OnOk result (W.put_failures out.new ≡ W.put_failures out.old) }
     ensures budget { concentrator.new.house.budget ≡ concentrator.old.house.budget }
@@ -145,11 +159,15 @@ fn ask_and_hear<D: Disk + Drop, A: Allocator + Copy, B: ScriptBus, W: Sink>(
     moment: Moment,
     out: &mut W,
 ) -> Result<bool, IoFault>
-    ensures went { (meter : Meter) → BehindAnyRun D.keeps D.sectors D.reads D.choices concentrator.old (λ origin state before.
+    ensures went { (meter : Meter) → BehindAnyRun D.keeps D.sectors D.reads D.choices
+        concentrator.old (λ origin state before.
         Way (D.keeps origin) D.sectors D.failures D.reads D.choices D.moment D.images_since concentrator.old.house.budget state before port moment.seconds meter (record { due = to_ask; link = link_by (B.lost bus.old) })
-        (λ happened last. IfOk result (λ more. IsRound more (link_by (B.lost bus.new)) 1 happened last) × OnErr result (FailsInLast W.Sink port out.old out.new happened)
+        (λ happened last. IfOk result (λ more.
+        IsRound more (link_by (B.lost bus.new)) 1 happened last)
+        × OnErr result (FailsInLast W.Sink port out.old out.new happened)
         × AreExchanged B.asks bus.old (happened_exchanges happened) bus.new)
-        (λ text. OnOk result (Puts (W.written out.old) (W.written out.new) text)) concentrator.old concentrator.new) }
+        (λ text. OnOk result (Puts (W.written out.old) (W.written out.new) text)) concentrator.old
+        concentrator.new) }
     ensures fault { OnErr result (HasRisen (W.put_failures out.old) (W.put_failures out.new)) }
     ensures well { OnOk result (W.put_failures out.new ≡ W.put_failures out.old) }
     ensures budget { concentrator.new.house.budget ≡ concentrator.old.house.budget }
@@ -174,11 +192,15 @@ fn exchange<D: Disk + Drop, A: Allocator + Copy, B: ScriptBus, W: Sink>(
     out: &mut W,
 ) -> Result<bool, IoFault>
     requires { length request.now ≤ longest_request }
-    ensures went { (meter : Meter) → BehindAnyRun D.keeps D.sectors D.reads D.choices concentrator.old (λ origin state before.
+    ensures went { (meter : Meter) → BehindAnyRun D.keeps D.sectors D.reads D.choices
+        concentrator.old (λ origin state before.
         Way (D.keeps origin) D.sectors D.failures D.reads D.choices D.moment D.images_since concentrator.old.house.budget state before port moment.seconds meter (record { due = to_send request.now; link = link_by (B.lost bus.old) })
-        (λ happened last. IfOk result (λ more. IsRound more (link_by (B.lost bus.new)) 0 happened last) × OnErr result (FailsInLast W.Sink port out.old out.new happened)
+        (λ happened last. IfOk result (λ more.
+        IsRound more (link_by (B.lost bus.new)) 0 happened last)
+        × OnErr result (FailsInLast W.Sink port out.old out.new happened)
         × AreExchanged B.asks bus.old (happened_exchanges happened) bus.new)
-        (λ text. OnOk result (Puts (W.written out.old) (W.written out.new) text)) concentrator.old concentrator.new) }
+        (λ text. OnOk result (Puts (W.written out.old) (W.written out.new) text)) concentrator.old
+        concentrator.new) }
     ensures fault { OnErr result (HasRisen (W.put_failures out.old) (W.put_failures out.new)) }
     ensures well { OnOk result (W.put_failures out.new ≡ W.put_failures out.old) }
     ensures budget { concentrator.new.house.budget ≡ concentrator.old.house.budget }
@@ -228,11 +250,14 @@ fn hear<D: Disk + Drop, A: Allocator + Copy, W: Sink>(
     bytes: &[u8],
     out: &mut W,
 ) -> Result<bool, IoFault>
-    ensures went { (meter : Meter) (link : Link) → BehindAnyRun D.keeps D.sectors D.reads D.choices concentrator.old (λ origin state before.
+    ensures went { (meter : Meter) (link : Link)
+        → BehindAnyRun D.keeps D.sectors D.reads D.choices concentrator.old (λ origin state before.
         Way (D.keeps origin) D.sectors D.failures D.reads D.choices D.moment D.images_since concentrator.old.house.budget state before port moment.seconds meter (record { due = to_hear bytes.now; link = link })
-        (λ happened last. IfOk result (λ more. IsRound more link 0 happened last) × OnErr result (FailsInLast W.Sink port out.old out.new happened)
+        (λ happened last. IfOk result (λ more. IsRound more link 0 happened last)
+        × OnErr result (FailsInLast W.Sink port out.old out.new happened)
         × (happened_exchanges happened ≡ []))
-        (λ text. OnOk result (Puts (W.written out.old) (W.written out.new) text)) concentrator.old concentrator.new) }
+        (λ text. OnOk result (Puts (W.written out.old) (W.written out.new) text)) concentrator.old
+        concentrator.new) }
     ensures fault { OnErr result (HasRisen (W.put_failures out.old) (W.put_failures out.new)) }
     ensures well { OnOk result (W.put_failures out.new ≡ W.put_failures out.old) }
     ensures budget { concentrator.new.house.budget ≡ concentrator.old.house.budget }
@@ -257,11 +282,14 @@ fn hear_again<D: Disk + Drop, A: Allocator + Copy, W: Sink>(
     bytes: &[u8],
     out: &mut W,
 ) -> Result<bool, IoFault>
-    ensures went { (meter : Meter) (link : Link) → BehindAnyRun D.keeps D.sectors D.reads D.choices concentrator.old (λ origin state before.
+    ensures went { (meter : Meter) (link : Link)
+        → BehindAnyRun D.keeps D.sectors D.reads D.choices concentrator.old (λ origin state before.
         Way (D.keeps origin) D.sectors D.failures D.reads D.choices D.moment D.images_since concentrator.old.house.budget state before port moment.seconds meter (record { due = to_make_room bytes.now; link = link })
-        (λ happened last. IfOk result (λ more. IsRound more link 0 happened last) × OnErr result (FailsInLast W.Sink port out.old out.new happened)
+        (λ happened last. IfOk result (λ more. IsRound more link 0 happened last)
+        × OnErr result (FailsInLast W.Sink port out.old out.new happened)
         × (happened_exchanges happened ≡ []))
-        (λ text. OnOk result (Puts (W.written out.old) (W.written out.new) text)) concentrator.old concentrator.new) }
+        (λ text. OnOk result (Puts (W.written out.old) (W.written out.new) text)) concentrator.old
+        concentrator.new) }
     ensures fault { OnErr result (HasRisen (W.put_failures out.old) (W.put_failures out.new)) }
     ensures well { OnOk result (W.put_failures out.new ≡ W.put_failures out.old) }
     ensures budget { concentrator.new.house.budget ≡ concentrator.old.house.budget }
@@ -283,11 +311,14 @@ fn hear_once_more<D: Disk + Drop, A: Allocator + Copy, W: Sink>(
     bytes: &[u8],
     out: &mut W,
 ) -> Result<bool, IoFault>
-    ensures went { (meter : Meter) (link : Link) → BehindAnyRun D.keeps D.sectors D.reads D.choices concentrator.old (λ origin state before.
+    ensures went { (meter : Meter) (link : Link)
+        → BehindAnyRun D.keeps D.sectors D.reads D.choices concentrator.old (λ origin state before.
         Way (D.keeps origin) D.sectors D.failures D.reads D.choices D.moment D.images_since concentrator.old.house.budget state before port moment.seconds meter (record { due = to_hear_again bytes.now; link = link })
-        (λ happened last. IfOk result (λ more. IsRound more link 0 happened last) × OnErr result (FailsInLast W.Sink port out.old out.new happened)
+        (λ happened last. IfOk result (λ more. IsRound more link 0 happened last)
+        × OnErr result (FailsInLast W.Sink port out.old out.new happened)
         × (happened_exchanges happened ≡ []))
-        (λ text. OnOk result (Puts (W.written out.old) (W.written out.new) text)) concentrator.old concentrator.new) }
+        (λ text. OnOk result (Puts (W.written out.old) (W.written out.new) text)) concentrator.old
+        concentrator.new) }
     ensures fault { OnErr result (HasRisen (W.put_failures out.old) (W.put_failures out.new)) }
     ensures well { OnOk result (W.put_failures out.new ≡ W.put_failures out.old) }
     ensures budget { concentrator.new.house.budget ≡ concentrator.old.house.budget }
@@ -304,11 +335,14 @@ fn after_heard<D: Disk + Drop, A: Allocator + Copy, W: Sink>(
     answer: Result<LineHeard, HearFault>,
     out: &mut W,
 ) -> Result<bool, IoFault>
-    ensures went { (port : Port) (moment : ℕ) (meter : Meter) (link : Link) → BehindAnyRun D.keeps D.sectors D.reads D.choices concentrator.old (λ origin state before.
+    ensures went { (port : Port) (moment : ℕ) (meter : Meter) (link : Link)
+        → BehindAnyRun D.keeps D.sectors D.reads D.choices concentrator.old (λ origin state before.
         Way (D.keeps origin) D.sectors D.failures D.reads D.choices D.moment D.images_since concentrator.old.house.budget state before port moment meter (record { due = behind_heard answer; link = link })
-        (λ happened last. IfOk result (λ more. IsRound more link 0 happened last) × OnErr result (FailsInLast W.Sink port out.old out.new happened)
+        (λ happened last. IfOk result (λ more. IsRound more link 0 happened last)
+        × OnErr result (FailsInLast W.Sink port out.old out.new happened)
         × (happened_exchanges happened ≡ []))
-        (λ text. OnOk result (Puts (W.written out.old) (W.written out.new) text)) concentrator.old concentrator.new) }
+        (λ text. OnOk result (Puts (W.written out.old) (W.written out.new) text)) concentrator.old
+        concentrator.new) }
     ensures fault { OnErr result (HasRisen (W.put_failures out.old) (W.put_failures out.new)) }
     ensures well { OnOk result (W.put_failures out.new ≡ W.put_failures out.old) }
     ensures budget { concentrator.new.house.budget ≡ concentrator.old.house.budget }
@@ -328,11 +362,14 @@ fn commit_part<D: Disk + Drop, A: Allocator + Copy, W: Sink>(
     concentrator: &mut Concentrator<D, A>,
     out: &mut W,
 ) -> Result<bool, IoFault>
-    ensures went { (port : Port) (moment : ℕ) (meter : Meter) (link : Link) → BehindAnyRun D.keeps D.sectors D.reads D.choices concentrator.old (λ origin state before.
+    ensures went { (port : Port) (moment : ℕ) (meter : Meter) (link : Link)
+        → BehindAnyRun D.keeps D.sectors D.reads D.choices concentrator.old (λ origin state before.
         Way (D.keeps origin) D.sectors D.failures D.reads D.choices D.moment D.images_since concentrator.old.house.budget state before port moment meter (record { due = to_commit; link = link })
-        (λ happened last. IfOk result (λ more. IsRound more link 0 happened last) × OnErr result (FailsInLast W.Sink port out.old out.new happened)
+        (λ happened last. IfOk result (λ more. IsRound more link 0 happened last)
+        × OnErr result (FailsInLast W.Sink port out.old out.new happened)
         × (happened_exchanges happened ≡ []))
-        (λ text. OnOk result (Puts (W.written out.old) (W.written out.new) text)) concentrator.old concentrator.new) }
+        (λ text. OnOk result (Puts (W.written out.old) (W.written out.new) text)) concentrator.old
+        concentrator.new) }
     ensures fault { OnErr result (HasRisen (W.put_failures out.old) (W.put_failures out.new)) }
     ensures well { OnOk result (W.put_failures out.new ≡ W.put_failures out.old) }
     ensures budget { concentrator.new.house.budget ≡ concentrator.old.house.budget }

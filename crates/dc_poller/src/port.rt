@@ -1,4 +1,4 @@
-//! A bus line, as a script names it and tells its loss.
+//! A bus line, as a script names it and states its loss.
 
 ghost use Rattle.std.specs.Prelude.{◌≡◌, ◌++◌, codes};
 ghost use Rattle.dc_stream.specs.Stream.{Wrote};

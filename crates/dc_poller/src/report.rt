@@ -1,6 +1,7 @@
 //! The engine of `report`: a table of what an image holds.
 
-ghost use Rattle.std.specs.Prelude.{◌≡◌, ◌≢◌, ◌≤◌, ◌<◌, ◌⊎◌, IsTrue, Some, Err, codes, IfSome, IfOk, IfErr, OnOk, OnErr, IsErrOf};
+ghost use Rattle.std.specs.Prelude.{◌≡◌, ◌≢◌, ◌≤◌, ◌<◌, ◌⊎◌, IsTrue, Some, Err, codes, IfSome};
+ghost use Rattle.std.specs.Prelude.{IfOk, IfErr, OnOk, OnErr, IsErrOf};
 ghost use Rattle.dc_base.specs.Failures.{HasRisen};
 ghost use Rattle.dc_recovery.specs.Halves.{fewest_sectors, half_len_of};
 ghost use Rattle.dc_recovery.specs.Refusal.{IsRefused, TellsOfImage};
@@ -37,7 +38,8 @@ impl Report {
     pub fn parse(word: &[u8]) -> Option<Report>
         ensures found { IfSome result (λ report. word.now ≡ report_word report) }
         ensures register { word.now ≡ codes "register" → result ≡ Some Report.Register }
-        ensures due { (date : Day) → IsTrue (exists date.year date.month date.day) → word.now ≡ day_text date → result ≡ Some (Report.Due date) }
+        ensures due { (date : Day) → IsTrue (exists date.year date.month date.day)
+            → word.now ≡ day_text date → result ≡ Some (Report.Due date) }
     {
         if word == b"register".as_slice() {
             return Some(Report::Register);
@@ -47,13 +49,13 @@ impl Report {
     }
 }
 
-/// Opens the image, writes a table of what it holds, with one put, and closes it. The table is made whole before anything
-/// is written. Opening begins a session, so the image's next root is written; nothing else is. The disk comes back whatever
-/// happens.
+/// Opens the image, writes a table of what it holds, with one put, and closes it. The table is made whole before
+/// anything is written. Opening begins a session, so the image's next root is written; nothing else is. The disk
+/// comes back whatever happens.
 ///
 /// # Errors
-/// [`ProgramFault::Open`] where the image wasn't opened, and [`ProgramFault::NoMemory`] where memory was refused for the
-/// table, both with the writer as it was; [`ProgramFault::Write`] where the writer failed.
+/// [`ProgramFault::Open`] where the image wasn't opened, and [`ProgramFault::NoMemory`] where memory was refused for
+/// the table, both with the writer as it was; [`ProgramFault::Write`] where the writer failed.
 pub fn report_on<D: Disk + Drop, A: Allocator + Copy, W: Sink>(
     alloc: A,
     disk: D,
@@ -61,23 +63,34 @@ pub fn report_on<D: Disk + Drop, A: Allocator + Copy, W: Sink>(
     writer: &mut W,
 ) -> (D, Result<(), ProgramFault>)
     // The table is that of the state which the image reads as.
-    ensures told { D.keeps result.0 → OnOk result.1 (IsTold (half_len_of (D.sectors disk)) report (D.reads disk) (Puts (W.written writer.old) (W.written writer.new))) }
+    ensures told { D.keeps result.0 → OnOk result.1
+        (IsTold (half_len_of (D.sectors disk)) report (D.reads disk)
+        (Puts (W.written writer.old) (W.written writer.new))) }
     ensures well { OnOk result.1 (W.put_failures writer.new ≡ W.put_failures writer.old) }
 
     // An image that isn't opened is refused as the store refuses it; one that stands is refused only as worn.
     ensures small { D.sectors disk < fewest_sectors → result.1 ≡ Err (ProgramFault.Open NotImage) }
-    ensures refused { D.keeps result.0 → fewest_sectors ≤ D.sectors disk → IfErr result.1 (λ fault. IfOpen fault (λ e. IsRefused (half_len_of (D.sectors disk)) (D.reads disk) e)) }
-    ensures premise { D.keeps result.0 → fewest_sectors ≤ D.sectors disk → EachStands (half_len_of (D.sectors disk)) (D.choices disk) → IfErr result.1 (λ fault. IfOpen fault (λ e. TellsOfImage e → e ≡ Worn)) }
-    ensures device { IfErr result.1 (λ fault. IfOpen fault (λ e. e ≡ Device → HasRisen (D.failures disk) (D.failures result.0))) }
+    ensures refused { D.keeps result.0 → fewest_sectors ≤ D.sectors disk
+        → IfErr result.1 (λ fault. IfOpen fault (λ e.
+        IsRefused (half_len_of (D.sectors disk)) (D.reads disk) e)) }
+    ensures premise { D.keeps result.0 → fewest_sectors ≤ D.sectors disk
+        → EachStands (half_len_of (D.sectors disk)) (D.choices disk)
+        → IfErr result.1 (λ fault. IfOpen fault (λ e. TellsOfImage e → e ≡ Worn)) }
+    ensures device { IfErr result.1 (λ fault.
+        IfOpen fault (λ e. e ≡ Device → HasRisen (D.failures disk) (D.failures result.0))) }
 
     // Whatever happens, a stop leaves an image that stands for a state that one of the disk's images stood for.
-    ensures any_moment { D.keeps result.0 → EachStands (half_len_of (D.sectors disk)) (D.choices disk)
-        → LeavesOnly D.moment D.images_since disk result.0 (StandsForOne (half_len_of (D.sectors disk)) (D.choices disk)) }
+    ensures any_moment { D.keeps result.0
+        → EachStands (half_len_of (D.sectors disk)) (D.choices disk)
+        → LeavesOnly D.moment D.images_since disk result.0
+        (StandsForOne (half_len_of (D.sectors disk)) (D.choices disk)) }
 
     // Nothing is read but the image, and only a failed write touches the writer.
     ensures faults { IfErr result.1 IsOfImage }
-    ensures write { IsErrOf result.1 ProgramFault.Write → HasRisen (W.put_failures writer.old) (W.put_failures writer.new) }
-    ensures untouched { IfErr result.1 (λ fault. fault ≢ ProgramFault.Write → writer.new ≡ writer.old) }
+    ensures write { IsErrOf result.1 ProgramFault.Write
+        → HasRisen (W.put_failures writer.old) (W.put_failures writer.new) }
+    ensures untouched { IfErr result.1 (λ fault.
+        fault ≢ ProgramFault.Write → writer.new ≡ writer.old) }
 {
     let (store, house) = match Store::open(alloc, disk) {
         Ok((store, house)) => (store, house),

@@ -1,6 +1,7 @@
 //! The engine of `run`: a script over an image, from a source's lines to a sink's text.
 
-ghost use Rattle.std.specs.Prelude.{◌≡◌, ◌≢◌, ◌∷◌, [], ◌⊎◌, ◌≤◌, ◌<◌, ◌*◌, length, vec_len, IfSome, IfOk, IfErr, MatchResult, OnOk, IsErrOf};
+ghost use Rattle.std.specs.Prelude.{◌≡◌, ◌≢◌, ◌∷◌, [], ◌⊎◌, ◌≤◌, ◌<◌, ◌*◌, length, vec_len, IfSome};
+ghost use Rattle.std.specs.Prelude.{IfOk, IfErr, MatchResult, OnOk, IsErrOf};
 ghost use Rattle.dc_base.specs.Failures.{HasRisen};
 ghost use Rattle.dc_recovery.specs.Halves.{half_len_of};
 ghost use Rattle.dc_recovery.specs.Refusal.{IsRefused, TellsOfImage};
@@ -27,30 +28,31 @@ use dc_stream::{Sink, Source, room};
 use dc_teller::{CHUNK, LONGEST, MOST, read_input};
 use std::alloc::Allocator;
 
-/// Opens the image, does what the lines of the script ask for that the reader has left, and closes it. What waits for a
-/// commit at the end is given up. Each event's answer is written as [`Concentrator::run`] writes it. The first line that
-/// spells nothing ends the script with `LINE i SYNTAX`, and the answer says whether there is one. The forms of the lines
-/// are those of [`ScriptLine`](crate::ScriptLine).
+/// Opens the image, does what the lines of the script ask for that the reader has left, and closes it. The pending
+/// changes for a commit at the end is given up. Each event's answer is written as [`Concentrator::run`] writes it.
+/// The first line that spells nothing ends the script with `LINE i SYNTAX`, and the answer says whether there is one.
+/// The forms of the lines are those of [`ScriptLine`](crate::ScriptLine).
 ///
-/// A bus line may have a bus: line n that of slot n - 1. `POLL n` reads a meter over it: the bus settles, each request goes
-/// out, its answer is heard at the script's moment, and each part that is accepted is committed; these events' answers are
-/// written like any other's. Where a bus is lost, `LINE n LOST` is written once, `GATEWAY LOST` for a gateway, and all is
-/// silence on that line from then on. For a line without a bus `POLL` writes `NO GATEWAY`.
+/// A bus line may have a bus: line n that of slot n - 1. `POLL n` reads a meter over it: the bus settles, each
+/// request goes out, its answer is heard at the script's moment, and each part that is accepted is committed; these
+/// events' answers are written like any other's. Where a bus is lost, `LINE n LOST` is written once, `GATEWAY LOST`
+/// for a gateway, and all is silence on that line from then on. For a line without a bus `POLL` writes `NO GATEWAY`.
 ///
-/// `SEARCH` searches for meters over the bus of a line, with at most so many selections. What waits is committed first;
-/// where that is refused, the refusal is written. Where a request of the line waits, `REFUSED 3 Busy` is written, as a
-/// selection would begin that readout anew. Else each meter found is written, each number that more than one meter has,
-/// whether the budget was spent, how many selections were made, and as `LATE line n` how many answers came late, where
-/// some did. A meter whose answer is lost or late isn't found. For a line without a bus `SEARCH` writes `NO GATEWAY`.
+/// `SEARCH` searches for meters over the bus of a line, with at most this many selections. The pending changes are
+/// committed first; where that is refused, the refusal is written. Where a request of the line waits, `REFUSED 3
+/// Busy` is written, as a selection would begin that readout anew. Else each meter found is written, each number that
+/// more than one meter has, whether the budget was spent, how many selections were made, and as `LATE line n` how
+/// many answers came late, where some did. A meter whose answer is lost or late isn't found. For a line without a bus
+/// `SEARCH` writes `NO GATEWAY`.
 ///
 /// The whole script is read before the image is opened. The disk comes back whatever happens.
 ///
 /// # Errors
-/// [`ProgramFault::Read`], [`ProgramFault::TooLong`] over 1 MiB and [`ProgramFault::NoMemory`], with disk and writer as
-/// they were; [`ProgramFault::NoMemory`] also where memory is refused to a search: the lines before it are done, what waited
-/// for a commit is committed, and of the search nothing but the loss of the bus is written; [`ProgramFault::Open`] where the
-/// image wasn't opened, with the writer as it was; [`ProgramFault::Write`] where the writer failed: the line at which it did
-/// is done, and none behind it.
+/// [`ProgramFault::Read`], [`ProgramFault::TooLong`] over 1 MiB and [`ProgramFault::NoMemory`], with disk and writer
+/// as they were; [`ProgramFault::NoMemory`] also where memory is refused to a search: the lines before it are done,
+/// what waited for a commit is committed, and of the search nothing but the loss of the bus is written;
+/// [`ProgramFault::Open`] where the image wasn't opened, with the writer as it was; [`ProgramFault::Write`] where the
+/// writer failed: the line at which it did is done, and none after it.
 pub fn run_script_over<
     D: Disk + Drop,
     A: Allocator + Copy,
@@ -64,18 +66,20 @@ pub fn run_script_over<
     writer: &mut W,
     lines: &mut [Option<Slot<B>>],
 ) -> (D, Result<bool, ProgramFault>)
-    // Where each image of the disk stands for some state: the run is that of the script's lines, of which exactly the text
-    // is written, and the image is left as that run leaves it. Over the bus of each bus line go the exchanges of the
-    // script's lines that name it, in their order, and nothing else; a lost bus is untouched.
+    // Where each image of the disk stands for some state: the run is that of the script's lines, of which exactly the
+    // text is written, and the image is left as that run leaves it. Over the bus of each bus line go the exchanges of
+    // the script's lines that name it, in their order, and nothing else; a lost bus is untouched.
     ensures ran { (D.keeps disk → EachStands (half_len_of (D.sectors disk)) (D.choices disk))
-        → IfOk result.1 (λ faulty. ImageRan D.Disk (links_of B.lost lines.old) (R.left reader.old) faulty
+        → IfOk result.1 (λ faulty. ImageRan D.Disk (links_of B.lost lines.old)
+        (R.left reader.old) faulty
         (Puts (W.written writer.old) (W.written writer.new))
         (AreCarried B.lost B.asks B.settles B.ready lines.old lines.new) disk result.0) }
     ensures cut { (D.keeps disk → EachStands (half_len_of (D.sectors disk)) (D.choices disk))
-        → IsErrOf result.1 ProgramFault.Write → ImageCut D.Disk (links_of B.lost lines.old) (R.left reader.old)
+        → IsErrOf result.1 ProgramFault.Write
+        → ImageCut D.Disk (links_of B.lost lines.old) (R.left reader.old)
         (AreCarried B.lost B.asks B.settles B.ready lines.old lines.new) disk result.0 }
-    // Memory is refused before the image is opened, or to a search: then what is left of the image and the text are those of
-    // the run up to it.
+    // Memory is refused before the image is opened, or to a search: then what is left of the image and the text are
+    // those of the run up to it.
     ensures starved { (D.keeps disk → EachStands (half_len_of (D.sectors disk)) (D.choices disk))
         → IsErrOf result.1 ProgramFault.NoMemory → ((result.0 ≡ disk) × (writer.new ≡ writer.old))
         ⊎ ImageStarved D.Disk (links_of B.lost lines.old) (R.left reader.old)
@@ -83,30 +87,52 @@ pub fn run_script_over<
         (AreCarried B.lost B.asks B.settles B.ready lines.old lines.new) disk result.0 }
 
     // An image that isn't opened is refused as the store refuses it; one that stands is refused only as worn.
-    ensures small { D.sectors disk < 131 → MatchResult result.1 (λ faulty. ⊥) (λ fault. IfOpen fault (λ e. (e ≡ NotImage) × (result.0 ≡ disk))) }
-    ensures refused { D.keeps result.0 → 131 ≤ D.sectors disk → IfErr result.1 (λ fault. IfOpen fault (λ e. IsRefused (half_len_of (D.sectors disk)) (D.reads disk) e)) }
-    ensures premise { D.keeps result.0 → 131 ≤ D.sectors disk → EachStands (half_len_of (D.sectors disk)) (D.choices disk) → IfErr result.1 (λ fault. IfOpen fault (λ e. TellsOfImage e → e ≡ Worn)) }
-    ensures unwritten { IfErr result.1 (λ fault. IfOpen fault (λ e. TellsOfImage e → D.reads result.0 ≡ D.reads disk)) }
-    ensures device { IfErr result.1 (λ fault. IfOpen fault (λ e. e ≡ Device → HasRisen (D.failures disk) (D.failures result.0))) }
-    ensures any_moment { D.keeps result.0 → EachStands (half_len_of (D.sectors disk)) (D.choices disk)
-        → IfErr result.1 (λ fault. IfOpen fault (λ e. LeavesOnly D.moment D.images_since disk result.0 (StandsForOne (half_len_of (D.sectors disk)) (D.choices disk)))) }
+    ensures small { D.sectors disk < 131
+        → MatchResult result.1 (λ faulty. ⊥)
+        (λ fault. IfOpen fault (λ e. (e ≡ NotImage) × (result.0 ≡ disk))) }
+    ensures refused { D.keeps result.0 → 131 ≤ D.sectors disk
+        → IfErr result.1 (λ fault. IfOpen fault (λ e.
+        IsRefused (half_len_of (D.sectors disk)) (D.reads disk) e)) }
+    ensures premise { D.keeps result.0 → 131 ≤ D.sectors disk
+        → EachStands (half_len_of (D.sectors disk)) (D.choices disk)
+        → IfErr result.1 (λ fault. IfOpen fault (λ e. TellsOfImage e → e ≡ Worn)) }
+    ensures unwritten { IfErr result.1 (λ fault.
+        IfOpen fault (λ e. TellsOfImage e → D.reads result.0 ≡ D.reads disk)) }
+    ensures device { IfErr result.1 (λ fault.
+        IfOpen fault (λ e. e ≡ Device → HasRisen (D.failures disk) (D.failures result.0))) }
+    ensures any_moment { D.keeps result.0
+        → EachStands (half_len_of (D.sectors disk)) (D.choices disk)
+        → IfErr result.1 (λ fault. IfOpen fault (λ e.
+        LeavesOnly D.moment D.images_since disk result.0
+        (StandsForOne (half_len_of (D.sectors disk)) (D.choices disk)))) }
 
     // A script over the limit is refused, and no other is refused for its length.
     ensures fits { OnOk result.1 (IfSome (R.left reader.old) (λ input. length input ≤ most_input)) }
-    ensures too_long { IsErrOf result.1 ProgramFault.TooLong → IfSome (R.left reader.old) (λ input. most_input < length input) }
+    ensures too_long { IsErrOf result.1 ProgramFault.TooLong
+        → IfSome (R.left reader.old) (λ input. most_input < length input) }
     // The image is opened after the whole script was read, and found within the limit.
-    ensures read_first { IfErr result.1 (λ fault. IfOpen fault (λ e. (R.take_failures reader.new ≡ R.take_failures reader.old) × IsAtEnd (R.left reader.new) × IfSome (R.left reader.old) (λ input. length input ≤ most_input))) }
+    ensures read_first { IfErr result.1 (λ fault.
+        IfOpen fault (λ e. (R.take_failures reader.new ≡ R.take_failures reader.old)
+        × IsAtEnd (R.left reader.new) × IfSome (R.left reader.old)
+        (λ input. length input ≤ most_input))) }
 
-    // A fault of an end is told only where that end counted a failure.
-    ensures read { IsErrOf result.1 ProgramFault.Read → HasRisen (R.take_failures reader.old) (R.take_failures reader.new) }
-    ensures write { IsErrOf result.1 ProgramFault.Write → HasRisen (W.put_failures writer.old) (W.put_failures writer.new) }
-    ensures ok { OnOk result.1 ((R.take_failures reader.new ≡ R.take_failures reader.old) × (W.put_failures writer.new ≡ W.put_failures writer.old)) }
+    // A fault of an end is reported only where that end counted a failure.
+    ensures read { IsErrOf result.1 ProgramFault.Read
+        → HasRisen (R.take_failures reader.old) (R.take_failures reader.new) }
+    ensures write { IsErrOf result.1 ProgramFault.Write
+        → HasRisen (W.put_failures writer.old) (W.put_failures writer.new) }
+    ensures ok { OnOk result.1 ((R.take_failures reader.new ≡ R.take_failures reader.old)
+        × (W.put_failures writer.new ≡ W.put_failures writer.old)) }
 
     // What isn't read touches nothing, and after any fault but a failed write the writer is as it was; but for a search
     // over a bus line, to which memory was refused.
-    ensures unread { IfErr result.1 (λ fault. IsOfReading fault → (result.0 ≡ disk) ⊎ IsOfSearch (links_of B.lost lines.old) fault) }
-    ensures untouched { IfErr result.1 (λ fault. fault ≢ ProgramFault.Write → (writer.new ≡ writer.old) ⊎ IsOfSearch (links_of B.lost lines.old) fault) }
-    ensures spared { IsErrOf result.1 ProgramFault.NoMemory → W.put_failures writer.new ≡ W.put_failures writer.old }
+    ensures unread { IfErr result.1 (λ fault.
+        IsOfReading fault → (result.0 ≡ disk) ⊎ IsOfSearch (links_of B.lost lines.old) fault) }
+    ensures untouched { IfErr result.1 (λ fault.
+        fault ≢ ProgramFault.Write → (writer.new ≡ writer.old)
+        ⊎ IsOfSearch (links_of B.lost lines.old) fault) }
+    ensures spared { IsErrOf result.1 ProgramFault.NoMemory
+        → W.put_failures writer.new ≡ W.put_failures writer.old }
 {
     let (input, mut bytes) = match read_script(alloc, reader) {
         Ok(read) => read,
@@ -132,8 +158,8 @@ pub fn run_script_over<
     }
 }
 
-/// Runs a script as [`run_script_over`] does, where line 1 alone may have a bus: a gateway of these ends, that its blocks
-/// are put to and taken from (their form is dc_gateway's). The ends don't come back.
+/// Runs a script as [`run_script_over`] does, where line 1 alone may have a bus: a gateway of these ends, that its
+/// blocks are put to and taken from (their form is dc_gateway's). The ends don't come back.
 ///
 /// # Errors
 /// Those of [`run_script_over`].
@@ -151,9 +177,9 @@ pub fn run_script<
     writer: &mut W,
     gateway: Option<(GR, GW)>,
 ) -> (D, Result<bool, ProgramFault>)
-    // Where each image of the disk stands for some state: the run is that of the script's lines, of which exactly the text
-    // is written, and the image is left as that run leaves it. Over the gateway go the exchanges of these lines in their
-    // order, and nothing else until it is left.
+    // Where each image of the disk stands for some state: the run is that of the script's lines, of which exactly the
+    // text is written, and the image is left as that run leaves it. Over the gateway go the exchanges of these lines
+    // in their order, and nothing else until it is left.
     ensures ran { (D.keeps disk → EachStands (half_len_of (D.sectors disk)) (D.choices disk))
         → IfOk result.1 (λ faulty. OverGateway GR.Source GW.Sink gateway (λ carries.
         ImageRan D.Disk (only_gateway (link_at_first gateway)) (R.left reader.old) faulty
@@ -161,8 +187,8 @@ pub fn run_script<
     ensures cut { (D.keeps disk → EachStands (half_len_of (D.sectors disk)) (D.choices disk))
         → IsErrOf result.1 ProgramFault.Write → OverGateway GR.Source GW.Sink gateway (λ carries.
         ImageCut D.Disk (only_gateway (link_at_first gateway)) (R.left reader.old) carries disk result.0) }
-    // Memory is refused before the image is opened, or to a search: then what is left of the image and the text are those of
-    // the run up to it.
+    // Memory is refused before the image is opened, or to a search: then what is left of the image and the text are
+    // those of the run up to it.
     ensures starved { (D.keeps disk → EachStands (half_len_of (D.sectors disk)) (D.choices disk))
         → IsErrOf result.1 ProgramFault.NoMemory → ((result.0 ≡ disk) × (writer.new ≡ writer.old))
         ⊎ OverGateway GR.Source GW.Sink gateway (λ carries.
@@ -170,30 +196,52 @@ pub fn run_script<
         (Puts (W.written writer.old) (W.written writer.new)) carries disk result.0) }
 
     // An image that isn't opened is refused as the store refuses it; one that stands is refused only as worn.
-    ensures small { D.sectors disk < 131 → MatchResult result.1 (λ faulty. ⊥) (λ fault. IfOpen fault (λ e. (e ≡ NotImage) × (result.0 ≡ disk))) }
-    ensures refused { D.keeps result.0 → 131 ≤ D.sectors disk → IfErr result.1 (λ fault. IfOpen fault (λ e. IsRefused (half_len_of (D.sectors disk)) (D.reads disk) e)) }
-    ensures premise { D.keeps result.0 → 131 ≤ D.sectors disk → EachStands (half_len_of (D.sectors disk)) (D.choices disk) → IfErr result.1 (λ fault. IfOpen fault (λ e. TellsOfImage e → e ≡ Worn)) }
-    ensures unwritten { IfErr result.1 (λ fault. IfOpen fault (λ e. TellsOfImage e → D.reads result.0 ≡ D.reads disk)) }
-    ensures device { IfErr result.1 (λ fault. IfOpen fault (λ e. e ≡ Device → HasRisen (D.failures disk) (D.failures result.0))) }
-    ensures any_moment { D.keeps result.0 → EachStands (half_len_of (D.sectors disk)) (D.choices disk)
-        → IfErr result.1 (λ fault. IfOpen fault (λ e. LeavesOnly D.moment D.images_since disk result.0 (StandsForOne (half_len_of (D.sectors disk)) (D.choices disk)))) }
+    ensures small { D.sectors disk < 131
+        → MatchResult result.1 (λ faulty. ⊥)
+        (λ fault. IfOpen fault (λ e. (e ≡ NotImage) × (result.0 ≡ disk))) }
+    ensures refused { D.keeps result.0 → 131 ≤ D.sectors disk
+        → IfErr result.1 (λ fault. IfOpen fault (λ e.
+        IsRefused (half_len_of (D.sectors disk)) (D.reads disk) e)) }
+    ensures premise { D.keeps result.0 → 131 ≤ D.sectors disk
+        → EachStands (half_len_of (D.sectors disk)) (D.choices disk)
+        → IfErr result.1 (λ fault. IfOpen fault (λ e. TellsOfImage e → e ≡ Worn)) }
+    ensures unwritten { IfErr result.1 (λ fault.
+        IfOpen fault (λ e. TellsOfImage e → D.reads result.0 ≡ D.reads disk)) }
+    ensures device { IfErr result.1 (λ fault.
+        IfOpen fault (λ e. e ≡ Device → HasRisen (D.failures disk) (D.failures result.0))) }
+    ensures any_moment { D.keeps result.0
+        → EachStands (half_len_of (D.sectors disk)) (D.choices disk)
+        → IfErr result.1 (λ fault. IfOpen fault (λ e.
+        LeavesOnly D.moment D.images_since disk result.0
+        (StandsForOne (half_len_of (D.sectors disk)) (D.choices disk)))) }
 
     // A script over the limit is refused, and no other is refused for its length.
     ensures fits { OnOk result.1 (IfSome (R.left reader.old) (λ input. length input ≤ most_input)) }
-    ensures too_long { IsErrOf result.1 ProgramFault.TooLong → IfSome (R.left reader.old) (λ input. most_input < length input) }
+    ensures too_long { IsErrOf result.1 ProgramFault.TooLong
+        → IfSome (R.left reader.old) (λ input. most_input < length input) }
     // The image is opened after the whole script was read, and found within the limit.
-    ensures read_first { IfErr result.1 (λ fault. IfOpen fault (λ e. (R.take_failures reader.new ≡ R.take_failures reader.old) × IsAtEnd (R.left reader.new) × IfSome (R.left reader.old) (λ input. length input ≤ most_input))) }
+    ensures read_first { IfErr result.1 (λ fault.
+        IfOpen fault (λ e. (R.take_failures reader.new ≡ R.take_failures reader.old)
+        × IsAtEnd (R.left reader.new) × IfSome (R.left reader.old)
+        (λ input. length input ≤ most_input))) }
 
-    // A fault of an end is told only where that end counted a failure.
-    ensures read { IsErrOf result.1 ProgramFault.Read → HasRisen (R.take_failures reader.old) (R.take_failures reader.new) }
-    ensures write { IsErrOf result.1 ProgramFault.Write → HasRisen (W.put_failures writer.old) (W.put_failures writer.new) }
-    ensures ok { OnOk result.1 ((R.take_failures reader.new ≡ R.take_failures reader.old) × (W.put_failures writer.new ≡ W.put_failures writer.old)) }
+    // A fault of an end is reported only where that end counted a failure.
+    ensures read { IsErrOf result.1 ProgramFault.Read
+        → HasRisen (R.take_failures reader.old) (R.take_failures reader.new) }
+    ensures write { IsErrOf result.1 ProgramFault.Write
+        → HasRisen (W.put_failures writer.old) (W.put_failures writer.new) }
+    ensures ok { OnOk result.1 ((R.take_failures reader.new ≡ R.take_failures reader.old)
+        × (W.put_failures writer.new ≡ W.put_failures writer.old)) }
 
     // What isn't read touches nothing, and after any fault but a failed write the writer is as it was; but for a search
     // through a gateway, to which memory was refused.
-    ensures unread { IfErr result.1 (λ fault. IsOfReading fault → (result.0 ≡ disk) ⊎ IsOfSearch (only_gateway (link_at_first gateway)) fault) }
-    ensures untouched { IfErr result.1 (λ fault. fault ≢ ProgramFault.Write → (writer.new ≡ writer.old) ⊎ IsOfSearch (only_gateway (link_at_first gateway)) fault) }
-    ensures spared { IsErrOf result.1 ProgramFault.NoMemory → W.put_failures writer.new ≡ W.put_failures writer.old }
+    ensures unread { IfErr result.1 (λ fault. IsOfReading fault → (result.0 ≡ disk)
+        ⊎ IsOfSearch (only_gateway (link_at_first gateway)) fault) }
+    ensures untouched { IfErr result.1 (λ fault.
+        fault ≢ ProgramFault.Write → (writer.new ≡ writer.old)
+        ⊎ IsOfSearch (only_gateway (link_at_first gateway)) fault) }
+    ensures spared { IsErrOf result.1 ProgramFault.NoMemory
+        → W.put_failures writer.new ≡ W.put_failures writer.old }
 {
     let mut lines = match only_line(alloc, gateway) {
         Ok(lines) => lines,
@@ -207,14 +255,17 @@ fn read_script<A: Allocator + Copy, R: Source>(
     alloc: A,
     reader: &mut R,
 ) -> Result<(Vec<u8, A>, Vec<u8, A>), ProgramFault>
-    ensures whole { IfOk result (λ script. IfSome (R.left reader.old) (λ known. script.0.items ≡ known)) }
+    ensures whole { IfOk result (λ script.
+        IfSome (R.left reader.old) (λ known. script.0.items ≡ known)) }
     ensures room { IfOk result (λ script. longest_input_line ≤ 2 * vec_len script.1) }
     ensures fits { OnOk result (IfSome (R.left reader.old) (λ input. length input ≤ most_input)) }
-    ensures too_long { IsErrOf result ProgramFault.TooLong → IfSome (R.left reader.old) (λ input. most_input < length input) }
+    ensures too_long { IsErrOf result ProgramFault.TooLong
+        → IfSome (R.left reader.old) (λ input. most_input < length input) }
     ensures end { OnOk result (IsAtEnd (R.left reader.new)) }
     ensures faults { IfErr result IsOfReading }
     ensures ok { OnOk result (R.take_failures reader.new ≡ R.take_failures reader.old) }
-    ensures read { IsErrOf result ProgramFault.Read → HasRisen (R.take_failures reader.old) (R.take_failures reader.new) }
+    ensures read { IsErrOf result ProgramFault.Read
+        → HasRisen (R.take_failures reader.old) (R.take_failures reader.new) }
 {
     let bytes = room(alloc, LONGEST / 2)?;
     let mut chunk = room(alloc, CHUNK)?;

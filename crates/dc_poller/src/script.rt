@@ -1,6 +1,7 @@
 //! The lines of a script, one by one through a concentrator.
 
-ghost use Rattle.std.specs.Prelude.{◌≡◌, ◌⊎◌, ◌≤◌, ◌<◌, ◌*◌, ◌++◌, ℕ, suc, List, codes, length, IfOk, IfSome, IfNone, OnOk, OnErr};
+ghost use Rattle.std.specs.Prelude.{◌≡◌, ◌⊎◌, ◌≤◌, ◌<◌, ◌*◌, ◌++◌, ℕ, suc, List, codes, length};
+ghost use Rattle.std.specs.Prelude.{IfOk, IfSome, IfNone, OnOk, OnErr};
 ghost use Rattle.dc_base.specs.Failures.{HasRisen};
 ghost use Rattle.dc_core.specs.Run.{event_of};
 ghost use Rattle.dc_core.specs.Text.{answer_text};
@@ -8,9 +9,11 @@ ghost use Rattle.dc_stream.specs.Stream.{Puts, Wrote};
 ghost use Rattle.dc_text.specs.Words.{number_word};
 ghost use Rattle.dc_teller.specs.Lines.{lines_of, longest_input_line};
 ghost use Rattle.dc_poller.specs.Halt.{IsCounted, OnNoMemory, OnWrite};
-ghost use Rattle.dc_poller.specs.Link.{AreAbsent, LineLink, absent, line_in, line_of, links_of, with_link};
+ghost use Rattle.dc_poller.specs.Link.{AreAbsent, LineLink, absent, line_in, line_of, links_of};
+ghost use Rattle.dc_poller.specs.Link.{with_link};
 ghost use Rattle.dc_poller.specs.Slots.{IsKept};
-ghost use Rattle.dc_poller.specs.Script.{ScriptCut, ScriptRan, LineCut, LineRan, moment_behind, no_gateway};
+ghost use Rattle.dc_poller.specs.Script.{ScriptCut, ScriptRan, LineCut, LineRan, moment_behind};
+ghost use Rattle.dc_poller.specs.Script.{no_gateway};
 ghost use Rattle.dc_poller.specs.ScriptLine.{IsPlain, poll as polls, search as searches, seen};
 ghost use Rattle.dc_poller.specs.Starved.{LineStarved, ScriptStarved};
 ghost use Rattle.dc_poller.specs.Traffic.{AreCarried, IsCarried, PollsOver, SearchesOver};
@@ -31,8 +34,8 @@ use dc_teller::first_line;
 use dc_text::put_number_word;
 use std::alloc::Allocator;
 
-/// Runs the lines of an input, up to the first that spells nothing, and says whether there is one. `bytes` is room for an
-/// answer.
+/// Runs the lines of an input, up to the first that spells nothing, and says whether there is one. `bytes` is room
+/// for an answer.
 pub fn run_lines<D: Disk + Drop, A: Allocator + Copy, B: ScriptBus + Drop, W: Sink>(
     alloc: A,
     concentrator: &mut Concentrator<D, A>,
@@ -42,11 +45,14 @@ pub fn run_lines<D: Disk + Drop, A: Allocator + Copy, B: ScriptBus + Drop, W: Si
     out: &mut W,
 ) -> Result<bool, Halt>
     requires { longest_input_line ≤ 2 * length bytes.old }
-    ensures ran { BehindAnyRun D.keeps D.sectors D.reads D.choices concentrator.old (λ origin state before.
+    ensures ran { BehindAnyRun D.keeps D.sectors D.reads D.choices concentrator.old
+        (λ origin state before.
         IfOk result (λ faulty. ScriptRan (D.keeps origin) D.sectors D.failures D.reads D.choices D.moment D.images_since concentrator.old.house.budget state before (links_of B.lost slots.old) (lines_of input.now) faulty (Puts (W.written out.old) (W.written out.new)) (AreCarried B.lost B.asks B.settles B.ready slots.old slots.new) concentrator.old concentrator.new)) }
-    ensures cut { BehindAnyRun D.keeps D.sectors D.reads D.choices concentrator.old (λ origin state before.
+    ensures cut { BehindAnyRun D.keeps D.sectors D.reads D.choices concentrator.old
+        (λ origin state before.
         OnWrite result (ScriptCut (D.keeps origin) D.sectors D.failures D.reads D.choices D.moment D.images_since concentrator.old.house.budget state before (links_of B.lost slots.old) (lines_of input.now) (AreCarried B.lost B.asks B.settles B.ready slots.old slots.new) concentrator.old concentrator.new)) }
-    ensures starved { BehindAnyRun D.keeps D.sectors D.reads D.choices concentrator.old (λ origin state before.
+    ensures starved { BehindAnyRun D.keeps D.sectors D.reads D.choices concentrator.old
+        (λ origin state before.
         OnNoMemory result (ScriptStarved (D.keeps origin) D.sectors D.failures D.reads D.choices D.moment D.images_since concentrator.old.house.budget state before (links_of B.lost slots.old) (lines_of input.now) (Puts (W.written out.old) (W.written out.new)) (AreCarried B.lost B.asks B.settles B.ready slots.old slots.new) concentrator.old concentrator.new)) }
     // Memory is refused to a search alone, which needs a line that has a bus.
     ensures through { OnNoMemory result (¬ (AreAbsent (links_of B.lost slots.old))) }
@@ -82,11 +88,14 @@ fn run_line<D: Disk + Drop, A: Allocator + Copy, B: ScriptBus + Drop, W: Sink>(
     moment: Moment,
     out: &mut W,
 ) -> Result<(), Halt>
-    ensures ran { BehindAnyRun D.keeps D.sectors D.reads D.choices concentrator.old (λ origin state before.
+    ensures ran { BehindAnyRun D.keeps D.sectors D.reads D.choices concentrator.old
+        (λ origin state before.
         OnOk result (LineRan (D.keeps origin) D.sectors D.failures D.reads D.choices D.moment D.images_since concentrator.old.house.budget state before moment.seconds (seen asked.now) (links_of B.lost slots.old) (links_of B.lost slots.new) (Puts (W.written out.old) (W.written out.new)) (IsCarried B.lost B.asks B.settles B.ready (seen asked.now) slots.old slots.new) concentrator.old concentrator.new)) }
-    ensures cut { BehindAnyRun D.keeps D.sectors D.reads D.choices concentrator.old (λ origin state before.
+    ensures cut { BehindAnyRun D.keeps D.sectors D.reads D.choices concentrator.old
+        (λ origin state before.
         OnWrite result (LineCut (D.keeps origin) D.sectors D.failures D.reads D.choices D.moment D.images_since concentrator.old.house.budget state before moment.seconds (seen asked.now) (links_of B.lost slots.old) (IsCarried B.lost B.asks B.settles B.ready (seen asked.now) slots.old slots.new) concentrator.old concentrator.new)) }
-    ensures starved { BehindAnyRun D.keeps D.sectors D.reads D.choices concentrator.old (λ origin state before.
+    ensures starved { BehindAnyRun D.keeps D.sectors D.reads D.choices concentrator.old
+        (λ origin state before.
         OnNoMemory result (LineStarved (D.keeps origin) D.sectors D.failures D.reads D.choices D.moment D.images_since concentrator.old.house.budget state before (seen asked.now) (links_of B.lost slots.old) (Puts (W.written out.old) (W.written out.new)) (IsCarried B.lost B.asks B.settles B.ready (seen asked.now) slots.old slots.new) concentrator.old concentrator.new)) }
     ensures through { OnNoMemory result (¬ (AreAbsent (links_of B.lost slots.old))) }
     ensures absent { AreAbsent (links_of B.lost slots.old) → AreAbsent (links_of B.lost slots.new) }
@@ -110,9 +119,11 @@ fn run_plain<D: Disk + Drop, A: Allocator + Copy, B: ScriptBus + Drop, W: Sink>(
     out: &mut W,
 ) -> Result<(), IoFault>
     requires { IsPlain (seen asked.now) }
-    ensures ran { BehindAnyRun D.keeps D.sectors D.reads D.choices concentrator.old (λ origin state before.
+    ensures ran { BehindAnyRun D.keeps D.sectors D.reads D.choices concentrator.old
+        (λ origin state before.
         OnOk result (LineRan (D.keeps origin) D.sectors D.failures D.reads D.choices D.moment D.images_since concentrator.old.house.budget state before moment.seconds (seen asked.now) (links_of B.lost slots.old) (links_of B.lost slots.new) (Puts (W.written out.old) (W.written out.new)) (IsCarried B.lost B.asks B.settles B.ready (seen asked.now) slots.old slots.new) concentrator.old concentrator.new)) }
-    ensures cut { BehindAnyRun D.keeps D.sectors D.reads D.choices concentrator.old (λ origin state before.
+    ensures cut { BehindAnyRun D.keeps D.sectors D.reads D.choices concentrator.old
+        (λ origin state before.
         OnErr result (LineCut (D.keeps origin) D.sectors D.failures D.reads D.choices D.moment D.images_since concentrator.old.house.budget state before moment.seconds (seen asked.now) (links_of B.lost slots.old) (IsCarried B.lost B.asks B.settles B.ready (seen asked.now) slots.old slots.new) concentrator.old concentrator.new)) }
     ensures fault { OnErr result (HasRisen (W.put_failures out.old) (W.put_failures out.new)) }
     ensures well { OnOk result (W.put_failures out.new ≡ W.put_failures out.old) }
@@ -152,9 +163,11 @@ fn poll_line<D: Disk + Drop, A: Allocator + Copy, B: ScriptBus + Drop, W: Sink>(
     moment: Moment,
     out: &mut W,
 ) -> Result<(), IoFault>
-    ensures ran { BehindAnyRun D.keeps D.sectors D.reads D.choices concentrator.old (λ origin state before.
+    ensures ran { BehindAnyRun D.keeps D.sectors D.reads D.choices concentrator.old
+        (λ origin state before.
         OnOk result (LineRan (D.keeps origin) D.sectors D.failures D.reads D.choices D.moment D.images_since concentrator.old.house.budget state before moment.seconds (polls line meter.now) (links_of B.lost slots.old) (links_of B.lost slots.new) (Puts (W.written out.old) (W.written out.new)) (IsCarried B.lost B.asks B.settles B.ready (polls line meter.now) slots.old slots.new) concentrator.old concentrator.new)) }
-    ensures cut { BehindAnyRun D.keeps D.sectors D.reads D.choices concentrator.old (λ origin state before.
+    ensures cut { BehindAnyRun D.keeps D.sectors D.reads D.choices concentrator.old
+        (λ origin state before.
         OnErr result (LineCut (D.keeps origin) D.sectors D.failures D.reads D.choices D.moment D.images_since concentrator.old.house.budget state before moment.seconds (polls line meter.now) (links_of B.lost slots.old) (IsCarried B.lost B.asks B.settles B.ready (polls line meter.now) slots.old slots.new) concentrator.old concentrator.new)) }
     ensures fault { OnErr result (HasRisen (W.put_failures out.old) (W.put_failures out.new)) }
     ensures well { OnOk result (W.put_failures out.new ≡ W.put_failures out.old) }
@@ -176,9 +189,11 @@ fn poll_slot<D: Disk + Drop, A: Allocator + Copy, B: ScriptBus + Drop, W: Sink>(
     moment: Moment,
     out: &mut W,
 ) -> Result<(), IoFault>
-    ensures ran { (links : List LineLink) → line_in links line ≡ line_of B.lost slot.old → BehindAnyRun D.keeps D.sectors D.reads D.choices concentrator.old (λ origin state before.
+    ensures ran { (links : List LineLink) → line_in links line ≡ line_of B.lost slot.old
+        → BehindAnyRun D.keeps D.sectors D.reads D.choices concentrator.old (λ origin state before.
         OnOk result (LineRan (D.keeps origin) D.sectors D.failures D.reads D.choices D.moment D.images_since concentrator.old.house.budget state before moment.seconds (polls line meter.now) links (with_link links line (line_of B.lost slot.new).link) (Puts (W.written out.old) (W.written out.new)) (λ exchanges. PollsOver B.lost B.asks B.settles B.ready line exchanges slot.old slot.new) concentrator.old concentrator.new)) }
-    ensures cut { (links : List LineLink) → line_in links line ≡ line_of B.lost slot.old → BehindAnyRun D.keeps D.sectors D.reads D.choices concentrator.old (λ origin state before.
+    ensures cut { (links : List LineLink) → line_in links line ≡ line_of B.lost slot.old
+        → BehindAnyRun D.keeps D.sectors D.reads D.choices concentrator.old (λ origin state before.
         OnErr result (LineCut (D.keeps origin) D.sectors D.failures D.reads D.choices D.moment D.images_since concentrator.old.house.budget state before moment.seconds (polls line meter.now) links (λ exchanges. PollsOver B.lost B.asks B.settles B.ready line exchanges slot.old slot.new) concentrator.old concentrator.new)) }
     ensures fault { OnErr result (HasRisen (W.put_failures out.old) (W.put_failures out.new)) }
     ensures well { OnOk result (W.put_failures out.new ≡ W.put_failures out.old) }
@@ -206,11 +221,14 @@ fn search_line<D: Disk + Drop, A: Allocator + Copy, B: ScriptBus + Drop, W: Sink
     line: u8,
     out: &mut W,
 ) -> Result<(), Halt>
-    ensures ran { (moment : ℕ) → BehindAnyRun D.keeps D.sectors D.reads D.choices concentrator.old (λ origin state before.
+    ensures ran { (moment : ℕ) → BehindAnyRun D.keeps D.sectors D.reads D.choices concentrator.old
+        (λ origin state before.
         OnOk result (LineRan (D.keeps origin) D.sectors D.failures D.reads D.choices D.moment D.images_since concentrator.old.house.budget state before moment (searches budget line) (links_of B.lost slots.old) (links_of B.lost slots.new) (Puts (W.written out.old) (W.written out.new)) (IsCarried B.lost B.asks B.settles B.ready (searches budget line) slots.old slots.new) concentrator.old concentrator.new)) }
-    ensures cut { (moment : ℕ) → BehindAnyRun D.keeps D.sectors D.reads D.choices concentrator.old (λ origin state before.
+    ensures cut { (moment : ℕ) → BehindAnyRun D.keeps D.sectors D.reads D.choices concentrator.old
+        (λ origin state before.
         OnWrite result (LineCut (D.keeps origin) D.sectors D.failures D.reads D.choices D.moment D.images_since concentrator.old.house.budget state before moment (searches budget line) (links_of B.lost slots.old) (IsCarried B.lost B.asks B.settles B.ready (searches budget line) slots.old slots.new) concentrator.old concentrator.new)) }
-    ensures starved { BehindAnyRun D.keeps D.sectors D.reads D.choices concentrator.old (λ origin state before.
+    ensures starved { BehindAnyRun D.keeps D.sectors D.reads D.choices concentrator.old
+        (λ origin state before.
         OnNoMemory result (LineStarved (D.keeps origin) D.sectors D.failures D.reads D.choices D.moment D.images_since concentrator.old.house.budget state before (searches budget line) (links_of B.lost slots.old) (Puts (W.written out.old) (W.written out.new)) (IsCarried B.lost B.asks B.settles B.ready (searches budget line) slots.old slots.new) concentrator.old concentrator.new)) }
     ensures through { OnNoMemory result (¬ (AreAbsent (links_of B.lost slots.old))) }
     ensures absent { AreAbsent (links_of B.lost slots.old) → AreAbsent (links_of B.lost slots.new) }
@@ -232,11 +250,16 @@ fn search_slot<D: Disk + Drop, A: Allocator + Copy, B: ScriptBus + Drop, W: Sink
     line: u8,
     out: &mut W,
 ) -> Result<(), Halt>
-    ensures ran { (links : List LineLink) (moment : ℕ) → line_in links line ≡ line_of B.lost slot.old → BehindAnyRun D.keeps D.sectors D.reads D.choices concentrator.old (λ origin state before.
+    ensures ran { (links : List LineLink) (moment : ℕ)
+        → line_in links line ≡ line_of B.lost slot.old
+        → BehindAnyRun D.keeps D.sectors D.reads D.choices concentrator.old (λ origin state before.
         OnOk result (LineRan (D.keeps origin) D.sectors D.failures D.reads D.choices D.moment D.images_since concentrator.old.house.budget state before moment (searches budget line) links (with_link links line (line_of B.lost slot.new).link) (Puts (W.written out.old) (W.written out.new)) (λ exchanges. SearchesOver B.lost B.asks exchanges slot.old slot.new) concentrator.old concentrator.new)) }
-    ensures cut { (links : List LineLink) (moment : ℕ) → line_in links line ≡ line_of B.lost slot.old → BehindAnyRun D.keeps D.sectors D.reads D.choices concentrator.old (λ origin state before.
+    ensures cut { (links : List LineLink) (moment : ℕ)
+        → line_in links line ≡ line_of B.lost slot.old
+        → BehindAnyRun D.keeps D.sectors D.reads D.choices concentrator.old (λ origin state before.
         OnWrite result (LineCut (D.keeps origin) D.sectors D.failures D.reads D.choices D.moment D.images_since concentrator.old.house.budget state before moment (searches budget line) links (λ exchanges. SearchesOver B.lost B.asks exchanges slot.old slot.new) concentrator.old concentrator.new)) }
-    ensures starved { (links : List LineLink) → line_in links line ≡ line_of B.lost slot.old → BehindAnyRun D.keeps D.sectors D.reads D.choices concentrator.old (λ origin state before.
+    ensures starved { (links : List LineLink) → line_in links line ≡ line_of B.lost slot.old
+        → BehindAnyRun D.keeps D.sectors D.reads D.choices concentrator.old (λ origin state before.
         OnNoMemory result (LineStarved (D.keeps origin) D.sectors D.failures D.reads D.choices D.moment D.images_since concentrator.old.house.budget state before (searches budget line) links (Puts (W.written out.old) (W.written out.new)) (λ exchanges. SearchesOver B.lost B.asks exchanges slot.old slot.new) concentrator.old concentrator.new)) }
     ensures through { OnNoMemory result (¬ ((line_of B.lost slot.old).link ≡ absent)) }
     ensures kept { IsKept B.lost slot.old slot.new }
@@ -262,7 +285,7 @@ fn put_no_bus<W: Sink>(out: &mut W) -> Result<(), IoFault>
     out.put(b"NO GATEWAY\n")
 }
 
-// Where the slot of a line lies among so many. They are numbered from 1.
+// Where the slot of a line lies among this many. They are numbered from 1.
 fn index_of(line: u8, count: usize) -> Option<usize>
     ensures found { IfSome result (λ at. (at < count) × (line ≡ suc at)) }
     ensures none { IfNone result ((line ≡ 0) ⊎ (count < line)) }
@@ -281,9 +304,11 @@ fn run_event<D: Disk + Drop, A: Allocator + Copy, W: Sink>(
     event: &Event<'_>,
     out: &mut W,
 ) -> Result<(), IoFault>
-    ensures went { BehindAnyRun D.keeps D.sectors D.reads D.choices concentrator.old (λ origin state before.
+    ensures went { BehindAnyRun D.keeps D.sectors D.reads D.choices concentrator.old
+        (λ origin state before.
         TurnWent (D.keeps origin) D.sectors D.failures D.reads D.choices D.moment D.images_since concentrator.old.house.budget state before (event_of event.now)
-        (λ answer. OnOk result (Puts (W.written out.old) (W.written out.new) (answer_text answer))) concentrator.old concentrator.new) }
+        (λ answer. OnOk result (Puts (W.written out.old) (W.written out.new) (answer_text answer)))
+        concentrator.old concentrator.new) }
     ensures fault { OnErr result (HasRisen (W.put_failures out.old) (W.put_failures out.new)) }
     ensures well { OnOk result (W.put_failures out.new ≡ W.put_failures out.old) }
     ensures budget { concentrator.new.house.budget ≡ concentrator.old.house.budget }
@@ -294,7 +319,7 @@ fn run_event<D: Disk + Drop, A: Allocator + Copy, W: Sink>(
     }
 }
 
-// The moment behind a line.
+// The moment after a line.
 fn moment_behind(asked: &ScriptLine<'_>, moment: Moment) -> Moment
     ensures { result.seconds ≡ moment_behind moment.seconds (seen asked.now) }
 {
@@ -306,7 +331,8 @@ fn moment_behind(asked: &ScriptLine<'_>, moment: Moment) -> Moment
 
 #[tactic(auto, using(dc_stream::proofs::Pieces::written))]
 fn put_syntax<W: Sink>(out: &mut W, line: usize) -> Result<(), IoFault>
-    ensures { Wrote W.written W.put_failures result out.old out.new (codes "LINE" ++ number_word line ++ codes " SYNTAX\n") }
+    ensures { Wrote W.written W.put_failures result out.old out.new
+        (codes "LINE" ++ number_word line ++ codes " SYNTAX\n") }
 {
     out.put(b"LINE")?;
     put_number_word(out, line as u64)?;

@@ -1,6 +1,7 @@
 //! The lines of a script.
 
-ghost use Rattle.std.specs.Prelude.{◌≡◌, ◌<◌, ◌≤◌, ◌*◌, ◌++◌, ◌∷◌, ℕ, List, Some, IfSome, IsSome, MatchOption, codes, length};
+ghost use Rattle.std.specs.Prelude.{◌≡◌, ◌<◌, ◌≤◌, ◌*◌, ◌++◌, ◌∷◌, ℕ, List, Some, IfSome, IsSome};
+ghost use Rattle.std.specs.Prelude.{MatchOption, codes, length};
 ghost use Rattle.std.specs.Fmt.{decimal};
 ghost use Rattle.dc_address.specs.Text.{text_of};
 ghost use Rattle.dc_address.specs.declared.identity.Identity.{Identity};
@@ -8,7 +9,8 @@ ghost use Rattle.dc_changes.specs.Line.{IsOfBytes};
 ghost use Rattle.dc_changes.specs.Valid.{end_of_numbers};
 ghost use Rattle.dc_text.specs.Hex.{bytes_of};
 ghost use Rattle.dc_teller.specs.Lines.{longest_input_line};
-ghost use Rattle.dc_poller.specs.ScriptLine.{LineSeen, IsLineOf, at, start, ask, hear, poll, search, seen, greatest_budget, greatest_line};
+ghost use Rattle.dc_poller.specs.ScriptLine.{LineSeen, IsLineOf, at, start, ask, hear, poll};
+ghost use Rattle.dc_poller.specs.ScriptLine.{search, seen, greatest_budget, greatest_line};
 
 use dc_address::Identity;
 use dc_changes::{Moment, parse_number, split_word};
@@ -23,7 +25,7 @@ const FIRST_LINE: u8 = 1;
 pub enum ScriptLine<'a> {
     /// Nothing: the line is empty.
     Nothing,
-    /// `AT seconds`: what is heard from here on is heard at that second since 1970.
+    /// `AT seconds`: what is heard from now on is heard at that second since 1970.
     At { moment: Moment },
     /// `START line ident`: the readout of a meter begins on its line.
     Start { line: u8, meter: Identity },
@@ -31,9 +33,9 @@ pub enum ScriptLine<'a> {
     Ask { line: u8 },
     /// `HEAR line hex`: an answer is heard on a line; `HEAR line` is silence.
     Hear { line: u8, answer: &'a [u8] },
-    /// `COMMIT`: what waits is written.
+    /// `COMMIT`: the pending changes are written.
     Commit,
-    /// `OFFICE` and a space: what stands behind it is a line of the office.
+    /// `OFFICE` and a space: what follows it is a line of the office.
     Office { text: &'a [u8] },
     /// `POLL line ident`: a meter is read over the bus of its line.
     Poll { line: u8, meter: Identity },
@@ -47,7 +49,8 @@ impl<'a> ScriptLine<'a> {
     pub fn parse(text: &'a [u8], room: &'a mut [u8]) -> Option<ScriptLine<'a>>
         requires { longest_input_line ≤ 2 * length room.old }
         ensures found { IfSome result (λ read. IsLineOf text.now (seen read)) }
-        ensures only { (asked : LineSeen) → IsLineOf text.now asked → MatchOption result ⊥ (λ read. seen read ≡ asked) }
+        ensures only { (asked : LineSeen) → IsLineOf text.now asked
+            → MatchOption result ⊥ (λ read. seen read ≡ asked) }
     {
         if text.len() > LONGEST {
             return None;
@@ -95,7 +98,8 @@ fn parse_at(text: &[u8]) -> Option<Moment>
 fn parse_start(text: &[u8]) -> Option<(u8, Identity)>
     requires { length text.now ≤ longest_input_line }
     ensures found { IfSome result (λ told. IsLineOf text.now (start told.0 told.1)) }
-    ensures only { (line : ℕ) (meter : Identity) → IsLineOf text.now (start line meter) → IsSome result }
+    ensures only { (line : ℕ) (meter : Identity) → IsLineOf text.now (start line meter)
+        → IsSome result }
 {
     let words = text.strip_prefix(b"START ".as_slice())?;
     parse_meter_on_line(words)
@@ -113,7 +117,8 @@ fn parse_ask(text: &[u8]) -> Option<u8>
 fn parse_poll(text: &[u8]) -> Option<(u8, Identity)>
     requires { length text.now ≤ longest_input_line }
     ensures found { IfSome result (λ told. IsLineOf text.now (poll told.0 told.1)) }
-    ensures only { (line : ℕ) (meter : Identity) → IsLineOf text.now (poll line meter) → IsSome result }
+    ensures only { (line : ℕ) (meter : Identity) → IsLineOf text.now (poll line meter)
+        → IsSome result }
 {
     let words = text.strip_prefix(b"POLL ".as_slice())?;
     parse_meter_on_line(words)
@@ -136,7 +141,8 @@ fn parse_hear<'a>(text: &[u8], room: &'a mut [u8]) -> Option<(u8, &'a [u8])>
     requires fits { length text.now ≤ longest_input_line }
     requires room { longest_input_line ≤ 2 * length room.old }
     ensures found { IfSome result (λ told. IsLineOf text.now (hear told.0 told.1.now)) }
-    ensures only { (line : ℕ) (answer : List ℕ) → IsLineOf text.now (hear line answer) → IsSome result }
+    ensures only { (line : ℕ) (answer : List ℕ) → IsLineOf text.now (hear line answer)
+        → IsSome result }
 {
     let words = behind_hear(text)?;
     let Some((line, digits)) = split_word(words) else {
@@ -183,8 +189,10 @@ fn parse_up_to(word: &[u8], most: u64) -> Option<u64>
 }
 
 fn parse_budget(word: &[u8]) -> Option<u32>
-    ensures found { IfSome result (λ budget. (budget ≤ greatest_budget) × (word.now ≡ decimal budget)) }
-    ensures only { (budget : ℕ) → budget ≤ greatest_budget → word.now ≡ decimal budget → result ≡ Some budget }
+    ensures found { IfSome result (λ budget.
+        (budget ≤ greatest_budget) × (word.now ≡ decimal budget)) }
+    ensures only { (budget : ℕ) → budget ≤ greatest_budget → word.now ≡ decimal budget
+        → result ≡ Some budget }
 {
     let budget = parse_up_to(word, u64::from(u32::MAX))?;
     Some(budget as u32)
@@ -192,7 +200,8 @@ fn parse_budget(word: &[u8]) -> Option<u32>
 
 fn parse_line_number(word: &[u8]) -> Option<u8>
     ensures found { IfSome result (λ line. (line ≤ greatest_line) × (word.now ≡ decimal line)) }
-    ensures only { (line : ℕ) → line ≤ greatest_line → word.now ≡ decimal line → result ≡ Some line }
+    ensures only { (line : ℕ) → line ≤ greatest_line → word.now ≡ decimal line
+        → result ≡ Some line }
 {
     let line = parse_up_to(word, u64::from(u8::MAX))?;
     Some(line as u8)
@@ -200,7 +209,8 @@ fn parse_line_number(word: &[u8]) -> Option<u8>
 
 fn parse_meter(word: &[u8]) -> Option<Identity>
     ensures found { IfSome result (λ meter. IsOfBytes meter × (word.now ≡ text_of meter)) }
-    ensures only { (meter : Identity) → IsOfBytes meter → word.now ≡ text_of meter → result ≡ Some meter }
+    ensures only { (meter : Identity) → IsOfBytes meter → word.now ≡ text_of meter
+        → result ≡ Some meter }
 {
     Identity::parse_text(word).ok()
 }
@@ -208,8 +218,10 @@ fn parse_meter(word: &[u8]) -> Option<Identity>
 // `line ident`
 #[tactic(auto, using(crate::proofs::Scripts::line_is_word))]
 fn parse_meter_on_line(words: &[u8]) -> Option<(u8, Identity)>
-    ensures found { IfSome result (λ told. (told.0 ≤ greatest_line) × IsOfBytes told.1 × (words.now ≡ decimal told.0 ++ 32 ∷ text_of told.1)) }
-    ensures only { (line : ℕ) (meter : Identity) → line ≤ greatest_line → IsOfBytes meter → words.now ≡ decimal line ++ 32 ∷ text_of meter → IsSome result }
+    ensures found { IfSome result (λ told. (told.0 ≤ greatest_line) × IsOfBytes told.1
+        × (words.now ≡ decimal told.0 ++ 32 ∷ text_of told.1)) }
+    ensures only { (line : ℕ) (meter : Identity) → line ≤ greatest_line → IsOfBytes meter
+        → words.now ≡ decimal line ++ 32 ∷ text_of meter → IsSome result }
 {
     let (line, meter) = split_word(words)?;
     let line = parse_line_number(line)?;
@@ -219,8 +231,10 @@ fn parse_meter_on_line(words: &[u8]) -> Option<(u8, Identity)>
 // The bytes that some digits stand for.
 fn parse_answer<'a>(digits: &[u8], room: &'a mut [u8]) -> Option<&'a [u8]>
     requires { length digits.now ≤ 2 * length room.old }
-    ensures found { IfSome result (λ answer. (0 < length answer.now) × (bytes_of digits.now ≡ Some answer.now)) }
-    ensures only { (answer : List ℕ) → 0 < length answer → bytes_of digits.now ≡ Some answer → IsSome result }
+    ensures found { IfSome result (λ answer.
+        (0 < length answer.now) × (bytes_of digits.now ≡ Some answer.now)) }
+    ensures only { (answer : List ℕ) → 0 < length answer → bytes_of digits.now ≡ Some answer
+        → IsSome result }
 {
     let count = decode_hex(digits, room)?;
     if count == 0 {

@@ -21,8 +21,9 @@ use dc_sectors::Disk;
 use dc_stream::{IoFault, Sink};
 use std::alloc::Allocator;
 
-/// Searches for meters over a gateway, with at most `budget` selections. What is pending is committed first, and while a
-/// readout of the gateway's line is pending nothing is selected, as a selection would begin that readout anew.
+/// Searches for meters over a gateway, with at most `budget` selections. What is pending is committed first, and
+/// while a readout of the gateway's line is pending nothing is selected, as a selection would begin that readout
+/// anew.
 pub fn search<D: Disk + Drop, A: Allocator + Copy, B: ScriptBus, W: Sink>(
     alloc: A,
     concentrator: &mut Concentrator<D, A>,
@@ -30,10 +31,13 @@ pub fn search<D: Disk + Drop, A: Allocator + Copy, B: ScriptBus, W: Sink>(
     budget: u32,
     out: &mut W,
 ) -> Result<(), Halt>
-    ensures went { BehindAnyRun D.keeps D.sectors D.reads D.choices concentrator.old (λ origin state before.
+    ensures went { BehindAnyRun D.keeps D.sectors D.reads D.choices concentrator.old
+        (λ origin state before.
         TurnsWent (D.keeps origin) D.sectors D.failures D.reads D.choices D.moment D.images_since concentrator.old.house.budget state before
         (Comes (B.meters bus.old) gateway_port budget (late_by gateway_port.is_gateway (B.late bus.old) (B.late bus.new)) (link_by (B.lost bus.old)) (link_by (B.lost bus.new))
-        (λ exchanges. AreExchanged B.asks bus.old exchanges bus.new) (Puts (W.written out.old) (W.written out.new)) result) concentrator.old concentrator.new) }
+        (λ exchanges. AreExchanged B.asks bus.old exchanges bus.new)
+        (Puts (W.written out.old) (W.written out.new)) result) concentrator.old
+        concentrator.new) }
     ensures counted { IsCounted result (W.put_failures out.old) (W.put_failures out.new) }
     ensures budget { concentrator.new.house.budget ≡ concentrator.old.house.budget }
     ensures untouched { B.lost bus.old ≡ true → bus.new ≡ bus.old }
@@ -50,10 +54,13 @@ pub fn search_on<D: Disk + Drop, A: Allocator + Copy, B: ScriptBus, W: Sink>(
     budget: u32,
     out: &mut W,
 ) -> Result<(), Halt>
-    ensures went { BehindAnyRun D.keeps D.sectors D.reads D.choices concentrator.old (λ origin state before.
+    ensures went { BehindAnyRun D.keeps D.sectors D.reads D.choices concentrator.old
+        (λ origin state before.
         TurnsWent (D.keeps origin) D.sectors D.failures D.reads D.choices D.moment D.images_since concentrator.old.house.budget state before
         (Comes (B.meters bus.old) port budget (late_by port.is_gateway (B.late bus.old) (B.late bus.new)) (link_by (B.lost bus.old)) (link_by (B.lost bus.new))
-        (λ exchanges. AreExchanged B.asks bus.old exchanges bus.new) (Puts (W.written out.old) (W.written out.new)) result) concentrator.old concentrator.new) }
+        (λ exchanges. AreExchanged B.asks bus.old exchanges bus.new)
+        (Puts (W.written out.old) (W.written out.new)) result) concentrator.old
+        concentrator.new) }
     ensures counted { IsCounted result (W.put_failures out.old) (W.put_failures out.new) }
     ensures budget { concentrator.new.house.budget ≡ concentrator.old.house.budget }
     ensures untouched { B.lost bus.old ≡ true → bus.new ≡ bus.old }
@@ -75,9 +82,11 @@ fn search_bus<A: Allocator + Copy, B: ScriptBus, W: Sink>(
     budget: u32,
     out: &mut W,
 ) -> Result<(), Halt>
-    ensures talked { Talked (B.meters bus.old) port budget (late_by port.is_gateway (B.late bus.old) (B.late bus.new))
+    ensures talked { Talked (B.meters bus.old) port budget
+        (late_by port.is_gateway (B.late bus.old) (B.late bus.new))
         (link_by (B.lost bus.old)) (link_by (B.lost bus.new))
-        (λ exchanges. AreExchanged B.asks bus.old exchanges bus.new) (Puts (W.written out.old) (W.written out.new)) result }
+        (λ exchanges. AreExchanged B.asks bus.old exchanges bus.new)
+        (Puts (W.written out.old) (W.written out.new)) result }
     ensures counted { IsCounted result (W.put_failures out.old) (W.put_failures out.new) }
     ensures untouched { B.lost bus.old ≡ true → bus.new ≡ bus.old }
 {

@@ -2,7 +2,8 @@
 
 ghost use Rattle.std.specs.Prelude.{◌≡◌, ◌≤◌, IfOk, IfSome, OnOk, OnErr, length};
 ghost use Rattle.dc_base.specs.Failures.{HasRisen};
-ghost use Rattle.dc_core.specs.Event.{starts, asks, hears, commits, started, asked, heard, committed};
+ghost use Rattle.dc_core.specs.Event.{starts, asks, hears, commits, started, asked, heard};
+ghost use Rattle.dc_core.specs.Event.{committed};
 ghost use Rattle.dc_core.specs.Step.{longest_request};
 ghost use Rattle.dc_stream.specs.Stream.{Puts};
 ghost use Rattle.dc_poller.specs.Poll.{told_text};
@@ -26,9 +27,12 @@ pub fn told_start<D: Disk + Drop, A: Allocator + Copy, W: Sink>(
     meter: &Identity,
     out: &mut W,
 ) -> Result<Result<(), StartFault>, IoFault>
-    ensures went { BehindAnyRun D.keeps D.sectors D.reads D.choices concentrator.old (λ origin state before.
+    ensures went { BehindAnyRun D.keeps D.sectors D.reads D.choices concentrator.old
+        (λ origin state before.
         TurnWent (D.keeps origin) D.sectors D.failures D.reads D.choices D.moment D.images_since concentrator.old.house.budget state before (starts line meter.now)
-        (λ answer. IfOk result (λ told. (answer ≡ started told) × Puts (W.written out.old) (W.written out.new) (told_text (started told)))) concentrator.old concentrator.new) }
+        (λ answer. IfOk result (λ told.
+        (answer ≡ started told) × Puts (W.written out.old) (W.written out.new)
+        (told_text (started told)))) concentrator.old concentrator.new) }
     ensures fault { OnErr result (HasRisen (W.put_failures out.old) (W.put_failures out.new)) }
     ensures well { OnOk result (W.put_failures out.new ≡ W.put_failures out.old) }
     ensures budget { concentrator.new.house.budget ≡ concentrator.old.house.budget }
@@ -46,10 +50,14 @@ pub fn told_ask<D: Disk + Drop, A: Allocator + Copy, W: Sink>(
     line: u8,
     out: &mut W,
 ) -> Result<Option<FrameBuf>, IoFault>
-    ensures went { BehindAnyRun D.keeps D.sectors D.reads D.choices concentrator.now (λ origin state before.
+    ensures went { BehindAnyRun D.keeps D.sectors D.reads D.choices concentrator.now
+        (λ origin state before.
         TurnWent (D.keeps origin) D.sectors D.failures D.reads D.choices D.moment D.images_since concentrator.now.house.budget state before (asks line)
-        (λ answer. IfOk result (λ told. (answer ≡ asked told) × Puts (W.written out.old) (W.written out.new) (told_text (asked told)))) concentrator.now concentrator.now) }
-    ensures short { IfOk result (λ told. IfSome told (λ request. length request ≤ longest_request)) }
+        (λ answer. IfOk result (λ told.
+        (answer ≡ asked told) × Puts (W.written out.old) (W.written out.new)
+        (told_text (asked told)))) concentrator.now concentrator.now) }
+    ensures short { IfOk result (λ told.
+        IfSome told (λ request. length request ≤ longest_request)) }
     ensures fault { OnErr result (HasRisen (W.put_failures out.old) (W.put_failures out.new)) }
     ensures well { OnOk result (W.put_failures out.new ≡ W.put_failures out.old) }
 {
@@ -70,9 +78,12 @@ pub fn told_hear<D: Disk + Drop, A: Allocator + Copy, W: Sink>(
     bytes: &[u8],
     out: &mut W,
 ) -> Result<Result<LineHeard, HearFault>, IoFault>
-    ensures went { BehindAnyRun D.keeps D.sectors D.reads D.choices concentrator.old (λ origin state before.
+    ensures went { BehindAnyRun D.keeps D.sectors D.reads D.choices concentrator.old
+        (λ origin state before.
         TurnWent (D.keeps origin) D.sectors D.failures D.reads D.choices D.moment D.images_since concentrator.old.house.budget state before (hears line moment.seconds bytes.now)
-        (λ answer. IfOk result (λ told. (answer ≡ heard told) × Puts (W.written out.old) (W.written out.new) (told_text (heard told)))) concentrator.old concentrator.new) }
+        (λ answer. IfOk result (λ told.
+        (answer ≡ heard told) × Puts (W.written out.old) (W.written out.new)
+        (told_text (heard told)))) concentrator.old concentrator.new) }
     ensures fault { OnErr result (HasRisen (W.put_failures out.old) (W.put_failures out.new)) }
     ensures well { OnOk result (W.put_failures out.new ≡ W.put_failures out.old) }
     ensures budget { concentrator.new.house.budget ≡ concentrator.old.house.budget }
@@ -84,14 +95,17 @@ pub fn told_hear<D: Disk + Drop, A: Allocator + Copy, W: Sink>(
     }
 }
 
-/// Commits what waits.
+/// Commits the pending changes.
 pub fn told_commit<D: Disk + Drop, A: Allocator + Copy, W: Sink>(
     concentrator: &mut Concentrator<D, A>,
     out: &mut W,
 ) -> Result<Result<usize, CommitFault>, IoFault>
-    ensures went { BehindAnyRun D.keeps D.sectors D.reads D.choices concentrator.old (λ origin state before.
+    ensures went { BehindAnyRun D.keeps D.sectors D.reads D.choices concentrator.old
+        (λ origin state before.
         TurnWent (D.keeps origin) D.sectors D.failures D.reads D.choices D.moment D.images_since concentrator.old.house.budget state before commits
-        (λ answer. IfOk result (λ told. (answer ≡ committed told) × Puts (W.written out.old) (W.written out.new) (told_text (committed told)))) concentrator.old concentrator.new) }
+        (λ answer. IfOk result (λ told.
+        (answer ≡ committed told) × Puts (W.written out.old) (W.written out.new)
+        (told_text (committed told)))) concentrator.old concentrator.new) }
     ensures fault { OnErr result (HasRisen (W.put_failures out.old) (W.put_failures out.new)) }
     ensures well { OnOk result (W.put_failures out.new ≡ W.put_failures out.old) }
     ensures budget { concentrator.new.house.budget ≡ concentrator.old.house.budget }

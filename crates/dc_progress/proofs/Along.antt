@@ -70,9 +70,9 @@ module _ (budget line : ℕ) (meters : List Meter) (start : Scene) (place : ℕ)
   started : (is_line line ≡ true) × (start.core.stopped ≡ false)
   started = start_split (is_line line) start.core.stopped (is_on line (row_of meter.identity first)) (is_some (session_of start.core line)) may.begins.may_start
 
-  -- ---- what holds behind each round
+  -- ---- what holds after each round
 
-  -- after so many rounds with so many losses, so many of them in a row at last, so many requests are left
+  -- after this many rounds with this many losses, this many of them in a row at last, this many requests are left
   abbrev pub IsLeft : ℕ → ℕ → ℕ → ℕ → Type 0
   IsLeft done lost tries left = LeftOf total done lost tries left
 

@@ -71,7 +71,7 @@ module _ (budget line : ℕ) (meters : List Meter) (start : Scene) (place : ℕ)
   abbrev Read : State → Type 0
   Read state = HasRead meter.identity row parts first state
 
-  -- what is known of a readout that goes on, after so many exchanges with so many losses
+  -- what is known of a readout that goes on, after this many exchanges with this many losses
   record Facts (positions : List Position) (done lost tries : ℕ) (state : State) : Type 0 where
     world : World
     running : Running

@@ -1,4 +1,4 @@
--- The requests that are left of a readout, after so many exchanges and losses.
+-- The requests that are left of a readout, after this many exchanges and losses.
 use Rattle.std.proofs.Common.{◌≡◌, ℕ, ◌+◌, ◌*◌, ◌≤◌, ◌<◌, Option, Some, None, arith, refl}
 use Rattle.dc_readout.specs.declared.stage.Stage.{Stage}
 use Rattle.dc_readout.specs.declared.stage.Stage.TheVariants.{Resets, Selects, Requests, Pending, Ended}
@@ -10,7 +10,7 @@ use Rattle.dc_address.specs.declared.identity.Identity.{Identity}
 use Rattle.dc_readout.specs.Summary.{reset_of, selection_of, request_of, asked_at}
 
 module _ (total : ℕ) where
-  -- after so many exchanges with so many losses, so many of them in a row at last
+  -- after this many exchanges with this many losses, this many of them in a row at last
   pub record IsLeft (done lost tries left : ℕ) : Type 0 where
     pub least : total ≤ done + left
     pub most : done + left ≤ total + lost

@@ -14,7 +14,7 @@ pub mod Along
 pub mod Eight
 -- a house whose meter may be read
 pub mod Example
--- the requests that are left of a readout, after so many exchanges and losses
+-- the requests that are left of a readout, after this many exchanges and losses
 pub mod Left
 -- what turns of other lines leave as it is
 pub mod Others

@@ -4,7 +4,7 @@ use Rattle.std.specs.Prelude.{slice_get, option_map}
 use Rattle.std.proofs.lemmas.Bool.{false≢true, true≢false}
 use Rattle.dc_lives.specs.World.{more_after, whole_readout}
 
--- the first of what is left, and what is left behind it
+-- the first of what is left, and what is left after it
 record First (body : List ℕ) (bodies left : List (List ℕ)) : Type 0 where
   rest : List (List ℕ)
   left_is : left ≡ body ∷ rest

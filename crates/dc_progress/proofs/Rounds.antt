@@ -87,7 +87,7 @@ asks_nothing core line free = nothing_when (not (is_line line) || core.stopped) 
 pub right_answer : (right answer : Result LineHeard HearFault) → MayHear right answer → answer ≢ Err NoMemory → answer ≡ right
 right_answer right answer may memory = ⊎_elim (λ e. e) (λ none. absurd (memory none.0)) may
 
--- want of memory is never the answer of the state
+-- out of memory is never the answer of the state
 refused_otherwise : (few is : Bool) (good : LineHeard) → unless_refused (if few then Some TakePendingFull else if is then Some TakeFull else None) good ≡ Err NoMemory → ⊥
 refused_otherwise true is good e = cc
 refused_otherwise false true good e = cc
@@ -164,7 +164,7 @@ module _ (budget line : ℕ) (core : Core) (s : Summary) (is : is_line line ≡ 
       let below : line - 1 < 8 = grind (arith, nat_tests) in
       omega (arith, eight, below)
 
-  -- the answer is heard, and what waits is committed
+  -- the answer is heard, and the pending changes are committed
   abbrev pub behind : ℕ → List ℕ → Result LineHeard HearFault → Core
   behind moment bytes answer = settled_core (after_hear core line moment bytes answer) (after_hear core line moment bytes answer).pending
 

@@ -1,7 +1,8 @@
 -- A readout beside those of other lines (this product). Between its requests, their answers and the
 -- commits, other lines begin, ask and hear in any order.
 use Rattle.std.specs.List.{AllByRecursion}
-use Rattle.std.specs.Prelude.{◌≡◌, ◌≢◌, ℕ, ◌+◌, ◌*◌, ◌≤◌, ◌<◌, Option, None, Some, IsSome, Ok, List, [], ◌∷◌, ◌++◌, map, filter, Result, Err}
+use Rattle.std.specs.Prelude.{◌≡◌, ◌≢◌, ℕ, ◌+◌, ◌*◌, ◌≤◌, ◌<◌, Option, None, Some, IsSome, Ok, List}
+use Rattle.std.specs.Prelude.{[], ◌∷◌, ◌++◌, map, filter, Result, Err}
 use Rattle.dc_linkframe.specs.Frame.{FrameSeen}
 use Rattle.dc_linkframe.specs.Reading.{frame_of}
 use Rattle.dc_address.specs.declared.identity.Identity.{Identity}
@@ -16,7 +17,8 @@ use Rattle.dc_core.specs.declared.line_heard.LineHeard.TheVariants.{Failed}
 use Rattle.dc_core.specs.declared.fault.HearFault.{HearFault}
 use Rattle.dc_core.specs.declared.fault.HearFault.TheVariants.{Full, PendingFull}
 use Rattle.dc_core.specs.Core.{Core, present, session_of, opened}
-use Rattle.dc_core.specs.Event.{Event, Answer, starts, asks, hears, commits, offices, started, asked, heard, committed}
+use Rattle.dc_core.specs.Event.{Event, Answer, starts, asks, hears, commits, offices, started}
+use Rattle.dc_core.specs.Event.{asked, heard, committed}
 use Rattle.dc_core.specs.Step.{ask_answer, hear_answer}
 use Rattle.dc_core.specs.Transcript.{Turn, leads, IsChain}
 use Rattle.dc_progress.specs.Needs.{IsThere, CanBegin}
@@ -122,8 +124,8 @@ IsTakenUnlessFull (Err Full) = Unit {0}
 IsTakenUnlessFull (Err PendingFull) = Unit {0}
 IsTakenUnlessFull (Err fault) = ⊥
 
--- By these turns the readout never fails. The exchanges are no more than its requests and one for
--- each loss, and no more than three for each request. While the session is on the line and nothing
+-- By these turns the readout never fails. The exchanges are at most its requests and one for
+-- each loss, and at most three for each request. While the session is on the line and nothing
 -- is pending, a request is asked, and while one waits, whatever the line makes of it is taken,
 -- unless there is no room. Where nobody is on the line any more, the meter is read, and that is
 -- committed.

@@ -1,6 +1,7 @@
 -- A readout ends in one whole reading (this product): the meters follow the standard, nothing is
 -- lost three times in a row, the disk doesn't fail, and memory is available.
-use Rattle.std.specs.Prelude.{◌≡◌, ℕ, ◌+◌, ◌*◌, ◌≤◌, ◌<◌, Option, None, IsSome, List, [], ◌∷◌, ◌++◌, length, map}
+use Rattle.std.specs.Prelude.{◌≡◌, ℕ, ◌+◌, ◌*◌, ◌≤◌, ◌<◌, Option, None, IsSome, List, [], ◌∷◌, ◌++◌}
+use Rattle.std.specs.Prelude.{length, map}
 use Rattle.std.specs.List.{AllByRecursion}
 use Rattle.dc_address.specs.declared.identity.Identity.{Identity}
 use Rattle.dc_readout.specs.Session.{commands}
@@ -14,7 +15,8 @@ use Rattle.dc_core.specs.Core.{Core, present, session_of, opened}
 use Rattle.dc_core.specs.Step.{ask_answer}
 use Rattle.dc_core.specs.Transcript.{Turn, leads, IsChain}
 use Rattle.dc_progress.specs.Needs.{MayBeRead}
-use Rattle.dc_progress.specs.Rounds.{Scene, Round, IsRound, AreRounds, scene_behind, begun_on, losses_in, LoseFew}
+use Rattle.dc_progress.specs.Rounds.{Scene, Round, IsRound, AreRounds, scene_behind, begun_on}
+use Rattle.dc_progress.specs.Rounds.{losses_in, LoseFew}
 
 -- ---- a reading
 
@@ -44,7 +46,7 @@ requests_of address parts = commands address + length parts
 
 -- ---- with losses
 
--- After some rounds of a readout: they are no more than its requests and one for each loss, and no
+-- After some rounds of a readout: they are at most its requests and one for each loss, and no
 -- more than three for each request. While something is asked, another round can be done, whatever
 -- the line does to it and whenever the answer comes. Where nothing is asked any more, the meter is
 -- read.
@@ -70,7 +72,7 @@ ReadoutsEnd = (budget line : ℕ) (meters : List Meter) (scene : Scene) (place :
 
 -- ---- without losses
 
--- After some rounds that lost nothing: they are no more than the readout's requests. While they are
+-- After some rounds that lost nothing: they are at most the readout's requests. While they are
 -- fewer, another round can be done. When they are as many, the meter is read.
 pub record RunsThrough (budget line : ℕ) (meters : List Meter) (first : Scene) (meter : Meter)
     (row : MeterRow) (parts : List (List ℕ)) (rounds : List Round) (scene : Scene) : Type 0 where

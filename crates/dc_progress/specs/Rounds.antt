@@ -6,7 +6,8 @@ use Rattle.dc_linkframe.specs.Frame.{FrameSeen}
 use Rattle.dc_linkframe.specs.Reading.{frame_of}
 use Rattle.dc_address.specs.declared.identity.Identity.{Identity}
 use Rattle.dc_lives.specs.declared.event.Outcome.{Outcome}
-use Rattle.dc_lives.specs.declared.event.Outcome.TheVariants.{RequestLost, ReplyLost, ReplyUnreadable, AsSent}
+use Rattle.dc_lives.specs.declared.event.Outcome.TheVariants.{RequestLost, ReplyLost}
+use Rattle.dc_lives.specs.declared.event.Outcome.TheVariants.{ReplyUnreadable, AsSent}
 use Rattle.dc_lives.specs.Meter.{Meter, Position}
 use Rattle.dc_lives.specs.World.{positions_after, heard_in}
 use Rattle.dc_core.specs.declared.line_heard.LineHeard.{LineHeard}
@@ -85,14 +86,14 @@ abbrev pub losses_in : List Round → ℕ
 losses_in [] = 0
 losses_in (r ∷ rounds) = losses_by r.outcome + losses_in rounds
 
--- the number of losses in a row, after so many before
+-- the number of losses in a row, after this many before
 abbrev pub row_after : ℕ → Outcome → ℕ
 row_after row RequestLost = row + 1
 row_after row ReplyLost = row + 1
 row_after row ReplyUnreadable = row + 1
 row_after row AsSent = 0
 
--- Nothing is lost three times in a row, where so many losses came before: a session sends a request
+-- Nothing is lost three times in a row, where this many losses came before: a session sends a request
 -- three times.
 abbrev pub LoseFew : ℕ → List Round → Type 0
 LoseFew row [] = Unit {0}

@@ -40,13 +40,13 @@ settled_of false = tt
 
 -- ---- lines of text that are true
 
--- behind turns alone
+-- after turns alone
 pub true_behind : (core : Core) (store : Store) (happened more : List Happening) → AreTurns happened → AreTrue (leads core (happened_turns happened)) (store_behind store (happened_turns happened)) more → AreTrue core store (happened ++ more)
 true_behind core store [] more turns is = is
 true_behind core store (does turn ∷ happened) more turns is = true_behind (next core turn.0 turn.1) (behind_answer store turn.1) happened more turns is
 true_behind core store (tells line told ∷ happened) more turns is = absurd turns
 
--- and behind others
+-- and after others
 pub true_then : (core : Core) (store : Store) (happened more : List Happening) → AreTrue core store happened → AreTrue (leads core (happened_turns happened)) (store_behind store (happened_turns happened)) more → AreTrue core store (happened ++ more)
 true_then core store [] more was is = is
 true_then core store (does turn ∷ happened) more was is = true_then (next core turn.0 turn.1) (behind_answer store turn.1) happened more was is

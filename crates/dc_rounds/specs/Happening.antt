@@ -1,16 +1,21 @@
 -- What happens in a poll, and its text (this product).
-use Rattle.std.specs.Prelude.{◌≡◌, ℕ, ◌+◌, Bool, false, ◌==◌, true, List, [], ◌∷◌, ◌++◌, codes, flat_map, length, if◌then◌else◌, option_map, get_or, Option, None, Some}
+use Rattle.std.specs.Prelude.{◌≡◌, ℕ, ◌+◌, Bool, false, ◌==◌, true, List, [], ◌∷◌, ◌++◌, codes}
+use Rattle.std.specs.Prelude.{flat_map, length, if◌then◌else◌, option_map, get_or, Option, None}
+use Rattle.std.specs.Prelude.{Some}
 use Rattle.dc_address.specs.Text.{text_of}
 use Rattle.dc_address.specs.declared.identity.Identity.{Identity}
 use Rattle.dc_changes.specs.State.{State, ReadingRow}
 use Rattle.dc_core.specs.Core.{Core, present}
 use Rattle.dc_core.specs.Event.{Event, starts, asks, hears, commits, offices}
-use Rattle.dc_core.specs.Fault.{start_number, start_name, hear_number, hear_name, commit_number, commit_name}
+use Rattle.dc_core.specs.Fault.{start_number, start_name, hear_number, hear_name, commit_number}
+use Rattle.dc_core.specs.Fault.{commit_name}
 use Rattle.dc_core.specs.Step.{next}
 use Rattle.dc_core.specs.Transcript.{Turn}
 use Rattle.dc_meters.specs.Orders.{reading_of, serials_of}
 use Rattle.dc_readout.specs.declared.why.Why.{Why}
-use Rattle.dc_readout.specs.declared.why.Why.TheVariants.{NoAnswer, WrongFrame, WrongAddress, ApplicationError, Content, Stranger, TooManyParts}
+use Rattle.dc_readout.specs.declared.why.Why.TheVariants.{NoAnswer, WrongFrame, WrongAddress}
+use Rattle.dc_readout.specs.declared.why.Why.TheVariants.{ApplicationError, Content, Stranger}
+use Rattle.dc_readout.specs.declared.why.Why.TheVariants.{TooManyParts}
 use Rattle.dc_readout.specs.Why.{number_of as why_number, name_of as why_name}
 use Rattle.dc_records.specs.Fault.{number_of as content_number, name_of as content_name}
 use Rattle.dc_text.specs.Words.{number_word, fault_text}

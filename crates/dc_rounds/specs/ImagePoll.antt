@@ -15,9 +15,10 @@ use Rattle.dc_rounds.specs.Round.{Happens, most_lines}
 use Rattle.dc_rounds.specs.declared.outcome.Outcome.{Outcome}
 use Rattle.dc_rounds.specs.declared.station.Station.{Station}
 
--- A LIFE FROM THE DISK TO THE DISK: the concentrator is opened, and such things happen, whose turns are a run of it from
--- its beginning.
-pub record ImageTurned {D : Type 0} (g : Ghosts D) (such : Core → List Happening → Type 0) (disk new : D)
+-- A LIFE FROM THE DISK TO THE DISK: the concentrator is opened, and such things happen, whose turns are a run of it
+-- from its beginning.
+pub record ImageTurned {D : Type 0} (g : Ghosts D) (such : Core → List Happening → Type 0)
+    (disk new : D)
     : Type 0 where
   pub state : State
   pub first : Machine D
@@ -26,17 +27,25 @@ pub record ImageTurned {D : Type 0} (g : Ghosts D) (such : Core → List Happeni
   pub happens : Happens g first.store.disk state [] such first last
   pub disk_is : new ≡ last.store.disk
 
--- THE METERS OF A PLAN ARE READ. The lines are those of the first eight buses; on each whose bus isn't lost the meters
--- of the register that hang there are read, or those of them that are named, in order of identity. Before it, a line of text
--- is written for each naming of a meter that can't be read; these count as failed (up to 2^32 - 1 of them).
-pub record PlanPolled {B T : Type 0} (g : Bus B) (told : T → ℕ → T → Type 0) (passes : T → T → Type 0)
-    (buses : List B) (only : List Identity) (tries : ℕ) (first last : T) (old new : Option (List ℕ)) (now : Outcome)
+-- THE METERS OF A PLAN ARE READ. The lines are those of the first eight buses; on each whose bus isn't lost the
+-- meters of the register that hang there are read, or those of them that are named, in order of identity. Before it,
+-- a line of text is written for each naming of a meter that can't be read; these count as failed (up to 2^32 - 1 of
+-- them).
+pub record PlanPolled {B T : Type 0} (g : Bus B) (told : T → ℕ → T → Type 0)
+    (passes : T → T → Type 0)
+    (buses : List B) (only : List Identity) (tries : ℕ) (first last : T) (old new : Option (List ℕ))
+    (now : Outcome)
     (core : Core) (happened : List Happening) : Type 0 where
   pub olds : List (Station B)
   pub news : List (Station B)
   pub between : Option (List ℕ)
   pub planned : ArePlanned g.lost (present core) only buses olds
-  pub refuses : Puts old between (refused_text (has_bus g.lost (take most_lines buses)) (present core) only)
+  pub refuses : Puts old between (refused_text (has_bus g.lost (take most_lines buses))
+      (present core) only)
   pub polls : PollsAll g told passes tries olds news first last (Puts between new)
-      (record { read = 0; failed = min (2 ^ 32 - 1) (refused_count (has_bus g.lost (take most_lines buses)) (present core) only) })
+      (record {
+        read = 0;
+        failed = min (2 ^ 32 - 1)
+            (refused_count (has_bus g.lost (take most_lines buses)) (present core) only);
+      })
       now core happened

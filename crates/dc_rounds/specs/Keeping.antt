@@ -1,15 +1,18 @@
 -- What a round commits (this product).
-use Rattle.std.specs.Prelude.{◌≡◌, ◌≢◌, ℕ, Bool, false, List, [], ◌∷◌, ◌++◌, None, Some, Result, Ok, Err}
+use Rattle.std.specs.Prelude.{◌≡◌, ◌≢◌, ℕ, Bool, false, List, [], ◌∷◌, ◌++◌, None, Some, Result, Ok}
+use Rattle.std.specs.Prelude.{Err}
 use Rattle.std.specs.List.{All}
 use Rattle.dc_changes.specs.State.{State}
 use Rattle.dc_core.specs.Core.{Core, present, session_of}
-use Rattle.dc_core.specs.Event.{Event, Answer, starts, asks, hears, commits, started, asked, heard, committed, replied, unread, unstored, uncommitted}
+use Rattle.dc_core.specs.Event.{Event, Answer, starts, asks, hears, commits, started, asked, heard}
+use Rattle.dc_core.specs.Event.{committed, replied, unread, unstored, uncommitted}
 use Rattle.dc_core.specs.Step.{next}
 use Rattle.dc_core.specs.Transcript.{Turn}
 use Rattle.dc_core.specs.declared.fault.CommitFault.{CommitFault}
 use Rattle.dc_core.specs.declared.line_heard.LineHeard.{LineHeard}
 use Rattle.dc_core.specs.declared.line_heard.LineHeard.TheVariants.{Accepted}
-use Rattle.dc_rounds.specs.Happening.{Told, was_read, has_failed, was_refused, is_lost, Happening, does, tells, newest_serial, newest_parts}
+use Rattle.dc_rounds.specs.Happening.{Told, was_read, has_failed, was_refused, is_lost, Happening}
+use Rattle.dc_rounds.specs.Happening.{does, tells, newest_serial, newest_parts}
 
 -- ---- whether something is pending
 
@@ -79,7 +82,8 @@ pub record IsRound (moment : ℕ) (turns : List Turn) : Type 0 where
 -- what is heard is heard at the moment that the timer tells then.
 pub data InRounds {T : Type 0} (told : T → ℕ → T → Type 0) (passes : T → T → Type 0)
     : T → List Turn → T → Type 0 where
-  at_first : {first : T} {turns : List Turn} → IsCommit turns → InRounds told passes first turns first
+  at_first : {first : T} {turns : List Turn} → IsCommit turns
+      → InRounds told passes first turns first
   and_round : {first old passed last : T} {moment : ℕ} {turns more : List Turn}
       → InRounds told passes first turns old → store_behind some_wait turns ≡ all_kept
       → passes old passed → told passed moment last

@@ -1,5 +1,7 @@
 -- Which meters are read on which line, and which are refused before (this product).
-use Rattle.std.specs.Prelude.{◌≡◌, ℕ, ◌+◌, ◌-◌, ◌<◌, ◌^◌, min, Bool, true, false, not, ◌&&◌, ◌||◌, ◌==◌, List, [], map, filter, flat_map, length, take, slice_get, slice_index_or, if◌then◌else◌, Option, None, Some, is_some}
+use Rattle.std.specs.Prelude.{◌≡◌, ℕ, ◌+◌, ◌-◌, ◌<◌, ◌^◌, min, Bool, true, false, not, ◌&&◌, ◌||◌}
+use Rattle.std.specs.Prelude.{◌==◌, List, [], map, filter, flat_map, length, take, slice_get}
+use Rattle.std.specs.Prelude.{slice_index_or, if◌then◌else◌, Option, None, Some, is_some}
 use Rattle.std.specs.List.{list_any}
 use Rattle.std.specs.Ordering.{is_eq}
 use Rattle.dc_address.specs.Identity.{identity_cmp}
@@ -58,38 +60,48 @@ refusal_line meter (Some fault) = told_line 0 (was_refused meter (Start fault))
 
 -- a line of text for each naming of such a meter, in order
 abbrev pub refused_text : (ℕ → Bool) → State → List Identity → List ℕ
-refused_text connected state only = flat_map (λ meter. refusal_line meter (refusal_of connected state meter)) only
+refused_text connected state only =
+    flat_map (λ meter. refusal_line meter (refusal_of connected state meter)) only
 
 -- how many lines these are
 abbrev pub refused_count : (ℕ → Bool) → State → List Identity → ℕ
-refused_count connected state only = length (filter (λ meter. is_some (refusal_of connected state meter)) only)
+refused_count connected state only =
+    length (filter (λ meter. is_some (refusal_of connected state meter)) only)
 
 -- ---- the lines
 
--- The line with this number: its queue, none of whose meters was started. Of one whose bus is lost it counts as written.
-pub record IsPlanned {B : Type 0} (lost : B → Bool) (state : State) (only : List Identity) (line : ℕ)
+-- The line with this number: its queue, none of whose meters was started. Of one whose bus is lost it counts as
+-- written.
+pub record IsPlanned {B : Type 0} (lost : B → Bool) (state : State) (only : List Identity)
+    (line : ℕ)
     (station : Station B) : Type 0 where
   pub queue : station.left.now ≡ queue_on state only line (lost station.bus)
   pub said : station.said ≡ lost station.bus
   pub fresh : IsFresh station
 
 -- the queues of the lines of these buses, line k + 1 at k
-abbrev pub AreQueues : {B Q : Type 0} → (Q → List Identity) → (B → Bool) → State → List Identity → List B → List Q → Type 0
+abbrev pub AreQueues : {B Q : Type 0} → (Q → List Identity) → (B → Bool) → State → List Identity
+    → List B → List Q → Type 0
 AreQueues {B} {Q} items lost state only buses queues = (k : ℕ) (q : Q) (b : B) → k < length queues
-    → items (slice_index_or queues k q) ≡ queue_on state only (k + 1) (lost (slice_index_or buses k b))
+    → items (slice_index_or queues k q)
+    ≡ queue_on state only (k + 1) (lost (slice_index_or buses k b))
 
 -- each station has the queue of its place
-pub record HasQueue {B : Type 0} (lost : B → Bool) (queue : List Identity) (station : Station B) : Type 0 where
+pub record HasQueue {B : Type 0} (lost : B → Bool) (queue : List Identity)
+    (station : Station B) : Type 0 where
   pub queue_is : station.left.now ≡ queue
   pub said : station.said ≡ lost station.bus
   pub fresh : IsFresh station
 
-abbrev pub AreStations : {B Q : Type 0} → (Q → List Identity) → (B → Bool) → List Q → List (Station B) → Type 0
-AreStations {B} {Q} items lost queues stations = (k : ℕ) (q : Q) (d : Station B) → k < length stations
+abbrev pub AreStations : {B Q : Type 0} → (Q → List Identity) → (B → Bool) → List Q
+    → List (Station B) → Type 0
+AreStations {B} {Q} items lost queues stations =
+    (k : ℕ) (q : Q) (d : Station B) → k < length stations
     → HasQueue lost (items (slice_index_or queues k q)) (slice_index_or stations k d)
 
 -- Line k + 1 is that of the station at k: the first eight buses in order, each with the queue of its line.
-pub record ArePlanned {B : Type 0} (lost : B → Bool) (state : State) (only : List Identity) (buses : List B)
+pub record ArePlanned {B : Type 0} (lost : B → Bool) (state : State) (only : List Identity)
+    (buses : List B)
     (stations : List (Station B)) : Type 0 where
   pub buses_are : map (λ (s : Station B). s.bus) stations ≡ take most_lines buses
   pub each : (k : ℕ) (d : Station B) → k < length stations

@@ -1,16 +1,20 @@
 -- The meters of a line, one after the other, and how the readout of the present one goes on (this product).
-use Rattle.std.specs.Prelude.{◌≡◌, ℕ, zero, suc, ◌+◌, ◌<◌, ◌≤◌, List, [], ◌∷◌, ◌++◌, flat_map, replicate, Bool, None, Some, Result, Ok, Err}
+use Rattle.std.specs.Prelude.{◌≡◌, ℕ, zero, suc, ◌+◌, ◌<◌, ◌≤◌, List, [], ◌∷◌, ◌++◌, flat_map}
+use Rattle.std.specs.Prelude.{replicate, Bool, None, Some, Result, Ok, Err}
 use Rattle.dc_address.specs.declared.identity.Identity.{Identity}
-use Rattle.dc_core.specs.Event.{Event, starts, asks, hears, commits, started, asked, heard, committed}
+use Rattle.dc_core.specs.Event.{Event, starts, asks, hears, commits, started, asked, heard}
+use Rattle.dc_core.specs.Event.{committed}
 use Rattle.dc_core.specs.Transcript.{Turn}
 use Rattle.dc_core.specs.declared.fault.CommitFault.{CommitFault}
 use Rattle.dc_core.specs.declared.fault.HearFault.{HearFault}
 use Rattle.dc_core.specs.declared.fault.StartFault.{StartFault}
 use Rattle.dc_core.specs.declared.line_heard.LineHeard.{LineHeard}
-use Rattle.dc_core.specs.declared.line_heard.LineHeard.TheVariants.{Again, Ready, Accepted, Failed as HasFailed}
+use Rattle.dc_core.specs.declared.line_heard.LineHeard.TheVariants.{Again, Ready, Accepted}
+use Rattle.dc_core.specs.declared.line_heard.LineHeard.TheVariants.{Failed as HasFailed}
 use Rattle.dc_readout.specs.declared.why.Why.{Why}
 use Rattle.dc_readout.specs.declared.why.Why.TheVariants.{NoAnswer}
-use Rattle.dc_rounds.specs.Happening.{Told, was_read, has_failed, was_refused, is_lost, Happening, does, tells}
+use Rattle.dc_rounds.specs.Happening.{Told, was_read, has_failed, was_refused, is_lost, Happening}
+use Rattle.dc_rounds.specs.Happening.{does, tells}
 use Rattle.dc_rounds.specs.declared.end.Refusal.{Refusal}
 use Rattle.dc_rounds.specs.declared.end.Refusal.TheVariants.{Start, Hear, Commit}
 use Rattle.dc_rounds.specs.declared.end.End.{End}
@@ -52,7 +56,8 @@ IsToldAs (Refused meter refusal) told = told ≡ was_refused meter refusal
 -- where its telegram isn't stored. Then it is written how it ended, before the next one is started.
 pub data Goes (tries line : ℕ) : Part → List Happening → Part → Type 0 where
   stays : {last : Part} → Goes tries line last [] last
-  starts_it : {meter : Identity} {left : List Identity} {used : ℕ} {more : List Happening} {last : Part}
+  starts_it : {meter : Identity} {left : List Identity} {used : ℕ} {more : List Happening} {last
+      : Part}
       → used < tries
       → Goes tries line (part (meter ∷ left) (used + 1) (Busy most_asks)) more last
       → Goes tries line (part (meter ∷ left) used Free)
@@ -72,8 +77,10 @@ pub data Goes (tries line : ℕ) : Part → List Happening → Part → Type 0 w
       {last : Part}
       → 1 ≤ used
       → Goes tries line (part left 0 (Over (Read meter))) more last
-      → Goes tries line (part (meter ∷ left) used (Busy n)) (does (asks line, asked None) ∷ more) last
-  is_given_up : {meter : Identity} {left : List Identity} {used : ℕ} {more : List Happening} {last : Part}
+      → Goes tries line (part (meter ∷ left) used (Busy n))
+      (does (asks line, asked None) ∷ more) last
+  is_given_up : {meter : Identity} {left : List Identity} {used : ℕ} {more : List Happening} {last
+      : Part}
       → 1 ≤ used
       → Goes tries line (part left 0 (Over (Failed meter NoAnswer))) more last
       → Goes tries line (part (meter ∷ left) used (Busy zero)) more last
@@ -83,7 +90,8 @@ pub data Goes (tries line : ℕ) : Part → List Happening → Part → Type 0 w
       → Goes tries line (part (meter ∷ left) used (Busy n)) more last
       → Goes tries line (part (meter ∷ left) used (Busy n))
       (does (hears line moment bytes, heard (Ok answer)) ∷ more) last
-  is_accepted : {meter : Identity} {left : List Identity} {used n moment number : ℕ} {bytes : List ℕ}
+  is_accepted : {meter : Identity} {left : List Identity} {used n moment number : ℕ} {bytes : List
+      ℕ}
       {last_one : Bool} {more : List Happening} {last : Part}
       → Goes tries line (part (meter ∷ left) used (Pending n)) more last
       → Goes tries line (part (meter ∷ left) used (Busy n))
@@ -94,7 +102,8 @@ pub data Goes (tries line : ℕ) : Part → List Happening → Part → Type 0 w
       → Goes tries line (part (meter ∷ left) used Free) more last
       → Goes tries line (part (meter ∷ left) used (Busy n))
       (does (hears line moment bytes, heard (Ok (HasFailed why))) ∷ more) last
-  fails_at_last : {meter : Identity} {left : List Identity} {used n moment : ℕ} {bytes : List ℕ} {why : Why}
+  fails_at_last : {meter : Identity} {left : List Identity} {used n moment : ℕ} {bytes : List
+      ℕ} {why : Why}
       {more : List Happening} {last : Part}
       → 1 ≤ used → tries ≤ used
       → Goes tries line (part left 0 (Over (Failed meter why))) more last
@@ -122,7 +131,8 @@ pub data Goes (tries line : ℕ) : Part → List Happening → Part → Type 0 w
       → IsUnpending phase
       → Goes tries line (part left used phase) more last
       → Goes tries line (part left used phase) (does (commits, committed stored) ∷ more) last
-  is_told : {left : List Identity} {used : ℕ} {end : End} {told : Told} {more : List Happening} {last : Part}
+  is_told : {left : List Identity} {used : ℕ} {end : End} {told : Told} {more : List
+      Happening} {last : Part}
       → IsToldAs end told
       → Goes tries line (part left used Free) more last
       → Goes tries line (part left used (Over end)) (tells line told ∷ more) last
@@ -146,5 +156,6 @@ starts_in happened = flat_map starts_of happened
 -- these starts are those of the meters in order, each once at least and no more often than the tries
 abbrev pub IsTried : ℕ → List Identity → List Identity → Type 0
 IsTried tries [] begun = begun ≡ []
-IsTried tries (meter ∷ meters) begun = (count : ℕ) × (1 ≤ count) × (count ≤ tries) × (more : List Identity)
+IsTried tries (meter ∷ meters) begun =
+    (count : ℕ) × (1 ≤ count) × (count ≤ tries) × (more : List Identity)
     × (begun ≡ replicate count meter ++ more) × IsTried tries meters more

@@ -1,5 +1,6 @@
 -- What a poll does on all lines (this product).
-use Rattle.std.specs.Prelude.{◌≡◌, ◌≢◌, ◌⊎◌, ℕ, zero, suc, ◌+◌, ◌-◌, ◌<◌, ◌≤◌, List, [], ◌∷◌, ◌++◌, codes, length, sum, map, slice_index_or, Result, Ok, Err}
+use Rattle.std.specs.Prelude.{◌≡◌, ◌≢◌, ◌⊎◌, ℕ, zero, suc, ◌+◌, ◌-◌, ◌<◌, ◌≤◌, List, [], ◌∷◌, ◌++◌}
+use Rattle.std.specs.Prelude.{codes, length, sum, map, slice_index_or, Result, Ok, Err}
 use Rattle.std.specs.List.{All}
 use Rattle.dc_changes.specs.State.{State}
 use Rattle.dc_core.specs.Core.{Core, opened}
@@ -10,7 +11,9 @@ use Rattle.dc_core.specs.Transcript.{Turn, leads}
 use Rattle.dc_rounds.specs.Bus.{Bus}
 use Rattle.dc_poller.specs.Went.{BehindAnyRun, Went}
 use Rattle.dc_sectors.specs.declared.device.Disk.{Ghosts}
-use Rattle.dc_rounds.specs.Happening.{Told, was_read, has_failed, was_refused, Happening, does, tells, happened_on, happened_text, happened_turns, reads_in, failures_in, newest_serial, newest_parts}
+use Rattle.dc_rounds.specs.Happening.{Told, was_read, has_failed, was_refused, Happening, does}
+use Rattle.dc_rounds.specs.Happening.{tells, happened_on, happened_text, happened_turns, reads_in}
+use Rattle.dc_rounds.specs.Happening.{failures_in, newest_serial, newest_parts}
 use Rattle.dc_rounds.specs.declared.end.End.{End}
 use Rattle.dc_rounds.specs.declared.end.End.TheVariants.{Read, Failed, Refused}
 use Rattle.dc_rounds.specs.declared.outcome.Outcome.{Outcome}
@@ -31,8 +34,9 @@ pub record Happens {D : Type 0} (g : Ghosts D) (origin : D) (state : State) (bef
   pub went : Went (g.keeps origin) g.sectors g.failures g.reads g.choices g.moment g.images_since
       first.house.budget state before (happened_turns happened) first new
 
--- behind any run, such things happen
-abbrev pub Runs : {D : Type 0} → Ghosts D → (Core → List Happening → Type 0) → Machine D → Machine D → Type 0
+-- after any run, such things happen
+abbrev pub Runs : {D : Type 0} → Ghosts D → (Core → List Happening → Type 0) → Machine D → Machine D
+    → Type 0
 Runs g such first new = BehindAnyRun g.keeps g.sectors g.reads g.choices first
     (λ origin state before. Happens g origin state before such first new)
 
@@ -121,9 +125,11 @@ IsStored stored old new =
     IsAfter (stored_by old.left.now old.used old.phase stored) old.bus old.request old.said new
 
 -- what becomes of each line by a commit
-pub record AreStored {B : Type 0} (stored : Result ℕ CommitFault) (olds news : List (Station B)) : Type 0 where
+pub record AreStored {B : Type 0} (stored : Result ℕ CommitFault)
+    (olds news : List (Station B)) : Type 0 where
   pub count : length news ≡ length olds
-  pub each : (k : ℕ) (d : Station B) → k < length olds → IsStored stored (slice_index_or olds k d) (slice_index_or news k d)
+  pub each : (k : ℕ) (d : Station B) → k < length olds
+      → IsStored stored (slice_index_or olds k d) (slice_index_or news k d)
 
 -- there are eight lines
 abbrev pub most_lines : ℕ
@@ -170,7 +176,8 @@ counted (Failed meter why) outcome = record outcome { failed = outcome.failed + 
 counted (Refused meter refusal) outcome = record outcome { failed = outcome.failed + 1 }
 
 -- Lines of text are written, each of them true, after a commit, and no turn is taken.
-pub record AreWritten (wrote : List ℕ → Type 0) (was now : Outcome) (core : Core) (happened : List Happening)
+pub record AreWritten (wrote : List ℕ → Type 0) (was now : Outcome) (core : Core)
+    (happened : List Happening)
     : Type 0 where
   pub text : wrote (happened_text happened)
   pub no_turns : happened_turns happened ≡ []
@@ -185,7 +192,8 @@ pub record Tells {B : Type 0} (g : Bus B) (line : ℕ) (old new : Station B) (wr
   pub written : AreWritten wrote was now core happened
 
 -- of all
-pub record AllTells {B : Type 0} (g : Bus B) (olds news : List (Station B)) (wrote : List ℕ → Type 0)
+pub record AllTells {B : Type 0} (g : Bus B) (olds news : List (Station B))
+    (wrote : List ℕ → Type 0)
     (was now : Outcome) (core : Core) (happened : List Happening) : Type 0 where
   pub rounds : (tries : ℕ) → Rounds g tries olds news happened
   pub written : AreWritten wrote was now core happened

@@ -1,10 +1,12 @@
 -- A line's part of the readout (this product).
-use Rattle.std.specs.Prelude.{◌≡◌, ◌⊎◌, ℕ, zero, suc, ◌+◌, ◌-◌, ◌*◌, ◌<◌, ◌≤◌, Bool, true, false, List, [], ◌∷◌, length, drop, min, if◌then◌else◌, Result, Ok, Err}
+use Rattle.std.specs.Prelude.{◌≡◌, ◌⊎◌, ℕ, zero, suc, ◌+◌, ◌-◌, ◌*◌, ◌<◌, ◌≤◌, Bool, true, false}
+use Rattle.std.specs.Prelude.{List, [], ◌∷◌, length, drop, min, if◌then◌else◌, Result, Ok, Err}
 use Rattle.dc_address.specs.declared.identity.Identity.{Identity}
 use Rattle.dc_core.specs.declared.fault.CommitFault.{CommitFault}
 use Rattle.dc_core.specs.declared.fault.HearFault.{HearFault}
 use Rattle.dc_core.specs.declared.line_heard.LineHeard.{LineHeard}
-use Rattle.dc_core.specs.declared.line_heard.LineHeard.TheVariants.{Again, Ready, Accepted, Failed as HasFailed}
+use Rattle.dc_core.specs.declared.line_heard.LineHeard.TheVariants.{Again, Ready, Accepted}
+use Rattle.dc_core.specs.declared.line_heard.LineHeard.TheVariants.{Failed as HasFailed}
 use Rattle.dc_line.specs.Bus.{most_settles, most_waits}
 use Rattle.dc_rounds.specs.Bus.{Bus}
 use Rattle.dc_rounds.specs.Queue.{Part, part, most_asks}
@@ -53,12 +55,16 @@ after_failure true left used end = record { left = left; used = used; phase = Fr
 after_failure false left used end = ended left end
 
 -- of a meter that was asked, and may be so often yet, and of which another try is left or not
-abbrev pub after_answer : Bool → List Identity → ℕ → ℕ → Identity → Result LineHeard HearFault → Next
-after_answer again left used n meter (Ok Again) = record { left = left; used = used; phase = Busy n }
-after_answer again left used n meter (Ok Ready) = record { left = left; used = used; phase = Busy n }
+abbrev pub after_answer : Bool → List Identity → ℕ → ℕ → Identity → Result LineHeard HearFault
+    → Next
+after_answer again left used n meter (Ok Again) =
+    record { left = left; used = used; phase = Busy n }
+after_answer again left used n meter (Ok Ready) =
+    record { left = left; used = used; phase = Busy n }
 after_answer again left used n meter (Ok (Accepted number more)) =
     record { left = left; used = used; phase = Pending n }
-after_answer again left used n meter (Ok (HasFailed why)) = after_failure again left used (Failed meter why)
+after_answer again left used n meter (Ok (HasFailed why)) =
+    after_failure again left used (Failed meter why)
 after_answer again left used n meter (Err fault) = ended left (Refused meter (Hear fault))
 
 -- of one whose telegram isn't stored
@@ -75,7 +81,8 @@ stored_by left used (Busy n) stored = record { left = left; used = used; phase =
 stored_by left used (Over end) stored = record { left = left; used = used; phase = Over end }
 
 -- the station after it, with its bus, its request, and whether it was written that the line is lost
-pub record IsAfter {B : Type 0} (next : Next) (at : B) (asked : Request) (written : Bool) (station : Station B)
+pub record IsAfter {B : Type 0} (next : Next) (at : B) (asked : Request) (written : Bool)
+    (station : Station B)
     : Type 0 where
   pub left : station.left.now ≡ next.left
   pub used : station.used ≡ next.used
@@ -97,7 +104,8 @@ Listens g old new =
 abbrev pub IsSoundIn : ℕ → ℕ → ℕ → Phase → Request → ℕ → Type 0
 IsSoundIn tries count used Free request waits = (used < tries) × (request ≡ Quiet)
 IsSoundIn tries count used (Busy n) request waits =
-    (0 < count) × (1 ≤ used) × (used ≤ tries) × (n ≤ most_asks) × (request ≡ Sent → waits ≤ most_waits)
+    (0 < count) × (1 ≤ used) × (used ≤ tries) × (n ≤ most_asks)
+    × (request ≡ Sent → waits ≤ most_waits)
 IsSoundIn tries count used (Pending n) request waits =
     (0 < count) × (1 ≤ used) × (used ≤ tries) × (n ≤ most_asks) × (request ≡ Quiet)
 IsSoundIn tries count used (Over end) request waits = (used ≡ 0) × (0 < tries) × (request ≡ Quiet)
@@ -130,7 +138,7 @@ rounds_by_request out Quiet waits = 0
 rounds_by_request out Sent waits = out + 1 + waits
 rounds_by_request out (Answered bytes) waits = out
 
--- A request that is out, a telegram that is pending and an end that isn't written count for so many rounds.
+-- A request that is out, a telegram that is pending and an end that isn't written count for this many rounds.
 abbrev pub rounds_by_phase : ℕ → ℕ → ℕ → ℕ → Phase → Request → ℕ → ℕ
 rounds_by_phase out pending over free Free request waits = free
 rounds_by_phase out pending over free (Busy n) request waits =
@@ -146,5 +154,6 @@ rounds_in out pending over tries count used phase request waits ready settles =
 
 abbrev pub rounds_of : {B : Type 0} → Bus B → ℕ → ℕ → ℕ → ℕ → Station B → ℕ
 rounds_of g out pending over tries station =
-    rounds_in out pending over tries (length station.left.now) station.used station.phase station.request
+    rounds_in out pending over tries
+    (length station.left.now) station.used station.phase station.request
     (g.waits_left station.bus) (g.ready station.bus) (g.settles_left station.bus)

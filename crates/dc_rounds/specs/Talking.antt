@@ -1,5 +1,6 @@
 -- What goes over the bus of a line (this product).
-use Rattle.std.specs.Prelude.{◌≡◌, ◌≢◌, ℕ, Bool, true, false, List, [], ◌∷◌, None, Some, Result, Err}
+use Rattle.std.specs.Prelude.{◌≡◌, ◌≢◌, ℕ, Bool, true, false, List, [], ◌∷◌, None, Some, Result}
+use Rattle.std.specs.Prelude.{Err}
 use Rattle.dc_address.specs.declared.identity.Identity.{Identity}
 use Rattle.dc_core.specs.Event.{starts, asks, hears, commits, started, asked, heard, committed}
 use Rattle.dc_core.specs.declared.fault.CommitFault.{CommitFault}
@@ -55,7 +56,8 @@ pub data Talks {B : Type 0} (g : Bus B) (line : ℕ)
       → Talks g line (record { bus = bus; request = Quiet; said = said }) more last
       → Talks g line (record { bus = bus; request = Answered bytes; said = said })
       (does (hears line moment bytes, heard answer) ∷ more) last
-  stands_by : {first : Talk B} {stored : Result ℕ CommitFault} {more : List Happening} {last : Talk B}
+  stands_by : {first : Talk B} {stored : Result ℕ CommitFault} {more : List Happening} {last : Talk
+      B}
       → Talks g line first more last
       → Talks g line first (does (commits, committed stored) ∷ more) last
   tells_it : {first : Talk B} {told : Told} {more : List Happening} {last : Talk B}

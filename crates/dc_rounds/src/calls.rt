@@ -1,7 +1,8 @@
 //! Single events of a concentrator.
 
 ghost use Rattle.std.specs.Prelude.{◌≡◌, ◌≤◌, ℕ, List, [], ◌∷◌, IfSome, length};
-ghost use Rattle.dc_core.specs.Event.{starts, asks, hears, commits, started, asked, heard, committed};
+ghost use Rattle.dc_core.specs.Event.{starts, asks, hears, commits, started, asked, heard};
+ghost use Rattle.dc_core.specs.Event.{committed};
 ghost use Rattle.dc_core.specs.Step.{longest_request};
 ghost use Rattle.dc_rounds.specs.Happening.{does};
 ghost use Rattle.dc_rounds.specs.Round.{Runs};
@@ -19,7 +20,8 @@ pub fn start<D: Disk + Drop, A: Allocator + Copy>(
     line: u8,
     meter: &Identity,
 ) -> Result<(), StartFault>
-    ensures went { Runs D.Disk (λ core happened. happened ≡ does (starts line meter.now, started result) ∷ [])
+    ensures went { Runs D.Disk (λ core happened.
+        happened ≡ does (starts line meter.now, started result) ∷ [])
         concentrator.old concentrator.new }
     ensures budget { concentrator.new.house.budget ≡ concentrator.old.house.budget }
 {

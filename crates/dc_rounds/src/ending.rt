@@ -4,7 +4,8 @@ ghost use Rattle.std.specs.Prelude.{◌≡◌, ◌++◌, codes};
 ghost use Rattle.dc_address.specs.Text.{text_of};
 ghost use Rattle.dc_stream.specs.Stream.{Wrote};
 ghost use Rattle.dc_text.specs.Words.{number_word};
-ghost use Rattle.dc_rounds.specs.Happening.{told_line, was_read, has_failed, was_refused, is_lost, why_text, why_end, refusal_text, refusal_end};
+ghost use Rattle.dc_rounds.specs.Happening.{told_line, was_read, has_failed, was_refused, is_lost};
+ghost use Rattle.dc_rounds.specs.Happening.{why_text, why_end, refusal_text, refusal_end};
 ghost use Rattle.dc_rounds.specs.Round.{end_line, late_line};
 
 use crate::end::Refusal;
@@ -21,7 +22,8 @@ pub fn put_read<W: Sink>(
     serial: u64,
     parts: u64,
 ) -> Result<(), IoFault>
-    ensures { Wrote W.written W.put_failures result out.old out.new (told_line 0 (was_read meter.now serial parts)) }
+    ensures { Wrote W.written W.put_failures result out.old out.new
+        (told_line 0 (was_read meter.now serial parts)) }
 {
     out.put(b"READ ")?;
     out.put(&meter.text())?;
@@ -33,7 +35,8 @@ pub fn put_read<W: Sink>(
 /// `FAILED ident n Name`.
 #[tactic(auto, using(dc_stream::proofs::Pieces::written))]
 pub fn put_failed<W: Sink>(out: &mut W, meter: &Identity, why: Why) -> Result<(), IoFault>
-    ensures { Wrote W.written W.put_failures result out.old out.new (told_line 0 (has_failed meter.now why)) }
+    ensures { Wrote W.written W.put_failures result out.old out.new
+        (told_line 0 (has_failed meter.now why)) }
 {
     match out.put(b"FAILED ") {
         Ok(()) => put_meter_why(out, meter, why),
@@ -43,7 +46,8 @@ pub fn put_failed<W: Sink>(out: &mut W, meter: &Identity, why: Why) -> Result<()
 
 #[tactic(auto, using(dc_stream::proofs::Pieces::written))]
 fn put_meter_why<W: Sink>(out: &mut W, meter: &Identity, why: Why) -> Result<(), IoFault>
-    ensures { Wrote W.written W.put_failures result out.old out.new (text_of meter.now ++ why_end why) }
+    ensures { Wrote W.written W.put_failures result out.old out.new
+        (text_of meter.now ++ why_end why) }
 {
     out.put(&meter.text())?;
     put_why_end(out, why)
@@ -73,7 +77,8 @@ fn put_why<W: Sink>(out: &mut W, why: Why) -> Result<(), IoFault>
 /// `REFUSED ident n Name`.
 #[tactic(auto, using(dc_stream::proofs::Pieces::written))]
 pub fn put_refused<W: Sink>(out: &mut W, meter: &Identity, refusal: Refusal) -> Result<(), IoFault>
-    ensures { Wrote W.written W.put_failures result out.old out.new (told_line 0 (was_refused meter.now refusal)) }
+    ensures { Wrote W.written W.put_failures result out.old out.new
+        (told_line 0 (was_refused meter.now refusal)) }
 {
     match out.put(b"REFUSED ") {
         Ok(()) => put_meter_refusal(out, meter, refusal),
@@ -87,7 +92,8 @@ fn put_meter_refusal<W: Sink>(
     meter: &Identity,
     refusal: Refusal,
 ) -> Result<(), IoFault>
-    ensures { Wrote W.written W.put_failures result out.old out.new (text_of meter.now ++ refusal_end refusal) }
+    ensures { Wrote W.written W.put_failures result out.old out.new
+        (text_of meter.now ++ refusal_end refusal) }
 {
     out.put(&meter.text())?;
     put_refusal_end(out, refusal)

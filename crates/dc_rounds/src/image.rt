@@ -1,6 +1,7 @@
 //! The engine of `poll`: the registered meters of an image are read over the buses of their lines.
 
-ghost use Rattle.std.specs.Prelude.{◌≡◌, ◌<◌, ◌≤◌, ◌-◌, ◌^◌, IfErr, IfOk, IsErrOf, OnErr, OnOk, [], MatchResult, length, map, min};
+ghost use Rattle.std.specs.Prelude.{◌≡◌, ◌<◌, ◌≤◌, ◌-◌, ◌^◌, IfErr, IfOk, IsErrOf, OnErr, OnOk, []};
+ghost use Rattle.std.specs.Prelude.{MatchResult, length, map, min};
 ghost use Rattle.dc_base.specs.Failures.{HasRisen};
 ghost use Rattle.dc_poller.specs.Fault.{IfOpen};
 ghost use Rattle.dc_recovery.specs.Halves.{half_len_of};
@@ -8,7 +9,9 @@ ghost use Rattle.dc_recovery.specs.Refusal.{IsRefused, TellsOfImage};
 ghost use Rattle.dc_recovery.specs.Stands.{EachStands, StandsForOne};
 ghost use Rattle.dc_recovery.specs.declared.fault.OpenFault.TheVariants.{NotImage, Worn, Device};
 ghost use Rattle.dc_rounds.specs.ImagePoll.{ImageTurned, PlanPolled};
-ghost use Rattle.dc_rounds.specs.Planned.{AreQueues, AreStations, has_bus, is_wanted, queue_on, refusal_line, refusal_of, refused_count, refused_text, wanted_on};
+ghost use Rattle.dc_rounds.specs.Planned.{AreQueues, AreStations, has_bus, is_wanted, queue_on};
+ghost use Rattle.dc_rounds.specs.Planned.{refusal_line, refusal_of, refused_count, refused_text};
+ghost use Rattle.dc_rounds.specs.Planned.{wanted_on};
 ghost use Rattle.dc_rounds.specs.Round.{Runs, most_lines};
 ghost use Rattle.dc_sectors.specs.Disk.{LeavesOnly};
 ghost use Rattle.dc_stream.specs.Stream.{Puts, Wrote};
@@ -44,14 +47,15 @@ pub struct Plan<'a, A: Allocator, B: QuietBus + Drop> {
     pub tries: u8,
 }
 
-/// Opens the image, reads its registered meters over the buses of their lines, each line's in order of identity, and closes
-/// it. The text is that of [`read_all`](crate::read_all). Before it, for each meter that is named and can't be read,
-/// `REFUSED ident 2 Unknown` is written where it isn't registered, and `REFUSED ident 1 NoLine` where its line has no bus;
-/// these count as failed. A line without a bus is never written to be lost. The disk comes back whatever happens.
+/// Opens the image, reads its registered meters over the buses of their lines, each line's in order of identity, and
+/// closes it. The text is that of [`read_all`](crate::read_all). Before it, for each meter that is named and can't be
+/// read, `REFUSED ident 2 Unknown` is written where it isn't registered, and `REFUSED ident 1 NoLine` where its line
+/// has no bus; these count as failed. A line without a bus is never written to be lost. The disk comes back whatever
+/// happens.
 ///
 /// # Errors
-/// [`ProgramFault::Open`] where the image wasn't opened, and [`ProgramFault::NoMemory`], both before anything is asked or
-/// written; [`ProgramFault::Write`] where the writer failed.
+/// [`ProgramFault::Open`] where the image wasn't opened, and [`ProgramFault::NoMemory`], both before anything is
+/// asked or written; [`ProgramFault::Write`] where the writer failed.
 pub fn poll_image<D: Disk + Drop, A: Allocator + Copy, B: QuietBus + Drop, T: Timer<B>, W: Sink>(
     alloc: A,
     disk: D,
@@ -67,28 +71,36 @@ pub fn poll_image<D: Disk + Drop, A: Allocator + Copy, B: QuietBus + Drop, T: Ti
         PlanPolled B.QuietBus T.tells T.passes plan.entry.buses.items plan.entry.only.now plan.entry.tries
         timer.old timer.new (W.written out.old) (W.written out.new) outcome core happened) disk result.0) }
     ensures cut { (D.keeps disk → EachStands (half_len_of (D.sectors disk)) (D.choices disk))
-        → IsErrOf result.1 ProgramFault.Write → ImageTurned D.Disk (λ core happened. Unit {0}) disk result.0 }
+        → IsErrOf result.1 ProgramFault.Write
+        → ImageTurned D.Disk (λ core happened. Unit {0}) disk result.0 }
     ensures starved { (D.keeps disk → EachStands (half_len_of (D.sectors disk)) (D.choices disk))
         → IsErrOf result.1 ProgramFault.NoMemory
         → (out.new ≡ out.old) × ImageTurned D.Disk (λ core happened. happened ≡ []) disk result.0 }
 
     // An image that isn't opened is refused as the store refuses it; one that stands is refused only as worn.
     ensures small { D.sectors disk < 131
-        → MatchResult result.1 (λ outcome. ⊥) (λ fault. IfOpen fault (λ e. (e ≡ NotImage) × (result.0 ≡ disk))) }
+        → MatchResult result.1 (λ outcome. ⊥)
+        (λ fault. IfOpen fault (λ e. (e ≡ NotImage) × (result.0 ≡ disk))) }
     ensures refused { D.keeps result.0 → 131 ≤ D.sectors disk
-        → IfErr result.1 (λ fault. IfOpen fault (IsRefused (half_len_of (D.sectors disk)) (D.reads disk))) }
+        → IfErr result.1 (λ fault. IfOpen fault
+        (IsRefused (half_len_of (D.sectors disk)) (D.reads disk))) }
     ensures premise { D.keeps result.0 → 131 ≤ D.sectors disk
         → EachStands (half_len_of (D.sectors disk)) (D.choices disk)
         → IfErr result.1 (λ fault. IfOpen fault (λ e. TellsOfImage e → e ≡ Worn)) }
-    ensures unwritten { IfErr result.1 (λ fault. IfOpen fault (λ e. TellsOfImage e → D.reads result.0 ≡ D.reads disk)) }
+    ensures unwritten { IfErr result.1 (λ fault.
+        IfOpen fault (λ e. TellsOfImage e → D.reads result.0 ≡ D.reads disk)) }
     ensures device { IfErr result.1 (λ fault. IfOpen fault (λ e. e ≡ Device
         → HasRisen (D.failures disk) (D.failures result.0))) }
-    ensures any_moment { D.keeps result.0 → EachStands (half_len_of (D.sectors disk)) (D.choices disk)
-        → IfErr result.1 (λ fault. IfOpen fault (λ e. LeavesOnly D.moment D.images_since disk result.0
+    ensures any_moment { D.keeps result.0
+        → EachStands (half_len_of (D.sectors disk)) (D.choices disk)
+        → IfErr result.1 (λ fault. IfOpen fault (λ e.
+        LeavesOnly D.moment D.images_since disk result.0
         (StandsForOne (half_len_of (D.sectors disk)) (D.choices disk)))) }
-    ensures unopened { IfErr result.1 (λ fault. IfOpen fault (λ e. (out.new ≡ out.old) × (timer.new ≡ timer.old))) }
+    ensures unopened { IfErr result.1 (λ fault.
+        IfOpen fault (λ e. (out.new ≡ out.old) × (timer.new ≡ timer.old))) }
 
-    ensures write { IsErrOf result.1 ProgramFault.Write → HasRisen (W.put_failures out.old) (W.put_failures out.new) }
+    ensures write { IsErrOf result.1 ProgramFault.Write
+        → HasRisen (W.put_failures out.old) (W.put_failures out.new) }
 {
     let mut concentrator = match Concentrator::open(alloc, disk) {
         Ok(concentrator) => concentrator,
@@ -113,7 +125,8 @@ fn poll<D: Disk + Drop, A: Allocator + Copy, B: QuietBus + Drop, T: Timer<B>, W:
         concentrator.old concentrator.new }
     ensures starved { IsErrOf result ProgramFault.NoMemory → (out.new ≡ out.old)
         × Runs D.Disk (λ core happened. happened ≡ []) concentrator.old concentrator.new }
-    ensures write { IsErrOf result ProgramFault.Write → HasRisen (W.put_failures out.old) (W.put_failures out.new) }
+    ensures write { IsErrOf result ProgramFault.Write
+        → HasRisen (W.put_failures out.old) (W.put_failures out.new) }
     ensures opened { IfErr result (λ fault. IfOpen fault (λ e. ⊥)) }
 {
     let Plan {
@@ -157,7 +170,8 @@ fn queues_of<A: Allocator + Copy, B: QuietBus + Drop>(
 ) -> Result<Vec<Vec<Identity, A>, A>, NoMemory>
     requires { length buses.now ≤ most_lines }
     ensures count { IfOk result (λ queues. length queues.items ≡ length buses.now) }
-    ensures queues { IfOk result (λ queues. AreQueues (λ v. v.items) B.lost house.now.state only.now buses.now queues.items) }
+    ensures queues { IfOk result (λ queues.
+        AreQueues (λ v. v.items) B.lost house.now.state only.now buses.now queues.items) }
 {
     let mut queues = Vec::new(alloc);
     'lines: for at in 0..buses.len() {
@@ -216,7 +230,8 @@ fn stations_of<'a, A: Allocator + Copy, B: QuietBus + Drop>(
 ) -> Result<Vec<Station<'a, B>, A>, NoMemory>
     requires { length queues.now ≡ length buses.items }
     ensures buses { IfOk result (λ stations. map (λ s. s.bus) stations.items ≡ buses.items) }
-    ensures each { IfOk result (λ stations. AreStations (λ v. v.items) B.lost queues.now stations.items) }
+    ensures each { IfOk result (λ stations.
+        AreStations (λ v. v.items) B.lost queues.now stations.items) }
 {
     let mut stations = Vec::new(alloc);
     'lines: for bus in buses {
@@ -241,7 +256,8 @@ fn refuse_others<A: Allocator + Copy, B: QuietBus + Drop, W: Sink>(
     ensures fault { OnErr result (HasRisen (W.put_failures out.old) (W.put_failures out.new)) }
     ensures well { OnOk result (W.put_failures out.new ≡ W.put_failures out.old) }
     ensures count { IfOk result (λ refused. refused
-        ≡ min (2 ^ 32 - 1) (refused_count (has_bus B.lost (map (λ s. s.bus) stations.now)) house.now.state only.now)) }
+        ≡ min (2 ^ 32 - 1) (refused_count
+        (has_bus B.lost (map (λ s. s.bus) stations.now)) house.now.state only.now)) }
 {
     let mut refused: u32 = 0;
     'meters: for meter in only {
@@ -259,7 +275,8 @@ fn put_refusal<W: Sink>(
     meter: &Identity,
     refusal: Option<StartFault>,
 ) -> Result<(), IoFault>
-    ensures { Wrote W.written W.put_failures result out.old out.new (refusal_line meter.now refusal) }
+    ensures { Wrote W.written W.put_failures result out.old out.new
+        (refusal_line meter.now refusal) }
 {
     match refusal {
         Some(fault) => put_refused(out, meter, Refusal::Start(fault)),
@@ -273,7 +290,8 @@ fn refusal_of<A: Allocator + Copy, B: QuietBus + Drop>(
     stations: &[Station<'_, B>],
     meter: &Identity,
 ) -> Option<StartFault>
-    ensures { result ≡ refusal_of (has_bus B.lost (map (λ s. s.bus) stations.now)) house.now.state meter.now }
+    ensures { result ≡ refusal_of (has_bus B.lost (map (λ s. s.bus) stations.now)) house.now.state
+        meter.now }
 {
     match house.meter(meter) {
         Some(row) => {

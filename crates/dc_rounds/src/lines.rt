@@ -3,7 +3,9 @@
 ghost use Rattle.std.specs.Prelude.{◌≡◌, ◌<◌, ◌≤◌, ◌-◌, ◌+◌, ℕ, length, slice_index_or, IfOk, OnOk};
 ghost use Rattle.std.specs.List.{All};
 ghost use Rattle.dc_rounds.specs.Keeping.{IsAsking};
-ghost use Rattle.dc_rounds.specs.Round.{AllSteps, AreHeardAs, AreStored, EachFewer, EndsInCommit, IsRoom, IsStoredAs, Runs, most_lines, most_pending, uncounted};
+ghost use Rattle.dc_rounds.specs.Round.{AllSteps, AreHeardAs, AreStored, EachFewer, EndsInCommit};
+ghost use Rattle.dc_rounds.specs.Round.{IsRoom, IsStoredAs, Runs, most_lines, most_pending};
+ghost use Rattle.dc_rounds.specs.Round.{uncounted};
 ghost use Rattle.dc_rounds.specs.Station.{IsSound, rounds_of};
 
 use crate::calls;
@@ -15,7 +17,7 @@ use dc_line::QuietBus;
 use dc_sectors::Disk;
 use std::alloc::Allocator;
 
-// So many telegrams may be pending at once.
+// This many telegrams may be pending at once.
 const MOST_PENDING: u8 = 4;
 
 // The line of the station at this place.
@@ -38,7 +40,8 @@ pub fn ask_all<D: Disk + Drop, A: Allocator + Copy, B: QuietBus + Drop>(
         AllSteps B.QuietBus tries (All IsAsking) stations.old stations.new happened)
         concentrator.old concentrator.new }
     ensures sound { All (IsSound B.QuietBus tries) stations.new }
-    ensures fewer { EachFewer (rounds_of B.QuietBus 1 1 1 tries) (rounds_of B.QuietBus 0 0 0 tries) 1
+    ensures fewer { EachFewer (rounds_of B.QuietBus 1 1 1 tries)
+        (rounds_of B.QuietBus 0 0 0 tries) 1
         stations.old stations.new }
     ensures budget { concentrator.new.house.budget ≡ concentrator.old.house.budget }
 {
@@ -64,13 +67,15 @@ pub fn commit_all<D: Disk + Drop, A: Allocator + Copy, B: QuietBus + Drop>(
     concentrator: &mut Concentrator<D, A>,
     stations: &mut [Station<'_, B>],
 ) -> Result<(), CommitFault>
-    ensures went { (tries : ℕ) → All (IsSound B.QuietBus tries) stations.old → Runs D.Disk (λ core happened.
+    ensures went { (tries : ℕ) → All (IsSound B.QuietBus tries) stations.old
+        → Runs D.Disk (λ core happened.
         AllSteps B.QuietBus tries (IsStoredAs result) stations.old stations.new happened)
         concentrator.old concentrator.new }
     ensures sound { (tries : ℕ) → All (IsSound B.QuietBus tries) stations.old
         → All (IsSound B.QuietBus tries) stations.new }
     ensures fewer { (tries out pending : ℕ) → All (IsSound B.QuietBus tries) stations.old
-        → EachFewer (rounds_of B.QuietBus out 0 0 tries) (rounds_of B.QuietBus out pending 0 tries) 0
+        → EachFewer (rounds_of B.QuietBus out 0 0 tries)
+        (rounds_of B.QuietBus out pending 0 tries) 0
         stations.old stations.new }
     ensures budget { concentrator.new.house.budget ≡ concentrator.old.house.budget }
 {
@@ -96,7 +101,8 @@ fn make_room<D: Disk + Drop, A: Allocator + Copy, B: QuietBus + Drop>(
     pending: u8,
 ) -> Result<u8, CommitFault>
     ensures few { IfOk result (λ now. now < most_pending) }
-    ensures went { (tries : ℕ) → All (IsSound B.QuietBus tries) stations.old → Runs D.Disk (λ core happened.
+    ensures went { (tries : ℕ) → All (IsSound B.QuietBus tries) stations.old
+        → Runs D.Disk (λ core happened.
         AllSteps B.QuietBus tries (IsRoom result) stations.old stations.new happened)
         concentrator.old concentrator.new }
     ensures sound { (tries : ℕ) → All (IsSound B.QuietBus tries) stations.old
@@ -128,7 +134,8 @@ pub fn hear_all<D: Disk + Drop, A: Allocator + Copy, B: QuietBus + Drop>(
         AllSteps B.QuietBus tries (AreHeardAs moment.seconds result) stations.old stations.new happened)
         concentrator.old concentrator.new }
     ensures sound { All (IsSound B.QuietBus tries) stations.new }
-    ensures fewer { OnOk result (EachFewer (rounds_of B.QuietBus 0 0 0 tries) (rounds_of B.QuietBus 1 0 0 tries) 0
+    ensures fewer { OnOk result (EachFewer (rounds_of B.QuietBus 0 0 0 tries)
+        (rounds_of B.QuietBus 1 0 0 tries) 0
         stations.old stations.new) }
     ensures budget { concentrator.new.house.budget ≡ concentrator.old.house.budget }
 {
@@ -156,7 +163,8 @@ pub fn hear_and_commit<D: Disk + Drop, A: Allocator + Copy, B: QuietBus + Drop>(
         AllSteps B.QuietBus tries (EndsInCommit moment.seconds result) stations.old stations.new happened)
         concentrator.old concentrator.new }
     ensures sound { All (IsSound B.QuietBus tries) stations.new }
-    ensures fewer { OnOk result (EachFewer (rounds_of B.QuietBus 0 0 0 tries) (rounds_of B.QuietBus 1 1 0 tries) 0
+    ensures fewer { OnOk result (EachFewer (rounds_of B.QuietBus 0 0 0 tries)
+        (rounds_of B.QuietBus 1 1 0 tries) 0
         stations.old stations.new) }
     ensures budget { concentrator.new.house.budget ≡ concentrator.old.house.budget }
 {

@@ -1,11 +1,13 @@
 //! Many meters on several lines at once, round after round.
 
-ghost use Rattle.std.specs.Prelude.{◌≡◌, ◌⊎◌, ◌<◌, ◌≤◌, ◌-◌, ◌+◌, ◌^◌, ◌++◌, ℕ, List, [], length, OnOk, OnErr, IfOk, min, true};
+ghost use Rattle.std.specs.Prelude.{◌≡◌, ◌⊎◌, ◌<◌, ◌≤◌, ◌-◌, ◌+◌, ◌^◌, ◌++◌, ℕ, List, [], length};
+ghost use Rattle.std.specs.Prelude.{OnOk, OnErr, IfOk, min, true};
 ghost use Rattle.std.specs.List.{All};
 ghost use Rattle.dc_base.specs.Failures.{HasRisen};
 ghost use Rattle.dc_stream.specs.Stream.{Puts, Wrote};
 ghost use Rattle.dc_rounds.specs.Polls.{GoesRound, Polled, PollsAll};
-ghost use Rattle.dc_rounds.specs.Round.{EachFewer, HasFew, IsFresh, IsOver, Runs, end_line, lates_from, meters_left, most_lines};
+ghost use Rattle.dc_rounds.specs.Round.{EachFewer, HasFew, IsFresh, IsOver, Runs, end_line};
+ghost use Rattle.dc_rounds.specs.Round.{lates_from, meters_left, most_lines};
 ghost use Rattle.dc_rounds.specs.Station.{IsSound, rounds_of};
 
 use crate::ending::{put_end, put_late};
@@ -24,7 +26,7 @@ use std::alloc::Allocator;
 // More rounds than are ever needed: of as many meters as a queue has, each tried as often as a byte says.
 const MOST_ROUNDS: u64 = 65_535 * 255 * ROUNDS_A_START + ROUNDS_A_START;
 
-// So many rounds one start takes at most: until its bus is ready, and for each request and its answer.
+// This many rounds one start takes at most: until its bus is ready, and for each request and its answer.
 const ROUNDS_A_START: u64 = 4_259_843 + 103 * 65_538 + 1;
 
 // One round. Whether all is kept.
@@ -81,7 +83,8 @@ fn read_rounds<D: Disk + Drop, A: Allocator + Copy, B: QuietBus + Drop, T: Timer
     requires lines { length stations.old ≤ most_lines }
     requires sound { All (IsSound B.QuietBus tries) stations.old }
     requires few { before.read + before.failed < 2 ^ 63 }
-    ensures went { Runs D.Disk (λ core happened. IfOk result (λ outcome. Polled B.QuietBus T.tells T.passes tries
+    ensures went { Runs D.Disk (λ core happened.
+        IfOk result (λ outcome. Polled B.QuietBus T.tells T.passes tries
         stations.old stations.new timer.old timer.new (Puts (W.written out.old) (W.written out.new)) before outcome
         core happened)) concentrator.old concentrator.new }
     ensures few { IfOk result (λ outcome. outcome.read + outcome.failed < 2 ^ 63 + 2 ^ 62) }
@@ -125,7 +128,8 @@ fn put_lates<B: QuietBus + Drop, W: Sink>(
     out: &mut W,
 ) -> Result<(), IoFault>
     requires { line + length stations.now ≤ 255 }
-    ensures { Wrote W.written W.put_failures result out.old out.new (lates_from B.QuietBus line stations.now) }
+    ensures { Wrote W.written W.put_failures result out.old out.new
+        (lates_from B.QuietBus line stations.now) }
 {
     let Some((station, others)) = stations.split_first() else {
         return Ok(());
@@ -212,7 +216,7 @@ pub fn read_all<D: Disk + Drop, A: Allocator + Copy, B: QuietBus + Drop, T: Time
     )
 }
 
-/// The same, after so many meters were counted.
+/// The same, after this many meters were counted.
 pub(crate) fn read_on<
     D: Disk + Drop,
     A: Allocator + Copy,

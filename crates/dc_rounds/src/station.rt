@@ -1,10 +1,12 @@
 //! One line's part of the readout: its bus, and the meters that are still to be read on it.
 
-ghost use Rattle.std.specs.Prelude.{◌≡◌, ◌⊎◌, ◌<◌, ◌≤◌, ◌+◌, ◌-◌, ℕ, List, IfNone, IfSome, OnOk, IfErr, length, nat_lt, true, false};
+ghost use Rattle.std.specs.Prelude.{◌≡◌, ◌⊎◌, ◌<◌, ◌≤◌, ◌+◌, ◌-◌, ℕ, List, IfNone, IfSome, OnOk};
+ghost use Rattle.std.specs.Prelude.{IfErr, length, nat_lt, true, false};
 ghost use Rattle.dc_core.specs.Step.{longest_request};
 ghost use Rattle.dc_line.specs.Bus.{most_waits};
 ghost use Rattle.dc_rounds.specs.Queue.{most_asks};
-ghost use Rattle.dc_rounds.specs.Station.{IsAfter, Listens, after_answer, ended, is_answered, lost_by, stored_by, taken_of};
+ghost use Rattle.dc_rounds.specs.Station.{IsAfter, Listens, after_answer, ended, is_answered};
+ghost use Rattle.dc_rounds.specs.Station.{lost_by, stored_by, taken_of};
 ghost use Rattle.dc_rounds.specs.declared.end.End.TheVariants.{Read, Refused};
 ghost use Rattle.dc_rounds.specs.declared.end.Refusal.TheVariants.{Start};
 ghost use Rattle.dc_rounds.specs.declared.phase.Phase.TheVariants.{Free, Busy};
@@ -17,8 +19,8 @@ use dc_core::{CommitFault, HearFault, LineHeard, StartFault};
 use dc_line::QuietBus;
 use dc_linkframe::FrameBuf;
 
-// No readout asks more often: three tries at a reset, a selection and each of 32 parts, and once more where nothing is to
-// be asked.
+// No readout asks more often: three tries at a reset, a selection and each of 32 parts, and once more where nothing
+// is to be asked.
 pub(crate) const MOST_ASKS: u8 = 103;
 
 /// A line's bus, and the meters that are still to be read on it.
@@ -41,7 +43,8 @@ pub struct Station<'a, B: QuietBus + Drop> {
 impl<'a, B: QuietBus + Drop> Station<'a, B> {
     /// These meters, of which none was started.
     pub fn new(bus: B, meters: &'a [Identity]) -> Station<'a, B>
-        ensures fresh { IsAfter (record { left = meters.now; used = 0; phase = Free }) bus Quiet false result }
+        ensures fresh { IsAfter (record { left = meters.now; used = 0; phase = Free }) bus Quiet
+            false result }
     {
         Station {
             bus,
@@ -63,9 +66,11 @@ impl<'a, B: QuietBus + Drop> Station<'a, B> {
     // Its readout began, or that was refused.
     pub(crate) fn started(&mut self, meter: Identity, answer: Result<(), StartFault>)
         requires { self.old.used < 255 }
-        ensures ok { OnOk answer (IsAfter (record { left = self.old.left.now; used = self.old.used + 1; phase = Busy most_asks })
+        ensures ok { OnOk answer (IsAfter
+            (record { left = self.old.left.now; used = self.old.used + 1; phase = Busy most_asks })
             self.old.bus self.old.request self.old.said self.new) }
-        ensures err { IfErr answer (λ fault. IsAfter (ended self.old.left.now (Refused meter (Start fault)))
+        ensures err { IfErr answer (λ fault.
+            IsAfter (ended self.old.left.now (Refused meter (Start fault)))
             self.old.bus self.old.request self.old.said self.new) }
     {
         match answer {
@@ -77,7 +82,7 @@ impl<'a, B: QuietBus + Drop> Station<'a, B> {
         }
     }
 
-    // A request is sent, the last but so many; where there is none, the meter is done with.
+    // A request is sent, the last but this many; where there is none, the meter is done with.
     pub(crate) fn asked(&mut self, meter: Identity, asks: u8, request: Option<FrameBuf>)
         requires short { IfSome request (λ bytes. length bytes ≤ longest_request) }
         ensures sent { IfSome request (λ bytes. B.sends self.old.bus bytes self.new.bus
@@ -136,7 +141,8 @@ impl<'a, B: QuietBus + Drop> Station<'a, B> {
         answer: Result<LineHeard, HearFault>,
     )
         requires { self.old.phase ≡ Busy asks }
-        ensures { IsAfter (after_answer (nat_lt self.old.used tries) self.old.left.now self.old.used asks meter answer)
+        ensures { IsAfter (after_answer
+            (nat_lt self.old.used tries) self.old.left.now self.old.used asks meter answer)
             self.old.bus Quiet self.old.said self.new }
     {
         self.request = Request::Quiet;
@@ -179,7 +185,8 @@ impl<'a, B: QuietBus + Drop> Station<'a, B> {
 
     // The present meter is done with.
     pub(crate) fn leave(&mut self, end: End)
-        ensures { IsAfter (ended self.old.left.now end) self.old.bus self.old.request self.old.said self.new }
+        ensures { IsAfter (ended self.old.left.now end) self.old.bus self.old.request self.old.said
+            self.new }
     {
         if let Some((_, more)) = self.left.split_first() {
             self.left = more;

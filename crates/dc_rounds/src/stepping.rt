@@ -95,7 +95,8 @@ fn start<D: Disk + Drop, A: Allocator + Copy, B: QuietBus + Drop>(
     ensures sound { IsSound B.QuietBus tries station.new }
     ensures fewer { rounds_of B.QuietBus 1 1 1 tries station.new
         ≤ rounds_of B.QuietBus 1 1 1 tries station.old - 1 }
-    ensures busy { result ≡ true → (station.new.phase ≡ Busy most_asks) × (station.new.request ≡ Quiet)
+    ensures busy { result ≡ true → (station.new.phase ≡ Busy most_asks)
+        × (station.new.request ≡ Quiet)
         × (station.new.left.now ≡ station.old.left.now) }
     ensures budget { concentrator.new.house.budget ≡ concentrator.old.house.budget }
 {
@@ -115,10 +116,12 @@ fn ask<D: Disk + Drop, A: Allocator + Copy, B: QuietBus + Drop>(
     requires busy { station.old.phase ≡ Busy asks }
     requires quiet { station.old.request ≡ Quiet }
     requires first { station.old.left.now ≡ meter ∷ drop 1 station.old.left.now }
-    ensures went { (tries : ℕ) → IsSound B.QuietBus tries station.old → Runs D.Disk (λ core happened.
+    ensures went { (tries : ℕ) → IsSound B.QuietBus tries station.old
+        → Runs D.Disk (λ core happened.
         Steps B.QuietBus tries line IsAsking station.old station.new happened)
         concentrator.now concentrator.now }
-    ensures sound { (tries : ℕ) → IsSound B.QuietBus tries station.old → IsSound B.QuietBus tries station.new }
+    ensures sound { (tries : ℕ) → IsSound B.QuietBus tries station.old
+        → IsSound B.QuietBus tries station.new }
     ensures fewer { (tries : ℕ) → IsSound B.QuietBus tries station.old
         → rounds_of B.QuietBus 0 0 0 tries station.new
         ≤ rounds_of B.QuietBus 1 1 1 tries station.old - 1 }

@@ -5,7 +5,8 @@ ghost use Rattle.std.specs.List.{All};
 ghost use Rattle.dc_base.specs.Failures.{HasRisen};
 ghost use Rattle.dc_stream.specs.Stream.{Puts, Wrote};
 ghost use Rattle.dc_rounds.specs.Happening.{told_line};
-ghost use Rattle.dc_rounds.specs.Round.{AllTells, EachFewer, Runs, Tells, counted, most_lines, told_of};
+ghost use Rattle.dc_rounds.specs.Round.{AllTells, EachFewer, Runs, Tells, counted, most_lines};
+ghost use Rattle.dc_rounds.specs.Round.{told_of};
 ghost use Rattle.dc_rounds.specs.Station.{IsSound, rounds_of};
 ghost use Rattle.dc_rounds.specs.declared.outcome.Outcome.{Outcome as Counts};
 
@@ -32,7 +33,8 @@ fn put_told<A: Allocator + Copy, W: Sink>(
     out: &mut W,
 ) -> Result<(), IoFault>
     requires { outcome.old.read + outcome.old.failed < 2 ^ 64 - 1 }
-    ensures text { Wrote W.written W.put_failures result out.old out.new (told_line line (told_of house.now.state end.now)) }
+    ensures text { Wrote W.written W.put_failures result out.old out.new
+        (told_line line (told_of house.now.state end.now)) }
     ensures counted { outcome.new ≡ counted end.now outcome.old }
 {
     match end {
@@ -61,11 +63,14 @@ fn tell_end<D: Disk + Drop, A: Allocator + Copy, B: QuietBus + Drop, W: Sink>(
     out: &mut W,
 ) -> Result<(), IoFault>
     requires { outcome.old.read + outcome.old.failed < 2 ^ 64 - 1 }
-    ensures went { Runs D.Disk (λ core happened. OnOk result (Tells B.QuietBus line station.old station.new
+    ensures went { Runs D.Disk (λ core happened.
+        OnOk result (Tells B.QuietBus line station.old station.new
         (Puts (W.written out.old) (W.written out.new)) outcome.old outcome.new core happened))
         concentrator.now concentrator.now }
-    ensures few { outcome.new.read + outcome.new.failed ≤ outcome.old.read + outcome.old.failed + 1 }
-    ensures sound { (tries : ℕ) → IsSound B.QuietBus tries station.old → IsSound B.QuietBus tries station.new }
+    ensures few { outcome.new.read + outcome.new.failed ≤ outcome.old.read + outcome.old.failed
+        + 1 }
+    ensures sound { (tries : ℕ) → IsSound B.QuietBus tries station.old
+        → IsSound B.QuietBus tries station.new }
     ensures fewer { OnOk result ((tries : ℕ) → rounds_of B.QuietBus 1 1 1 tries station.new
         ≤ rounds_of B.QuietBus 1 1 0 tries station.old) }
     ensures fault { OnErr result (HasRisen (W.put_failures out.old) (W.put_failures out.new)) }
@@ -85,7 +90,8 @@ fn tell_loss<D: Disk + Drop, A: Allocator + Copy, B: QuietBus + Drop, W: Sink>(
     line: u8,
     out: &mut W,
 ) -> Result<(), IoFault>
-    ensures went { (outcome : Counts) → Runs D.Disk (λ core happened. OnOk result (Tells B.QuietBus line station.old station.new
+    ensures went { (outcome : Counts)
+        → Runs D.Disk (λ core happened. OnOk result (Tells B.QuietBus line station.old station.new
         (Puts (W.written out.old) (W.written out.new)) outcome outcome core happened))
         concentrator.now concentrator.now }
     ensures kept { station.new ≡ record station.old { said = station.new.said } }
@@ -112,11 +118,14 @@ fn tell<D: Disk + Drop, A: Allocator + Copy, B: QuietBus + Drop, W: Sink>(
     out: &mut W,
 ) -> Result<(), IoFault>
     requires { outcome.old.read + outcome.old.failed < 2 ^ 64 - 1 }
-    ensures went { Runs D.Disk (λ core happened. OnOk result (Tells B.QuietBus line station.old station.new
+    ensures went { Runs D.Disk (λ core happened.
+        OnOk result (Tells B.QuietBus line station.old station.new
         (Puts (W.written out.old) (W.written out.new)) outcome.old outcome.new core happened))
         concentrator.now concentrator.now }
-    ensures few { outcome.new.read + outcome.new.failed ≤ outcome.old.read + outcome.old.failed + 1 }
-    ensures sound { (tries : ℕ) → IsSound B.QuietBus tries station.old → IsSound B.QuietBus tries station.new }
+    ensures few { outcome.new.read + outcome.new.failed ≤ outcome.old.read + outcome.old.failed
+        + 1 }
+    ensures sound { (tries : ℕ) → IsSound B.QuietBus tries station.old
+        → IsSound B.QuietBus tries station.new }
     ensures fewer { OnOk result ((tries : ℕ) → rounds_of B.QuietBus 1 1 1 tries station.new
         ≤ rounds_of B.QuietBus 1 1 0 tries station.old) }
     ensures fault { OnErr result (HasRisen (W.put_failures out.old) (W.put_failures out.new)) }
@@ -137,13 +146,16 @@ pub fn tell_all<D: Disk + Drop, A: Allocator + Copy, B: QuietBus + Drop, W: Sink
 ) -> Result<(), IoFault>
     requires lines { length stations.old ≤ most_lines }
     requires few { outcome.old.read + outcome.old.failed + most_lines < 2 ^ 64 }
-    ensures went { Runs D.Disk (λ core happened. OnOk result (AllTells B.QuietBus stations.old stations.new
+    ensures went { Runs D.Disk (λ core happened.
+        OnOk result (AllTells B.QuietBus stations.old stations.new
         (Puts (W.written out.old) (W.written out.new)) outcome.old outcome.new core happened))
         concentrator.now concentrator.now }
-    ensures few { OnOk result (outcome.new.read + outcome.new.failed ≤ outcome.old.read + outcome.old.failed + most_lines) }
+    ensures few { OnOk result (outcome.new.read + outcome.new.failed ≤ outcome.old.read
+        + outcome.old.failed + most_lines) }
     ensures sound { OnOk result ((tries : ℕ) → All (IsSound B.QuietBus tries) stations.old
         → All (IsSound B.QuietBus tries) stations.new) }
-    ensures fewer { OnOk result ((tries : ℕ) → EachFewer (rounds_of B.QuietBus 1 1 0 tries) (rounds_of B.QuietBus 1 1 1 tries) 0
+    ensures fewer { OnOk result ((tries : ℕ)
+        → EachFewer (rounds_of B.QuietBus 1 1 0 tries) (rounds_of B.QuietBus 1 1 1 tries) 0
         stations.old stations.new) }
     ensures fault { OnErr result (HasRisen (W.put_failures out.old) (W.put_failures out.new)) }
     ensures well { OnOk result (W.put_failures out.new ≡ W.put_failures out.old) }

@@ -16,7 +16,8 @@ use Rattle.dc_progress.specs.Needs.{IsThere}
 use Rattle.dc_progress.specs.Rounds.{row_after}
 use Rattle.dc_rounds.specs.Bus.{Bus}
 use Rattle.dc_rounds.specs.Happening.{Happening, happened_on, happened_turns}
-use Rattle.dc_rounds.specs.Talking.{Talk, Talks, rests, settles_it, begins, has_none, sends_it, waits_it, takes_it, hears_it, stands_by, tells_it, loses_it}
+use Rattle.dc_rounds.specs.Talking.{Talk, Talks, rests, settles_it, begins, has_none, sends_it}
+use Rattle.dc_rounds.specs.Talking.{waits_it, takes_it, hears_it, stands_by, tells_it, loses_it}
 use Rattle.dc_rounds.specs.declared.phase.Request.TheVariants.{Quiet}
 
 -- it isn't refused

@@ -27,7 +27,7 @@ pub enum Engine {
 /// How meters are searched for on a bus without an image.
 #[derive(Clone, Copy, Debug, PartialEq, Eq)]
 pub enum Scan {
-    /// By wildcards, with at most so many selections.
+    /// By wildcards, with at most this many selections.
     Wildcards(u32),
     /// At each primary address.
     Primary,

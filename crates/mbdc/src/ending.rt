@@ -3,7 +3,8 @@
 ghost use Rattle.std.specs.Prelude.{◌≡◌, ◌≢◌, ◌⊎◌};
 ghost use Rattle.std.specs.Process.{exit_status};
 ghost use Rattle.clap.specs.Values.{kind_of};
-ghost use Rattle.clap.specs.declared.error.kind.ErrorKind.TheVariants.{DisplayHelp, DisplayVersion, OutOfMemory};
+ghost use Rattle.clap.specs.declared.error.kind.ErrorKind.TheVariants.{DisplayHelp, DisplayVersion};
+ghost use Rattle.clap.specs.declared.error.kind.ErrorKind.TheVariants.{OutOfMemory};
 ghost use Rattle.dc_ending.specs.Ending.{status_of};
 ghost use Rattle.dc_words.specs.Fault.{IfMistake};
 
@@ -85,12 +86,14 @@ pub fn told_words(rt: &HostRuntime, fault: &WordsFault) -> ExitCode
     }
 }
 
-/// Tells what `clap` says of the words, and gives the status. Help and the version go to standard output, which may fail
-/// as any output may.
+/// Tells what `clap` says of the words, and gives the status. Help and the version go to standard output, which may
+/// fail as any output may.
 fn told_by_clap(rt: &HostRuntime, error: &Error) -> ExitCode
     ensures memory { kind_of error.now ≡ OutOfMemory → exit_status result ≡ 4 }
-    ensures shown { (kind_of error.now ≡ DisplayHelp) ⊎ (kind_of error.now ≡ DisplayVersion) → (exit_status result ≡ 0) ⊎ (exit_status result ≡ 4) }
-    ensures mistake { kind_of error.now ≢ DisplayHelp → kind_of error.now ≢ DisplayVersion → (exit_status result ≡ 2) ⊎ (exit_status result ≡ 4) }
+    ensures shown { (kind_of error.now ≡ DisplayHelp) ⊎ (kind_of error.now ≡ DisplayVersion)
+        → (exit_status result ≡ 0) ⊎ (exit_status result ≡ 4) }
+    ensures mistake { kind_of error.now ≢ DisplayHelp → kind_of error.now ≢ DisplayVersion
+        → (exit_status result ≡ 2) ⊎ (exit_status result ≡ 4) }
 {
     if error.kind() == ErrorKind::OutOfMemory {
         return told(rt, &Ending::Memory);

@@ -19,9 +19,9 @@ pub const SECTORS: (i64, i64) = (131, 131_075);
 
 /// Formats an image of that many sectors in the file of that name.
 ///
-/// Where nothing has the name, the image is made in a file of its own, and gets the name once it is whole. A regular file
-/// of exactly that many sectors that holds zeros alone is formatted in place. No symbolic link is followed, and no other
-/// file is touched.
+/// Where nothing has the name, the image is made in a file of its own, and gets the name once it is whole. A regular
+/// file of exactly that many sectors that holds zeros alone is formatted in place. No symbolic link is followed, and
+/// no other file is touched.
 pub fn format_image<'a, R: Files<File = File> + AllocGlobal>(
     host: &Host<'_, R>,
     name: &'a str,

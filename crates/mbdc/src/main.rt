@@ -1,5 +1,5 @@
-//! `mbdc`, the data concentrator of an apartment house's wired M-Bus submeters: files, links, statuses and the one line on
-//! standard error. What a command does is a call of a library.
+//! `mbdc`, the data concentrator of an apartment house's wired M-Bus submeters: files, links, statuses and the one
+//! line on standard error. What a command does is a call of a library.
 #![tactic(auto)]
 
 mod bench;

@@ -62,7 +62,8 @@ impl<C: Clock + Copy + Eprint> Timer<SystemBus<'_, C>> for SystemTimer<'_, '_, C
     }
 }
 
-/// Reads the registered meters of the image in that file over the links of their lines, or those meters alone that are named.
+/// Reads the registered meters of the image in that file over the links of their lines, or those meters alone that
+/// are named.
 pub fn poll_on_image<'a, R>(host: &Host<'_, R>, task: &PollTask<'a>) -> Ending<'a>
 where
     R: Files<File = File> + Net<Stream = TcpStream> + Clock + Copy + Print + Eprint + AllocGlobal,

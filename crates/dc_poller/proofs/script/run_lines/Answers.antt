@@ -32,7 +32,7 @@ SoFarWith g origin c rest = SoFar (g.D.Disk.keeps origin) g.D.Disk.sectors g.D.D
 here : (g : Over) (origin : g.row.D.Denot) (c : After-first_line g) → SoFarWith g origin c (c.first_line.result.0.now ∷ lines_of c.first_line.result.1.now)
 here g origin c = subst (SoFarWith g origin c) c.first_line.ensures.lines (c.lines.invariant.so_far origin)
 
--- any run before the script, behind which the concentrator is as it came
+-- any run before the script, after which the concentrator is as it came
 abbrev IsChainBefore : (g : Over) → After-first_line g → State → List Turn → Type 0
 IsChainBefore g c state before = IsChain c.args.concentrator.now.house.budget (opened state) before
 
