@@ -62,13 +62,21 @@ pub fn told_why(rt: &HostRuntime, ending: &Ending, why: &Why) {
 
 fn reason_line(alloc: Global, reason: &Reason) -> Result<String, AllocError> {
     let said = format!(in alloc; "{}", reason.error)?;
-    let words = match said.rsplit_once(NUMBERED) {
-        Some((words, _)) => words,
-        None => said.as_str(),
-    };
-    match reason.line {
+    line_with(alloc, reason.line, words_of(said.as_str()))
+}
+
+fn line_with(alloc: Global, line: Option<u8>, words: &str) -> Result<String, AllocError> {
+    match line {
         Some(line) => format!(in alloc; "mbdc: reason: line {line}: {words}\n"),
         None => format!(in alloc; "mbdc: reason: {words}\n"),
+    }
+}
+
+// What the system said, without the number of the fault.
+fn words_of(said: &str) -> &str {
+    match said.rsplit_once(NUMBERED) {
+        Some((words, _)) => words,
+        None => said,
     }
 }
 

@@ -1,5 +1,7 @@
 //! The command `poll`: the registered meters of an image are read over the bus lines.
 
+ghost use Rattle.std.specs.Prelude.{◌<◌};
+
 use crate::connecting::connect_all;
 use crate::host::Host;
 use crate::image::open_image;
@@ -105,6 +107,7 @@ fn poll<D, R>(
 where
     D: FileExt + OpenFile + Drop,
     R: Clock + Copy + Print + Eprint + AllocGlobal,
+    requires { 0 < plan.tries }
 {
     let printer = Noted::new(io::writer(host.rt), host.why);
     let Ok(writer) = LineWriter::new(host.rt.alloc(), printer) else {
