@@ -363,7 +363,7 @@ module _ (port : Port) (budget moment place : ℕ) (meters : List Meter) (start 
   }
 
 pub polls_end : PollsEnd
-polls_end port budget moment place meters scene meter row parts left turns text polls may quiet chain served =
+polls_end port budget moment place meters scene meter row parts left turns exchanges text polls may quiet chain served =
     ends_read port budget moment place meters scene meter row parts may quiet polls.happened turns polls.turns_are
     (from_first port budget moment place meters scene meter row parts may quiet polls.happened linked polls.last polls.way polls.ends
     (subst (IsChain budget scene.core) polls.turns_are chain) served)

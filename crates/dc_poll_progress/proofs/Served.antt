@@ -27,7 +27,7 @@ use Rattle.dc_progress.specs.Rounds.{Scene}
 use Rattle.dc_progress.proofs.Rounds.{asks_nothing, never_memory}
 use Rattle.dc_progress.proofs.Along.{asks_here, asked_for, thrice_less}
 use Rattle.dc_poller.specs.Link.{linked}
-use Rattle.dc_poller.specs.Poll.{Happening, does, talks, Due, to_start, to_ask, to_send, to_hear, to_commit, to_make_room, to_hear_again, is_over, Phase, IsDueEvent, IsWay, behind_turn, behind_first_heard, happened_turns, happened_text}
+use Rattle.dc_poller.specs.Poll.{happened_exchanges, Happening, does, talks, Due, to_start, to_ask, to_send, to_hear, to_commit, to_make_room, to_hear_again, is_over, Phase, IsDueEvent, IsWay, behind_turn, behind_first_heard, happened_turns, happened_text}
 use Rattle.dc_poller.specs.declared.port.Port.{Port}
 use Rattle.dc_poll_progress.specs.Polled.{Bus, bus_after, GivesTo, Works, IsServed, bus_at_first, ServedPoll, PollsAreServed}
 use Rattle.dc_poll_progress.proofs.Lengths.{answer_short}
@@ -230,8 +230,9 @@ module _ (port : Port) (budget moment place : ℕ) (meters : List Meter) (start 
       record {
         left = rest.last.link;
         turns = happened_turns rest.happened;
+        exchanges = happened_exchanges rest.happened;
         text = happened_text port rest.happened;
-        polls = record { happened = rest.happened; last = rest.last; way = rest.way; ends = inl rest.over; left_is = refl; turns_are = refl; text_is = refl };
+        polls = record { happened = rest.happened; last = rest.last; way = rest.way; ends = inl rest.over; left_is = refl; turns_are = refl; exchanges_are = refl; text_is = refl };
         chain = rest.chain;
         served = rest.served;
       }

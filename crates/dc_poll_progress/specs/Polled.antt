@@ -75,7 +75,8 @@ pub record EndsRead (line : ℕ) (meter : Meter) (row : MeterRow) (parts : List 
 abbrev pub PollsEnd : Type 0
 PollsEnd = (port : Port) (budget moment place : ℕ) (meters : List Meter) (scene : Scene)
     (meter : Meter) (row : MeterRow) (parts : List (List ℕ)) (left : Link) (turns : List Turn)
-    (text : List ℕ) (polls : Polls port moment meter.identity linked left turns text)
+    (exchanges : List Exchange) (text : List ℕ)
+    (polls : Polls port moment meter.identity linked left turns exchanges text)
     → MayBeRead budget port.line meters scene place meter row parts
     → scene.core.pending ≡ []
     → IsChain budget scene.core turns
@@ -87,8 +88,9 @@ pub record ServedPoll (port : Port) (budget moment : ℕ) (meters : List Meter) 
     (meter : Meter) : Type 0 where
   pub left : Link
   pub turns : List Turn
+  pub exchanges : List Exchange
   pub text : List ℕ
-  pub polls : Polls port moment meter.identity linked left turns text
+  pub polls : Polls port moment meter.identity linked left turns exchanges text
   pub chain : IsChain budget scene.core turns
   pub served : IsServed meters (bus_at_first scene.positions) polls.happened
 
