@@ -1,7 +1,6 @@
 //! Standard input and output of a command, in memory: they fail where the case says so.
 
-use dc_base::one_failure_more;
-use dc_stream::{Bytes, IoFault, Sink, Source};
+use dc_io::{Bytes, IoFault, Sink, Source, one_failure_more};
 use std::alloc::Global;
 
 /// When input and output fail.
@@ -96,7 +95,7 @@ impl Sink for Output {
 
     ghost put_failures = { λ s. s.failures };
 
-    #[tactic(auto, using(dc_stream::proofs::Pieces::told))]
+    #[tactic(auto, using(dc_io::proofs::Pieces::told))]
     fn put(&mut self, bytes: &[u8]) -> Result<(), IoFault> {
         if self.puts == 0 || self.bytes.put(bytes).is_err() {
             self.failures = one_failure_more(self.failures);

@@ -1,7 +1,6 @@
 //! Why a command of a case file has no result.
 
-use dc_base::NoMemory;
-use dc_stream::IoFault;
+use dc_io::{IoFault, NoMemory};
 use std::alloc::{AllocError, AllocFailed};
 use std::io;
 

@@ -4,12 +4,10 @@ use crate::fault::CaseFault;
 use crate::printing::{put_house, put_line};
 use crate::words::{bytes, small, split};
 use dc_changes::Change;
+use dc_io::{Bytes, Sink, first_line, put_fault};
 use dc_meters::House;
 use dc_poller::Report;
 use dc_report::{due_table, register_table};
-use dc_stream::{Bytes, Sink};
-use dc_teller::first_line;
-use dc_text::put_fault;
 use std::alloc::Global;
 
 // Budget of the smallest image.

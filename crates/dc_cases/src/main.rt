@@ -17,8 +17,7 @@ mod world;
 
 use crate::fault::CaseFault;
 use crate::play::{Tally, play};
-use dc_stream::{Sink, WriteSink};
-use dc_text::{Buffered, put_number};
+use dc_io::{Buffered, Sink, WriteSink, put_number};
 use std::process::ExitCode;
 use std::{env, fs, io};
 

@@ -3,9 +3,7 @@
 use crate::block::{Block, Kind, kind_of};
 use crate::fault::CaseFault;
 use crate::world::World;
-use dc_stream::{Bytes, Sink};
-use dc_teller::first_line;
-use dc_text::put_number;
+use dc_io::{Bytes, Sink, first_line, put_number};
 use std::alloc::Global;
 
 /// Number of commands, and of those that printed anything else.

@@ -1,10 +1,9 @@
 //! What commands print: hex digits, a word with its number, a register's numbers, how a program ends.
 
 use crate::fault::CaseFault;
-use dc_ending::Ending;
+use dc_io::{Sink, put_hex, put_number, put_number_word};
 use dc_meters::House;
-use dc_stream::Sink;
-use dc_text::{put_hex, put_number, put_number_word};
+use dc_poller::Ending;
 use std::alloc::Global;
 
 /// Puts a line of hex digits.

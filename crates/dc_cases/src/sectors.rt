@@ -7,9 +7,8 @@ ghost use Rattle.dc_sectors.specs.Memory.{IsPickFor};
 use crate::fault::CaseFault;
 use crate::printing::{put_count, put_sector};
 use crate::words::{Word, bytes, number, small, split};
+use dc_io::{Bytes, Sink, put_number};
 use dc_sectors::{Disk, Failed, MemoryDisk, Pick, ReadFault};
-use dc_stream::{Bytes, Sink};
-use dc_text::put_number;
 use std::alloc::Global;
 
 /// Does a command on the disk.

@@ -4,10 +4,9 @@ use crate::ends::{Input, Limits, NONE, Output};
 use crate::fault::CaseFault;
 use crate::words::bytes;
 use dc_gateway::{Talk, exchange};
+use dc_io::{Bytes, Sink, put_hex_word, put_number_word};
 use dc_linkframe::FrameBuf;
 use dc_linkframe::control::write_reset;
-use dc_stream::{Bytes, Sink};
-use dc_text::{put_hex_word, put_number_word};
 use std::alloc::Global;
 use std::str;
 

@@ -2,8 +2,7 @@
 
 use crate::fault::CaseFault;
 use dc_changes::parse_number;
-use dc_stream::room;
-use dc_text::decode_hex;
+use dc_io::{decode_hex, room};
 use std::alloc::Global;
 
 /// The first word of a command.

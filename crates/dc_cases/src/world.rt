@@ -9,14 +9,15 @@ use crate::words::{Word, bytes, number, small, split, word_of};
 use crate::{rows, sectors};
 use dc_address::Identity;
 use dc_core::Concentrator;
-use dc_ending::{Ending, ending_of};
-use dc_gateway::ListedBus;
+use dc_decode::decode_lines;
+use dc_io::{Bytes, Sink, TextFault, first_line};
 use dc_json::{explain_lines, json_lines};
-use dc_poller::{Halt, ProgramFault, Report, report_on, run_script, search};
+use dc_poller::{
+    Ending, Halt, ProgramFault, Report, ending_of, fold_lines, report_on, run_script, search,
+};
 use dc_recovery::Store;
 use dc_sectors::MemoryDisk;
-use dc_stream::{Bytes, Sink};
-use dc_teller::{TellFault, decode_lines, first_line, fold_lines};
+use dc_world::ListedBus;
 use std::alloc::Global;
 
 // Name of the input where it can't be read.
@@ -236,7 +237,7 @@ impl World {
     }
 }
 
-fn outcome_of(told: Result<bool, TellFault>) -> Result<bool, ProgramFault> {
+fn outcome_of(told: Result<bool, TextFault>) -> Result<bool, ProgramFault> {
     Ok(told?)
 }
 

@@ -18,8 +18,6 @@ pub mod ChangeSpellings
 pub mod StateSpellings
 -- changes that are read one after the other, as a loop does
 pub mod Runs
--- bytes that are written in pieces
-pub mod Writes
 -- lists of changes, part by part
 pub mod History
 -- lemmas of this crate alone

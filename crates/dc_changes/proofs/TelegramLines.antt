@@ -6,7 +6,7 @@ use Rattle.std.specs.Fmt.{decimal}
 use Rattle.std.proofs.lemmas.Fmt.{decimal_injective, decimal_is_IsNumeral}
 use Rattle.std.proofs.lemmas.Str.Parse.{digit_at}
 use Rattle.dc_records.specs.Telegram.{Parsed, IsTelegram as IsParsed}
-use Rattle.dc_text.specs.Hex.{bytes_of}
+use Rattle.dc_io.specs.Hex.{bytes_of}
 use Rattle.dc_changes.specs.Body.{BodyRow, IsBody, body_of}
 use Rattle.dc_changes.specs.ChangeLine.{SpellsTelegram, IsLineOf}
 use Rattle.dc_changes.specs.Line.{NamesMeters, command_text, line_of}

@@ -1,7 +1,7 @@
 -- The line of a change (this product): a command's, or one that tells a telegram.
 use Rattle.std.specs.Prelude.{◌≡◌, ℕ, ◌≤◌, List, [], ◌∷◌, codes, length, decimal, Some}
 use Rattle.std.specs.List.{join_with_byte}
-use Rattle.dc_text.specs.Hex.{bytes_of}
+use Rattle.dc_io.specs.Hex.{bytes_of}
 use Rattle.dc_changes.specs.Line.{line_of, NamesMeters}
 use Rattle.dc_changes.specs.Valid.{IsChange}
 use Rattle.dc_changes.specs.declared.change.Change.{Change}

@@ -28,8 +28,6 @@ pub mod Order
 pub mod Accepts
 -- a list of changes, one after the other
 pub mod History
--- bytes that are written to a sink in pieces, up to the first failure
-pub mod Writing
 -- how changes and states are spelled (this product)
 pub mod Encoding
 -- which bytes spell a state or a list of changes

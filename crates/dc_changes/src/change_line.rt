@@ -2,7 +2,7 @@
 
 ghost use Rattle.std.specs.Prelude.{◌≡◌, ◌≤◌, ◌*◌, ◌∷◌, ◌++◌, ℕ, List, IfSome, Some, length};
 ghost use Rattle.std.specs.Prelude.{decimal, codes};
-ghost use Rattle.dc_text.specs.Hex.{bytes_of};
+ghost use Rattle.dc_io.specs.Hex.{bytes_of};
 ghost use Rattle.dc_changes.specs.Body.{BodyRow, IsBody};
 ghost use Rattle.dc_changes.specs.ChangeLine.{SpellsTelegram, Spells, IsLineOf};
 ghost use Rattle.dc_changes.specs.ChangeLine.{longest_change_line};
@@ -11,8 +11,8 @@ ghost use Rattle.dc_changes.specs.declared.change.Change.{Change};
 
 use crate::words::{parse_number, split_word};
 use crate::{Body, Change, Command, LONGEST_CHANGE_LINE, Moment};
+use dc_io::decode_hex;
 use dc_records::one_telegram;
-use dc_text::decode_hex;
 
 impl<'a> Change<'a> {
     /// The change that a line spells; none where it spells none, or is longer than [`LONGEST_CHANGE_LINE`]. A command

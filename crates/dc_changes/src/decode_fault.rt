@@ -40,10 +40,10 @@ impl DecodeFault {
     }
 }
 
-impl From<dc_base::NoMemory> for DecodeFault {
+impl From<dc_io::NoMemory> for DecodeFault {
     ghost from_gives = { λ _ e. e ≡ NoMemory };
 
-    fn from(_error: dc_base::NoMemory) -> DecodeFault {
+    fn from(_error: dc_io::NoMemory) -> DecodeFault {
         DecodeFault::NoMemory
     }
 }

@@ -3,18 +3,18 @@
 ghost use Rattle.std.specs.Prelude.{◌≡◌, ◌≤◌, ◌++◌, length, OnOk, OnErr};
 ghost use Rattle.dc_changes.specs.Encoding.{change_bytes, command_bytes, telegram_bytes};
 ghost use Rattle.dc_changes.specs.Encoding.{part_bytes, address_byte};
-ghost use Rattle.dc_changes.specs.Writing.{IsWritten, IsStopped};
+ghost use Rattle.dc_io.specs.Written.{IsWritten, IsStopped};
 
 use crate::writing::{put_byte, put_counted, put_identity, put_long};
 use crate::{Body, Change, Command, Flat};
 use dc_address::{Identity, Primary};
-use dc_stream::{IoFault, Sink};
+use dc_io::{IoFault, Sink};
 
 /// Writes a change: a tag and its fields, numbers low byte first. A failed put ends it.
 pub fn encode_change<S: Sink>(change: &Change<'_>, sink: &mut S) -> Result<(), IoFault>
-    ensures ok { OnOk result (IsWritten S.written S.put_failures S.puts sink.old sink.new
+    ensures ok { OnOk result (IsWritten S.Sink sink.old sink.new
         (change_bytes change.now)) }
-    ensures err { OnErr result (IsStopped S.written S.put_failures S.puts S.breaks sink.old sink.new
+    ensures err { OnErr result (IsStopped S.Sink sink.old sink.new
         (change_bytes change.now)) }
 {
     match change {
@@ -29,9 +29,9 @@ fn encode_telegram<S: Sink>(
     body: &Body<'_>,
     sink: &mut S,
 ) -> Result<(), IoFault>
-    ensures ok { OnOk result (IsWritten S.written S.put_failures S.puts sink.old sink.new
+    ensures ok { OnOk result (IsWritten S.Sink sink.old sink.new
         (telegram_bytes part moment body.now.bytes)) }
-    ensures err { OnErr result (IsStopped S.written S.put_failures S.puts S.breaks sink.old sink.new
+    ensures err { OnErr result (IsStopped S.Sink sink.old sink.new
         (telegram_bytes part moment body.now.bytes)) }
 {
     put_byte(sink, 1)?;
@@ -42,9 +42,9 @@ fn encode_telegram<S: Sink>(
 
 fn put_part<S: Sink>(sink: &mut S, moment: u64, body: &[u8]) -> Result<(), IoFault>
     requires { length body.now ≤ 255 }
-    ensures ok { OnOk result (IsWritten S.written S.put_failures S.puts sink.old sink.new
+    ensures ok { OnOk result (IsWritten S.Sink sink.old sink.new
         (part_bytes (record { moment = moment; body = body.now }))) }
-    ensures err { OnErr result (IsStopped S.written S.put_failures S.puts S.breaks sink.old sink.new
+    ensures err { OnErr result (IsStopped S.Sink sink.old sink.new
         (part_bytes (record { moment = moment; body = body.now }))) }
 {
     put_long(sink, moment)?;
@@ -53,9 +53,9 @@ fn put_part<S: Sink>(sink: &mut S, moment: u64, body: &[u8]) -> Result<(), IoFau
 }
 
 fn encode_command<S: Sink>(number: u64, command: &Command, sink: &mut S) -> Result<(), IoFault>
-    ensures ok { OnOk result (IsWritten S.written S.put_failures S.puts sink.old sink.new
+    ensures ok { OnOk result (IsWritten S.Sink sink.old sink.new
         (command_bytes number command.now)) }
-    ensures err { OnErr result (IsStopped S.written S.put_failures S.puts S.breaks sink.old sink.new
+    ensures err { OnErr result (IsStopped S.Sink sink.old sink.new
         (command_bytes number command.now)) }
 {
     match *command {
@@ -80,9 +80,9 @@ fn encode_fit<S: Sink>(
     flat: &Flat,
     sink: &mut S,
 ) -> Result<(), IoFault>
-    ensures ok { OnOk result (IsWritten S.written S.put_failures S.puts sink.old sink.new
+    ensures ok { OnOk result (IsWritten S.Sink sink.old sink.new
         (command_bytes number (Command.Fit meter.now line address flat.now))) }
-    ensures err { OnErr result (IsStopped S.written S.put_failures S.puts S.breaks sink.old sink.new
+    ensures err { OnErr result (IsStopped S.Sink sink.old sink.new
         (command_bytes number (Command.Fit meter.now line address flat.now))) }
 {
     put_byte(sink, 2)?;
@@ -100,9 +100,9 @@ fn encode_move<S: Sink>(
     flat: &Flat,
     sink: &mut S,
 ) -> Result<(), IoFault>
-    ensures ok { OnOk result (IsWritten S.written S.put_failures S.puts sink.old sink.new
+    ensures ok { OnOk result (IsWritten S.Sink sink.old sink.new
         (command_bytes number (Command.Move meter.now flat.now))) }
-    ensures err { OnErr result (IsStopped S.written S.put_failures S.puts S.breaks sink.old sink.new
+    ensures err { OnErr result (IsStopped S.Sink sink.old sink.new
         (command_bytes number (Command.Move meter.now flat.now))) }
 {
     put_byte(sink, 3)?;
@@ -113,9 +113,9 @@ fn encode_move<S: Sink>(
 }
 
 fn encode_out<S: Sink>(number: u64, meter: &Identity, sink: &mut S) -> Result<(), IoFault>
-    ensures ok { OnOk result (IsWritten S.written S.put_failures S.puts sink.old sink.new
+    ensures ok { OnOk result (IsWritten S.Sink sink.old sink.new
         (command_bytes number (Command.Out meter.now))) }
-    ensures err { OnErr result (IsStopped S.written S.put_failures S.puts S.breaks sink.old sink.new
+    ensures err { OnErr result (IsStopped S.Sink sink.old sink.new
         (command_bytes number (Command.Out meter.now))) }
 {
     put_byte(sink, 4)?;
@@ -125,9 +125,9 @@ fn encode_out<S: Sink>(number: u64, meter: &Identity, sink: &mut S) -> Result<()
 }
 
 fn encode_confirm<S: Sink>(number: u64, serial: u64, sink: &mut S) -> Result<(), IoFault>
-    ensures ok { OnOk result (IsWritten S.written S.put_failures S.puts sink.old sink.new
+    ensures ok { OnOk result (IsWritten S.Sink sink.old sink.new
         (command_bytes number (Command.Confirm serial))) }
-    ensures err { OnErr result (IsStopped S.written S.put_failures S.puts S.breaks sink.old sink.new
+    ensures err { OnErr result (IsStopped S.Sink sink.old sink.new
         (command_bytes number (Command.Confirm serial))) }
 {
     put_byte(sink, 5)?;
@@ -143,9 +143,9 @@ fn encode_swap<S: Sink>(
     address: Option<Primary>,
     sink: &mut S,
 ) -> Result<(), IoFault>
-    ensures ok { OnOk result (IsWritten S.written S.put_failures S.puts sink.old sink.new
+    ensures ok { OnOk result (IsWritten S.Sink sink.old sink.new
         (command_bytes number (Command.Swap old.now new.now address))) }
-    ensures err { OnErr result (IsStopped S.written S.put_failures S.puts S.breaks sink.old sink.new
+    ensures err { OnErr result (IsStopped S.Sink sink.old sink.new
         (command_bytes number (Command.Swap old.now new.now address))) }
 {
     put_byte(sink, 6)?;

@@ -1,7 +1,7 @@
 -- A line of the office, answered.
 use Rattle.std.proofs.Common.{◌≡◌, ◌⊎◌, ⊎_elim, inl, inr, ◌≤◌, ◌+◌, ◌-◌, ◌^◌, ℕ, false, Some, Result, Ok, Err, List, [], ◌∷◌, ◌++◌, refl, ap, sym, subst, ◌∙◌}
 use Rattle.std.specs.Prelude.{IsErrOf}
-use Rattle.dc_base.specs.Failures.{HasRisen, has_risen-after}
+use Rattle.dc_io.specs.Failures.{HasRisen, has_risen-after}
 use Rattle.dc_sectors.specs.Disk.{Image, Choices, IsImage, LeavesOnly}
 use Rattle.dc_sectors.proofs.Moments.{started as begun, weakened, followed}
 use Rattle.dc_changes.specs.State.{State, Held}

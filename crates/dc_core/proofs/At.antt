@@ -19,11 +19,11 @@ use Rattle.dc_recovery.proofs.Fronts.{longer_front}
 use Rattle.dc_recovery.specs.Store.{Keeps}
 use Rattle.dc_recovery.proofs.Life.{kept_stands}
 use Rattle.dc_core.specs.declared.line_heard.LineHeard.{LineHeard}
-use Rattle.dc_waiting.specs.Waiting.{Waiting}
-use Rattle.dc_waiting.specs.Lines.{on_line, put_on, settled_lines, no_sessions}
+use Rattle.dc_pending.specs.Waiting.{Waiting}
+use Rattle.dc_pending.specs.Lines.{on_line, put_on, settled_lines, no_sessions}
 use Rattle.dc_core.specs.Core.{Core, present, with_session, opened}
 use Rattle.dc_core.specs.Step.{session_after, and_pending, judged, after_hear, settled_core, removed_by, lines_after, ordered}
-use Rattle.dc_waiting.specs.Taking.{IsTaken}
+use Rattle.dc_pending.specs.Taking.{IsTaken}
 use Rattle.dc_core.specs.Images.{Machine, IsAt}
 
 -- the spelling of one change more

@@ -22,12 +22,12 @@ use Rattle.dc_core.specs.declared.line_heard.LineHeard.TheVariants.{Again, Ready
 use Rattle.dc_core.specs.declared.fault.HearFault.{HearFault}
 use Rattle.dc_core.specs.declared.fault.CommitFault.{CommitFault}
 use Rattle.dc_core.specs.declared.fault.CommitFault.TheVariants.{Device, Worn, Stopped}
-use Rattle.dc_waiting.specs.Lines.{is_line, settled_on, unless_of}
+use Rattle.dc_pending.specs.Lines.{is_line, settled_on, unless_of}
 use Rattle.dc_core.specs.Core.{Core, present, session_of, with_session, opened}
 use Rattle.dc_core.specs.Event.{Event, Answer, starts, asks, hears, commits, offices, started, asked, heard, committed, replied}
 use Rattle.dc_core.specs.Event.{Reply, unread, unstored, repeated, refused, shown, out_of_memory, obeyed, uncommitted}
-use Rattle.dc_waiting.specs.declared.fault.TakeFault.{TakeFault}
-use Rattle.dc_waiting.specs.Taking.{change_of}
+use Rattle.dc_pending.specs.declared.fault.TakeFault.{TakeFault}
+use Rattle.dc_pending.specs.Taking.{change_of}
 use Rattle.dc_core.specs.Step.{May, next, unless_refused, verdict_answer, answer_on, heard_on, hear_answer, asked_on, settled_core, settled, removed_by, lines_after, ordered, after_commit, and_pending, judged, is_on, address_in}
 use Rattle.dc_core.specs.Transcript.{Turn, leads, IsChain, accepted_by, accepted_in, taken_from}
 use Rattle.dc_core.specs.Promised.{Seen, nothing_seen, and_seen, and_accepted, seen_from, PromisedIsCommitted}

@@ -16,7 +16,7 @@ use Rattle.dc_changes.specs.History.{after}
 use Rattle.dc_recovery.specs.Halves.{half_len_of}
 use Rattle.dc_recovery.specs.Stands.{Reads, Stands, EachStands, StandsForFront, StandsForOne}
 use Rattle.dc_recovery.proofs.Once.{reads_once}
-use Rattle.dc_waiting.specs.Lines.{is_line}
+use Rattle.dc_pending.specs.Lines.{is_line}
 use Rattle.dc_core.specs.declared.line_heard.LineHeard.TheVariants.{Accepted}
 use Rattle.dc_core.specs.Core.{Core, opened}
 use Rattle.dc_core.specs.Event.{Event, Answer, Reply, asks, hears, commits, offices, asked, heard, committed, replied}

@@ -8,11 +8,11 @@ use Rattle.dc_core.specs.declared.line_heard.LineHeard.{LineHeard}
 use Rattle.dc_core.specs.declared.line_heard.LineHeard.TheVariants.{Accepted}
 use Rattle.dc_core.specs.declared.fault.HearFault.{HearFault}
 use Rattle.dc_core.specs.declared.fault.HearFault.TheVariants.{NoMemory}
-use Rattle.dc_waiting.specs.Lines.{is_line}
+use Rattle.dc_pending.specs.Lines.{is_line}
 use Rattle.dc_core.specs.Core.{Core, present, session_of}
-use Rattle.dc_waiting.specs.Taking.{change_of, refuses}
-use Rattle.dc_waiting.specs.declared.fault.TakeFault.{TakeFault}
-use Rattle.dc_waiting.specs.declared.fault.TakeFault.TheVariants.{NoMemory as TakeNoMemory}
+use Rattle.dc_pending.specs.Taking.{change_of, refuses}
+use Rattle.dc_pending.specs.declared.fault.TakeFault.{TakeFault}
+use Rattle.dc_pending.specs.declared.fault.TakeFault.TheVariants.{NoMemory as TakeNoMemory}
 use Rattle.dc_core.specs.Fault.{hear_fault}
 use Rattle.dc_core.specs.Step.{unless_refused, hear_answer, MayHear}
 

@@ -5,7 +5,7 @@ use Rattle.dc_changes.specs.State.{State}
 use Rattle.dc_changes.specs.declared.change.Change.{Change}
 use Rattle.dc_changes.specs.History.{after}
 use Rattle.dc_readout.specs.Summary.{Summary}
-use Rattle.dc_waiting.specs.Lines.{on_line, put_on, no_sessions}
+use Rattle.dc_pending.specs.Lines.{on_line, put_on, no_sessions}
 
 pub record Core : Type 0 where
   pub committed : State

@@ -1,9 +1,9 @@
 -- The numbers and names of the concentrator's faults (this product).
 use Rattle.std.specs.Prelude.{ℕ, List, codes}
-use Rattle.dc_waiting.specs.declared.fault.TakeFault.{TakeFault}
-use Rattle.dc_waiting.specs.declared.fault.TakeFault.TheVariants.{PendingFull as TakePendingFull}
-use Rattle.dc_waiting.specs.declared.fault.TakeFault.TheVariants.{Full as TakeFull}
-use Rattle.dc_waiting.specs.declared.fault.TakeFault.TheVariants.{NoMemory as TakeNoMemory}
+use Rattle.dc_pending.specs.declared.fault.TakeFault.{TakeFault}
+use Rattle.dc_pending.specs.declared.fault.TakeFault.TheVariants.{PendingFull as TakePendingFull}
+use Rattle.dc_pending.specs.declared.fault.TakeFault.TheVariants.{Full as TakeFull}
+use Rattle.dc_pending.specs.declared.fault.TakeFault.TheVariants.{NoMemory as TakeNoMemory}
 use Rattle.dc_core.specs.declared.fault.StartFault.{StartFault}
 use Rattle.dc_core.specs.declared.fault.StartFault.TheVariants.{NoLine as StartNoLine, Unknown}
 use Rattle.dc_core.specs.declared.fault.StartFault.TheVariants.{Busy, Stopped as StartStopped}

@@ -9,7 +9,7 @@ use Rattle.dc_readout.specs.Summary.{Summary}
 use Rattle.dc_recovery.specs.Halves.{half_len_of, budget_of}
 use Rattle.dc_recovery.specs.Stands.{Stands, StandsForFront}
 use Rattle.dc_recovery.specs.Store.{Kept, Keeps}
-use Rattle.dc_waiting.specs.Waiting.{Waiting}
+use Rattle.dc_pending.specs.Waiting.{Waiting}
 use Rattle.dc_core.specs.Core.{Core, present}
 
 -- The image stands for the state after a prefix of the changes that leaves out none of the first ones, which are

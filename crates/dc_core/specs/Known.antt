@@ -6,8 +6,8 @@ use Rattle.dc_readout.specs.Summary.{Summary, new, asked_by, verdict_by}
 use Rattle.dc_changes.specs.State.{State}
 use Rattle.dc_changes.specs.Accepts.{refusal}
 use Rattle.dc_changes.specs.declared.fault.ChangeFault.TheVariants.{Unknown, Full as RegisterFull}
-use Rattle.dc_waiting.specs.Taking.{change_of}
-use Rattle.dc_waiting.specs.Waiting.{most_waiting}
+use Rattle.dc_pending.specs.Taking.{change_of}
+use Rattle.dc_pending.specs.Waiting.{most_waiting}
 use Rattle.dc_core.specs.declared.fault.HearFault.TheVariants.{Full, PendingFull}
 use Rattle.dc_core.specs.Core.{Core, present, session_of, opened}
 use Rattle.dc_core.specs.Step.{hear_answer}

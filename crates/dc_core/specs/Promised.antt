@@ -4,7 +4,7 @@ use Rattle.std.specs.Prelude.{take, replicate, get_or}
 use Rattle.std.proofs.Math.ListN.{set}
 use Rattle.dc_changes.specs.State.{State}
 use Rattle.dc_changes.specs.History.{after}
-use Rattle.dc_waiting.specs.Lines.{line_count}
+use Rattle.dc_pending.specs.Lines.{line_count}
 use Rattle.dc_core.specs.declared.line_heard.LineHeard.{LineHeard}
 use Rattle.dc_core.specs.declared.line_heard.LineHeard.TheVariants.{Again, Ready, Accepted, Failed}
 use Rattle.dc_core.specs.Core.{Core, opened}

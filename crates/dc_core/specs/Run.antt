@@ -1,8 +1,9 @@
 -- Events in code, and what a run of them leaves (this product).
 use Rattle.std.specs.Prelude.{◌≡◌, ◌⊎◌, ℕ, ◌≤◌, ◌+◌, ◌-◌, ◌^◌, Option, None, Some, Err, List, []}
 use Rattle.std.specs.Prelude.{◌∷◌, ◌++◌, map}
-use Rattle.dc_base.specs.Failures.{HasRisen}
-use Rattle.dc_stream.specs.Stream.{Puts, Wrote}
+use Rattle.dc_io.specs.Failures.{HasRisen}
+use Rattle.dc_io.specs.Written.{PutsInto, Wrote}
+use Rattle.dc_io.specs.declared.stream.Sink.{Ghosts as SinkGhosts}
 use Rattle.dc_sectors.specs.Disk.{Image, Choices, IsImage, LeavesOnly}
 use Rattle.dc_changes.specs.State.{State}
 use Rattle.dc_recovery.specs.Halves.{half_len_of}
@@ -130,13 +131,12 @@ pub record Ran {D : Type 0} (known : Type 0) (sectors failures : D → ℕ) (rea
 
 -- A PUT FAILED in the text of the last of these turns. The text of the turns before it was put, and no put failed
 -- until then.
-pub record FailedInLast {W : Type 0} (written : W → Option (List ℕ)) (put_failures : W → ℕ)
-    (turns : List Turn) (old new : W) : Type 0 where
+pub record FailedInLast {W : Type 0} (g : SinkGhosts W) (turns : List Turn)
+    (old new : W) : Type 0 where
   pub done : List Turn
   pub last : Turn
   pub turns_are : turns ≡ done ++ last ∷ []
   pub mid : W
-  pub put : Puts (written old) (written mid) (run_text done)
-  pub none_failed : put_failures mid ≡ put_failures old
-  pub failed : Wrote {X = Unit {0}} {E = Unit {0}} written put_failures (Err tt) mid new
-      (answer_text last.1)
+  pub put : PutsInto g old mid (run_text done)
+  pub none_failed : g.put_failures mid ≡ g.put_failures old
+  pub failed : Wrote {X = Unit {0}} {E = Unit {0}} g (Err tt) mid new (answer_text last.1)

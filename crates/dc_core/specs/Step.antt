@@ -18,9 +18,9 @@ use Rattle.dc_upload.specs.declared.verdict.Verdict.TheVariants.{Repeat, Do, Sho
 use Rattle.dc_upload.specs.Line.{IsOfficeLine, office_text}
 use Rattle.dc_upload.specs.Verdict.{verdict_of}
 use Rattle.dc_upload.specs.Reply.{shown_text, TakesMemory}
-use Rattle.dc_waiting.specs.declared.fault.TakeFault.{TakeFault}
-use Rattle.dc_waiting.specs.Lines.{is_line, settled_lines, lines_without}
-use Rattle.dc_waiting.specs.Taking.{change_of, refuses}
+use Rattle.dc_pending.specs.declared.fault.TakeFault.{TakeFault}
+use Rattle.dc_pending.specs.Lines.{is_line, settled_lines, lines_without}
+use Rattle.dc_pending.specs.Taking.{change_of, refuses}
 use Rattle.dc_core.specs.declared.fault.StartFault.{StartFault}
 use Rattle.dc_core.specs.declared.fault.StartFault.TheVariants.{NoLine as StartNoLine, Unknown}
 use Rattle.dc_core.specs.declared.fault.StartFault.TheVariants.{Busy, Stopped as StartStopped}

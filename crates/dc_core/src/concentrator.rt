@@ -2,14 +2,14 @@
 
 ghost use Rattle.std.specs.Prelude.{◌≡◌, ◌≢◌, ◌≤◌, ◌<◌, ℕ, List, Err, OnOk, IfOk, IfErr, IfSome};
 ghost use Rattle.std.specs.Prelude.{MatchResult, false, length};
-ghost use Rattle.dc_base.specs.Failures.{HasRisen};
+ghost use Rattle.dc_io.specs.Failures.{HasRisen};
 ghost use Rattle.dc_sectors.specs.Disk.{Image, IsImage, LeavesOnly, settled};
 ghost use Rattle.dc_changes.specs.State.{State};
 ghost use Rattle.dc_recovery.specs.Halves.{budget_of, half_len_of, fewest_sectors};
 ghost use Rattle.dc_recovery.specs.Stands.{EachStands, Reads, Stands, StandsForOne};
 ghost use Rattle.dc_recovery.specs.Refusal.{IsRefused, IsWorn, TellsOfImage};
 ghost use Rattle.dc_recovery.specs.declared.fault.OpenFault.TheVariants.{NotImage, Worn, Device};
-ghost use Rattle.dc_waiting.specs.Lines.{no_sessions};
+ghost use Rattle.dc_pending.specs.Lines.{no_sessions};
 ghost use Rattle.dc_core.specs.Core.{Core, opened};
 ghost use Rattle.dc_core.specs.Event.{starts, asks, started, asked};
 ghost use Rattle.dc_core.specs.Step.{May, next, longest_request};
@@ -25,10 +25,10 @@ use crate::StartFault;
 use dc_address::Identity;
 use dc_linkframe::FrameBuf;
 use dc_meters::House;
+use dc_pending::{Lines, Waiting, is_line};
 use dc_readout::Session;
 use dc_recovery::{OpenFault, Store};
 use dc_sectors::Disk;
-use dc_waiting::{Lines, Waiting, is_line};
 use std::alloc::Allocator;
 use std::marker::Model;
 

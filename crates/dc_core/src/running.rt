@@ -1,8 +1,8 @@
 //! Runs of events, with the text of their answers.
 
 ghost use Rattle.std.specs.Prelude.{◌≡◌, ◌<◌, ◌+◌, ℕ, List, length, take, map, OnOk, OnErr};
-ghost use Rattle.dc_base.specs.Failures.{HasRisen};
-ghost use Rattle.dc_stream.specs.Stream.{Puts, Wrote};
+ghost use Rattle.dc_io.specs.Failures.{HasRisen};
+ghost use Rattle.dc_io.specs.Written.{PutsInto, Wrote};
 ghost use Rattle.dc_changes.specs.State.{State};
 ghost use Rattle.dc_core.specs.Core.{Core, opened};
 ghost use Rattle.dc_core.specs.Transcript.{Turn, leads, IsChain};
@@ -11,8 +11,8 @@ ghost use Rattle.dc_core.specs.Run.{event_of, Turned, Ran, FailedInLast};
 
 use crate::telling::{put_asked, put_committed, put_heard, put_started};
 use crate::{Concentrator, Event, WriteFault};
+use dc_io::{IoFault, Sink};
 use dc_sectors::Disk;
-use dc_stream::{IoFault, Sink};
 use std::alloc::Allocator;
 
 impl<D: Disk + Drop, A: Allocator + Copy> Concentrator<D, A> {
@@ -29,7 +29,7 @@ impl<D: Disk + Drop, A: Allocator + Copy> Concentrator<D, A> {
             (leads (opened state) before)
             → OnOk result (Ran (D.keeps origin) D.sectors D.failures D.reads D.choices D.moment
             D.images_since self.old.house.budget state before (map event_of events.now)
-            (Puts (W.written out.old) (W.written out.new)) self.old self.new) }
+            (PutsInto W.Sink out.old out.new) self.old self.new) }
         // With a fault, so do those up to one of them, in whose text the first put failed.
         ensures ended { (origin : D) (state : State) (before : List Turn)
             → IsChain self.old.house.budget (opened state) before
@@ -39,7 +39,7 @@ impl<D: Disk + Drop, A: Allocator + Copy> Concentrator<D, A> {
             × (ran : Ran (D.keeps origin) D.sectors D.failures D.reads D.choices D.moment
             D.images_since self.old.house.budget state before
             (map event_of (take (last + 1) events.now)) (λ text. Unit {0}) self.old self.new)
-            × FailedInLast W.written W.put_failures ran.turns out.old out.new) }
+            × FailedInLast W.Sink ran.turns out.old out.new) }
         ensures fault { OnErr result (HasRisen (W.put_failures out.old) (W.put_failures out.new)) }
         ensures well { OnOk result (W.put_failures out.new ≡ W.put_failures out.old) }
         ensures budget { self.new.house.budget ≡ self.old.house.budget }
@@ -59,7 +59,7 @@ impl<D: Disk + Drop, A: Allocator + Copy> Concentrator<D, A> {
             → IsAt (D.keeps origin) D.sectors D.reads D.choices self.old core
             → Turned (D.keeps origin) D.sectors D.failures D.reads D.choices D.moment D.images_since
             self.old.house.budget core (event_of event.now)
-            (Wrote W.written W.put_failures result out.old out.new) self.old self.new }
+            (Wrote W.Sink result out.old out.new) self.old self.new }
         ensures count { D.sectors self.new.store.disk ≡ D.sectors self.old.store.disk }
         ensures budget { self.new.house.budget ≡ self.old.house.budget }
         ensures fault { OnErr result (HasRisen (W.put_failures out.old) (W.put_failures out.new)) }

@@ -1,27 +1,26 @@
 //! The line of text of each answer.
 
 ghost use Rattle.std.specs.Prelude.{◌≡◌, ◌++◌, codes};
-ghost use Rattle.dc_stream.specs.Stream.{Wrote};
-ghost use Rattle.dc_text.specs.Words.{fault_text};
+ghost use Rattle.dc_io.specs.Written.{Wrote};
+ghost use Rattle.dc_io.specs.Words.{fault_text};
 ghost use Rattle.dc_core.specs.declared.line_heard.LineHeard.TheVariants.{Accepted};
 ghost use Rattle.dc_core.specs.Text.{started_text, asked_text, failed_text, line_text, heard_text};
 ghost use Rattle.dc_core.specs.Text.{committed_text, refused_text};
 
 use crate::{CommitFault, HearFault, LineHeard, StartFault};
+use dc_io::{IoFault, Sink, put_fault, put_fault_line, put_hex, put_number_word};
 use dc_linkframe::FrameBuf;
 use dc_readout::Why;
-use dc_stream::{IoFault, Sink};
-use dc_text::{put_fault, put_fault_line, put_hex, put_number_word};
 
 fn put_refused<W: Sink>(out: &mut W, number: u8, name: &str) -> Result<(), IoFault>
-    ensures { Wrote W.written W.put_failures result out.old out.new (refused_text number name.now) }
+    ensures { Wrote W.Sink result out.old out.new (refused_text number name.now) }
 {
     put_fault_line(out, b"REFUSED", number, name)
 }
 
 /// The text of the answer to [`Concentrator::start`](crate::Concentrator::start): a line.
 pub fn put_started<W: Sink>(out: &mut W, answer: Result<(), StartFault>) -> Result<(), IoFault>
-    ensures { Wrote W.written W.put_failures result out.old out.new (started_text answer) }
+    ensures { Wrote W.Sink result out.old out.new (started_text answer) }
 {
     match answer {
         Ok(()) => out.put(b"STARTED\n"),
@@ -30,9 +29,9 @@ pub fn put_started<W: Sink>(out: &mut W, answer: Result<(), StartFault>) -> Resu
 }
 
 /// The text of the answer to [`Concentrator::ask`](crate::Concentrator::ask): a line.
-#[tactic(auto, using(dc_stream::proofs::Pieces::written))]
+#[tactic(auto, using(dc_io::proofs::Pieces::written))]
 pub fn put_asked<W: Sink>(out: &mut W, answer: Option<FrameBuf>) -> Result<(), IoFault>
-    ensures { Wrote W.written W.put_failures result out.old out.new (asked_text answer) }
+    ensures { Wrote W.Sink result out.old out.new (asked_text answer) }
 {
     let Some(request) = answer else {
         return out.put(b"NONE\n");
@@ -42,9 +41,9 @@ pub fn put_asked<W: Sink>(out: &mut W, answer: Option<FrameBuf>) -> Result<(), I
     out.put(b"\n")
 }
 
-#[tactic(auto, using(dc_stream::proofs::Pieces::written), unfolding(dc_text::specs::Words::fault_line))]
+#[tactic(auto, using(dc_io::proofs::Pieces::written), unfolding(dc_io::specs::Words::fault_line))]
 fn put_failed<W: Sink>(out: &mut W, why: Why) -> Result<(), IoFault>
-    ensures { Wrote W.written W.put_failures result out.old out.new (failed_text why) }
+    ensures { Wrote W.Sink result out.old out.new (failed_text why) }
 {
     let Why::Content(fault) = why else {
         return put_fault_line(out, b"FAILED", why.number(), why.name());
@@ -53,18 +52,18 @@ fn put_failed<W: Sink>(out: &mut W, why: Why) -> Result<(), IoFault>
     put_fault_line(out, b"", fault.number(), fault.name())
 }
 
-#[tactic(auto, using(dc_stream::proofs::Pieces::written))]
+#[tactic(auto, using(dc_io::proofs::Pieces::written))]
 fn put_failure<W: Sink>(out: &mut W, number: u8, name: &str) -> Result<(), IoFault>
-    ensures { Wrote W.written W.put_failures result out.old out.new
+    ensures { Wrote W.Sink result out.old out.new
         (codes "FAILED " ++ fault_text number name.now) }
 {
     out.put(b"FAILED ")?;
     put_fault(out, number, name)
 }
 
-#[tactic(auto, using(dc_stream::proofs::Pieces::written))]
+#[tactic(auto, using(dc_io::proofs::Pieces::written))]
 fn put_part<W: Sink>(out: &mut W, part: u8, more: bool) -> Result<(), IoFault>
-    ensures { Wrote W.written W.put_failures result out.old out.new
+    ensures { Wrote W.Sink result out.old out.new
         (line_text (Accepted part more)) }
 {
     out.put(b"PART")?;
@@ -78,7 +77,7 @@ fn put_part<W: Sink>(out: &mut W, part: u8, more: bool) -> Result<(), IoFault>
 
 /// The text of the answer to [`Concentrator::hear`](crate::Concentrator::hear): a line.
 pub fn put_heard<W: Sink>(out: &mut W, answer: Result<LineHeard, HearFault>) -> Result<(), IoFault>
-    ensures { Wrote W.written W.put_failures result out.old out.new (heard_text answer) }
+    ensures { Wrote W.Sink result out.old out.new (heard_text answer) }
 {
     match answer {
         Ok(LineHeard::Again) => out.put(b"AGAIN\n"),
@@ -90,12 +89,12 @@ pub fn put_heard<W: Sink>(out: &mut W, answer: Result<LineHeard, HearFault>) -> 
 }
 
 /// The text of the answer to [`Concentrator::commit`](crate::Concentrator::commit): a line.
-#[tactic(auto, using(dc_stream::proofs::Pieces::written))]
+#[tactic(auto, using(dc_io::proofs::Pieces::written))]
 pub fn put_committed<W: Sink>(
     out: &mut W,
     answer: Result<usize, CommitFault>,
 ) -> Result<(), IoFault>
-    ensures { Wrote W.written W.put_failures result out.old out.new (committed_text answer) }
+    ensures { Wrote W.Sink result out.old out.new (committed_text answer) }
 {
     let count = match answer {
         Ok(count) => count,

@@ -6,7 +6,7 @@ use Rattle.dc_linkframe.specs.declared.needs.Need.{Need}
 use Rattle.dc_linkframe.specs.declared.needs.Need.TheVariants.{More, Whole, Bad}
 use Rattle.dc_linkframe.specs.Fault.{begins_ack, begins_short, begins_long, lengths_agree}
 use Rattle.dc_linkframe.specs.Need.{up_to, need_of_long, need_of}
-use Rattle.dc_teller.specs.Frames.{len_by, front_len, cut, frames_of, shown, is_bad, all_shown, any_bad}
+use Rattle.dc_decode.specs.Frames.{len_by, front_len, cut, frames_of, shown, is_bad, all_shown, any_bad}
 
 -- what is needed names a byte at least, and at most what there is
 abbrev Fits : List ℕ → Need → Type 0

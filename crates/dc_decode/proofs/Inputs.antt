@@ -1,8 +1,8 @@
 -- The lines of an input, one line more.
 use Rattle.std.proofs.Common.{◌≡◌, ℕ, List, [], ◌∷◌, ◌++◌, length, refl, false, arith}
 use Rattle.std.specs.Prelude.{◌||◌}
-use Rattle.dc_teller.specs.Lines.{lines_of}
-use Rattle.dc_teller.specs.Text.{line_text, is_bad_line, lines_text, any_bad_line}
+use Rattle.dc_io.specs.Lines.{lines_of}
+use Rattle.dc_decode.specs.Text.{line_text, is_bad_line, lines_text, any_bad_line}
 
 pub no_line : (input : List ℕ) → length input ≡ 0 → lines_of input ≡ []
 unfolding lines_of

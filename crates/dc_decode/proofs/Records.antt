@@ -1,7 +1,7 @@
 -- The lines of records, one record more.
 use Rattle.std.proofs.Common.{◌≡◌, List, [], ◌∷◌, ◌++◌, refl}
 use Rattle.dc_records.specs.Record.{Entry}
-use Rattle.dc_teller.specs.Telegram.{record_line, record_lines}
+use Rattle.dc_decode.specs.Telegram.{record_line, record_lines}
 
 pub no_records : record_lines [] ≡ []
 unfolding record_lines

@@ -6,7 +6,7 @@ use Rattle.dc_linkframe.specs.declared.frame.Frame.{Frame}
 use Rattle.dc_linkframe.specs.Frame.{FrameSeen, seen}
 use Rattle.dc_linkframe.specs.Fault.{fault_of}
 use Rattle.dc_linkframe.specs.Reading.{frame_of, fields_of, unless_faulty}
-use Rattle.dc_teller.specs.Frames.{read_by, read_as}
+use Rattle.dc_decode.specs.Frames.{read_by, read_as}
 
 read_is_parsed : (fault : Option FrameFault) (fields frame : FrameSeen) → unless_faulty fault fields ≡ Some frame → read_by fault fields ≡ Ok frame
 read_is_parsed None fields frame is = cc

@@ -7,9 +7,9 @@ use Rattle.dc_linkframe.specs.declared.needs.Need.TheVariants.{Whole}
 use Rattle.dc_linkframe.specs.Frame.{FrameSeen, ack, short, long, HasRoom, spelling, Spells}
 use Rattle.dc_linkframe.specs.Need.{need_of}
 use Rattle.dc_linkframe.proofs.Spellings.{frame_of-spelling}
-use Rattle.dc_teller.specs.Frames.{len_by, front_len, frames_of, read_text, frame_text, shown, all_shown}
-use Rattle.dc_teller.proofs.Cuts.{first_cut, front_some, no_cut, none_shown, first_shown}
-use Rattle.dc_teller.proofs.Spelled.{frame_is_parsed}
+use Rattle.dc_decode.specs.Frames.{len_by, front_len, frames_of, read_text, frame_text, shown, all_shown}
+use Rattle.dc_decode.proofs.Cuts.{first_cut, front_some, no_cut, none_shown, first_shown}
+use Rattle.dc_decode.proofs.Spelled.{frame_is_parsed}
 
 whole_in : (turns : ℕ) (bytes : List ℕ) → length bytes ≤ turns → concat (frames_of bytes) ≡ bytes
 whole_in turns [] few = ap concat (no_cut [] refl)

@@ -12,8 +12,8 @@ use Rattle.dc_linkframe.specs.Reading.{fields_of}
 use Rattle.dc_records.specs.declared.fault.BodyFault.{BodyFault}
 use Rattle.dc_records.specs.Fault as records
 use Rattle.dc_records.specs.Telegram.{Parsed, telegram_at}
-use Rattle.dc_text.specs.Words.{number_word, byte_word, fault_line}
-use Rattle.dc_teller.specs.Telegram.{telegram_text}
+use Rattle.dc_io.specs.Words.{number_word, byte_word, fault_line}
+use Rattle.dc_decode.specs.Telegram.{telegram_text}
 
 -- how many bytes the text at the front has: those of a whole frame, or else all that are left
 abbrev pub len_by : List ℕ → Need → ℕ

@@ -6,8 +6,8 @@ use Rattle.dc_records.specs.declared.header.Header.{Header}
 use Rattle.dc_records.specs.Record.{Entry}
 use Rattle.dc_records.specs.Body.{Ending, plain, last, more}
 use Rattle.dc_records.specs.Telegram.{Parsed}
-use Rattle.dc_teller.specs.Seen.{seen_word}
-use Rattle.dc_text.specs.Words.{number_word, hex_word}
+use Rattle.dc_decode.specs.Seen.{seen_word}
+use Rattle.dc_io.specs.Words.{number_word, hex_word}
 
 -- who sent it, the access number and the status byte
 unfoldable pub meter_line : Header → List ℕ

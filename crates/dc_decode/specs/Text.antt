@@ -1,9 +1,9 @@
 -- The text for an input: what its lines have, in order (this product).
 use Rattle.std.specs.Prelude.{ℕ, ◌||◌, nat_lt, if◌then◌else◌, Bool, true, false, List, [], ◌∷◌}
 use Rattle.std.specs.Prelude.{codes, length, filter, flat_map, Option, Some, None}
-use Rattle.dc_text.specs.Hex.{bytes_of}
-use Rattle.dc_teller.specs.Lines.{lines_of, is_solid, longest_input_line}
-use Rattle.dc_teller.specs.Frames.{frames_of, all_shown, any_bad}
+use Rattle.dc_io.specs.Hex.{bytes_of}
+use Rattle.dc_io.specs.Lines.{lines_of, is_solid, longest_input_line}
+use Rattle.dc_decode.specs.Frames.{frames_of, all_shown, any_bad}
 
 -- The bytes of a line of hex digits. The spaces among them count as characters.
 unfoldable pub decoded : List ℕ → Option (List ℕ)

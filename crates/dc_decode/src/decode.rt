@@ -2,18 +2,16 @@
 
 ghost use Rattle.std.specs.Prelude.{◌≡◌, ◌≢◌, ◌<◌, ◌≤◌, [], length, take, Some, None, MatchOption};
 ghost use Rattle.std.specs.Prelude.{IfSome, IfOk, IfErr, OnOk, OnErr, IsErrOf};
-ghost use Rattle.dc_base.specs.Failures.{HasRisen};
-ghost use Rattle.dc_stream.specs.Stream.{Puts, Wrote};
-ghost use Rattle.dc_teller.specs.Lines.{longest_input_line, most_input, most_spelled};
-ghost use Rattle.dc_teller.specs.Text.{decoded, line_text, is_bad_line, text_of, has_fault};
+ghost use Rattle.dc_io.specs.Failures.{HasRisen};
+ghost use Rattle.dc_io.specs.Written.{PutsInto, Wrote};
+ghost use Rattle.dc_io.specs.Lines.{longest_input_line, most_input, most_spelled};
+ghost use Rattle.dc_decode.specs.Text.{decoded, line_text, is_bad_line, text_of, has_fault};
 
-use crate::fault::TellFault;
 use crate::frames::put_frames;
-use crate::input::{CHUNK, MOST, read_input};
-use crate::lines::{LONGEST, first_line};
-use crate::spaces::{lacks_space, squeeze_into};
-use dc_stream::{IoFault, Sink, Source, room};
-use dc_text::decode_hex;
+use dc_io::{
+    CHUNK, IoFault, LONGEST, MOST, Sink, Source, TextFault, decode_hex, first_line, lacks_space,
+    read_input, room, squeeze_into,
+};
 use std::alloc::Allocator;
 
 /// The bytes of a line's digits, and how many; none where it isn't pairs of hex digits, or is too long. `digits` is
@@ -37,7 +35,7 @@ pub fn decode_line(line: &[u8], digits: &mut [u8], bytes: &mut [u8]) -> Option<u
 }
 
 // Writes what a line has, and says whether a fault is among it.
-#[tactic(auto, using(dc_stream::proofs::Pieces::written), unfolding(crate::specs::Text::line_text, crate::specs::Text::is_bad_line))]
+#[tactic(auto, using(dc_io::proofs::Pieces::written), unfolding(crate::specs::Text::line_text, crate::specs::Text::is_bad_line))]
 fn put_line<W: Sink>(
     line: &[u8],
     digits: &mut [u8],
@@ -46,7 +44,7 @@ fn put_line<W: Sink>(
 ) -> Result<bool, IoFault>
     requires digits { longest_input_line ≤ length digits.old }
     requires bytes { most_spelled ≤ length bytes.old }
-    ensures wrote { Wrote W.written W.put_failures result out.old out.new (line_text line.now) }
+    ensures wrote { Wrote W.Sink result out.old out.new (line_text line.now) }
     ensures fault { IfOk result (λ bad. bad ≡ is_bad_line line.now) }
 {
     match decode_line(line, digits, bytes) {
@@ -59,7 +57,7 @@ fn put_line<W: Sink>(
 }
 
 // Writes what the lines of an input have, and says whether a fault is among it.
-#[tactic(auto, using(dc_stream::proofs::Pieces::written, crate::proofs::Inputs::lines))]
+#[tactic(auto, using(dc_io::proofs::Pieces::written, crate::proofs::Inputs::lines))]
 fn put_lines<W: Sink>(
     input: &[u8],
     digits: &mut [u8],
@@ -68,7 +66,7 @@ fn put_lines<W: Sink>(
 ) -> Result<bool, IoFault>
     requires digits { longest_input_line ≤ length digits.old }
     requires bytes { most_spelled ≤ length bytes.old }
-    ensures wrote { Wrote W.written W.put_failures result out.old out.new (text_of input.now) }
+    ensures wrote { Wrote W.Sink result out.old out.new (text_of input.now) }
     ensures fault { IfOk result (λ bad. bad ≡ has_fault input.now) }
 {
     let mut found = false;
@@ -89,42 +87,42 @@ fn put_lines<W: Sink>(
 /// `specs/Text.antt`, over the frames of EN 13757-2 and the telegrams of EN 13757-3.
 ///
 /// # Errors
-/// [`TellFault::Read`] and [`TellFault::Write`] where that end failed, [`TellFault::TooLong`] over 1 MiB,
-/// [`TellFault::NoMemory`] where memory was refused. Only after `Write` may something have been written.
+/// [`TextFault::Read`] and [`TextFault::Write`] where that end failed, [`TextFault::TooLong`] over 1 MiB,
+/// [`TextFault::NoMemory`] where memory was refused. Only after `Write` may something have been written.
 pub fn decode_lines<A: Allocator + Copy, R: Source, W: Sink>(
     alloc: A,
     reader: &mut R,
     writer: &mut W,
-) -> Result<bool, TellFault>
+) -> Result<bool, TextFault>
     // What is written is the text for the input, byte for byte.
     ensures text { OnOk result (IfSome (R.left reader.old)
-        (λ input. Puts (W.written writer.old) (W.written writer.new) (text_of input))) }
+        (λ input. PutsInto W.Sink writer.old writer.new (text_of input))) }
     // The answer says whether a fault is among it.
     ensures fault { IfOk result (λ found.
         IfSome (R.left reader.old) (λ input. found ≡ has_fault input)) }
 
     // An input over the limit is refused, and no other is refused for its length.
     ensures fits { OnOk result (IfSome (R.left reader.old) (λ input. length input ≤ most_input)) }
-    ensures too_long { IsErrOf result TellFault.TooLong
+    ensures too_long { IsErrOf result TextFault.TooLong
         → IfSome (R.left reader.old) (λ input. most_input < length input) }
 
     // A fault of an end is reported only where that end counted a failure.
-    ensures read { IsErrOf result TellFault.Read
+    ensures read { IsErrOf result TextFault.Read
         → HasRisen (R.take_failures reader.old) (R.take_failures reader.new) }
-    ensures write { IsErrOf result TellFault.Write
+    ensures write { IsErrOf result TextFault.Write
         → HasRisen (W.put_failures writer.old) (W.put_failures writer.new) }
     ensures ok { OnOk result ((R.take_failures reader.new ≡ R.take_failures reader.old)
         × (W.put_failures writer.new ≡ W.put_failures writer.old)) }
 
     // After any fault but a failed write the writer is as it was.
-    ensures untouched { IfErr result (λ fault. fault ≢ TellFault.Write → writer.new ≡ writer.old) }
+    ensures untouched { IfErr result (λ fault. fault ≢ TextFault.Write → writer.new ≡ writer.old) }
 {
     let mut digits = room(alloc, LONGEST)?;
     let mut bytes = room(alloc, LONGEST / 2)?;
     let mut chunk = room(alloc, CHUNK)?;
     let input = read_input(alloc, reader, chunk.as_mut_slice())?;
     if input.len() > MOST {
-        return Err(TellFault::TooLong);
+        return Err(TextFault::TooLong);
     }
     match put_lines(
         input.as_slice(),
@@ -133,6 +131,6 @@ pub fn decode_lines<A: Allocator + Copy, R: Source, W: Sink>(
         writer,
     ) {
         Ok(found) => Ok(found),
-        Err(_) => Err(TellFault::Write),
+        Err(_) => Err(TextFault::Write),
     }
 }

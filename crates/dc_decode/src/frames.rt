@@ -2,16 +2,15 @@
 
 ghost use Rattle.std.specs.Prelude.{◌≡◌, ◌<◌, ◌∷◌, length, Ok, Err, MatchResult, IfOk, OnOk, OnErr};
 ghost use Rattle.dc_linkframe.specs.Frame.{seen};
-ghost use Rattle.dc_stream.specs.Stream.{Wrote};
-ghost use Rattle.dc_teller.specs.Frames.{front_len, frames_of, read_as, content_text};
-ghost use Rattle.dc_teller.specs.Frames.{is_bad_content, short_line, long_line, frame_text};
-ghost use Rattle.dc_teller.specs.Frames.{is_bad_frame, shown, is_bad, all_shown, any_bad};
+ghost use Rattle.dc_io.specs.Written.{Wrote};
+ghost use Rattle.dc_decode.specs.Frames.{front_len, frames_of, read_as, content_text};
+ghost use Rattle.dc_decode.specs.Frames.{is_bad_content, short_line, long_line, frame_text};
+ghost use Rattle.dc_decode.specs.Frames.{is_bad_frame, shown, is_bad, all_shown, any_bad};
 
 use crate::telegram::put_telegram;
+use dc_io::{IoFault, Sink, put_byte_word, put_fault_line, put_number_word};
 use dc_linkframe::{Frame, FrameFault, Need, need, parse};
 use dc_records::Telegram;
-use dc_stream::{IoFault, Sink};
-use dc_text::{put_byte_word, put_fault_line, put_number_word};
 
 /// The CI field of a variable data structure (EN 13757-3).
 const VARIABLE_DATA: u8 = 0x72;
@@ -45,9 +44,9 @@ pub fn read(text: &[u8]) -> Result<Frame<'_>, FrameFault>
 }
 
 // Writes what a body has, where the CI field says that it is a telegram, and says whether it isn't one.
-#[tactic(auto, using(dc_stream::proofs::Pieces::written), unfolding(crate::specs::Frames::content_text, crate::specs::Frames::is_bad_content))]
+#[tactic(auto, using(dc_io::proofs::Pieces::written), unfolding(crate::specs::Frames::content_text, crate::specs::Frames::is_bad_content))]
 fn put_content<W: Sink>(ci: u8, body: &[u8], out: &mut W) -> Result<bool, IoFault>
-    ensures wrote { Wrote W.written W.put_failures result out.old out.new
+    ensures wrote { Wrote W.Sink result out.old out.new
         (content_text ci body.now) }
     ensures fault { IfOk result (λ bad. bad ≡ is_bad_content ci body.now) }
 {
@@ -67,9 +66,9 @@ fn put_content<W: Sink>(ci: u8, body: &[u8], out: &mut W) -> Result<bool, IoFaul
 }
 
 // Writes the line of a short frame.
-#[tactic(auto, using(dc_stream::proofs::Pieces::joined), unfolding(crate::specs::Frames::short_line))]
+#[tactic(auto, using(dc_io::proofs::Pieces::joined), unfolding(crate::specs::Frames::short_line))]
 fn put_short<W: Sink>(control: u8, address: u8, out: &mut W) -> Result<(), IoFault>
-    ensures { Wrote W.written W.put_failures result out.old out.new (short_line control address) }
+    ensures { Wrote W.Sink result out.old out.new (short_line control address) }
 {
     out.put(b"SHORT")?;
     put_byte_word(out, control)?;
@@ -78,7 +77,7 @@ fn put_short<W: Sink>(control: u8, address: u8, out: &mut W) -> Result<(), IoFau
 }
 
 // Writes the line of a long frame.
-#[tactic(auto, using(dc_stream::proofs::Pieces::joined), unfolding(crate::specs::Frames::long_line))]
+#[tactic(auto, using(dc_io::proofs::Pieces::joined), unfolding(crate::specs::Frames::long_line))]
 fn put_long<W: Sink>(
     control: u8,
     address: u8,
@@ -86,7 +85,7 @@ fn put_long<W: Sink>(
     body: &[u8],
     out: &mut W,
 ) -> Result<(), IoFault>
-    ensures { Wrote W.written W.put_failures result out.old out.new
+    ensures { Wrote W.Sink result out.old out.new
         (long_line control address ci body.now) }
 {
     out.put(b"LONG")?;
@@ -98,9 +97,9 @@ fn put_long<W: Sink>(
 }
 
 // Writes what a frame has, and says whether its body is at fault.
-#[tactic(auto, using(dc_stream::proofs::Pieces::written))]
+#[tactic(auto, using(dc_io::proofs::Pieces::written))]
 fn put_frame<W: Sink>(frame: Frame<'_>, out: &mut W) -> Result<bool, IoFault>
-    ensures wrote { Wrote W.written W.put_failures result out.old out.new
+    ensures wrote { Wrote W.Sink result out.old out.new
         (frame_text (seen frame.entry)) }
     ensures fault { IfOk result (λ bad. bad ≡ is_bad_frame (seen frame.entry)) }
 {
@@ -126,9 +125,9 @@ fn put_frame<W: Sink>(frame: Frame<'_>, out: &mut W) -> Result<bool, IoFault>
 }
 
 // Writes what stands for a text, and says whether a fault is among it.
-#[tactic(auto, using(dc_stream::proofs::Pieces::written), unfolding(crate::specs::Frames::shown, crate::specs::Frames::is_bad))]
+#[tactic(auto, using(dc_io::proofs::Pieces::written), unfolding(crate::specs::Frames::shown, crate::specs::Frames::is_bad))]
 fn put_shown<W: Sink>(text: &[u8], out: &mut W) -> Result<bool, IoFault>
-    ensures wrote { Wrote W.written W.put_failures result out.old out.new (shown text.now) }
+    ensures wrote { Wrote W.Sink result out.old out.new (shown text.now) }
     ensures fault { IfOk result (λ bad. bad ≡ is_bad text.now) }
 {
     match read(text) {
@@ -141,9 +140,9 @@ fn put_shown<W: Sink>(text: &[u8], out: &mut W) -> Result<bool, IoFault>
 }
 
 /// Writes what stands for the frames of a line's bytes, and says whether a fault is among it.
-#[tactic(auto, using(dc_stream::proofs::Pieces::written, crate::proofs::Cuts::shows))]
+#[tactic(auto, using(dc_io::proofs::Pieces::written, crate::proofs::Cuts::shows))]
 pub fn put_frames<W: Sink>(bytes: &[u8], out: &mut W) -> Result<bool, IoFault>
-    ensures wrote { Wrote W.written W.put_failures result out.old out.new
+    ensures wrote { Wrote W.Sink result out.old out.new
         (all_shown (frames_of bytes.now)) }
     ensures fault { IfOk result (λ bad. bad ≡ any_bad (frames_of bytes.now)) }
 {

@@ -2,17 +2,17 @@
 
 ghost use Rattle.std.specs.Prelude.{◌≡◌, OnOk, OnErr};
 ghost use Rattle.dc_records.specs.Record.{view};
-ghost use Rattle.dc_stream.specs.Stream.{Wrote};
-ghost use Rattle.dc_teller.specs.Seen.{unit_word, point_text, seen_text, seen_word};
+ghost use Rattle.dc_io.specs.Written.{Wrote};
+ghost use Rattle.dc_decode.specs.Seen.{unit_word, point_text, seen_text, seen_word};
 
+use dc_io::{IoFault, Sink};
 use dc_records::Record;
-use dc_stream::{IoFault, Sink};
 use dc_units::{Point, Quantity, Seen, TEXT_ROOM, Value, point_of};
 
 // Writes the unit of a number or of flags.
-#[tactic(auto, using(dc_stream::proofs::Pieces::written))]
+#[tactic(auto, using(dc_io::proofs::Pieces::written))]
 fn put_unit<W: Sink>(value: &Value, quantity: Quantity, out: &mut W) -> Result<(), IoFault>
-    ensures { Wrote W.written W.put_failures result out.old out.new (unit_word value.now quantity) }
+    ensures { Wrote W.Sink result out.old out.new (unit_word value.now quantity) }
 {
     match value {
         Value::Number(_) | Value::Flags { .. } => {
@@ -24,9 +24,9 @@ fn put_unit<W: Sink>(value: &Value, quantity: Quantity, out: &mut W) -> Result<(
 }
 
 // Writes a point's value and its unit.
-#[tactic(auto, using(dc_stream::proofs::Pieces::written), unfolding(crate::specs::Seen::point_text))]
+#[tactic(auto, using(dc_io::proofs::Pieces::written), unfolding(crate::specs::Seen::point_text))]
 fn put_point<W: Sink>(point: &Point, out: &mut W) -> Result<(), IoFault>
-    ensures { Wrote W.written W.put_failures result out.old out.new (point_text point.now) }
+    ensures { Wrote W.Sink result out.old out.new (point_text point.now) }
 {
     let mut text = [0u8; TEXT_ROOM];
     out.put(point.value.write_into(&mut text))?;
@@ -34,9 +34,9 @@ fn put_point<W: Sink>(point: &Point, out: &mut W) -> Result<(), IoFault>
 }
 
 // Writes a point, or that the record has no point.
-#[tactic(auto, using(dc_stream::proofs::Pieces::written))]
+#[tactic(auto, using(dc_io::proofs::Pieces::written))]
 fn put_answer<W: Sink>(seen: &Seen, out: &mut W) -> Result<(), IoFault>
-    ensures { Wrote W.written W.put_failures result out.old out.new (seen_text seen.now) }
+    ensures { Wrote W.Sink result out.old out.new (seen_text seen.now) }
 {
     match seen {
         Seen::Point(point) => put_point(point, out),
@@ -45,9 +45,9 @@ fn put_answer<W: Sink>(seen: &Seen, out: &mut W) -> Result<(), IoFault>
 }
 
 /// Writes what a record's data are.
-#[tactic(auto, using(dc_stream::proofs::Pieces::written), unfolding(crate::specs::Seen::seen_word))]
+#[tactic(auto, using(dc_io::proofs::Pieces::written), unfolding(crate::specs::Seen::seen_word))]
 pub fn put_seen<W: Sink>(found: &Record<'_>, out: &mut W) -> Result<(), IoFault>
-    ensures { Wrote W.written W.put_failures result out.old out.new (seen_word (view found.now)) }
+    ensures { Wrote W.Sink result out.old out.new (seen_word (view found.now)) }
 {
     out.put(b" = ")?;
     put_answer(&point_of(found), out)

@@ -3,20 +3,19 @@
 ghost use Rattle.std.specs.Prelude.{◌≡◌, OnOk, OnErr};
 ghost use Rattle.dc_records.specs.Record.{view};
 ghost use Rattle.dc_records.specs.Seen.{ending};
-ghost use Rattle.dc_stream.specs.Stream.{Wrote};
+ghost use Rattle.dc_io.specs.Written.{Wrote};
 ghost use Rattle.dc_records.specs.Telegram.{parsed};
-ghost use Rattle.dc_teller.specs.Telegram.{meter_line, record_words, record_line, record_lines};
-ghost use Rattle.dc_teller.specs.Telegram.{end_line, telegram_text};
+ghost use Rattle.dc_decode.specs.Telegram.{meter_line, record_words, record_line, record_lines};
+ghost use Rattle.dc_decode.specs.Telegram.{end_line, telegram_text};
 
 use crate::seen::put_seen;
+use dc_io::{IoFault, Sink, put_hex_word, put_number_word};
 use dc_records::{End, Header, Record, Records, Telegram};
-use dc_stream::{IoFault, Sink};
-use dc_text::{put_hex_word, put_number_word};
 
 // Writes the line of the meter.
-#[tactic(auto, using(dc_stream::proofs::Pieces::written), unfolding(crate::specs::Telegram::meter_line))]
+#[tactic(auto, using(dc_io::proofs::Pieces::written), unfolding(crate::specs::Telegram::meter_line))]
 fn put_meter<W: Sink>(header: &Header, out: &mut W) -> Result<(), IoFault>
-    ensures { Wrote W.written W.put_failures result out.old out.new (meter_line header.now) }
+    ensures { Wrote W.Sink result out.old out.new (meter_line header.now) }
 {
     out.put(b"METER ")?;
     out.put(&header.identity.text())?;
@@ -26,9 +25,9 @@ fn put_meter<W: Sink>(header: &Header, out: &mut W) -> Result<(), IoFault>
 }
 
 // Writes the numbers of what a record is about.
-#[tactic(auto, using(dc_stream::proofs::Pieces::written), unfolding(crate::specs::Telegram::record_words))]
+#[tactic(auto, using(dc_io::proofs::Pieces::written), unfolding(crate::specs::Telegram::record_words))]
 fn put_numbers<W: Sink>(found: &Record<'_>, out: &mut W) -> Result<(), IoFault>
-    ensures { Wrote W.written W.put_failures result out.old out.new
+    ensures { Wrote W.Sink result out.old out.new
         (record_words (view found.now)) }
 {
     put_number_word(out, found.storage)?;
@@ -38,9 +37,9 @@ fn put_numbers<W: Sink>(found: &Record<'_>, out: &mut W) -> Result<(), IoFault>
 }
 
 // Writes the line of a record.
-#[tactic(auto, using(dc_stream::proofs::Pieces::written), unfolding(crate::specs::Telegram::record_line))]
+#[tactic(auto, using(dc_io::proofs::Pieces::written), unfolding(crate::specs::Telegram::record_line))]
 fn put_record<W: Sink>(found: &Record<'_>, out: &mut W) -> Result<(), IoFault>
-    ensures { Wrote W.written W.put_failures result out.old out.new (record_line (view found.now)) }
+    ensures { Wrote W.Sink result out.old out.new (record_line (view found.now)) }
 {
     out.put(b"RECORD")?;
     put_numbers(found, out)?;
@@ -51,9 +50,9 @@ fn put_record<W: Sink>(found: &Record<'_>, out: &mut W) -> Result<(), IoFault>
 }
 
 // Writes the lines of records.
-#[tactic(auto, using(dc_stream::proofs::Pieces::written, crate::proofs::Records::records))]
+#[tactic(auto, using(dc_io::proofs::Pieces::written, crate::proofs::Records::records))]
 fn put_records<W: Sink>(records: Records<'_>, out: &mut W) -> Result<(), IoFault>
-    ensures { Wrote W.written W.put_failures result out.old out.new (record_lines records.entry) }
+    ensures { Wrote W.Sink result out.old out.new (record_lines records.entry) }
 {
     'records: for found in records {
         put_record(&found, out)?;
@@ -62,9 +61,9 @@ fn put_records<W: Sink>(records: Records<'_>, out: &mut W) -> Result<(), IoFault
 }
 
 // Writes the line of a body's end.
-#[tactic(auto, using(dc_stream::proofs::Pieces::written))]
+#[tactic(auto, using(dc_io::proofs::Pieces::written))]
 fn put_end<W: Sink>(end: End<'_>, out: &mut W) -> Result<(), IoFault>
-    ensures { Wrote W.written W.put_failures result out.old out.new (end_line (ending end.entry)) }
+    ensures { Wrote W.Sink result out.old out.new (end_line (ending end.entry)) }
 {
     match end {
         End::Plain => out.put(b"END\n"),
@@ -82,9 +81,9 @@ fn put_end<W: Sink>(end: End<'_>, out: &mut W) -> Result<(), IoFault>
 }
 
 /// Writes the lines of a telegram.
-#[tactic(auto, using(dc_stream::proofs::Pieces::written), unfolding(crate::specs::Telegram::telegram_text))]
+#[tactic(auto, using(dc_io::proofs::Pieces::written), unfolding(crate::specs::Telegram::telegram_text))]
 pub fn put_telegram<W: Sink>(telegram: &Telegram<'_>, out: &mut W) -> Result<(), IoFault>
-    ensures { Wrote W.written W.put_failures result out.old out.new
+    ensures { Wrote W.Sink result out.old out.new
         (telegram_text (parsed telegram.now)) }
 {
     put_meter(&telegram.header(), out)?;

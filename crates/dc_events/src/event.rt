@@ -2,14 +2,14 @@
 
 ghost use Rattle.std.specs.Prelude.{◌≡◌, ◌⊎◌, ℕ, List, MatchOption, codes};
 ghost use Rattle.dc_changes.specs.Words.{IsWord};
-ghost use Rattle.dc_stream.specs.Stream.{Wrote};
+ghost use Rattle.dc_io.specs.Written.{Wrote};
 ghost use Rattle.dc_events.specs.Event.{came_late, fault_fields, field, kind_line, text_field, reading_fields};
 ghost use Rattle.dc_events.specs.Event.{has_ended, has_failed, line_of};
 ghost use Rattle.dc_events.specs.Event.{object_of, three_words, two_words, was_lost, was_read};
 ghost use Rattle.dc_events.specs.Event.{was_refused};
 
 use dc_changes::split_word;
-use dc_stream::{IoFault, Sink};
+use dc_io::{IoFault, Sink};
 
 // The first word of a line, and what follows the space after it.
 #[tactic(auto, unfolding(crate::specs::Event::kind_line))]
@@ -32,18 +32,18 @@ fn split_three(text: &[u8]) -> Option<(&[u8], &[u8], &[u8])>
 }
 
 // Writes a piece of an object and the number after it.
-#[tactic(auto, using(dc_stream::proofs::Pieces::written), unfolding(crate::specs::Event::field))]
+#[tactic(auto, using(dc_io::proofs::Pieces::written), unfolding(crate::specs::Event::field))]
 fn put_field<W: Sink>(out: &mut W, piece: &[u8], number: &[u8]) -> Result<(), IoFault>
-    ensures { Wrote W.written W.put_failures result out.old out.new (field piece.now number.now) }
+    ensures { Wrote W.Sink result out.old out.new (field piece.now number.now) }
 {
     out.put(piece)?;
     out.put(number)
 }
 
 // Writes a piece of an object and the text after it, with the quotation mark that ends it.
-#[tactic(auto, using(dc_stream::proofs::Pieces::written), unfolding(crate::specs::Event::text_field))]
+#[tactic(auto, using(dc_io::proofs::Pieces::written), unfolding(crate::specs::Event::text_field))]
 fn put_text_field<W: Sink>(out: &mut W, piece: &[u8], text: &[u8]) -> Result<(), IoFault>
-    ensures { Wrote W.written W.put_failures result out.old out.new
+    ensures { Wrote W.Sink result out.old out.new
         (text_field piece.now text.now) }
 {
     out.put(piece)?;
@@ -52,9 +52,9 @@ fn put_text_field<W: Sink>(out: &mut W, piece: &[u8], text: &[u8]) -> Result<(),
 }
 
 // Writes the fields of a reading after the meter's.
-#[tactic(auto, using(dc_stream::proofs::Pieces::written), unfolding(crate::specs::Event::reading_fields))]
+#[tactic(auto, using(dc_io::proofs::Pieces::written), unfolding(crate::specs::Event::reading_fields))]
 fn put_reading<W: Sink>(out: &mut W, serial: &[u8], parts: &[u8]) -> Result<(), IoFault>
-    ensures { Wrote W.written W.put_failures result out.old out.new
+    ensures { Wrote W.Sink result out.old out.new
         (reading_fields serial.now parts.now) }
 {
     put_field(out, b",\"serial\":", serial)?;
@@ -63,9 +63,9 @@ fn put_reading<W: Sink>(out: &mut W, serial: &[u8], parts: &[u8]) -> Result<(), 
 }
 
 // Writes the fields of a fault after the meter's.
-#[tactic(auto, using(dc_stream::proofs::Pieces::written), unfolding(crate::specs::Event::fault_fields))]
+#[tactic(auto, using(dc_io::proofs::Pieces::written), unfolding(crate::specs::Event::fault_fields))]
 fn put_fault<W: Sink>(out: &mut W, number: &[u8], name: &[u8]) -> Result<(), IoFault>
-    ensures { Wrote W.written W.put_failures result out.old out.new
+    ensures { Wrote W.Sink result out.old out.new
         (fault_fields number.now name.now) }
 {
     put_field(out, b",\"number\":", number)?;
@@ -74,9 +74,9 @@ fn put_fault<W: Sink>(out: &mut W, number: &[u8], name: &[u8]) -> Result<(), IoF
 }
 
 // Writes that a meter was read.
-#[tactic(auto, using(dc_stream::proofs::Pieces::written))]
+#[tactic(auto, using(dc_io::proofs::Pieces::written))]
 fn put_read<W: Sink>(out: &mut W, meter: &[u8], serial: &[u8], parts: &[u8]) -> Result<(), IoFault>
-    ensures { Wrote W.written W.put_failures result out.old out.new
+    ensures { Wrote W.Sink result out.old out.new
         (object_of (was_read meter.now serial.now parts.now)) }
 {
     put_text_field(out, b"{\"event\":\"read\",\"meter\":\"", meter)?;
@@ -84,9 +84,9 @@ fn put_read<W: Sink>(out: &mut W, meter: &[u8], serial: &[u8], parts: &[u8]) -> 
 }
 
 // Writes that a meter failed.
-#[tactic(auto, using(dc_stream::proofs::Pieces::written))]
+#[tactic(auto, using(dc_io::proofs::Pieces::written))]
 fn put_failed<W: Sink>(out: &mut W, meter: &[u8], number: &[u8], name: &[u8]) -> Result<(), IoFault>
-    ensures { Wrote W.written W.put_failures result out.old out.new
+    ensures { Wrote W.Sink result out.old out.new
         (object_of (has_failed meter.now number.now name.now)) }
 {
     put_text_field(out, b"{\"event\":\"failed\",\"meter\":\"", meter)?;
@@ -94,14 +94,14 @@ fn put_failed<W: Sink>(out: &mut W, meter: &[u8], number: &[u8], name: &[u8]) ->
 }
 
 // Writes that a meter was refused.
-#[tactic(auto, using(dc_stream::proofs::Pieces::written))]
+#[tactic(auto, using(dc_io::proofs::Pieces::written))]
 fn put_refused<W: Sink>(
     out: &mut W,
     meter: &[u8],
     number: &[u8],
     name: &[u8],
 ) -> Result<(), IoFault>
-    ensures { Wrote W.written W.put_failures result out.old out.new
+    ensures { Wrote W.Sink result out.old out.new
         (object_of (was_refused meter.now number.now name.now)) }
 {
     put_text_field(out, b"{\"event\":\"refused\",\"meter\":\"", meter)?;
@@ -109,9 +109,9 @@ fn put_refused<W: Sink>(
 }
 
 // Writes that a line was lost.
-#[tactic(auto, using(dc_stream::proofs::Pieces::written))]
+#[tactic(auto, using(dc_io::proofs::Pieces::written))]
 fn put_lost<W: Sink>(out: &mut W, line: &[u8]) -> Result<(), IoFault>
-    ensures { Wrote W.written W.put_failures result out.old out.new
+    ensures { Wrote W.Sink result out.old out.new
         (object_of (was_lost line.now)) }
 {
     put_field(out, b"{\"event\":\"lost\",\"line\":", line)?;
@@ -119,9 +119,9 @@ fn put_lost<W: Sink>(out: &mut W, line: &[u8]) -> Result<(), IoFault>
 }
 
 // Writes how many answers of a line came late.
-#[tactic(auto, using(dc_stream::proofs::Pieces::written))]
+#[tactic(auto, using(dc_io::proofs::Pieces::written))]
 fn put_late<W: Sink>(out: &mut W, line: &[u8], answers: &[u8]) -> Result<(), IoFault>
-    ensures { Wrote W.written W.put_failures result out.old out.new
+    ensures { Wrote W.Sink result out.old out.new
         (object_of (came_late line.now answers.now)) }
 {
     put_field(out, b"{\"event\":\"late\",\"line\":", line)?;
@@ -130,9 +130,9 @@ fn put_late<W: Sink>(out: &mut W, line: &[u8], answers: &[u8]) -> Result<(), IoF
 }
 
 // Writes the counts of a poll.
-#[tactic(auto, using(dc_stream::proofs::Pieces::written))]
+#[tactic(auto, using(dc_io::proofs::Pieces::written))]
 fn put_end<W: Sink>(out: &mut W, read: &[u8], failed: &[u8]) -> Result<(), IoFault>
-    ensures { Wrote W.written W.put_failures result out.old out.new
+    ensures { Wrote W.Sink result out.old out.new
         (object_of (has_ended read.now failed.now)) }
 {
     put_field(out, b"{\"event\":\"end\",\"read\":", read)?;
@@ -144,14 +144,14 @@ fn put_end<W: Sink>(out: &mut W, read: &[u8], failed: &[u8]) -> Result<(), IoFau
 fn put_pair<W: Sink>(kind: &[u8], words: &[u8], out: &mut W) -> Result<(), IoFault>
     ensures lost { (line : List ℕ) → IsWord line → kind.now ≡ codes "LINE"
         → words.now ≡ two_words line (codes "LOST")
-        → Wrote W.written W.put_failures result out.old out.new (object_of (was_lost line)) }
+        → Wrote W.Sink result out.old out.new (object_of (was_lost line)) }
     ensures late { (line answers : List ℕ) → IsWord line → kind.now ≡ codes "LATE"
         → words.now ≡ two_words line answers
-        → Wrote W.written W.put_failures result out.old out.new
+        → Wrote W.Sink result out.old out.new
         (object_of (came_late line answers)) }
     ensures ended { (read failed : List ℕ) → IsWord read → kind.now ≡ codes "END"
         → words.now ≡ two_words read failed
-        → Wrote W.written W.put_failures result out.old out.new
+        → Wrote W.Sink result out.old out.new
         (object_of (has_ended read failed)) }
 {
     let Some((first, second)) = split_word(words) else {
@@ -169,15 +169,15 @@ fn put_pair<W: Sink>(kind: &[u8], words: &[u8], out: &mut W) -> Result<(), IoFau
 fn put_three<W: Sink>(kind: &[u8], words: &[u8], out: &mut W) -> Result<(), IoFault>
     ensures read { (meter serial parts : List ℕ) → IsWord meter → IsWord serial
         → kind.now ≡ codes "READ" → words.now ≡ three_words meter serial parts
-        → Wrote W.written W.put_failures result out.old out.new
+        → Wrote W.Sink result out.old out.new
         (object_of (was_read meter serial parts)) }
     ensures failed { (meter number name : List ℕ) → IsWord meter → IsWord number
         → kind.now ≡ codes "FAILED" → words.now ≡ three_words meter number name
-        → Wrote W.written W.put_failures result out.old out.new
+        → Wrote W.Sink result out.old out.new
         (object_of (has_failed meter number name)) }
     ensures refused { (meter number name : List ℕ) → IsWord meter → IsWord number
         → kind.now ≡ codes "REFUSED" → words.now ≡ three_words meter number name
-        → Wrote W.written W.put_failures result out.old out.new
+        → Wrote W.Sink result out.old out.new
         (object_of (was_refused meter number name)) }
 {
     let Some((first, second, third)) = split_three(words) else {
@@ -195,25 +195,25 @@ fn put_three<W: Sink>(kind: &[u8], words: &[u8], out: &mut W) -> Result<(), IoFa
 pub fn put_event<W: Sink>(line: &[u8], out: &mut W) -> Result<(), IoFault>
     ensures read { (meter serial parts : List ℕ) → IsWord meter → IsWord serial
         → line.now ≡ line_of (was_read meter serial parts)
-        → Wrote W.written W.put_failures result out.old out.new
+        → Wrote W.Sink result out.old out.new
         (object_of (was_read meter serial parts)) }
     ensures failed { (meter number name : List ℕ) → IsWord meter → IsWord number
         → line.now ≡ line_of (has_failed meter number name)
-        → Wrote W.written W.put_failures result out.old out.new
+        → Wrote W.Sink result out.old out.new
         (object_of (has_failed meter number name)) }
     ensures refused { (meter number name : List ℕ) → IsWord meter → IsWord number
         → line.now ≡ line_of (was_refused meter number name)
-        → Wrote W.written W.put_failures result out.old out.new
+        → Wrote W.Sink result out.old out.new
         (object_of (was_refused meter number name)) }
     ensures lost { (line_word : List ℕ) → IsWord line_word → line.now ≡ line_of (was_lost line_word)
-        → Wrote W.written W.put_failures result out.old out.new (object_of (was_lost line_word)) }
+        → Wrote W.Sink result out.old out.new (object_of (was_lost line_word)) }
     ensures late { (line_word answers : List ℕ) → IsWord line_word
         → line.now ≡ line_of (came_late line_word answers)
-        → Wrote W.written W.put_failures result out.old out.new
+        → Wrote W.Sink result out.old out.new
         (object_of (came_late line_word answers)) }
     ensures ended { (read failed : List ℕ) → IsWord read
         → line.now ≡ line_of (has_ended read failed)
-        → Wrote W.written W.put_failures result out.old out.new
+        → Wrote W.Sink result out.old out.new
         (object_of (has_ended read failed)) }
 {
     let Some((kind, words)) = split_kind(line) else {

@@ -3,8 +3,7 @@
 ghost use Rattle.std.specs.Prelude.{◌≡◌, None};
 
 use crate::event::put_event;
-use dc_base::one_failure_more;
-use dc_stream::{IoFault, Sink};
+use dc_io::{IoFault, Sink, one_failure_more};
 
 // The longest line of a poll has fewer bytes.
 const ROOM: usize = 128;
@@ -69,7 +68,7 @@ impl<W: Sink> Sink for EventSink<'_, W> {
 
     ghost put_failures = { λ s. s.failures };
 
-    #[tactic(auto, using(dc_stream::proofs::Pieces::told))]
+    #[tactic(auto, using(dc_io::proofs::Pieces::told))]
     fn put(&mut self, bytes: &[u8]) -> Result<(), IoFault> {
         if self.take_all(bytes).is_err() {
             self.failures = one_failure_more(self.failures);

@@ -14,8 +14,6 @@ pub mod Digits
 pub mod Searching
 -- a search within its budget
 pub mod Budgets
--- masks as they are sent
-pub mod Orders
 -- exchanges one after the other
 pub mod Exchanges
 -- a search asks once more

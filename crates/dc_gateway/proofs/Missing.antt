@@ -3,9 +3,9 @@ use Rattle.std.proofs.Common.{◌≡◌, ◌⊎◌, inl, inr, ℕ, ◌+◌, ◌-
 use Rattle.std.specs.List.{All}
 use Rattle.std.proofs.Math.Seq.{drop-append_seam}
 use Rattle.std.proofs.lemmas.List.Elements.{All-head, All-tail}
-use Rattle.dc_base.specs.Failures.{HasRisen}
-use Rattle.dc_stream.specs.Stream.{IsAtEnd, Takes}
-use Rattle.dc_stream.proofs.Pieces.{takes-both}
+use Rattle.dc_io.specs.Failures.{HasRisen}
+use Rattle.dc_io.specs.Stream.{IsAtEnd, Takes}
+use Rattle.dc_io.proofs.Pieces.{takes-both}
 use Rattle.dc_gateway.specs.Blocks.{Answers, IsBlock, block, blocks_bytes, most_blocks}
 use Rattle.dc_gateway.specs.Talk.{HasNoAnswer, IsFront, TakesFront}
 use Rattle.dc_gateway.proofs.Reading.{Reading}

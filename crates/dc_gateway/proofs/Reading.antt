@@ -5,8 +5,8 @@ use Rattle.std.specs.Io.KnownBytes.{prepend_known}
 use Rattle.std.proofs.lemmas.List.Elements.{All-append, All-cons, All-nil}
 use Rattle.std.proofs.lemmas.List.Folds.{concat-append}
 use Rattle.std.proofs.lemmas.List.Concat.{flat_map-append}
-use Rattle.dc_stream.specs.Stream.{Takes}
-use Rattle.dc_stream.proofs.Pieces.{takes-both}
+use Rattle.dc_io.specs.Stream.{Takes}
+use Rattle.dc_io.proofs.Pieces.{takes-both}
 use Rattle.dc_gateway.specs.Blocks.{AreBlocks, IsBlock, block, blocks_bytes, kept_of, most_answer, most_block, most_blocks}
 use Rattle.dc_gateway.specs.Talk.{IsContent, IsCut, TakesAnswer, TakesFront}
 use Rattle.dc_gateway.proofs.Keeping.{length-kept, take-take-append}

@@ -1,8 +1,8 @@
 -- Bytes that are taken one after the other.
 use Rattle.std.proofs.Common.{◌≡◌, ℕ, ◌+◌, ◌<◌, ◌≤◌, List, [], ◌++◌, Option, Some, None, length, take, arith, refl, ap, sym, ◌∙◌, append_assoc, length-append}
 use Rattle.std.specs.Io.KnownBytes.{prepend_known}
-use Rattle.dc_stream.specs.Stream.{Takes}
-use Rattle.dc_stream.proofs.Pieces.{takes-both}
+use Rattle.dc_io.specs.Stream.{Takes}
+use Rattle.dc_io.proofs.Pieces.{takes-both}
 use Rattle.dc_gateway.specs.Blocks.{most_answer}
 use Rattle.dc_gateway.specs.Talk.{IsContent, IsCut}
 use Rattle.dc_gateway.proofs.Keeping.{kept_none, take-take-append}

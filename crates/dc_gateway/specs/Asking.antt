@@ -1,9 +1,9 @@
 -- What a request to a gateway does (this product): its block goes out and its answer is taken, or the gateway is lost.
 use Rattle.std.specs.Prelude.{◌≡◌, ◌⊎◌, ℕ, true, false, List, []}
-use Rattle.dc_base.specs.Failures.{HasRisen}
-use Rattle.dc_stream.specs.Stream.{Puts, PutsFront}
-use Rattle.dc_stream.specs.declared.stream.Sink.{Ghosts as SinkGhosts}
-use Rattle.dc_stream.specs.declared.stream.Source.{Ghosts as SourceGhosts}
+use Rattle.dc_io.specs.Failures.{HasRisen}
+use Rattle.dc_io.specs.Stream.{Puts, PutsFront}
+use Rattle.dc_io.specs.declared.stream.Sink.{Ghosts as SinkGhosts}
+use Rattle.dc_io.specs.declared.stream.Source.{Ghosts as SourceGhosts}
 use Rattle.dc_gateway.specs.Blocks.{block}
 use Rattle.dc_gateway.specs.Talk.{HasNoAnswer, TakesAnswer, TakesFront}
 use Rattle.dc_gateway.specs.declared.gateway.Gateway.{Gateway}

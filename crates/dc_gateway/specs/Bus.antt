@@ -1,6 +1,6 @@
 -- A bus as the list of its meters, by what is heard on it (EN 13757-3, selection with wildcards; EN 13757-2, REQ_UD2).
 -- The meters that match a selection acknowledge it at once, and answer the request that follows together.
-use Rattle.std.specs.Prelude.{◌≡◌, ℕ, ◌≤◌, true, List, [], ◌∷◌, Option, Some, None, filter, length}
+use Rattle.std.specs.Prelude.{◌≡◌, ℕ, ◌≤◌, true, List, [], ◌∷◌, Some, None, filter, length}
 use Rattle.std.specs.Prelude.{min, option_map, take, if◌then◌else◌, nat_le}
 use Rattle.dc_address.specs.Mask.{IsMask, MaskParts, mask_wire, matches}
 use Rattle.dc_address.specs.declared.identity.Identity.{Identity}
@@ -33,21 +33,6 @@ pub record IsHeard (meters before after : List Identity) (request answer : List 
       → request ≡ spelling (selection_by (mask_wire mask)) → Acknowledge after answer
   pub keeps : request ≡ spelling (request_to true selected) → after ≡ before
   pub responds : request ≡ spelling (request_to true selected) → Respond before answer
-
--- ---- a bus in memory
-
--- its meters, and what was selected last
-pub record Listed : Type 0 where
-  pub meters : List Identity
-  pub mask : Option MaskParts
-
-abbrev pub matched_by : Option MaskParts → List Identity → List Identity
-matched_by None meters = []
-matched_by (Some mask) meters = filter (matches mask) meters
-
--- the meters that the last selection matched
-abbrev pub chosen : Listed → List Identity
-chosen bus = matched_by bus.mask bus.meters
 
 -- ---- a search
 

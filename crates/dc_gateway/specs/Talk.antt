@@ -1,7 +1,7 @@
 -- What an exchange with the gateway may give (this product), and what it leaves of its ends.
 use Rattle.std.specs.Prelude.{◌≡◌, ◌⊎◌, ℕ, ◌<◌, List, [], ◌∷◌, ◌++◌, Option, IfSome, length, take}
-use Rattle.dc_base.specs.Failures.{HasRisen}
-use Rattle.dc_stream.specs.Stream.{Takes, IsAtEnd}
+use Rattle.dc_io.specs.Failures.{HasRisen}
+use Rattle.dc_io.specs.Stream.{Takes, IsAtEnd}
 use Rattle.dc_gateway.specs.Blocks.{Answers, AreBlocks, blocks_bytes, kept_of, most_answer}
 use Rattle.dc_gateway.specs.Blocks.{most_blocks}
 use Rattle.dc_gateway.specs.declared.talk.Talk.{Talk}

@@ -1,12 +1,12 @@
 //! An answer, block by block.
 
 ghost use Rattle.std.specs.Prelude.{◌≡◌, ◌⊎◌, IfOk, OnOk, OnErr};
-ghost use Rattle.dc_base.specs.Failures.{HasRisen};
+ghost use Rattle.dc_io.specs.Failures.{HasRisen};
 ghost use Rattle.dc_gateway.specs.Talk.{HasNoAnswer, TakesAnswer, TakesFront};
 
 use crate::answer_buf::AnswerBuf;
 use crate::block::{MOST_BLOCKS, take_content, take_length};
-use dc_stream::{IoFault, Source};
+use dc_io::{IoFault, Source};
 
 /// Takes an answer, up to its block of length 0.
 pub(crate) fn take_answer<R: Source>(reader: &mut R) -> Result<AnswerBuf, IoFault>

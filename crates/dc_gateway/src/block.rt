@@ -1,13 +1,14 @@
 //! Blocks, one at a time.
 
 ghost use Rattle.std.specs.Prelude.{◌≡◌, ◌≤◌, ◌∷◌, [], ◌++◌, length, take, IfOk, OnOk, OnErr};
-ghost use Rattle.dc_stream.specs.Stream.{Puts, PutsFront, Takes};
-ghost use Rattle.dc_base.specs.Failures.{HasRisen};
+ghost use Rattle.dc_io.specs.Stream.{Puts, PutsFront, Takes};
+ghost use Rattle.dc_io.specs.Written.{PutsInto};
+ghost use Rattle.dc_io.specs.Failures.{HasRisen};
 ghost use Rattle.dc_gateway.specs.Blocks.{block, most_answer, most_block};
 ghost use Rattle.dc_gateway.specs.Talk.{HasStopped, IsContent, IsCut};
 
 use crate::answer_buf::AnswerBuf;
-use dc_stream::{IoFault, Sink, Source};
+use dc_io::{IoFault, Sink, Source};
 
 /// The most bytes that a block has, since its length is a byte.
 pub const MOST_BLOCK: usize = 255;
@@ -18,7 +19,7 @@ pub const MOST_BLOCKS: usize = 600;
 /// Puts these bytes as one block, by one put.
 pub fn put_block<W: Sink>(writer: &mut W, bytes: &[u8]) -> Result<(), IoFault>
     requires { length bytes.now ≤ most_block }
-    ensures bytes { OnOk result (Puts (W.written writer.old) (W.written writer.new)
+    ensures bytes { OnOk result (PutsInto W.Sink writer.old writer.new
         (block bytes.now)) }
     ensures step { OnOk result (W.puts writer.old (block bytes.now) writer.new) }
     ensures well { OnOk result (W.put_failures writer.new ≡ W.put_failures writer.old) }

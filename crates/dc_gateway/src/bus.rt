@@ -9,10 +9,9 @@ ghost use Rattle.dc_search.specs.State.{SearchState, is_idle, step_of};
 
 use crate::answer_buf::AnswerBuf;
 use crate::gateway::Gateway;
-use dc_base::NoMemory;
+use dc_io::{NoMemory, Sink, Source};
 use dc_linkframe::FrameBuf;
 use dc_search::Search;
-use dc_stream::{Sink, Source};
 use std::alloc::Allocator;
 
 /// Meters that are asked by frames.

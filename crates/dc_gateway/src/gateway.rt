@@ -1,15 +1,16 @@
 //! Both ends of the gateway, as long as it isn't lost.
 
 ghost use Rattle.std.specs.Prelude.{◌≡◌, ◌⊎◌, ◌≤◌, [], length, true, false};
-ghost use Rattle.dc_base.specs.Failures.{HasRisen};
-ghost use Rattle.dc_stream.specs.Stream.{Puts, PutsFront};
+ghost use Rattle.dc_io.specs.Failures.{HasRisen};
+ghost use Rattle.dc_io.specs.Stream.{PutsFront};
+ghost use Rattle.dc_io.specs.Written.{PutsInto};
 ghost use Rattle.dc_gateway.specs.Blocks.{block, most_block};
 ghost use Rattle.dc_gateway.specs.Talk.{HasNoAnswer, TakesAnswer, TakesFront};
 
 use crate::answer_buf::AnswerBuf;
 use crate::talk::{Talk, exchange};
+use dc_io::{Sink, Source};
 use dc_linkframe::FrameBuf;
-use dc_stream::{Sink, Source};
 
 /// Both ends of a gateway, and whether it is lost.
 #[derive(Drop)]
@@ -52,7 +53,7 @@ impl<R: Source + Drop, W: Sink + Drop> Gateway<R, W> {
         ensures answer { self.new.lost ≡ false
             → TakesAnswer (R.left self.old.reader) (R.left self.new.reader) result }
         ensures request { self.new.lost ≡ false
-            → Puts (W.written self.old.writer) (W.written self.new.writer) (block request.now) }
+            → PutsInto W.Sink self.old.writer self.new.writer (block request.now) }
         ensures put { self.new.lost ≡ false
             → W.puts self.old.writer (block request.now) self.new.writer }
         ensures reader_well { self.new.lost ≡ false
@@ -66,7 +67,7 @@ impl<R: Source + Drop, W: Sink + Drop> Gateway<R, W> {
             ⊎ (HasRisen (R.take_failures self.old.reader) (R.take_failures self.new.reader)
             ⊎ HasNoAnswer (R.left self.old.reader)) }
         ensures sent { self.old.lost ≡ false → self.new.lost ≡ true
-            → Puts (W.written self.old.writer) (W.written self.new.writer) (block request.now)
+            → PutsInto W.Sink self.old.writer self.new.writer (block request.now)
             ⊎ ((self.new.reader ≡ self.old.reader)
             × PutsFront (W.written self.old.writer) (W.written self.new.writer)
             (block request.now)) }

@@ -6,7 +6,7 @@
 //! it is silent, and touches neither of them.
 //!
 //! A [`Bus`] is whatever meters are asked over, and [`search_over`] searches one, a lost one in silence; a [`Gateway`]
-//! is a bus that tells no meters, a [`ListedBus`] one that does.
+//! is a bus whose meters no clause names.
 //!
 //! Nothing here waits but for its ends, and an exchange takes no memory.
 #![tactic(auto)]
@@ -16,13 +16,10 @@ mod answer_buf;
 mod block;
 mod bus;
 mod gateway;
-mod listed;
-mod order;
 mod talk;
 
 pub use answer_buf::{AnswerBuf, MOST_ANSWER};
 pub use block::{MOST_BLOCK, MOST_BLOCKS, put_block, take_content, take_length};
 pub use bus::{Bus, search_over};
 pub use gateway::Gateway;
-pub use listed::ListedBus;
 pub use talk::{Talk, exchange};

@@ -1,16 +1,17 @@
 //! One exchange with the gateway.
 
 ghost use Rattle.std.specs.Prelude.{◌≡◌, ◌⊎◌, ◌≤◌, length};
-ghost use Rattle.dc_base.specs.Failures.{HasRisen};
-ghost use Rattle.dc_stream.specs.Stream.{Puts, PutsFront};
+ghost use Rattle.dc_io.specs.Failures.{HasRisen};
+ghost use Rattle.dc_io.specs.Stream.{PutsFront};
+ghost use Rattle.dc_io.specs.Written.{PutsInto};
 ghost use Rattle.dc_gateway.specs.Blocks.{block, most_block};
 ghost use Rattle.dc_gateway.specs.Talk.{HasNoAnswer, IfAnswer, OnLost, TakesAnswer, TakesFront};
 
 use crate::answer::take_answer;
 use crate::answer_buf::AnswerBuf;
 use crate::block::put_block;
+use dc_io::{Sink, Source};
 use dc_linkframe::FrameBuf;
-use dc_stream::{Sink, Source};
 
 /// What an exchange with the gateway gave.
 #[derive(Drop)]
@@ -30,7 +31,7 @@ pub fn exchange<R: Source, W: Sink>(reader: &mut R, writer: &mut W, request: &Fr
     ensures answer { IfAnswer result (λ answer.
         TakesAnswer (R.left reader.old) (R.left reader.new) answer) }
     ensures request { IfAnswer result (λ _.
-        Puts (W.written writer.old) (W.written writer.new) (block request.now)) }
+        PutsInto W.Sink writer.old writer.new (block request.now)) }
     ensures put { IfAnswer result (λ _. W.puts writer.old (block request.now) writer.new) }
     ensures reader_well { IfAnswer result (λ _.
         R.take_failures reader.new ≡ R.take_failures reader.old) }
@@ -42,7 +43,7 @@ pub fn exchange<R: Source, W: Sink>(reader: &mut R, writer: &mut W, request: &Fr
         ⊎ (HasRisen (R.take_failures reader.old) (R.take_failures reader.new)
         ⊎ HasNoAnswer (R.left reader.old))) }
     // The request went out all the same, or the reader is untouched.
-    ensures sent { OnLost result (Puts (W.written writer.old) (W.written writer.new)
+    ensures sent { OnLost result (PutsInto W.Sink writer.old writer.new
         (block request.now)
         ⊎ ((reader.new ≡ reader.old) × PutsFront (W.written writer.old) (W.written writer.new)
         (block request.now))) }

@@ -1,7 +1,7 @@
 -- The lines of `inspect`: a fact a line, its name and its numbers (this product).
 use Rattle.std.specs.Prelude.{ℕ, ◌-◌, List, [], ◌++◌, length, codes, slice_get, Option, Some, None}
 use Rattle.std.specs.Prelude.{option_map}
-use Rattle.dc_text.specs.Words.{number_word, fault_text}
+use Rattle.dc_io.specs.Words.{number_word, fault_text}
 use Rattle.dc_changes.specs.State.{State, ReadingRow}
 use Rattle.dc_changes.specs.Size.{size_of}
 use Rattle.dc_roots.specs.declared.root.Root.{Root}

@@ -2,8 +2,9 @@
 
 ghost use Rattle.std.specs.Prelude.{◌≡◌, ◌≢◌, ◌<◌, ◌≤◌, ◌++◌, Some, IfOk, IfErr, IfSome, OnOk};
 ghost use Rattle.std.specs.Prelude.{option_map};
-ghost use Rattle.dc_base.specs.Failures.{HasRisen};
-ghost use Rattle.dc_stream.specs.Stream.{Puts, Wrote};
+ghost use Rattle.dc_io.specs.Failures.{HasRisen};
+ghost use Rattle.dc_io.specs.Stream.{Puts};
+ghost use Rattle.dc_io.specs.Written.{PutsInto, Wrote};
 ghost use Rattle.dc_recovery.specs.Halves.{budget_of, fewest_sectors, half_start, half_end};
 ghost use Rattle.dc_recovery.specs.Halves.{longest_half};
 ghost use Rattle.dc_recovery.specs.Looked.{OnlyLooked};
@@ -18,14 +19,14 @@ use crate::summary::summary_of;
 use crate::text::{
     put_number_line, put_place, put_refusal, put_refused_line, put_slot, put_summary,
 };
+use dc_io::{Bytes, IoFault, Sink};
 use dc_poller::ProgramFault;
 use dc_recovery::{FEWEST_SECTORS, Found, OpenFault, half_len_of};
 use dc_sectors::{Disk, Failed};
-use dc_stream::{Bytes, IoFault, Sink};
 use std::alloc::Allocator;
 
 // Puts what is told of an image after the line of its disk.
-#[tactic(auto, using(dc_stream::proofs::Pieces::written), unfolding(crate::specs::Told::image_text))]
+#[tactic(auto, using(dc_io::proofs::Pieces::written), unfolding(crate::specs::Told::image_text))]
 fn put_image<A: Allocator + Copy, W: Sink>(
     out: &mut W,
     half_len: u32,
@@ -39,7 +40,7 @@ fn put_image<A: Allocator + Copy, W: Sink>(
         half_start half_len found.root.half ≤ found.place) }
     requires within { IfSome look.now.found (λ found.
         found.place ≤ half_end half_len found.root.half) }
-    ensures { Wrote W.written W.put_failures result out.old out.new
+    ensures { Wrote W.Sink result out.old out.new
         (image_text half_len slots.now.first slots.now.second
         (option_map seen_of look.now.found) look.now.refusal) }
 {
@@ -50,7 +51,7 @@ fn put_image<A: Allocator + Copy, W: Sink>(
 }
 
 // Puts what was read of an image, if it reads.
-#[tactic(auto, using(dc_stream::proofs::Pieces::written))]
+#[tactic(auto, using(dc_io::proofs::Pieces::written))]
 fn put_found<A: Allocator + Copy, W: Sink>(
     out: &mut W,
     half_len: u32,
@@ -61,7 +62,7 @@ fn put_found<A: Allocator + Copy, W: Sink>(
     requires half { IfSome found.now (λ found. found.root.half ≤ 1) }
     requires from { IfSome found.now (λ found. half_start half_len found.root.half ≤ found.place) }
     requires within { IfSome found.now (λ found. found.place ≤ half_end half_len found.root.half) }
-    ensures { Wrote W.written W.put_failures result out.old out.new
+    ensures { Wrote W.Sink result out.old out.new
         (seen_text half_len (option_map seen_of found.now)) }
 {
     match found {
@@ -74,7 +75,7 @@ fn put_found<A: Allocator + Copy, W: Sink>(
 }
 
 // Puts what is told of an image.
-#[tactic(auto, using(dc_stream::proofs::Pieces::written))]
+#[tactic(auto, using(dc_io::proofs::Pieces::written))]
 fn put_disk<A: Allocator + Copy, W: Sink>(
     out: &mut W,
     sectors: u32,
@@ -89,7 +90,7 @@ fn put_disk<A: Allocator + Copy, W: Sink>(
         half_start half_len found.root.half ≤ found.place) }
     requires within { IfSome look.now.found (λ found.
         found.place ≤ half_end half_len found.root.half) }
-    ensures { Wrote W.written W.put_failures result out.old out.new
+    ensures { Wrote W.Sink result out.old out.new
         (disk_line sectors ++ image_text half_len slots.now.first slots.now.second
         (option_map seen_of look.now.found) look.now.refusal) }
 {
@@ -98,9 +99,9 @@ fn put_disk<A: Allocator + Copy, W: Sink>(
 }
 
 // Puts what is told of a disk that is too small for an image.
-#[tactic(auto, using(dc_stream::proofs::Pieces::written))]
+#[tactic(auto, using(dc_io::proofs::Pieces::written))]
 fn put_small<W: Sink>(out: &mut W, sectors: u32) -> Result<(), IoFault>
-    ensures { Wrote W.written W.put_failures result out.old out.new
+    ensures { Wrote W.Sink result out.old out.new
         (disk_line sectors ++ refused_line NotImage) }
 {
     put_number_line(out, b"DISK", u64::from(sectors))?;
@@ -193,7 +194,7 @@ pub fn inspect<D: Disk, A: Allocator + Copy, W: Sink>(
     // What is told is the state that the image reads as, or the image's one refusal.
     ensures told { D.keeps disk.new → IfOk result (λ refusal.
         Tells (D.sectors disk.old) (D.reads disk.old) refusal
-        (Puts (W.written writer.old) (W.written writer.new))) }
+        (PutsInto W.Sink writer.old writer.new)) }
     ensures well { OnOk result ((D.failures disk.new ≡ D.failures disk.old)
         × (W.put_failures writer.new ≡ W.put_failures writer.old)) }
 

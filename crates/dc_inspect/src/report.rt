@@ -1,23 +1,22 @@
 //! The engine of `report --json`: a table of what an image holds, as JSON Lines.
 
 ghost use Rattle.std.specs.Prelude.{◌≡◌, ◌≢◌, ◌≤◌, ◌<◌, Err, IfOk, IfErr, OnOk, IsErrOf};
-ghost use Rattle.dc_base.specs.Failures.{HasRisen};
+ghost use Rattle.dc_io.specs.Failures.{HasRisen};
 ghost use Rattle.dc_recovery.specs.Halves.{fewest_sectors, half_len_of};
 ghost use Rattle.dc_recovery.specs.Refusal.{IsRefused, TellsOfImage};
 ghost use Rattle.dc_recovery.specs.Stands.{EachStands, StandsForOne};
 ghost use Rattle.dc_recovery.specs.declared.fault.OpenFault.TheVariants.{NotImage, Worn, Device};
 ghost use Rattle.dc_sectors.specs.Disk.{LeavesOnly};
-ghost use Rattle.dc_stream.specs.Stream.{Puts};
+ghost use Rattle.dc_io.specs.Written.{PutsInto};
 ghost use Rattle.dc_poller.specs.Fault.{IfOpen, IsOfImage};
 ghost use Rattle.dc_inspect.specs.Report.{IsShown, table_lines};
 
-use dc_base::NoMemory;
+use dc_io::{IoFault, NoMemory, Sink};
 use dc_json::{due_json, register_json};
 use dc_meters::House;
 use dc_poller::{ProgramFault, Report};
 use dc_recovery::Store;
 use dc_sectors::Disk;
-use dc_stream::{IoFault, Sink};
 use std::alloc::Allocator;
 
 /// Opens the image, writes a table of what it holds as JSON Lines (RFC 8259), with one put, and closes it. The table
@@ -36,7 +35,7 @@ pub fn report_json_on<D: Disk + Drop, A: Allocator + Copy, W: Sink>(
     // The table is that of the state which the image reads as.
     ensures told { D.keeps result.0 → OnOk result.1
         (IsShown (half_len_of (D.sectors disk)) report (D.reads disk)
-        (Puts (W.written writer.old) (W.written writer.new))) }
+        (PutsInto W.Sink writer.old writer.new)) }
     ensures well { OnOk result.1 (W.put_failures writer.new ≡ W.put_failures writer.old) }
 
     // An image that isn't opened is refused as the store refuses it; one that stands is refused only as worn.

@@ -1,7 +1,7 @@
 //! What was seen of an image, as text.
 
 ghost use Rattle.std.specs.Prelude.{◌≤◌, ◌++◌};
-ghost use Rattle.dc_stream.specs.Stream.{Wrote};
+ghost use Rattle.dc_io.specs.Written.{Wrote};
 ghost use Rattle.dc_recovery.specs.Halves.{half_start, half_end, longest_half};
 ghost use Rattle.dc_inspect.specs.Text.{held_words, number_line, pair_line, place_text};
 ghost use Rattle.dc_inspect.specs.Text.{readings_words, fault_words, refused_line, refusal_text};
@@ -9,16 +9,15 @@ ghost use Rattle.dc_inspect.specs.Text.{root_words, sector_word, serial_word, sl
 ghost use Rattle.dc_inspect.specs.Text.{summary_text};
 
 use crate::summary::Summary;
+use dc_io::{IoFault, Sink, put_fault, put_number_word};
 use dc_recovery::{Found, OpenFault, half_end, half_start};
 use dc_roots::{Held, Root};
-use dc_stream::{IoFault, Sink};
-use dc_text::{put_fault, put_number_word};
 use std::alloc::Allocator;
 
 /// Puts a line of a name and a number.
-#[tactic(auto, using(dc_stream::proofs::Pieces::written), unfolding(crate::specs::Text::number_line))]
+#[tactic(auto, using(dc_io::proofs::Pieces::written), unfolding(crate::specs::Text::number_line))]
 pub(crate) fn put_number_line<W: Sink>(out: &mut W, name: &[u8], number: u64) -> Result<(), IoFault>
-    ensures { Wrote W.written W.put_failures result out.old out.new (number_line name.now number) }
+    ensures { Wrote W.Sink result out.old out.new (number_line name.now number) }
 {
     out.put(name)?;
     put_number_word(out, number)?;
@@ -26,9 +25,9 @@ pub(crate) fn put_number_line<W: Sink>(out: &mut W, name: &[u8], number: u64) ->
 }
 
 // Puts a line of a name and two numbers.
-#[tactic(auto, using(dc_stream::proofs::Pieces::written), unfolding(crate::specs::Text::pair_line))]
+#[tactic(auto, using(dc_io::proofs::Pieces::written), unfolding(crate::specs::Text::pair_line))]
 fn put_pair_line<W: Sink>(out: &mut W, name: &[u8], first: u64, second: u64) -> Result<(), IoFault>
-    ensures { Wrote W.written W.put_failures result out.old out.new
+    ensures { Wrote W.Sink result out.old out.new
         (pair_line name.now first second) }
 {
     out.put(name)?;
@@ -38,9 +37,9 @@ fn put_pair_line<W: Sink>(out: &mut W, name: &[u8], first: u64, second: u64) -> 
 }
 
 // Puts what a root says.
-#[tactic(auto, using(dc_stream::proofs::Pieces::written), unfolding(crate::specs::Text::root_words))]
+#[tactic(auto, using(dc_io::proofs::Pieces::written), unfolding(crate::specs::Text::root_words))]
 fn put_root<W: Sink>(out: &mut W, root: &Root) -> Result<(), IoFault>
-    ensures { Wrote W.written W.put_failures result out.old out.new (root_words root.now) }
+    ensures { Wrote W.Sink result out.old out.new (root_words root.now) }
 {
     put_number_word(out, u64::from(root.version))?;
     put_number_word(out, root.generation)?;
@@ -51,7 +50,7 @@ fn put_root<W: Sink>(out: &mut W, root: &Root) -> Result<(), IoFault>
 
 // Puts what a slot holds.
 fn put_held<W: Sink>(out: &mut W, held: &Held) -> Result<(), IoFault>
-    ensures { Wrote W.written W.put_failures result out.old out.new (held_words held.now) }
+    ensures { Wrote W.Sink result out.old out.new (held_words held.now) }
 {
     match held {
         Held::Valid(root) => put_root(out, root),
@@ -61,9 +60,9 @@ fn put_held<W: Sink>(out: &mut W, held: &Held) -> Result<(), IoFault>
 }
 
 /// Puts the line of a root slot.
-#[tactic(auto, using(dc_stream::proofs::Pieces::written), unfolding(crate::specs::Text::slot_line))]
+#[tactic(auto, using(dc_io::proofs::Pieces::written), unfolding(crate::specs::Text::slot_line))]
 pub(crate) fn put_slot<W: Sink>(out: &mut W, slot: u8, held: &Held) -> Result<(), IoFault>
-    ensures { Wrote W.written W.put_failures result out.old out.new (slot_line slot held.now) }
+    ensures { Wrote W.Sink result out.old out.new (slot_line slot held.now) }
 {
     out.put(b"ROOT")?;
     put_number_word(out, u64::from(slot))?;
@@ -71,7 +70,7 @@ pub(crate) fn put_slot<W: Sink>(out: &mut W, slot: u8, held: &Held) -> Result<()
 }
 
 /// Puts where the groups lie that lead to the state.
-#[tactic(auto, using(dc_stream::proofs::Pieces::written), unfolding(crate::specs::Text::place_text))]
+#[tactic(auto, using(dc_io::proofs::Pieces::written), unfolding(crate::specs::Text::place_text))]
 pub(crate) fn put_place<A: Allocator + Copy, W: Sink>(
     out: &mut W,
     half_len: u32,
@@ -81,7 +80,7 @@ pub(crate) fn put_place<A: Allocator + Copy, W: Sink>(
     requires half { found.now.root.half ≤ 1 }
     requires from { half_start half_len found.now.root.half ≤ found.now.place }
     requires within { found.now.place ≤ half_end half_len found.now.root.half }
-    ensures { Wrote W.written W.put_failures result out.old out.new
+    ensures { Wrote W.Sink result out.old out.new
         (place_text half_len found.now.root found.now.last found.now.place) }
 {
     let Found {
@@ -101,7 +100,7 @@ pub(crate) fn put_place<A: Allocator + Copy, W: Sink>(
 // Puts a serial, if there is one.
 #[tactic(auto, unfolding(crate::specs::Text::serial_word))]
 fn put_serial<W: Sink>(out: &mut W, serial: Option<u64>) -> Result<(), IoFault>
-    ensures { Wrote W.written W.put_failures result out.old out.new (serial_word serial) }
+    ensures { Wrote W.Sink result out.old out.new (serial_word serial) }
 {
     match serial {
         Some(serial) => put_number_word(out, serial),
@@ -110,9 +109,9 @@ fn put_serial<W: Sink>(out: &mut W, serial: Option<u64>) -> Result<(), IoFault>
 }
 
 // Puts how many readings there are, and the first and the last serial, after a name.
-#[tactic(auto, using(dc_stream::proofs::Pieces::written), unfolding(crate::specs::Text::readings_words))]
+#[tactic(auto, using(dc_io::proofs::Pieces::written), unfolding(crate::specs::Text::readings_words))]
 fn put_readings<W: Sink>(out: &mut W, name: &[u8], sum: &Summary) -> Result<(), IoFault>
-    ensures { Wrote W.written W.put_failures result out.old out.new
+    ensures { Wrote W.Sink result out.old out.new
         (readings_words name.now sum.now) }
 {
     out.put(name)?;
@@ -123,9 +122,9 @@ fn put_readings<W: Sink>(out: &mut W, name: &[u8], sum: &Summary) -> Result<(), 
 }
 
 /// Puts what a state is summed up as.
-#[tactic(auto, using(dc_stream::proofs::Pieces::written), unfolding(crate::specs::Text::summary_text))]
+#[tactic(auto, using(dc_io::proofs::Pieces::written), unfolding(crate::specs::Text::summary_text))]
 pub(crate) fn put_summary<W: Sink>(out: &mut W, sum: &Summary) -> Result<(), IoFault>
-    ensures { Wrote W.written W.put_failures result out.old out.new (summary_text sum.now) }
+    ensures { Wrote W.Sink result out.old out.new (summary_text sum.now) }
 {
     put_pair_line(out, b"SIZE", u64::from(sum.size), u64::from(sum.budget))?;
     put_number_line(out, b"METERS", sum.meters as u64)?;
@@ -137,7 +136,7 @@ pub(crate) fn put_summary<W: Sink>(out: &mut W, sum: &Summary) -> Result<(), IoF
 // Puts the sector of a damaged image.
 #[tactic(auto, unfolding(crate::specs::Text::sector_word))]
 fn put_sector<W: Sink>(out: &mut W, fault: OpenFault) -> Result<(), IoFault>
-    ensures { Wrote W.written W.put_failures result out.old out.new (sector_word fault) }
+    ensures { Wrote W.Sink result out.old out.new (sector_word fault) }
 {
     match fault {
         OpenFault::Damaged(sector) => put_number_word(out, u64::from(sector)),
@@ -146,14 +145,14 @@ fn put_sector<W: Sink>(out: &mut W, fault: OpenFault) -> Result<(), IoFault>
 }
 
 // Puts a fault and its sector.
-#[tactic(auto, using(dc_stream::proofs::Pieces::written), unfolding(crate::specs::Text::fault_words))]
+#[tactic(auto, using(dc_io::proofs::Pieces::written), unfolding(crate::specs::Text::fault_words))]
 fn put_fault_words<W: Sink>(
     out: &mut W,
     number: u8,
     name: &str,
     fault: OpenFault,
 ) -> Result<(), IoFault>
-    ensures { Wrote W.written W.put_failures result out.old out.new
+    ensures { Wrote W.Sink result out.old out.new
         (fault_words number name.now fault) }
 {
     put_fault(out, number, name)?;
@@ -162,7 +161,7 @@ fn put_fault_words<W: Sink>(
 }
 
 // Puts a fault and its sector after a word.
-#[tactic(auto, using(dc_stream::proofs::Pieces::written))]
+#[tactic(auto, using(dc_io::proofs::Pieces::written))]
 fn put_refused<W: Sink>(
     out: &mut W,
     what: &[u8],
@@ -170,7 +169,7 @@ fn put_refused<W: Sink>(
     name: &str,
     fault: OpenFault,
 ) -> Result<(), IoFault>
-    ensures { Wrote W.written W.put_failures result out.old out.new
+    ensures { Wrote W.Sink result out.old out.new
         (what.now ++ fault_words number name.now fault) }
 {
     out.put(what)?;
@@ -179,14 +178,14 @@ fn put_refused<W: Sink>(
 
 /// Puts why an image doesn't open.
 pub(crate) fn put_refused_line<W: Sink>(out: &mut W, fault: OpenFault) -> Result<(), IoFault>
-    ensures { Wrote W.written W.put_failures result out.old out.new (refused_line fault) }
+    ensures { Wrote W.Sink result out.old out.new (refused_line fault) }
 {
     put_refused(out, b"REFUSED ", fault.number(), fault.name(), fault)
 }
 
 /// Puts why an image doesn't open, if it doesn't.
 pub(crate) fn put_refusal<W: Sink>(out: &mut W, refusal: Option<OpenFault>) -> Result<(), IoFault>
-    ensures { Wrote W.written W.put_failures result out.old out.new (refusal_text refusal) }
+    ensures { Wrote W.Sink result out.old out.new (refusal_text refusal) }
 {
     match refusal {
         Some(fault) => put_refused_line(out, fault),

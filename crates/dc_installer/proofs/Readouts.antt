@@ -3,8 +3,8 @@ use Rattle.std.proofs.Common.{◌≡◌, ◌⊎◌, ℕ, ◌-◌, ◌≤◌, Lis
 use Rattle.std.specs.Prelude.{option_map}
 use Rattle.dc_linkframe.specs.Frame.{spelling}
 use Rattle.dc_readout.specs.Summary.{Summary, asked_by, verdict_by}
-use Rattle.dc_stream.specs.Stream.{Puts, PutsFront}
-use Rattle.dc_stream.proofs.Pieces.{puts-both, puts-none, puts_front-first, puts_front-second}
+use Rattle.dc_io.specs.Stream.{Puts, PutsFront}
+use Rattle.dc_io.proofs.Pieces.{puts-both, puts-none, puts_front-first, puts_front-second}
 use Rattle.dc_installer.specs.Read.{IsReadOn, Reads, after, printed}
 
 module _ {B : Type 0} (asks : B → List ℕ → List ℕ → B → Type 0) where

@@ -5,7 +5,7 @@ use Rattle.dc_readout.specs.Summary.{Summary, Verdict, again, ready, new, failed
 use Rattle.dc_readout.specs.Summary.{heard_by, settled_by, verdict_by}
 use Rattle.dc_gateway.specs.Bus.{AreExchanged, Exchange}
 use Rattle.dc_core.specs.Text.{failed_text}
-use Rattle.dc_teller.specs.Frames.{all_shown, frames_of}
+use Rattle.dc_decode.specs.Frames.{all_shown, frames_of}
 
 -- the most requests of a readout: three tries at a reset, a selection and each of 32 parts, and one look more
 abbrev pub most_requests : ℕ

@@ -10,7 +10,7 @@ use Rattle.dc_linkframe.specs.Reading.{frame_of}
 use Rattle.dc_poller.specs.Search.{search_text, search_text_after}
 use Rattle.dc_search.specs.Answer.{answer_of}
 use Rattle.dc_search.specs.State.{SearchState, is_idle, step_of}
-use Rattle.dc_text.specs.Words.{number_word}
+use Rattle.dc_io.specs.Words.{number_word}
 
 -- A wildcard search that ended within its budget: the bus settled before it, and its requests are all that went out.
 pub record IsLook {B : Type 0} (settles : B → B → Type 0) (ready : B → Bool)

@@ -2,23 +2,22 @@
 
 ghost use Rattle.std.specs.Prelude.{◌≡◌, ◌≤◌, ◌-◌, true, List, ℕ, OnOk, OnErr};
 ghost use Rattle.std.specs.List.{range_with_len};
-ghost use Rattle.dc_base.specs.Failures.{HasRisen};
+ghost use Rattle.dc_io.specs.Failures.{HasRisen};
 ghost use Rattle.dc_gateway.specs.Bus.{AreExchanged, Exchange};
 ghost use Rattle.dc_search.specs.Answer.{answer_of};
 ghost use Rattle.dc_linkframe.specs.Control.{request_to, reset_to};
 ghost use Rattle.dc_linkframe.specs.Frame.{spelling};
 ghost use Rattle.dc_linkframe.specs.Reading.{frame_of};
-ghost use Rattle.dc_stream.specs.Stream.{Puts, Wrote};
+ghost use Rattle.dc_io.specs.Written.{PutsInto, Wrote};
 ghost use Rattle.dc_installer.specs.Scan.{AsksEach, AsksOne, Identifies, address_line, greatest};
 ghost use Rattle.dc_installer.specs.Scan.{identity_word, is_ack};
 
 use dc_address::{Identity, Primary};
 use dc_gateway::Bus;
+use dc_io::{IoFault, Sink, put_number_word};
 use dc_linkframe::control::{write_request, write_reset};
 use dc_linkframe::{Frame, FrameBuf, parse};
 use dc_search::meter_of;
-use dc_stream::{IoFault, Sink};
-use dc_text::put_number_word;
 
 // The greatest primary address.
 const GREATEST: u8 = 250;
@@ -32,7 +31,7 @@ pub fn scan_primary<B: Bus, W: Sink>(bus: &mut B, out: &mut W) -> Result<(), IoF
     ensures asked { OnOk result ((exchanges : List Exchange) × (text : List ℕ)
         × AreExchanged B.asks bus.old exchanges bus.new
         × AsksEach (range_with_len 1 greatest) exchanges text
-        × Puts (W.written out.old) (W.written out.new) text) }
+        × PutsInto W.Sink out.old out.new text) }
     ensures failed { OnErr result (HasRisen (W.put_failures out.old) (W.put_failures out.new)) }
     ensures well { OnOk result (W.put_failures out.new ≡ W.put_failures out.old) }
 {
@@ -59,7 +58,7 @@ fn scan_last<B: Bus, W: Sink>(left: u8, bus: &mut B, out: &mut W) -> Result<(), 
     ensures asked { OnOk result ((exchanges : List Exchange) × (text : List ℕ)
         × AreExchanged B.asks bus.old exchanges bus.new
         × AsksEach (range_with_len (251 - left) left) exchanges text
-        × Puts (W.written out.old) (W.written out.new) text) }
+        × PutsInto W.Sink out.old out.new text) }
     ensures failed { OnErr result (HasRisen (W.put_failures out.old) (W.put_failures out.new)) }
     ensures well { OnOk result (W.put_failures out.new ≡ W.put_failures out.old) }
 {
@@ -75,7 +74,7 @@ fn scan_last<B: Bus, W: Sink>(left: u8, bus: &mut B, out: &mut W) -> Result<(), 
 fn scan_one<B: Bus, W: Sink>(address: u8, bus: &mut B, out: &mut W) -> Result<(), IoFault>
     ensures asked { OnOk result ((exchanges : List Exchange) × (line : List ℕ)
         × AreExchanged B.asks bus.old exchanges bus.new × AsksOne address exchanges line
-        × Puts (W.written out.old) (W.written out.new) line) }
+        × PutsInto W.Sink out.old out.new line) }
     ensures failed { OnErr result (HasRisen (W.put_failures out.old) (W.put_failures out.new)) }
     ensures well { OnOk result (W.put_failures out.new ≡ W.put_failures out.old) }
 {
@@ -108,9 +107,9 @@ fn requests<B: Bus>(bus: &mut B, address: u8) -> Option<Identity>
     meter_of(answer.as_slice())
 }
 
-#[tactic(auto, using(dc_stream::proofs::Pieces::joined))]
+#[tactic(auto, using(dc_io::proofs::Pieces::joined))]
 fn put_address<W: Sink>(address: u8, meter: Option<Identity>, out: &mut W) -> Result<(), IoFault>
-    ensures { Wrote W.written W.put_failures result out.old out.new (address_line address meter) }
+    ensures { Wrote W.Sink result out.old out.new (address_line address meter) }
 {
     out.put(b"ADDRESS")?;
     put_number_word(out, address as u64)?;
@@ -118,9 +117,9 @@ fn put_address<W: Sink>(address: u8, meter: Option<Identity>, out: &mut W) -> Re
     out.put(b"\n")
 }
 
-#[tactic(auto, using(dc_stream::proofs::Pieces::written))]
+#[tactic(auto, using(dc_io::proofs::Pieces::written))]
 fn put_identity<W: Sink>(meter: Option<Identity>, out: &mut W) -> Result<(), IoFault>
-    ensures { Wrote W.written W.put_failures result out.old out.new (identity_word meter) }
+    ensures { Wrote W.Sink result out.old out.new (identity_word meter) }
 {
     match meter {
         Some(meter) => {

@@ -2,21 +2,22 @@
 
 ghost use Rattle.std.specs.Prelude.{◌≡◌, ◌≤◌, ℕ, List, None, Some, IfOk, OnOk, OnErr, length};
 ghost use Rattle.std.specs.Prelude.{option_map};
-ghost use Rattle.dc_base.specs.Failures.{HasRisen};
+ghost use Rattle.dc_io.specs.Failures.{HasRisen};
 ghost use Rattle.dc_core.specs.Step.{longest_request};
 ghost use Rattle.dc_linkframe.specs.Frame.{spelling};
-ghost use Rattle.dc_stream.specs.Stream.{Puts, PutsFront, Wrote};
+ghost use Rattle.dc_io.specs.Stream.{PutsFront};
+ghost use Rattle.dc_io.specs.Written.{PutsInto, Wrote};
 ghost use Rattle.dc_readout.specs.Summary.{asked_by, begun, verdict_by};
 ghost use Rattle.dc_readout.specs.Seen.{verdict};
 ghost use Rattle.dc_installer.specs.Read.{IsCutOff, IsReadOn, after, most_requests, printed};
 
 use dc_address::{Identity, Primary};
 use dc_core::{LineHeard, put_heard};
+use dc_decode::put_frames;
 use dc_gateway::Bus;
+use dc_io::{IoFault, Sink};
 use dc_linkframe::FrameBuf;
 use dc_readout::{Heard, Session};
-use dc_stream::{IoFault, Sink};
-use dc_teller::put_frames;
 
 // Three tries at a reset, a selection and each of 32 parts, and one look more.
 const MOST_REQUESTS: u8 = 103;
@@ -44,7 +45,7 @@ pub fn read<B: Bus, W: Sink>(
 ) -> Result<Readout, IoFault>
     ensures read { OnOk result (IsReadOn B.asks bus.old bus.new
         (begun meter.now address) most_requests
-        (Puts (W.written out.old) (W.written out.new))) }
+        (PutsInto W.Sink out.old out.new)) }
     ensures unwritten { OnErr result (IsCutOff B.asks bus.old bus.new (begun meter.now address)
         (PutsFront (W.written out.old) (W.written out.new))) }
     ensures failed { OnErr result (HasRisen (W.put_failures out.old) (W.put_failures out.new)) }
@@ -61,7 +62,7 @@ fn read_on<B: Bus, W: Sink>(
     out: &mut W,
 ) -> Result<Readout, IoFault>
     ensures read { OnOk result (IsReadOn B.asks bus.old bus.new session left
-        (Puts (W.written out.old) (W.written out.new))) }
+        (PutsInto W.Sink out.old out.new)) }
     ensures unwritten { OnErr result (IsCutOff B.asks bus.old bus.new session
         (PutsFront (W.written out.old) (W.written out.new))) }
     ensures failed { OnErr result (HasRisen (W.put_failures out.old) (W.put_failures out.new)) }
@@ -93,7 +94,7 @@ fn exchange<B: Bus, W: Sink>(
     ensures { (answer : List ℕ) × B.asks bus.old request.now answer bus.new
         × IfOk result (λ readout. (session.new ≡ after session.old answer)
         × (readout ≡ Readout.Failed → asked_by session.new ≡ None))
-        × Wrote W.written W.put_failures result out.old out.new
+        × Wrote W.Sink result out.old out.new
         (printed (verdict_by session.old answer) answer) }
 {
     let answer = bus.ask(request);
@@ -112,7 +113,7 @@ fn exchange<B: Bus, W: Sink>(
 
 // Prints a telegram, or why the readout failed.
 fn put_read<W: Sink>(heard: &Heard<'_>, answer: &[u8], out: &mut W) -> Result<(), IoFault>
-    ensures { Wrote W.written W.put_failures result out.old out.new
+    ensures { Wrote W.Sink result out.old out.new
         (printed (verdict heard.now) answer.now) }
 {
     match heard {

@@ -1,17 +1,16 @@
 //! The wildcard search for meters.
 
 ghost use Rattle.std.specs.Prelude.{◌≡◌, ◌+◌, ◌≤◌, IfOk, OnOk, IsErrOf};
-ghost use Rattle.dc_base.specs.Failures.{HasRisen};
-ghost use Rattle.dc_stream.specs.Stream.{Puts};
+ghost use Rattle.dc_io.specs.Failures.{HasRisen};
+ghost use Rattle.dc_io.specs.Written.{PutsInto};
 ghost use Rattle.dc_poller.specs.ScriptLine.{greatest_budget};
 ghost use Rattle.dc_poller.specs.Search.{search_text, search_text_after};
 ghost use Rattle.dc_installer.specs.Scan.{IsLook, Scanned, finds_nobody, is_enough};
 
-use dc_base::NoMemory;
 use dc_gateway::search_over;
+use dc_io::{IoFault, NoMemory, Sink};
 use dc_poller::{ScriptBus, put_search, put_search_after};
 use dc_search::Search;
-use dc_stream::{IoFault, Sink};
 use std::alloc::Allocator;
 use thiserror::Error;
 
@@ -42,7 +41,7 @@ pub fn scan<A: Allocator + Copy, B: ScriptBus, W: Sink>(
     out: &mut W,
 ) -> Result<(), ScanFault>
     ensures scanned { OnOk result (Scanned B.settles B.ready B.asks B.meters budget bus.old bus.new
-        (Puts (W.written out.old) (W.written out.new))) }
+        (PutsInto W.Sink out.old out.new)) }
     ensures write { IsErrOf result ScanFault.Write
         → HasRisen (W.put_failures out.old) (W.put_failures out.new) }
     ensures unwritten { IsErrOf result ScanFault.NoMemory → out.new ≡ out.old }
@@ -96,7 +95,7 @@ fn print_first<A: Allocator + Copy, W: Sink>(
     search: &Search<A>,
     out: &mut W,
 ) -> Result<(), ScanFault>
-    ensures text { OnOk result (Puts (W.written out.old) (W.written out.new)
+    ensures text { OnOk result (PutsInto W.Sink out.old out.new
         (search_text search.now)) }
     ensures write { IsErrOf result ScanFault.Write
         → HasRisen (W.put_failures out.old) (W.put_failures out.new) }
@@ -114,7 +113,7 @@ fn print_second<A: Allocator + Copy, W: Sink>(
     out: &mut W,
 ) -> Result<(), ScanFault>
     requires { before + search.now.selections ≤ greatest_budget }
-    ensures text { OnOk result (Puts (W.written out.old) (W.written out.new)
+    ensures text { OnOk result (PutsInto W.Sink out.old out.new
         (search_text_after before search.now)) }
     ensures write { IsErrOf result ScanFault.Write
         → HasRisen (W.put_failures out.old) (W.put_failures out.new) }

@@ -1,7 +1,7 @@
 -- Puts one after the other: no put, one put, one chain and then another; and where a chain breaks.
 use Rattle.std.proofs.Common.{◌≡◌, ℕ, List, [], ◌∷◌, ◌++◌, refl, ap, ◌∙◌, sym, append_assoc, subst}
 use Rattle.std.proofs.lemmas.List.{append-nil}
-use Rattle.dc_stream.specs.Chain.{IsRun, joined, IsChain, IsBroken}
+use Rattle.dc_io.specs.Chain.{IsRun, joined, IsChain, IsBroken}
 
 pub joined-append : (front back : List (List ℕ)) → joined (front ++ back) ≡ joined front ++ joined back
 joined-append [] back = refl

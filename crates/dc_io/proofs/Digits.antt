@@ -6,8 +6,8 @@ use Rattle.std.proofs.lemmas.Bool.Decides.{nat_tests}
 use Rattle.std.specs.Io.KnownBytes.{prepend_known}
 use Rattle.std.specs.List.{AllByRecursion}
 use Rattle.std.specs.Prelude.{codes}
-use Rattle.dc_text.specs.Hex.{digit_value, pair_value, onto_bytes, bytes_of, upper_digit, upper_pair, upper_hex}
-use Rattle.dc_text.specs.Words.{hex_word}
+use Rattle.dc_io.specs.Hex.{digit_value, pair_value, onto_bytes, bytes_of, upper_digit, upper_pair, upper_hex}
+use Rattle.dc_io.specs.Words.{hex_word}
 
 pub hex_of_none : upper_hex [] ≡ []
 unfolding upper_hex

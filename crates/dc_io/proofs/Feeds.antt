@@ -1,7 +1,7 @@
 -- The first line of a text.
 use Rattle.std.proofs.Common.{eqb-true, ◌≡◌, ℕ, suc, ◌<◌, List, [], ◌∷◌, ◌++◌, length, get_or, Bool, true, false, cond, refl, ap, arith}
 use Rattle.std.specs.Prelude.{◌==◌}
-use Rattle.dc_teller.specs.Lines.{LacksFeed, lines_of, onto_first}
+use Rattle.dc_io.specs.Lines.{LacksFeed, lines_of, onto_first}
 
 -- the byte at no place below the length is a line feed
 abbrev pub HasNoFeed : List ℕ → Type 0

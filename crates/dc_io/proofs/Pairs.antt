@@ -2,7 +2,7 @@
 use Rattle.std.proofs.Common.{◌≡◌, ℕ, suc, ◌+◌, ◌*◌, ◌%◌, ◌<◌, ◌≤◌, List, [], ◌∷◌, ◌++◌, length, take, drop, set, get_or, Option, Some, None, refl, ap, sym, ◌∙◌, arith, append_assoc, append-nil, drop-cons}
 use Rattle.std.proofs.lemmas.Grind.{common_steps}
 use Rattle.std.specs.Io.KnownBytes.{prepend_known}
-use Rattle.dc_text.specs.Hex.{digit_value, pair_value, onto_bytes, bytes_of}
+use Rattle.dc_io.specs.Hex.{digit_value, pair_value, onto_bytes, bytes_of}
 
 none_onto : (byte : Option ℕ) → onto_bytes byte None ≡ None
 none_onto None = refl

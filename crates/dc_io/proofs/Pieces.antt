@@ -7,7 +7,7 @@ use Rattle.std.proofs.Math.ListN.{take-append-drop}
 use Rattle.std.specs.Prelude.{nat_eq}
 use Rattle.std.specs.List.{starts_with}
 use Rattle.std.specs.Io.KnownBytes.{append_known, prepend_known}
-use Rattle.dc_stream.specs.Stream.{Takes, Puts, begins_with, PutsFront}
+use Rattle.dc_io.specs.Stream.{Takes, Puts, begins_with, PutsFront}
 
 -- a piece that went in, and what is to follow it
 pub append_known-more : (known : Option (List ℕ)) (front back : List ℕ) → append_known (append_known known front) back ≡ append_known known (front ++ back)

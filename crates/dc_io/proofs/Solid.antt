@@ -1,7 +1,7 @@
 -- A line with no space.
 use Rattle.std.proofs.Common.{◌≡◌, ℕ, suc, ◌<◌, List, [], ◌∷◌, length, get_or, Bool, true, false, cond, filter, refl, ap, arith}
 use Rattle.std.specs.Prelude.{◌==◌, not}
-use Rattle.dc_teller.specs.Lines.{is_solid}
+use Rattle.dc_io.specs.Lines.{is_solid}
 
 pub filter_solid : (s : List ℕ) → ((k : ℕ) → k < length s → ¬ ((get_or s k 0 == 32) ≡ true)) → filter is_solid s ≡ s
 filter_solid [] none = refl

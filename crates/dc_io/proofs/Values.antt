@@ -2,8 +2,8 @@
 use Rattle.std.proofs.Common.{◌≡◌, ℕ, zero, suc, ◌+◌, ◌<◌, ◌≤◌, Bool, true, false, ◌&&◌, List, [], ◌∷◌, length, get_or, Option, Some, None, refl, ap, sym, ◌∙◌, arith, add-zero, eqb-true}
 use Rattle.std.specs.Prelude.{◌==◌, nat_lt, if◌then◌else◌}
 use Rattle.std.proofs.lemmas.Bool.{and_parts}
-use Rattle.dc_text.specs.declared.hex.TheConstants.{VALUES}
-use Rattle.dc_text.specs.Hex.{digit_value}
+use Rattle.dc_io.specs.declared.hex.TheConstants.{VALUES}
+use Rattle.dc_io.specs.Hex.{digit_value}
 
 -- the value that a place of the table stands for
 abbrev pub value_from : ℕ → Option ℕ

@@ -1,15 +1,15 @@
 -- The faults that stop an engine over lines, by number and by name (this product).
 use Rattle.std.specs.Prelude.{ℕ, List, codes}
-use Rattle.dc_teller.specs.declared.fault.TellFault.{TellFault}
-use Rattle.dc_teller.specs.declared.fault.TellFault.TheVariants.{Read, TooLong, Write, NoMemory}
+use Rattle.dc_io.specs.declared.text_fault.TextFault.{TextFault}
+use Rattle.dc_io.specs.declared.text_fault.TextFault.TheVariants.{Read, TooLong, Write, NoMemory}
 
-abbrev pub number_of : TellFault → ℕ
+abbrev pub number_of : TextFault → ℕ
 number_of Read = 1
 number_of TooLong = 2
 number_of Write = 3
 number_of NoMemory = 4
 
-abbrev pub name_of : TellFault → List ℕ
+abbrev pub name_of : TextFault → List ℕ
 name_of Read = codes "Read"
 name_of TooLong = codes "TooLong"
 name_of Write = codes "Write"

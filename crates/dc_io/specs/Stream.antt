@@ -1,10 +1,9 @@
 -- What a take and a put do to the bytes that a source has left and a sink holds (this product's reader and
 -- writer). `None` stands for bytes that aren't told, and stays.
-use Rattle.std.specs.Prelude.{◌≡◌, ℕ, List, [], IfSome, OnOk, OnErr, Option, Some, None, Result}
+use Rattle.std.specs.Prelude.{◌≡◌, ℕ, List, [], IfSome, Option, Some, None}
 use Rattle.std.specs.Prelude.{Bool, true, false, nat_eq}
 use Rattle.std.specs.Io.KnownBytes.{prepend_known, append_known}
 use Rattle.std.specs.List.{starts_with}
-use Rattle.dc_base.specs.Failures.{HasRisen}
 
 -- the bytes that were left are these, and then those that are left
 abbrev pub Takes : Option (List ℕ) → Option (List ℕ) → List ℕ → Type 0
@@ -29,13 +28,3 @@ begins_with (Some all) (Some front) = starts_with nat_eq all front
 -- back may lose of the old ones too.
 pub record PutsFront (old new : Option (List ℕ)) (bytes : List ℕ) : Type 0 where
   pub begins : begins_with (append_known old bytes) new ≡ true
-
--- Where the answer is Ok, the bytes were put and no put failed. Where it isn't, a put failed, and what is written is a
--- prefix of what would have been: after the failed put nothing was put.
-abbrev pub Wrote : {S X E : Type 0} → (S → Option (List ℕ)) → (S → ℕ) → Result X E → S → S → List ℕ
-    → Type 0
-Wrote written failures result old new bytes =
-    OnOk result (Puts (written old) (written new) bytes)
-    × OnOk result (failures new ≡ failures old)
-    × OnErr result (PutsFront (written old) (written new) bytes)
-    × OnErr result (HasRisen (failures old) (failures new))

@@ -1,6 +1,6 @@
 -- What a line of text is made of (this product).
 use Rattle.std.specs.Prelude.{ℕ, List, [], ◌∷◌, ◌++◌, codes, decimal}
-use Rattle.dc_text.specs.Hex.{upper_pair, upper_hex}
+use Rattle.dc_io.specs.Hex.{upper_pair, upper_hex}
 
 -- a number in decimal
 abbrev pub number_word : ℕ → List ℕ

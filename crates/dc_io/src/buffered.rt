@@ -1,11 +1,13 @@
 //! A sink that goes on to its writer in large pieces.
 
 ghost use Rattle.std.specs.Prelude.{◌≡◌, ◌+◌, ◌≤◌, ◌↔◌, ◌++◌, [], length, take, IsTrue, IfOk};
+ghost use Rattle.std.specs.Prelude.{OnOk, OnErr};
 ghost use Rattle.std.specs.Io.KnownBytes.{append_known};
-ghost use Rattle.dc_stream.specs.Stream.{Wrote};
+ghost use Rattle.dc_io.specs.Failures.{HasRisen};
+ghost use Rattle.dc_io.specs.Stream.{Puts, PutsFront};
+ghost use Rattle.dc_io.specs.Written.{Wrote};
 
-use dc_base::NoMemory;
-use dc_stream::{IoFault, Sink, room};
+use crate::{IoFault, NoMemory, Sink, room};
 use std::alloc::Allocator;
 use std::marker::Model;
 
@@ -22,7 +24,7 @@ pub struct Buffered<W: Sink + Drop, A: Allocator> {
 
 impl<W: Sink + Drop, A: Allocator> Model for Buffered<W, A> {
     ghost use Rattle.std.specs.Prelude.{◌≤◌, take, vec_len};
-    ghost use Rattle.dc_text.specs.Buffered.{Holding};
+    ghost use Rattle.dc_io.specs.Buffered.{Holding};
 
     ghost Value = { Holding W };
 
@@ -53,7 +55,7 @@ impl<W: Sink + Drop, A: Allocator> Buffered<W, A> {
 
     /// Writes what is buffered.
     pub fn flush(&mut self) -> Result<(), IoFault>
-        ensures wrote { Wrote W.written W.put_failures result self.old.writer self.new.writer
+        ensures wrote { Wrote W.Sink result self.old.writer self.new.writer
             self.old.held }
         ensures empty { self.new.held ≡ [] }
     {
@@ -65,7 +67,7 @@ impl<W: Sink + Drop, A: Allocator> Buffered<W, A> {
 
     /// Writes what is buffered, and gives the writer back with the answer.
     pub fn finish(self) -> (W, Result<(), IoFault>)
-        ensures { Wrote W.written W.put_failures result.1 self.writer result.0 self.held }
+        ensures { Wrote W.Sink result.1 self.writer result.0 self.held }
     {
         let mut all = self;
         let put = all.flush();
@@ -93,10 +95,17 @@ impl<W: Sink + Drop, A: Allocator> Buffered<W, A> {
 
     // Writes what is buffered, and then a piece that had no place after it.
     #[cold]
-    #[tactic(auto, using(dc_stream::proofs::Pieces::written))]
+    #[tactic(auto, using(crate::proofs::Pieces::written))]
     fn put_past(&mut self, piece: &[u8]) -> Result<(), IoFault>
-        ensures { Wrote (λ b. append_known (W.written b.writer) b.held)
-            (λ b. W.put_failures b.writer) result self.old self.new piece.now }
+        ensures bytes { OnOk result (Puts (append_known (W.written self.old.writer) self.old.held)
+            (append_known (W.written self.new.writer) self.new.held) piece.now) }
+        ensures well { OnOk result
+            (W.put_failures self.new.writer ≡ W.put_failures self.old.writer) }
+        ensures err { OnErr result
+            (PutsFront (append_known (W.written self.old.writer) self.old.held)
+            (append_known (W.written self.new.writer) self.new.held) piece.now) }
+        ensures failed { OnErr result
+            (HasRisen (W.put_failures self.old.writer) (W.put_failures self.new.writer)) }
     {
         self.flush()?;
         if self.has_place(piece.len()) {
@@ -113,7 +122,7 @@ impl<W: Sink + Drop, A: Allocator> Sink for Buffered<W, A> {
     ghost put_failures = { λ b. W.put_failures b.writer };
 
     #[inline]
-    #[tactic(auto, using(dc_stream::proofs::Pieces::written))]
+    #[tactic(auto, using(crate::proofs::Pieces::written))]
     fn put(&mut self, piece: &[u8]) -> Result<(), IoFault> {
         if self.has_place(piece.len()) {
             self.hold(piece);

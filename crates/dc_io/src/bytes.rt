@@ -2,10 +2,10 @@
 
 ghost use Rattle.std.specs.Prelude.{◌≡◌, ◌+◌, ◌-◌, ◌^◌, ◌<◌, ◌≤◌, min, ◌++◌, [], length, take};
 ghost use Rattle.std.specs.Prelude.{drop, Some, Ok, IfOk, OnOk, OnErr};
-ghost use Rattle.dc_stream.specs.Stream.{Takes, PutsFront, IsAtEnd};
+ghost use Rattle.dc_io.specs.Stream.{Takes, PutsFront, IsAtEnd};
 
 use crate::stream::{IoFault, Sink, Source};
-use dc_base::{NoMemory, one_failure_more};
+use crate::{NoMemory, one_failure_more};
 use std::alloc::Allocator;
 use std::marker::Model;
 
@@ -20,7 +20,7 @@ pub struct Bytes<A: Allocator> {
 
 impl<A: Allocator> Model for Bytes<A> {
     ghost use Rattle.std.specs.Prelude.{◌≤◌, vec_len};
-    ghost use Rattle.dc_stream.specs.Bytes.{Stored};
+    ghost use Rattle.dc_io.specs.Bytes.{Stored};
 
     ghost Value = { Stored };
 

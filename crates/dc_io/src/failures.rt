@@ -1,7 +1,7 @@
 //! How failures are counted.
 
 ghost use Rattle.std.specs.Prelude.{◌≡◌, ◌+◌, ◌-◌, ◌^◌, min};
-ghost use Rattle.dc_base.specs.Failures.{HasRisen};
+ghost use Rattle.dc_io.specs.Failures.{HasRisen};
 
 /// The count after one more failure; at `u64::MAX` it stays.
 pub const fn one_failure_more(failures: u64) -> u64

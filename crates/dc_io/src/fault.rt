@@ -1,15 +1,15 @@
 //! Faults by number and name.
 
-ghost use Rattle.dc_stream.specs.Stream.{Wrote};
-ghost use Rattle.dc_text.specs.Words.{fault_text, fault_line};
+ghost use Rattle.dc_io.specs.Written.{Wrote};
+ghost use Rattle.dc_io.specs.Words.{fault_text, fault_line};
 
 use crate::number::put_number;
-use dc_stream::{IoFault, Sink};
+use crate::{IoFault, Sink};
 
 /// Puts a fault's number and its name: `n Name`.
-#[tactic(auto, using(dc_stream::proofs::Pieces::written), unfolding(crate::specs::Words::fault_text))]
+#[tactic(auto, using(crate::proofs::Pieces::written), unfolding(crate::specs::Words::fault_text))]
 pub fn put_fault<W: Sink>(out: &mut W, number: u8, name: &str) -> Result<(), IoFault>
-    ensures { Wrote W.written W.put_failures result out.old out.new (fault_text number name.now) }
+    ensures { Wrote W.Sink result out.old out.new (fault_text number name.now) }
 {
     put_number(out, u64::from(number))?;
     out.put(b" ")?;
@@ -17,14 +17,14 @@ pub fn put_fault<W: Sink>(out: &mut W, number: u8, name: &str) -> Result<(), IoF
 }
 
 /// Puts the line of what is at fault: `WHAT n Name`.
-#[tactic(auto, using(dc_stream::proofs::Pieces::written), unfolding(crate::specs::Words::fault_line))]
+#[tactic(auto, using(crate::proofs::Pieces::written), unfolding(crate::specs::Words::fault_line))]
 pub fn put_fault_line<W: Sink>(
     out: &mut W,
     what: &[u8],
     number: u8,
     name: &str,
 ) -> Result<(), IoFault>
-    ensures { Wrote W.written W.put_failures result out.old out.new
+    ensures { Wrote W.Sink result out.old out.new
         (fault_line what.now number name.now) }
 {
     out.put(what)?;

@@ -2,8 +2,8 @@
 
 ghost use Rattle.std.specs.Prelude.{◌≡◌, ◌+◌, ◌-◌, ◌^◌, ◌≤◌, ◌<◌, min, ◌++◌, [], length, Some};
 
+use crate::one_failure_more;
 use crate::stream::{IoFault, Sink};
-use dc_base::one_failure_more;
 use std::marker::Model;
 
 /// At most `N` bytes, in the order in which they were put.
@@ -16,7 +16,7 @@ pub struct FixedSink<const N: usize> {
 
 impl<const N: usize> Model for FixedSink<N> {
     ghost use Rattle.std.specs.Prelude.{◌≤◌, take};
-    ghost use Rattle.dc_stream.specs.Bytes.{Filled};
+    ghost use Rattle.dc_io.specs.Bytes.{Filled};
 
     ghost Value = { Filled };
 

@@ -2,11 +2,11 @@
 
 ghost use Rattle.std.specs.Prelude.{◌≡◌, ◌*◌, ◌<◌, ◌≤◌, length, take, Some, None, MatchOption};
 ghost use Rattle.std.specs.Prelude.{IfSome};
-ghost use Rattle.dc_stream.specs.Stream.{Wrote};
-ghost use Rattle.dc_text.specs.Hex.{digit_value, bytes_of, upper_digit, upper_pair, upper_hex};
-ghost use Rattle.dc_text.specs.Words.{byte_word, hex_word};
+ghost use Rattle.dc_io.specs.Written.{Wrote};
+ghost use Rattle.dc_io.specs.Hex.{digit_value, bytes_of, upper_digit, upper_pair, upper_hex};
+ghost use Rattle.dc_io.specs.Words.{byte_word, hex_word};
 
-use dc_stream::{IoFault, Sink};
+use crate::{IoFault, Sink};
 
 // The value of each character as a hex digit, or 255.
 static VALUES: [u8; 256] = [
@@ -75,15 +75,15 @@ fn pair_of(byte: u8) -> [u8; 2]
 /// Puts a byte in two capital hex digits.
 #[inline]
 pub fn put_byte<W: Sink>(out: &mut W, byte: u8) -> Result<(), IoFault>
-    ensures { Wrote W.written W.put_failures result out.old out.new (upper_pair byte) }
+    ensures { Wrote W.Sink result out.old out.new (upper_pair byte) }
 {
     out.put(&pair_of(byte))
 }
 
 /// Puts bytes in capital hex digits.
-#[tactic(auto, using(dc_stream::proofs::Pieces::joined, crate::proofs::Digits::digits))]
+#[tactic(auto, using(crate::proofs::Pieces::joined, crate::proofs::Digits::digits))]
 pub fn put_hex<W: Sink>(out: &mut W, bytes: &[u8]) -> Result<(), IoFault>
-    ensures { Wrote W.written W.put_failures result out.old out.new (upper_hex bytes.now) }
+    ensures { Wrote W.Sink result out.old out.new (upper_hex bytes.now) }
 {
     'bytes: for byte in bytes {
         put_byte(out, *byte)?;
@@ -92,18 +92,18 @@ pub fn put_hex<W: Sink>(out: &mut W, bytes: &[u8]) -> Result<(), IoFault>
 }
 
 /// Puts a space and a byte in two capital hex digits.
-#[tactic(auto, using(dc_stream::proofs::Pieces::written))]
+#[tactic(auto, using(crate::proofs::Pieces::written))]
 pub fn put_byte_word<W: Sink>(out: &mut W, byte: u8) -> Result<(), IoFault>
-    ensures { Wrote W.written W.put_failures result out.old out.new (byte_word byte) }
+    ensures { Wrote W.Sink result out.old out.new (byte_word byte) }
 {
     out.put(b" ")?;
     put_byte(out, byte)
 }
 
 /// Puts a space and bytes in capital hex digits; `-` stands for no bytes.
-#[tactic(auto, using(dc_stream::proofs::Pieces::written, crate::proofs::Digits::words))]
+#[tactic(auto, using(crate::proofs::Pieces::written, crate::proofs::Digits::words))]
 pub fn put_hex_word<W: Sink>(out: &mut W, bytes: &[u8]) -> Result<(), IoFault>
-    ensures { Wrote W.written W.put_failures result out.old out.new (hex_word bytes.now) }
+    ensures { Wrote W.Sink result out.old out.new (hex_word bytes.now) }
 {
     if bytes.is_empty() {
         return out.put(b" -");

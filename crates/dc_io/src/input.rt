@@ -2,12 +2,12 @@
 
 ghost use Rattle.std.specs.Prelude.{◌≡◌, ◌⊎◌, ◌<◌, ◌≤◌, length, vec_len, IfOk, IfErr, OnOk};
 ghost use Rattle.std.specs.Prelude.{IsErrOf};
-ghost use Rattle.dc_base.specs.Failures.{HasRisen};
-ghost use Rattle.dc_stream.specs.Stream.{Takes, IsAtEnd};
-ghost use Rattle.dc_teller.specs.Lines.{most_input};
+ghost use Rattle.dc_io.specs.Failures.{HasRisen};
+ghost use Rattle.dc_io.specs.Stream.{Takes, IsAtEnd};
+ghost use Rattle.dc_io.specs.Lines.{most_input};
 
-use crate::fault::TellFault;
-use dc_stream::Source;
+use crate::Source;
+use crate::text_fault::TextFault;
 use std::alloc::Allocator;
 
 /// How many bytes one read asks for.
@@ -21,31 +21,31 @@ pub fn read_input<A: Allocator, R: Source>(
     alloc: A,
     reader: &mut R,
     chunk: &mut [u8],
-) -> Result<Vec<u8, A>, TellFault>
+) -> Result<Vec<u8, A>, TextFault>
     requires { 0 < length chunk.old }
     ensures bytes { IfOk result (λ input.
         Takes (R.left reader.old) (R.left reader.new) input.items) }
     ensures end { IfOk result (λ input. vec_len input ≤ most_input → IsAtEnd (R.left reader.new)) }
     ensures faults { IfErr result (λ fault.
-        (fault ≡ TellFault.Read) ⊎ (fault ≡ TellFault.NoMemory)) }
+        (fault ≡ TextFault.Read) ⊎ (fault ≡ TextFault.NoMemory)) }
     ensures ok { OnOk result (R.take_failures reader.new ≡ R.take_failures reader.old) }
-    ensures read { IsErrOf result TellFault.Read
+    ensures read { IsErrOf result TextFault.Read
         → HasRisen (R.take_failures reader.old) (R.take_failures reader.new) }
 {
     // So that no growth follows: a read that begins at the limit still fits.
     let Ok(mut input) = Vec::with_capacity(alloc, MOST + CHUNK) else {
-        return Err(TellFault::NoMemory);
+        return Err(TextFault::NoMemory);
     };
     'takes: while input.len() <= MOST {
         let Ok(count) = reader.take(chunk) else {
-            return Err(TellFault::Read);
+            return Err(TextFault::Read);
         };
         if count == 0 {
             return Ok(input);
         }
         let (given, _) = chunk.split_at(count);
         if input.extend_from_slice(given).is_err() {
-            return Err(TellFault::NoMemory);
+            return Err(TextFault::NoMemory);
         }
     }
     Ok(input)

@@ -1,12 +1,50 @@
-//! What every layer shares: the answer that memory was refused, and the word for a counted failure.
+//! Where bytes come from and go to, what they spell as text, and how an input comes apart into lines.
 //!
-//! A disk, a reader and a writer each count their failures, and each says of a failed call that the
-//! count has risen. So a caller that answers a device's fault can be held to it: the fault is answered
-//! only where the count rose.
+//! [`Source`] and [`Sink`] are the readers and writers of this product. They give their bytes where they can and count
+//! their failures, so that a function that reports a fault can be held to a failure that happened: [`Bytes`] is both
+//! over memory, [`FixedSink`] a sink of fixed room that takes no memory, [`Buffered`] a sink that goes on to its
+//! writer in large pieces. [`ReadSource`] and [`WriteSink`] are those of std: they give no bytes of their own, but
+//! their contracts name the calls of std's reader and writer.
+//!
+//! Text: numbers in decimal ([`put_number`]), bytes in capital hex digits ([`put_byte`], [`put_hex`]), a fault as its
+//! number and name ([`put_fault`]), each into any [`Sink`] and without memory. One word of the contract says that the
+//! bytes went out, so that a chain of puts proves by itself. [`decode_hex`] reads hex digits of either case.
+//!
+//! Input: [`read_input`] reads a whole input of at most 1 MiB, and [`first_line`] takes its lines one by one.
+//!
+//! Laws: [`lines_end_at_feeds`], [`hex_is_read_back`].
 #![tactic(auto)]
 
+mod buffered;
+mod bytes;
 mod failures;
+mod fault;
+mod fixed_sink;
+mod hex;
+mod input;
+mod laws;
+mod lines;
 mod memory;
+mod number;
+mod read_source;
+mod spaces;
+mod stream;
+mod text_fault;
+mod write_sink;
 
+pub use buffered::Buffered;
+pub use bytes::Bytes;
 pub use failures::one_failure_more;
-pub use memory::NoMemory;
+pub use fault::{put_fault, put_fault_line};
+pub use fixed_sink::FixedSink;
+pub use hex::{decode_hex, put_byte, put_byte_word, put_hex, put_hex_word};
+pub use input::{CHUNK, MOST, read_input};
+pub use laws::{hex_is_read_back, lines_end_at_feeds};
+pub use lines::{LONGEST, first_line};
+pub use memory::{NoMemory, room};
+pub use number::{put_number, put_number_word};
+pub use read_source::ReadSource;
+pub use spaces::{lacks_space, squeeze_into};
+pub use stream::{IoFault, Sink, Source};
+pub use text_fault::TextFault;
+pub use write_sink::WriteSink;

@@ -1,7 +1,7 @@
 //! The lines of an input.
 
 ghost use Rattle.std.specs.Prelude.{◌≡◌, ◌<◌, ◌∷◌, length};
-ghost use Rattle.dc_teller.specs.Lines.{lines_of};
+ghost use Rattle.dc_io.specs.Lines.{lines_of};
 
 use memchr::memchr;
 

@@ -1,6 +1,8 @@
-//! Out of memory.
+//! Out of memory, and memory for bytes that are read or held back.
 
-use std::alloc::{AllocError, AllocFailed};
+ghost use Rattle.std.specs.Prelude.{◌≡◌, vec_len, IfOk};
+
+use std::alloc::{AllocError, AllocFailed, Allocator};
 use thiserror::Error;
 
 /// Memory was refused.
@@ -18,4 +20,12 @@ impl<T: Drop> From<AllocFailed<T>> for NoMemory {
     fn from(_refused: AllocFailed<T>) -> NoMemory {
         NoMemory
     }
+}
+
+/// Allocates this many bytes. Their values are left open: a proof that saw them would write them out.
+pub fn room<A: Allocator>(alloc: A, len: usize) -> Result<Vec<u8, A>, NoMemory>
+    ensures { IfOk result (λ bytes. vec_len bytes ≡ len) }
+{
+    let bytes = vec![in alloc; 0u8; len]?;
+    Ok(bytes)
 }

@@ -1,24 +1,24 @@
 //! Numbers in decimal.
 
 ghost use Rattle.std.specs.Prelude.{decimal};
-ghost use Rattle.dc_stream.specs.Stream.{Wrote};
-ghost use Rattle.dc_text.specs.Words.{number_word};
+ghost use Rattle.dc_io.specs.Written.{Wrote};
+ghost use Rattle.dc_io.specs.Words.{number_word};
 
-use dc_stream::{IoFault, Sink};
+use crate::{IoFault, Sink};
 use itoa::Buffer;
 
 /// Puts a number in decimal.
 pub fn put_number<W: Sink>(out: &mut W, number: u64) -> Result<(), IoFault>
-    ensures { Wrote W.written W.put_failures result out.old out.new (decimal number) }
+    ensures { Wrote W.Sink result out.old out.new (decimal number) }
 {
     let mut digits = Buffer::new();
     out.put(digits.format(number).as_bytes())
 }
 
 /// Puts a space and a number in decimal.
-#[tactic(auto, using(dc_stream::proofs::Pieces::written, std::proofs::lemmas::Fmt::decimal_digit))]
+#[tactic(auto, using(crate::proofs::Pieces::written, std::proofs::lemmas::Fmt::decimal_digit))]
 pub fn put_number_word<W: Sink>(out: &mut W, number: u64) -> Result<(), IoFault>
-    ensures { Wrote W.written W.put_failures result out.old out.new (number_word number) }
+    ensures { Wrote W.Sink result out.old out.new (number_word number) }
 {
     // Most numbers of a telegram have one digit.
     if number < 10 {

@@ -2,10 +2,10 @@
 
 ghost use Rattle.std.specs.Prelude.{◌≡◌, ◌≤◌, None, length, IfOk, OnOk, OnErr};
 ghost use Rattle.std.specs.Io.KnownBytes.{Keeps, ReadConsumes};
-ghost use Rattle.dc_base.specs.Failures.{HasRisen};
+ghost use Rattle.dc_io.specs.Failures.{HasRisen};
 
+use crate::one_failure_more;
 use crate::stream::{IoFault, Source};
-use dc_base::one_failure_more;
 use std::io::{ErrorKind, Read};
 
 /// A reader of std as a source.

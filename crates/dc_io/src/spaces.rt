@@ -1,7 +1,7 @@
 //! A line without its spaces.
 
 ghost use Rattle.std.specs.Prelude.{◌≡◌, ◌≤◌, length, take, filter, IsTrue};
-ghost use Rattle.dc_teller.specs.Lines.{is_solid};
+ghost use Rattle.dc_io.specs.Lines.{is_solid};
 
 use memchr::memchr;
 

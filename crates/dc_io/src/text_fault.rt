@@ -1,15 +1,15 @@
 //! What stops an engine over lines.
 
 ghost use Rattle.std.specs.Prelude.{◌≡◌};
-ghost use Rattle.dc_teller.specs.Fault.{number_of, name_of};
-ghost use Rattle.dc_teller.specs.declared.fault.TellFault.TheVariants.{NoMemory};
+ghost use Rattle.dc_io.specs.Fault.{number_of, name_of};
+ghost use Rattle.dc_io.specs.declared.text_fault.TextFault.TheVariants.{NoMemory};
 
-use dc_base::NoMemory;
+use crate::NoMemory;
 use thiserror::Error;
 
 /// Why an input wasn't told (this product).
 #[derive(Clone, Copy, Debug, PartialEq, Eq, Error)]
-pub enum TellFault {
+pub enum TextFault {
     /// A read failed.
     #[error("the input can't be read")]
     Read,
@@ -24,16 +24,16 @@ pub enum TellFault {
     NoMemory,
 }
 
-impl TellFault {
+impl TextFault {
     /// 1 to 4.
     pub fn number(&self) -> u8
         ensures { result ≡ number_of self.now }
     {
         match self {
-            TellFault::Read => 1,
-            TellFault::TooLong => 2,
-            TellFault::Write => 3,
-            TellFault::NoMemory => 4,
+            TextFault::Read => 1,
+            TextFault::TooLong => 2,
+            TextFault::Write => 3,
+            TextFault::NoMemory => 4,
         }
     }
 
@@ -42,18 +42,18 @@ impl TellFault {
         ensures { result.now ≡ name_of self.now }
     {
         match self {
-            TellFault::Read => "Read",
-            TellFault::TooLong => "TooLong",
-            TellFault::Write => "Write",
-            TellFault::NoMemory => "NoMemory",
+            TextFault::Read => "Read",
+            TextFault::TooLong => "TooLong",
+            TextFault::Write => "Write",
+            TextFault::NoMemory => "NoMemory",
         }
     }
 }
 
-impl From<NoMemory> for TellFault {
+impl From<NoMemory> for TextFault {
     ghost from_gives = { λ _ fault. fault ≡ NoMemory };
 
-    fn from(_refused: NoMemory) -> TellFault {
-        TellFault::NoMemory
+    fn from(_refused: NoMemory) -> TextFault {
+        TextFault::NoMemory
     }
 }

@@ -2,11 +2,11 @@
 
 ghost use Rattle.std.specs.Prelude.{◌≡◌, ◌≤◌, None, length, IfOk, OnOk, OnErr};
 ghost use Rattle.std.specs.Io.KnownBytes.{Keeps, Appends};
-ghost use Rattle.dc_base.specs.Failures.{HasRisen};
-ghost use Rattle.dc_stream.specs.Stream.{PutsFront};
+ghost use Rattle.dc_io.specs.Failures.{HasRisen};
+ghost use Rattle.dc_io.specs.Stream.{PutsFront};
 
+use crate::one_failure_more;
 use crate::stream::{IoFault, Sink};
-use dc_base::one_failure_more;
 use std::io::Write;
 
 /// A writer of std as a sink. A put into a buffered writer isn't out before [`WriteSink::flush`].

@@ -2,9 +2,9 @@
 use Rattle.std.proofs.Common.{◌≡◌, ℕ, ◌+◌, Bool, Option, None, List, [], ◌∷◌, ◌++◌, map, refl, ap, sym, ◌∙◌, append_assoc, append-nil}
 use Rattle.std.specs.Prelude.{◌||◌}
 use Rattle.json.specs.Json.{Json}
-use Rattle.dc_teller.specs.Frames.{is_bad, any_bad}
-use Rattle.dc_teller.specs.Text.{decoded, is_bad_line, any_bad_line}
-use Rattle.dc_teller.proofs.Steps.{or_assoc, or_false}
+use Rattle.dc_decode.specs.Frames.{is_bad, any_bad}
+use Rattle.dc_decode.specs.Text.{decoded, is_bad_line, any_bad_line}
+use Rattle.dc_io.proofs.Bools.{or_assoc, or_false}
 use Rattle.dc_json.specs.Frame.{text_json, hex_fault_json}
 use Rattle.dc_json.specs.Text.{value_line, lines_text, decoded_objects, line_objects, objects_from}
 

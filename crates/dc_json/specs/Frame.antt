@@ -12,7 +12,7 @@ use Rattle.dc_records.specs.declared.fault.BodyFault.{BodyFault}
 use Rattle.dc_records.specs.Fault as records
 use Rattle.dc_records.specs.Telegram.{Parsed, telegram_at}
 use Rattle.dc_names.specs.Fields.{control_name, ci_name}
-use Rattle.dc_teller.specs.Frames.{read_as}
+use Rattle.dc_decode.specs.Frames.{read_as}
 use Rattle.dc_json.specs.Object.{Field, object_of, count}
 use Rattle.dc_json.specs.Telegram.{telegram_fields}
 

@@ -3,9 +3,9 @@ use Rattle.std.specs.Prelude.{ℕ, ◌+◌, List, [], ◌∷◌, ◌++◌, flat_
 use Rattle.json.specs.Json.{Json}
 use Rattle.json.specs.Print.{print}
 use Rattle.json.specs.Tree.{json_tokens}
-use Rattle.dc_teller.specs.Frames.{frames_of}
-use Rattle.dc_teller.specs.Lines.{lines_of}
-use Rattle.dc_teller.specs.Text.{decoded}
+use Rattle.dc_decode.specs.Frames.{frames_of}
+use Rattle.dc_io.specs.Lines.{lines_of}
+use Rattle.dc_decode.specs.Text.{decoded}
 use Rattle.dc_json.specs.Frame.{text_json, hex_fault_json}
 
 -- a value and a line feed

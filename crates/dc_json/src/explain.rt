@@ -3,20 +3,20 @@
 //! Its text has no contract of its own: it is proved safe, and its faults are those of `decode_lines`.
 
 ghost use Rattle.std.specs.Prelude.{◌≡◌, ◌≢◌, ◌<◌, ◌≤◌, length, IfSome, IfErr, OnOk, IsErrOf};
-ghost use Rattle.dc_base.specs.Failures.{HasRisen};
-ghost use Rattle.dc_teller.specs.Lines.{longest_input_line, most_input, most_spelled};
+ghost use Rattle.dc_io.specs.Failures.{HasRisen};
+ghost use Rattle.dc_io.specs.Lines.{longest_input_line, most_input, most_spelled};
 
 use crate::place::{body_place, frame_place};
 use crate::table::put_telegram_table;
+use dc_decode::{decode_line, first_frame, read_frame};
+use dc_io::{
+    Bytes, CHUNK, IoFault, LONGEST, MOST, Sink, Source, TextFault, first_line, put_byte, put_fault,
+    put_number, read_input, room,
+};
 use dc_linkframe::Frame;
 use dc_linkframe::control::VARIABLE_DATA;
 use dc_names::{ci_name, control_name};
 use dc_records::Telegram;
-use dc_stream::{Bytes, IoFault, Sink, Source, room};
-use dc_teller::{
-    CHUNK, LONGEST, MOST, TellFault, decode_line, first_frame, first_line, read_frame, read_input,
-};
-use dc_text::{put_byte, put_fault, put_number};
 use std::alloc::Allocator;
 
 // The bytes of a long frame in front of its body.
@@ -168,33 +168,33 @@ fn put_lines<W: Sink>(
 /// The whole input is read, and the whole text made, before anything is written.
 ///
 /// # Errors
-/// [`TellFault::Read`] and [`TellFault::Write`] where that end failed, [`TellFault::TooLong`] over 1 MiB,
-/// [`TellFault::NoMemory`] where memory was refused. Only after `Write` may something have been written.
+/// [`TextFault::Read`] and [`TextFault::Write`] where that end failed, [`TextFault::TooLong`] over 1 MiB,
+/// [`TextFault::NoMemory`] where memory was refused. Only after `Write` may something have been written.
 pub fn explain_lines<A: Allocator + Copy, R: Source, W: Sink>(
     alloc: A,
     reader: &mut R,
     writer: &mut W,
-) -> Result<bool, TellFault>
+) -> Result<bool, TextFault>
     // An input over the limit is refused, and no other is refused for its length.
     ensures fits { OnOk result (IfSome (R.left reader.old) (λ input. length input ≤ most_input)) }
-    ensures too_long { IsErrOf result TellFault.TooLong
+    ensures too_long { IsErrOf result TextFault.TooLong
         → IfSome (R.left reader.old) (λ input. most_input < length input) }
 
     // A fault of an end is answered only where that end counted a failure.
-    ensures read { IsErrOf result TellFault.Read
+    ensures read { IsErrOf result TextFault.Read
         → HasRisen (R.take_failures reader.old) (R.take_failures reader.new) }
-    ensures write { IsErrOf result TellFault.Write
+    ensures write { IsErrOf result TextFault.Write
         → HasRisen (W.put_failures writer.old) (W.put_failures writer.new) }
 
     // After any fault but a failed write the writer is as it was.
-    ensures untouched { IfErr result (λ fault. fault ≢ TellFault.Write → writer.new ≡ writer.old) }
+    ensures untouched { IfErr result (λ fault. fault ≢ TextFault.Write → writer.new ≡ writer.old) }
 {
     let mut digits = room(alloc, LONGEST)?;
     let mut bytes = room(alloc, LONGEST / 2)?;
     let mut chunk = room(alloc, CHUNK)?;
     let input = read_input(alloc, reader, chunk.as_mut_slice())?;
     if input.len() > MOST {
-        return Err(TellFault::TooLong);
+        return Err(TextFault::TooLong);
     }
     let mut text = Bytes::new(alloc);
     let put = put_lines(
@@ -204,10 +204,10 @@ pub fn explain_lines<A: Allocator + Copy, R: Source, W: Sink>(
         bytes.as_mut_slice(),
     );
     let Ok(found) = put else {
-        return Err(TellFault::NoMemory);
+        return Err(TextFault::NoMemory);
     };
     match writer.put(text.as_slice()) {
         Ok(()) => Ok(found),
-        Err(_) => Err(TellFault::Write),
+        Err(_) => Err(TextFault::Write),
     }
 }

@@ -2,7 +2,7 @@
 
 ghost use Rattle.std.specs.Prelude.{◌≡◌, ◌∷◌, [], ◌++◌, codes, Err, IfOk};
 ghost use Rattle.dc_linkframe.specs.Frame.{seen, long};
-ghost use Rattle.dc_teller.specs.Frames.{is_bad_content, is_bad_frame, is_bad};
+ghost use Rattle.dc_decode.specs.Frames.{is_bad_content, is_bad_frame, is_bad};
 ghost use Rattle.dc_json.specs.Object.{Adds, fields_tokens};
 ghost use Rattle.dc_json.specs.Frame.{fault_fields, fault_field, place_fields, link_fields};
 ghost use Rattle.dc_json.specs.Frame.{ci_fields, bytes_field, body_fields, content_fields};
@@ -10,12 +10,12 @@ ghost use Rattle.dc_json.specs.Frame.{frame_fields, read_fields, text_fields};
 
 use crate::put::{begin_object, end_object, put_count, put_hex, put_name, put_text};
 use crate::telegram::put_telegram;
-use dc_base::NoMemory;
+use dc_decode::read_frame;
+use dc_io::NoMemory;
 use dc_linkframe::control::VARIABLE_DATA;
 use dc_linkframe::{Frame, FrameFault};
 use dc_names::{ci_name, control_name};
 use dc_records::{BodyFault, Telegram};
-use dc_teller::read_frame;
 use json::Writer;
 use std::alloc::Allocator;
 
@@ -136,7 +136,7 @@ fn put_frame_fault<A: Allocator + Copy>(
 
 // Writes what a body has, where the CI field says that it is a telegram, else its bytes, and says whether it is at
 // fault.
-#[tactic(auto, unfolding(crate::specs::Frame::content_fields, dc_teller::specs::Frames::is_bad_content))]
+#[tactic(auto, unfolding(crate::specs::Frame::content_fields, dc_decode::specs::Frames::is_bad_content))]
 fn put_content<A: Allocator + Copy>(
     alloc: A,
     out: &mut Writer<A>,
@@ -238,7 +238,7 @@ fn put_frame<A: Allocator + Copy>(
 }
 
 /// Writes the fields of what stands for a text, and says whether a fault is among them.
-#[tactic(auto, unfolding(crate::specs::Frame::text_fields, dc_teller::specs::Frames::is_bad))]
+#[tactic(auto, unfolding(crate::specs::Frame::text_fields, dc_decode::specs::Frames::is_bad))]
 pub(crate) fn put_shown<A: Allocator + Copy>(
     alloc: A,
     out: &mut Writer<A>,

@@ -1,6 +1,6 @@
 //! What `decode` reads, as JSON Lines for programs and as a table for people; and the tables of `report` as JSON Lines.
 //!
-//! [`json_lines`] reads lines of hex digits, as [`decode_lines`](dc_teller::decode_lines) does, and writes one JSON
+//! [`json_lines`] reads lines of hex digits, as [`decode_lines`](dc_decode::decode_lines) does, and writes one JSON
 //! object for each frame and for each fault: its fields are those of link frames (EN 13757-2) and telegrams (EN
 //! 13757-3). What it writes is the text that `specs/Text.antt` defines for the whole input, byte for byte: each
 //! object is the compact text of the value that `specs/Frame.antt` gives.

@@ -2,20 +2,19 @@
 
 ghost use Rattle.std.specs.Prelude.{◌≡◌, ◌≢◌, ◌<◌, ◌≤◌, ◌++◌, length, map, IfSome, IfOk, IfErr};
 ghost use Rattle.std.specs.Prelude.{OnOk, IsErrOf};
-ghost use Rattle.dc_base.specs.Failures.{HasRisen};
-ghost use Rattle.dc_stream.specs.Stream.{Puts};
-ghost use Rattle.dc_teller.specs.Frames.{frames_of, is_bad, any_bad};
-ghost use Rattle.dc_teller.specs.Lines.{longest_input_line, most_input, most_spelled};
-ghost use Rattle.dc_teller.specs.Text.{is_bad_line, has_fault};
+ghost use Rattle.dc_io.specs.Failures.{HasRisen};
+ghost use Rattle.dc_io.specs.Written.{PutsInto};
+ghost use Rattle.dc_decode.specs.Frames.{frames_of, is_bad, any_bad};
+ghost use Rattle.dc_io.specs.Lines.{longest_input_line, most_input, most_spelled};
+ghost use Rattle.dc_decode.specs.Text.{is_bad_line, has_fault};
 ghost use Rattle.dc_json.specs.Frame.{text_json, hex_fault_json};
 ghost use Rattle.dc_json.specs.Text.{value_line, lines_text, line_objects, json_text};
 
 use crate::frame::{put_fault, put_place, put_shown};
 use crate::put::{begin_object, end_object};
-use dc_base::NoMemory;
-use dc_stream::{Sink, Source, room};
-use dc_teller::{
-    CHUNK, LONGEST, MOST, TellFault, decode_line, first_frame, first_line, read_input,
+use dc_decode::{decode_line, first_frame};
+use dc_io::{
+    CHUNK, LONGEST, MOST, NoMemory, Sink, Source, TextFault, first_line, read_input, room,
 };
 use json::Writer;
 use std::alloc::Allocator;
@@ -62,7 +61,7 @@ fn add_hex_fault<A: Allocator>(text: Vec<u8, A>, line: u64) -> Result<Vec<u8, A>
 }
 
 // Adds the objects of a line's bytes, and says whether a fault is among them.
-#[tactic(auto, using(dc_teller::proofs::Cuts::shows))]
+#[tactic(auto, using(dc_decode::proofs::Cuts::shows))]
 fn add_frames<A: Allocator + Copy>(
     alloc: A,
     text: Vec<u8, A>,
@@ -88,7 +87,7 @@ fn add_frames<A: Allocator + Copy>(
 
 // Adds the objects of a line, and says whether a fault is among them. `digits` and `bytes` are room for what is
 // decoded.
-#[tactic(auto, unfolding(crate::specs::Text::line_objects, dc_teller::specs::Text::is_bad_line))]
+#[tactic(auto, unfolding(crate::specs::Text::line_objects, dc_decode::specs::Text::is_bad_line))]
 fn add_line<A: Allocator + Copy>(
     alloc: A,
     text: Vec<u8, A>,
@@ -113,7 +112,7 @@ fn add_line<A: Allocator + Copy>(
 }
 
 // Adds the objects of an input's lines, and says whether a fault is among them.
-#[tactic(auto, using(dc_teller::proofs::Inputs::lines))]
+#[tactic(auto, using(dc_decode::proofs::Inputs::lines))]
 fn add_lines<A: Allocator + Copy>(
     alloc: A,
     input: &[u8],
@@ -151,42 +150,42 @@ fn add_lines<A: Allocator + Copy>(
 /// [`point_of`](dc_units::point_of), as `decode` prints it.
 ///
 /// # Errors
-/// [`TellFault::Read`] and [`TellFault::Write`] where that end failed, [`TellFault::TooLong`] over 1 MiB,
-/// [`TellFault::NoMemory`] where memory was refused. Only after `Write` may something have been written.
+/// [`TextFault::Read`] and [`TextFault::Write`] where that end failed, [`TextFault::TooLong`] over 1 MiB,
+/// [`TextFault::NoMemory`] where memory was refused. Only after `Write` may something have been written.
 pub fn json_lines<A: Allocator + Copy, R: Source, W: Sink>(
     alloc: A,
     reader: &mut R,
     writer: &mut W,
-) -> Result<bool, TellFault>
+) -> Result<bool, TextFault>
     // What is written is the text for the input, byte for byte.
     ensures text { OnOk result (IfSome (R.left reader.old)
-        (λ input. Puts (W.written writer.old) (W.written writer.new) (json_text input))) }
+        (λ input. PutsInto W.Sink writer.old writer.new (json_text input))) }
     // The answer says whether a fault is among it.
     ensures fault { IfOk result (λ found.
         IfSome (R.left reader.old) (λ input. found ≡ has_fault input)) }
 
     // An input over the limit is refused, and no other is refused for its length.
     ensures fits { OnOk result (IfSome (R.left reader.old) (λ input. length input ≤ most_input)) }
-    ensures too_long { IsErrOf result TellFault.TooLong
+    ensures too_long { IsErrOf result TextFault.TooLong
         → IfSome (R.left reader.old) (λ input. most_input < length input) }
 
     // A fault of an end is answered only where that end counted a failure.
-    ensures read { IsErrOf result TellFault.Read
+    ensures read { IsErrOf result TextFault.Read
         → HasRisen (R.take_failures reader.old) (R.take_failures reader.new) }
-    ensures write { IsErrOf result TellFault.Write
+    ensures write { IsErrOf result TextFault.Write
         → HasRisen (W.put_failures writer.old) (W.put_failures writer.new) }
     ensures ok { OnOk result ((R.take_failures reader.new ≡ R.take_failures reader.old)
         × (W.put_failures writer.new ≡ W.put_failures writer.old)) }
 
     // After any fault but a failed write the writer is as it was.
-    ensures untouched { IfErr result (λ fault. fault ≢ TellFault.Write → writer.new ≡ writer.old) }
+    ensures untouched { IfErr result (λ fault. fault ≢ TextFault.Write → writer.new ≡ writer.old) }
 {
     let mut digits = room(alloc, LONGEST)?;
     let mut bytes = room(alloc, LONGEST / 2)?;
     let mut chunk = room(alloc, CHUNK)?;
     let input = read_input(alloc, reader, chunk.as_mut_slice())?;
     if input.len() > MOST {
-        return Err(TellFault::TooLong);
+        return Err(TextFault::TooLong);
     }
     let (text, found) = add_lines(
         alloc,
@@ -196,6 +195,6 @@ pub fn json_lines<A: Allocator + Copy, R: Source, W: Sink>(
     )?;
     match writer.put(text.as_slice()) {
         Ok(()) => Ok(found),
-        Err(_) => Err(TellFault::Write),
+        Err(_) => Err(TextFault::Write),
     }
 }

@@ -7,7 +7,7 @@ ghost use Rattle.dc_json.specs.Meter.{identity_fields, status_fields, has_bit};
 
 use crate::put::{ascii, begin_object, end_object, put_count, put_flag, put_text};
 use dc_address::Identity;
-use dc_base::NoMemory;
+use dc_io::NoMemory;
 use dc_names::{application_name, medium_name};
 use json::Writer;
 use std::alloc::Allocator;

@@ -5,7 +5,7 @@ ghost use Rattle.hex.specs.Hex.{encode_upper};
 ghost use Rattle.json.specs.Token as Token;
 ghost use Rattle.dc_json.specs.Object.{Adds};
 
-use dc_base::NoMemory;
+use dc_io::NoMemory;
 use json::Writer;
 use std::alloc::Allocator;
 

@@ -14,7 +14,7 @@ use crate::put::{
     ascii, begin_array, begin_object, end_array, end_object, put_count, put_hex, put_name,
     put_null, put_string, put_text,
 };
-use dc_base::NoMemory;
+use dc_io::NoMemory;
 use dc_names::{Plain, function_name, plain_of, qualifiers, quantity_name, vife_name};
 use dc_records::Record;
 use dc_units::{Seen, TEXT_ROOM, Value, point_of};

@@ -1,11 +1,10 @@
 //! A telegram as an aligned table.
 
+use dc_io::{IoFault, Sink, put_byte, put_hex, put_number};
 use dc_names::{
     application_name, function_name, medium_name, plain_of, qualifiers, quantity_name, vife_name,
 };
 use dc_records::{Header, Record, Telegram};
-use dc_stream::{IoFault, Sink};
-use dc_text::{put_byte, put_hex, put_number};
 use dc_units::{Seen, TEXT_ROOM, Value, point_of};
 
 // The widths of the columns, in characters.

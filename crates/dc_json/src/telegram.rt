@@ -13,7 +13,7 @@ ghost use Rattle.dc_json.specs.Telegram.{telegram_fields};
 use crate::meter::{put_meter, put_status_object};
 use crate::put::{begin_array, end_array, put_count, put_flag, put_hex, put_name, put_null};
 use crate::record::put_record;
-use dc_base::NoMemory;
+use dc_io::NoMemory;
 use dc_records::{End, Header, Records, Telegram};
 use json::Writer;
 use std::alloc::Allocator;

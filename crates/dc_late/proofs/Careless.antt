@@ -13,10 +13,10 @@ use Rattle.dc_records.specs.Body.{Ending, more, last, content_at, front_at}
 use Rattle.dc_records.specs.Telegram.{Parsed, telegram_at}
 use Rattle.dc_readout.specs.declared.stage.Stage.{Stage}
 use Rattle.dc_readout.specs.declared.stage.Stage.TheVariants.{Resets, Requests, Pending}
-use Rattle.dc_lives.specs.Meter.{Meter, moved_by, answer_to}
-use Rattle.dc_lives.specs.declared.event.Outcome.TheVariants.{AsSent}
-use Rattle.dc_lives.specs.World.{Finished, AreRegular, IsWhole, whole_readout}
-use Rattle.dc_lives.proofs.Commits.{suc_is}
+use Rattle.dc_world.specs.Meter.{Meter, moved_by, answer_to}
+use Rattle.dc_world.specs.declared.event.Outcome.TheVariants.{AsSent}
+use Rattle.dc_world.specs.World.{Finished, AreRegular, IsWhole, whole_readout}
+use Rattle.dc_world.proofs.Commits.{suc_is}
 use Rattle.dc_late.specs.Late.{LateWorld, LateEvent, starts, exchanges, commits, AreDifferent}
 use Rattle.dc_late.specs.Without.{careless_step, careless_from, careless_after}
 

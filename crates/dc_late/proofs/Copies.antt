@@ -11,18 +11,18 @@ use Rattle.dc_readout.specs.declared.stage.Stage.{Stage}
 use Rattle.dc_readout.specs.declared.stage.Stage.TheVariants.{Resets, Selects, Requests, Pending, Ended}
 use Rattle.dc_readout.specs.Summary.{link_address, reset_of, selection_of, request_of, asked_at, asked_by}
 use Rattle.dc_address.specs.Mask.{mask_of, matches}
-use Rattle.dc_lives.specs.Meter.{Meter, Position, is_own, moved_by, answer_to, response, rsp_ud}
-use Rattle.dc_lives.specs.declared.event.Outcome.{Outcome}
-use Rattle.dc_lives.specs.declared.event.Outcome.TheVariants.{RequestLost, ReplyLost, ReplyUnreadable, AsSent}
-use Rattle.dc_lives.specs.declared.event.WorldEvent.{WorldEvent}
-use Rattle.dc_lives.specs.declared.event.WorldEvent.TheVariants.{Start, Exchange, Commit, Stop}
-use Rattle.dc_lives.specs.World.{World, Running, noise, positions_after, heard_in, exchanged as plainly_exchanged, exchanged_by as plainly_exchanged_by, world_step, world_from, world_after, new_world, AreRegular}
-use Rattle.dc_lives.specs.Reply.{bytes_of}
-use Rattle.dc_lives.specs.InStep.{HasGoneOn, IsInStep, IsAlone}
-use Rattle.dc_lives.proofs.Moves.{no_frame_of_nothing, no_frame_of_zero, selected_kept}
-use Rattle.dc_lives.proofs.Exchanges.{own_goes_on, own_selected}
-use Rattle.dc_lives.proofs.Replies.{answer_to-reset, answer_to-selection, heard_as_sent}
-use Rattle.dc_lives.proofs.Commits.{suc_is}
+use Rattle.dc_world.specs.Meter.{Meter, Position, is_own, moved_by, answer_to, response, rsp_ud}
+use Rattle.dc_world.specs.declared.event.Outcome.{Outcome}
+use Rattle.dc_world.specs.declared.event.Outcome.TheVariants.{RequestLost, ReplyLost, ReplyUnreadable, AsSent}
+use Rattle.dc_world.specs.declared.event.WorldEvent.{WorldEvent}
+use Rattle.dc_world.specs.declared.event.WorldEvent.TheVariants.{Start, Exchange, Commit, Stop}
+use Rattle.dc_world.specs.World.{World, Running, noise, positions_after, heard_in, exchanged as plainly_exchanged, exchanged_by as plainly_exchanged_by, world_step, world_from, world_after, new_world, AreRegular}
+use Rattle.dc_world.specs.Reply.{bytes_of}
+use Rattle.dc_world.specs.InStep.{HasGoneOn, IsInStep, IsAlone}
+use Rattle.dc_world.proofs.Moves.{no_frame_of_nothing, no_frame_of_zero, selected_kept}
+use Rattle.dc_world.proofs.Exchanges.{own_goes_on, own_selected}
+use Rattle.dc_world.proofs.Replies.{answer_to-reset, answer_to-selection, heard_as_sent}
+use Rattle.dc_world.proofs.Commits.{suc_is}
 use Rattle.dc_late.specs.Late.{LateWorld, LateEvent, Last, Listened, starts, passes, exchanges, commits, stops, is_copy, last_after, and_sent, listened, heard_late, exchanged, exchanged_by, started_if, is_quiet, late_step, late_from, late_after, new_late_world, in_its_time, AreDifferent, NoAnswerIsACopy}
 use Rattle.dc_late.proofs.UnderWay.{answer_no, last_at, IsLast, IsRegularLate}
 use Rattle.dc_late.proofs.Sent.{request_answered}

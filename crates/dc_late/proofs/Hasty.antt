@@ -17,10 +17,10 @@ use Rattle.dc_records.specs.Body.{more, last, content_at, front_at}
 use Rattle.dc_records.specs.Telegram.{telegram_at}
 use Rattle.dc_readout.specs.declared.stage.Stage.{Stage}
 use Rattle.dc_readout.specs.declared.stage.Stage.TheVariants.{Resets, Requests, Pending}
-use Rattle.dc_lives.specs.Meter.{Meter, first_position, moved_by, answer_to}
-use Rattle.dc_lives.specs.declared.event.Outcome.TheVariants.{RequestLost, AsSent}
-use Rattle.dc_lives.specs.World.{Running, Finished, AreRegular, IsWhole, whole_readout}
-use Rattle.dc_lives.proofs.Commits.{suc_is}
+use Rattle.dc_world.specs.Meter.{Meter, first_position, moved_by, answer_to}
+use Rattle.dc_world.specs.declared.event.Outcome.TheVariants.{RequestLost, AsSent}
+use Rattle.dc_world.specs.World.{Running, Finished, AreRegular, IsWhole, whole_readout}
+use Rattle.dc_world.proofs.Commits.{suc_is}
 use Rattle.dc_late.specs.Late.{LateWorld, LateEvent, Last, starts, exchanges, commits, stops, AreDifferent}
 use Rattle.dc_late.specs.Without.{hasty_step, hasty_from, hasty_after}
 use Rattle.dc_late.proofs.Careless.{told, wire, first_body}

@@ -20,12 +20,12 @@ use Rattle.dc_readout.specs.declared.why.Why.TheVariants.{Stranger, TooManyParts
 use Rattle.dc_readout.specs.Answer.{acknowledged, answered, missed, broken, max_parts, to_command, to_request, is_from, is_meter, by_body}
 use Rattle.dc_readout.proofs.Table.{acknowledged_when}
 use Rattle.dc_readout.specs.Summary.{request_bit, request_of, asked_at, meaning_at, after_command}
-use Rattle.dc_lives.specs.Meter.{Meter, Position, response, rsp_ud}
-use Rattle.dc_lives.specs.World.{more_in}
-use Rattle.dc_lives.specs.Reply.{bytes_of}
-use Rattle.dc_lives.specs.InStep.{HasGoneOn, IsInStep, IsAlone, IsNextBody}
-use Rattle.dc_lives.proofs.Moves.{no_frame_of_nothing}
-use Rattle.dc_lives.proofs.Exchanges.{Long, telegram_long, alone_pending}
+use Rattle.dc_world.specs.Meter.{Meter, Position, response, rsp_ud}
+use Rattle.dc_world.specs.World.{more_in}
+use Rattle.dc_world.specs.Reply.{bytes_of}
+use Rattle.dc_world.specs.InStep.{HasGoneOn, IsInStep, IsAlone, IsNextBody}
+use Rattle.dc_world.proofs.Moves.{no_frame_of_nothing}
+use Rattle.dc_world.proofs.Exchanges.{Long, telegram_long, alone_pending}
 use Rattle.dc_late.specs.Late.{Last, is_copy, last_after}
 use Rattle.dc_late.proofs.UnderWay.{answer_no, IsOld, IsNew, IsAcknowledged, IsUnreadable, IsOrdered, IsUnderWay, IsLast, last_at, all_map, old_ordered}
 use Rattle.dc_late.proofs.Sent.{Line}

@@ -12,18 +12,18 @@ use Rattle.dc_readout.specs.declared.why.Why.{Why}
 use Rattle.dc_readout.specs.Answer.{Meaning, acknowledged, answered, missed, broken}
 use Rattle.dc_readout.specs.Summary.{Verdict, again, ready, new, failed, begun, asked_by, verdict_of_meaning, verdict_by, heard_by, stage_settled, settled_by}
 use Rattle.dc_readout.proofs.Table.{answered_when}
-use Rattle.dc_lives.specs.Meter.{Meter, Position, is_own, moved_by, answer_to}
-use Rattle.dc_lives.specs.Reply.{bytes_of}
-use Rattle.dc_lives.specs.declared.event.Outcome.{Outcome}
-use Rattle.dc_lives.specs.declared.event.Outcome.TheVariants.{RequestLost, ReplyLost, ReplyUnreadable, AsSent}
-use Rattle.dc_lives.specs.World.{World, Running, positions_after, heard_in, running_after, started_by, kept, committed, committed_body, more_after, AreRegular, IsWhole, GoesOnFromCommitted}
-use Rattle.dc_lives.specs.InStep.{IsNextBody, Agrees, IsRegularWorld}
-use Rattle.dc_lives.proofs.Moves.{no_frame_of_nothing, no_frame_of_zero}
-use Rattle.dc_lives.proofs.Replies.{heard_as_sent, answer_to-reset}
-use Rattle.dc_lives.proofs.Exchanges.{own_is, not_group}
-use Rattle.dc_lives.proofs.Events.{ready_is, new_is, waits_none, waits_after, length-after, start_keeps, new_is_regular, stop_keeps, at_place}
-use Rattle.dc_lives.proofs.Commits.{pends, suc_is, commit_keeps}
-use Rattle.dc_lives.proofs.Worlds.{regular_goes_on}
+use Rattle.dc_world.specs.Meter.{Meter, Position, is_own, moved_by, answer_to}
+use Rattle.dc_world.specs.Reply.{bytes_of}
+use Rattle.dc_world.specs.declared.event.Outcome.{Outcome}
+use Rattle.dc_world.specs.declared.event.Outcome.TheVariants.{RequestLost, ReplyLost, ReplyUnreadable, AsSent}
+use Rattle.dc_world.specs.World.{World, Running, positions_after, heard_in, running_after, started_by, kept, committed, committed_body, more_after, AreRegular, IsWhole, GoesOnFromCommitted}
+use Rattle.dc_world.specs.InStep.{IsNextBody, Agrees, IsRegularWorld}
+use Rattle.dc_world.proofs.Moves.{no_frame_of_nothing, no_frame_of_zero}
+use Rattle.dc_world.proofs.Replies.{heard_as_sent, answer_to-reset}
+use Rattle.dc_world.proofs.Exchanges.{own_is, not_group}
+use Rattle.dc_world.proofs.Events.{ready_is, new_is, waits_none, waits_after, length-after, start_keeps, new_is_regular, stop_keeps, at_place}
+use Rattle.dc_world.proofs.Commits.{pends, suc_is, commit_keeps}
+use Rattle.dc_world.proofs.Worlds.{regular_goes_on}
 use Rattle.dc_late.specs.Late.{LateWorld, LateEvent, Last, Listened, starts, passes, exchanges, commits, stops, is_copy, past_copies, last_after, and_sent, first_of, listened, heard_late, exchanged_as, exchanged_by, exchanged, started_if, is_quiet, has_answer, clear_after, late_step, late_from, late_after, new_late_world}
 use Rattle.dc_late.proofs.UnderWay.{IsUnderWay, IsUnreadable, all_map, all_sent, IsLast, IsOld, IsNew, Follows, IsRegularLate, old_ordered, last_at, under_way_tail, under_way_silence, drop_keeps, past_keeps, past_is_none}
 use Rattle.dc_late.proofs.Sent.{Line, sent_on}

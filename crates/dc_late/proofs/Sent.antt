@@ -13,15 +13,15 @@ use Rattle.dc_readout.specs.declared.stage.Stage.{Stage}
 use Rattle.dc_readout.specs.declared.stage.Stage.TheVariants.{Resets, Selects, Requests, Pending, Ended}
 use Rattle.dc_readout.specs.Answer.{acknowledged, to_command}
 use Rattle.dc_readout.specs.Summary.{link_address, reset_of, selection_of, request_of, asked_at, meaning_at}
-use Rattle.dc_lives.specs.Meter.{Meter, Position, moved_by, answer_to}
-use Rattle.dc_lives.specs.declared.event.Outcome.{Outcome}
-use Rattle.dc_lives.specs.declared.event.Outcome.TheVariants.{RequestLost, ReplyLost, ReplyUnreadable, AsSent}
-use Rattle.dc_lives.specs.World.{all_moved, noise, positions_after, heard_in, AreRegular}
-use Rattle.dc_lives.specs.Reply.{bytes_of}
-use Rattle.dc_lives.specs.InStep.{HasGoneOn, IsInStep, IsAlone}
-use Rattle.dc_lives.proofs.Moves.{moved_at, no_frame_of_zero, answer_to-request}
-use Rattle.dc_lives.proofs.Exchanges.{stays, command_done, own_hears, own_goes_on, own_selected, body_at_next}
-use Rattle.dc_lives.proofs.Replies.{answer_to-reset, answer_to-selection}
+use Rattle.dc_world.specs.Meter.{Meter, Position, moved_by, answer_to}
+use Rattle.dc_world.specs.declared.event.Outcome.{Outcome}
+use Rattle.dc_world.specs.declared.event.Outcome.TheVariants.{RequestLost, ReplyLost, ReplyUnreadable, AsSent}
+use Rattle.dc_world.specs.World.{all_moved, noise, positions_after, heard_in, AreRegular}
+use Rattle.dc_world.specs.Reply.{bytes_of}
+use Rattle.dc_world.specs.InStep.{HasGoneOn, IsInStep, IsAlone}
+use Rattle.dc_world.proofs.Moves.{moved_at, no_frame_of_zero, answer_to-request}
+use Rattle.dc_world.proofs.Exchanges.{stays, command_done, own_hears, own_goes_on, own_selected, body_at_next}
+use Rattle.dc_world.proofs.Replies.{answer_to-reset, answer_to-selection}
 use Rattle.dc_late.specs.Late.{and_sent}
 use Rattle.dc_late.proofs.UnderWay.{answer_no, IsOld, IsNew, IsAcknowledged, IsUnreadable, IsUnderWay, all_map, ordered_map, all_sent, ordered_sent}
 

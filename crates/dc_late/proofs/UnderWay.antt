@@ -7,10 +7,10 @@ use Rattle.dc_linkframe.specs.Reading.{frame_of}
 use Rattle.dc_readout.specs.declared.stage.Stage.{Stage}
 use Rattle.dc_readout.specs.declared.stage.Stage.TheVariants.{Resets, Selects, Requests, Pending, Ended}
 use Rattle.dc_readout.specs.Summary.{request_of}
-use Rattle.dc_lives.specs.Meter.{Meter, Position, response}
-use Rattle.dc_lives.specs.World.{Running}
-use Rattle.dc_lives.specs.Reply.{bytes_of}
-use Rattle.dc_lives.specs.InStep.{HasGoneOn, IsInStep, IsAlone, IsRegularWorld}
+use Rattle.dc_world.specs.Meter.{Meter, Position, response}
+use Rattle.dc_world.specs.World.{Running}
+use Rattle.dc_world.specs.Reply.{bytes_of}
+use Rattle.dc_world.specs.InStep.{HasGoneOn, IsInStep, IsAlone, IsRegularWorld}
 use Rattle.dc_late.specs.Late.{LateWorld, Last, is_copy, past_copies, and_sent}
 
 -- ---- what may be under way

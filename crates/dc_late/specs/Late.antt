@@ -7,12 +7,12 @@ use Rattle.dc_linkframe.specs.Frame.{FrameSeen, ack, short, long, spelling}
 use Rattle.dc_linkframe.specs.Control.{snd_nke, selected}
 use Rattle.dc_linkframe.specs.Reading.{frame_of}
 use Rattle.dc_readout.specs.Summary.{asked_by, verdict_by}
-use Rattle.dc_lives.specs.declared.event.Outcome.{Outcome}
-use Rattle.dc_lives.specs.declared.event.WorldEvent.{WorldEvent}
-use Rattle.dc_lives.specs.declared.event.WorldEvent.TheVariants.{Start, Exchange, Commit, Stop}
-use Rattle.dc_lives.specs.Meter.{Meter, Position, moved_by, answer_to}
-use Rattle.dc_lives.specs.World.{World, Running, new_world, world_step, positions_after, heard_in}
-use Rattle.dc_lives.specs.World.{running_after}
+use Rattle.dc_world.specs.declared.event.Outcome.{Outcome}
+use Rattle.dc_world.specs.declared.event.WorldEvent.{WorldEvent}
+use Rattle.dc_world.specs.declared.event.WorldEvent.TheVariants.{Start, Exchange, Commit, Stop}
+use Rattle.dc_world.specs.Meter.{Meter, Position, moved_by, answer_to}
+use Rattle.dc_world.specs.World.{World, Running, new_world, world_step, positions_after, heard_in}
+use Rattle.dc_world.specs.World.{running_after}
 
 -- the last long frame that was heard on the line, and the request that it was heard for
 pub record Last : Type 0 where

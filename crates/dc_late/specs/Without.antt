@@ -1,6 +1,6 @@
 -- The same line without one of the two rules.
 use Rattle.std.specs.Prelude.{List, [], ◌∷◌, None, true}
-use Rattle.dc_lives.specs.Meter.{Meter}
+use Rattle.dc_world.specs.Meter.{Meter}
 use Rattle.dc_late.specs.Late.{LateWorld, LateEvent, starts, started_if, late_step, new_late_world}
 
 -- without the rule of copies: nothing that was heard is remembered

@@ -2,9 +2,9 @@
 
 ghost use Rattle.std.specs.Prelude.{◌≡◌, List, map};
 ghost use Rattle.std.specs.List.{AllByRecursion};
-ghost use Rattle.dc_lives.specs.Meter.{Meter};
-ghost use Rattle.dc_lives.specs.World.{AreRegular, IsWhole, GoesOnFromCommitted, world_after};
-ghost use Rattle.dc_lives.specs.declared.event.WorldEvent.{WorldEvent};
+ghost use Rattle.dc_world.specs.Meter.{Meter};
+ghost use Rattle.dc_world.specs.World.{AreRegular, IsWhole, GoesOnFromCommitted, world_after};
+ghost use Rattle.dc_world.specs.declared.event.WorldEvent.{WorldEvent};
 ghost use Rattle.dc_late.specs.Without.{careless_after, hasty_after};
 ghost use Rattle.dc_late.specs.Late.{AreDifferent, LateEvent, NoAnswerIsACopy, in_its_time};
 ghost use Rattle.dc_late.specs.Late.{late_after};

@@ -1,4 +1,4 @@
-//! The promises of dc_lives over a link that delivers answers late: after the time-out, as the answer to a later
+//! The promises of dc_world over a link that delivers answers late: after the time-out, as the answer to a later
 //! request, first in first out.
 //!
 //! The line layer keeps two rules. Copies: what equals, byte for byte, the last long frame that was heard on the

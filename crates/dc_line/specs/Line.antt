@@ -1,6 +1,6 @@
 -- A line over a wire, as long as it isn't lost (this product).
 use Rattle.std.specs.Prelude.{◌≡◌, ℕ, Bool, true, false, List, [], if◌then◌else◌}
-use Rattle.dc_base.specs.Failures.{HasRisen}
+use Rattle.dc_io.specs.Failures.{HasRisen}
 use Rattle.dc_line.specs.Heard.{Hearing, Answers, Sends, Waits}
 use Rattle.dc_line.specs.Wire.{Sound, AreHeard}
 use Rattle.dc_line.specs.declared.line.Line.{Line}

@@ -1,8 +1,8 @@
 -- A link of the block protocol as a bus in two halves (this product): its answers are ended, so none is late.
 use Rattle.std.specs.Prelude.{◌≡◌, ℕ, true, false, List, [], Option, Some, None}
 use Rattle.dc_gateway.specs.Asking.{Asks}
-use Rattle.dc_stream.specs.declared.stream.Sink.{Ghosts as SinkGhosts}
-use Rattle.dc_stream.specs.declared.stream.Source.{Ghosts as SourceGhosts}
+use Rattle.dc_io.specs.declared.stream.Sink.{Ghosts as SinkGhosts}
+use Rattle.dc_io.specs.declared.stream.Source.{Ghosts as SourceGhosts}
 use Rattle.dc_line.specs.declared.block_link.BlockLink.{BlockLink}
 
 -- the request is kept for the exchange, and a lost link is untouched

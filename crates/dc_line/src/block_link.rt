@@ -5,8 +5,8 @@ ghost use Rattle.dc_line.specs.Bus.{is_short};
 
 use crate::bus::{HalfBus, QuietBus};
 use dc_gateway::{AnswerBuf, Gateway};
+use dc_io::{Sink, Source};
 use dc_linkframe::FrameBuf;
-use dc_stream::{Sink, Source};
 
 /// A gateway, and the request that is to be exchanged with it. Taking the answer is the whole
 /// exchange, which waits for the answer's end; so no answer is late.

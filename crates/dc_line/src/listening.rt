@@ -1,14 +1,14 @@
 //! The two halves of an exchange over a wire.
 
 ghost use Rattle.std.specs.Prelude.{◌≡◌, ◌≤◌, ◌<◌, IfOk, OnOk, OnErr, IfSome, IfNone};
-ghost use Rattle.dc_base.specs.Failures.{HasRisen};
+ghost use Rattle.dc_io.specs.Failures.{HasRisen};
 ghost use Rattle.dc_line.specs.Heard.{Answers, Sends, Waits};
 
 use crate::hearing::Hearing;
 use crate::wire::{Came, Wire};
 use dc_gateway::{AnswerBuf, MOST_ANSWER};
+use dc_io::IoFault;
 use dc_linkframe::FrameBuf;
-use dc_stream::IoFault;
 
 /// Sends a request, after whatever came late is dropped.
 pub fn send<W: Wire>(wire: &mut W, request: &FrameBuf) -> Result<(), IoFault>

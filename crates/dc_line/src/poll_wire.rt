@@ -2,13 +2,12 @@
 
 ghost use Rattle.std.specs.Prelude.{◌≡◌, ◌≤◌, ◌<◌, length, take, IfOk, OnOk, OnErr};
 ghost use Rattle.std.specs.Io.KnownBytes.{Appends, Consumes};
-ghost use Rattle.dc_base.specs.Failures.{HasRisen};
+ghost use Rattle.dc_io.specs.Failures.{HasRisen};
 ghost use Rattle.dc_line.specs.Bus.{waits_of};
 ghost use Rattle.dc_line.specs.Wire.{FitsRoom, Wanes, bytes_of, sound_of};
 
 use crate::wire::{Came, Wire};
-use dc_base::one_failure_more;
-use dc_stream::IoFault;
+use dc_io::{IoFault, one_failure_more};
 use libc::net::{POLLIN, poll};
 use libc::types::pollfd;
 use std::io;

@@ -1,14 +1,13 @@
 //! A wire in memory, on which what a script says comes.
 
 ghost use Rattle.std.specs.Prelude.{◌≡◌, ◌≤◌, ◌<◌, length};
-ghost use Rattle.dc_base.specs.Failures.{HasRisen};
+ghost use Rattle.dc_io.specs.Failures.{HasRisen};
 ghost use Rattle.dc_line.specs.Bus.{most_waits};
 ghost use Rattle.dc_line.specs.Tape.{TapeHears, tape_waits};
 ghost use Rattle.dc_line.specs.Wire.{FitsRoom, Wanes, sound_of};
 
 use crate::wire::{Came, Wire};
-use dc_base::one_failure_more;
-use dc_stream::IoFault;
+use dc_io::{IoFault, one_failure_more};
 use std::marker::Model;
 
 /// What comes next on a tape.

@@ -1,11 +1,11 @@
 //! A line's wire, as bytes go out on it and come back.
 
 ghost use Rattle.std.specs.Prelude.{◌≡◌, ℕ, ◌≤◌, ◌<◌, List, length, IfOk, OnOk, OnErr};
-ghost use Rattle.dc_base.specs.Failures.{HasRisen};
+ghost use Rattle.dc_io.specs.Failures.{HasRisen};
 ghost use Rattle.dc_line.specs.Bus.{most_waits};
 ghost use Rattle.dc_line.specs.Wire.{FitsRoom, Sound, Wanes, sound_of};
 
-use dc_stream::IoFault;
+use dc_io::IoFault;
 
 /// What came on a wire by now.
 #[derive(Clone, Copy, Debug, PartialEq, Eq)]

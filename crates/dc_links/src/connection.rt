@@ -1,6 +1,6 @@
 //! A connection to a gateway of the block protocol: a TCP stream of blocks.
 
-use dc_stream::{ReadSource, WriteSink};
+use dc_io::{ReadSource, WriteSink};
 use std::cell::Cell;
 use std::io;
 use std::io::{ErrorKind, Read, Write};

@@ -13,6 +13,7 @@ use Rattle.std.proofs.lemmas.Bool.{and_parts}
 use Rattle.std.proofs.lemmas.Cmp.{on_total, then_total, ranked}
 use Rattle.std.proofs.lemmas.List.Elements.{All-head, All-tail}
 use Rattle.std.proofs.lemmas.Map.Keys.{sorted_head}
+use Rattle.dc_io.proofs.Bools.{or_assoc, or_false}
 use Rattle.dc_changes.specs.State.{ReadingRow}
 use Rattle.dc_meters.specs.declared.filed.Filed.{Filed}
 use Rattle.dc_meters.specs.Orders.{filed_cmp, found, AreFiled, IsUnfiled}
@@ -23,15 +24,7 @@ is_filed {K} has q r = has q.key r && is_eq (nat_cmp q.serial r.serial)
 
 pub any_push : {X : Type 0} (p : X → Bool) (xs : List X) (x : X) → list_any p (xs ++ x ∷ []) ≡ (list_any p xs || p x)
 any_push p [] x = or_false (p x)
-  where
-    or_false : (a : Bool) → (a || false) ≡ a
-    or_false true = refl
-    or_false false = refl
-any_push p (y ∷ xs) x = ap (λ (b : Bool). p y || b) (any_push p xs x) ∙ turn (p y) (list_any p xs) (p x)
-  where
-    turn : (a b c : Bool) → (a || (b || c)) ≡ ((a || b) || c)
-    turn true b c = refl
-    turn false b c = refl
+any_push p (y ∷ xs) x = ap (λ (b : Bool). p y || b) (any_push p xs x) ∙ sym (or_assoc (p y) (list_any p xs) (p x))
 
 -- no reading with a serial is among readings whose serials are below it
 pub none_yet : {K : Type 0} (has : K → ReadingRow → Bool) (q : Filed K) (n : ℕ) (readings : List ReadingRow) → All (λ r. r.serial < n) readings → is_eq (nat_cmp q.serial n) ≡ true → list_any (is_filed has q) readings ≡ false

@@ -11,6 +11,7 @@ use Rattle.std.specs.declared.cmp.Ordering.TheVariants.{Less, Equal, Greater}
 use Rattle.std.specs.Cmp.Lexicographic.{slice_cmp}
 use Rattle.std.specs.FinMap.{slice_cmp-IsAntisymmetric, nat_cmp-IsAntisymmetric}
 use Rattle.std.proofs.lemmas.Map.Steps.{set_value_same}
+use Rattle.dc_io.proofs.Bools.{or_false}
 use Rattle.dc_address.specs.declared.identity.Identity.{Identity}
 use Rattle.dc_address.specs.Identity.{identity_cmp}
 use Rattle.dc_address.proofs.Order.{same_from_tie}
@@ -117,10 +118,6 @@ and_false false = refl
 and_true : (a : Bool) → (a && true) ≡ a
 and_true true = refl
 and_true false = refl
-
-or_false : (a : Bool) → (a || false) ≡ a
-or_false true = refl
-or_false false = refl
 
 -- another meter stands at another place
 apart : (q : Place) (e : Identity × MeterRow) → is_eq (identity_cmp q.meter e.0) ≡ false → eq_by_cmp place_cmp q (place_of e) ≡ false

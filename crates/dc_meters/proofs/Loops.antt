@@ -3,8 +3,9 @@ use Rattle.std.proofs.Common.{◌≡◌, ℕ, ◌+◌, ◌<◌, List, [], ◌∷
 use Rattle.std.specs.List.{flat_map}
 use Rattle.std.proofs.lemmas.List.{append-nil, take-append-drop, take_more, drop_more}
 use Rattle.std.proofs.lemmas.List.Concat.{flat_map-append}
-use Rattle.dc_changes.specs.Writing.{IsWritten, IsStopped}
-use Rattle.dc_changes.proofs.Writes.{written_both, stopped_first, stopped_second}
+use Rattle.dc_io.specs.Written.{IsWritten, IsStopped}
+use Rattle.dc_io.specs.declared.stream.Sink.{Ghosts}
+use Rattle.dc_io.proofs.Writes.{written_both, stopped_first, stopped_second}
 
 module _ {X : Type 0} (f : X → List ℕ) (xs : List X) (i : ℕ) (x : X) where
   front_more : i < length xs → x ≡ get_or xs i x → flat_map f (take (i + 1) xs) ≡ flat_map f (take i xs) ++ f x
@@ -18,12 +19,12 @@ module _ {X : Type 0} (f : X → List ℕ) (xs : List X) (i : ℕ) (x : X) where
       ∙ ap (λ (ys : List X). flat_map f (take i xs) ++ flat_map f ys) (drop_more xs i x within)
       ∙ ap (λ (y : X). flat_map f (take i xs) ++ (f y ++ flat_map f (drop (i + 1) xs))) (sym is)
 
-  module _ {S : Type 0} {written : S → Option (List ℕ)} {failures : S → ℕ} {puts : S → List ℕ → S → Type 0} (old mid new : S) where
-    pub written_more : i < length xs → x ≡ get_or xs i x → IsWritten written failures puts old mid (flat_map f (take i xs)) → IsWritten written failures puts mid new (f x)
-        → IsWritten written failures puts old new (flat_map f (take (i + 1) xs))
-    written_more within is first second = subst (IsWritten written failures puts old new) (sym (front_more within is)) (written_both first second)
+  module _ {S : Type 0} {g : Ghosts S} (old mid new : S) where
+    pub written_more : i < length xs → x ≡ get_or xs i x → IsWritten g old mid (flat_map f (take i xs)) → IsWritten g mid new (f x)
+        → IsWritten g old new (flat_map f (take (i + 1) xs))
+    written_more within is first second = subst (IsWritten g old new) (sym (front_more within is)) (written_both first second)
 
-    pub stopped_within : {breaks : S → List ℕ → S → Type 0} → i < length xs → x ≡ get_or xs i x → IsWritten written failures puts old mid (flat_map f (take i xs)) → IsStopped written failures puts breaks mid new (f x)
-        → IsStopped written failures puts breaks old new (flat_map f xs)
-    stopped_within {breaks} within is first stopped =
-        subst (IsStopped written failures puts breaks old new) (sym (all_parts within is)) (stopped_second first (stopped_first (flat_map f (drop (i + 1) xs)) stopped))
+    pub stopped_within : i < length xs → x ≡ get_or xs i x → IsWritten g old mid (flat_map f (take i xs)) → IsStopped g mid new (f x)
+        → IsStopped g old new (flat_map f xs)
+    stopped_within within is first stopped =
+        subst (IsStopped g old new) (sym (all_parts within is)) (stopped_second first (stopped_first (flat_map f (drop (i + 1) xs)) stopped))

@@ -4,6 +4,7 @@ use Rattle.std.specs.Prelude.{◌&&◌, ◌||◌, not}
 use Rattle.std.specs.Map.{lookup}
 use Rattle.std.specs.BTreeMap.{is_at}
 use Rattle.std.specs.declared.cmp.Ordering.{Ordering}
+use Rattle.dc_io.proofs.Bools.{or_false}
 use Rattle.dc_address.specs.declared.identity.Identity.{Identity}
 use Rattle.dc_address.specs.Identity.{identity_cmp}
 use Rattle.dc_address.proofs.Order.{same_from_tie}
@@ -11,10 +12,6 @@ use Rattle.dc_changes.specs.State.{MeterRow}
 use Rattle.dc_meters.specs.Places.{among, stands, is_own, IsNowhere, ArePlaces}
 
 -- ---- tests that are met or not
-
-or_false : (a : Bool) → (a || false) ≡ a
-or_false true = refl
-or_false false = refl
 
 and_true : (a : Bool) → (a && true) ≡ a
 and_true true = refl

@@ -10,7 +10,7 @@ ghost use Rattle.dc_meters.specs.Due.{is_dating, dating_day, day_for, dated, is_
 ghost use Rattle.dc_meters.specs.Due.{is_due, due_value, due_days};
 
 use crate::{Part, Points};
-use dc_base::NoMemory;
+use dc_io::NoMemory;
 use dc_units::{Date, Point};
 use std::alloc::Allocator;
 use std::collections::BTreeMap;

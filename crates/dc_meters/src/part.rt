@@ -6,7 +6,7 @@ ghost use Rattle.dc_changes.specs.State.{PartRow};
 ghost use Rattle.dc_changes.specs.Size.{part_size, parts_size};
 ghost use Rattle.dc_changes.specs.Valid.{IsPart, most_parts};
 
-use dc_base::NoMemory;
+use dc_io::NoMemory;
 use dc_records::Telegram;
 use std::alloc::Allocator;
 use std::marker::Model;

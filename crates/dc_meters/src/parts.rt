@@ -5,13 +5,13 @@ ghost use Rattle.std.specs.List.{flat_map};
 ghost use Rattle.dc_changes.specs.Encoding.{part_bytes, parts_bytes};
 ghost use Rattle.dc_changes.specs.Reading.{Gives, many, part_at, parts_at};
 ghost use Rattle.dc_changes.specs.Valid.{IsPart, AreParts, most_parts};
-ghost use Rattle.dc_changes.specs.Writing.{IsWritten, IsStopped};
+ghost use Rattle.dc_io.specs.Written.{IsWritten, IsStopped};
 
 use crate::Part;
 use dc_changes::DecodeFault;
 use dc_changes::pieces::{body_at, byte_at, moment_at};
 use dc_changes::writing::{put_byte, put_counted, put_long};
-use dc_stream::{IoFault, Sink};
+use dc_io::{IoFault, Sink};
 use std::alloc::Allocator;
 
 /// A kept part, as a telegram's moment and body.
@@ -19,9 +19,9 @@ pub(crate) fn put_kept_part<S: Sink, A: Allocator>(
     sink: &mut S,
     part: &Part<A>,
 ) -> Result<(), IoFault>
-    ensures ok { OnOk result (IsWritten S.written S.put_failures S.puts sink.old sink.new
+    ensures ok { OnOk result (IsWritten S.Sink sink.old sink.new
         (part_bytes part.now)) }
-    ensures err { OnErr result (IsStopped S.written S.put_failures S.puts S.breaks sink.old sink.new
+    ensures err { OnErr result (IsStopped S.Sink sink.old sink.new
         (part_bytes part.now)) }
 {
     put_long(sink, part.moment())?;
@@ -30,9 +30,9 @@ pub(crate) fn put_kept_part<S: Sink, A: Allocator>(
 }
 
 fn put_each_part<S: Sink, A: Allocator>(sink: &mut S, parts: &[Part<A>]) -> Result<(), IoFault>
-    ensures ok { OnOk result (IsWritten S.written S.put_failures S.puts sink.old sink.new
+    ensures ok { OnOk result (IsWritten S.Sink sink.old sink.new
         (flat_map part_bytes parts.now)) }
-    ensures err { OnErr result (IsStopped S.written S.put_failures S.puts S.breaks sink.old sink.new
+    ensures err { OnErr result (IsStopped S.Sink sink.old sink.new
         (flat_map part_bytes parts.now)) }
 {
     for part in parts {
@@ -47,9 +47,9 @@ pub(crate) fn put_parts<S: Sink, A: Allocator>(
     parts: &[Part<A>],
 ) -> Result<(), IoFault>
     requires { length parts.now ≤ most_parts }
-    ensures ok { OnOk result (IsWritten S.written S.put_failures S.puts sink.old sink.new
+    ensures ok { OnOk result (IsWritten S.Sink sink.old sink.new
         (parts_bytes parts.now)) }
-    ensures err { OnErr result (IsStopped S.written S.put_failures S.puts S.breaks sink.old sink.new
+    ensures err { OnErr result (IsStopped S.Sink sink.old sink.new
         (parts_bytes parts.now)) }
 {
     put_byte(sink, parts.len() as u8)?;

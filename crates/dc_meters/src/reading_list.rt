@@ -14,7 +14,7 @@ use crate::due::due_days_of;
 use crate::orders::{Ended, Orders};
 use crate::{Meter, Reading, Serials};
 use dc_address::Identity;
-use dc_base::NoMemory;
+use dc_io::NoMemory;
 use dc_units::Date;
 use std::alloc::Allocator;
 use std::collections::VecDeque;

@@ -6,7 +6,7 @@ use Rattle.dc_sectors.specs.declared.sector.Sector.{Sector}
 use Rattle.dc_sectors.specs.declared.sector.Sector.TheVariants.{Bytes, Unreadable}
 use Rattle.dc_sectors.specs.Disk.{Image}
 use Rattle.dc_pages.specs.Group.{IsPage, IsCommit, IsGroup, IsComplete, commit_kind, piece}
-use Rattle.dc_fields.specs.Fields.{field}
+use Rattle.dc_sectors.specs.Fields.{field}
 use Rattle.dc_sectors.proofs.Texts.{one_text}
 use Rattle.dc_pages.specs.declared.site.Site.{Site}
 

@@ -7,7 +7,7 @@ use Rattle.dc_sectors.specs.declared.sector.Sector.TheVariants.{Unreadable}
 use Rattle.dc_sectors.specs.Disk.{Image}
 use Rattle.dc_pages.specs.Group.{IsPage, IsCommit, IsGroup, IsComplete, Carries, IsPageKind, IsKnown, commit_kind, piece}
 use Rattle.dc_pages.specs.Writing.{IsTorn, IsPartOf}
-use Rattle.dc_fields.specs.Fields.{field}
+use Rattle.dc_sectors.specs.Fields.{field}
 use Rattle.dc_pages.proofs.Agree.{same_group, page_or_commit}
 use Rattle.dc_sectors.proofs.Texts.{one_text}
 use Rattle.dc_pages.specs.declared.site.Site.{Site}

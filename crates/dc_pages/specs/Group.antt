@@ -4,7 +4,7 @@ use Rattle.std.specs.Prelude.{take, drop, replicate, slice_index}
 use Rattle.dc_sectors.specs.declared.sector.Sector.{Sector}
 use Rattle.dc_sectors.specs.declared.sector.Sector.TheVariants.{Bytes}
 use Rattle.dc_sectors.specs.Disk.{Image}
-use Rattle.dc_fields.specs.Fields.{field, number_bytes}
+use Rattle.dc_sectors.specs.Fields.{field, number_bytes}
 use Rattle.dc_pages.specs.declared.site.Site.{Site}
 
 -- a page's sector: the bytes of its head, and the bytes of payload after it

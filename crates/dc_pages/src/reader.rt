@@ -3,7 +3,7 @@
 ghost use Rattle.std.specs.Prelude.{◌≡◌, ◌≢◌, ◌⊎◌, ◌<◌, ◌≤◌, ◌↔◌, ◌+◌, ◌-◌, ◌^◌, ◌++◌};
 ghost use Rattle.std.specs.Prelude.{if◌then◌else◌, ℕ, IfOk, OnOk, IsErrOf, IsTrue, length, take};
 ghost use Rattle.std.specs.Prelude.{drop};
-ghost use Rattle.dc_base.specs.Failures.{HasRisen};
+ghost use Rattle.dc_io.specs.Failures.{HasRisen};
 ghost use Rattle.dc_sectors.specs.Disk.{IsImage, Elapses, LeavesOnly};
 ghost use Rattle.dc_pages.specs.Group.{IsGroup, commit_kind, page_payload, head_len};
 ghost use Rattle.dc_pages.specs.Judging.{Judged, IsStep};
@@ -11,7 +11,7 @@ ghost use Rattle.dc_pages.specs.Reading.{IsBegun, IsCutAt};
 
 use crate::head::{COMMIT, HEAD, Head, PAYLOAD, read_head};
 use crate::{GroupFault, Site};
-use dc_base::NoMemory;
+use dc_io::NoMemory;
 use dc_sectors::{Disk, ReadFault};
 use std::alloc::Allocator;
 

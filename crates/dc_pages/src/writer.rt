@@ -2,7 +2,7 @@
 
 ghost use Rattle.std.specs.Prelude.{◌≡◌, ◌⊎◌, ◌<◌, ◌≤◌, ◌+◌, ◌-◌, ◌*◌, ◌++◌, [], List, ℕ, take};
 ghost use Rattle.std.specs.Prelude.{length, min, OnOk, OnErr, IfOk, IsTrue, ◌↔◌};
-ghost use Rattle.dc_base.specs.Failures.{HasRisen};
+ghost use Rattle.dc_io.specs.Failures.{HasRisen};
 ghost use Rattle.dc_sectors.specs.Disk.{Image, LeavesOnly};
 ghost use Rattle.dc_pages.specs.Draft.{draft_len, HasRoom};
 ghost use Rattle.dc_pages.specs.Group.{piece, page_payload};

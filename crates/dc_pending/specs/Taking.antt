@@ -9,9 +9,9 @@ use Rattle.dc_changes.specs.Apply.{applied}
 use Rattle.dc_changes.specs.Accepts.{Accepts, refusal}
 use Rattle.dc_changes.specs.Encoding.{change_bytes}
 use Rattle.dc_changes.specs.Valid.{IsChange}
-use Rattle.dc_waiting.specs.declared.fault.TakeFault.{TakeFault}
-use Rattle.dc_waiting.specs.declared.fault.TakeFault.TheVariants.{PendingFull, Full}
-use Rattle.dc_waiting.specs.Waiting.{Waiting, most_waiting}
+use Rattle.dc_pending.specs.declared.fault.TakeFault.{TakeFault}
+use Rattle.dc_pending.specs.declared.fault.TakeFault.TheVariants.{PendingFull, Full}
+use Rattle.dc_pending.specs.Waiting.{Waiting, most_waiting}
 
 -- the change that a telegram is
 abbrev pub change_of : ℕ → ℕ → Parsed → Change

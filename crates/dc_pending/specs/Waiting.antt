@@ -1,7 +1,7 @@
 -- What is kept of the changes that aren't committed yet (this product).
 use Rattle.std.specs.Prelude.{ℕ, ◌≤◌, ◌*◌, List, length}
 use Rattle.dc_changes.specs.Encoding.{longest_change}
-use Rattle.dc_stream.specs.Bytes.{Filled}
+use Rattle.dc_io.specs.Bytes.{Filled}
 
 -- the changes' spellings, one after the other, and how many changes they are
 pub record Waiting : Type 0 where

@@ -2,8 +2,8 @@
 
 ghost use Rattle.std.specs.Prelude.{◌≡◌, true, Option};
 ghost use Rattle.dc_readout.specs.Summary.{Summary};
-ghost use Rattle.dc_waiting.specs.Lines.{is_line, no_sessions, on_line, put_on, settled_on};
-ghost use Rattle.dc_waiting.specs.Lines.{settled_lines, unless_of, lines_without};
+ghost use Rattle.dc_pending.specs.Lines.{is_line, no_sessions, on_line, put_on, settled_on};
+ghost use Rattle.dc_pending.specs.Lines.{settled_lines, unless_of, lines_without};
 
 use dc_address::Identity;
 use dc_readout::Session;

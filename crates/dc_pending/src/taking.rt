@@ -3,8 +3,8 @@
 ghost use Rattle.std.specs.Prelude.{◌≡◌, ◌⊎◌, ◌≤◌, length, None, Some, Ok, Err, OnOk, OnErr};
 ghost use Rattle.dc_changes.specs.Body.{longest_body};
 ghost use Rattle.dc_records.specs.Telegram.{parsed};
-ghost use Rattle.dc_waiting.specs.declared.fault.TakeFault.TheVariants.{NoMemory};
-ghost use Rattle.dc_waiting.specs.Taking.{change_of, refuses, IsTaken};
+ghost use Rattle.dc_pending.specs.declared.fault.TakeFault.TheVariants.{NoMemory};
+ghost use Rattle.dc_pending.specs.Taking.{change_of, refuses, IsTaken};
 
 use crate::TakeFault;
 use crate::waiting::Waiting;

@@ -4,10 +4,10 @@ ghost use Rattle.std.specs.Prelude.{◌≡◌, ◌+◌, ◌≤◌, ◌<◌, ◌+
 ghost use Rattle.dc_changes.specs.declared.change.Change.{Change};
 ghost use Rattle.dc_changes.specs.Encoding.{change_bytes};
 ghost use Rattle.dc_changes.specs.Valid.{IsChange};
-ghost use Rattle.dc_waiting.specs.Waiting.{Waiting, most_waiting};
+ghost use Rattle.dc_pending.specs.Waiting.{Waiting, most_waiting};
 
 use dc_changes::{Change, encode_change};
-use dc_stream::{FixedSink, IoFault};
+use dc_io::{FixedSink, IoFault};
 use std::marker::Model;
 
 // At most this many changes wait.
@@ -24,7 +24,7 @@ pub struct Waiting {
 }
 
 impl Model for Waiting {
-    ghost use Rattle.dc_waiting.specs.Waiting.{Waiting as Encoded, IsWaiting};
+    ghost use Rattle.dc_pending.specs.Waiting.{Waiting as Encoded, IsWaiting};
 
     ghost Value = { Encoded };
 

@@ -1,7 +1,7 @@
 //! The write of a commit.
 
 ghost use Rattle.std.specs.Prelude.{◌≡◌, ◌⊎◌, ◌≤◌, ◌<◌, List, true, false, length, IsErrOf, OnOk};
-ghost use Rattle.dc_base.specs.Failures.{HasRisen};
+ghost use Rattle.dc_io.specs.Failures.{HasRisen};
 ghost use Rattle.dc_sectors.specs.Disk.{LeavesOnly};
 ghost use Rattle.dc_changes.specs.declared.change.Change.{Change};
 ghost use Rattle.dc_changes.specs.State.{State};
@@ -11,7 +11,7 @@ ghost use Rattle.dc_recovery.specs.Halves.{half_len_of, budget_of};
 ghost use Rattle.dc_recovery.specs.Stands.{StandsForEither};
 ghost use Rattle.dc_recovery.specs.Store.{Fits, Keeps};
 ghost use Rattle.dc_recovery.specs.declared.fault.StoreFault.TheVariants.{Device, Worn, Stopped};
-ghost use Rattle.dc_waiting.specs.Writing.{IsWornFor};
+ghost use Rattle.dc_pending.specs.Writing.{IsWornFor};
 
 use crate::waiting::Waiting;
 use dc_meters::House;

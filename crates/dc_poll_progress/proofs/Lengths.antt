@@ -4,9 +4,9 @@ use Rattle.std.specs.Prelude.{slice_get, unwrap_or, ◌&&◌}
 use Rattle.dc_linkframe.specs.Control.{snd_nke, variable_data}
 use Rattle.dc_linkframe.specs.Frame.{FrameSeen, ack, short, long, spelling, checksum}
 use Rattle.dc_address.specs.Mask.{mask_at, matches}
-use Rattle.dc_lives.specs.Meter.{Meter, Position, is_own, is_request, is_selection, hears_at, body_at, rsp_ud, response, answer_to}
-use Rattle.dc_lives.specs.Regular.{Fits}
-use Rattle.dc_lives.specs.Reply.{bytes_of}
+use Rattle.dc_world.specs.Meter.{Meter, Position, is_own, is_request, is_selection, hears_at, body_at, rsp_ud, response, answer_to}
+use Rattle.dc_world.specs.Regular.{Fits}
+use Rattle.dc_world.specs.Reply.{bytes_of}
 
 long_short : (control address ci : ℕ) (body : List ℕ) → length body ≤ 252 → length (spelling (long control address ci body)) ≤ 300
 long_short control address ci body fits =

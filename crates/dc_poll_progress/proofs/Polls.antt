@@ -4,10 +4,10 @@ use Rattle.dc_linkframe.specs.Frame.{FrameSeen}
 use Rattle.dc_linkframe.specs.Reading.{frame_of}
 use Rattle.dc_readout.specs.Session.{commands}
 use Rattle.dc_readout.specs.Summary.{asked_by}
-use Rattle.dc_lives.specs.declared.event.Outcome.{Outcome}
-use Rattle.dc_lives.specs.Meter.{Meter}
-use Rattle.dc_lives.specs.World.{heard_in}
-use Rattle.dc_lives.proofs.Asked.{sent_frame}
+use Rattle.dc_world.specs.declared.event.Outcome.{Outcome}
+use Rattle.dc_world.specs.Meter.{Meter}
+use Rattle.dc_world.specs.World.{heard_in}
+use Rattle.dc_world.proofs.Asked.{sent_frame}
 use Rattle.dc_changes.specs.State.{MeterRow}
 use Rattle.dc_core.specs.declared.line_heard.LineHeard.{LineHeard}
 use Rattle.dc_core.specs.declared.line_heard.LineHeard.TheVariants.{Again, Ready, Accepted, Failed}

@@ -5,10 +5,10 @@ use Rattle.dc_records.specs.Body.{continues}
 use Rattle.dc_readout.specs.Summary.{Summary, Verdict, again, ready, new, failed, asked_by, verdict_by}
 use Rattle.dc_changes.specs.declared.change.Change.{Change}
 use Rattle.dc_changes.specs.Accepts.{refusal}
-use Rattle.dc_waiting.specs.declared.fault.TakeFault.TheVariants.{PendingFull, Full}
-use Rattle.dc_waiting.specs.Lines.{is_line}
-use Rattle.dc_waiting.specs.Taking.{change_of}
-use Rattle.dc_waiting.specs.Waiting.{most_waiting}
+use Rattle.dc_pending.specs.declared.fault.TakeFault.TheVariants.{PendingFull, Full}
+use Rattle.dc_pending.specs.Lines.{is_line}
+use Rattle.dc_pending.specs.Taking.{change_of}
+use Rattle.dc_pending.specs.Waiting.{most_waiting}
 use Rattle.dc_core.specs.declared.line_heard.LineHeard.{LineHeard}
 use Rattle.dc_core.specs.declared.line_heard.LineHeard.TheVariants.{Again, Ready, Accepted, Failed}
 use Rattle.dc_core.specs.declared.fault.HearFault.{HearFault}

@@ -4,12 +4,12 @@ use Rattle.std.specs.Prelude.{slice_get, option_map}
 use Rattle.dc_linkframe.specs.Frame.{spelling}
 use Rattle.dc_linkframe.proofs.Spellings.{frame_of-spelling}
 use Rattle.dc_readout.specs.Summary.{asked_by}
-use Rattle.dc_lives.specs.declared.event.Outcome.TheVariants.{AsSent}
-use Rattle.dc_lives.specs.Meter.{Meter, moved_by, answer_to}
-use Rattle.dc_lives.specs.Reply.{bytes_of}
-use Rattle.dc_lives.specs.World.{heard_in}
-use Rattle.dc_lives.proofs.Asked.{sent_frame}
-use Rattle.dc_lives.proofs.Replies.{heard_as_sent}
+use Rattle.dc_world.specs.declared.event.Outcome.TheVariants.{AsSent}
+use Rattle.dc_world.specs.Meter.{Meter, moved_by, answer_to}
+use Rattle.dc_world.specs.Reply.{bytes_of}
+use Rattle.dc_world.specs.World.{heard_in}
+use Rattle.dc_world.proofs.Asked.{sent_frame}
+use Rattle.dc_world.proofs.Replies.{heard_as_sent}
 use Rattle.dc_gateway.specs.Blocks.{most_answer}
 use Rattle.dc_gateway.specs.Bus.{Exchange}
 use Rattle.dc_changes.specs.State.{MeterRow}

@@ -4,9 +4,9 @@
 use Rattle.std.specs.Prelude.{◌≡◌, ◌≢◌, ℕ, ◌+◌, ◌*◌, ◌≤◌, ◌<◌, Some, Err, List, [], ◌∷◌}
 use Rattle.dc_linkframe.specs.Frame.{FrameSeen}
 use Rattle.dc_linkframe.specs.Reading.{frame_of}
-use Rattle.dc_lives.specs.declared.event.Outcome.{Outcome}
-use Rattle.dc_lives.specs.Meter.{Meter, Position}
-use Rattle.dc_lives.specs.World.{positions_after, heard_in}
+use Rattle.dc_world.specs.declared.event.Outcome.{Outcome}
+use Rattle.dc_world.specs.Meter.{Meter, Position}
+use Rattle.dc_world.specs.World.{positions_after, heard_in}
 use Rattle.dc_gateway.specs.Bus.{Exchange}
 use Rattle.dc_changes.specs.State.{MeterRow}
 use Rattle.dc_core.specs.declared.fault.HearFault.TheVariants.{NoMemory}

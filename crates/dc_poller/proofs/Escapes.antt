@@ -7,7 +7,7 @@ use Rattle.std.proofs.lemmas.Grind.{flat_map-append, common_steps}
 use Rattle.std.proofs.lemmas.List.{append-nil, map-id}
 use Rattle.std.proofs.lemmas.Str.{encodes-append}
 use Rattle.std.specs.Char.Iter.{escape_left, escape_rest, escape_steps}
-use Rattle.dc_ending.specs.Escape.{shown}
+use Rattle.dc_poller.specs.Escape.{shown}
 
 -- a character more is its bytes more
 pub one_more : (xs : List ℕ) (x : ℕ) → encode_utf8_all (xs ++ x ∷ []) ≡ encode_utf8_all xs ++ encode_utf8 x

@@ -26,3 +26,9 @@ pub mod Searches
 pub mod Starvings
 -- a prefix of one piece of a text is one of the text
 mod Prefixes
+-- a line of `fold` is read as one thing
+pub mod Readings
+-- the lines of `fold`, answered one after the other
+pub mod Steps
+-- the characters escaped so far, and one more
+mod Escapes

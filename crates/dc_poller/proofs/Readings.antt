@@ -2,8 +2,8 @@
 use Rattle.std.proofs.Common.{◌≡◌, ℕ, List, [], ◌∷◌, Bool, Option, None, Some, refl, sym, ap, ◌∙◌}
 use Rattle.dc_changes.specs.ChangeLine.{IsLineOf}
 use Rattle.dc_changes.specs.declared.change.Change.{Change}
-use Rattle.dc_teller.specs.Fold.{IsReadAs, AreReadAs, IsFolded, any_unread, fold_text}
-use Rattle.dc_teller.specs.Lines.{lines_of}
+use Rattle.dc_poller.specs.Fold.{IsReadAs, AreReadAs, IsFolded, any_unread, fold_text}
+use Rattle.dc_io.specs.Lines.{lines_of}
 
 -- a line spells one change
 abbrev pub OneChange : Type 0

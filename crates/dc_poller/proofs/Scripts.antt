@@ -12,7 +12,7 @@ use Rattle.dc_changes.specs.Line.{IsOfBytes}
 use Rattle.dc_changes.specs.Words.{IsWord, is_inside}
 use Rattle.dc_changes.proofs.Decimals.{decimal_is_word}
 use Rattle.dc_changes.proofs.LineSpellings.{one_word}
-use Rattle.dc_text.specs.Hex.{bytes_of}
+use Rattle.dc_io.specs.Hex.{bytes_of}
 use Rattle.dc_poller.specs.ScriptLine.{LineSeen, nothing, at, start, ask, hear, commit, office, poll, search, IsLineOf, Spells, SpellsSearch, greatest_budget, greatest_line}
 
 pub line_is_word : (line : ℕ) → line ≤ greatest_line → IsWord (decimal line)

@@ -13,7 +13,7 @@ use Rattle.dc_core.specs.declared.fault.StartFault.TheVariants.{Busy}
 use Rattle.dc_gateway.specs.Bus.{AreAskedBy, Exchange}
 use Rattle.dc_search.specs.State.{SearchState, new_search}
 use Rattle.dc_sectors.specs.Disk.{Image, Choices}
-use Rattle.dc_stream.specs.declared.stream.IoFault.{IoFault}
+use Rattle.dc_io.specs.declared.stream.IoFault.{IoFault}
 use Rattle.dc_poller.specs.Halt.{OnNoMemory, OnWrite, halted_by}
 use Rattle.dc_poller.specs.Link.{HasBus, LineLink, Link, line_in, link_by, link_in, loss_text, lost, port_in, with_link}
 use Rattle.dc_poller.specs.Script.{LineRan, LineCut}

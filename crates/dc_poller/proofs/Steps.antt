@@ -1,8 +1,8 @@
 -- The lines of an input, answered one after the other.
-use Rattle.std.proofs.Common.{◌≡◌, ℕ, List, [], ◌∷◌, Bool, true, false, refl, sym, append_assoc, append-nil}
+use Rattle.std.proofs.Common.{◌≡◌, ℕ, List, [], ◌∷◌, Bool, refl, sym, append_assoc, append-nil}
 use Rattle.std.specs.Prelude.{◌||◌}
 use Rattle.dc_changes.specs.State.{Held}
-use Rattle.dc_teller.specs.Fold.{IsStep, AreSteps, line_answer, answers, after_line}
+use Rattle.dc_poller.specs.Fold.{IsStep, AreSteps, line_answer, answers, after_line}
 
 pub no_steps : (house : Held) (text : List ℕ) → AreSteps [] false house house text text
 no_steps house text = record { reads = []; lines_are = tt; found_is = refl; house_is = refl; text_is = sym (append-nil text) }
@@ -17,11 +17,3 @@ step_and_steps line lines unread found old mid new before between text step step
   house_is = rw (steps.house_is, step.house_is) refl;
   text_is = rw (steps.text_is, step.text_is, step.house_is) (append_assoc before (line_answer old.budget step.read old.state) (answers old.budget steps.reads (after_line old.budget step.read old.state)));
 }
-
-pub or_assoc : (a b c : Bool) → ((a || b) || c) ≡ (a || (b || c))
-or_assoc true b c = refl
-or_assoc false b c = refl
-
-pub or_false : (a : Bool) → (a || false) ≡ a
-or_false true = refl
-or_false false = refl

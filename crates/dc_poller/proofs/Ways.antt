@@ -2,11 +2,11 @@
 use Rattle.std.proofs.Common.{◌≡◌, ◌+◌, ◌≤◌, length, ℕ, List, [], ◌∷◌, ◌++◌, refl, ap, sym, subst, ◌∙◌, arith, append_assoc, append-nil, inl, inr, ⊎_elim}
 use Rattle.std.specs.Prelude.{Bool, true, false, Result, Ok, Err, IfOk, OnErr, OnOk}
 use Rattle.dc_address.specs.declared.identity.Identity.{Identity}
-use Rattle.dc_base.specs.Failures.{HasRisen}
+use Rattle.dc_io.specs.Failures.{HasRisen}
 use Rattle.dc_sectors.specs.Disk.{Image, Choices}
-use Rattle.dc_stream.specs.Stream.{Puts}
-use Rattle.dc_stream.specs.declared.stream.Sink.{Ghosts}
-use Rattle.dc_stream.proofs.Pieces.{puts-both, puts-none}
+use Rattle.dc_io.specs.Stream.{Puts}
+use Rattle.dc_io.specs.declared.stream.Sink.{Ghosts}
+use Rattle.dc_io.proofs.Pieces.{puts-both, puts-none}
 use Rattle.dc_changes.specs.State.{State}
 use Rattle.dc_core.specs.Core.{opened}
 use Rattle.dc_core.specs.Event.{Event, Answer}

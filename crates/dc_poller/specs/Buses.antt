@@ -3,8 +3,8 @@ use Rattle.std.specs.Prelude.{◌≡◌, ℕ, Bool, true, false, List, []}
 use Rattle.std.proofs.Common.{subst}
 use Rattle.dc_gateway.specs.Asking.{Asks}
 use Rattle.dc_gateway.specs.declared.gateway.Gateway.{Gateway}
-use Rattle.dc_stream.specs.declared.stream.Sink.{Ghosts as SinkGhosts}
-use Rattle.dc_stream.specs.declared.stream.Source.{Ghosts as SourceGhosts}
+use Rattle.dc_io.specs.declared.stream.Sink.{Ghosts as SinkGhosts}
+use Rattle.dc_io.specs.declared.stream.Source.{Ghosts as SourceGhosts}
 
 -- a gateway that is lost over a request is heard in silence
 pub gateway_is_silent : {R W : Type 0} (reader : SourceGhosts R) (writer : SinkGhosts W)

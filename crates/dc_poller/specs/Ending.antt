@@ -4,11 +4,11 @@ use Rattle.dc_recovery.specs.Fault.{open_number, open_name, format_number, forma
 use Rattle.dc_recovery.specs.declared.fault.OpenFault.{OpenFault}
 use Rattle.dc_recovery.specs.declared.fault.OpenFault.TheVariants.{NotImage, Damaged, Version, Worn}
 use Rattle.dc_recovery.specs.declared.fault.OpenFault.TheVariants.{Device, NoMemory}
-use Rattle.dc_text.specs.Words.{fault_text, number_word}
-use Rattle.dc_ending.specs.Escape.{escaped}
-use Rattle.dc_ending.specs.declared.ending.Ending.{Ending}
-use Rattle.dc_ending.specs.declared.ending.Ending.TheVariants.{Clean, Faulty, Words, Format, Open}
-use Rattle.dc_ending.specs.declared.ending.Ending.TheVariants.{File, Gateway, Memory}
+use Rattle.dc_io.specs.Words.{fault_text, number_word}
+use Rattle.dc_poller.specs.Escape.{escaped}
+use Rattle.dc_poller.specs.declared.ending.Ending.{Ending}
+use Rattle.dc_poller.specs.declared.ending.Ending.TheVariants.{Clean, Faulty, Words, Format, Open}
+use Rattle.dc_poller.specs.declared.ending.Ending.TheVariants.{File, Gateway, Memory}
 
 abbrev pub status_of : Ending → ℕ
 status_of Clean = 0

@@ -5,11 +5,11 @@ use Rattle.dc_poller.specs.Link.{AreAbsent, LineLink}
 use Rattle.dc_poller.specs.declared.fault.ProgramFault.{ProgramFault}
 use Rattle.dc_poller.specs.declared.fault.ProgramFault.TheVariants.{Read, TooLong, Write, NoMemory}
 use Rattle.dc_poller.specs.declared.fault.ProgramFault.TheVariants.{Open}
-use Rattle.dc_teller.specs.declared.fault.TellFault.{TellFault}
-use Rattle.dc_teller.specs.declared.fault.TellFault.TheVariants.{Read as NotRead}
-use Rattle.dc_teller.specs.declared.fault.TellFault.TheVariants.{TooLong as TooMuch}
-use Rattle.dc_teller.specs.declared.fault.TellFault.TheVariants.{Write as NotWritten}
-use Rattle.dc_teller.specs.declared.fault.TellFault.TheVariants.{NoMemory as Refused}
+use Rattle.dc_io.specs.declared.text_fault.TextFault.{TextFault}
+use Rattle.dc_io.specs.declared.text_fault.TextFault.TheVariants.{Read as NotRead}
+use Rattle.dc_io.specs.declared.text_fault.TextFault.TheVariants.{TooLong as TooMuch}
+use Rattle.dc_io.specs.declared.text_fault.TextFault.TheVariants.{Write as NotWritten}
+use Rattle.dc_io.specs.declared.text_fault.TextFault.TheVariants.{NoMemory as Refused}
 
 abbrev pub number_of : ProgramFault → ℕ
 number_of Read = 1
@@ -26,7 +26,7 @@ name_of NoMemory = codes "NoMemory"
 name_of (Open fault) = codes "Open"
 
 -- what stops the telling of an input stops the program
-abbrev pub stopped_by : TellFault → ProgramFault
+abbrev pub stopped_by : TextFault → ProgramFault
 stopped_by NotRead = Read
 stopped_by TooMuch = TooLong
 stopped_by NotWritten = Write

@@ -8,9 +8,9 @@ use Rattle.dc_changes.specs.Fault.{number_of, name_of}
 use Rattle.dc_changes.specs.State.{State, Held, empty_state}
 use Rattle.dc_changes.specs.declared.change.Change.{Change}
 use Rattle.dc_changes.specs.declared.fault.ChangeFault.{ChangeFault}
-use Rattle.dc_teller.specs.Lines.{lines_of}
-use Rattle.dc_teller.specs.Register.{register_text}
-use Rattle.dc_text.specs.Words.{fault_line, number_word}
+use Rattle.dc_io.specs.Lines.{lines_of}
+use Rattle.dc_poller.specs.Register.{register_text}
+use Rattle.dc_io.specs.Words.{fault_line, number_word}
 
 -- ---- lines
 

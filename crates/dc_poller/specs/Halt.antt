@@ -1,7 +1,7 @@
 -- What ends a script before its end (this product).
 use Rattle.std.specs.Prelude.{◌≡◌, ℕ, Result, Ok, Err}
-use Rattle.dc_base.specs.Failures.{HasRisen}
-use Rattle.dc_stream.specs.declared.stream.IoFault.{IoFault}
+use Rattle.dc_io.specs.Failures.{HasRisen}
+use Rattle.dc_io.specs.declared.stream.IoFault.{IoFault}
 use Rattle.dc_poller.specs.declared.halt.Halt.{Halt}
 use Rattle.dc_poller.specs.declared.halt.Halt.TheVariants.{Write, NoMemory}
 

@@ -8,7 +8,7 @@ use Rattle.dc_recovery.specs.Stands.{Reads, StandsForOne}
 use Rattle.dc_core.specs.Headline.{IsOpened, WasLeft, WasStopped, IsKept}
 use Rattle.dc_core.specs.Images.{Machine}
 use Rattle.dc_core.specs.Transcript.{Turn}
-use Rattle.dc_teller.specs.Lines.{lines_of}
+use Rattle.dc_io.specs.Lines.{lines_of}
 use Rattle.dc_poller.specs.Link.{LineLink}
 use Rattle.dc_poller.specs.Script.{ScriptRan, ScriptCut}
 use Rattle.dc_poller.specs.Traffic.{Traffic}

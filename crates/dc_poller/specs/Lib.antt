@@ -29,3 +29,13 @@ pub mod Traffic
 pub mod Way
 -- turns of a concentrator that were run
 pub mod Went
+-- what `fold` writes for an input
+pub mod Fold
+-- the register, as text
+pub mod Register
+-- status and line of an ending
+pub mod Ending
+-- a text on one line
+pub mod Escape
+-- the ending that an engine's result makes of a run
+pub mod Outcome

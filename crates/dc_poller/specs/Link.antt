@@ -1,7 +1,7 @@
 -- How a script finds the bus lines (this product).
 use Rattle.std.specs.Prelude.{◌≡◌, ℕ, zero, suc, Bool, true, false, Option, None, Some, List, []}
 use Rattle.std.specs.Prelude.{◌∷◌, ◌++◌, codes, get_or, map, set, if◌then◌else◌}
-use Rattle.dc_text.specs.Words.{number_word}
+use Rattle.dc_io.specs.Words.{number_word}
 use Rattle.dc_poller.specs.declared.port.Port.{Port}
 use Rattle.dc_poller.specs.declared.script_bus.Slot.{Slot}
 

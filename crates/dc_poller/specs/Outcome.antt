@@ -7,9 +7,9 @@ use Rattle.dc_recovery.specs.declared.fault.OpenFault.TheVariants.{NoMemory as N
 use Rattle.dc_poller.specs.declared.fault.ProgramFault.{ProgramFault}
 use Rattle.dc_poller.specs.declared.fault.ProgramFault.TheVariants.{Read, TooLong, Write, NoMemory}
 use Rattle.dc_poller.specs.declared.fault.ProgramFault.TheVariants.{Open as NotOpened}
-use Rattle.dc_ending.specs.declared.ending.Ending.{Ending}
-use Rattle.dc_ending.specs.declared.ending.Ending.TheVariants.{Clean, Faulty, Words, Format, Open}
-use Rattle.dc_ending.specs.declared.ending.Ending.TheVariants.{File, Gateway, Memory}
+use Rattle.dc_poller.specs.declared.ending.Ending.{Ending}
+use Rattle.dc_poller.specs.declared.ending.Ending.TheVariants.{Clean, Faulty, Words, Format, Open}
+use Rattle.dc_poller.specs.declared.ending.Ending.TheVariants.{File, Gateway, Memory}
 
 -- the run ended by a fault of the file with that name
 abbrev pub IsOfFile : Ending → List ℕ → Type 0

@@ -2,7 +2,7 @@
 use Rattle.std.specs.Prelude.{ℕ, List, ◌++◌, codes, length}
 use Rattle.dc_changes.specs.Size.{size_of}
 use Rattle.dc_changes.specs.State.{State}
-use Rattle.dc_text.specs.Words.{number_word}
+use Rattle.dc_io.specs.Words.{number_word}
 use Rattle.dc_upload.specs.Register.{meter_lines}
 
 -- the meters by identity as the office is shown them, how many readings there are, and what the state is counted as

@@ -8,7 +8,7 @@ use Rattle.dc_core.specs.Text.{answer_text}
 use Rattle.dc_core.specs.Transcript.{Turn}
 use Rattle.dc_gateway.specs.Bus.{Exchange}
 use Rattle.dc_sectors.specs.Disk.{Image, Choices}
-use Rattle.dc_text.specs.Words.{number_word}
+use Rattle.dc_io.specs.Words.{number_word}
 use Rattle.dc_poller.specs.Link.{LineLink, HasBus, Through, link_in, port_in}
 use Rattle.dc_poller.specs.Poll.{Polls, PollsPart}
 use Rattle.dc_poller.specs.Search.{SearchesOn, SearchesPart}

@@ -6,8 +6,8 @@ use Rattle.dc_address.specs.Text.{text_of}
 use Rattle.dc_address.specs.declared.identity.Identity.{Identity}
 use Rattle.dc_changes.specs.Line.{IsOfBytes}
 use Rattle.dc_changes.specs.Valid.{last_moment}
-use Rattle.dc_text.specs.Hex.{bytes_of}
-use Rattle.dc_teller.specs.Lines.{longest_input_line}
+use Rattle.dc_io.specs.Hex.{bytes_of}
+use Rattle.dc_io.specs.Lines.{longest_input_line}
 use Rattle.dc_poller.specs.declared.script_line.ScriptLine.{ScriptLine}
 use Rattle.dc_poller.specs.declared.script_line.ScriptLine.TheVariants.{Nothing, At, Start, Ask}
 use Rattle.dc_poller.specs.declared.script_line.ScriptLine.TheVariants.{Hear, Commit, Office, Poll}

@@ -15,7 +15,7 @@ use Rattle.dc_gateway.specs.Bus.{AreAskedBy, Exchange, IsSearched}
 use Rattle.dc_search.specs.State.{SearchState, is_idle, new_search, step_of}
 use Rattle.dc_search.specs.declared.step.Step.{Step}
 use Rattle.dc_search.specs.declared.step.Step.TheVariants.{Select, Request, Done, Budget}
-use Rattle.dc_text.specs.Words.{number_word}
+use Rattle.dc_io.specs.Words.{number_word}
 use Rattle.dc_poller.specs.declared.halt.Halt.{Halt}
 use Rattle.dc_poller.specs.declared.halt.Halt.TheVariants.{Write, NoMemory}
 use Rattle.dc_poller.specs.Link.{Link, absent, linked, lost, loss_text}

@@ -4,8 +4,8 @@ use Rattle.std.specs.Prelude.{get_or}
 use Rattle.dc_gateway.specs.Asking.{Asks}
 use Rattle.dc_gateway.specs.Bus.{AreExchanged, Exchange}
 use Rattle.dc_gateway.specs.declared.gateway.Gateway.{Gateway}
-use Rattle.dc_stream.specs.declared.stream.Sink.{Ghosts as SinkGhosts}
-use Rattle.dc_stream.specs.declared.stream.Source.{Ghosts as SourceGhosts}
+use Rattle.dc_io.specs.declared.stream.Sink.{Ghosts as SinkGhosts}
+use Rattle.dc_io.specs.declared.stream.Source.{Ghosts as SourceGhosts}
 use Rattle.dc_poller.specs.Poll.{IsPolled}
 use Rattle.dc_poller.specs.ScriptLine.{LineSeen, nothing, at, start, ask, hear, commit, office}
 use Rattle.dc_poller.specs.ScriptLine.{poll, search}

@@ -4,10 +4,10 @@ use Rattle.dc_address.specs.declared.identity.Identity.{Identity}
 use Rattle.dc_changes.specs.State.{State}
 use Rattle.dc_core.specs.Images.{Machine}
 use Rattle.dc_core.specs.Transcript.{Turn}
-use Rattle.dc_base.specs.Failures.{HasRisen}
+use Rattle.dc_io.specs.Failures.{HasRisen}
 use Rattle.dc_sectors.specs.Disk.{Image, Choices}
-use Rattle.dc_stream.specs.Stream.{Puts}
-use Rattle.dc_stream.specs.declared.stream.Sink.{Ghosts}
+use Rattle.dc_io.specs.Stream.{Puts}
+use Rattle.dc_io.specs.declared.stream.Sink.{Ghosts}
 use Rattle.dc_poller.specs.Poll.{Phase, Due, Happening, IsWay, happened_turns, happened_text}
 use Rattle.dc_poller.specs.Poll.{rounds_in, to_ask, is_over}
 use Rattle.dc_poller.specs.Link.{Link}

@@ -1,16 +1,15 @@
 //! The ways in which a run ends.
 
 ghost use Rattle.std.specs.Prelude.{◌≡◌};
-ghost use Rattle.dc_stream.specs.Stream.{Wrote};
-ghost use Rattle.dc_ending.specs.Ending.{damaged_at, fault_line, line_of, named_line, sector_word};
-ghost use Rattle.dc_ending.specs.Ending.{status_of};
-ghost use Rattle.dc_ending.specs.Outcome.{EndsAs};
+ghost use Rattle.dc_io.specs.Written.{Wrote};
+ghost use Rattle.dc_poller.specs.Ending.{damaged_at, fault_line, line_of, named_line, sector_word};
+ghost use Rattle.dc_poller.specs.Ending.{status_of};
+ghost use Rattle.dc_poller.specs.Outcome.{EndsAs};
 
+use crate::ProgramFault;
 use crate::escape::put_escaped;
-use dc_poller::ProgramFault;
+use dc_io::{IoFault, Sink, put_fault, put_number_word};
 use dc_recovery::{FormatFault, OpenFault};
-use dc_stream::{IoFault, Sink};
-use dc_text::{put_fault, put_number_word};
 
 /// What stands for standard input or output in `mbdc: file: NAME`.
 pub const STREAM: &str = "-";
@@ -57,7 +56,7 @@ impl Ending<'_> {
     /// # Errors
     /// A put failed; a prefix of the line is written then.
     pub fn put_line<W: Sink>(&self, out: &mut W) -> Result<(), IoFault>
-        ensures { Wrote W.written W.put_failures result out.old out.new (line_of self.now) }
+        ensures { Wrote W.Sink result out.old out.new (line_of self.now) }
     {
         match *self {
             Ending::Clean | Ending::Faulty => Ok(()),
@@ -79,9 +78,9 @@ impl Ending<'_> {
     }
 }
 
-#[tactic(auto, using(dc_stream::proofs::Pieces::written), unfolding(crate::specs::Ending::named_line))]
+#[tactic(auto, using(dc_io::proofs::Pieces::written), unfolding(crate::specs::Ending::named_line))]
 fn put_named<W: Sink>(out: &mut W, what: &[u8], name: &str) -> Result<(), IoFault>
-    ensures { Wrote W.written W.put_failures result out.old out.new (named_line what.now name.now) }
+    ensures { Wrote W.Sink result out.old out.new (named_line what.now name.now) }
 {
     out.put(what)?;
     put_escaped(out, name)?;
@@ -89,7 +88,7 @@ fn put_named<W: Sink>(out: &mut W, what: &[u8], name: &str) -> Result<(), IoFaul
 }
 
 // A fault's number and name, and the sector at which it is.
-#[tactic(auto, using(dc_stream::proofs::Pieces::written), unfolding(crate::specs::Ending::fault_line))]
+#[tactic(auto, using(dc_io::proofs::Pieces::written), unfolding(crate::specs::Ending::fault_line))]
 fn put_store<W: Sink>(
     out: &mut W,
     what: &[u8],
@@ -97,7 +96,7 @@ fn put_store<W: Sink>(
     name: &str,
     sector: Option<u32>,
 ) -> Result<(), IoFault>
-    ensures { Wrote W.written W.put_failures result out.old out.new
+    ensures { Wrote W.Sink result out.old out.new
         (fault_line what.now number name.now sector) }
 {
     out.put(what)?;
@@ -107,7 +106,7 @@ fn put_store<W: Sink>(
 }
 
 fn put_sector<W: Sink>(out: &mut W, sector: Option<u32>) -> Result<(), IoFault>
-    ensures { Wrote W.written W.put_failures result out.old out.new (sector_word sector) }
+    ensures { Wrote W.Sink result out.old out.new (sector_word sector) }
 {
     match sector {
         Some(sector) => put_number_word(out, u64::from(sector)),

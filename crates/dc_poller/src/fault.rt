@@ -4,9 +4,8 @@ ghost use Rattle.std.specs.Prelude.{◌≡◌};
 ghost use Rattle.dc_poller.specs.Fault.{number_of, name_of, stopped_by};
 ghost use Rattle.dc_poller.specs.declared.fault.ProgramFault.TheVariants.{NoMemory};
 
-use dc_base::NoMemory;
+use dc_io::{NoMemory, TextFault};
 use dc_recovery::OpenFault;
-use dc_teller::TellFault;
 use thiserror::Error;
 
 /// Why an engine of the program stopped (this product).
@@ -65,15 +64,15 @@ impl From<NoMemory> for ProgramFault {
     }
 }
 
-impl From<TellFault> for ProgramFault {
+impl From<TextFault> for ProgramFault {
     ghost from_gives = { λ fault made. made ≡ stopped_by fault };
 
-    fn from(fault: TellFault) -> ProgramFault {
+    fn from(fault: TextFault) -> ProgramFault {
         match fault {
-            TellFault::Read => ProgramFault::Read,
-            TellFault::TooLong => ProgramFault::TooLong,
-            TellFault::Write => ProgramFault::Write,
-            TellFault::NoMemory => ProgramFault::NoMemory,
+            TextFault::Read => ProgramFault::Read,
+            TextFault::TooLong => ProgramFault::TooLong,
+            TextFault::Write => ProgramFault::Write,
+            TextFault::NoMemory => ProgramFault::NoMemory,
         }
     }
 }

@@ -2,23 +2,21 @@
 
 ghost use Rattle.std.specs.Prelude.{◌≡◌, ◌≢◌, ◌↔◌, ◌<◌, ◌≤◌, ◌*◌, ◌++◌, ℕ, List, length, IfSome};
 ghost use Rattle.std.specs.Prelude.{IfOk, IfErr, OnOk, IsOk, IsErrOf};
-ghost use Rattle.dc_base.specs.Failures.{HasRisen};
+ghost use Rattle.dc_io.specs.Failures.{HasRisen};
 ghost use Rattle.dc_changes.specs.ChangeLine.{longest_change_line};
 ghost use Rattle.dc_changes.specs.Valid.{IsChange};
-ghost use Rattle.dc_stream.specs.Stream.{Puts, Wrote};
-ghost use Rattle.dc_teller.specs.Fold.{IsFolded, IsStep, AreSteps, change_answer, after_change};
-ghost use Rattle.dc_teller.specs.Fold.{order_line};
-ghost use Rattle.dc_teller.specs.Lines.{lines_of, most_input};
+ghost use Rattle.dc_io.specs.Written.{PutsInto, Wrote};
+ghost use Rattle.dc_poller.specs.Fold.{IsFolded, IsStep, AreSteps, change_answer, after_change};
+ghost use Rattle.dc_poller.specs.Fold.{order_line};
+ghost use Rattle.dc_io.specs.Lines.{lines_of, most_input};
 
-use crate::fault::TellFault;
-use crate::input::{CHUNK, MOST, read_input};
-use crate::lines::first_line;
 use crate::register::put_register;
-use dc_base::NoMemory;
 use dc_changes::{Change, LONGEST_CHANGE_LINE};
+use dc_io::{
+    Bytes, CHUNK, IoFault, MOST, NoMemory, Sink, Source, TextFault, first_line, put_fault_line,
+    put_number_word, read_input, room,
+};
 use dc_meters::House;
-use dc_stream::{Bytes, IoFault, Sink, Source, room};
-use dc_text::{put_fault_line, put_number_word};
 use std::alloc::Allocator;
 
 // The bytes within which the register stays: a disk of 131 sectors has room for as many.
@@ -34,9 +32,9 @@ fn kept(put: Result<(), IoFault>) -> Result<(), NoMemory>
     }
 }
 
-#[tactic(auto, using(dc_stream::proofs::Pieces::written), unfolding(crate::specs::Fold::order_line))]
+#[tactic(auto, using(dc_io::proofs::Pieces::written), unfolding(crate::specs::Fold::order_line))]
 fn put_order<A: Allocator + Copy, W: Sink>(house: &House<A>, out: &mut W) -> Result<(), IoFault>
-    ensures { Wrote W.written W.put_failures result out.old out.new (order_line house.now.state) }
+    ensures { Wrote W.Sink result out.old out.new (order_line house.now.state) }
 {
     out.put(b"ORDER")?;
     put_number_word(out, house.last_number())?;
@@ -137,43 +135,43 @@ fn fold_input<A: Allocator + Copy>(
 /// `specs/Fold.antt`.
 ///
 /// # Errors
-/// [`TellFault::Read`] and [`TellFault::Write`] where that end failed, [`TellFault::TooLong`] over 1 MiB,
-/// [`TellFault::NoMemory`] where memory was refused. Only after `Write` may something have been written.
+/// [`TextFault::Read`] and [`TextFault::Write`] where that end failed, [`TextFault::TooLong`] over 1 MiB,
+/// [`TextFault::NoMemory`] where memory was refused. Only after `Write` may something have been written.
 pub fn fold_lines<A: Allocator + Copy, R: Source, W: Sink>(
     alloc: A,
     reader: &mut R,
     writer: &mut W,
-) -> Result<bool, TellFault>
+) -> Result<bool, TextFault>
     // What is written is the text for the input, byte for byte, and the answer says whether a SYNTAX is in it.
     ensures text { IfOk result (λ found. IfSome (R.left reader.old) (λ input.
         (text : List ℕ) × IsFolded input text found
-        × Puts (W.written writer.old) (W.written writer.new) text)) }
+        × PutsInto W.Sink writer.old writer.new text)) }
 
     // An input over the limit is refused, and no other is refused for its length.
     ensures fits { OnOk result (IfSome (R.left reader.old) (λ input. length input ≤ most_input)) }
-    ensures too_long { IsErrOf result TellFault.TooLong
+    ensures too_long { IsErrOf result TextFault.TooLong
         → IfSome (R.left reader.old) (λ input. most_input < length input) }
 
     // A fault of an end is reported only where that end counted a failure.
-    ensures read { IsErrOf result TellFault.Read
+    ensures read { IsErrOf result TextFault.Read
         → HasRisen (R.take_failures reader.old) (R.take_failures reader.new) }
-    ensures write { IsErrOf result TellFault.Write
+    ensures write { IsErrOf result TextFault.Write
         → HasRisen (W.put_failures writer.old) (W.put_failures writer.new) }
     ensures ok { OnOk result ((R.take_failures reader.new ≡ R.take_failures reader.old)
         × (W.put_failures writer.new ≡ W.put_failures writer.old)) }
 
     // After any fault but a failed write the writer is as it was.
-    ensures untouched { IfErr result (λ fault. fault ≢ TellFault.Write → writer.new ≡ writer.old) }
+    ensures untouched { IfErr result (λ fault. fault ≢ TextFault.Write → writer.new ≡ writer.old) }
 {
     let mut bytes = room(alloc, LONGEST_CHANGE_LINE / 2)?;
     let mut chunk = room(alloc, CHUNK)?;
     let input = read_input(alloc, reader, chunk.as_mut_slice())?;
     if input.len() > MOST {
-        return Err(TellFault::TooLong);
+        return Err(TextFault::TooLong);
     }
     let (text, found) = fold_input(alloc, input.as_slice(), bytes.as_mut_slice())?;
     match writer.put(text.as_slice()) {
         Ok(()) => Ok(found),
-        Err(_) => Err(TellFault::Write),
+        Err(_) => Err(TextFault::Write),
     }
 }

@@ -3,7 +3,7 @@
 ghost use Rattle.std.specs.Prelude.{◌≡◌, ◌<◌, ◌≤◌, ◌+◌, ◌/◌, ◌%◌, ◌++◌, flat_map, map};
 ghost use Rattle.dc_address.specs.Digits.{decimal_digits};
 ghost use Rattle.dc_address.specs.Text.{decimal_code};
-ghost use Rattle.dc_stream.specs.Stream.{Wrote};
+ghost use Rattle.dc_io.specs.Written.{Wrote};
 ghost use Rattle.dc_search.specs.State.{step_of};
 ghost use Rattle.dc_poller.specs.Search.{budget_line, found_line, late_text, search_text};
 ghost use Rattle.dc_poller.specs.Search.{search_text_after, selections_line, shared_line};
@@ -11,18 +11,17 @@ ghost use Rattle.dc_poller.specs.ScriptLine.{greatest_budget};
 
 use crate::port::Port;
 use dc_address::Identity;
+use dc_io::{IoFault, Sink, put_number_word};
 use dc_search::{Search, Step};
-use dc_stream::{IoFault, Sink};
-use dc_text::put_number_word;
 use std::alloc::Allocator;
 
 /// Puts what a search found, which numbers are shared, whether the budget was spent, and how many selections it made.
-#[tactic(auto, using(dc_stream::proofs::Pieces::written))]
+#[tactic(auto, using(dc_io::proofs::Pieces::written))]
 pub fn put_search<A: Allocator + Copy, W: Sink>(
     search: &Search<A>,
     out: &mut W,
 ) -> Result<(), IoFault>
-    ensures { Wrote W.written W.put_failures result out.old out.new (search_text search.now) }
+    ensures { Wrote W.Sink result out.old out.new (search_text search.now) }
 {
     put_found(search.found(), out)?;
     put_rest(search, search.selections(), out)
@@ -30,14 +29,14 @@ pub fn put_search<A: Allocator + Copy, W: Sink>(
 
 /// Puts what a search found, as [`put_search`] does, where an earlier search of the same bus made `before`
 /// selections: the number of selections is that of both.
-#[tactic(auto, using(dc_stream::proofs::Pieces::written))]
+#[tactic(auto, using(dc_io::proofs::Pieces::written))]
 pub fn put_search_after<A: Allocator + Copy, W: Sink>(
     before: u32,
     search: &Search<A>,
     out: &mut W,
 ) -> Result<(), IoFault>
     requires { before + search.now.selections ≤ greatest_budget }
-    ensures { Wrote W.written W.put_failures result out.old out.new
+    ensures { Wrote W.Sink result out.old out.new
         (search_text_after before search.now) }
 {
     put_found(search.found(), out)?;
@@ -45,13 +44,13 @@ pub fn put_search_after<A: Allocator + Copy, W: Sink>(
 }
 
 // What comes after the meters found.
-#[tactic(auto, using(dc_stream::proofs::Pieces::written))]
+#[tactic(auto, using(dc_io::proofs::Pieces::written))]
 fn put_rest<A: Allocator + Copy, W: Sink>(
     search: &Search<A>,
     selections: u32,
     out: &mut W,
 ) -> Result<(), IoFault>
-    ensures { Wrote W.written W.put_failures result out.old out.new
+    ensures { Wrote W.Sink result out.old out.new
         (flat_map shared_line search.now.shared
         ++ (budget_line (step_of search.now) ++ selections_line selections)) }
 {
@@ -59,18 +58,18 @@ fn put_rest<A: Allocator + Copy, W: Sink>(
     put_end(search.next(), selections, out)
 }
 
-#[tactic(auto, using(dc_stream::proofs::Pieces::written))]
+#[tactic(auto, using(dc_io::proofs::Pieces::written))]
 fn put_end<W: Sink>(step: Step, selections: u32, out: &mut W) -> Result<(), IoFault>
-    ensures { Wrote W.written W.put_failures result out.old out.new
+    ensures { Wrote W.Sink result out.old out.new
         (budget_line step ++ selections_line selections) }
 {
     put_budget(step, out)?;
     put_selections(selections, out)
 }
 
-#[tactic(auto, using(dc_stream::proofs::Pieces::written))]
+#[tactic(auto, using(dc_io::proofs::Pieces::written))]
 fn put_found<W: Sink>(meters: &[Identity], out: &mut W) -> Result<(), IoFault>
-    ensures { Wrote W.written W.put_failures result out.old out.new
+    ensures { Wrote W.Sink result out.old out.new
         (flat_map found_line meters.now) }
 {
     for meter in meters {
@@ -79,18 +78,18 @@ fn put_found<W: Sink>(meters: &[Identity], out: &mut W) -> Result<(), IoFault>
     Ok(())
 }
 
-#[tactic(auto, using(dc_stream::proofs::Pieces::written))]
+#[tactic(auto, using(dc_io::proofs::Pieces::written))]
 fn put_meter<W: Sink>(meter: &Identity, out: &mut W) -> Result<(), IoFault>
-    ensures { Wrote W.written W.put_failures result out.old out.new (found_line meter.now) }
+    ensures { Wrote W.Sink result out.old out.new (found_line meter.now) }
 {
     out.put(b"FOUND ")?;
     out.put(&meter.text())?;
     out.put(b"\n")
 }
 
-#[tactic(auto, using(dc_stream::proofs::Pieces::written))]
+#[tactic(auto, using(dc_io::proofs::Pieces::written))]
 fn put_shared<W: Sink>(numbers: &[u32], out: &mut W) -> Result<(), IoFault>
-    ensures { Wrote W.written W.put_failures result out.old out.new
+    ensures { Wrote W.Sink result out.old out.new
         (flat_map shared_line numbers.now) }
 {
     for number in numbers {
@@ -99,9 +98,9 @@ fn put_shared<W: Sink>(numbers: &[u32], out: &mut W) -> Result<(), IoFault>
     Ok(())
 }
 
-#[tactic(auto, using(dc_stream::proofs::Pieces::written))]
+#[tactic(auto, using(dc_io::proofs::Pieces::written))]
 fn put_number<W: Sink>(number: u32, out: &mut W) -> Result<(), IoFault>
-    ensures { Wrote W.written W.put_failures result out.old out.new (shared_line number) }
+    ensures { Wrote W.Sink result out.old out.new (shared_line number) }
 {
     out.put(b"SHARED ")?;
     out.put(&eight_digits(number))?;
@@ -109,7 +108,7 @@ fn put_number<W: Sink>(number: u32, out: &mut W) -> Result<(), IoFault>
 }
 
 fn put_budget<W: Sink>(step: Step, out: &mut W) -> Result<(), IoFault>
-    ensures { Wrote W.written W.put_failures result out.old out.new (budget_line step) }
+    ensures { Wrote W.Sink result out.old out.new (budget_line step) }
 {
     match step {
         Step::Budget => out.put(b"BUDGET\n"),
@@ -117,9 +116,9 @@ fn put_budget<W: Sink>(step: Step, out: &mut W) -> Result<(), IoFault>
     }
 }
 
-#[tactic(auto, using(dc_stream::proofs::Pieces::joined))]
+#[tactic(auto, using(dc_io::proofs::Pieces::joined))]
 fn put_selections<W: Sink>(count: u32, out: &mut W) -> Result<(), IoFault>
-    ensures { Wrote W.written W.put_failures result out.old out.new (selections_line count) }
+    ensures { Wrote W.Sink result out.old out.new (selections_line count) }
 {
     out.put(b"SELECTIONS")?;
     put_number_word(out, count as u64)?;
@@ -127,9 +126,9 @@ fn put_selections<W: Sink>(count: u32, out: &mut W) -> Result<(), IoFault>
 }
 
 /// Puts how many answers came late, where some did.
-#[tactic(auto, using(dc_stream::proofs::Pieces::written))]
+#[tactic(auto, using(dc_io::proofs::Pieces::written))]
 pub fn put_late<W: Sink>(port: Port, late: u64, out: &mut W) -> Result<(), IoFault>
-    ensures { Wrote W.written W.put_failures result out.old out.new (late_text port late) }
+    ensures { Wrote W.Sink result out.old out.new (late_text port late) }
 {
     if late == 0 {
         return Ok(());

@@ -3,7 +3,7 @@
 ghost use Rattle.std.specs.Prelude.{◌≡◌};
 ghost use Rattle.dc_poller.specs.Halt.{halted_by};
 
-use dc_stream::IoFault;
+use dc_io::IoFault;
 
 /// Why a script ended before its end.
 #[derive(Clone, Copy)]

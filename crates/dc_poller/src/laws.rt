@@ -1,14 +1,17 @@
-//! What holds of the definitions alone.
+//! Theorems about the definitions alone.
 
-ghost use Rattle.std.specs.Prelude.{◌≡◌, ℕ, List, []};
+ghost use Rattle.std.specs.Prelude.{◌≡◌, ℕ, Bool, List, [], Option};
+ghost use Rattle.dc_changes.specs.declared.change.Change.{Change};
 ghost use Rattle.dc_changes.specs.State.{State};
 ghost use Rattle.dc_core.specs.Headline.{IsOpened};
 ghost use Rattle.dc_core.specs.Images.{Machine};
 ghost use Rattle.dc_core.specs.Transcript.{Turn};
+ghost use Rattle.dc_poller.specs.Fold.{IsFolded, IsReadAs};
 ghost use Rattle.dc_poller.specs.ImageRun.{IsOneLife};
 ghost use Rattle.dc_poller.specs.ScriptLine.{LineSeen, IsLineOf};
 ghost use Rattle.dc_poller.specs.Went.{Went};
 
+use dc_changes::a_line_has_one_change;
 use dc_sectors::Disk;
 
 /// A line of a script asks for one thing, if any.
@@ -28,3 +31,13 @@ pub fn a_run_is_one_life<D: Disk + Drop>()
         first.house.budget state [] turns first last
         → IsOneLife D.Disk state turns last }
 {}
+
+/// A line is read one way by `fold`, so an input has one text.
+pub fn an_input_has_one_fold()
+    ensures line { (line : List ℕ) (a b : Option Change) → IsReadAs line a → IsReadAs line b
+        → a ≡ b }
+    ensures text { (input text other : List ℕ) (found found_2 : Bool) → IsFolded input text found
+        → IsFolded input other found_2 → (text ≡ other) × (found ≡ found_2) }
+{
+    a_line_has_one_change();
+}

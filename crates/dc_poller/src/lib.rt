@@ -10,19 +10,28 @@
 //! [`report_on`] opens an image and writes a table of what it holds ([`Report`]), made whole before it is written.
 //!
 //! Read and write faults are answered only where that end counted a failure, and a script over 1 MiB is never worked
-//! on. The script is read before the image is opened. What only says of its input, the commands `decode` and `fold`,
-//! is `dc_teller`'s; so is how an input comes apart into lines.
+//! on. The script is read before the image is opened.
 //!
-//! Law: [`a_script_line_asks_for_one_thing`].
+//! [`fold_lines`] works without an image: it applies lines of telegrams and of the billing office to an empty register,
+//! and writes an answer to each line and then the register (`specs/Fold.antt`).
+//!
+//! An [`Ending`] is the status of a run of the program and its one line on standard error; [`ending_of`] makes one of
+//! an engine's result. A control character of a file's name is written as Rust's `escape_default` writes it.
+//!
+//! Laws: [`a_script_line_asks_for_one_thing`], [`a_run_is_one_life`], [`an_input_has_one_fold`].
 #![tactic(auto)]
 
+mod ending;
+mod escape;
 mod fault;
+mod fold;
 mod found;
 mod halt;
 mod laws;
 mod poll;
 mod port;
 mod quiet;
+mod register;
 mod report;
 mod run;
 mod script;
@@ -31,10 +40,12 @@ mod script_line;
 mod searching;
 mod told;
 
+pub use ending::{Ending, STREAM, ending_of};
 pub use fault::ProgramFault;
+pub use fold::fold_lines;
 pub use found::{put_search, put_search_after};
 pub use halt::Halt;
-pub use laws::{a_run_is_one_life, a_script_line_asks_for_one_thing};
+pub use laws::{a_run_is_one_life, a_script_line_asks_for_one_thing, an_input_has_one_fold};
 pub use report::{Report, report_on};
 pub use run::{run_script, run_script_over};
 pub use script_bus::{ScriptBus, Slot};

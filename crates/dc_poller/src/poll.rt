@@ -2,11 +2,11 @@
 
 ghost use Rattle.std.specs.Prelude.{◌≡◌, ◌≤◌, ℕ, true, false, [], IfOk, OnOk, OnErr, length};
 ghost use Rattle.dc_address.specs.declared.identity.Identity.{Identity as Meter};
-ghost use Rattle.dc_base.specs.Failures.{HasRisen};
+ghost use Rattle.dc_io.specs.Failures.{HasRisen};
 ghost use Rattle.dc_core.specs.Step.{longest_request};
 ghost use Rattle.dc_gateway.specs.Blocks.{most_answer};
 ghost use Rattle.dc_gateway.specs.Bus.{AreExchanged};
-ghost use Rattle.dc_stream.specs.Stream.{Puts, Wrote};
+ghost use Rattle.dc_io.specs.Written.{PutsInto, Wrote};
 ghost use Rattle.dc_poller.specs.Link.{Link, link_by, loss_text, IsHeardOver};
 ghost use Rattle.dc_poller.specs.Poll.{IsEnd, IsPolled, to_start, to_ask, to_send, to_hear};
 ghost use Rattle.dc_poller.specs.Poll.{to_commit, to_make_room, to_hear_again, behind_heard};
@@ -22,9 +22,9 @@ use dc_address::Identity;
 use dc_changes::Moment;
 use dc_core::{Concentrator, HearFault, LineHeard};
 use dc_gateway::AnswerBuf;
+use dc_io::{IoFault, Sink};
 use dc_linkframe::FrameBuf;
 use dc_sectors::Disk;
-use dc_stream::{IoFault, Sink};
 use std::alloc::Allocator;
 
 // No readout asks more often: three tries at a reset, a selection and each of 32 parts, and once more where nothing
@@ -48,7 +48,7 @@ pub fn poll<D: Disk + Drop, A: Allocator + Copy, B: ScriptBus, W: Sink>(
         × (last.link ≡ link_by (B.lost bus.new)))
         × OnErr result (FailsInLast W.Sink port out.old out.new happened)
         × IsPolled B.settles B.ready B.asks port bus.old (happened_exchanges happened) bus.new)
-        (λ text. OnOk result (Puts (W.written out.old) (W.written out.new) text)) concentrator.old
+        (λ text. OnOk result (PutsInto W.Sink out.old out.new text)) concentrator.old
         concentrator.new) }
     ensures fault { OnErr result (HasRisen (W.put_failures out.old) (W.put_failures out.new)) }
     ensures well { OnOk result (W.put_failures out.new ≡ W.put_failures out.old) }
@@ -68,7 +68,7 @@ fn settle_bus<B: ScriptBus, W: Sink>(port: Port, bus: &mut B, out: &mut W) -> Re
         → B.settles bus.old bus.new × (B.ready bus.new ≡ true) }
     ensures lost { B.lost bus.old ≡ true → B.lost bus.new ≡ true }
     ensures untouched { B.lost bus.old ≡ true → bus.new ≡ bus.old }
-    ensures told { Wrote W.written W.put_failures result out.old out.new
+    ensures told { Wrote W.Sink result out.old out.new
         (loss_text port (link_by (B.lost bus.old)) (link_by (B.lost bus.new))) }
     ensures unwritten { OnErr result ((port.is_gateway ≡ false)
         × (B.lost bus.old ≡ false) × (B.lost bus.new ≡ true)) }
@@ -100,7 +100,7 @@ fn start_and_read<D: Disk + Drop, A: Allocator + Copy, B: ScriptBus, W: Sink>(
         × (last.link ≡ link_by (B.lost bus.new)))
         × OnErr result (FailsInLast W.Sink port out.old out.new happened)
         × AreExchanged B.asks bus.old (happened_exchanges happened) bus.new)
-        (λ text. OnOk result (Puts (W.written out.old) (W.written out.new) text)) concentrator.old
+        (λ text. OnOk result (PutsInto W.Sink out.old out.new text)) concentrator.old
         concentrator.new) }
     ensures fault { OnErr result (HasRisen (W.put_failures out.old) (W.put_failures out.new)) }
     ensures well { OnOk result (W.put_failures out.new ≡ W.put_failures out.old) }
@@ -131,7 +131,7 @@ fn read_parts<D: Disk + Drop, A: Allocator + Copy, B: ScriptBus, W: Sink>(
         × (last.link ≡ link_by (B.lost bus.new)))
         × OnErr result (FailsInLast W.Sink port out.old out.new happened)
         × AreExchanged B.asks bus.old (happened_exchanges happened) bus.new)
-        (λ text. OnOk result (Puts (W.written out.old) (W.written out.new) text)) concentrator.old
+        (λ text. OnOk result (PutsInto W.Sink out.old out.new text)) concentrator.old
         concentrator.new) }
     ensures fault { OnErr result (HasRisen (W.put_failures out.old) (W.put_failures out.new)) }
     ensures well { OnOk result (W.put_failures out.new ≡ W.put_failures out.old) }
@@ -166,7 +166,7 @@ fn ask_and_hear<D: Disk + Drop, A: Allocator + Copy, B: ScriptBus, W: Sink>(
         IsRound more (link_by (B.lost bus.new)) 1 happened last)
         × OnErr result (FailsInLast W.Sink port out.old out.new happened)
         × AreExchanged B.asks bus.old (happened_exchanges happened) bus.new)
-        (λ text. OnOk result (Puts (W.written out.old) (W.written out.new) text)) concentrator.old
+        (λ text. OnOk result (PutsInto W.Sink out.old out.new text)) concentrator.old
         concentrator.new) }
     ensures fault { OnErr result (HasRisen (W.put_failures out.old) (W.put_failures out.new)) }
     ensures well { OnOk result (W.put_failures out.new ≡ W.put_failures out.old) }
@@ -199,7 +199,7 @@ fn exchange<D: Disk + Drop, A: Allocator + Copy, B: ScriptBus, W: Sink>(
         IsRound more (link_by (B.lost bus.new)) 0 happened last)
         × OnErr result (FailsInLast W.Sink port out.old out.new happened)
         × AreExchanged B.asks bus.old (happened_exchanges happened) bus.new)
-        (λ text. OnOk result (Puts (W.written out.old) (W.written out.new) text)) concentrator.old
+        (λ text. OnOk result (PutsInto W.Sink out.old out.new text)) concentrator.old
         concentrator.new) }
     ensures fault { OnErr result (HasRisen (W.put_failures out.old) (W.put_failures out.new)) }
     ensures well { OnOk result (W.put_failures out.new ≡ W.put_failures out.old) }
@@ -228,7 +228,7 @@ fn ask_bus<B: ScriptBus, W: Sink>(
     ensures asked { IfOk result (λ answer. B.asks bus.old request.now answer bus.new) }
     ensures unwritten { OnErr result ((B.lost bus.old ≡ false) × (B.lost bus.new ≡ true)
         × B.asks bus.old request.now [] bus.new) }
-    ensures told { Wrote W.written W.put_failures result out.old out.new
+    ensures told { Wrote W.Sink result out.old out.new
         (loss_text port (link_by (B.lost bus.old)) (link_by (B.lost bus.new))) }
 {
     let was = bus.is_lost();
@@ -256,7 +256,7 @@ fn hear<D: Disk + Drop, A: Allocator + Copy, W: Sink>(
         (λ happened last. IfOk result (λ more. IsRound more link 0 happened last)
         × OnErr result (FailsInLast W.Sink port out.old out.new happened)
         × (happened_exchanges happened ≡ []))
-        (λ text. OnOk result (Puts (W.written out.old) (W.written out.new) text)) concentrator.old
+        (λ text. OnOk result (PutsInto W.Sink out.old out.new text)) concentrator.old
         concentrator.new) }
     ensures fault { OnErr result (HasRisen (W.put_failures out.old) (W.put_failures out.new)) }
     ensures well { OnOk result (W.put_failures out.new ≡ W.put_failures out.old) }
@@ -288,7 +288,7 @@ fn hear_again<D: Disk + Drop, A: Allocator + Copy, W: Sink>(
         (λ happened last. IfOk result (λ more. IsRound more link 0 happened last)
         × OnErr result (FailsInLast W.Sink port out.old out.new happened)
         × (happened_exchanges happened ≡ []))
-        (λ text. OnOk result (Puts (W.written out.old) (W.written out.new) text)) concentrator.old
+        (λ text. OnOk result (PutsInto W.Sink out.old out.new text)) concentrator.old
         concentrator.new) }
     ensures fault { OnErr result (HasRisen (W.put_failures out.old) (W.put_failures out.new)) }
     ensures well { OnOk result (W.put_failures out.new ≡ W.put_failures out.old) }
@@ -317,7 +317,7 @@ fn hear_once_more<D: Disk + Drop, A: Allocator + Copy, W: Sink>(
         (λ happened last. IfOk result (λ more. IsRound more link 0 happened last)
         × OnErr result (FailsInLast W.Sink port out.old out.new happened)
         × (happened_exchanges happened ≡ []))
-        (λ text. OnOk result (Puts (W.written out.old) (W.written out.new) text)) concentrator.old
+        (λ text. OnOk result (PutsInto W.Sink out.old out.new text)) concentrator.old
         concentrator.new) }
     ensures fault { OnErr result (HasRisen (W.put_failures out.old) (W.put_failures out.new)) }
     ensures well { OnOk result (W.put_failures out.new ≡ W.put_failures out.old) }
@@ -341,7 +341,7 @@ fn after_heard<D: Disk + Drop, A: Allocator + Copy, W: Sink>(
         (λ happened last. IfOk result (λ more. IsRound more link 0 happened last)
         × OnErr result (FailsInLast W.Sink port out.old out.new happened)
         × (happened_exchanges happened ≡ []))
-        (λ text. OnOk result (Puts (W.written out.old) (W.written out.new) text)) concentrator.old
+        (λ text. OnOk result (PutsInto W.Sink out.old out.new text)) concentrator.old
         concentrator.new) }
     ensures fault { OnErr result (HasRisen (W.put_failures out.old) (W.put_failures out.new)) }
     ensures well { OnOk result (W.put_failures out.new ≡ W.put_failures out.old) }
@@ -368,7 +368,7 @@ fn commit_part<D: Disk + Drop, A: Allocator + Copy, W: Sink>(
         (λ happened last. IfOk result (λ more. IsRound more link 0 happened last)
         × OnErr result (FailsInLast W.Sink port out.old out.new happened)
         × (happened_exchanges happened ≡ []))
-        (λ text. OnOk result (Puts (W.written out.old) (W.written out.new) text)) concentrator.old
+        (λ text. OnOk result (PutsInto W.Sink out.old out.new text)) concentrator.old
         concentrator.new) }
     ensures fault { OnErr result (HasRisen (W.put_failures out.old) (W.put_failures out.new)) }
     ensures well { OnOk result (W.put_failures out.new ≡ W.put_failures out.old) }

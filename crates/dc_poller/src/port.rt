@@ -1,12 +1,11 @@
 //! A bus line, as a script names it and states its loss.
 
 ghost use Rattle.std.specs.Prelude.{◌≡◌, ◌++◌, codes};
-ghost use Rattle.dc_stream.specs.Stream.{Wrote};
-ghost use Rattle.dc_text.specs.Words.{number_word};
+ghost use Rattle.dc_io.specs.Written.{Wrote};
+ghost use Rattle.dc_io.specs.Words.{number_word};
 ghost use Rattle.dc_poller.specs.Link.{link_by, loss_line, loss_text};
 
-use dc_stream::{IoFault, Sink};
-use dc_text::put_number_word;
+use dc_io::{IoFault, Sink, put_number_word};
 
 /// A bus line.
 #[derive(Clone, Copy)]
@@ -25,7 +24,7 @@ pub const GATEWAY: Port = Port {
 
 /// Puts that the bus of a line was lost, where it was lost since.
 pub fn put_loss<W: Sink>(port: Port, was: bool, is: bool, out: &mut W) -> Result<(), IoFault>
-    ensures { Wrote W.written W.put_failures result out.old out.new
+    ensures { Wrote W.Sink result out.old out.new
         (loss_text port (link_by was) (link_by is)) }
 {
     match (was, is) {
@@ -36,7 +35,7 @@ pub fn put_loss<W: Sink>(port: Port, was: bool, is: bool, out: &mut W) -> Result
 
 /// Puts that the bus of a line was lost.
 pub fn put_lost<W: Sink>(port: Port, out: &mut W) -> Result<(), IoFault>
-    ensures { Wrote W.written W.put_failures result out.old out.new (loss_line port) }
+    ensures { Wrote W.Sink result out.old out.new (loss_line port) }
 {
     if port.is_gateway {
         out.put(b"GATEWAY LOST\n")
@@ -45,9 +44,9 @@ pub fn put_lost<W: Sink>(port: Port, out: &mut W) -> Result<(), IoFault>
     }
 }
 
-#[tactic(auto, using(dc_stream::proofs::Pieces::written))]
+#[tactic(auto, using(dc_io::proofs::Pieces::written))]
 fn put_line_lost<W: Sink>(line: u8, out: &mut W) -> Result<(), IoFault>
-    ensures { Wrote W.written W.put_failures result out.old out.new
+    ensures { Wrote W.Sink result out.old out.new
         (codes "LINE" ++ number_word line ++ codes " LOST\n") }
 {
     out.put(b"LINE")?;

@@ -1,21 +1,20 @@
 //! The text of a register.
 
-ghost use Rattle.dc_stream.specs.Stream.{Wrote};
-ghost use Rattle.dc_teller.specs.Register.{register_text};
+ghost use Rattle.dc_io.specs.Written.{Wrote};
+ghost use Rattle.dc_poller.specs.Register.{register_text};
 
+use dc_io::{IoFault, Sink, put_number_word};
 use dc_meters::House;
-use dc_stream::{IoFault, Sink};
-use dc_text::put_number_word;
 use dc_upload::write_meters;
 use std::alloc::Allocator;
 
 /// Writes the register: a line for each meter, the number of readings, and the size.
-#[tactic(auto, using(dc_stream::proofs::Pieces::written), unfolding(crate::specs::Register::register_text))]
+#[tactic(auto, using(dc_io::proofs::Pieces::written), unfolding(crate::specs::Register::register_text))]
 pub fn put_register<A: Allocator + Copy, W: Sink>(
     house: &House<A>,
     out: &mut W,
 ) -> Result<(), IoFault>
-    ensures { Wrote W.written W.put_failures result out.old out.new
+    ensures { Wrote W.Sink result out.old out.new
         (register_text house.now.state) }
 {
     write_meters(house, out)?;

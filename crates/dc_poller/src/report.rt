@@ -2,25 +2,24 @@
 
 ghost use Rattle.std.specs.Prelude.{◌≡◌, ◌≢◌, ◌≤◌, ◌<◌, ◌⊎◌, IsTrue, Some, Err, codes, IfSome};
 ghost use Rattle.std.specs.Prelude.{IfOk, IfErr, OnOk, OnErr, IsErrOf};
-ghost use Rattle.dc_base.specs.Failures.{HasRisen};
+ghost use Rattle.dc_io.specs.Failures.{HasRisen};
 ghost use Rattle.dc_recovery.specs.Halves.{fewest_sectors, half_len_of};
 ghost use Rattle.dc_recovery.specs.Refusal.{IsRefused, TellsOfImage};
 ghost use Rattle.dc_recovery.specs.Stands.{EachStands, StandsForOne};
 ghost use Rattle.dc_recovery.specs.declared.fault.OpenFault.TheVariants.{NotImage, Worn, Device};
 ghost use Rattle.dc_sectors.specs.Disk.{LeavesOnly};
-ghost use Rattle.dc_stream.specs.Stream.{Puts};
+ghost use Rattle.dc_io.specs.Written.{PutsInto};
 ghost use Rattle.dc_units.specs.Date.{Day, exists};
 ghost use Rattle.dc_units.specs.Text.{day_text};
 ghost use Rattle.dc_poller.specs.Fault.{IfOpen, IsOfImage};
 ghost use Rattle.dc_poller.specs.Report.{IsTold, report_word, table_text};
 
 use crate::fault::ProgramFault;
-use dc_base::NoMemory;
+use dc_io::{IoFault, NoMemory, Sink};
 use dc_meters::House;
 use dc_recovery::Store;
 use dc_report::{due_table, register_table};
 use dc_sectors::Disk;
-use dc_stream::{IoFault, Sink};
 use dc_units::Date;
 use std::alloc::Allocator;
 
@@ -65,7 +64,7 @@ pub fn report_on<D: Disk + Drop, A: Allocator + Copy, W: Sink>(
     // The table is that of the state which the image reads as.
     ensures told { D.keeps result.0 → OnOk result.1
         (IsTold (half_len_of (D.sectors disk)) report (D.reads disk)
-        (Puts (W.written writer.old) (W.written writer.new))) }
+        (PutsInto W.Sink writer.old writer.new)) }
     ensures well { OnOk result.1 (W.put_failures writer.new ≡ W.put_failures writer.old) }
 
     // An image that isn't opened is refused as the store refuses it; one that stands is refused only as worn.

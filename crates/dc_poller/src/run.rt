@@ -2,14 +2,15 @@
 
 ghost use Rattle.std.specs.Prelude.{◌≡◌, ◌≢◌, ◌∷◌, [], ◌⊎◌, ◌≤◌, ◌<◌, ◌*◌, length, vec_len, IfSome};
 ghost use Rattle.std.specs.Prelude.{IfOk, IfErr, MatchResult, OnOk, IsErrOf};
-ghost use Rattle.dc_base.specs.Failures.{HasRisen};
+ghost use Rattle.dc_io.specs.Failures.{HasRisen};
 ghost use Rattle.dc_recovery.specs.Halves.{half_len_of};
 ghost use Rattle.dc_recovery.specs.Refusal.{IsRefused, TellsOfImage};
 ghost use Rattle.dc_recovery.specs.Stands.{EachStands, StandsForOne};
 ghost use Rattle.dc_recovery.specs.declared.fault.OpenFault.TheVariants.{NotImage, Worn, Device};
 ghost use Rattle.dc_sectors.specs.Disk.{LeavesOnly};
-ghost use Rattle.dc_stream.specs.Stream.{IsAtEnd, Puts};
-ghost use Rattle.dc_teller.specs.Lines.{longest_input_line, most_input};
+ghost use Rattle.dc_io.specs.Stream.{IsAtEnd};
+ghost use Rattle.dc_io.specs.Written.{PutsInto};
+ghost use Rattle.dc_io.specs.Lines.{longest_input_line, most_input};
 ghost use Rattle.dc_poller.specs.Fault.{IfOpen, IsOfReading, IsOfSearch};
 ghost use Rattle.dc_poller.specs.ImageRun.{ImageRan, ImageCut};
 ghost use Rattle.dc_poller.specs.Link.{link_at_first, links_of, only_gateway};
@@ -20,12 +21,10 @@ use crate::fault::ProgramFault;
 use crate::halt::Halt;
 use crate::script::run_lines;
 use crate::script_bus::{ScriptBus, Slot};
-use dc_base::NoMemory;
 use dc_core::Concentrator;
 use dc_gateway::{Bus, Gateway};
+use dc_io::{CHUNK, LONGEST, MOST, NoMemory, Sink, Source, read_input, room};
 use dc_sectors::Disk;
-use dc_stream::{Sink, Source, room};
-use dc_teller::{CHUNK, LONGEST, MOST, read_input};
 use std::alloc::Allocator;
 
 /// Opens the image, does what the lines of the script ask for that the reader has left, and closes it. The pending
@@ -72,7 +71,7 @@ pub fn run_script_over<
     ensures ran { (D.keeps disk → EachStands (half_len_of (D.sectors disk)) (D.choices disk))
         → IfOk result.1 (λ faulty. ImageRan D.Disk (links_of B.lost lines.old)
         (R.left reader.old) faulty
-        (Puts (W.written writer.old) (W.written writer.new))
+        (PutsInto W.Sink writer.old writer.new)
         (AreCarried B.lost B.asks B.settles B.ready lines.old lines.new) disk result.0) }
     ensures cut { (D.keeps disk → EachStands (half_len_of (D.sectors disk)) (D.choices disk))
         → IsErrOf result.1 ProgramFault.Write
@@ -83,7 +82,7 @@ pub fn run_script_over<
     ensures starved { (D.keeps disk → EachStands (half_len_of (D.sectors disk)) (D.choices disk))
         → IsErrOf result.1 ProgramFault.NoMemory → ((result.0 ≡ disk) × (writer.new ≡ writer.old))
         ⊎ ImageStarved D.Disk (links_of B.lost lines.old) (R.left reader.old)
-        (Puts (W.written writer.old) (W.written writer.new))
+        (PutsInto W.Sink writer.old writer.new)
         (AreCarried B.lost B.asks B.settles B.ready lines.old lines.new) disk result.0 }
 
     // An image that isn't opened is refused as the store refuses it; one that stands is refused only as worn.
@@ -183,7 +182,7 @@ pub fn run_script<
     ensures ran { (D.keeps disk → EachStands (half_len_of (D.sectors disk)) (D.choices disk))
         → IfOk result.1 (λ faulty. OverGateway GR.Source GW.Sink gateway (λ carries.
         ImageRan D.Disk (only_gateway (link_at_first gateway)) (R.left reader.old) faulty
-        (Puts (W.written writer.old) (W.written writer.new)) carries disk result.0)) }
+        (PutsInto W.Sink writer.old writer.new) carries disk result.0)) }
     ensures cut { (D.keeps disk → EachStands (half_len_of (D.sectors disk)) (D.choices disk))
         → IsErrOf result.1 ProgramFault.Write → OverGateway GR.Source GW.Sink gateway (λ carries.
         ImageCut D.Disk (only_gateway (link_at_first gateway)) (R.left reader.old) carries disk result.0) }
@@ -193,7 +192,7 @@ pub fn run_script<
         → IsErrOf result.1 ProgramFault.NoMemory → ((result.0 ≡ disk) × (writer.new ≡ writer.old))
         ⊎ OverGateway GR.Source GW.Sink gateway (λ carries.
         ImageStarved D.Disk (only_gateway (link_at_first gateway)) (R.left reader.old)
-        (Puts (W.written writer.old) (W.written writer.new)) carries disk result.0) }
+        (PutsInto W.Sink writer.old writer.new) carries disk result.0) }
 
     // An image that isn't opened is refused as the store refuses it; one that stands is refused only as worn.
     ensures small { D.sectors disk < 131

@@ -2,12 +2,12 @@
 
 ghost use Rattle.std.specs.Prelude.{◌≡◌, ◌⊎◌, ◌≤◌, ◌<◌, ◌*◌, ◌++◌, ℕ, suc, List, codes, length};
 ghost use Rattle.std.specs.Prelude.{IfOk, IfSome, IfNone, OnOk, OnErr};
-ghost use Rattle.dc_base.specs.Failures.{HasRisen};
+ghost use Rattle.dc_io.specs.Failures.{HasRisen};
 ghost use Rattle.dc_core.specs.Run.{event_of};
 ghost use Rattle.dc_core.specs.Text.{answer_text};
-ghost use Rattle.dc_stream.specs.Stream.{Puts, Wrote};
-ghost use Rattle.dc_text.specs.Words.{number_word};
-ghost use Rattle.dc_teller.specs.Lines.{lines_of, longest_input_line};
+ghost use Rattle.dc_io.specs.Written.{PutsInto, Wrote};
+ghost use Rattle.dc_io.specs.Words.{number_word};
+ghost use Rattle.dc_io.specs.Lines.{lines_of, longest_input_line};
 ghost use Rattle.dc_poller.specs.Halt.{IsCounted, OnNoMemory, OnWrite};
 ghost use Rattle.dc_poller.specs.Link.{AreAbsent, LineLink, absent, line_in, line_of, links_of};
 ghost use Rattle.dc_poller.specs.Link.{with_link};
@@ -28,10 +28,8 @@ use crate::searching::search_on;
 use dc_address::Identity;
 use dc_changes::Moment;
 use dc_core::{Concentrator, Event, WriteFault};
+use dc_io::{IoFault, Sink, first_line, put_number_word};
 use dc_sectors::Disk;
-use dc_stream::{IoFault, Sink};
-use dc_teller::first_line;
-use dc_text::put_number_word;
 use std::alloc::Allocator;
 
 /// Runs the lines of an input, up to the first that spells nothing, and says whether there is one. `bytes` is room
@@ -47,13 +45,13 @@ pub fn run_lines<D: Disk + Drop, A: Allocator + Copy, B: ScriptBus + Drop, W: Si
     requires { longest_input_line ≤ 2 * length bytes.old }
     ensures ran { BehindAnyRun D.keeps D.sectors D.reads D.choices concentrator.old
         (λ origin state before.
-        IfOk result (λ faulty. ScriptRan (D.keeps origin) D.sectors D.failures D.reads D.choices D.moment D.images_since concentrator.old.house.budget state before (links_of B.lost slots.old) (lines_of input.now) faulty (Puts (W.written out.old) (W.written out.new)) (AreCarried B.lost B.asks B.settles B.ready slots.old slots.new) concentrator.old concentrator.new)) }
+        IfOk result (λ faulty. ScriptRan (D.keeps origin) D.sectors D.failures D.reads D.choices D.moment D.images_since concentrator.old.house.budget state before (links_of B.lost slots.old) (lines_of input.now) faulty (PutsInto W.Sink out.old out.new) (AreCarried B.lost B.asks B.settles B.ready slots.old slots.new) concentrator.old concentrator.new)) }
     ensures cut { BehindAnyRun D.keeps D.sectors D.reads D.choices concentrator.old
         (λ origin state before.
         OnWrite result (ScriptCut (D.keeps origin) D.sectors D.failures D.reads D.choices D.moment D.images_since concentrator.old.house.budget state before (links_of B.lost slots.old) (lines_of input.now) (AreCarried B.lost B.asks B.settles B.ready slots.old slots.new) concentrator.old concentrator.new)) }
     ensures starved { BehindAnyRun D.keeps D.sectors D.reads D.choices concentrator.old
         (λ origin state before.
-        OnNoMemory result (ScriptStarved (D.keeps origin) D.sectors D.failures D.reads D.choices D.moment D.images_since concentrator.old.house.budget state before (links_of B.lost slots.old) (lines_of input.now) (Puts (W.written out.old) (W.written out.new)) (AreCarried B.lost B.asks B.settles B.ready slots.old slots.new) concentrator.old concentrator.new)) }
+        OnNoMemory result (ScriptStarved (D.keeps origin) D.sectors D.failures D.reads D.choices D.moment D.images_since concentrator.old.house.budget state before (links_of B.lost slots.old) (lines_of input.now) (PutsInto W.Sink out.old out.new) (AreCarried B.lost B.asks B.settles B.ready slots.old slots.new) concentrator.old concentrator.new)) }
     // Memory is refused to a search alone, which needs a line that has a bus.
     ensures through { OnNoMemory result (¬ (AreAbsent (links_of B.lost slots.old))) }
     ensures counted { IsCounted result (W.put_failures out.old) (W.put_failures out.new) }
@@ -90,13 +88,13 @@ fn run_line<D: Disk + Drop, A: Allocator + Copy, B: ScriptBus + Drop, W: Sink>(
 ) -> Result<(), Halt>
     ensures ran { BehindAnyRun D.keeps D.sectors D.reads D.choices concentrator.old
         (λ origin state before.
-        OnOk result (LineRan (D.keeps origin) D.sectors D.failures D.reads D.choices D.moment D.images_since concentrator.old.house.budget state before moment.seconds (seen asked.now) (links_of B.lost slots.old) (links_of B.lost slots.new) (Puts (W.written out.old) (W.written out.new)) (IsCarried B.lost B.asks B.settles B.ready (seen asked.now) slots.old slots.new) concentrator.old concentrator.new)) }
+        OnOk result (LineRan (D.keeps origin) D.sectors D.failures D.reads D.choices D.moment D.images_since concentrator.old.house.budget state before moment.seconds (seen asked.now) (links_of B.lost slots.old) (links_of B.lost slots.new) (PutsInto W.Sink out.old out.new) (IsCarried B.lost B.asks B.settles B.ready (seen asked.now) slots.old slots.new) concentrator.old concentrator.new)) }
     ensures cut { BehindAnyRun D.keeps D.sectors D.reads D.choices concentrator.old
         (λ origin state before.
         OnWrite result (LineCut (D.keeps origin) D.sectors D.failures D.reads D.choices D.moment D.images_since concentrator.old.house.budget state before moment.seconds (seen asked.now) (links_of B.lost slots.old) (IsCarried B.lost B.asks B.settles B.ready (seen asked.now) slots.old slots.new) concentrator.old concentrator.new)) }
     ensures starved { BehindAnyRun D.keeps D.sectors D.reads D.choices concentrator.old
         (λ origin state before.
-        OnNoMemory result (LineStarved (D.keeps origin) D.sectors D.failures D.reads D.choices D.moment D.images_since concentrator.old.house.budget state before (seen asked.now) (links_of B.lost slots.old) (Puts (W.written out.old) (W.written out.new)) (IsCarried B.lost B.asks B.settles B.ready (seen asked.now) slots.old slots.new) concentrator.old concentrator.new)) }
+        OnNoMemory result (LineStarved (D.keeps origin) D.sectors D.failures D.reads D.choices D.moment D.images_since concentrator.old.house.budget state before (seen asked.now) (links_of B.lost slots.old) (PutsInto W.Sink out.old out.new) (IsCarried B.lost B.asks B.settles B.ready (seen asked.now) slots.old slots.new) concentrator.old concentrator.new)) }
     ensures through { OnNoMemory result (¬ (AreAbsent (links_of B.lost slots.old))) }
     ensures absent { AreAbsent (links_of B.lost slots.old) → AreAbsent (links_of B.lost slots.new) }
     ensures counted { IsCounted result (W.put_failures out.old) (W.put_failures out.new) }
@@ -121,7 +119,7 @@ fn run_plain<D: Disk + Drop, A: Allocator + Copy, B: ScriptBus + Drop, W: Sink>(
     requires { IsPlain (seen asked.now) }
     ensures ran { BehindAnyRun D.keeps D.sectors D.reads D.choices concentrator.old
         (λ origin state before.
-        OnOk result (LineRan (D.keeps origin) D.sectors D.failures D.reads D.choices D.moment D.images_since concentrator.old.house.budget state before moment.seconds (seen asked.now) (links_of B.lost slots.old) (links_of B.lost slots.new) (Puts (W.written out.old) (W.written out.new)) (IsCarried B.lost B.asks B.settles B.ready (seen asked.now) slots.old slots.new) concentrator.old concentrator.new)) }
+        OnOk result (LineRan (D.keeps origin) D.sectors D.failures D.reads D.choices D.moment D.images_since concentrator.old.house.budget state before moment.seconds (seen asked.now) (links_of B.lost slots.old) (links_of B.lost slots.new) (PutsInto W.Sink out.old out.new) (IsCarried B.lost B.asks B.settles B.ready (seen asked.now) slots.old slots.new) concentrator.old concentrator.new)) }
     ensures cut { BehindAnyRun D.keeps D.sectors D.reads D.choices concentrator.old
         (λ origin state before.
         OnErr result (LineCut (D.keeps origin) D.sectors D.failures D.reads D.choices D.moment D.images_since concentrator.old.house.budget state before moment.seconds (seen asked.now) (links_of B.lost slots.old) (IsCarried B.lost B.asks B.settles B.ready (seen asked.now) slots.old slots.new) concentrator.old concentrator.new)) }
@@ -165,7 +163,7 @@ fn poll_line<D: Disk + Drop, A: Allocator + Copy, B: ScriptBus + Drop, W: Sink>(
 ) -> Result<(), IoFault>
     ensures ran { BehindAnyRun D.keeps D.sectors D.reads D.choices concentrator.old
         (λ origin state before.
-        OnOk result (LineRan (D.keeps origin) D.sectors D.failures D.reads D.choices D.moment D.images_since concentrator.old.house.budget state before moment.seconds (polls line meter.now) (links_of B.lost slots.old) (links_of B.lost slots.new) (Puts (W.written out.old) (W.written out.new)) (IsCarried B.lost B.asks B.settles B.ready (polls line meter.now) slots.old slots.new) concentrator.old concentrator.new)) }
+        OnOk result (LineRan (D.keeps origin) D.sectors D.failures D.reads D.choices D.moment D.images_since concentrator.old.house.budget state before moment.seconds (polls line meter.now) (links_of B.lost slots.old) (links_of B.lost slots.new) (PutsInto W.Sink out.old out.new) (IsCarried B.lost B.asks B.settles B.ready (polls line meter.now) slots.old slots.new) concentrator.old concentrator.new)) }
     ensures cut { BehindAnyRun D.keeps D.sectors D.reads D.choices concentrator.old
         (λ origin state before.
         OnErr result (LineCut (D.keeps origin) D.sectors D.failures D.reads D.choices D.moment D.images_since concentrator.old.house.budget state before moment.seconds (polls line meter.now) (links_of B.lost slots.old) (IsCarried B.lost B.asks B.settles B.ready (polls line meter.now) slots.old slots.new) concentrator.old concentrator.new)) }
@@ -191,7 +189,7 @@ fn poll_slot<D: Disk + Drop, A: Allocator + Copy, B: ScriptBus + Drop, W: Sink>(
 ) -> Result<(), IoFault>
     ensures ran { (links : List LineLink) → line_in links line ≡ line_of B.lost slot.old
         → BehindAnyRun D.keeps D.sectors D.reads D.choices concentrator.old (λ origin state before.
-        OnOk result (LineRan (D.keeps origin) D.sectors D.failures D.reads D.choices D.moment D.images_since concentrator.old.house.budget state before moment.seconds (polls line meter.now) links (with_link links line (line_of B.lost slot.new).link) (Puts (W.written out.old) (W.written out.new)) (λ exchanges. PollsOver B.lost B.asks B.settles B.ready line exchanges slot.old slot.new) concentrator.old concentrator.new)) }
+        OnOk result (LineRan (D.keeps origin) D.sectors D.failures D.reads D.choices D.moment D.images_since concentrator.old.house.budget state before moment.seconds (polls line meter.now) links (with_link links line (line_of B.lost slot.new).link) (PutsInto W.Sink out.old out.new) (λ exchanges. PollsOver B.lost B.asks B.settles B.ready line exchanges slot.old slot.new) concentrator.old concentrator.new)) }
     ensures cut { (links : List LineLink) → line_in links line ≡ line_of B.lost slot.old
         → BehindAnyRun D.keeps D.sectors D.reads D.choices concentrator.old (λ origin state before.
         OnErr result (LineCut (D.keeps origin) D.sectors D.failures D.reads D.choices D.moment D.images_since concentrator.old.house.budget state before moment.seconds (polls line meter.now) links (λ exchanges. PollsOver B.lost B.asks B.settles B.ready line exchanges slot.old slot.new) concentrator.old concentrator.new)) }
@@ -223,13 +221,13 @@ fn search_line<D: Disk + Drop, A: Allocator + Copy, B: ScriptBus + Drop, W: Sink
 ) -> Result<(), Halt>
     ensures ran { (moment : ℕ) → BehindAnyRun D.keeps D.sectors D.reads D.choices concentrator.old
         (λ origin state before.
-        OnOk result (LineRan (D.keeps origin) D.sectors D.failures D.reads D.choices D.moment D.images_since concentrator.old.house.budget state before moment (searches budget line) (links_of B.lost slots.old) (links_of B.lost slots.new) (Puts (W.written out.old) (W.written out.new)) (IsCarried B.lost B.asks B.settles B.ready (searches budget line) slots.old slots.new) concentrator.old concentrator.new)) }
+        OnOk result (LineRan (D.keeps origin) D.sectors D.failures D.reads D.choices D.moment D.images_since concentrator.old.house.budget state before moment (searches budget line) (links_of B.lost slots.old) (links_of B.lost slots.new) (PutsInto W.Sink out.old out.new) (IsCarried B.lost B.asks B.settles B.ready (searches budget line) slots.old slots.new) concentrator.old concentrator.new)) }
     ensures cut { (moment : ℕ) → BehindAnyRun D.keeps D.sectors D.reads D.choices concentrator.old
         (λ origin state before.
         OnWrite result (LineCut (D.keeps origin) D.sectors D.failures D.reads D.choices D.moment D.images_since concentrator.old.house.budget state before moment (searches budget line) (links_of B.lost slots.old) (IsCarried B.lost B.asks B.settles B.ready (searches budget line) slots.old slots.new) concentrator.old concentrator.new)) }
     ensures starved { BehindAnyRun D.keeps D.sectors D.reads D.choices concentrator.old
         (λ origin state before.
-        OnNoMemory result (LineStarved (D.keeps origin) D.sectors D.failures D.reads D.choices D.moment D.images_since concentrator.old.house.budget state before (searches budget line) (links_of B.lost slots.old) (Puts (W.written out.old) (W.written out.new)) (IsCarried B.lost B.asks B.settles B.ready (searches budget line) slots.old slots.new) concentrator.old concentrator.new)) }
+        OnNoMemory result (LineStarved (D.keeps origin) D.sectors D.failures D.reads D.choices D.moment D.images_since concentrator.old.house.budget state before (searches budget line) (links_of B.lost slots.old) (PutsInto W.Sink out.old out.new) (IsCarried B.lost B.asks B.settles B.ready (searches budget line) slots.old slots.new) concentrator.old concentrator.new)) }
     ensures through { OnNoMemory result (¬ (AreAbsent (links_of B.lost slots.old))) }
     ensures absent { AreAbsent (links_of B.lost slots.old) → AreAbsent (links_of B.lost slots.new) }
     ensures counted { IsCounted result (W.put_failures out.old) (W.put_failures out.new) }
@@ -253,14 +251,14 @@ fn search_slot<D: Disk + Drop, A: Allocator + Copy, B: ScriptBus + Drop, W: Sink
     ensures ran { (links : List LineLink) (moment : ℕ)
         → line_in links line ≡ line_of B.lost slot.old
         → BehindAnyRun D.keeps D.sectors D.reads D.choices concentrator.old (λ origin state before.
-        OnOk result (LineRan (D.keeps origin) D.sectors D.failures D.reads D.choices D.moment D.images_since concentrator.old.house.budget state before moment (searches budget line) links (with_link links line (line_of B.lost slot.new).link) (Puts (W.written out.old) (W.written out.new)) (λ exchanges. SearchesOver B.lost B.asks exchanges slot.old slot.new) concentrator.old concentrator.new)) }
+        OnOk result (LineRan (D.keeps origin) D.sectors D.failures D.reads D.choices D.moment D.images_since concentrator.old.house.budget state before moment (searches budget line) links (with_link links line (line_of B.lost slot.new).link) (PutsInto W.Sink out.old out.new) (λ exchanges. SearchesOver B.lost B.asks exchanges slot.old slot.new) concentrator.old concentrator.new)) }
     ensures cut { (links : List LineLink) (moment : ℕ)
         → line_in links line ≡ line_of B.lost slot.old
         → BehindAnyRun D.keeps D.sectors D.reads D.choices concentrator.old (λ origin state before.
         OnWrite result (LineCut (D.keeps origin) D.sectors D.failures D.reads D.choices D.moment D.images_since concentrator.old.house.budget state before moment (searches budget line) links (λ exchanges. SearchesOver B.lost B.asks exchanges slot.old slot.new) concentrator.old concentrator.new)) }
     ensures starved { (links : List LineLink) → line_in links line ≡ line_of B.lost slot.old
         → BehindAnyRun D.keeps D.sectors D.reads D.choices concentrator.old (λ origin state before.
-        OnNoMemory result (LineStarved (D.keeps origin) D.sectors D.failures D.reads D.choices D.moment D.images_since concentrator.old.house.budget state before (searches budget line) links (Puts (W.written out.old) (W.written out.new)) (λ exchanges. SearchesOver B.lost B.asks exchanges slot.old slot.new) concentrator.old concentrator.new)) }
+        OnNoMemory result (LineStarved (D.keeps origin) D.sectors D.failures D.reads D.choices D.moment D.images_since concentrator.old.house.budget state before (searches budget line) links (PutsInto W.Sink out.old out.new) (λ exchanges. SearchesOver B.lost B.asks exchanges slot.old slot.new) concentrator.old concentrator.new)) }
     ensures through { OnNoMemory result (¬ ((line_of B.lost slot.old).link ≡ absent)) }
     ensures kept { IsKept B.lost slot.old slot.new }
     ensures counted { IsCounted result (W.put_failures out.old) (W.put_failures out.new) }
@@ -280,7 +278,7 @@ fn search_slot<D: Disk + Drop, A: Allocator + Copy, B: ScriptBus + Drop, W: Sink
 
 // A line has no bus.
 fn put_no_bus<W: Sink>(out: &mut W) -> Result<(), IoFault>
-    ensures { Wrote W.written W.put_failures result out.old out.new no_gateway }
+    ensures { Wrote W.Sink result out.old out.new no_gateway }
 {
     out.put(b"NO GATEWAY\n")
 }
@@ -307,7 +305,7 @@ fn run_event<D: Disk + Drop, A: Allocator + Copy, W: Sink>(
     ensures went { BehindAnyRun D.keeps D.sectors D.reads D.choices concentrator.old
         (λ origin state before.
         TurnWent (D.keeps origin) D.sectors D.failures D.reads D.choices D.moment D.images_since concentrator.old.house.budget state before (event_of event.now)
-        (λ answer. OnOk result (Puts (W.written out.old) (W.written out.new) (answer_text answer)))
+        (λ answer. OnOk result (PutsInto W.Sink out.old out.new (answer_text answer)))
         concentrator.old concentrator.new) }
     ensures fault { OnErr result (HasRisen (W.put_failures out.old) (W.put_failures out.new)) }
     ensures well { OnOk result (W.put_failures out.new ≡ W.put_failures out.old) }
@@ -329,9 +327,9 @@ fn moment_behind(asked: &ScriptLine<'_>, moment: Moment) -> Moment
     }
 }
 
-#[tactic(auto, using(dc_stream::proofs::Pieces::written))]
+#[tactic(auto, using(dc_io::proofs::Pieces::written))]
 fn put_syntax<W: Sink>(out: &mut W, line: usize) -> Result<(), IoFault>
-    ensures { Wrote W.written W.put_failures result out.old out.new
+    ensures { Wrote W.Sink result out.old out.new
         (codes "LINE" ++ number_word line ++ codes " SYNTAX\n") }
 {
     out.put(b"LINE")?;

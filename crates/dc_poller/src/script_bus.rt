@@ -2,8 +2,9 @@
 
 ghost use Rattle.std.specs.Prelude.{◌≡◌, ℕ, Bool, true, List, []};
 
-use dc_gateway::{Bus, Gateway, ListedBus};
-use dc_stream::{Sink, Source};
+use dc_gateway::{Bus, Gateway};
+use dc_io::{Sink, Source};
+use dc_world::ListedBus;
 
 /// A bus on which answers may come late.
 pub trait ScriptBus: Bus {

@@ -7,15 +7,14 @@ ghost use Rattle.dc_address.specs.Text.{text_of};
 ghost use Rattle.dc_address.specs.declared.identity.Identity.{Identity};
 ghost use Rattle.dc_changes.specs.Line.{IsOfBytes};
 ghost use Rattle.dc_changes.specs.Valid.{end_of_numbers};
-ghost use Rattle.dc_text.specs.Hex.{bytes_of};
-ghost use Rattle.dc_teller.specs.Lines.{longest_input_line};
+ghost use Rattle.dc_io.specs.Hex.{bytes_of};
+ghost use Rattle.dc_io.specs.Lines.{longest_input_line};
 ghost use Rattle.dc_poller.specs.ScriptLine.{LineSeen, IsLineOf, at, start, ask, hear, poll};
 ghost use Rattle.dc_poller.specs.ScriptLine.{search, seen, greatest_budget, greatest_line};
 
 use dc_address::Identity;
 use dc_changes::{Moment, parse_number, split_word};
-use dc_teller::LONGEST;
-use dc_text::decode_hex;
+use dc_io::{LONGEST, decode_hex};
 
 // The line of a search that names none.
 const FIRST_LINE: u8 = 1;

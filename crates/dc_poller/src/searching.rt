@@ -2,7 +2,7 @@
 
 ghost use Rattle.std.specs.Prelude.{◌≡◌, ◌++◌, true};
 ghost use Rattle.dc_gateway.specs.Bus.{AreExchanged};
-ghost use Rattle.dc_stream.specs.Stream.{Puts, Wrote};
+ghost use Rattle.dc_io.specs.Written.{PutsInto, Wrote};
 ghost use Rattle.dc_poller.specs.Halt.{IsCounted};
 ghost use Rattle.dc_poller.specs.Link.{gateway_port, link_by};
 ghost use Rattle.dc_poller.specs.Search.{Comes, Talked, late_by, late_text, search_text};
@@ -13,12 +13,11 @@ use crate::halt::{Halt, written};
 use crate::port::{GATEWAY, Port, put_loss};
 use crate::quiet::{quiet_ask, quiet_commit};
 use crate::script_bus::ScriptBus;
-use dc_base::NoMemory;
 use dc_core::{Concentrator, StartFault, put_committed, put_started};
 use dc_gateway::search_over;
+use dc_io::{IoFault, NoMemory, Sink};
 use dc_search::Search;
 use dc_sectors::Disk;
-use dc_stream::{IoFault, Sink};
 use std::alloc::Allocator;
 
 /// Searches for meters over a gateway, with at most `budget` selections. What is pending is committed first, and
@@ -36,7 +35,7 @@ pub fn search<D: Disk + Drop, A: Allocator + Copy, B: ScriptBus, W: Sink>(
         TurnsWent (D.keeps origin) D.sectors D.failures D.reads D.choices D.moment D.images_since concentrator.old.house.budget state before
         (Comes (B.meters bus.old) gateway_port budget (late_by gateway_port.is_gateway (B.late bus.old) (B.late bus.new)) (link_by (B.lost bus.old)) (link_by (B.lost bus.new))
         (λ exchanges. AreExchanged B.asks bus.old exchanges bus.new)
-        (Puts (W.written out.old) (W.written out.new)) result) concentrator.old
+        (PutsInto W.Sink out.old out.new) result) concentrator.old
         concentrator.new) }
     ensures counted { IsCounted result (W.put_failures out.old) (W.put_failures out.new) }
     ensures budget { concentrator.new.house.budget ≡ concentrator.old.house.budget }
@@ -59,7 +58,7 @@ pub fn search_on<D: Disk + Drop, A: Allocator + Copy, B: ScriptBus, W: Sink>(
         TurnsWent (D.keeps origin) D.sectors D.failures D.reads D.choices D.moment D.images_since concentrator.old.house.budget state before
         (Comes (B.meters bus.old) port budget (late_by port.is_gateway (B.late bus.old) (B.late bus.new)) (link_by (B.lost bus.old)) (link_by (B.lost bus.new))
         (λ exchanges. AreExchanged B.asks bus.old exchanges bus.new)
-        (Puts (W.written out.old) (W.written out.new)) result) concentrator.old
+        (PutsInto W.Sink out.old out.new) result) concentrator.old
         concentrator.new) }
     ensures counted { IsCounted result (W.put_failures out.old) (W.put_failures out.new) }
     ensures budget { concentrator.new.house.budget ≡ concentrator.old.house.budget }
@@ -86,7 +85,7 @@ fn search_bus<A: Allocator + Copy, B: ScriptBus, W: Sink>(
         (late_by port.is_gateway (B.late bus.old) (B.late bus.new))
         (link_by (B.lost bus.old)) (link_by (B.lost bus.new))
         (λ exchanges. AreExchanged B.asks bus.old exchanges bus.new)
-        (Puts (W.written out.old) (W.written out.new)) result }
+        (PutsInto W.Sink out.old out.new) result }
     ensures counted { IsCounted result (W.put_failures out.old) (W.put_failures out.new) }
     ensures untouched { B.lost bus.old ≡ true → bus.new ≡ bus.old }
 {
@@ -118,14 +117,14 @@ fn late_since(port: Port, before: u64, after: u64) -> u64
     }
 }
 
-#[tactic(auto, using(dc_stream::proofs::Pieces::written))]
+#[tactic(auto, using(dc_io::proofs::Pieces::written))]
 fn put_found_late<A: Allocator + Copy, W: Sink>(
     search: &Search<A>,
     port: Port,
     late: u64,
     out: &mut W,
 ) -> Result<(), IoFault>
-    ensures { Wrote W.written W.put_failures result out.old out.new
+    ensures { Wrote W.Sink result out.old out.new
         (search_text search.now ++ late_text port late) }
 {
     put_search(search, out)?;

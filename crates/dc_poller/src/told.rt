@@ -1,11 +1,11 @@
 //! Single events of a concentrator: each answer is written as a line of text, and handed on.
 
 ghost use Rattle.std.specs.Prelude.{◌≡◌, ◌≤◌, IfOk, IfSome, OnOk, OnErr, length};
-ghost use Rattle.dc_base.specs.Failures.{HasRisen};
+ghost use Rattle.dc_io.specs.Failures.{HasRisen};
 ghost use Rattle.dc_core.specs.Event.{starts, asks, hears, commits, started, asked, heard};
 ghost use Rattle.dc_core.specs.Event.{committed};
 ghost use Rattle.dc_core.specs.Step.{longest_request};
-ghost use Rattle.dc_stream.specs.Stream.{Puts};
+ghost use Rattle.dc_io.specs.Written.{PutsInto};
 ghost use Rattle.dc_poller.specs.Poll.{told_text};
 ghost use Rattle.dc_poller.specs.Went.{BehindAnyRun, TurnWent};
 
@@ -15,9 +15,9 @@ use dc_core::{
     CommitFault, Concentrator, HearFault, LineHeard, StartFault, put_asked, put_committed,
     put_heard, put_started,
 };
+use dc_io::{IoFault, Sink};
 use dc_linkframe::FrameBuf;
 use dc_sectors::Disk;
-use dc_stream::{IoFault, Sink};
 use std::alloc::Allocator;
 
 /// Begins a readout.
@@ -31,7 +31,7 @@ pub fn told_start<D: Disk + Drop, A: Allocator + Copy, W: Sink>(
         (λ origin state before.
         TurnWent (D.keeps origin) D.sectors D.failures D.reads D.choices D.moment D.images_since concentrator.old.house.budget state before (starts line meter.now)
         (λ answer. IfOk result (λ told.
-        (answer ≡ started told) × Puts (W.written out.old) (W.written out.new)
+        (answer ≡ started told) × PutsInto W.Sink out.old out.new
         (told_text (started told)))) concentrator.old concentrator.new) }
     ensures fault { OnErr result (HasRisen (W.put_failures out.old) (W.put_failures out.new)) }
     ensures well { OnOk result (W.put_failures out.new ≡ W.put_failures out.old) }
@@ -54,7 +54,7 @@ pub fn told_ask<D: Disk + Drop, A: Allocator + Copy, W: Sink>(
         (λ origin state before.
         TurnWent (D.keeps origin) D.sectors D.failures D.reads D.choices D.moment D.images_since concentrator.now.house.budget state before (asks line)
         (λ answer. IfOk result (λ told.
-        (answer ≡ asked told) × Puts (W.written out.old) (W.written out.new)
+        (answer ≡ asked told) × PutsInto W.Sink out.old out.new
         (told_text (asked told)))) concentrator.now concentrator.now) }
     ensures short { IfOk result (λ told.
         IfSome told (λ request. length request ≤ longest_request)) }
@@ -82,7 +82,7 @@ pub fn told_hear<D: Disk + Drop, A: Allocator + Copy, W: Sink>(
         (λ origin state before.
         TurnWent (D.keeps origin) D.sectors D.failures D.reads D.choices D.moment D.images_since concentrator.old.house.budget state before (hears line moment.seconds bytes.now)
         (λ answer. IfOk result (λ told.
-        (answer ≡ heard told) × Puts (W.written out.old) (W.written out.new)
+        (answer ≡ heard told) × PutsInto W.Sink out.old out.new
         (told_text (heard told)))) concentrator.old concentrator.new) }
     ensures fault { OnErr result (HasRisen (W.put_failures out.old) (W.put_failures out.new)) }
     ensures well { OnOk result (W.put_failures out.new ≡ W.put_failures out.old) }
@@ -104,7 +104,7 @@ pub fn told_commit<D: Disk + Drop, A: Allocator + Copy, W: Sink>(
         (λ origin state before.
         TurnWent (D.keeps origin) D.sectors D.failures D.reads D.choices D.moment D.images_since concentrator.old.house.budget state before commits
         (λ answer. IfOk result (λ told.
-        (answer ≡ committed told) × Puts (W.written out.old) (W.written out.new)
+        (answer ≡ committed told) × PutsInto W.Sink out.old out.new
         (told_text (committed told)))) concentrator.old concentrator.new) }
     ensures fault { OnErr result (HasRisen (W.put_failures out.old) (W.put_failures out.new)) }
     ensures well { OnOk result (W.put_failures out.new ≡ W.put_failures out.old) }

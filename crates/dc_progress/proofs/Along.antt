@@ -16,20 +16,20 @@ use Rattle.dc_readout.specs.declared.stage.Stage.TheVariants.{Resets, Selects, R
 use Rattle.dc_readout.specs.Answer.{max_parts}
 use Rattle.dc_readout.specs.Session.{commands}
 use Rattle.dc_readout.specs.Summary.{Summary, Verdict, again, ready, new, begun, reset_of, selection_of, request_of, asked_at, asked_by, verdict_by, heard_by, after_command, settled_by, stage_settled}
-use Rattle.dc_lives.specs.declared.event.Outcome.{Outcome}
-use Rattle.dc_lives.specs.declared.event.Outcome.TheVariants.{RequestLost, ReplyLost, ReplyUnreadable, AsSent}
-use Rattle.dc_lives.specs.Meter.{Meter, Position}
-use Rattle.dc_lives.specs.World.{World, Running, positions_after, heard_in, running_after, exchanged_as, started_by, more_in, more_after, joined, kept, whole_readout}
-use Rattle.dc_lives.specs.InStep.{Agrees, IsRegularWorld}
-use Rattle.dc_lives.proofs.Asked.{sent_frame}
-use Rattle.dc_lives.proofs.Commits.{commit_keeps}
-use Rattle.dc_lives.proofs.Events.{exchange_keeps, start_keeps}
+use Rattle.dc_world.specs.declared.event.Outcome.{Outcome}
+use Rattle.dc_world.specs.declared.event.Outcome.TheVariants.{RequestLost, ReplyLost, ReplyUnreadable, AsSent}
+use Rattle.dc_world.specs.Meter.{Meter, Position}
+use Rattle.dc_world.specs.World.{World, Running, positions_after, heard_in, running_after, exchanged_as, started_by, more_in, more_after, joined, kept, whole_readout}
+use Rattle.dc_world.specs.InStep.{Agrees, IsRegularWorld}
+use Rattle.dc_world.proofs.Asked.{sent_frame}
+use Rattle.dc_world.proofs.Commits.{commit_keeps}
+use Rattle.dc_world.proofs.Events.{exchange_keeps, start_keeps}
 use Rattle.dc_changes.specs.declared.change.Change.{Change}
 use Rattle.dc_changes.specs.History.{after}
 use Rattle.dc_changes.specs.State.{State, MeterRow, row_of}
 use Rattle.dc_changes.proofs.History.{after_of_push}
-use Rattle.dc_waiting.specs.Lines.{is_line, line_count, settled_at, settled_on}
-use Rattle.dc_waiting.specs.Taking.{change_of}
+use Rattle.dc_pending.specs.Lines.{is_line, line_count, settled_at, settled_on}
+use Rattle.dc_pending.specs.Taking.{change_of}
 use Rattle.dc_core.specs.declared.fault.StartFault.{StartFault}
 use Rattle.dc_core.specs.declared.fault.StartFault.TheVariants.{NoLine as StartNoLine, Unknown, Busy, Stopped as StartStopped}
 use Rattle.dc_core.specs.declared.line_heard.LineHeard.{LineHeard}

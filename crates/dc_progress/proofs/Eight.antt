@@ -5,7 +5,7 @@ use Rattle.dc_address.specs.declared.identity.Identity.{Identity}
 use Rattle.dc_readout.specs.Summary.{Summary, begun, verdict_by}
 use Rattle.dc_changes.specs.State.{row_of}
 use Rattle.dc_changes.specs.declared.change.Change.{Change}
-use Rattle.dc_waiting.specs.Lines.{settled_on, unless_of}
+use Rattle.dc_pending.specs.Lines.{settled_on, unless_of}
 use Rattle.dc_core.specs.declared.fault.StartFault.{StartFault}
 use Rattle.dc_core.specs.declared.fault.HearFault.{HearFault}
 use Rattle.dc_core.specs.declared.line_heard.LineHeard.{LineHeard}

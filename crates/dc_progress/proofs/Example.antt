@@ -14,9 +14,9 @@ use Rattle.dc_records.specs.Body.{Ending, plain, more, IsEnd, continues}
 use Rattle.dc_records.specs.Header.{BeginsWithHeader}
 use Rattle.dc_records.specs.Telegram.{Parsed, IsTelegram, telegram_at}
 use Rattle.dc_records.proofs.Spellings.Telegrams.{telegram_again}
-use Rattle.dc_lives.specs.Meter.{Meter, Position}
-use Rattle.dc_lives.specs.Regular.{IsOwnOnly}
-use Rattle.dc_lives.specs.World.{AreRegular, more_in, more_after, whole_readout}
+use Rattle.dc_world.specs.Meter.{Meter, Position}
+use Rattle.dc_world.specs.Regular.{IsOwnOnly}
+use Rattle.dc_world.specs.World.{AreRegular, more_in, more_after, whole_readout}
 use Rattle.dc_changes.specs.State.{State, MeterRow, row_of}
 use Rattle.dc_progress.specs.Needs.{IsOwnTelegram, MayBeMet, PremisesAreMet}
 

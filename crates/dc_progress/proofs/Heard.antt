@@ -16,16 +16,16 @@ use Rattle.dc_readout.specs.declared.stage.Stage.TheVariants.{Resets, Selects, R
 use Rattle.dc_readout.specs.declared.why.Why.TheVariants.{NoAnswer, Stranger, TooManyParts}
 use Rattle.dc_readout.specs.Answer.{Meaning, acknowledged, answered, missed, broken, max_parts, is_meter, to_command, by_telegram, by_body, to_request}
 use Rattle.dc_readout.specs.Summary.{Verdict, again, ready, new, failed, link_address, reset_of, selection_of, request_of, asked_at, asked_by, to_reset, meaning_at, verdict_of_meaning, verdict_by}
-use Rattle.dc_lives.specs.declared.event.Outcome.{Outcome}
-use Rattle.dc_lives.specs.declared.event.Outcome.TheVariants.{RequestLost, ReplyLost, ReplyUnreadable, AsSent}
-use Rattle.dc_lives.specs.Meter.{Meter, Position, is_own, hears_at, moved_by, answer_to, body_at, rsp_ud, response}
-use Rattle.dc_lives.specs.World.{World, Running, heard_in, AreRegular}
-use Rattle.dc_lives.specs.Reply.{bytes_of}
-use Rattle.dc_lives.specs.InStep.{HasGoneOn, HasNotGoneOn, IsInStep, IsAlone, Agrees}
-use Rattle.dc_lives.proofs.Asked.{body_there}
-use Rattle.dc_lives.proofs.Exchanges.{alone_at, own_goes_on}
-use Rattle.dc_lives.proofs.Moves.{answer_to-request, selected_kept, no_frame_of_nothing, no_frame_of_zero}
-use Rattle.dc_lives.proofs.Replies.{answer_to-reset, answer_to-selection, heard_as_sent}
+use Rattle.dc_world.specs.declared.event.Outcome.{Outcome}
+use Rattle.dc_world.specs.declared.event.Outcome.TheVariants.{RequestLost, ReplyLost, ReplyUnreadable, AsSent}
+use Rattle.dc_world.specs.Meter.{Meter, Position, is_own, hears_at, moved_by, answer_to, body_at, rsp_ud, response}
+use Rattle.dc_world.specs.World.{World, Running, heard_in, AreRegular}
+use Rattle.dc_world.specs.Reply.{bytes_of}
+use Rattle.dc_world.specs.InStep.{HasGoneOn, HasNotGoneOn, IsInStep, IsAlone, Agrees}
+use Rattle.dc_world.proofs.Asked.{body_there}
+use Rattle.dc_world.proofs.Exchanges.{alone_at, own_goes_on}
+use Rattle.dc_world.proofs.Moves.{answer_to-request, selected_kept, no_frame_of_nothing, no_frame_of_zero}
+use Rattle.dc_world.proofs.Replies.{answer_to-reset, answer_to-selection, heard_as_sent}
 use Rattle.dc_progress.specs.Rounds.{losses_by}
 
 -- ---- the meter's own telegram

@@ -18,7 +18,7 @@ use Rattle.dc_changes.specs.Size.{part_size, parts_size, size_of}
 use Rattle.dc_changes.specs.State.{State, MeterRow, PartRow, row_of}
 use Rattle.dc_changes.specs.Valid.{end_of_numbers}
 use Rattle.dc_meters.proofs.Sizes.{size_of-heard_open, size_of-heard_last, parts_size-joined}
-use Rattle.dc_waiting.specs.Taking.{change_of}
+use Rattle.dc_pending.specs.Taking.{change_of}
 use Rattle.dc_core.proofs.Registered.{row_of_same}
 use Rattle.dc_progress.specs.Needs.{body_size, room_for}
 use Rattle.dc_progress.specs.Progress.{with_reading}

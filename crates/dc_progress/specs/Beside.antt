@@ -7,9 +7,9 @@ use Rattle.dc_linkframe.specs.Frame.{FrameSeen}
 use Rattle.dc_linkframe.specs.Reading.{frame_of}
 use Rattle.dc_address.specs.declared.identity.Identity.{Identity}
 use Rattle.dc_readout.specs.Summary.{Summary}
-use Rattle.dc_lives.specs.declared.event.Outcome.{Outcome}
-use Rattle.dc_lives.specs.Meter.{Meter, Position}
-use Rattle.dc_lives.specs.World.{positions_after, heard_in}
+use Rattle.dc_world.specs.declared.event.Outcome.{Outcome}
+use Rattle.dc_world.specs.Meter.{Meter, Position}
+use Rattle.dc_world.specs.World.{positions_after, heard_in}
 use Rattle.dc_changes.specs.State.{State, MeterRow, PartRow, ReadingRow, row_of}
 use Rattle.dc_meters.specs.Orders.{is_of}
 use Rattle.dc_core.specs.declared.line_heard.LineHeard.{LineHeard}

@@ -5,12 +5,12 @@ use Rattle.std.specs.Prelude.{length, map}
 use Rattle.std.specs.List.{AllByRecursion}
 use Rattle.dc_address.specs.declared.identity.Identity.{Identity}
 use Rattle.dc_readout.specs.Session.{commands}
-use Rattle.dc_lives.specs.declared.event.Outcome.{Outcome}
-use Rattle.dc_lives.specs.declared.event.Outcome.TheVariants.{AsSent}
-use Rattle.dc_lives.specs.Meter.{Meter}
+use Rattle.dc_world.specs.declared.event.Outcome.{Outcome}
+use Rattle.dc_world.specs.declared.event.Outcome.TheVariants.{AsSent}
+use Rattle.dc_world.specs.Meter.{Meter}
 use Rattle.dc_changes.specs.Apply.{with_row}
 use Rattle.dc_changes.specs.State.{State, MeterRow, PartRow}
-use Rattle.dc_waiting.specs.Lines.{line_count}
+use Rattle.dc_pending.specs.Lines.{line_count}
 use Rattle.dc_core.specs.Core.{Core, present, session_of, opened}
 use Rattle.dc_core.specs.Step.{ask_answer}
 use Rattle.dc_core.specs.Transcript.{Turn, leads, IsChain}

@@ -5,11 +5,11 @@ use Rattle.std.specs.Prelude.{◌≡◌, ◌≢◌, ℕ, ◌+◌, ◌<◌, Some,
 use Rattle.dc_linkframe.specs.Frame.{FrameSeen}
 use Rattle.dc_linkframe.specs.Reading.{frame_of}
 use Rattle.dc_address.specs.declared.identity.Identity.{Identity}
-use Rattle.dc_lives.specs.declared.event.Outcome.{Outcome}
-use Rattle.dc_lives.specs.declared.event.Outcome.TheVariants.{RequestLost, ReplyLost}
-use Rattle.dc_lives.specs.declared.event.Outcome.TheVariants.{ReplyUnreadable, AsSent}
-use Rattle.dc_lives.specs.Meter.{Meter, Position}
-use Rattle.dc_lives.specs.World.{positions_after, heard_in}
+use Rattle.dc_world.specs.declared.event.Outcome.{Outcome}
+use Rattle.dc_world.specs.declared.event.Outcome.TheVariants.{RequestLost, ReplyLost}
+use Rattle.dc_world.specs.declared.event.Outcome.TheVariants.{ReplyUnreadable, AsSent}
+use Rattle.dc_world.specs.Meter.{Meter, Position}
+use Rattle.dc_world.specs.World.{positions_after, heard_in}
 use Rattle.dc_core.specs.declared.line_heard.LineHeard.{LineHeard}
 use Rattle.dc_core.specs.declared.fault.HearFault.{HearFault}
 use Rattle.dc_core.specs.declared.fault.HearFault.TheVariants.{NoMemory}

@@ -1,6 +1,6 @@
 -- What the puts of an encoder do to a group's sink, all together.
 use Rattle.std.proofs.Common.{◌≡◌, ℕ, List, ◌∙◌}
-use Rattle.dc_stream.specs.Chain.{IsChain, IsBroken}
+use Rattle.dc_io.specs.Chain.{IsChain, IsBroken}
 use Rattle.dc_sectors.specs.Disk.{Image, Choices}
 use Rattle.dc_pages.specs.Streaming.{GoesInto, BreaksOff}
 use Rattle.dc_pages.proofs.Chained.{run_keeps, chain_goes_into, chain_breaks_off}

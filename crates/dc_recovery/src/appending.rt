@@ -2,7 +2,7 @@
 
 ghost use Rattle.std.specs.Prelude.{◌≡◌, ◌<◌, ◌≤◌, ◌+◌, ◌*◌, List, ℕ, suc, length, IfOk, OnOk};
 ghost use Rattle.std.specs.Prelude.{OnErr};
-ghost use Rattle.dc_base.specs.Failures.{HasRisen};
+ghost use Rattle.dc_io.specs.Failures.{HasRisen};
 ghost use Rattle.dc_pages.specs.Draft.{FitsAt};
 ghost use Rattle.dc_pages.specs.Writing.{SameOutside};
 ghost use Rattle.dc_sectors.specs.Disk.{LeavesOnly, settled};

@@ -2,7 +2,7 @@
 
 ghost use Rattle.std.specs.Prelude.{true, false, ◌≡◌, ◌≢◌, ◌⊎◌, ◌<◌, ◌≤◌, ◌+◌, ◌-◌, ◌*◌, ◌^◌, List};
 ghost use Rattle.std.specs.Prelude.{ℕ, zero, suc, IfOk, IfErr, OnOk, OnErr, IsErrOf};
-ghost use Rattle.dc_base.specs.Failures.{HasRisen};
+ghost use Rattle.dc_io.specs.Failures.{HasRisen};
 ghost use Rattle.dc_recovery.specs.Looked.{OnlyLooked};
 ghost use Rattle.dc_roots.specs.declared.root.Root.{Root};
 ghost use Rattle.dc_recovery.specs.declared.fault.OpenFault.{OpenFault};

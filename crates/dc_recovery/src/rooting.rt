@@ -2,7 +2,7 @@
 
 ghost use Rattle.std.specs.Prelude.{◌≡◌, ◌≢◌, ◌<◌, ◌≤◌, ◌-◌, ◌^◌, ◌↔◌, ℕ, Option, IfOk, OnOk};
 ghost use Rattle.std.specs.Prelude.{IsErrOf};
-ghost use Rattle.dc_base.specs.Failures.{HasRisen};
+ghost use Rattle.dc_io.specs.Failures.{HasRisen};
 ghost use Rattle.dc_sectors.specs.Disk.{LeavesOnly, settled};
 ghost use Rattle.dc_roots.specs.Root.{next_of, slot};
 ghost use Rattle.dc_roots.specs.Choice.{IsRootWrite};

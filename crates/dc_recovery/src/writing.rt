@@ -1,7 +1,7 @@
 //! Writing a group, without the sync that makes it durable.
 
 ghost use Rattle.std.specs.Prelude.{◌≡◌, ◌<◌, ◌≤◌, ◌+◌, ◌*◌, length, IfOk, OnOk, OnErr};
-ghost use Rattle.dc_base.specs.Failures.{HasRisen};
+ghost use Rattle.dc_io.specs.Failures.{HasRisen};
 ghost use Rattle.dc_sectors.specs.Disk.{LeavesOnly, settled};
 ghost use Rattle.dc_pages.specs.Draft.{FitsAt};
 ghost use Rattle.dc_pages.specs.Writing.{SameOutside};
@@ -9,10 +9,10 @@ ghost use Rattle.dc_pages.specs.Streaming.{GoesInto, BreaksOff};
 ghost use Rattle.dc_recovery.specs.Language.{state_bytes};
 ghost use Rattle.dc_recovery.specs.Writing.{IsAttempt, IsWritten};
 
+use dc_io::IoFault;
 use dc_meters::House;
 use dc_pages::{GroupSink, GroupWriter, Site};
 use dc_sectors::{Disk, Failed};
-use dc_stream::IoFault;
 use std::alloc::Allocator;
 
 /// Writes a group with these bytes, and answers how many sectors it has.

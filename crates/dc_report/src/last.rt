@@ -9,7 +9,7 @@ ghost use Rattle.dc_report.specs.DueTable.{due_readings};
 ghost use Rattle.dc_report.specs.Last.{last_of};
 
 use dc_address::Identity;
-use dc_base::NoMemory;
+use dc_io::NoMemory;
 use dc_meters::{House, Place, Reading};
 use dc_units::Date;
 use std::alloc::Allocator;

@@ -6,7 +6,7 @@ ghost use Rattle.dc_report.specs.Line.{line_text};
 ghost use Rattle.dc_report.specs.Written.{so_far, IsAtLine, ArePlain};
 
 use csv::Writer;
-use dc_base::NoMemory;
+use dc_io::NoMemory;
 use std::alloc::Allocator;
 
 /// An empty table. It takes no memory yet.

@@ -12,7 +12,7 @@ use crate::line::{finish, new_table, put_line};
 use crate::medium::medium;
 use csv::Writer;
 use dc_address::{Identity, Primary};
-use dc_base::NoMemory;
+use dc_io::NoMemory;
 use dc_meters::{House, Meter};
 use itoa::Buffer;
 use std::alloc::Allocator;

@@ -6,7 +6,7 @@ use Rattle.dc_sectors.specs.declared.sector.Sector.{Sector}
 use Rattle.dc_sectors.specs.declared.sector.Sector.TheVariants.{Unreadable}
 use Rattle.dc_sectors.specs.Disk.{Image}
 use Rattle.dc_roots.specs.declared.root.Root.{Root}
-use Rattle.dc_fields.specs.Fields.{field}
+use Rattle.dc_sectors.specs.Fields.{field}
 use Rattle.dc_roots.specs.Root.{IsRoot, slot}
 use Rattle.dc_roots.specs.Choice.{IsChosen, IsRootWrite}
 use Rattle.dc_sectors.proofs.Texts.{one_text}

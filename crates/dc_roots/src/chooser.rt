@@ -1,7 +1,7 @@
 //! The root that is in force.
 
 ghost use Rattle.std.specs.Prelude.{◌≡◌, ◌<◌, ◌≤◌, IfOk, OnOk, OnErr, IsErrOf};
-ghost use Rattle.dc_base.specs.Failures.{HasRisen};
+ghost use Rattle.dc_io.specs.Failures.{HasRisen};
 ghost use Rattle.dc_sectors.specs.declared.sector.Sector.TheVariants.{Bytes};
 ghost use Rattle.dc_sectors.specs.Disk.{Image, IsImage, Elapses, LeavesOnly};
 ghost use Rattle.dc_roots.specs.Choice.{IsChoice};

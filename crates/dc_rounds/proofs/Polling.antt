@@ -8,8 +8,8 @@ use Rattle.dc_core.specs.declared.fault.CommitFault.{CommitFault}
 use Rattle.dc_core.specs.Step.{next}
 use Rattle.dc_core.specs.Transcript.{Turn, leads}
 use Rattle.dc_core.proofs.Going.{leads_append}
-use Rattle.dc_stream.specs.Stream.{Puts}
-use Rattle.dc_stream.proofs.Pieces.{puts-both, puts-none}
+use Rattle.dc_io.specs.Stream.{Puts}
+use Rattle.dc_io.proofs.Pieces.{puts-both, puts-none}
 use Rattle.dc_rounds.specs.Bus.{Bus}
 use Rattle.dc_rounds.specs.Happening.{Happening, does, tells, happened_text, happened_turns, reads_in, failures_in}
 use Rattle.dc_rounds.specs.Keeping.{AreTrue, InRounds, IsAsking, IsCommit, IsHearing, IsRound, IsSettled, Store, all_kept, at_first, and_round, behind_answer, some_wait, store_behind, unkept}

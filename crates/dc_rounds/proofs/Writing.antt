@@ -4,8 +4,8 @@ use Rattle.std.specs.Prelude.{OnOk}
 use Rattle.dc_changes.specs.State.{State}
 use Rattle.dc_core.specs.Core.{Core, present}
 use Rattle.dc_core.specs.Transcript.{Turn, leads}
-use Rattle.dc_stream.specs.Stream.{Puts}
-use Rattle.dc_stream.proofs.Pieces.{puts-both, puts-none}
+use Rattle.dc_io.specs.Stream.{Puts}
+use Rattle.dc_io.proofs.Pieces.{puts-both, puts-none}
 use Rattle.dc_rounds.specs.Bus.{Bus}
 use Rattle.dc_rounds.specs.Happening.{Told, was_read, has_failed, was_refused, is_lost, Happening, does, tells, happened_text, happened_turns, told_line, reads_in, failures_in}
 use Rattle.dc_rounds.specs.Keeping.{Store, IsSettled, IsNewest, AreTrue}

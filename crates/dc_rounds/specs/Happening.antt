@@ -18,7 +18,7 @@ use Rattle.dc_readout.specs.declared.why.Why.TheVariants.{ApplicationError, Cont
 use Rattle.dc_readout.specs.declared.why.Why.TheVariants.{TooManyParts}
 use Rattle.dc_readout.specs.Why.{number_of as why_number, name_of as why_name}
 use Rattle.dc_records.specs.Fault.{number_of as content_number, name_of as content_name}
-use Rattle.dc_text.specs.Words.{number_word, fault_text}
+use Rattle.dc_io.specs.Words.{number_word, fault_text}
 use Rattle.dc_rounds.specs.declared.end.Refusal.{Refusal}
 use Rattle.dc_rounds.specs.declared.end.Refusal.TheVariants.{Start, Hear, Commit}
 use Rattle.dc_rounds.specs.declared.end.End.{End}

@@ -6,7 +6,7 @@ use Rattle.dc_core.specs.Core.{Core, present}
 use Rattle.dc_core.specs.Images.{Machine}
 use Rattle.dc_poller.specs.ImageRun.{IsOpenedOn}
 use Rattle.dc_sectors.specs.declared.device.Disk.{Ghosts}
-use Rattle.dc_stream.specs.Stream.{Puts}
+use Rattle.dc_io.specs.Stream.{Puts}
 use Rattle.dc_rounds.specs.Bus.{Bus}
 use Rattle.dc_rounds.specs.Happening.{Happening}
 use Rattle.dc_rounds.specs.Planned.{ArePlanned, has_bus, refused_count, refused_text}

@@ -17,7 +17,7 @@ use Rattle.dc_rounds.specs.Happening.{failures_in, newest_serial, newest_parts}
 use Rattle.dc_rounds.specs.declared.end.End.{End}
 use Rattle.dc_rounds.specs.declared.end.End.TheVariants.{Read, Failed, Refused}
 use Rattle.dc_rounds.specs.declared.outcome.Outcome.{Outcome}
-use Rattle.dc_text.specs.Words.{number_word}
+use Rattle.dc_io.specs.Words.{number_word}
 use Rattle.dc_rounds.specs.Keeping.{AreTrue, IsHearing, IsSettled, Store}
 use Rattle.dc_rounds.specs.Queue.{Goes}
 use Rattle.dc_rounds.specs.Talking.{Talks}

@@ -2,7 +2,7 @@
 
 ghost use Rattle.std.specs.Prelude.{◌≡◌, ◌<◌, ◌≤◌, ◌-◌, ◌^◌, IfErr, IfOk, IsErrOf, OnErr, OnOk, []};
 ghost use Rattle.std.specs.Prelude.{MatchResult, length, map, min};
-ghost use Rattle.dc_base.specs.Failures.{HasRisen};
+ghost use Rattle.dc_io.specs.Failures.{HasRisen};
 ghost use Rattle.dc_poller.specs.Fault.{IfOpen};
 ghost use Rattle.dc_recovery.specs.Halves.{half_len_of};
 ghost use Rattle.dc_recovery.specs.Refusal.{IsRefused, TellsOfImage};
@@ -14,7 +14,7 @@ ghost use Rattle.dc_rounds.specs.Planned.{refusal_line, refusal_of, refused_coun
 ghost use Rattle.dc_rounds.specs.Planned.{wanted_on};
 ghost use Rattle.dc_rounds.specs.Round.{Runs, most_lines};
 ghost use Rattle.dc_sectors.specs.Disk.{LeavesOnly};
-ghost use Rattle.dc_stream.specs.Stream.{Puts, Wrote};
+ghost use Rattle.dc_io.specs.Written.{PutsInto, Wrote};
 
 use crate::end::Refusal;
 use crate::ending::put_refused;
@@ -24,13 +24,12 @@ use crate::readout::read_on;
 use crate::station::Station;
 use crate::timer::Timer;
 use dc_address::Identity;
-use dc_base::NoMemory;
 use dc_core::{Concentrator, StartFault};
+use dc_io::{IoFault, NoMemory, Sink};
 use dc_line::QuietBus;
 use dc_meters::House;
 use dc_poller::ProgramFault;
 use dc_sectors::Disk;
-use dc_stream::{IoFault, Sink};
 use std::alloc::Allocator;
 
 // There are eight lines.
@@ -244,14 +243,14 @@ fn stations_of<'a, A: Allocator + Copy, B: QuietBus + Drop>(
 }
 
 // For each naming of a meter that can't be read, a line of text is written. How many.
-#[tactic(auto, using(dc_stream::proofs::Pieces::written))]
+#[tactic(auto, using(dc_io::proofs::Pieces::written))]
 fn refuse_others<A: Allocator + Copy, B: QuietBus + Drop, W: Sink>(
     house: &House<A>,
     stations: &[Station<'_, B>],
     only: &[Identity],
     out: &mut W,
 ) -> Result<u64, IoFault>
-    ensures text { OnOk result (Puts (W.written out.old) (W.written out.new)
+    ensures text { OnOk result (PutsInto W.Sink out.old out.new
         (refused_text (has_bus B.lost (map (λ s. s.bus) stations.now)) house.now.state only.now)) }
     ensures fault { OnErr result (HasRisen (W.put_failures out.old) (W.put_failures out.new)) }
     ensures well { OnOk result (W.put_failures out.new ≡ W.put_failures out.old) }
@@ -269,13 +268,13 @@ fn refuse_others<A: Allocator + Copy, B: QuietBus + Drop, W: Sink>(
 }
 
 // `REFUSED ident n Name`, where it is refused.
-#[tactic(auto, using(dc_stream::proofs::Pieces::written))]
+#[tactic(auto, using(dc_io::proofs::Pieces::written))]
 fn put_refusal<W: Sink>(
     out: &mut W,
     meter: &Identity,
     refusal: Option<StartFault>,
 ) -> Result<(), IoFault>
-    ensures { Wrote W.written W.put_failures result out.old out.new
+    ensures { Wrote W.Sink result out.old out.new
         (refusal_line meter.now refusal) }
 {
     match refusal {

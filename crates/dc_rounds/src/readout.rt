@@ -3,8 +3,8 @@
 ghost use Rattle.std.specs.Prelude.{◌≡◌, ◌⊎◌, ◌<◌, ◌≤◌, ◌-◌, ◌+◌, ◌^◌, ◌++◌, ℕ, List, [], length};
 ghost use Rattle.std.specs.Prelude.{OnOk, OnErr, IfOk, min, true};
 ghost use Rattle.std.specs.List.{All};
-ghost use Rattle.dc_base.specs.Failures.{HasRisen};
-ghost use Rattle.dc_stream.specs.Stream.{Puts, Wrote};
+ghost use Rattle.dc_io.specs.Failures.{HasRisen};
+ghost use Rattle.dc_io.specs.Written.{PutsInto, Wrote};
 ghost use Rattle.dc_rounds.specs.Polls.{GoesRound, Polled, PollsAll};
 ghost use Rattle.dc_rounds.specs.Round.{EachFewer, HasFew, IsFresh, IsOver, Runs, end_line};
 ghost use Rattle.dc_rounds.specs.Round.{lates_from, meters_left, most_lines};
@@ -18,9 +18,9 @@ use crate::station::Station;
 use crate::telling::tell_all;
 use crate::timer::Timer;
 use dc_core::Concentrator;
+use dc_io::{IoFault, Sink};
 use dc_line::QuietBus;
 use dc_sectors::Disk;
-use dc_stream::{IoFault, Sink};
 use std::alloc::Allocator;
 
 // More rounds than are ever needed: of as many meters as a queue has, each tried as often as a byte says.
@@ -43,7 +43,7 @@ fn round<D: Disk + Drop, A: Allocator + Copy, B: QuietBus + Drop, T: Timer<B>, W
     requires few { outcome.old.read + outcome.old.failed + most_lines < 2 ^ 64 }
     ensures went { Runs D.Disk (λ core happened. IfOk result (λ kept.
         GoesRound B.QuietBus T.tells T.passes tries kept stations.old stations.new timer.old timer.new
-        (Puts (W.written out.old) (W.written out.new)) outcome.old outcome.new core happened))
+        (PutsInto W.Sink out.old out.new) outcome.old outcome.new core happened))
         concentrator.old concentrator.new }
     ensures sound { OnOk result (All (IsSound B.QuietBus tries) stations.new) }
     ensures fewer { IfOk result (λ kept. kept ≡ true → EachFewer (rounds_of B.QuietBus 1 1 1 tries)
@@ -85,7 +85,7 @@ fn read_rounds<D: Disk + Drop, A: Allocator + Copy, B: QuietBus + Drop, T: Timer
     requires few { before.read + before.failed < 2 ^ 63 }
     ensures went { Runs D.Disk (λ core happened.
         IfOk result (λ outcome. Polled B.QuietBus T.tells T.passes tries
-        stations.old stations.new timer.old timer.new (Puts (W.written out.old) (W.written out.new)) before outcome
+        stations.old stations.new timer.old timer.new (PutsInto W.Sink out.old out.new) before outcome
         core happened)) concentrator.old concentrator.new }
     ensures few { IfOk result (λ outcome. outcome.read + outcome.failed < 2 ^ 63 + 2 ^ 62) }
     ensures budget { concentrator.new.house.budget ≡ concentrator.old.house.budget }
@@ -121,14 +121,14 @@ fn meters_left<B: QuietBus + Drop>(stations: &[Station<'_, B>]) -> u64
 }
 
 // How many late answers were dropped on each of these lines, of which the first has that number.
-#[tactic(auto, using(dc_stream::proofs::Pieces::written))]
+#[tactic(auto, using(dc_io::proofs::Pieces::written))]
 fn put_lates<B: QuietBus + Drop, W: Sink>(
     stations: &[Station<'_, B>],
     line: u8,
     out: &mut W,
 ) -> Result<(), IoFault>
     requires { line + length stations.now ≤ 255 }
-    ensures { Wrote W.written W.put_failures result out.old out.new
+    ensures { Wrote W.Sink result out.old out.new
         (lates_from B.QuietBus line stations.now) }
 {
     let Some((station, others)) = stations.split_first() else {
@@ -149,7 +149,7 @@ fn finish<B: QuietBus + Drop, W: Sink>(
       read = between.read;
       failed = min (2 ^ 64 - 1) (between.failed + meters_left stations.now);
     }) }
-    ensures text { IfOk result (λ outcome. Puts (W.written out.old) (W.written out.new)
+    ensures text { IfOk result (λ outcome. PutsInto W.Sink out.old out.new
         (lates_from B.QuietBus 1 stations.now ++ end_line outcome.read outcome.failed)) }
     ensures fault { OnErr result (HasRisen (W.put_failures out.old) (W.put_failures out.new)) }
     ensures well { OnOk result (W.put_failures out.new ≡ W.put_failures out.old) }
@@ -164,7 +164,7 @@ fn finish<B: QuietBus + Drop, W: Sink>(
     }
 }
 
-#[tactic(auto, using(dc_stream::proofs::Pieces::written))]
+#[tactic(auto, using(dc_io::proofs::Pieces::written))]
 fn put_finish<B: QuietBus + Drop, W: Sink>(
     stations: &[Station<'_, B>],
     read: u64,
@@ -172,7 +172,7 @@ fn put_finish<B: QuietBus + Drop, W: Sink>(
     out: &mut W,
 ) -> Result<(), IoFault>
     requires { length stations.now ≤ most_lines }
-    ensures { Wrote W.written W.put_failures result out.old out.new
+    ensures { Wrote W.Sink result out.old out.new
         (lates_from B.QuietBus 1 stations.now ++ end_line read failed) }
 {
     put_lates(stations, 1, out)?;
@@ -200,7 +200,7 @@ pub fn read_all<D: Disk + Drop, A: Allocator + Copy, B: QuietBus + Drop, T: Time
     requires tries { 0 < tries }
     ensures went { Runs D.Disk (λ core happened. IfOk result (λ outcome.
         PollsAll B.QuietBus T.tells T.passes tries stations.old stations.new timer.old timer.new
-        (Puts (W.written out.old) (W.written out.new)) (record { read = 0; failed = 0 }) outcome core happened))
+        (PutsInto W.Sink out.old out.new) (record { read = 0; failed = 0 }) outcome core happened))
         concentrator.old concentrator.new }
     ensures budget { concentrator.new.house.budget ≡ concentrator.old.house.budget }
     ensures fault { OnErr result (HasRisen (W.put_failures out.old) (W.put_failures out.new)) }
@@ -236,7 +236,7 @@ pub(crate) fn read_on<
     requires few { before.read + before.failed < 2 ^ 63 }
     ensures went { Runs D.Disk (λ core happened. IfOk result (λ outcome.
         PollsAll B.QuietBus T.tells T.passes tries stations.old stations.new timer.old timer.new
-        (Puts (W.written out.old) (W.written out.new)) before outcome core happened))
+        (PutsInto W.Sink out.old out.new) before outcome core happened))
         concentrator.old concentrator.new }
     ensures budget { concentrator.new.house.budget ≡ concentrator.old.house.budget }
     ensures fault { OnErr result (HasRisen (W.put_failures out.old) (W.put_failures out.new)) }

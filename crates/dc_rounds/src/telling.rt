@@ -2,8 +2,8 @@
 
 ghost use Rattle.std.specs.Prelude.{◌≡◌, ◌<◌, ◌≤◌, ◌-◌, ◌+◌, ◌^◌, ℕ, OnOk, OnErr, length, true};
 ghost use Rattle.std.specs.List.{All};
-ghost use Rattle.dc_base.specs.Failures.{HasRisen};
-ghost use Rattle.dc_stream.specs.Stream.{Puts, Wrote};
+ghost use Rattle.dc_io.specs.Failures.{HasRisen};
+ghost use Rattle.dc_io.specs.Written.{PutsInto, Wrote};
 ghost use Rattle.dc_rounds.specs.Happening.{told_line};
 ghost use Rattle.dc_rounds.specs.Round.{AllTells, EachFewer, Runs, Tells, counted, most_lines};
 ghost use Rattle.dc_rounds.specs.Round.{told_of};
@@ -18,10 +18,10 @@ use crate::outcome::Outcome;
 use crate::phase::Phase;
 use crate::station::Station;
 use dc_core::Concentrator;
+use dc_io::{IoFault, Sink};
 use dc_line::QuietBus;
 use dc_meters::House;
 use dc_sectors::Disk;
-use dc_stream::{IoFault, Sink};
 use std::alloc::Allocator;
 
 // The line of text of an end, which is counted.
@@ -33,7 +33,7 @@ fn put_told<A: Allocator + Copy, W: Sink>(
     out: &mut W,
 ) -> Result<(), IoFault>
     requires { outcome.old.read + outcome.old.failed < 2 ^ 64 - 1 }
-    ensures text { Wrote W.written W.put_failures result out.old out.new
+    ensures text { Wrote W.Sink result out.old out.new
         (told_line line (told_of house.now.state end.now)) }
     ensures counted { outcome.new ≡ counted end.now outcome.old }
 {
@@ -65,7 +65,7 @@ fn tell_end<D: Disk + Drop, A: Allocator + Copy, B: QuietBus + Drop, W: Sink>(
     requires { outcome.old.read + outcome.old.failed < 2 ^ 64 - 1 }
     ensures went { Runs D.Disk (λ core happened.
         OnOk result (Tells B.QuietBus line station.old station.new
-        (Puts (W.written out.old) (W.written out.new)) outcome.old outcome.new core happened))
+        (PutsInto W.Sink out.old out.new) outcome.old outcome.new core happened))
         concentrator.now concentrator.now }
     ensures few { outcome.new.read + outcome.new.failed ≤ outcome.old.read + outcome.old.failed
         + 1 }
@@ -92,7 +92,7 @@ fn tell_loss<D: Disk + Drop, A: Allocator + Copy, B: QuietBus + Drop, W: Sink>(
 ) -> Result<(), IoFault>
     ensures went { (outcome : Counts)
         → Runs D.Disk (λ core happened. OnOk result (Tells B.QuietBus line station.old station.new
-        (Puts (W.written out.old) (W.written out.new)) outcome outcome core happened))
+        (PutsInto W.Sink out.old out.new) outcome outcome core happened))
         concentrator.now concentrator.now }
     ensures kept { station.new ≡ record station.old { said = station.new.said } }
     ensures said { B.lost station.new.bus ≡ true → OnOk result (station.new.said ≡ true) }
@@ -120,7 +120,7 @@ fn tell<D: Disk + Drop, A: Allocator + Copy, B: QuietBus + Drop, W: Sink>(
     requires { outcome.old.read + outcome.old.failed < 2 ^ 64 - 1 }
     ensures went { Runs D.Disk (λ core happened.
         OnOk result (Tells B.QuietBus line station.old station.new
-        (Puts (W.written out.old) (W.written out.new)) outcome.old outcome.new core happened))
+        (PutsInto W.Sink out.old out.new) outcome.old outcome.new core happened))
         concentrator.now concentrator.now }
     ensures few { outcome.new.read + outcome.new.failed ≤ outcome.old.read + outcome.old.failed
         + 1 }
@@ -148,7 +148,7 @@ pub fn tell_all<D: Disk + Drop, A: Allocator + Copy, B: QuietBus + Drop, W: Sink
     requires few { outcome.old.read + outcome.old.failed + most_lines < 2 ^ 64 }
     ensures went { Runs D.Disk (λ core happened.
         OnOk result (AllTells B.QuietBus stations.old stations.new
-        (Puts (W.written out.old) (W.written out.new)) outcome.old outcome.new core happened))
+        (PutsInto W.Sink out.old out.new) outcome.old outcome.new core happened))
         concentrator.now concentrator.now }
     ensures few { OnOk result (outcome.new.read + outcome.new.failed ≤ outcome.old.read
         + outcome.old.failed + most_lines) }

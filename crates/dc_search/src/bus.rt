@@ -14,7 +14,7 @@ use crate::fault::SearchFault;
 use crate::search::Search;
 use crate::step::Step;
 use dc_address::{Identity, Mask};
-use dc_base::NoMemory;
+use dc_io::NoMemory;
 use dc_linkframe::control::{RSP_UD, VARIABLE_DATA};
 use dc_linkframe::{ACK, FrameBuf, write_long};
 use std::alloc::Allocator;

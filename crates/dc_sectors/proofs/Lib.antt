@@ -6,6 +6,8 @@ pub mod Moments
 pub mod Texts
 -- a disk over a file, and that its hypothesis can be met
 pub mod Filed
+-- numbers in a sector read back
+pub mod Numbers
 -- of this crate alone
 mod Kept
 -- the pending sectors, one sector more

@@ -4,7 +4,7 @@ use Rattle.std.proofs.lemmas.List.{drop-drop, drop_all, drop_at, drop-append-le,
 use borrow.Rule.Slice.PartMut.{put_mid, mid_of}
 use Rattle.byteorder.specs.Endian.{little_number, little_bytes}
 use Rattle.byteorder.specs.Numbers.{little_from-append, little_number-reads_back, length-bytes_low_first}
-use Rattle.dc_fields.specs.Fields.{field, number_bytes}
+use Rattle.dc_sectors.specs.Fields.{field, number_bytes}
 
 pub length-number_bytes : (n number : ℕ) → length (number_bytes n number) ≡ n
 unfolding number_bytes

@@ -18,3 +18,5 @@ pub mod FileCalls
 pub mod Note
 -- a disk over a file, and the hypothesis on its calls
 pub mod File
+-- numbers of several bytes at a place in a sector, the lowest byte first (this product's image format)
+pub mod Fields

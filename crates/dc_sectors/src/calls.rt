@@ -3,7 +3,7 @@
 ghost use Rattle.std.specs.Prelude.{◌≡◌};
 
 use crate::Failed;
-use dc_base::one_failure_more;
+use dc_io::one_failure_more;
 
 /// The calls of a disk so far, and those to come that are to fail.
 #[derive(Clone, Copy)]

@@ -1,7 +1,7 @@
 //! Numbers of several bytes at a place of a sector.
 
 ghost use Rattle.std.specs.Prelude.{◌≡◌, ◌≤◌, ◌+◌, ◌++◌, take, drop};
-ghost use Rattle.dc_fields.specs.Fields.{field, number_bytes};
+ghost use Rattle.dc_sectors.specs.Fields.{field, number_bytes};
 
 use byteorder::{ByteOrder, LittleEndian};
 

@@ -2,7 +2,7 @@
 
 ghost use Rattle.std.specs.Prelude.{◌≡◌, ◌≢◌, ◌⊎◌, ◌<◌, ◌≤◌, ◌*◌, ◌/◌, ◌-◌, ◌^◌, ◌==◌, ℕ, List, []};
 ghost use Rattle.std.specs.Prelude.{min, true, false, IfOk, OnOk, OnErr, IsErr, IsErrOf, length};
-ghost use Rattle.dc_base.specs.Failures.{HasRisen};
+ghost use Rattle.dc_io.specs.Failures.{HasRisen};
 ghost use Rattle.dc_sectors.specs.declared.sector.Sector.{Sector};
 ghost use Rattle.dc_sectors.specs.declared.sector.ReadFault.TheVariants.{Unreadable as CannotRead};
 ghost use Rattle.dc_sectors.specs.declared.sector.ReadFault.TheVariants.{Failed as ReadFailed};
@@ -13,7 +13,7 @@ ghost use Rattle.dc_sectors.specs.File.{IsSyncOf, reads_in, choices_in, moment_i
 ghost use Rattle.dc_sectors.specs.File.{KeepsRule};
 
 use crate::{Disk, Failed, FileCalls, Logged, ReadFault, Start, Unknown};
-use dc_base::one_failure_more;
+use dc_io::one_failure_more;
 use std::fs::{OpenFile, OpenOptions};
 use std::io;
 use std::marker::Model;

@@ -22,12 +22,16 @@
 //!
 //! Callers state what they leave for every moment, and prove it from the trait alone. The lemmas for that are
 //! `proofs/Moments` on runs of calls and `specs/Images` on choices.
+//!
+//! [`u16_at`] .. [`put_u64`] read and write numbers of several bytes at a place in a sector, the lowest byte first: the
+//! layout that root sectors and pages of the image share.
 #![tactic(auto)]
 
 mod call_log;
 mod calls;
 mod device;
 mod event;
+mod fields;
 mod file;
 mod file_calls;
 mod logged;
@@ -38,6 +42,7 @@ mod sector;
 mod start;
 
 pub use device::Disk;
+pub use fields::{put_u16, put_u32, put_u64, u16_at, u32_at, u64_at};
 pub use file::{DiskOver, FileDisk, FileDiskFrom};
 pub use file_calls::FileCalls;
 pub use logged::Logged;

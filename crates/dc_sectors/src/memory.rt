@@ -3,7 +3,7 @@
 ghost use Rattle.std.specs.Prelude.{◌≡◌, ◌≢◌, ◌⊎◌, ◌<◌, ◌≤◌, ℕ, Some, None, IfOk, OnOk, OnErr};
 ghost use Rattle.std.specs.Prelude.{IsErrOf, [], length};
 ghost use Rattle.std.specs.List.{AllZip};
-ghost use Rattle.dc_base.specs.Failures.{HasRisen};
+ghost use Rattle.dc_io.specs.Failures.{HasRisen};
 ghost use Rattle.dc_sectors.specs.declared.sector.ReadFault.TheVariants.{Unreadable as CannotRead};
 ghost use Rattle.dc_sectors.specs.declared.sector.ReadFault.TheVariants.{Failed as ReadFailed};
 ghost use Rattle.dc_sectors.specs.Disk.{Answers, Elapses, IsImage, put, added, settled};
@@ -16,7 +16,7 @@ use crate::calls::Calls;
 use crate::event::Event;
 use crate::scan::picked;
 use crate::{Disk, Failed, Pick, ReadFault, Sector};
-use dc_base::NoMemory;
+use dc_io::NoMemory;
 use std::alloc::Allocator;
 use std::marker::Model;
 

@@ -2,8 +2,8 @@
 use Rattle.std.proofs.Common.{◌≡◌, ℕ, ◌+◌, ◌-◌, ◌<◌, ◌≤◌, Bool, true, false, List, [], ◌∷◌, ◌++◌, length, Option, refl, ap, sym, subst, ◌∙◌, arith, append_assoc, if◌then◌else◌, ◌==◌}
 use Rattle.std.proofs.lemmas.Bool.Decides.{nat_tests}
 use Rattle.std.proofs.lemmas.List.{length-append}
-use Rattle.dc_stream.specs.Chain.{IsRun}
-use Rattle.dc_stream.proofs.Chains.{run-append}
+use Rattle.dc_io.specs.Chain.{IsRun}
+use Rattle.dc_io.proofs.Chains.{run-append}
 use Rattle.dc_late.specs.Late.{Last, first_of, is_copy, past_copies}
 use Rattle.dc_steady.specs.Steady.{Listens, Waits, copies_in, most_copies}
 

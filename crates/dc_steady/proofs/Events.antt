@@ -1,17 +1,17 @@
 -- What the line layer does over a link, as events of a late world.
 use Rattle.std.proofs.Common.{◌≡◌, ℕ, suc, Bool, true, false, List, [], ◌∷◌, ◌++◌, ◌||◌, drop, length, Option, Some, None, refl, ap, sym, subst, ◌∙◌, if◌then◌else◌, ◌⊎◌, inl, inr}
 use Rattle.std.specs.List.{AllByRecursion}
-use Rattle.dc_stream.specs.Chain.{IsRun}
-use Rattle.dc_stream.proofs.Chains.{run-append}
+use Rattle.dc_io.specs.Chain.{IsRun}
+use Rattle.dc_io.proofs.Chains.{run-append}
 use Rattle.dc_linkframe.specs.Frame.{FrameSeen, ack, short, long, spelling}
 use Rattle.dc_linkframe.specs.Reading.{frame_of}
 use Rattle.dc_linkframe.proofs.Spellings.{frame_of-spelling}
 use Rattle.dc_readout.specs.Summary.{asked_by}
-use Rattle.dc_lives.specs.declared.event.Outcome.{Outcome}
-use Rattle.dc_lives.specs.Meter.{Meter, Position}
-use Rattle.dc_lives.specs.World.{AreRegular, GoesOnFromCommitted, IsWhole, Running, world_step, positions_after, heard_in}
-use Rattle.dc_lives.specs.declared.event.WorldEvent.TheVariants.{Start}
-use Rattle.dc_lives.proofs.Moves.{no_frame_of_nothing}
+use Rattle.dc_world.specs.declared.event.Outcome.{Outcome}
+use Rattle.dc_world.specs.Meter.{Meter, Position}
+use Rattle.dc_world.specs.World.{AreRegular, GoesOnFromCommitted, IsWhole, Running, world_step, positions_after, heard_in}
+use Rattle.dc_world.specs.declared.event.WorldEvent.TheVariants.{Start}
+use Rattle.dc_world.proofs.Moves.{no_frame_of_nothing}
 use Rattle.dc_late.specs.Late.{LateWorld, LateEvent, Last, Listened, starts, passes, exchanges, commits, stops, is_copy, past_copies, last_after, and_sent, first_of, listened, heard_late, exchanged_by, exchanged, started_if, is_quiet, clear_after, late_step, late_from, late_after, new_late_world}
 use Rattle.dc_late.proofs.LateWorlds.{late_held_is_whole, late_goes_on_from_committed}
 use Rattle.dc_steady.specs.declared.line.Steady.{Steady}

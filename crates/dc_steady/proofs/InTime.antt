@@ -1,13 +1,13 @@
--- Where each answer comes in time, what the concentrator does over the line layer is what it does in dc_lives.
+-- Where each answer comes in time, what the concentrator does over the line layer is what it does in dc_world.
 use Rattle.std.proofs.Common.{◌≡◌, ℕ, Bool, true, false, ◌-◌, List, [], ◌∷◌, Option, Some, None, map, refl, ap, sym, subst, ◌∙◌, arith}
 use Rattle.dc_linkframe.specs.Frame.{FrameSeen, spelling}
 use Rattle.dc_linkframe.specs.Reading.{frame_of}
 use Rattle.dc_readout.specs.Summary.{asked_by}
-use Rattle.dc_lives.specs.declared.event.Outcome.{Outcome}
-use Rattle.dc_lives.specs.declared.event.WorldEvent.{WorldEvent}
-use Rattle.dc_lives.specs.declared.event.WorldEvent.TheVariants.{Start, Exchange, Commit, Stop}
-use Rattle.dc_lives.specs.Meter.{Meter}
-use Rattle.dc_lives.specs.World.{AreRegular, World, Running, new_world, world_after, world_step, heard_in, positions_after}
+use Rattle.dc_world.specs.declared.event.Outcome.{Outcome}
+use Rattle.dc_world.specs.declared.event.WorldEvent.{WorldEvent}
+use Rattle.dc_world.specs.declared.event.WorldEvent.TheVariants.{Start, Exchange, Commit, Stop}
+use Rattle.dc_world.specs.Meter.{Meter}
+use Rattle.dc_world.specs.World.{AreRegular, World, Running, new_world, world_after, world_step, heard_in, positions_after}
 use Rattle.dc_late.specs.Late.{AreDifferent, LateWorld, Last, Listened, and_sent, clear_after, exchanged, exchanged_by, first_of, heard_late, in_its_time, is_copy, last_after, late_from, late_step, listened, past_copies}
 use Rattle.dc_late.proofs.Copies.{same_in_time}
 use Rattle.dc_steady.specs.declared.line.Steady.{Steady}

@@ -4,7 +4,7 @@
 pub mod Dropped
 -- what the line layer does over a link, as events of a late world
 pub mod Events
--- where each answer comes in time, a life of dc_lives is one over the line layer
+-- where each answer comes in time, a life of dc_world is one over the line layer
 pub mod InTime
 -- what a line that settles drops
 pub mod Settling

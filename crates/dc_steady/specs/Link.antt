@@ -2,11 +2,11 @@
 use Rattle.std.specs.Prelude.{◌≡◌, ℕ, true, false, List, [], ◌∷◌, Some}
 use Rattle.dc_linkframe.specs.Frame.{FrameSeen, spelling}
 use Rattle.dc_readout.specs.Summary.{asked_by, verdict_by}
-use Rattle.dc_lives.specs.declared.event.Outcome.{Outcome}
-use Rattle.dc_lives.specs.declared.event.WorldEvent.TheVariants.{Start}
-use Rattle.dc_lives.specs.Meter.{Meter}
-use Rattle.dc_lives.specs.World.{World, Running, world_step, positions_after, heard_in}
-use Rattle.dc_lives.specs.World.{running_after}
+use Rattle.dc_world.specs.declared.event.Outcome.{Outcome}
+use Rattle.dc_world.specs.declared.event.WorldEvent.TheVariants.{Start}
+use Rattle.dc_world.specs.Meter.{Meter}
+use Rattle.dc_world.specs.World.{World, Running, world_step, positions_after, heard_in}
+use Rattle.dc_world.specs.World.{running_after}
 use Rattle.dc_late.specs.Late.{LateWorld, and_sent, new_late_world, late_step, passes, commits}
 use Rattle.dc_late.specs.Late.{stops}
 use Rattle.dc_steady.specs.declared.line.Steady.{Steady}

@@ -1,7 +1,7 @@
 -- What is heard on a line whose link may deliver answers late, and when such a line is clear (this product).
 use Rattle.std.specs.Prelude.{◌≡◌, ℕ, ◌+◌, ◌-◌, ◌^◌, ◌≤◌, ◌<◌, Bool, true, false, ◌&&◌, List, []}
 use Rattle.std.specs.Prelude.{◌∷◌, length, min, Option, Some, None, ◌==◌, if◌then◌else◌}
-use Rattle.dc_stream.specs.Chain.{IsRun}
+use Rattle.dc_io.specs.Chain.{IsRun}
 use Rattle.dc_linkframe.specs.Frame.{FrameSeen, ack}
 use Rattle.dc_linkframe.specs.Reading.{frame_of}
 use Rattle.dc_late.specs.Late.{Last, clear_after, first_of, last_after, past_copies}

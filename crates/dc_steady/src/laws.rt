@@ -2,9 +2,9 @@
 
 ghost use Rattle.std.specs.Prelude.{◌≡◌, ℕ, false, List, [], ◌∷◌, ◌++◌};
 ghost use Rattle.std.specs.List.{AllByRecursion};
-ghost use Rattle.dc_lives.specs.Meter.{Meter};
-ghost use Rattle.dc_lives.specs.World.{AreRegular, GoesOnFromCommitted, IsWhole, world_after};
-ghost use Rattle.dc_lives.specs.declared.event.WorldEvent.{WorldEvent};
+ghost use Rattle.dc_world.specs.Meter.{Meter};
+ghost use Rattle.dc_world.specs.World.{AreRegular, GoesOnFromCommitted, IsWhole, world_after};
+ghost use Rattle.dc_world.specs.declared.event.WorldEvent.{WorldEvent};
 ghost use Rattle.dc_late.specs.Late.{AreDifferent, LateWorld};
 ghost use Rattle.dc_line.specs.Bus.{Runs};
 ghost use Rattle.dc_steady.specs.Life.{BecomesClear};

@@ -4,7 +4,7 @@ use Rattle.dc_address.specs.Text.{text_of}
 use Rattle.dc_address.specs.declared.identity.Identity.{Identity}
 use Rattle.dc_changes.specs.Line.{address_word}
 use Rattle.dc_changes.specs.State.{State, MeterRow}
-use Rattle.dc_text.specs.Words.{number_word}
+use Rattle.dc_io.specs.Words.{number_word}
 
 -- the meter, its bus line and its address
 unfoldable pub place_words : Identity → MeterRow → List ℕ

@@ -1,7 +1,7 @@
 -- The replies to the office's lines (this product): words with single spaces, each line ended by LF.
 use Rattle.std.specs.Prelude.{◌≡◌, ℕ, List, [], ◌++◌, codes, length, flat_map, Option}
-use Rattle.dc_base.specs.Failures.{HasRisen}
-use Rattle.dc_stream.specs.Stream.{PutsFront}
+use Rattle.dc_io.specs.Failures.{HasRisen}
+use Rattle.dc_io.specs.Stream.{PutsFront}
 use Rattle.dc_units.specs.Date.{Day}
 use Rattle.dc_changes.specs.State.{State, Held}
 use Rattle.dc_report.specs.DueTable.{due_rows, due_text}
@@ -9,7 +9,7 @@ use Rattle.dc_upload.specs.Code.{word_of}
 use Rattle.dc_upload.specs.Register.{meter_lines}
 use Rattle.dc_upload.specs.Verdict.{verdict_of}
 use Rattle.dc_upload.specs.Window.{reading_lines, window}
-use Rattle.dc_text.specs.Words.{number_word}
+use Rattle.dc_io.specs.Words.{number_word}
 use Rattle.dc_upload.specs.declared.code.Code.{Code}
 use Rattle.dc_upload.specs.declared.code.Code.TheVariants.{Syntax, Store, Order, Known, Unknown}
 use Rattle.dc_upload.specs.declared.code.Code.TheVariants.{Address, Beyond, Gone, Full, Memory}

@@ -3,8 +3,8 @@ use Rattle.std.specs.Prelude.{ℕ, ◌+◌, List, [], ◌∷◌, ◌++◌, codes
 use Rattle.dc_address.specs.Text.{text_of}
 use Rattle.dc_changes.specs.State.{State, PartRow, ReadingRow}
 use Rattle.dc_meters.specs.Orders.{readings_from}
-use Rattle.dc_text.specs.Hex.{upper_hex}
-use Rattle.dc_text.specs.Words.{number_word}
+use Rattle.dc_io.specs.Hex.{upper_hex}
+use Rattle.dc_io.specs.Words.{number_word}
 
 -- `PART i moment hex`: its place, when it came, in seconds since 1970, and its body
 unfoldable pub part_line : ℕ → PartRow → List ℕ

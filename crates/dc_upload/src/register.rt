@@ -2,24 +2,23 @@
 
 ghost use Rattle.std.specs.Prelude.{◌≡◌, ◌++◌, codes};
 ghost use Rattle.dc_changes.specs.Line.{address_word};
-ghost use Rattle.dc_stream.specs.Stream.{Wrote};
+ghost use Rattle.dc_io.specs.Written.{Wrote};
 ghost use Rattle.dc_upload.specs.Register.{meter_line, meter_lines, place_words};
 
 use crate::words::put_word;
 use dc_address::{Identity, Primary};
+use dc_io::{IoFault, Sink, put_number_word};
 use dc_meters::{House, Meter};
-use dc_stream::{IoFault, Sink};
-use dc_text::put_number_word;
 use std::alloc::Allocator;
 
 /// Writes a line for each meter, by identity: `METER ident line addr flat open`, the last being the number of its
 /// open parts.
-#[tactic(auto, using(dc_stream::proofs::Pieces::written))]
+#[tactic(auto, using(dc_io::proofs::Pieces::written))]
 pub fn write_meters<A: Allocator + Copy, W: Sink>(
     house: &House<A>,
     out: &mut W,
 ) -> Result<(), IoFault>
-    ensures { Wrote W.written W.put_failures result out.old out.new (meter_lines house.now.state) }
+    ensures { Wrote W.Sink result out.old out.new (meter_lines house.now.state) }
 {
     for (meter, row) in house.meters() {
         write_meter(meter, row, out)?;
@@ -27,13 +26,13 @@ pub fn write_meters<A: Allocator + Copy, W: Sink>(
     Ok(())
 }
 
-#[tactic(auto, using(dc_stream::proofs::Pieces::written), unfolding(crate::specs::Register::meter_line))]
+#[tactic(auto, using(dc_io::proofs::Pieces::written), unfolding(crate::specs::Register::meter_line))]
 fn write_meter<A: Allocator, W: Sink>(
     meter: &Identity,
     row: &Meter<A>,
     out: &mut W,
 ) -> Result<(), IoFault>
-    ensures { Wrote W.written W.put_failures result out.old out.new
+    ensures { Wrote W.Sink result out.old out.new
         (meter_line (meter.now, row.now)) }
 {
     out.put(b"METER")?;
@@ -44,13 +43,13 @@ fn write_meter<A: Allocator, W: Sink>(
 }
 
 // The meter, and where it hangs.
-#[tactic(auto, using(dc_stream::proofs::Pieces::written), unfolding(crate::specs::Register::place_words))]
+#[tactic(auto, using(dc_io::proofs::Pieces::written), unfolding(crate::specs::Register::place_words))]
 fn put_place<A: Allocator, W: Sink>(
     out: &mut W,
     meter: &Identity,
     row: &Meter<A>,
 ) -> Result<(), IoFault>
-    ensures { Wrote W.written W.put_failures result out.old out.new
+    ensures { Wrote W.Sink result out.old out.new
         (place_words meter.now row.now) }
 {
     put_word(out, &meter.text())?;
@@ -58,9 +57,9 @@ fn put_place<A: Allocator, W: Sink>(
     put_address(out, row.address())
 }
 
-#[tactic(auto, using(dc_stream::proofs::Pieces::written))]
+#[tactic(auto, using(dc_io::proofs::Pieces::written))]
 fn put_address<W: Sink>(out: &mut W, address: Option<Primary>) -> Result<(), IoFault>
-    ensures { Wrote W.written W.put_failures result out.old out.new
+    ensures { Wrote W.Sink result out.old out.new
         (codes " " ++ address_word address) }
 {
     match address {

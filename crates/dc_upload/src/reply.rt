@@ -2,7 +2,7 @@
 
 ghost use Rattle.std.specs.Prelude.{◌≡◌, ◌++◌, IfErr, OnOk};
 ghost use Rattle.dc_changes.specs.Valid.{IsState};
-ghost use Rattle.dc_stream.specs.Stream.{Puts, Wrote};
+ghost use Rattle.dc_io.specs.Written.{PutsInto, Wrote};
 ghost use Rattle.dc_upload.specs.Line.{IsOfficeLine};
 ghost use Rattle.dc_upload.specs.Reply.{detail_of, done_line, end_line, refusal_line};
 ghost use Rattle.dc_upload.specs.Reply.{register_text, reply_text, report_text, shown_text, Tells};
@@ -11,10 +11,9 @@ ghost use Rattle.dc_upload.specs.Verdict.{IfDo, verdict_of};
 use crate::register::write_meters;
 use crate::window::write_window;
 use crate::{Code, OfficeLine, ReplyFault, Verdict, judge};
+use dc_io::{IoFault, Sink, put_number_word};
 use dc_meters::House;
 use dc_report::{Date, counted_due_table};
-use dc_stream::{IoFault, Sink};
-use dc_text::put_number_word;
 use std::alloc::Allocator;
 
 /// Writes the reply to a line that is no new command; one that was just done is a repeat. A REPORT takes memory for its
@@ -32,10 +31,10 @@ pub fn write_reply<A: Allocator + Copy, W: Sink>(
 ) -> Result<(), ReplyFault>
     requires line { IsOfficeLine line.now }
     requires answered { IfDo (verdict_of house.now line.now) (λ _. ⊥) }
-    ensures text { OnOk result (Puts (W.written out.old) (W.written out.new)
+    ensures text { OnOk result (PutsInto W.Sink out.old out.new
         (reply_text house.now line.now)) }
     ensures well { OnOk result (W.put_failures out.new ≡ W.put_failures out.old) }
-    ensures fault { IfErr result (λ fault. Tells W.written W.put_failures line.now
+    ensures fault { IfErr result (λ fault. Tells W.Sink line.now
         (reply_text house.now line.now) out.old out.new fault) }
 {
     match judge(house, line) {
@@ -47,9 +46,9 @@ pub fn write_reply<A: Allocator + Copy, W: Sink>(
 }
 
 /// Writes `OK number`: the command is done.
-#[tactic(auto, using(dc_stream::proofs::Pieces::written), unfolding(crate::specs::Reply::done_line))]
+#[tactic(auto, using(dc_io::proofs::Pieces::written), unfolding(crate::specs::Reply::done_line))]
 fn write_done<W: Sink>(number: u64, out: &mut W) -> Result<(), IoFault>
-    ensures { Wrote W.written W.put_failures result out.old out.new (done_line number) }
+    ensures { Wrote W.Sink result out.old out.new (done_line number) }
 {
     out.put(b"OK")?;
     put_number_word(out, number)?;
@@ -60,9 +59,9 @@ fn write_done<W: Sink>(number: u64, out: &mut W) -> Result<(), IoFault>
 ///
 /// # Errors
 /// A write failed; a prefix of the line is written then.
-#[tactic(auto, using(dc_stream::proofs::Pieces::written), unfolding(crate::specs::Reply::refusal_line))]
+#[tactic(auto, using(dc_io::proofs::Pieces::written), unfolding(crate::specs::Reply::refusal_line))]
 pub fn write_refusal<W: Sink>(code: Code, out: &mut W) -> Result<(), IoFault>
-    ensures { Wrote W.written W.put_failures result out.old out.new (refusal_line code) }
+    ensures { Wrote W.Sink result out.old out.new (refusal_line code) }
 {
     out.put(b"ERR ")?;
     out.put(code.word().as_bytes())?;
@@ -71,7 +70,7 @@ pub fn write_refusal<W: Sink>(code: Code, out: &mut W) -> Result<(), IoFault>
 }
 
 fn put_detail<W: Sink>(out: &mut W, code: Code) -> Result<(), IoFault>
-    ensures { Wrote W.written W.put_failures result out.old out.new (detail_of code) }
+    ensures { Wrote W.Sink result out.old out.new (detail_of code) }
 {
     match code {
         Code::Order { last } => put_number_word(out, last),
@@ -86,10 +85,10 @@ fn write_shown<A: Allocator + Copy, W: Sink>(
     line: &OfficeLine,
     out: &mut W,
 ) -> Result<(), ReplyFault>
-    ensures text { OnOk result (Puts (W.written out.old) (W.written out.new)
+    ensures text { OnOk result (PutsInto W.Sink out.old out.new
         (shown_text line.now house.now.state)) }
     ensures well { OnOk result (W.put_failures out.new ≡ W.put_failures out.old) }
-    ensures fault { IfErr result (λ fault. Tells W.written W.put_failures line.now
+    ensures fault { IfErr result (λ fault. Tells W.Sink line.now
         (shown_text line.now house.now.state) out.old out.new fault) }
 {
     match *line {
@@ -101,12 +100,12 @@ fn write_shown<A: Allocator + Copy, W: Sink>(
     Ok(())
 }
 
-#[tactic(auto, using(dc_stream::proofs::Pieces::written), unfolding(crate::specs::Reply::register_text))]
+#[tactic(auto, using(dc_io::proofs::Pieces::written), unfolding(crate::specs::Reply::register_text))]
 fn write_register<A: Allocator + Copy, W: Sink>(
     house: &House<A>,
     out: &mut W,
 ) -> Result<(), IoFault>
-    ensures { Wrote W.written W.put_failures result out.old out.new
+    ensures { Wrote W.Sink result out.old out.new
         (register_text house.now.state) }
 {
     write_meters(house, out)?;
@@ -121,28 +120,28 @@ fn write_report<A: Allocator + Copy, W: Sink>(
     date: Date,
     out: &mut W,
 ) -> Result<(), ReplyFault>
-    ensures text { OnOk result (Puts (W.written out.old) (W.written out.new)
+    ensures text { OnOk result (PutsInto W.Sink out.old out.new
         (report_text date house.now.state)) }
     ensures well { OnOk result (W.put_failures out.new ≡ W.put_failures out.old) }
-    ensures fault { IfErr result (λ fault. Tells W.written W.put_failures (OfficeLine.Report date)
+    ensures fault { IfErr result (λ fault. Tells W.Sink (OfficeLine.Report date)
         (report_text date house.now.state) out.old out.new fault) }
 {
     let table = counted_due_table(alloc, house, date)?;
     Ok(put_table(&table.bytes, table.rows, out)?)
 }
 
-#[tactic(auto, using(dc_stream::proofs::Pieces::written))]
+#[tactic(auto, using(dc_io::proofs::Pieces::written))]
 fn put_table<W: Sink>(table: &[u8], rows: usize, out: &mut W) -> Result<(), IoFault>
-    ensures { Wrote W.written W.put_failures result out.old out.new (table.now ++ end_line rows) }
+    ensures { Wrote W.Sink result out.old out.new (table.now ++ end_line rows) }
 {
     out.put(table)?;
     write_end(rows, out)
 }
 
 /// Writes `END count`.
-#[tactic(auto, using(dc_stream::proofs::Pieces::written), unfolding(crate::specs::Reply::end_line))]
+#[tactic(auto, using(dc_io::proofs::Pieces::written), unfolding(crate::specs::Reply::end_line))]
 pub(crate) fn write_end<W: Sink>(count: usize, out: &mut W) -> Result<(), IoFault>
-    ensures { Wrote W.written W.put_failures result out.old out.new (end_line count) }
+    ensures { Wrote W.Sink result out.old out.new (end_line count) }
 {
     out.put(b"END")?;
     put_number_word(out, count as u64)?;

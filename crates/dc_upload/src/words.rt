@@ -1,14 +1,14 @@
 //! Words of a reply.
 
 ghost use Rattle.std.specs.Prelude.{◌++◌, codes};
-ghost use Rattle.dc_stream.specs.Stream.{Wrote};
+ghost use Rattle.dc_io.specs.Written.{Wrote};
 
-use dc_stream::{IoFault, Sink};
+use dc_io::{IoFault, Sink};
 
 /// Puts a space and a word.
-#[tactic(auto, using(dc_stream::proofs::Pieces::written))]
+#[tactic(auto, using(dc_io::proofs::Pieces::written))]
 pub fn put_word<W: Sink>(out: &mut W, word: &[u8]) -> Result<(), IoFault>
-    ensures { Wrote W.written W.put_failures result out.old out.new (codes " " ++ word.now) }
+    ensures { Wrote W.Sink result out.old out.new (codes " " ++ word.now) }
 {
     out.put(b" ")?;
     out.put(word)

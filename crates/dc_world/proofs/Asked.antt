@@ -13,17 +13,17 @@ use Rattle.dc_readout.specs.declared.stage.Stage.TheVariants.{Resets, Selects, R
 use Rattle.dc_readout.specs.Protocol.{IsRequest}
 use Rattle.dc_readout.specs.Summary.{asked_at, request_bit, selection_of, link_address, IsPending}
 use Rattle.dc_readout.proofs.Requests.{selection_is_long, request_at}
-use Rattle.dc_lives.specs.declared.event.Outcome.TheVariants.{AsSent}
-use Rattle.dc_lives.specs.declared.request.Request.{Request}
-use Rattle.dc_lives.specs.declared.request.Request.TheVariants.{Reset, Select, Data}
-use Rattle.dc_lives.specs.Meter.{Meter, Position, answer_to, body_at, hears_at, moved_by}
-use Rattle.dc_lives.specs.World.{World, Running, all_moved, heard_in, more_after}
-use Rattle.dc_lives.specs.InStep.{IsNextBody, IsRegularWorld}
-use Rattle.dc_lives.specs.Regular.{Fits}
-use Rattle.dc_lives.specs.Reply.{bytes_of}
-use Rattle.dc_lives.specs.Request.{Asks, MayGoOn, frame_asked}
-use Rattle.dc_lives.proofs.Replies.{heard_as_sent, heard_place}
-use Rattle.dc_lives.proofs.Moves.{moved_at}
+use Rattle.dc_world.specs.declared.event.Outcome.TheVariants.{AsSent}
+use Rattle.dc_world.specs.declared.request.Request.{Request}
+use Rattle.dc_world.specs.declared.request.Request.TheVariants.{Reset, Select, Data}
+use Rattle.dc_world.specs.Meter.{Meter, Position, answer_to, body_at, hears_at, moved_by}
+use Rattle.dc_world.specs.World.{World, Running, all_moved, heard_in, more_after}
+use Rattle.dc_world.specs.InStep.{IsNextBody, IsRegularWorld}
+use Rattle.dc_world.specs.Regular.{Fits}
+use Rattle.dc_world.specs.Reply.{bytes_of}
+use Rattle.dc_world.specs.Request.{Asks, MayGoOn, frame_asked}
+use Rattle.dc_world.proofs.Replies.{heard_as_sent, heard_place}
+use Rattle.dc_world.proofs.Moves.{moved_at}
 
 -- ---- the frame that was sent is the one that is asked
 

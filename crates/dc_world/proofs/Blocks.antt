@@ -5,13 +5,13 @@ use Rattle.std.proofs.lemmas.List.{append-nil, take_all}
 use Rattle.std.proofs.lemmas.List.Elements.{All-append, All-cons, All-nil}
 use Rattle.std.proofs.lemmas.List.Folds.{concat-append}
 use Rattle.std.proofs.lemmas.List.Concat.{flat_map-append}
-use Rattle.dc_stream.specs.Stream.{Puts, Takes}
-use Rattle.dc_stream.proofs.Pieces.{puts-both, takes-both}
+use Rattle.dc_io.specs.Stream.{Puts, Takes}
+use Rattle.dc_io.proofs.Pieces.{puts-both, takes-both}
 use Rattle.dc_gateway.specs.Blocks.{Answers, IsBlock, block, blocks_bytes, most_answer, most_block, most_blocks}
 use Rattle.dc_gateway.specs.Talk.{IsContent}
-use Rattle.dc_lives.specs.Standing.{Standing}
-use Rattle.dc_simulated.specs.Line.{Hears}
-use Rattle.dc_simulated.specs.Serving.{PutsAnswer, Serves, blocks_with}
+use Rattle.dc_world.specs.Standing.{Standing}
+use Rattle.dc_world.specs.Line.{Hears}
+use Rattle.dc_world.specs.Serving.{PutsAnswer, Serves, blocks_with}
 
 content : (bytes : List ℕ) → concat (blocks_with bytes) ≡ bytes
 content [] = refl

@@ -7,9 +7,9 @@ use Rattle.std.proofs.lemmas.Option.{slice_get_within}
 use Rattle.dc_readout.specs.declared.stage.Stage.{Stage}
 use Rattle.dc_readout.specs.declared.stage.Stage.TheVariants.{Resets, Selects, Requests, Pending, Ended}
 use Rattle.dc_readout.specs.Summary.{settled_by, stage_settled}
-use Rattle.dc_lives.specs.Meter.{Meter, Position}
-use Rattle.dc_lives.specs.World.{World, Running, joined, kept, committed, committed_body, IsWhole, more_after, whole_readout}
-use Rattle.dc_lives.specs.InStep.{bit_before, HasGoneOn, HasNotGoneOn, IsInStep, IsAlone, IsNextBody, Agrees, IsRegularWorld}
+use Rattle.dc_world.specs.Meter.{Meter, Position}
+use Rattle.dc_world.specs.World.{World, Running, joined, kept, committed, committed_body, IsWhole, more_after, whole_readout}
+use Rattle.dc_world.specs.InStep.{bit_before, HasGoneOn, HasNotGoneOn, IsInStep, IsAlone, IsNextBody, Agrees, IsRegularWorld}
 
 -- ---- lists
 

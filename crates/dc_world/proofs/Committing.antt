@@ -5,8 +5,8 @@ use Rattle.std.proofs.lemmas.Bool.{eq-eqb, ne_eqb}
 use Rattle.dc_readout.specs.declared.stage.Stage.{Stage}
 use Rattle.dc_readout.specs.declared.stage.Stage.TheVariants.{Pending, Ended}
 use Rattle.dc_readout.specs.Summary.{settled_by, stage_settled}
-use Rattle.dc_lives.specs.Meter.{Position}
-use Rattle.dc_lives.specs.World.{World, Running, Finished, committed, committed_body, joined, kept, more_after}
+use Rattle.dc_world.specs.Meter.{Position}
+use Rattle.dc_world.specs.World.{World, Running, Finished, committed, committed_body, joined, kept, more_after}
 
 -- ---- whether more follow
 

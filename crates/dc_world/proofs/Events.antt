@@ -11,14 +11,14 @@ use Rattle.dc_readout.specs.declared.stage.Stage.{Stage}
 use Rattle.dc_readout.specs.declared.stage.Stage.TheVariants.{Resets, Selects, Requests, Pending, Ended}
 use Rattle.dc_readout.specs.Answer.{Meaning, acknowledged, answered, missed, broken}
 use Rattle.dc_readout.specs.Summary.{Verdict, again, ready, new, failed, begun, request_of, asked_at, asked_by, meaning_at, verdict_of_meaning, verdict_by, after_command, heard_by}
-use Rattle.dc_lives.specs.Meter.{Meter, Position}
-use Rattle.dc_lives.specs.declared.event.Outcome.{Outcome}
-use Rattle.dc_lives.specs.declared.event.Outcome.TheVariants.{RequestLost, ReplyLost, ReplyUnreadable, AsSent}
-use Rattle.dc_lives.specs.World.{World, Running, positions_after, heard_in, running_after, exchanged_as, new_world, started_by, AreRegular}
+use Rattle.dc_world.specs.Meter.{Meter, Position}
+use Rattle.dc_world.specs.declared.event.Outcome.{Outcome}
+use Rattle.dc_world.specs.declared.event.Outcome.TheVariants.{RequestLost, ReplyLost, ReplyUnreadable, AsSent}
+use Rattle.dc_world.specs.World.{World, Running, positions_after, heard_in, running_after, exchanged_as, new_world, started_by, AreRegular}
 use Rattle.dc_readout.proofs.Table.{answered_when}
-use Rattle.dc_lives.specs.InStep.{IsInStep, IsAlone, IsNextBody, Agrees, IsRegularWorld}
-use Rattle.dc_lives.proofs.Moves.{length-moved}
-use Rattle.dc_lives.proofs.Exchanges.{After, stays, command_done, next_body}
+use Rattle.dc_world.specs.InStep.{IsInStep, IsAlone, IsNextBody, Agrees, IsRegularWorld}
+use Rattle.dc_world.proofs.Moves.{length-moved}
+use Rattle.dc_world.proofs.Exchanges.{After, stays, command_done, next_body}
 
 -- ---- an exchange
 

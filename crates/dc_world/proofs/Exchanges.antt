@@ -16,15 +16,15 @@ use Rattle.dc_readout.specs.declared.stage.Stage.TheVariants.{Resets, Selects, R
 use Rattle.dc_readout.specs.Answer.{acknowledged, answered, to_command, to_request}
 use Rattle.dc_readout.specs.Summary.{link_address, reset_of, selection_of, request_of, asked_at, meaning_at, after_command}
 use Rattle.dc_readout.proofs.Requests.{selection_is_long}
-use Rattle.dc_lives.specs.Meter.{Meter, Position, hears_at, moved_by, at_selection, begun_anew, is_own, body_at, response}
-use Rattle.dc_lives.specs.declared.event.Outcome.{Outcome}
-use Rattle.dc_lives.specs.declared.event.Outcome.TheVariants.{RequestLost, ReplyLost, ReplyUnreadable, AsSent}
-use Rattle.dc_lives.specs.World.{all_moved, positions_after, heard_in, more_in, AreRegular}
+use Rattle.dc_world.specs.Meter.{Meter, Position, hears_at, moved_by, at_selection, begun_anew, is_own, body_at, response}
+use Rattle.dc_world.specs.declared.event.Outcome.{Outcome}
+use Rattle.dc_world.specs.declared.event.Outcome.TheVariants.{RequestLost, ReplyLost, ReplyUnreadable, AsSent}
+use Rattle.dc_world.specs.World.{all_moved, positions_after, heard_in, more_in, AreRegular}
 use Rattle.dc_readout.proofs.Table.{past_three}
 use Rattle.dc_readout.proofs.Taken.{by_body_own}
-use Rattle.dc_lives.specs.InStep.{HasGoneOn, HasNotGoneOn, IsInStep, IsAlone, IsNextBody}
-use Rattle.dc_lives.proofs.Masks.{masks_are_read}
-use Rattle.dc_lives.proofs.Moves.{moved_at, stood_at, heard_from, moved_by-request, answer_to-request, selected_kept, has_gone_on}
+use Rattle.dc_world.specs.InStep.{HasGoneOn, HasNotGoneOn, IsInStep, IsAlone, IsNextBody}
+use Rattle.dc_world.proofs.Masks.{masks_are_read}
+use Rattle.dc_world.proofs.Moves.{moved_at, stood_at, heard_from, moved_by-request, answer_to-request, selected_kept, has_gone_on}
 
 -- ---- who hears a request
 

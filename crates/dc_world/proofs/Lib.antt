@@ -24,3 +24,7 @@ pub mod Asked
 pub mod Regulars
 -- a commit, step by step
 pub mod Committing
+-- the blocks that an answer is cut into
+pub mod Blocks
+-- masks as they are sent
+pub mod Orders

@@ -9,11 +9,11 @@ use Rattle.dc_linkframe.specs.declared.fault.FrameFault.TheVariants.{Empty}
 use Rattle.dc_linkframe.specs.Reading.{frame_of}
 use Rattle.dc_linkframe.proofs.Spellings.{frame_of-spelling, frame_of-faulty}
 use Rattle.dc_readout.specs.Summary.{request_bit}
-use Rattle.dc_lives.specs.Meter.{Meter, Position, moved_by, answer_to, gone_on, same_bit, frame_count_bit, is_request, response, body_at, hears_at}
-use Rattle.dc_lives.specs.declared.event.Outcome.{Outcome}
-use Rattle.dc_lives.specs.declared.event.Outcome.TheVariants.{RequestLost, ReplyLost, ReplyUnreadable, AsSent}
-use Rattle.dc_lives.specs.World.{all_moved, noise, only_reply, replies, heard_in}
-use Rattle.dc_lives.specs.InStep.{bit_after, bit_before, HasGoneOn, HasNotGoneOn}
+use Rattle.dc_world.specs.Meter.{Meter, Position, moved_by, answer_to, gone_on, same_bit, frame_count_bit, is_request, response, body_at, hears_at}
+use Rattle.dc_world.specs.declared.event.Outcome.{Outcome}
+use Rattle.dc_world.specs.declared.event.Outcome.TheVariants.{RequestLost, ReplyLost, ReplyUnreadable, AsSent}
+use Rattle.dc_world.specs.World.{all_moved, noise, only_reply, replies, heard_in}
+use Rattle.dc_world.specs.InStep.{bit_after, bit_before, HasGoneOn, HasNotGoneOn}
 
 -- ---- place by place
 

@@ -4,9 +4,9 @@ use Rattle.std.specs.Prelude.{slice_get}
 use Rattle.std.proofs.lemmas.Bool.{eqb-true, eq-eqb}
 use Rattle.std.proofs.lemmas.Option.{slice_get_within}
 use Rattle.dc_address.specs.Mask.{mask_of, matches}
-use Rattle.dc_lives.specs.Meter.{Meter}
-use Rattle.dc_lives.specs.World.{AreRegular}
-use Rattle.dc_lives.specs.Regular.{IsFitting, StandsApart, shares}
+use Rattle.dc_world.specs.Meter.{Meter}
+use Rattle.dc_world.specs.World.{AreRegular}
+use Rattle.dc_world.specs.Regular.{IsFitting, StandsApart, shares}
 
 shared : (one other : Option ℕ) (address : ℕ) → one ≡ Some address → other ≡ Some address → shares one other ≡ true
 shared one other address is is' = rw (is, is') (eq-eqb address address refl)

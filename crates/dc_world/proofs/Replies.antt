@@ -10,14 +10,14 @@ use Rattle.dc_readout.specs.declared.stage.Stage.{Stage}
 use Rattle.dc_readout.specs.declared.stage.Stage.TheVariants.{Resets, Selects, Requests, Pending, Ended}
 use Rattle.dc_readout.specs.Summary.{link_address, reset_of, selection_of, request_of, asked_at, asked_by}
 use Rattle.dc_readout.proofs.Requests.{selection_is_long}
-use Rattle.dc_lives.specs.Meter.{Meter, Position, hears_at, is_own, moved_by, answer_to}
-use Rattle.dc_lives.specs.declared.event.Outcome.TheVariants.{AsSent}
-use Rattle.dc_lives.specs.World.{World, Running, all_moved, replies, only_reply, heard_in, AreRegular}
-use Rattle.dc_lives.specs.Reply.{bytes_of}
-use Rattle.dc_lives.specs.InStep.{HasGoneOn, HasNotGoneOn, IsInStep, IsAlone, Agrees}
-use Rattle.dc_lives.proofs.Masks.{masks_are_read}
-use Rattle.dc_lives.proofs.Moves.{moved_at, answer_to-request}
-use Rattle.dc_lives.proofs.Exchanges.{own_is, not_group, hears_only, alone_at, stays}
+use Rattle.dc_world.specs.Meter.{Meter, Position, hears_at, is_own, moved_by, answer_to}
+use Rattle.dc_world.specs.declared.event.Outcome.TheVariants.{AsSent}
+use Rattle.dc_world.specs.World.{World, Running, all_moved, replies, only_reply, heard_in, AreRegular}
+use Rattle.dc_world.specs.Reply.{bytes_of}
+use Rattle.dc_world.specs.InStep.{HasGoneOn, HasNotGoneOn, IsInStep, IsAlone, Agrees}
+use Rattle.dc_world.proofs.Masks.{masks_are_read}
+use Rattle.dc_world.proofs.Moves.{moved_at, answer_to-request}
+use Rattle.dc_world.proofs.Exchanges.{own_is, not_group, hears_only, alone_at, stays}
 
 -- ---- one that may reply among those that don't
 

@@ -3,8 +3,8 @@ use Rattle.std.proofs.Common.{◌≡◌, ℕ, zero, suc, ◌+◌, ◌≤◌, ◌
 use Rattle.std.specs.Prelude.{slice_set}
 use Rattle.dc_linkframe.specs.Control.{reset_to}
 use Rattle.dc_linkframe.specs.Frame.{FrameSeen}
-use Rattle.dc_lives.specs.Meter.{Meter, Position, moved_by, at_reset}
-use Rattle.dc_lives.specs.World.{all_moved}
+use Rattle.dc_world.specs.Meter.{Meter, Position, moved_by, at_reset}
+use Rattle.dc_world.specs.World.{all_moved}
 
 -- the first n have moved
 abbrev pub moved_to : ℕ → FrameSeen → List Meter → List Position → List Position

@@ -10,17 +10,17 @@ use Rattle.dc_readout.specs.declared.stage.Stage.{Stage}
 use Rattle.dc_readout.specs.declared.stage.Stage.TheVariants.{Resets, Selects, Requests, Pending, Ended}
 use Rattle.dc_readout.specs.Summary.{link_address, reset_of, selection_of, request_of, asked_at, asked_by}
 use Rattle.dc_readout.proofs.Requests.{selection_is_long}
-use Rattle.dc_lives.specs.Meter.{Meter, Position, hears_at, moved_by, at_selection, gone_on, begun_anew, is_own}
-use Rattle.dc_lives.specs.declared.event.Outcome.{Outcome}
-use Rattle.dc_lives.specs.declared.event.WorldEvent.{WorldEvent}
-use Rattle.dc_lives.specs.declared.event.WorldEvent.TheVariants.{Start, Exchange, Commit, Stop}
-use Rattle.dc_lives.specs.World.{World, Running, exchanged, exchanged_by, world_step, world_from, world_after, new_world, AreRegular, IsWhole, GoesOnFromCommitted}
-use Rattle.dc_lives.specs.InStep.{bit_after, HasGoneOn, HasNotGoneOn, IsInStep, IsAlone, IsRegularWorld}
-use Rattle.dc_lives.proofs.Lists.{there_or}
-use Rattle.dc_lives.proofs.Moves.{moved_by-request, repeats}
-use Rattle.dc_lives.proofs.Exchanges.{hears_only, alone_at}
-use Rattle.dc_lives.proofs.Events.{exchange_keeps, new_is_regular, stop_keeps, start_keeps}
-use Rattle.dc_lives.proofs.Commits.{commit_keeps, take_one_more}
+use Rattle.dc_world.specs.Meter.{Meter, Position, hears_at, moved_by, at_selection, gone_on, begun_anew, is_own}
+use Rattle.dc_world.specs.declared.event.Outcome.{Outcome}
+use Rattle.dc_world.specs.declared.event.WorldEvent.{WorldEvent}
+use Rattle.dc_world.specs.declared.event.WorldEvent.TheVariants.{Start, Exchange, Commit, Stop}
+use Rattle.dc_world.specs.World.{World, Running, exchanged, exchanged_by, world_step, world_from, world_after, new_world, AreRegular, IsWhole, GoesOnFromCommitted}
+use Rattle.dc_world.specs.InStep.{bit_after, HasGoneOn, HasNotGoneOn, IsInStep, IsAlone, IsRegularWorld}
+use Rattle.dc_world.proofs.Lists.{there_or}
+use Rattle.dc_world.proofs.Moves.{moved_by-request, repeats}
+use Rattle.dc_world.proofs.Exchanges.{hears_only, alone_at}
+use Rattle.dc_world.proofs.Events.{exchange_keeps, new_is_regular, stop_keeps, start_keeps}
+use Rattle.dc_world.proofs.Commits.{commit_keeps, take_one_more}
 
 -- ---- every world
 

@@ -5,8 +5,8 @@ use Rattle.std.specs.List.{AllByRecursion}
 use Rattle.dc_readout.specs.declared.stage.Stage.{Stage}
 use Rattle.dc_readout.specs.declared.stage.Stage.TheVariants.{Resets, Selects, Requests, Pending}
 use Rattle.dc_readout.specs.declared.stage.Stage.TheVariants.{Ended}
-use Rattle.dc_lives.specs.Meter.{Meter, Position}
-use Rattle.dc_lives.specs.World.{World, Running, IsWhole, more_after}
+use Rattle.dc_world.specs.Meter.{Meter, Position}
+use Rattle.dc_world.specs.World.{World, Running, IsWhole, more_after}
 
 -- the bit of the request after this many settled telegrams, and the one before it
 abbrev pub bit_after : ℕ → Bool

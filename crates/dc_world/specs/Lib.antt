@@ -15,3 +15,9 @@ pub mod Request
 pub mod Reply
 -- a meter on a line, and what it makes of the frames that come over it
 pub mod Standing
+-- several meters on one line, and what is heard of them at once
+pub mod Line
+-- one exchange at the gateway's end
+pub mod Serving
+-- a bus in memory, as the list of its meters
+pub mod Listed

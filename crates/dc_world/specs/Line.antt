@@ -5,11 +5,11 @@ use Rattle.std.specs.Prelude.{if◌then◌else◌}
 use Rattle.std.specs.List.{AllByRecursion}
 use Rattle.dc_linkframe.specs.Frame.{FrameSeen, ack, spelling}
 use Rattle.dc_linkframe.specs.Reading.{frame_of}
-use Rattle.dc_lives.specs.Meter.{moved_by, answer_to}
-use Rattle.dc_lives.specs.Regular.{Fits}
-use Rattle.dc_lives.specs.Reply.{bytes_of}
-use Rattle.dc_lives.specs.Standing.{SelectsByMask, Standing, last_place}
-use Rattle.dc_lives.specs.World.{noise}
+use Rattle.dc_world.specs.Meter.{moved_by, answer_to}
+use Rattle.dc_world.specs.Regular.{Fits}
+use Rattle.dc_world.specs.Reply.{bytes_of}
+use Rattle.dc_world.specs.Standing.{SelectsByMask, Standing, last_place}
+use Rattle.dc_world.specs.World.{noise}
 
 -- each meter can go on, and each of its bodies fits a frame
 abbrev pub AreAble : List Standing → Type 0

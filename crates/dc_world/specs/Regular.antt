@@ -3,7 +3,7 @@ use Rattle.std.specs.Prelude.{◌≡◌, ◌≢◌, ℕ, ◌≤◌, Bool, true, 
 use Rattle.std.specs.Prelude.{None, slice_get, ◌==◌}
 use Rattle.dc_linkframe.specs.Control.{selected}
 use Rattle.dc_address.specs.Mask.{mask_of, matches}
-use Rattle.dc_lives.specs.Meter.{Meter}
+use Rattle.dc_world.specs.Meter.{Meter}
 use Rattle.dc_linkframe.specs.Frame.{longest_body}
 
 -- each body fits one frame

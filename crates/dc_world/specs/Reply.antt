@@ -1,9 +1,9 @@
 -- The bytes of what is heard in answer to a request.
 use Rattle.std.specs.Prelude.{ℕ, List, [], Option, Some, None}
 use Rattle.dc_linkframe.specs.Frame.{FrameSeen, ack, spelling}
-use Rattle.dc_lives.specs.declared.reply.Reply.{Reply}
-use Rattle.dc_lives.specs.declared.reply.Reply.TheVariants.{Silence, Noise, Acknowledged, Telegram}
-use Rattle.dc_lives.specs.World.{noise}
+use Rattle.dc_world.specs.declared.reply.Reply.{Reply}
+use Rattle.dc_world.specs.declared.reply.Reply.TheVariants.{Silence, Noise, Acknowledged, Telegram}
+use Rattle.dc_world.specs.World.{noise}
 
 abbrev pub bytes_heard : Reply → List ℕ
 bytes_heard Silence = []

@@ -4,11 +4,11 @@ use Rattle.dc_linkframe.specs.Control.{reset_to, request_to}
 use Rattle.dc_linkframe.specs.Frame.{FrameSeen}
 use Rattle.dc_readout.specs.Answer.{max_parts}
 use Rattle.dc_readout.specs.Summary.{selection_of, asked_by}
-use Rattle.dc_lives.specs.declared.request.Request.{Request}
-use Rattle.dc_lives.specs.declared.request.Request.TheVariants.{Reset, Select, Data}
-use Rattle.dc_lives.specs.Meter.{Meter, Position, hears_at}
-use Rattle.dc_lives.specs.World.{World, Running, AreRegular}
-use Rattle.dc_lives.specs.InStep.{Agrees}
+use Rattle.dc_world.specs.declared.request.Request.{Request}
+use Rattle.dc_world.specs.declared.request.Request.TheVariants.{Reset, Select, Data}
+use Rattle.dc_world.specs.Meter.{Meter, Position, hears_at}
+use Rattle.dc_world.specs.World.{World, Running, AreRegular}
+use Rattle.dc_world.specs.InStep.{Agrees}
 
 abbrev pub frame_asked : Request → FrameSeen
 frame_asked (Reset address) = reset_to address

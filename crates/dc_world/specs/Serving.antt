@@ -1,9 +1,9 @@
 -- One exchange at the gateway's end (this product): a block is taken, and the blocks of an answer are put.
 use Rattle.std.specs.Prelude.{◌≡◌, ℕ, List, [], ◌∷◌, Option, length}
 use Rattle.dc_gateway.specs.Blocks.{Answers}
-use Rattle.dc_lives.specs.Standing.{Standing}
-use Rattle.dc_simulated.specs.Line.{Hears}
-use Rattle.dc_stream.specs.Stream.{Puts, Takes}
+use Rattle.dc_world.specs.Standing.{Standing}
+use Rattle.dc_world.specs.Line.{Hears}
+use Rattle.dc_io.specs.Stream.{Puts, Takes}
 
 -- a block with these bytes, or none where there are none
 abbrev pub blocks_with : List ℕ → List (List ℕ)

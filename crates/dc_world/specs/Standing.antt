@@ -2,9 +2,9 @@
 use Rattle.std.specs.Prelude.{◌≡◌, ℕ, ◌-◌, ◌^◌, true, List, length, IsTrue}
 use Rattle.dc_linkframe.specs.Frame.{FrameSeen, ack, short, long}
 use Rattle.dc_address.specs.Mask.{are_sent}
-use Rattle.dc_lives.specs.Meter.{Meter, Position, is_selection, moved_by, answer_to}
-use Rattle.dc_lives.specs.Regular.{Fits}
-use Rattle.dc_lives.specs.Reply.{bytes_of}
+use Rattle.dc_world.specs.Meter.{Meter, Position, is_selection, moved_by, answer_to}
+use Rattle.dc_world.specs.Regular.{Fits}
+use Rattle.dc_world.specs.Reply.{bytes_of}
 
 -- who the meter is, and where it stands
 pub record Standing : Type 0 where

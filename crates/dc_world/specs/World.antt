@@ -11,12 +11,12 @@ use Rattle.dc_records.specs.Body.{continues}
 use Rattle.dc_records.specs.Telegram.{Parsed, telegram_at}
 use Rattle.dc_readout.specs.Summary.{Summary, Verdict, again, ready, new, failed, begun, asked_by}
 use Rattle.dc_readout.specs.Summary.{verdict_by, heard_by, settled_by}
-use Rattle.dc_lives.specs.declared.event.Outcome.{Outcome}
-use Rattle.dc_lives.specs.declared.event.Outcome.TheVariants.{RequestLost, ReplyLost}
-use Rattle.dc_lives.specs.declared.event.Outcome.TheVariants.{ReplyUnreadable, AsSent}
-use Rattle.dc_lives.specs.declared.event.WorldEvent.{WorldEvent}
-use Rattle.dc_lives.specs.declared.event.WorldEvent.TheVariants.{Start, Exchange, Commit, Stop}
-use Rattle.dc_lives.specs.Meter.{Meter, Position, first_position, moved_by, answer_to}
+use Rattle.dc_world.specs.declared.event.Outcome.{Outcome}
+use Rattle.dc_world.specs.declared.event.Outcome.TheVariants.{RequestLost, ReplyLost}
+use Rattle.dc_world.specs.declared.event.Outcome.TheVariants.{ReplyUnreadable, AsSent}
+use Rattle.dc_world.specs.declared.event.WorldEvent.{WorldEvent}
+use Rattle.dc_world.specs.declared.event.WorldEvent.TheVariants.{Start, Exchange, Commit, Stop}
+use Rattle.dc_world.specs.Meter.{Meter, Position, first_position, moved_by, answer_to}
 
 -- a session with the meter of this place, and the body that was heard and isn't committed
 pub record Running : Type 0 where

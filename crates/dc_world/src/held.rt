@@ -14,7 +14,7 @@ pub struct Held<A: Allocator> {
 }
 
 impl<A: Allocator> Model for Held<A> {
-    ghost use Rattle.dc_lives.specs.World.{Finished};
+    ghost use Rattle.dc_world.specs.World.{Finished};
 
     ghost Value = { Finished };
 

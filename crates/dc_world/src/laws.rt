@@ -2,9 +2,9 @@
 
 ghost use Rattle.std.specs.Prelude.{List};
 ghost use Rattle.std.specs.List.{AllByRecursion};
-ghost use Rattle.dc_lives.specs.Meter.{Meter};
-ghost use Rattle.dc_lives.specs.declared.event.WorldEvent.{WorldEvent};
-ghost use Rattle.dc_lives.specs.World.{AreRegular, IsWhole, GoesOnFromCommitted, world_after};
+ghost use Rattle.dc_world.specs.Meter.{Meter};
+ghost use Rattle.dc_world.specs.declared.event.WorldEvent.{WorldEvent};
+ghost use Rattle.dc_world.specs.World.{AreRegular, IsWhole, GoesOnFromCommitted, world_after};
 
 /// What is held after any events is whole: for each, the bodies of one of the meters from the first to the first
 /// after which no more follow, in order, each once.

@@ -3,14 +3,14 @@
 ghost use Rattle.std.specs.Prelude.{◌≡◌, ◌++◌, ◌∷◌, [], OnOk, OnErr, None, Some, bytes_eq, map};
 ghost use Rattle.dc_linkframe.specs.Frame.{FrameSeen, ack, spelling};
 ghost use Rattle.dc_linkframe.specs.Reading.{frame_of};
-ghost use Rattle.dc_lives.specs.Reply.{bytes_heard};
-ghost use Rattle.dc_lives.specs.Standing.{SelectsByMask};
-ghost use Rattle.dc_simulated.specs.Line.{AreAble, Hears, heard_both, heard_of, seen_by};
+ghost use Rattle.dc_world.specs.Reply.{bytes_heard};
+ghost use Rattle.dc_world.specs.Standing.{SelectsByMask};
+ghost use Rattle.dc_world.specs.Line.{AreAble, Hears, heard_both, heard_of, seen_by};
 
-use dc_base::NoMemory;
+use crate::{Reply, SimulatedMeter};
 use dc_gateway::{AnswerBuf, Bus};
+use dc_io::NoMemory;
 use dc_linkframe::{ACK, FrameBuf};
-use dc_lives::{Reply, SimulatedMeter};
 use std::alloc::Allocator;
 use std::marker::Model;
 
@@ -22,7 +22,7 @@ pub struct SimulatedBus<A: Allocator> {
 
 impl<A: Allocator> Model for SimulatedBus<A> {
     ghost use Rattle.std.specs.Prelude.{List};
-    ghost use Rattle.dc_lives.specs.Standing.{Standing};
+    ghost use Rattle.dc_world.specs.Standing.{Standing};
 
     ghost Value = { List Standing };
 

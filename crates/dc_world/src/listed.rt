@@ -1,13 +1,13 @@
 //! A bus in memory: a list of meters, each with one telegram.
 
 ghost use Rattle.std.specs.Prelude.{◌≡◌, None, Some};
-ghost use Rattle.dc_gateway.specs.Bus.{Acknowledge, IsHeard, Respond, chosen};
+ghost use Rattle.dc_gateway.specs.Bus.{Acknowledge, IsHeard, Respond};
+ghost use Rattle.dc_world.specs.Listed.{chosen};
 ghost use Rattle.dc_search.specs.Bus.{IsMatching};
 
-use crate::answer_buf::AnswerBuf;
-use crate::bus::Bus;
 use crate::order::{Order, order_of};
 use dc_address::{Identity, Mask};
+use dc_gateway::{AnswerBuf, Bus};
 use dc_linkframe::{ACK, FrameBuf};
 use dc_search::bus::{Matching, matches_on, telegram_of};
 use std::marker::Model;
@@ -23,7 +23,7 @@ pub struct ListedBus<'a> {
 }
 
 impl<'a> Model for ListedBus<'a> {
-    ghost use Rattle.dc_gateway.specs.Bus.{Listed};
+    ghost use Rattle.dc_world.specs.Listed.{Listed};
 
     ghost Value = { Listed };
 

@@ -2,13 +2,13 @@
 
 ghost use Rattle.std.specs.Prelude.{◌≡◌, IfOk};
 ghost use Rattle.std.specs.List.{AllByRecursion};
-ghost use Rattle.dc_lives.specs.World.{AreRegular, IsWhole, world_after};
+ghost use Rattle.dc_world.specs.World.{AreRegular, IsWhole, world_after};
 
 use crate::event::WorldEvent;
 use crate::held::Held;
 use crate::script::MeterScript;
 use crate::world::World;
-use dc_base::NoMemory;
+use dc_io::NoMemory;
 use std::alloc::Allocator;
 
 /// What is held after these events, in order: each is a whole readout of one meter.

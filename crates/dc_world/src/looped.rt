@@ -4,8 +4,7 @@ ghost use Rattle.std.specs.Prelude.{◌≡◌, ◌≤◌, None, IfOk, length};
 
 use crate::line::SimulatedBus;
 use crate::serving::serve;
-use dc_base::one_failure_more;
-use dc_stream::{IoFault, Sink, Source};
+use dc_io::{IoFault, Sink, Source, one_failure_more};
 use std::alloc::Allocator;
 
 /// What is read from a gateway that waits for its turn. Where nothing is left of an answer, the request that was sent

@@ -4,12 +4,12 @@ ghost use Rattle.std.specs.Prelude.{◌≡◌, ◌<◌, ◌&&◌, ℕ, [], Some,
 ghost use Rattle.dc_address.specs.Mask.{mask_at, matches};
 ghost use Rattle.dc_linkframe.specs.Frame.{FrameSeen, ack, seen, short};
 ghost use Rattle.dc_linkframe.specs.Reading.{frame_of};
-ghost use Rattle.dc_lives.specs.Meter.{at_request, at_reset, at_selection, body_at, first_position};
-ghost use Rattle.dc_lives.specs.Meter.{frame_count_bit, hears_at, is_own, is_request, is_selection};
-ghost use Rattle.dc_lives.specs.Meter.{response};
-ghost use Rattle.dc_lives.specs.Regular.{Fits};
-ghost use Rattle.dc_lives.specs.Reply.{bytes_heard, bytes_of};
-ghost use Rattle.dc_lives.specs.Standing.{SelectsByMask, Sees, SendsMask, last_place};
+ghost use Rattle.dc_world.specs.Meter.{at_request, at_reset, at_selection, body_at, first_position};
+ghost use Rattle.dc_world.specs.Meter.{frame_count_bit, hears_at, is_own, is_request, is_selection};
+ghost use Rattle.dc_world.specs.Meter.{response};
+ghost use Rattle.dc_world.specs.Regular.{Fits};
+ghost use Rattle.dc_world.specs.Reply.{bytes_heard, bytes_of};
+ghost use Rattle.dc_world.specs.Standing.{SelectsByMask, Sees, SendsMask, last_place};
 
 use crate::position::Position;
 use crate::reply::{Reply, acknowledged_if, is_own, respond};
@@ -34,7 +34,7 @@ pub struct SimulatedMeter<A: Allocator> {
 }
 
 impl<A: Allocator> Model for SimulatedMeter<A> {
-    ghost use Rattle.dc_lives.specs.Standing.{Standing};
+    ghost use Rattle.dc_world.specs.Standing.{Standing};
 
     ghost Value = { Standing };
 

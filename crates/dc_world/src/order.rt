@@ -4,7 +4,7 @@ ghost use Rattle.std.specs.Prelude.{◌≡◌, ◌∷◌, [], ℕ, Some, true, o
 ghost use Rattle.dc_address.specs.Mask.{IsMask, MaskParts, mask_wire};
 ghost use Rattle.dc_linkframe.specs.Control.{request_to, selected, selection_by};
 ghost use Rattle.dc_linkframe.specs.Frame.{seen, spelling};
-ghost use Rattle.dc_gateway.specs.declared.order.Order.TheVariants.{Data, Select};
+ghost use Rattle.dc_world.specs.declared.order.Order.TheVariants.{Data, Select};
 
 use dc_address::Mask;
 use dc_linkframe::control::{SELECTED, SELECTION, SND_UD, req_ud2};

@@ -2,12 +2,12 @@
 
 ghost use Rattle.std.specs.Prelude.{◌≡◌, ◌<◌, Some, ℕ, length, slice_get};
 ghost use Rattle.dc_address.specs.Mask.{mask_of, matches};
-ghost use Rattle.dc_lives.specs.Meter.{Meter, first_position, begun_anew, gone_on, hears_at};
-ghost use Rattle.dc_lives.specs.Meter.{at_reset, at_selection, moved_by};
-ghost use Rattle.dc_lives.specs.Meter.{Position as Stand};
-ghost use Rattle.dc_lives.specs.Request.{frame_asked, MayGoOn};
-ghost use Rattle.dc_lives.specs.Standing.{last_place};
-ghost use Rattle.dc_lives.specs.World.{all_moved};
+ghost use Rattle.dc_world.specs.Meter.{Meter, first_position, begun_anew, gone_on, hears_at};
+ghost use Rattle.dc_world.specs.Meter.{at_reset, at_selection, moved_by};
+ghost use Rattle.dc_world.specs.Meter.{Position as Stand};
+ghost use Rattle.dc_world.specs.Request.{frame_asked, MayGoOn};
+ghost use Rattle.dc_world.specs.Standing.{last_place};
+ghost use Rattle.dc_world.specs.World.{all_moved};
 
 use crate::request::Request;
 use crate::script::MeterScript;
@@ -25,7 +25,7 @@ pub(crate) struct Position {
 }
 
 impl Model for Position {
-    ghost use Rattle.dc_lives.specs.Meter.{Position};
+    ghost use Rattle.dc_world.specs.Meter.{Position};
 
     ghost Value = { Position };
 

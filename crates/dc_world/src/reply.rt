@@ -3,10 +3,10 @@
 ghost use Rattle.std.specs.Prelude.{◌≡◌, ◌≤◌, length, Some, None, unwrap_or, if◌then◌else◌};
 ghost use Rattle.dc_linkframe.specs.Buffer.{capacity};
 ghost use Rattle.dc_linkframe.specs.Frame.{ack};
-ghost use Rattle.dc_lives.specs.Meter.{answer_to, response, body_at, is_own};
-ghost use Rattle.dc_lives.specs.Request.{frame_asked};
-ghost use Rattle.dc_lives.specs.Reply.{bytes_heard, bytes_of};
-ghost use Rattle.dc_lives.specs.Regular.{Fits};
+ghost use Rattle.dc_world.specs.Meter.{answer_to, response, body_at, is_own};
+ghost use Rattle.dc_world.specs.Request.{frame_asked};
+ghost use Rattle.dc_world.specs.Reply.{bytes_heard, bytes_of};
+ghost use Rattle.dc_world.specs.Regular.{Fits};
 
 use crate::position::Position;
 use crate::request::Request;

@@ -3,7 +3,7 @@
 ghost use Rattle.std.specs.Prelude.{◌≡◌, ◌<◌, IsSome, option_map};
 ghost use Rattle.dc_readout.specs.Answer.{max_parts};
 ghost use Rattle.dc_readout.specs.Summary.{asked_by};
-ghost use Rattle.dc_lives.specs.Request.{frame_asked};
+ghost use Rattle.dc_world.specs.Request.{frame_asked};
 
 use dc_address::Identity;
 use dc_linkframe::control::{SND_NKE, req_ud2};

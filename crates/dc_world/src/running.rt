@@ -2,11 +2,11 @@
 
 ghost use Rattle.std.specs.Prelude.{◌≡◌, IfOk, IsSome, None};
 ghost use Rattle.dc_readout.specs.Summary.{asked_by, begun, verdict_by};
-ghost use Rattle.dc_lives.specs.World.{running_after};
+ghost use Rattle.dc_world.specs.World.{running_after};
 
 use crate::body::Body;
 use crate::script::MeterScript;
-use dc_base::NoMemory;
+use dc_io::NoMemory;
 use dc_readout::{Heard, Session};
 use std::alloc::Allocator;
 use std::marker::Model;
@@ -20,7 +20,7 @@ pub(crate) struct Running<A: Allocator> {
 }
 
 impl<A: Allocator> Model for Running<A> {
-    ghost use Rattle.dc_lives.specs.World.{Running};
+    ghost use Rattle.dc_world.specs.World.{Running};
 
     ghost Value = { Running };
 

@@ -1,8 +1,8 @@
 //! The meters on a line, and whether they are regular.
 
 ghost use Rattle.std.specs.Prelude.{◌≡◌, ◌↔◌, ◌<◌, IsTrue, length};
-ghost use Rattle.dc_lives.specs.World.{AreRegular};
-ghost use Rattle.dc_lives.specs.Regular.{Fits, IsFitting, IsOwnOnly, StandsApart, clashes, shares};
+ghost use Rattle.dc_world.specs.World.{AreRegular};
+ghost use Rattle.dc_world.specs.Regular.{Fits, IsFitting, IsOwnOnly, StandsApart, clashes, shares};
 
 use crate::body::Bodies;
 use dc_address::{Identity, Mask, Primary};
@@ -25,7 +25,7 @@ pub struct MeterScript<A: Allocator> {
 }
 
 impl<A: Allocator> Model for MeterScript<A> {
-    ghost use Rattle.dc_lives.specs.Meter.{Meter};
+    ghost use Rattle.dc_world.specs.Meter.{Meter};
 
     ghost Value = { Meter };
 

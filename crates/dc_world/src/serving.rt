@@ -2,12 +2,12 @@
 
 ghost use Rattle.std.specs.Prelude.{◌≡◌, ◌+◌, ◌≤◌, length, IfOk, OnOk};
 ghost use Rattle.dc_gateway.specs.Blocks.{blocks_bytes, most_block};
-ghost use Rattle.dc_simulated.specs.Serving.{PutsAnswer, Serves, blocks_with};
-ghost use Rattle.dc_stream.specs.Stream.{Puts};
+ghost use Rattle.dc_world.specs.Serving.{PutsAnswer, Serves, blocks_with};
+ghost use Rattle.dc_io.specs.Written.{PutsInto};
 
 use crate::line::SimulatedBus;
 use dc_gateway::{AnswerBuf, MOST_BLOCK, put_block, take_content, take_length};
-use dc_stream::{IoFault, Sink, Source};
+use dc_io::{IoFault, Sink, Source};
 use std::alloc::Allocator;
 
 /// Takes one request from the reader, and puts what the bus answers to it. Says how many bytes it put.
@@ -44,7 +44,7 @@ fn put_answer<W: Sink>(writer: &mut W, answer: &AnswerBuf) -> Result<usize, IoFa
 // A block with these bytes and its length, or none where there are none.
 fn put_some<W: Sink>(writer: &mut W, bytes: &[u8]) -> Result<usize, IoFault>
     requires { length bytes.now ≤ most_block }
-    ensures puts { OnOk result (Puts (W.written writer.old) (W.written writer.new)
+    ensures puts { OnOk result (PutsInto W.Sink writer.old writer.new
         (blocks_bytes (blocks_with bytes.now))) }
     ensures count { IfOk result (λ count. count ≡ length (blocks_bytes (blocks_with bytes.now))) }
     ensures most { IfOk result (λ count. count ≤ length bytes.now + 1) }

@@ -2,11 +2,11 @@
 
 ghost use Rattle.std.specs.Prelude.{◌≡◌, ◌<◌, ◌++◌, ◌∷◌, [], IfOk, OnOk, if◌then◌else◌, length};
 ghost use Rattle.std.specs.Prelude.{slice_get};
-ghost use Rattle.dc_lives.specs.InStep.{IsRegularWorld};
-ghost use Rattle.dc_lives.specs.Reply.{bytes_heard};
-ghost use Rattle.dc_lives.specs.Request.{Asks, frame_asked};
-ghost use Rattle.dc_lives.specs.World.{AreRegular, committed, exchanged, heard_in, new_world};
-ghost use Rattle.dc_lives.specs.World.{positions_after, started_by, world_step};
+ghost use Rattle.dc_world.specs.InStep.{IsRegularWorld};
+ghost use Rattle.dc_world.specs.Reply.{bytes_heard};
+ghost use Rattle.dc_world.specs.Request.{Asks, frame_asked};
+ghost use Rattle.dc_world.specs.World.{AreRegular, committed, exchanged, heard_in, new_world};
+ghost use Rattle.dc_world.specs.World.{positions_after, started_by, world_step};
 
 use crate::body::{Bodies, Body};
 use crate::event::{Outcome, WorldEvent};
@@ -16,7 +16,7 @@ use crate::reply::{Reply, reply_to};
 use crate::request::{Request, request_of};
 use crate::running::Running;
 use crate::script::MeterScript;
-use dc_base::NoMemory;
+use dc_io::NoMemory;
 use std::alloc::Allocator;
 use std::marker::Model;
 use std::mem::replace;
@@ -31,7 +31,7 @@ pub(crate) struct World<A: Allocator> {
 }
 
 impl<A: Allocator> Model for World<A> {
-    ghost use Rattle.dc_lives.specs.World.{World};
+    ghost use Rattle.dc_world.specs.World.{World};
 
     ghost Value = { World };
 

@@ -2,13 +2,12 @@
 
 use crate::host::Host;
 use crate::why::{Noted, Why};
-use dc_ending::{Ending, STREAM};
 use dc_gateway::Bus;
 use dc_installer::{Readout, ScanFault, identify, read, scan, scan_primary};
+use dc_io::{IoFault, Sink, WriteSink, put_number_word};
 use dc_line::{Both, QuietBus};
 use dc_links::{Peer, ScriptLink, SystemBus, Waiter};
-use dc_stream::{IoFault, Sink, WriteSink};
-use dc_text::put_number_word;
+use dc_poller::{Ending, STREAM};
 use dc_words::{LinkName, MeterName, Scan};
 use std::fs::File;
 use std::io;

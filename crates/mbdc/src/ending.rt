@@ -1,19 +1,18 @@
-//! How a run ends, told to the outside: the line on standard error and the status, which `dc_ending` decides.
+//! How a run ends, told to the outside: the line on standard error and the status, which `dc_poller` decides.
 
 ghost use Rattle.std.specs.Prelude.{◌≡◌, ◌≢◌, ◌⊎◌};
 ghost use Rattle.std.specs.Process.{exit_status};
 ghost use Rattle.clap.specs.Values.{kind_of};
 ghost use Rattle.clap.specs.declared.error.kind.ErrorKind.TheVariants.{DisplayHelp, DisplayVersion};
 ghost use Rattle.clap.specs.declared.error.kind.ErrorKind.TheVariants.{OutOfMemory};
-ghost use Rattle.dc_ending.specs.Ending.{status_of};
+ghost use Rattle.dc_poller.specs.Ending.{status_of};
 ghost use Rattle.dc_words.specs.Fault.{IfMistake};
 
 use crate::why::{Reason, Why};
 use clap::Error;
 use clap::error::ErrorKind;
-use dc_ending::{Ending, STREAM};
-use dc_stream::{IoFault, WriteSink};
-use dc_text::Buffered;
+use dc_io::{Buffered, IoFault, WriteSink};
+use dc_poller::{Ending, STREAM};
 use dc_words::WordsFault;
 use std::alloc::{AllocError, Global};
 use std::io;

@@ -4,7 +4,7 @@ use crate::half_made::{HalfMade, is_same_file};
 use crate::host::Host;
 use crate::image::{lock, open_image};
 use crate::why::{Noted, Why};
-use dc_ending::Ending;
+use dc_poller::Ending;
 use dc_recovery::{FormatFault, Store};
 use dc_roots::{RootFault, choose};
 use dc_sectors::{Disk, FileDisk};

@@ -18,7 +18,7 @@ mod script;
 mod tasks;
 mod why;
 
-use dc_ending::Ending;
+use dc_poller::Ending;
 use dc_words::{Call, call_of};
 use ending::{told, told_why, told_words};
 use host::Host;

@@ -1,6 +1,6 @@
 //! Why a run failed: what the system said of the call by which it did.
 
-use dc_ending::Ending;
+use dc_poller::Ending;
 use std::cell::Cell;
 use std::fs::{File, Metadata, OpenFile};
 use std::io;

@@ -1,7 +1,7 @@
 //! The commit of the pending changes.
 
 ghost use Rattle.std.specs.Prelude.{◌≡◌, ◌≤◌, length, IsErrOf, OnOk};
-ghost use Rattle.dc_base.specs.Failures.{HasRisen};
+ghost use Rattle.dc_io.specs.Failures.{HasRisen};
 ghost use Rattle.dc_sectors.specs.Disk.{LeavesOnly};
 ghost use Rattle.dc_recovery.specs.Halves.{half_len_of};
 ghost use Rattle.dc_core.specs.declared.fault.CommitFault.TheVariants.{Device, Worn};
@@ -10,14 +10,14 @@ ghost use Rattle.dc_core.specs.Event.{commits, committed};
 ghost use Rattle.dc_core.specs.Step.{May, next};
 ghost use Rattle.dc_recovery.specs.Stands.{StandsForFront};
 ghost use Rattle.dc_recovery.specs.Store.{Fits};
-ghost use Rattle.dc_waiting.specs.Writing.{IsWornFor};
+ghost use Rattle.dc_pending.specs.Writing.{IsWornFor};
 ghost use Rattle.dc_core.specs.Images.{IsAt};
 
 use super::Concentrator;
 use crate::CommitFault;
+use dc_pending::write_waiting;
 use dc_recovery::StoreFault;
 use dc_sectors::Disk;
-use dc_waiting::write_waiting;
 use std::alloc::Allocator;
 
 impl<D: Disk + Drop, A: Allocator + Copy> Concentrator<D, A> {

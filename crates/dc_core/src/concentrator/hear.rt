@@ -9,9 +9,9 @@ ghost use Rattle.dc_core.specs.Images.{IsAt};
 use super::Concentrator;
 use crate::{HearFault, LineHeard};
 use dc_changes::Moment;
+use dc_pending::{is_line, take};
 use dc_readout::Heard;
 use dc_sectors::Disk;
-use dc_waiting::{is_line, take};
 use std::alloc::Allocator;
 
 impl<D: Disk + Drop, A: Allocator + Copy> Concentrator<D, A> {

@@ -1,9 +1,9 @@
 //! A line of the billing office.
 
 ghost use Rattle.std.specs.Prelude.{◌≡◌, ◌⊎◌, ◌≤◌, [], false, Some, Err, OnOk, OnErr, IfErr};
-ghost use Rattle.dc_base.specs.Failures.{HasRisen};
+ghost use Rattle.dc_io.specs.Failures.{HasRisen};
 ghost use Rattle.dc_sectors.specs.Disk.{LeavesOnly};
-ghost use Rattle.dc_stream.specs.Stream.{Wrote};
+ghost use Rattle.dc_io.specs.Written.{Wrote};
 ghost use Rattle.dc_changes.specs.Accepts.{Accepts};
 ghost use Rattle.dc_changes.specs.Apply.{applied};
 ghost use Rattle.dc_changes.specs.Valid.{IsChange};
@@ -24,15 +24,14 @@ ghost use Rattle.dc_core.specs.Run.{IsShown, Answered, Turned};
 use super::Concentrator;
 use crate::{CommitFault, WriteFault};
 use dc_address::Identity;
-use dc_base::NoMemory;
 use dc_changes::{Change, Command};
+use dc_io::{IoFault, NoMemory, Sink};
 use dc_meters::House;
+use dc_pending::Lines;
 use dc_sectors::Disk;
-use dc_stream::{IoFault, Sink};
 use dc_upload::{
     Code, OfficeLine, ReplyFault, Verdict, judge, parse_line, write_refusal, write_reply,
 };
-use dc_waiting::Lines;
 use std::alloc::Allocator;
 
 impl<D: Disk + Drop, A: Allocator + Copy> Concentrator<D, A> {
@@ -49,7 +48,7 @@ impl<D: Disk + Drop, A: Allocator + Copy> Concentrator<D, A> {
             → IsAt (D.keeps origin) D.sectors D.reads D.choices self.old core
             → Turned (D.keeps origin) D.sectors D.failures D.reads D.choices D.moment D.images_since
             self.old.house.budget core (offices line.now)
-            (Wrote W.written W.put_failures result out.old out.new) self.old self.new }
+            (Wrote W.Sink result out.old out.new) self.old self.new }
         ensures count { D.sectors self.new.store.disk ≡ D.sectors self.old.store.disk }
         ensures budget { self.new.house.budget ≡ self.old.house.budget }
         ensures fault { OnErr result (HasRisen (W.put_failures out.old) (W.put_failures out.new)) }
@@ -67,7 +66,7 @@ impl<D: Disk + Drop, A: Allocator + Copy> Concentrator<D, A> {
             → IsAt (D.keeps origin) D.sectors D.reads D.choices self.old core
             → Turned (D.keeps origin) D.sectors D.failures D.reads D.choices D.moment D.images_since
             self.old.house.budget core (offices text.now)
-            (Wrote W.written W.put_failures result out.old out.new) self.old self.new }
+            (Wrote W.Sink result out.old out.new) self.old self.new }
         ensures count { D.sectors self.new.store.disk ≡ D.sectors self.old.store.disk }
         ensures budget { self.new.house.budget ≡ self.old.house.budget }
         ensures fault { OnErr result (HasRisen (W.put_failures out.old) (W.put_failures out.new)) }
@@ -122,7 +121,7 @@ impl<D: Disk + Drop, A: Allocator + Copy> Concentrator<D, A> {
             → IsAt (D.keeps origin) D.sectors D.reads D.choices self.old core → core.stopped ≡ false
             → Answered (D.keeps origin) D.sectors D.failures D.reads D.choices D.moment
             D.images_since self.old.house.budget core line.now
-            (Wrote W.written W.put_failures result out.old out.new) self.old self.new }
+            (Wrote W.Sink result out.old out.new) self.old self.new }
         ensures count { D.sectors self.new.store.disk ≡ D.sectors self.old.store.disk }
         ensures budget { self.new.house.budget ≡ self.old.house.budget }
         ensures fault { OnErr result (HasRisen (W.put_failures out.old) (W.put_failures out.new)) }
@@ -152,7 +151,7 @@ impl<D: Disk + Drop, A: Allocator + Copy> Concentrator<D, A> {
             → IsAt (D.keeps origin) D.sectors D.reads D.choices self.old core → core.stopped ≡ false
             → Answered (D.keeps origin) D.sectors D.failures D.reads D.choices D.moment
             D.images_since self.old.house.budget core line.now
-            (Wrote W.written W.put_failures result out.old out.new) self.old self.new }
+            (Wrote W.Sink result out.old out.new) self.old self.new }
         ensures count { D.sectors self.new.store.disk ≡ D.sectors self.old.store.disk }
         ensures budget { self.new.house.budget ≡ self.old.house.budget }
         ensures fault { OnErr result (HasRisen (W.put_failures out.old) (W.put_failures out.new)) }
@@ -200,9 +199,9 @@ fn write_answer<A: Allocator + Copy, W: Sink>(
 ) -> Result<(), IoFault>
     requires line { IsOfficeLine line.now }
     requires answered { IfDo (verdict_of house.now line.now) (λ _. ⊥) }
-    ensures told { Wrote W.written W.put_failures result out.old out.new
+    ensures told { Wrote W.Sink result out.old out.new
         (reply_text house.now line.now)
-        ⊎ (TakesMemory line.now × Wrote W.written W.put_failures result out.old out.new
+        ⊎ (TakesMemory line.now × Wrote W.Sink result out.old out.new
         (refusal_line Memory)) }
     ensures fault { OnErr result (HasRisen (W.put_failures out.old) (W.put_failures out.new)) }
     ensures well { OnOk result (W.put_failures out.new ≡ W.put_failures out.old) }

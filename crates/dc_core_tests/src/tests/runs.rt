@@ -2,7 +2,7 @@
 
 use super::steps::{ACK, Deed, FIRST, FIT, LAST, METER, blank, event_of, fitted, found, opened};
 use dc_core::{Event, WriteFault};
-use dc_stream::{Bytes, FixedSink};
+use dc_io::{Bytes, FixedSink};
 use std::test::Fail;
 
 #[test]

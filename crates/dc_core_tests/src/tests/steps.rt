@@ -3,9 +3,9 @@
 use dc_address::Identity;
 use dc_changes::Moment;
 use dc_core::{Concentrator, Event, WriteFault, put_asked, put_committed, put_heard, put_started};
+use dc_io::{Bytes, IoFault};
 use dc_recovery::{OpenFault, Store};
 use dc_sectors::MemoryDisk;
-use dc_stream::{Bytes, IoFault};
 use std::alloc::{Allocator, Global};
 use std::process::Abort;
 use std::test::Fail;

@@ -1,9 +1,9 @@
 //! Images that the tests share.
 
+use dc_io::Bytes;
 use dc_poller::run_script;
 use dc_recovery::Store;
 use dc_sectors::{Disk, MemoryDisk};
-use dc_stream::Bytes;
 use std::alloc::Global;
 use std::test::Fail;
 

@@ -2,10 +2,10 @@
 
 use super::images::{LIFE, after, formatted, with_sector};
 use dc_inspect::inspect;
+use dc_io::{Bytes, FixedSink};
 use dc_poller::ProgramFault;
 use dc_recovery::OpenFault;
 use dc_sectors::{Disk, MemoryDisk};
-use dc_stream::{Bytes, FixedSink};
 use refusing_alloc::Refusing;
 use std::alloc::Global;
 use std::process::Abort;

@@ -2,10 +2,10 @@
 
 use super::images::{LIFE, after, formatted};
 use dc_inspect::report_json_on;
+use dc_io::Bytes;
 use dc_poller::{ProgramFault, Report};
 use dc_recovery::OpenFault;
 use dc_sectors::MemoryDisk;
-use dc_stream::Bytes;
 use refusing_alloc::Refusing;
 use std::alloc::Global;
 use std::process::Abort;

@@ -18,8 +18,8 @@ use super::House;
 use crate::orders::Ended;
 use crate::{Meter, Part};
 use dc_address::{Identity, Primary};
-use dc_base::NoMemory;
 use dc_changes::{Body, Change, Command, CommandLine, Flat};
+use dc_io::NoMemory;
 use std::alloc::Allocator;
 
 impl<A: Allocator + Copy> House<A> {

@@ -4,7 +4,7 @@ ghost use Rattle.std.specs.Prelude.{◌≡◌, ◌*◌, ◌≤◌, ◌<◌, ◌^
 ghost use Rattle.std.specs.List.{flat_map};
 ghost use Rattle.dc_changes.specs.Encoding.{state_bytes, head_bytes, meters_bytes, readings_bytes};
 ghost use Rattle.dc_changes.specs.Encoding.{meter_bytes, reading_bytes};
-ghost use Rattle.dc_changes.specs.Writing.{IsWritten, IsStopped};
+ghost use Rattle.dc_io.specs.Written.{IsWritten, IsStopped};
 
 use super::House;
 use crate::parts::put_parts;
@@ -12,7 +12,7 @@ use crate::{Meter, Reading};
 use dc_address::Identity;
 use dc_changes::address_number;
 use dc_changes::writing::{put_byte, put_count, put_counted, put_identity, put_long};
-use dc_stream::{IoFault, Sink};
+use dc_io::{IoFault, Sink};
 use std::alloc::Allocator;
 use std::collections::{BTreeMap, VecDeque};
 
@@ -20,9 +20,9 @@ impl<A: Allocator + Copy> House<A> {
     /// Writes the state: numbers, the last line, the meters by identity, the readings by serial. A failed put ends
     /// it. No memory is taken.
     pub fn encode<S: Sink>(&self, sink: &mut S) -> Result<(), IoFault>
-        ensures ok { OnOk result (IsWritten S.written S.put_failures S.puts sink.old sink.new
+        ensures ok { OnOk result (IsWritten S.Sink sink.old sink.new
             (state_bytes self.now.state)) }
-        ensures err { OnErr result (IsStopped S.written S.put_failures S.puts S.breaks sink.old
+        ensures err { OnErr result (IsStopped S.Sink sink.old
             sink.new (state_bytes self.now.state)) }
     {
         let _ = self.size(); // for what it says: more meters or readings than a size can count, there are not
@@ -33,9 +33,9 @@ impl<A: Allocator + Copy> House<A> {
     }
 
     fn put_head<S: Sink>(&self, sink: &mut S) -> Result<(), IoFault>
-        ensures ok { OnOk result (IsWritten S.written S.put_failures S.puts sink.old sink.new
+        ensures ok { OnOk result (IsWritten S.Sink sink.old sink.new
             (head_bytes self.now.state)) }
-        ensures err { OnErr result (IsStopped S.written S.put_failures S.puts S.breaks sink.old
+        ensures err { OnErr result (IsStopped S.Sink sink.old
             sink.new (head_bytes self.now.state)) }
     {
         put_long(sink, self.next_serial())?;
@@ -51,9 +51,9 @@ fn put_meters<S: Sink, A: Allocator>(
     meters: &BTreeMap<Identity, Meter<A>, A>,
 ) -> Result<(), IoFault>
     requires { length meters.now.entries < 2 ^ 32 }
-    ensures ok { OnOk result (IsWritten S.written S.put_failures S.puts sink.old sink.new
+    ensures ok { OnOk result (IsWritten S.Sink sink.old sink.new
         (meters_bytes meters.now.entries)) }
-    ensures err { OnErr result (IsStopped S.written S.put_failures S.puts S.breaks sink.old sink.new
+    ensures err { OnErr result (IsStopped S.Sink sink.old sink.new
         (meters_bytes meters.now.entries)) }
 {
     put_count(sink, meters.len() as u32)?;
@@ -65,9 +65,9 @@ fn put_each_meter<S: Sink, A: Allocator>(
     sink: &mut S,
     meters: &BTreeMap<Identity, Meter<A>, A>,
 ) -> Result<(), IoFault>
-    ensures ok { OnOk result (IsWritten S.written S.put_failures S.puts sink.old sink.new
+    ensures ok { OnOk result (IsWritten S.Sink sink.old sink.new
         (flat_map meter_bytes meters.now.entries)) }
-    ensures err { OnErr result (IsStopped S.written S.put_failures S.puts S.breaks sink.old sink.new
+    ensures err { OnErr result (IsStopped S.Sink sink.old sink.new
         (flat_map meter_bytes meters.now.entries)) }
 {
     for (meter, row) in meters {
@@ -81,9 +81,9 @@ fn put_meter<S: Sink, A: Allocator>(
     meter: &Identity,
     row: &Meter<A>,
 ) -> Result<(), IoFault>
-    ensures ok { OnOk result (IsWritten S.written S.put_failures S.puts sink.old sink.new
+    ensures ok { OnOk result (IsWritten S.Sink sink.old sink.new
         (meter_bytes (meter.now, row.now))) }
-    ensures err { OnErr result (IsStopped S.written S.put_failures S.puts S.breaks sink.old sink.new
+    ensures err { OnErr result (IsStopped S.Sink sink.old sink.new
         (meter_bytes (meter.now, row.now))) }
 {
     put_identity(sink, meter)?;
@@ -99,9 +99,9 @@ fn put_readings<S: Sink, A: Allocator>(
     readings: &VecDeque<Reading<A>, A>,
 ) -> Result<(), IoFault>
     requires { length readings.now.items < 2 ^ 32 }
-    ensures ok { OnOk result (IsWritten S.written S.put_failures S.puts sink.old sink.new
+    ensures ok { OnOk result (IsWritten S.Sink sink.old sink.new
         (readings_bytes readings.now.items)) }
-    ensures err { OnErr result (IsStopped S.written S.put_failures S.puts S.breaks sink.old sink.new
+    ensures err { OnErr result (IsStopped S.Sink sink.old sink.new
         (readings_bytes readings.now.items)) }
 {
     put_count(sink, readings.len() as u32)?;
@@ -113,9 +113,9 @@ fn put_each_reading<S: Sink, A: Allocator>(
     sink: &mut S,
     readings: &VecDeque<Reading<A>, A>,
 ) -> Result<(), IoFault>
-    ensures ok { OnOk result (IsWritten S.written S.put_failures S.puts sink.old sink.new
+    ensures ok { OnOk result (IsWritten S.Sink sink.old sink.new
         (flat_map reading_bytes readings.now.items)) }
-    ensures err { OnErr result (IsStopped S.written S.put_failures S.puts S.breaks sink.old sink.new
+    ensures err { OnErr result (IsStopped S.Sink sink.old sink.new
         (flat_map reading_bytes readings.now.items)) }
 {
     for reading in readings {
@@ -125,9 +125,9 @@ fn put_each_reading<S: Sink, A: Allocator>(
 }
 
 fn put_reading<S: Sink, A: Allocator>(sink: &mut S, reading: &Reading<A>) -> Result<(), IoFault>
-    ensures ok { OnOk result (IsWritten S.written S.put_failures S.puts sink.old sink.new
+    ensures ok { OnOk result (IsWritten S.Sink sink.old sink.new
         (reading_bytes reading.now)) }
-    ensures err { OnErr result (IsStopped S.written S.put_failures S.puts S.breaks sink.old sink.new
+    ensures err { OnErr result (IsStopped S.Sink sink.old sink.new
         (reading_bytes reading.now)) }
 {
     put_long(sink, reading.serial())?;

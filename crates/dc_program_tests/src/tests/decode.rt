@@ -2,9 +2,8 @@
 
 use super::common::joined;
 use super::streams::{FailingSink, FailingSource};
-use dc_stream::Bytes;
-use dc_teller::{TellFault, decode_lines};
-use dc_text::Buffered;
+use dc_decode::decode_lines;
+use dc_io::{Buffered, Bytes, TextFault};
 use refusing_alloc::Refusing;
 use std::alloc::{AllocError, Allocator, Global};
 use std::process::Abort;
@@ -75,7 +74,7 @@ fn a_failed_write_is_told(rt: HostRuntime) -> Result<(), Fail> {
                 break;
             }
             Ok(_) => assert_eq!(rt; full.failures(), 1),
-            Err(fault) => assert_eq!(rt; fault, TellFault::Write),
+            Err(fault) => assert_eq!(rt; fault, TextFault::Write),
         }
     }
     // pieces of nearly 64 KiB
@@ -91,15 +90,15 @@ fn an_input_has_a_limit(rt: HostRuntime) -> Result<(), Fail> {
     let mut reader = Bytes::from_slice(rt.alloc(), more.as_slice())?;
     let mut writer = Bytes::new(rt.alloc());
     let refused = decode_lines(rt.alloc(), &mut reader, &mut writer);
-    assert_eq!(rt; refused, Err(TellFault::TooLong));
+    assert_eq!(rt; refused, Err(TextFault::TooLong));
     assert!(rt; writer.as_slice().is_empty());
-    assert_eq!(rt; TellFault::TooLong.number(), 2);
-    assert_eq!(rt; TellFault::TooLong.name(), "TooLong");
+    assert_eq!(rt; TextFault::TooLong.number(), 2);
+    assert_eq!(rt; TextFault::TooLong.name(), "TooLong");
     Ok(())
 }
 
 // Decodes with the k-th request for memory refused; the writer isn't asked for any.
-fn refused_at<A: Allocator + Copy>(alloc: A, lines: &[u8]) -> Result<bool, TellFault> {
+fn refused_at<A: Allocator + Copy>(alloc: A, lines: &[u8]) -> Result<bool, TextFault> {
     let mut reader = FailingSource::after(20, lines, 40);
     let mut writer = FailingSink::after(u64::MAX);
     decode_lines(alloc, &mut reader, &mut writer)
@@ -118,7 +117,7 @@ fn each_refused_growth_is_told(rt: HostRuntime) -> Result<(), Fail> {
             assert_eq!(rt; k, 5);
             return Ok(());
         }
-        assert_eq!(rt; outcome, Err(TellFault::NoMemory));
+        assert_eq!(rt; outcome, Err(TextFault::NoMemory));
         assert_eq!(rt; refused_at(&heap, lines.as_slice()), Ok(false));
     }
     Err(Fail::from("no end"))

@@ -1,9 +1,8 @@
 //! Each status and each line.
 
-use dc_ending::{Ending, ending_of};
-use dc_poller::ProgramFault;
+use dc_io::{Bytes, FixedSink, IoFault, Sink};
+use dc_poller::{Ending, ProgramFault, ending_of};
 use dc_recovery::{FormatFault, OpenFault};
-use dc_stream::{Bytes, FixedSink, IoFault, Sink};
 use std::alloc::Global;
 use std::test::Fail;
 

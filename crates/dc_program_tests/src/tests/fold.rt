@@ -2,8 +2,8 @@
 
 use super::decode::spaces;
 use super::streams::{FailingSink, FailingSource};
-use dc_stream::Bytes;
-use dc_teller::{TellFault, fold_lines};
+use dc_io::{Bytes, TextFault};
+use dc_poller::fold_lines;
 use refusing_alloc::Refusing;
 use std::alloc::{AllocError, Allocator, Global};
 use std::process::Abort;
@@ -80,13 +80,13 @@ fn an_input_or_a_line_has_a_limit(rt: HostRuntime) -> Result<(), Fail> {
     let mut reader = Bytes::from_slice(rt.alloc(), more.as_slice())?;
     let mut writer = Bytes::new(rt.alloc());
     let refused = fold_lines(rt.alloc(), &mut reader, &mut writer);
-    assert_eq!(rt; refused, Err(TellFault::TooLong));
+    assert_eq!(rt; refused, Err(TextFault::TooLong));
     assert!(rt; writer.as_slice().is_empty());
     Ok(())
 }
 
 // Folds that readout, and says how many bytes are written. Neither the reader nor the writer asks for memory.
-fn folded<A: Allocator + Copy>(alloc: A, puts: u64) -> (Result<bool, TellFault>, usize) {
+fn folded<A: Allocator + Copy>(alloc: A, puts: u64) -> (Result<bool, TextFault>, usize) {
     let mut reader = FailingSource::after(20, READOUT, 40);
     let mut writer = FailingSink::after(puts);
     let outcome = fold_lines(alloc, &mut reader, &mut writer);
@@ -108,7 +108,7 @@ fn each_refused_growth_leaves_the_writer(rt: HostRuntime) {
             assert_eq!(rt; bytes, written);
             return;
         }
-        assert_eq!(rt; outcome, Err(TellFault::NoMemory));
+        assert_eq!(rt; outcome, Err(TextFault::NoMemory));
         assert_eq!(rt; bytes, 0);
     }
     assert!(rt; false);

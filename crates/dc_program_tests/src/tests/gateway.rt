@@ -5,11 +5,12 @@ ghost use Rattle.dc_linkframe.specs.Control.{reset_to};
 ghost use Rattle.dc_linkframe.specs.Frame.{spelling};
 
 use dc_address::Identity;
-use dc_gateway::{AnswerBuf, Gateway, ListedBus, Talk, exchange, search_over};
+use dc_gateway::{AnswerBuf, Gateway, Talk, exchange, search_over};
+use dc_io::{Bytes, FixedSink, IoFault, Sink, Source};
 use dc_linkframe::FrameBuf;
 use dc_linkframe::control::write_reset;
 use dc_search::{Step, sweep};
-use dc_stream::{Bytes, FixedSink, IoFault, Sink, Source};
+use dc_world::ListedBus;
 use refusing_alloc::Refusing;
 use std::test::Fail;
 

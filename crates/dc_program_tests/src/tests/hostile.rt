@@ -1,8 +1,8 @@
 //! A script over gateways that fail, stall or lie: it goes on, and says once that the gateway is lost.
 use super::common::{FIT, blank, joined};
 use super::streams::{FailingSink, FailingSource};
+use dc_io::{Bytes, Sink, Source};
 use dc_poller::run_script;
-use dc_stream::{Bytes, Sink, Source};
 use std::alloc::Global;
 use std::process::Abort;
 use std::test::Fail;

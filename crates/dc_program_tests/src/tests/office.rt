@@ -4,8 +4,8 @@ ghost use Rattle.std.specs.Prelude.{None};
 
 use super::streams::FailingSink;
 use dc_changes::{Body, Change};
+use dc_io::{Bytes, Sink};
 use dc_meters::House;
-use dc_stream::{Bytes, Sink};
 use dc_upload::{
     Code, ReplyFault, Verdict, a_done_command_is_repeated, judge, parse_line, write_refusal,
     write_reply,

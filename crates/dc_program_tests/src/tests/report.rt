@@ -2,10 +2,10 @@
 use super::common::{blank, joined};
 use super::run::{FIRST, LAST, run};
 use super::streams::FailingSink;
+use dc_io::Bytes;
 use dc_poller::{ProgramFault, Report, report_on};
 use dc_recovery::OpenFault;
 use dc_sectors::MemoryDisk;
-use dc_stream::Bytes;
 use refusing_alloc::Refusing;
 use std::alloc::{Allocator, Global};
 use std::process::Abort;

@@ -1,10 +1,10 @@
 //! What no clause and no case says of a script: what fails.
 use super::common::{blank, joined};
 use super::streams::{FailingSink, FailingSource};
+use dc_io::{Bytes, Sink, Source};
 use dc_poller::{ProgramFault, run_script};
 use dc_recovery::Store;
 use dc_sectors::{Disk, MemoryDisk};
-use dc_stream::{Bytes, Sink, Source};
 use refusing_alloc::Refusing;
 use std::alloc::{Allocator, Global};
 use std::test::Fail;

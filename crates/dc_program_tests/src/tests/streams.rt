@@ -1,7 +1,6 @@
 //! Streams that fail.
 
-use dc_base::one_failure_more;
-use dc_stream::{IoFault, Sink, Source};
+use dc_io::{IoFault, Sink, Source, one_failure_more};
 
 /// Gives at most that many bytes with each take, and fails after that many takes.
 #[derive(Drop)]
@@ -81,7 +80,7 @@ impl Sink for FailingSink {
 
     ghost put_failures = { λ s. s.failures };
 
-    #[tactic(auto, using(dc_stream::proofs::Pieces::told))]
+    #[tactic(auto, using(dc_io::proofs::Pieces::told))]
     fn put(&mut self, bytes: &[u8]) -> Result<(), IoFault> {
         if self.puts == 0 {
             self.failures = one_failure_more(self.failures);

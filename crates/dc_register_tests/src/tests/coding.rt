@@ -1,7 +1,7 @@
 //! Changes that are read back from their bytes.
 
 use dc_changes::{Body, Change, Command, DecodeFault, decode_changes, encode_change};
-use dc_stream::Bytes;
+use dc_io::Bytes;
 use refusing_alloc::Refusing;
 use std::alloc::Allocator;
 use std::test::Fail;

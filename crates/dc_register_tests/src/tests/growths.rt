@@ -3,10 +3,9 @@
 use super::told::{
     BUDGET, FIRST, FIT, LAST, Told, behind, decodes, encoded, replayed, spelled_behind, tell,
 };
-use dc_base::NoMemory;
 use dc_changes::{Change, DecodeFault, encode_change};
+use dc_io::{Bytes, NoMemory};
 use dc_meters::{House, Reading, StorageDates};
-use dc_stream::Bytes;
 use dc_units::Date;
 use refusing_alloc::Refusing;
 use std::alloc::{Allocator, Global};

@@ -2,8 +2,8 @@
 
 ghost use Rattle.dc_changes.specs.Valid.{IsChange};
 
-use dc_base::NoMemory;
 use dc_changes::{Body, Change, Command};
+use dc_io::NoMemory;
 use dc_meters::House;
 use dc_report::{Date, due_rows, due_table, register_rows, register_table};
 use refusing_alloc::Refusing;

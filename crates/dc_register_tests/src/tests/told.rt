@@ -2,10 +2,9 @@
 
 ghost use Rattle.dc_changes.specs.Valid.{IsChange};
 
-use dc_base::NoMemory;
 use dc_changes::{Change, ChangeFault, DecodeFault};
+use dc_io::{Bytes, NoMemory};
 use dc_meters::House;
-use dc_stream::Bytes;
 use std::alloc::{Allocator, Global};
 use std::process::Abort;
 use std::test::Fail;

@@ -7,9 +7,9 @@ use super::life::{
 };
 use super::sectors::read;
 use dc_changes::{Change, encode_change};
+use dc_io::Bytes;
 use dc_recovery::StoreFault;
 use dc_sectors::MemoryDisk;
-use dc_stream::Bytes;
 use std::alloc::Global;
 use std::process::Abort;
 use std::test::Fail;

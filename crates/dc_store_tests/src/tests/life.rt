@@ -3,10 +3,10 @@
 ghost use Rattle.dc_changes.specs.Valid.{IsChange};
 
 use dc_changes::{Change, encode_change};
+use dc_io::Bytes;
 use dc_meters::House;
 use dc_recovery::{OpenFault, Store, StoreFault};
 use dc_sectors::MemoryDisk;
-use dc_stream::Bytes;
 use std::alloc::Global;
 use std::process::Abort;
 use std::test::Fail;

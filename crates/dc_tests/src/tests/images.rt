@@ -4,7 +4,7 @@ ghost use Rattle.std.specs.Prelude.{ℕ, IfOk};
 ghost use Rattle.std.specs.List.{AllZip};
 ghost use Rattle.dc_sectors.specs.Memory.{IsPickFor};
 
-use dc_base::NoMemory;
+use dc_io::NoMemory;
 use dc_sectors::{MemoryDisk, Pick};
 use std::alloc::{Allocator, Global};
 

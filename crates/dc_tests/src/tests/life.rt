@@ -4,10 +4,10 @@ use super::images::rested;
 use dc_address::Identity;
 use dc_changes::{Change, Moment};
 use dc_core::Event;
+use dc_io::Bytes;
 use dc_meters::House;
 use dc_recovery::Store;
 use dc_sectors::{Disk, MemoryDisk};
-use dc_stream::Bytes;
 use std::alloc::{Allocator, Global};
 use std::test::Fail;
 

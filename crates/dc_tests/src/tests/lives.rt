@@ -4,8 +4,8 @@
 use super::images::rested;
 use super::life::{Deed, Life, Step, blank};
 use dc_core::Concentrator;
+use dc_io::FixedSink;
 use dc_sectors::{Disk, MemoryDisk};
-use dc_stream::FixedSink;
 use std::alloc::Global;
 use std::process::Abort;
 use std::test::Fail;

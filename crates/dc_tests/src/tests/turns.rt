@@ -2,8 +2,8 @@
 
 use super::life::{Deed, Step, event_of};
 use dc_core::{CommitFault, Concentrator, Event, HearFault, StartFault};
+use dc_io::{Bytes, Sink};
 use dc_sectors::Disk;
-use dc_stream::{Bytes, Sink};
 use std::alloc::{Allocator, Global};
 use std::test::Fail;
 

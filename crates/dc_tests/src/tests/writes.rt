@@ -5,10 +5,9 @@ ghost use Rattle.std.specs.Prelude.{◌≡◌, ◌+◌, ◌-◌, ◌^◌, min, N
 
 use super::life::{Deed, Life, Step, event_of, state_of, states_of};
 use super::turns::{Told, Way, call, turn};
-use dc_base::one_failure_more;
 use dc_core::{Concentrator, WriteFault};
+use dc_io::{IoFault, Sink, one_failure_more};
 use dc_sectors::Disk;
-use dc_stream::{IoFault, Sink};
 use std::alloc::{Allocator, Global};
 use std::process::Abort;
 use std::test::Fail;
@@ -25,7 +24,7 @@ impl Sink for Breaking {
 
     ghost put_failures = { λ s. s.failures };
 
-    #[tactic(auto, using(dc_stream::proofs::Pieces::told))]
+    #[tactic(auto, using(dc_io::proofs::Pieces::told))]
     fn put(&mut self, _bytes: &[u8]) -> Result<(), IoFault> {
         self.until = self.until.saturating_sub(1);
         if self.until == 0 {

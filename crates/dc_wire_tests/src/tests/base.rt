@@ -1,6 +1,6 @@
 //! The count of failures stays at its maximum.
 
-use dc_base::{NoMemory, one_failure_more};
+use dc_io::{NoMemory, one_failure_more};
 use std::alloc::AllocError;
 use std::test::Fail;
 

@@ -5,10 +5,10 @@ ghost use Rattle.dc_gateway.specs.Blocks.{most_block};
 ghost use Rattle.dc_line.specs.Bus.{most_waits};
 
 use dc_gateway::{Bus, Gateway};
+use dc_io::{Bytes, FixedSink, Sink};
 use dc_line::{BlockLink, Both, Event, HalfBus, Line, Pause, PollWire, QuietBus, Tape, Wire};
 use dc_linkframe::FrameBuf;
 use dc_linkframe::control::write_request;
-use dc_stream::{Bytes, FixedSink, Sink};
 use std::io::Write;
 use std::os::unix::net::UnixStream;
 use std::process::Abort;

@@ -3,10 +3,10 @@
 ghost use Rattle.std.specs.Prelude.{◌<◌, ◌≤◌};
 
 use dc_address::{Identity, Primary};
-use dc_base::NoMemory;
-use dc_lives::Outcome::{AsSent, ReplyLost, ReplyUnreadable, RequestLost};
-use dc_lives::WorldEvent::{Commit, Exchange, Start, Stop};
-use dc_lives::{Bodies, Body, Held, MeterScript, WorldEvent, are_regular, play};
+use dc_io::NoMemory;
+use dc_world::Outcome::{AsSent, ReplyLost, ReplyUnreadable, RequestLost};
+use dc_world::WorldEvent::{Commit, Exchange, Start, Stop};
+use dc_world::{Bodies, Body, Held, MeterScript, WorldEvent, are_regular, play};
 use refusing_alloc::Refusing;
 use std::alloc::Allocator;
 use std::process::Abort;

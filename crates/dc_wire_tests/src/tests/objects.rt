@@ -1,8 +1,7 @@
 //! What no clause says of JSON lines and of the table for people: telegrams whole, and refused memory.
 
+use dc_io::{Bytes, TextFault};
 use dc_json::{explain_lines, json_lines};
-use dc_stream::Bytes;
-use dc_teller::TellFault;
 use refusing_alloc::Refusing;
 use std::alloc::{Allocator, Global};
 use std::process::Abort;
@@ -33,7 +32,7 @@ fn written<A: Allocator + Copy>(
     alloc: A,
     ends: Global,
     lines: &[u8],
-) -> Result<(Bytes<Global>, bool), TellFault> {
+) -> Result<(Bytes<Global>, bool), TextFault> {
     let mut reader = Bytes::from_slice(ends, lines)?;
     let mut writer = Bytes::new(ends);
     let found = json_lines(alloc, &mut reader, &mut writer)?;
@@ -44,7 +43,7 @@ fn explained<A: Allocator + Copy>(
     alloc: A,
     ends: Global,
     lines: &[u8],
-) -> Result<(Bytes<Global>, bool), TellFault> {
+) -> Result<(Bytes<Global>, bool), TextFault> {
     let mut reader = Bytes::from_slice(ends, lines)?;
     let mut writer = Bytes::new(ends);
     let found = explain_lines(alloc, &mut reader, &mut writer)?;
@@ -106,7 +105,7 @@ fn each_refused_growth_of_objects_is_told(rt: HostRuntime) -> Result<(), Fail> {
             assert!(rt; !found);
             return Ok(());
         }
-        assert!(rt; matches!(outcome, Err(TellFault::NoMemory)));
+        assert!(rt; matches!(outcome, Err(TextFault::NoMemory)));
     }
     Err(Fail::from("no end"))
 }
@@ -122,7 +121,7 @@ fn each_refused_growth_of_the_table_is_told(rt: HostRuntime) -> Result<(), Fail>
             assert!(rt; !found);
             return Ok(());
         }
-        assert!(rt; matches!(outcome, Err(TellFault::NoMemory)));
+        assert!(rt; matches!(outcome, Err(TextFault::NoMemory)));
     }
     Err(Fail::from("no end"))
 }

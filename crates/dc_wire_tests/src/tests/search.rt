@@ -3,7 +3,7 @@
 ghost use Rattle.std.specs.Prelude.{◌<◌, ◌≤◌};
 
 use dc_address::{Identity, Mask};
-use dc_base::NoMemory;
+use dc_io::NoMemory;
 use dc_search::bus::{Matching, matches_on, telegram_of};
 use dc_search::{Search, SearchFault, Step, sweep};
 use refusing_alloc::Refusing;

@@ -2,12 +2,11 @@
 
 use dc_address::{Identity, Primary};
 use dc_gateway::{Talk, exchange, search_over};
+use dc_io::{Bytes, Sink};
 use dc_linkframe::FrameBuf;
 use dc_linkframe::control::write_request;
-use dc_lives::{Bodies, Body, MeterScript, Reply, SimulatedMeter};
 use dc_search::Step;
-use dc_simulated::{SimulatedBus, serve};
-use dc_stream::{Bytes, Sink};
+use dc_world::{Bodies, Body, MeterScript, Reply, SimulatedBus, SimulatedMeter, serve};
 use std::alloc::Allocator;
 use std::test::Fail;
 

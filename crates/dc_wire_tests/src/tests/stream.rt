@@ -1,6 +1,6 @@
 //! Ends over memory and over std, and the failures that they count.
 
-use dc_stream::{Bytes, FixedSink, IoFault, ReadSource, Sink, Source, WriteSink};
+use dc_io::{Bytes, FixedSink, IoFault, ReadSource, Sink, Source, WriteSink};
 use refusing_alloc::Refusing;
 use std::io::{BufWriter, ErrorKind, Read, Write};
 use std::test::Fail;

@@ -1,9 +1,8 @@
 //! Worked texts, and a buffered sink that fills.
 
-use dc_stream::{Bytes, FixedSink, IoFault, Sink};
-use dc_text::{
-    Buffered, decode_hex, put_byte_word, put_fault, put_fault_line, put_hex, put_hex_word,
-    put_number, put_number_word,
+use dc_io::{
+    Buffered, Bytes, FixedSink, IoFault, Sink, decode_hex, put_byte_word, put_fault,
+    put_fault_line, put_hex, put_hex_word, put_number, put_number_word,
 };
 use refusing_alloc::Refusing;
 use std::test::Fail;

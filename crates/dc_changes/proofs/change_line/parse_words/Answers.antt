@@ -1,7 +1,7 @@
 use Rattle.std.proofs.Common.{arith, ◌++◌, ◌∷◌, ap, ◌∙◌}
 use Rattle.std.specs.Fmt.{decimal}
 use Rattle.std.proofs.lemmas.Grind.{common_steps}
-use Rattle.dc_text.specs.Hex.{bytes_of}
+use Rattle.dc_io.specs.Hex.{bytes_of}
 use Rattle.dc_changes.proofs.TelegramLines.{part_is_word, moment_is_word, words_are}
 use Rattle.dc_changes.proofs.change_line.parse_words.Goals as goal
 

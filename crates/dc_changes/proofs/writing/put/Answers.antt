@@ -1,4 +1,4 @@
-use Rattle.dc_changes.proofs.Writes.{written_one}
+use Rattle.dc_io.proofs.Writes.{written_one}
 use Rattle.dc_changes.proofs.writing.put.Goals as goal
 
 pub returns-clause-ok : goal.returns-clause-ok

@@ -1,7 +1,7 @@
 use Rattle.std.proofs.Common.{◌++◌, codes, arith}
-use Rattle.dc_stream.specs.Stream.{PutsFront}
-use Rattle.dc_stream.proofs.Pieces.{puts_front-first}
-use Rattle.dc_text.specs.Words.{fault_text}
+use Rattle.dc_io.specs.Stream.{PutsFront}
+use Rattle.dc_io.proofs.Pieces.{puts_front-first}
+use Rattle.dc_io.specs.Words.{fault_text}
 use Rattle.dc_core.proofs.telling.put_failure.Goals as goal
 
 pub returns-in_err-put : goal.returns-in_err-put

@@ -1,9 +1,9 @@
 use Rattle.std.proofs.Common.{ℕ, List, ap, ◌∙◌, arith}
-use Rattle.dc_teller.specs.Lines.{lines_of}
-use Rattle.dc_teller.specs.Text.{line_text, lines_text}
-use Rattle.dc_teller.proofs.Inputs.{first_lines_text}
-use Rattle.dc_teller.proofs.Prefixes.{front_of_all}
-use Rattle.dc_teller.proofs.decode.put_lines.Goals as goal
+use Rattle.dc_io.specs.Lines.{lines_of}
+use Rattle.dc_decode.specs.Text.{line_text, lines_text}
+use Rattle.dc_decode.proofs.Inputs.{first_lines_text}
+use Rattle.dc_decode.proofs.Prefixes.{front_of_all}
+use Rattle.dc_decode.proofs.decode.put_lines.Goals as goal
 
 pub returns-in_err-bad-clause-wrote : goal.returns-in_err-bad-clause-wrote
 returns-in_err-bad-clause-wrote g c =

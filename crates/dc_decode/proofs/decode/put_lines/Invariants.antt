@@ -1,9 +1,9 @@
 use Rattle.std.proofs.Common.{◌≡◌, ◌≤◌, length}
 use Rattle.std.specs.Prelude.{◌||◌}
 use Rattle.std.specs.Io.KnownBytes.{append_known}
-use Rattle.dc_teller.specs.Lines.{longest_input_line, most_spelled}
-use Rattle.dc_teller.specs.Text.{text_of, has_fault}
-use Rattle.dc_teller.proofs.decode.put_lines.Given as goal
+use Rattle.dc_io.specs.Lines.{longest_input_line, most_spelled}
+use Rattle.dc_decode.specs.Text.{text_of, has_fault}
+use Rattle.dc_decode.proofs.decode.put_lines.Given as goal
 
 abbrev pub invariant-lines : goal.invariant-lines
 invariant-lines g l = record {

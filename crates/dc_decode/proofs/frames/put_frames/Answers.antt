@@ -1,8 +1,8 @@
 use Rattle.std.proofs.Common.{ℕ, List, ap, ◌∙◌, arith}
-use Rattle.dc_teller.specs.Frames.{frames_of, shown, all_shown}
-use Rattle.dc_teller.proofs.Cuts.{first_shown}
-use Rattle.dc_teller.proofs.Prefixes.{front_of_all}
-use Rattle.dc_teller.proofs.frames.put_frames.Goals as goal
+use Rattle.dc_decode.specs.Frames.{frames_of, shown, all_shown}
+use Rattle.dc_decode.proofs.Cuts.{first_shown}
+use Rattle.dc_decode.proofs.Prefixes.{front_of_all}
+use Rattle.dc_decode.proofs.frames.put_frames.Goals as goal
 
 pub returns-in_err-bad-clause-wrote : goal.returns-in_err-bad-clause-wrote
 returns-in_err-bad-clause-wrote g c =

@@ -1,8 +1,8 @@
 use Rattle.std.proofs.Common.{◌≡◌, length}
 use Rattle.std.specs.Prelude.{◌||◌}
 use Rattle.std.specs.Io.KnownBytes.{append_known}
-use Rattle.dc_teller.specs.Frames.{frames_of, all_shown, any_bad}
-use Rattle.dc_teller.proofs.frames.put_frames.Given as goal
+use Rattle.dc_decode.specs.Frames.{frames_of, all_shown, any_bad}
+use Rattle.dc_decode.proofs.frames.put_frames.Given as goal
 
 abbrev pub invariant-frames : goal.invariant-frames
 invariant-frames g l = record {

@@ -1,9 +1,9 @@
 use Rattle.std.proofs.Common.{◌++◌, codes, arith}
-use Rattle.dc_stream.specs.Stream.{PutsFront}
-use Rattle.dc_stream.proofs.Pieces.{puts_front-first, puts_front-second}
-use Rattle.dc_text.specs.Words.{byte_word}
-use Rattle.dc_teller.specs.Frames.{short_line}
-use Rattle.dc_teller.proofs.frames.put_short.Goals as goal
+use Rattle.dc_io.specs.Stream.{PutsFront}
+use Rattle.dc_io.proofs.Pieces.{puts_front-first, puts_front-second}
+use Rattle.dc_io.specs.Words.{byte_word}
+use Rattle.dc_decode.specs.Frames.{short_line}
+use Rattle.dc_decode.proofs.frames.put_short.Goals as goal
 
 pub returns-in_err-put : goal.returns-in_err-put
 unfolding short_line

@@ -1,7 +1,7 @@
 use Rattle.std.proofs.Common.{ap, ◌∙◌}
-use Rattle.dc_teller.specs.Frames.{all_shown}
-use Rattle.dc_teller.proofs.Turns.{whole, spelled_in_turn, shown_in_turn}
-use Rattle.dc_teller.proofs.laws.frames_are_told_in_turn.Goals as goal
+use Rattle.dc_decode.specs.Frames.{all_shown}
+use Rattle.dc_decode.proofs.Turns.{whole, spelled_in_turn, shown_in_turn}
+use Rattle.dc_decode.proofs.laws.frames_are_told_in_turn.Goals as goal
 
 pub returns-clause-whole : goal.returns-clause-whole
 returns-clause-whole c = whole

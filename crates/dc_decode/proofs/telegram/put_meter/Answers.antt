@@ -1,11 +1,11 @@
 use Rattle.std.proofs.Common.{◌≡◌, ◌++◌, ℕ, List, codes, refl, ap, ◌∙◌, subst, arith}
 use Rattle.dc_address.specs.Text.{text_of}
 use Rattle.dc_records.specs.declared.header.Header.{Header}
-use Rattle.dc_stream.specs.Stream.{PutsFront}
-use Rattle.dc_stream.proofs.Pieces.{puts_front-first, puts_front-second}
-use Rattle.dc_text.specs.Words.{number_word}
-use Rattle.dc_teller.specs.Telegram.{meter_line}
-use Rattle.dc_teller.proofs.telegram.put_meter.Goals as goal
+use Rattle.dc_io.specs.Stream.{PutsFront}
+use Rattle.dc_io.proofs.Pieces.{puts_front-first, puts_front-second}
+use Rattle.dc_io.specs.Words.{number_word}
+use Rattle.dc_decode.specs.Telegram.{meter_line}
+use Rattle.dc_decode.proofs.telegram.put_meter.Goals as goal
 
 -- the line of a meter, with these words
 abbrev worded : List ℕ → ℕ → ℕ → List ℕ

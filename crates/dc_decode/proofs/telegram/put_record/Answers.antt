@@ -1,11 +1,11 @@
 use Rattle.std.proofs.Common.{◌++◌, codes, arith}
 use Rattle.dc_records.specs.Record.{Entry, view}
-use Rattle.dc_stream.specs.Stream.{PutsFront}
-use Rattle.dc_stream.proofs.Pieces.{puts_front-first, puts_front-second}
-use Rattle.dc_text.specs.Words.{hex_word}
-use Rattle.dc_teller.specs.Seen.{seen_word}
-use Rattle.dc_teller.specs.Telegram.{record_words, record_line}
-use Rattle.dc_teller.proofs.telegram.put_record.Goals as goal
+use Rattle.dc_io.specs.Stream.{PutsFront}
+use Rattle.dc_io.proofs.Pieces.{puts_front-first, puts_front-second}
+use Rattle.dc_io.specs.Words.{hex_word}
+use Rattle.dc_decode.specs.Seen.{seen_word}
+use Rattle.dc_decode.specs.Telegram.{record_words, record_line}
+use Rattle.dc_decode.proofs.telegram.put_record.Goals as goal
 
 pub returns-in_err-put : goal.returns-in_err-put
 unfolding record_line

@@ -1,7 +1,7 @@
 use Rattle.std.proofs.Common.{◌≡◌}
 use Rattle.std.specs.Io.KnownBytes.{append_known}
-use Rattle.dc_teller.specs.Telegram.{record_lines}
-use Rattle.dc_teller.proofs.telegram.put_records.Given as goal
+use Rattle.dc_decode.specs.Telegram.{record_lines}
+use Rattle.dc_decode.proofs.telegram.put_records.Given as goal
 
 abbrev pub invariant-records : goal.invariant-records
 invariant-records g l = record {

@@ -1,6 +1,6 @@
 use Rattle.std.proofs.Common.{◌≡◌, ◌≤◌, ◌∷◌, [], ◌++◌, length, take, OnErr, OnOk, ℕ, List, ap, ◌∙◌, subst, arith}
 use Rattle.std.proofs.lemmas.List.{take_all}
-use Rattle.dc_stream.specs.Stream.{Puts, PutsFront}
+use Rattle.dc_io.specs.Stream.{Puts, PutsFront}
 use Rattle.dc_gateway.specs.Blocks.{block, most_answer, most_block}
 use Rattle.dc_gateway.proofs.block.put_block.Goals as goal
 

@@ -1,6 +1,6 @@
 use Rattle.std.proofs.Common.{◌≡◌, ◌-◌, ◌≤◌, ℕ, List, length, take, arith, sym, ◌∙◌, refl, subst}
 use Rattle.std.proofs.lemmas.List.{take-append-le}
-use Rattle.dc_stream.specs.Stream.{Takes}
+use Rattle.dc_io.specs.Stream.{Takes}
 use Rattle.dc_gateway.proofs.Taking.{so_far_none, so_far_more}
 use Rattle.dc_gateway.proofs.block.take_content.Goals as goal
 

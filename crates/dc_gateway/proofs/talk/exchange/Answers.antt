@@ -1,5 +1,5 @@
 use Rattle.std.proofs.Common.{◌≡◌, inr, Result, Ok, Err, Bool, true, ℕ, List, refl, subst}
-use Rattle.dc_stream.specs.Stream.{PutsFront}
+use Rattle.dc_io.specs.Stream.{PutsFront}
 use Rattle.dc_gateway.specs.Blocks.{block}
 use Rattle.std.specs.Result.{OnErr, is_err}
 use Rattle.dc_gateway.proofs.Reading.{front_nothing}

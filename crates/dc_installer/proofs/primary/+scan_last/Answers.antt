@@ -3,8 +3,8 @@ use Rattle.std.proofs.lemmas.Grind.{common_steps}
 use Rattle.std.specs.List.{range_with_len}
 use Rattle.std.specs.Result.{OnOk}
 use Rattle.dc_gateway.specs.Bus.{AreExchanged, Exchange}
-use Rattle.dc_stream.specs.Stream.{Puts}
-use Rattle.dc_stream.proofs.Pieces.{puts-both, puts-none}
+use Rattle.dc_io.specs.Stream.{Puts}
+use Rattle.dc_io.proofs.Pieces.{puts-both, puts-none}
 use Rattle.dc_installer.specs.Scan.{AsksEach}
 use Rattle.dc_installer.proofs.Addresses.{and_others, last_addresses}
 use Rattle.dc_installer.proofs.primary.+scan_last.Goals as goal

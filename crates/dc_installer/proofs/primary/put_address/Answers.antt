@@ -1,7 +1,7 @@
 use Rattle.std.proofs.Common.{◌++◌, codes, refl, arith, append_assoc}
-use Rattle.dc_stream.specs.Stream.{Puts, PutsFront}
-use Rattle.dc_stream.proofs.Pieces.{puts-both, puts_front-first, puts_front-within}
-use Rattle.dc_text.specs.Words.{number_word}
+use Rattle.dc_io.specs.Stream.{Puts, PutsFront}
+use Rattle.dc_io.proofs.Pieces.{puts-both, puts_front-first, puts_front-within}
+use Rattle.dc_io.specs.Words.{number_word}
 use Rattle.dc_installer.specs.Scan.{address_line, identity_word}
 use Rattle.dc_installer.proofs.primary.put_address.Goals as goal
 

@@ -1,6 +1,6 @@
 use Rattle.std.proofs.Common.{[], Ok, Err, Result, rules}
 use Rattle.std.specs.Result.{OnOk}
-use Rattle.dc_stream.proofs.Pieces.{puts-none}
+use Rattle.dc_io.proofs.Pieces.{puts-none}
 use Rattle.dc_installer.specs.Scan.{address_line}
 use Rattle.dc_installer.proofs.Addresses.{acknowledged, unacknowledged}
 use Rattle.dc_installer.proofs.primary.scan_one.Goals as goal

@@ -1,5 +1,5 @@
 use Rattle.std.proofs.Common.{ℕ, ◌-◌, ◌∙◌, subst, sym}
-use Rattle.dc_stream.specs.Stream.{Puts}
+use Rattle.dc_io.specs.Stream.{Puts}
 use Rattle.dc_poller.specs.Search.{search_text_after}
 use Rattle.dc_poller.proofs.LineRuns.{on_ok}
 use Rattle.dc_installer.specs.Scan.{IsLook, at_once, once_more}

@@ -1,6 +1,6 @@
 use Rattle.std.proofs.Common.{rules, ◌≡◌, None, sym, ◌∙◌, ◌/◌, length, arith}
-use Rattle.dc_text.proofs.Pairs.{decode_step, high_fails, low_fails, decode_done, odd_fails}
-use Rattle.dc_text.proofs.hex.decode_hex.Goals as goal
+use Rattle.dc_io.proofs.Pairs.{decode_step, high_fails, low_fails, decode_done, odd_fails}
+use Rattle.dc_io.proofs.hex.decode_hex.Goals as goal
 
 pub returns-then-digits-ne0-clause-value : goal.returns-then-digits-ne0-clause-value
 returns-then-digits-ne0-clause-value c = odd_fails c.args.digits.now c.if-digits-ne0.true

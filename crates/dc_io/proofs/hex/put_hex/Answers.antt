@@ -1,9 +1,9 @@
 use Rattle.std.proofs.Common.{arith}
-use Rattle.dc_stream.specs.Stream.{PutsFront}
-use Rattle.dc_stream.proofs.Pieces.{puts_front-within}
-use Rattle.dc_text.specs.Hex.{upper_hex}
-use Rattle.dc_text.proofs.Digits.{hex_of_rest}
-use Rattle.dc_text.proofs.hex.put_hex.Goals as goal
+use Rattle.dc_io.specs.Stream.{PutsFront}
+use Rattle.dc_io.proofs.Pieces.{puts_front-within}
+use Rattle.dc_io.specs.Hex.{upper_hex}
+use Rattle.dc_io.proofs.Digits.{hex_of_rest}
+use Rattle.dc_io.proofs.hex.put_hex.Goals as goal
 
 pub returns-in_err-put_byte : goal.returns-in_err-put_byte
 returns-in_err-put_byte g c =

@@ -1,7 +1,7 @@
 use Rattle.std.proofs.Common.{◌≡◌, take}
 use Rattle.std.specs.Io.KnownBytes.{append_known}
-use Rattle.dc_text.specs.Hex.{upper_hex}
-use Rattle.dc_text.proofs.hex.put_hex.Given as goal
+use Rattle.dc_io.specs.Hex.{upper_hex}
+use Rattle.dc_io.proofs.hex.put_hex.Given as goal
 
 abbrev pub invariant-bytes : goal.invariant-bytes
 invariant-bytes g l = record {

@@ -1,6 +1,6 @@
 use Rattle.std.proofs.Common.{◌≡◌, ◌-◌, ◌<◌, vec_len, length}
-use Rattle.dc_stream.specs.Stream.{Takes}
-use Rattle.dc_teller.proofs.input.read_input.Given as goal
+use Rattle.dc_io.specs.Stream.{Takes}
+use Rattle.dc_io.proofs.input.read_input.Given as goal
 
 abbrev pub invariant-takes : goal.invariant-takes
 invariant-takes g l = record {

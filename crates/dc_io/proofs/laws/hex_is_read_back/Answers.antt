@@ -1,5 +1,5 @@
-use Rattle.dc_text.proofs.Digits.{read_back}
-use Rattle.dc_teller.proofs.laws.hex_is_read_back.Goals as goal
+use Rattle.dc_io.proofs.Digits.{read_back}
+use Rattle.dc_io.proofs.laws.hex_is_read_back.Goals as goal
 
 pub returns : goal.returns
 returns c = read_back

@@ -1,7 +1,7 @@
 use Rattle.std.proofs.Common.{refl}
-use Rattle.dc_teller.specs.Lines.{lines_of}
-use Rattle.dc_teller.proofs.Feeds.{tested, last_line, line_and_feed}
-use Rattle.dc_teller.proofs.laws.lines_end_at_feeds.Goals as goal
+use Rattle.dc_io.specs.Lines.{lines_of}
+use Rattle.dc_io.proofs.Feeds.{tested, last_line, line_and_feed}
+use Rattle.dc_io.proofs.laws.lines_end_at_feeds.Goals as goal
 
 pub returns-clause-ended : goal.returns-clause-ended
 returns-clause-ended c = λ line rest lacks. line_and_feed line rest (tested line lacks)

@@ -1,9 +1,9 @@
 use Rattle.std.proofs.Common.{rules, ◌≡◌, ℕ, ◌+◌, ◌<◌, ◌≤◌, List, ◌∷◌, ◌++◌, length, take, drop, get_or, true, refl, ap, sym, ◌∙◌, arith, add-one, drop-cons, length-take, take-append-drop, eqb-true}
 use Rattle.std.specs.Prelude.{◌==◌}
 use Rattle.std.proofs.lemmas.Grind.{common_steps}
-use Rattle.dc_teller.specs.Lines.{lines_of}
-use Rattle.dc_teller.proofs.Feeds.{HasNoFeed, last_line, line_and_feed}
-use Rattle.dc_teller.proofs.lines.first_line.Goals as goal
+use Rattle.dc_io.specs.Lines.{lines_of}
+use Rattle.dc_io.proofs.Feeds.{HasNoFeed, last_line, line_and_feed}
+use Rattle.dc_io.proofs.lines.first_line.Goals as goal
 
 split : (s line rest : List ℕ) (k : ℕ) → k < length s → line ≡ take k s → rest ≡ drop 1 (drop k s) → (get_or s k 0 == 10) ≡ true
     → ((j : ℕ) → 0 ≤ j → j < k → ¬ ((get_or s j 0 == 10) ≡ true)) → lines_of s ≡ line ∷ lines_of rest

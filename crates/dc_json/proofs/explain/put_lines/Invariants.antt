@@ -1,5 +1,5 @@
 use Rattle.std.proofs.Common.{◌≤◌, length}
-use Rattle.dc_teller.specs.Lines.{longest_input_line, most_spelled}
+use Rattle.dc_io.specs.Lines.{longest_input_line, most_spelled}
 use Rattle.dc_json.proofs.explain.put_lines.Given as goal
 
 abbrev pub invariant-lines : goal.invariant-lines

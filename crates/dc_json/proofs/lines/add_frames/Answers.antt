@@ -1,6 +1,6 @@
 use Rattle.std.proofs.Common.{◌≡◌, List, ℕ, [], eqb-true, sym}
-use Rattle.dc_teller.specs.Frames.{frames_of}
-use Rattle.dc_teller.proofs.Cuts.{no_cut}
+use Rattle.dc_decode.specs.Frames.{frames_of}
+use Rattle.dc_decode.proofs.Cuts.{no_cut}
 use Rattle.dc_json.specs.Frame.{text_json}
 use Rattle.dc_json.proofs.InputObjects.{one_text_more, no_text_more, one_fault_more}
 use Rattle.dc_json.proofs.lines.add_frames.Goals as goal

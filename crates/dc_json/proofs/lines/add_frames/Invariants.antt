@@ -1,6 +1,6 @@
 use Rattle.std.proofs.Common.{◌≡◌, ◌++◌, length, map}
 use Rattle.std.specs.Prelude.{◌||◌}
-use Rattle.dc_teller.specs.Frames.{frames_of, any_bad}
+use Rattle.dc_decode.specs.Frames.{frames_of, any_bad}
 use Rattle.dc_json.specs.Frame.{text_json}
 use Rattle.dc_json.specs.Text.{lines_text}
 use Rattle.dc_json.proofs.lines.add_frames.Given as goal

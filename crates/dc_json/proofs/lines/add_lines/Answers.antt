@@ -1,6 +1,6 @@
 use Rattle.std.proofs.Common.{◌≡◌, List, ℕ, [], eqb-true, sym, arith}
-use Rattle.dc_teller.specs.Lines.{lines_of}
-use Rattle.dc_teller.proofs.Inputs.{no_line}
+use Rattle.dc_io.specs.Lines.{lines_of}
+use Rattle.dc_decode.proofs.Inputs.{no_line}
 use Rattle.dc_json.specs.Text.{json_text}
 use Rattle.dc_json.proofs.InputObjects.{one_line_more, no_line_more, one_line_fault_more}
 use Rattle.dc_json.proofs.lines.add_lines.Goals as goal

@@ -1,7 +1,7 @@
 use Rattle.std.proofs.Common.{◌≡◌, ◌≤◌, ◌+◌, ◌++◌, length}
 use Rattle.std.specs.Prelude.{◌||◌}
-use Rattle.dc_teller.specs.Lines.{lines_of, longest_input_line, most_spelled}
-use Rattle.dc_teller.specs.Text.{has_fault}
+use Rattle.dc_io.specs.Lines.{lines_of, longest_input_line, most_spelled}
+use Rattle.dc_decode.specs.Text.{has_fault}
 use Rattle.dc_json.specs.Text.{lines_text, objects_from, json_text}
 use Rattle.dc_json.proofs.lines.add_lines.Given as goal
 

@@ -1,5 +1,5 @@
-use Rattle.dc_changes.proofs.Writes.{written_both, stopped_first, stopped_second}
-use Rattle.dc_changes.proofs.Writes.{on_any_err}
+use Rattle.dc_io.proofs.Writes.{written_both, stopped_first, stopped_second}
+use Rattle.dc_io.proofs.Writes.{on_any_err}
 use Rattle.dc_changes.specs.Encoding.{part_bytes}
 use Rattle.dc_meters.proofs.parts.put_kept_part.Goals as goal
 

@@ -1,9 +1,9 @@
 use Rattle.std.proofs.Common.{◌≡◌, suc, get_or, ap, ◌∙◌, add-one, List, Option}
 use Rattle.std.proofs.Math.ListN.{set}
 use Rattle.dc_readout.specs.Summary.{Summary}
-use Rattle.dc_waiting.specs.Lines.{settled_on}
-use Rattle.dc_waiting.proofs.Changed.{changed_front, changed_read, changed_more}
-use Rattle.dc_waiting.proofs.lines.settle_each.Goals as goal
+use Rattle.dc_pending.specs.Lines.{settled_on}
+use Rattle.dc_pending.proofs.Changed.{changed_front, changed_read, changed_more}
+use Rattle.dc_pending.proofs.lines.settle_each.Goals as goal
 
 pub loop-session-preserved : goal.loop-session-preserved
 loop-session-preserved c =

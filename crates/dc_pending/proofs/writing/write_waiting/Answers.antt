@@ -4,7 +4,7 @@ use Rattle.dc_changes.specs.State.{State}
 use Rattle.dc_recovery.specs.Halves.{half_len_of}
 use Rattle.dc_recovery.specs.Stands.{StandsForEither}
 use Rattle.dc_recovery.specs.Store.{Fits, Keeps}
-use Rattle.dc_waiting.proofs.writing.write_waiting.Goals as goal
+use Rattle.dc_pending.proofs.writing.write_waiting.Goals as goal
 
 pub returns-then-fits-clause-goes_on : goal.returns-then-fits-clause-goes_on
 returns-then-fits-clause-goes_on g c = c.append.ensures.running

@@ -2,10 +2,10 @@ use Rattle.std.proofs.Common.{arith, rules, ◌++◌, ◌∷◌, [], ap, sym, �
 use Rattle.std.specs.Char.Iter.{escape_rest}
 use Rattle.std.specs.Char.Escape.{escape_default}
 use Rattle.std.specs.Str.{encode_utf8_all}
-use Rattle.dc_stream.specs.Stream.{PutsFront}
-use Rattle.dc_stream.proofs.Pieces.{append_known-more, puts_front-within}
-use Rattle.dc_ending.proofs.Escapes.{bytes_within, comes_first, one_more}
-use Rattle.dc_ending.proofs.escape.put_escape.Goals as goal
+use Rattle.dc_io.specs.Stream.{PutsFront}
+use Rattle.dc_io.proofs.Pieces.{append_known-more, puts_front-within}
+use Rattle.dc_poller.proofs.Escapes.{bytes_within, comes_first, one_more}
+use Rattle.dc_poller.proofs.escape.put_escape.Goals as goal
 
 pub loop-x-preserved : goal.loop-x-preserved
 loop-x-preserved g c =

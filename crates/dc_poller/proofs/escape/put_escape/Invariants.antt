@@ -3,7 +3,7 @@ use Rattle.std.specs.Char.Escape.{escape_default}
 use Rattle.std.specs.Char.Iter.{escape_rest}
 use Rattle.std.specs.Io.KnownBytes.{append_known}
 use Rattle.std.specs.Str.{encode_utf8_all}
-use Rattle.dc_ending.proofs.escape.put_escape.Given as goal
+use Rattle.dc_poller.proofs.escape.put_escape.Given as goal
 
 -- what was put, and what the escape has left, make the whole
 abbrev pub invariant-loop-x : goal.invariant-loop-x

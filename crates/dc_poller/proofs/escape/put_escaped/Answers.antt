@@ -5,11 +5,11 @@ use Rattle.std.proofs.lemmas.List.{map-id}
 use Rattle.std.specs.Io.KnownBytes.{append_known}
 use Rattle.std.specs.List.{flat_map}
 use Rattle.std.specs.Str.{chars, encode_utf8_all}
-use Rattle.dc_stream.specs.Stream.{PutsFront}
-use Rattle.dc_stream.proofs.Pieces.{puts_front-within}
-use Rattle.dc_ending.proofs.Escapes.{shown_within}
-use Rattle.dc_ending.specs.Escape.{escaped, shown}
-use Rattle.dc_ending.proofs.escape.put_escaped.Goals as goal
+use Rattle.dc_io.specs.Stream.{PutsFront}
+use Rattle.dc_io.proofs.Pieces.{puts_front-within}
+use Rattle.dc_poller.proofs.Escapes.{shown_within}
+use Rattle.dc_poller.specs.Escape.{escaped, shown}
+use Rattle.dc_poller.proofs.escape.put_escaped.Goals as goal
 
 pub returns : goal.returns
 unfolding escaped

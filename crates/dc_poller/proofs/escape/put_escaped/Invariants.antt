@@ -2,8 +2,8 @@ use Rattle.std.proofs.Common.{◌≡◌}
 use Rattle.std.specs.Io.KnownBytes.{append_known}
 use Rattle.std.specs.List.{flat_map}
 use Rattle.std.specs.Str.{encode_utf8_all}
-use Rattle.dc_ending.specs.Escape.{shown}
-use Rattle.dc_ending.proofs.escape.put_escaped.Given as goal
+use Rattle.dc_poller.specs.Escape.{shown}
+use Rattle.dc_poller.proofs.escape.put_escaped.Given as goal
 
 abbrev pub invariant-loop-c : goal.invariant-loop-c
 invariant-loop-c g l = record {

@@ -1,10 +1,11 @@
 use Rattle.std.proofs.Common.{arith, ◌≡◌, Bool, List, ℕ, [], false, eqb-true, sym, subst}
 use Rattle.std.specs.Prelude.{◌||◌}
-use Rattle.dc_teller.specs.Fold.{AreSteps}
-use Rattle.dc_teller.specs.Lines.{lines_of}
-use Rattle.dc_teller.proofs.Inputs.{no_line}
-use Rattle.dc_teller.proofs.Steps.{no_steps, step_and_steps, or_assoc, or_false}
-use Rattle.dc_teller.proofs.fold.fold_all.Goals as goal
+use Rattle.dc_poller.specs.Fold.{AreSteps}
+use Rattle.dc_io.specs.Lines.{lines_of}
+use Rattle.dc_decode.proofs.Inputs.{no_line}
+use Rattle.dc_io.proofs.Bools.{or_assoc, or_false}
+use Rattle.dc_poller.proofs.Steps.{no_steps, step_and_steps}
+use Rattle.dc_poller.proofs.fold.fold_all.Goals as goal
 
 pub lines-preserved : goal.lines-preserved
 lines-preserved g c = record {

@@ -2,9 +2,9 @@ use Rattle.std.proofs.Common.{◌≤◌, ◌*◌, length, Bool, List, ℕ}
 use Rattle.std.specs.Prelude.{◌||◌}
 use Rattle.dc_changes.specs.ChangeLine.{longest_change_line}
 use Rattle.dc_changes.specs.State.{Held}
-use Rattle.dc_teller.specs.Fold.{AreSteps}
-use Rattle.dc_teller.specs.Lines.{lines_of}
-use Rattle.dc_teller.proofs.fold.fold_all.Given as goal
+use Rattle.dc_poller.specs.Fold.{AreSteps}
+use Rattle.dc_io.specs.Lines.{lines_of}
+use Rattle.dc_poller.proofs.fold.fold_all.Given as goal
 
 -- whatever the rest does, the input does with what was done so far
 abbrev pub invariant-lines : goal.invariant-lines

@@ -1,9 +1,9 @@
 use Rattle.std.proofs.Common.{◌++◌, ℕ, codes, ap, subst, arith}
-use Rattle.dc_stream.specs.Stream.{PutsFront}
-use Rattle.dc_stream.proofs.Pieces.{puts_front-first, puts_front-second}
-use Rattle.dc_text.specs.Words.{number_word}
-use Rattle.dc_teller.specs.Fold.{order_line}
-use Rattle.dc_teller.proofs.fold.put_order.Goals as goal
+use Rattle.dc_io.specs.Stream.{PutsFront}
+use Rattle.dc_io.proofs.Pieces.{puts_front-first, puts_front-second}
+use Rattle.dc_io.specs.Words.{number_word}
+use Rattle.dc_poller.specs.Fold.{order_line}
+use Rattle.dc_poller.proofs.fold.put_order.Goals as goal
 
 pub returns-in_err-put : goal.returns-in_err-put
 returns-in_err-put g c =

@@ -1,7 +1,7 @@
 use Rattle.std.proofs.Common.{ℕ, List, ◌++◌, ap, ◌∙◌, subst}
 use Rattle.std.specs.Prelude.{flat_map}
 use Rattle.dc_search.specs.declared.step.Step.{Step}
-use Rattle.dc_stream.specs.Stream.{Wrote}
+use Rattle.dc_io.specs.Written.{Wrote}
 use Rattle.dc_poller.specs.Search.{budget_line, selections_line, shared_line}
 use Rattle.dc_poller.proofs.Founds.{wrote_both}
 use Rattle.dc_poller.proofs.found.put_rest.Goals as goal
@@ -13,5 +13,5 @@ returns g c =
     let behind = budget_line c.next.result ++ selections_line c.args.selections in
     let same = ap (λ (numbers : List ℕ). flat_map shared_line numbers ++ behind) c.shared.ensures
     ∙ ap (λ (step : Step). flat_map shared_line s.shared ++ (budget_line step ++ selections_line c.args.selections)) c.next.ensures in
-    subst (λ (text : List ℕ). Wrote g.W.Sink.written g.W.Sink.put_failures c.put_end.result c.args.out.now c.put_end.new.out text) same
-    (wrote_both g.W.Sink.written g.W.Sink.put_failures c.args.out.now c.put_shared.new.out c.put_end.new.out shared behind c.put_end.result c.in_ok-put_shared.ensures.0 c.in_ok-put_shared.ensures.1 c.put_end.ensures)
+    subst (λ (text : List ℕ). Wrote g.W.Sink c.put_end.result c.args.out.now c.put_end.new.out text) same
+    (wrote_both g.W.Sink c.args.out.now c.put_shared.new.out c.put_end.new.out shared behind c.put_end.result c.in_ok-put_shared.ensures.0 c.in_ok-put_shared.ensures.1 c.put_end.ensures)

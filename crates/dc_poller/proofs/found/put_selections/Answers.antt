@@ -1,7 +1,7 @@
 use Rattle.std.proofs.Common.{◌++◌, codes, refl, arith}
-use Rattle.dc_stream.specs.Stream.{PutsFront}
-use Rattle.dc_stream.proofs.Pieces.{puts_front-first, puts_front-within}
-use Rattle.dc_text.specs.Words.{number_word}
+use Rattle.dc_io.specs.Stream.{PutsFront}
+use Rattle.dc_io.proofs.Pieces.{puts_front-first, puts_front-within}
+use Rattle.dc_io.specs.Words.{number_word}
 use Rattle.dc_poller.specs.Search.{selections_line}
 use Rattle.dc_poller.proofs.found.put_selections.Goals as goal
 

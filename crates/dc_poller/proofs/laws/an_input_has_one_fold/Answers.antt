@@ -1,5 +1,5 @@
-use Rattle.dc_teller.proofs.Readings.{one_read, one_text}
-use Rattle.dc_teller.proofs.laws.an_input_has_one_fold.Goals as goal
+use Rattle.dc_poller.proofs.Readings.{one_read, one_text}
+use Rattle.dc_poller.proofs.laws.an_input_has_one_fold.Goals as goal
 
 pub returns-clause-line : goal.returns-clause-line
 returns-clause-line c = one_read c.a_line_has_one_change.ensures

@@ -1,8 +1,8 @@
 use Rattle.std.proofs.Common.{◌≡◌, [], refl, ap, ◌∙◌, Bool, true, false, Ok}
-use Rattle.dc_stream.proofs.Pieces.{puts-none}
+use Rattle.dc_io.proofs.Pieces.{puts-none}
 use Rattle.dc_core.specs.declared.line_heard.LineHeard.{LineHeard}
 use Rattle.dc_poller.specs.Link.{Link}
-use Rattle.dc_stream.specs.Stream.{Puts}
+use Rattle.dc_io.specs.Stream.{Puts}
 use Rattle.dc_poller.specs.Poll.{Due, behind_heard}
 use Rattle.dc_poller.specs.Way.{IsRound, goes_on}
 use Rattle.dc_poller.proofs.Ways.{way_none}

@@ -1,6 +1,6 @@
 use Rattle.std.proofs.Common.{ℕ, [], ◌∷◌, refl, sym, subst, Bool, Result, Ok, Err}
 use Rattle.std.specs.Prelude.{is_ok}
-use Rattle.dc_stream.specs.Stream.{Puts}
+use Rattle.dc_io.specs.Stream.{Puts}
 use Rattle.dc_core.specs.Event.{Answer, commits, committed}
 use Rattle.dc_core.specs.declared.fault.CommitFault.{CommitFault}
 use Rattle.dc_poller.specs.Link.{Link}

@@ -1,6 +1,6 @@
 use Rattle.std.proofs.Common.{ℕ, List, [], ◌≤◌, length, arith, ap, sym, subst, ◌∙◌, refl}
-use Rattle.dc_stream.specs.Stream.{Puts}
-use Rattle.dc_stream.proofs.Pieces.{puts-both}
+use Rattle.dc_io.specs.Stream.{Puts}
+use Rattle.dc_io.proofs.Pieces.{puts-both}
 use Rattle.dc_gateway.specs.Blocks.{most_answer}
 use Rattle.dc_poller.specs.Link.{link_by, IsHeardOver}
 use Rattle.dc_poller.specs.Poll.{to_hear, rounds_in}

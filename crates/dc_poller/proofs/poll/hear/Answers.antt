@@ -1,6 +1,6 @@
 use Rattle.std.proofs.Common.{refl, ap, subst, ◌∙◌, Result, Ok, Err}
-use Rattle.dc_stream.specs.Stream.{Puts}
-use Rattle.dc_stream.proofs.Pieces.{puts-both}
+use Rattle.dc_io.specs.Stream.{Puts}
+use Rattle.dc_io.proofs.Pieces.{puts-both}
 use Rattle.dc_core.specs.Event.{hears, heard}
 use Rattle.dc_core.specs.declared.fault.HearFault.{HearFault}
 use Rattle.dc_core.specs.declared.fault.HearFault.TheVariants.{PendingFull}

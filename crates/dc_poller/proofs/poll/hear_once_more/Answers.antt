@@ -1,5 +1,5 @@
 use Rattle.std.proofs.Common.{refl}
-use Rattle.dc_stream.proofs.Pieces.{puts-both}
+use Rattle.dc_io.proofs.Pieces.{puts-both}
 use Rattle.dc_core.specs.Event.{hears, heard}
 use Rattle.dc_poller.specs.Poll.{does, to_hear_again, told_text}
 use Rattle.dc_poller.proofs.LineRuns.{on_ok}

@@ -1,7 +1,7 @@
 use Rattle.std.proofs.Common.{List, ◌++◌, ap, sym, subst, ◌∙◌, refl}
 use Rattle.dc_gateway.specs.Bus.{AreExchanged, Exchange}
-use Rattle.dc_stream.specs.Stream.{Puts}
-use Rattle.dc_stream.proofs.Pieces.{puts-both}
+use Rattle.dc_io.specs.Stream.{Puts}
+use Rattle.dc_io.proofs.Pieces.{puts-both}
 use Rattle.dc_poller.specs.Link.{link_by}
 use Rattle.dc_poller.specs.Poll.{to_start, rounds_in, happened_exchanges}
 use Rattle.dc_poller.proofs.LineRuns.{on_ok}

@@ -1,10 +1,10 @@
 use Rattle.std.proofs.Common.{inl, inr, arith, ℕ, refl, ap, subst, ◌∙◌, Bool}
-use Rattle.dc_stream.proofs.Pieces.{puts-both, puts-none}
+use Rattle.dc_io.proofs.Pieces.{puts-both, puts-none}
 use Rattle.dc_poller.specs.Link.{link_by}
 use Rattle.dc_poller.specs.Poll.{Phase}
 use Rattle.dc_poller.specs.Way.{goes_on}
 use Rattle.dc_poller.proofs.Wents.{went_none}
-use Rattle.dc_base.specs.Failures.{HasRisen}
+use Rattle.dc_io.specs.Failures.{HasRisen}
 use Rattle.dc_poller.proofs.Traffics.{untouched_both}
 use Rattle.dc_poller.proofs.Ways.{way_none, way_as, way_then, rounds_append, exchanged_after, fails_after}
 use Rattle.dc_poller.proofs.poll.read_parts.Goals as goal

@@ -5,7 +5,7 @@ use Rattle.dc_core.specs.Core.{opened}
 use Rattle.dc_core.specs.Images.{IsAt}
 use Rattle.dc_core.specs.Transcript.{Turn, leads, IsChain}
 use Rattle.dc_gateway.specs.Bus.{AreExchanged}
-use Rattle.dc_stream.specs.Stream.{Puts}
+use Rattle.dc_io.specs.Stream.{Puts}
 use Rattle.dc_poller.specs.Link.{link_by}
 use Rattle.dc_poller.specs.Poll.{to_ask, happened_exchanges, rounds_in}
 use Rattle.dc_poller.specs.Way.{Way}

@@ -2,12 +2,12 @@ use Rattle.std.proofs.Common.{◌≡◌, ◌++◌, ℕ, List, codes, length, ref
 use Rattle.std.proofs.lemmas.Grind.{common_steps}
 use Rattle.dc_changes.specs.Size.{size_of}
 use Rattle.dc_changes.specs.State.{State}
-use Rattle.dc_stream.specs.Stream.{PutsFront}
-use Rattle.dc_stream.proofs.Pieces.{puts_front-first, puts_front-second}
-use Rattle.dc_text.specs.Words.{number_word}
+use Rattle.dc_io.specs.Stream.{PutsFront}
+use Rattle.dc_io.proofs.Pieces.{puts_front-first, puts_front-second}
+use Rattle.dc_io.specs.Words.{number_word}
 use Rattle.dc_upload.specs.Register.{meter_lines}
-use Rattle.dc_teller.specs.Register.{register_text}
-use Rattle.dc_teller.proofs.register.put_register.Goals as goal
+use Rattle.dc_poller.specs.Register.{register_text}
+use Rattle.dc_poller.proofs.register.put_register.Goals as goal
 
 -- the register's lines, with these numbers
 abbrev counted : State → ℕ → ℕ → List ℕ

@@ -1,5 +1,5 @@
 use Rattle.std.proofs.Common.{List, ℕ, subst, ◌∙◌}
-use Rattle.dc_stream.specs.Stream.{Puts}
+use Rattle.dc_io.specs.Stream.{Puts}
 use Rattle.dc_poller.proofs.report.report_on.Goals as goal
 
 pub returns-in-Ok-put-clause-told : goal.returns-in-Ok-put-clause-told

@@ -5,8 +5,8 @@ use Rattle.dc_core.specs.Core.{opened}
 use Rattle.dc_core.specs.Images.{Machine, IsAt}
 use Rattle.dc_recovery.specs.Halves.{half_len_of}
 use Rattle.dc_recovery.specs.Stands.{EachStands}
-use Rattle.dc_stream.specs.Stream.{Puts}
-use Rattle.dc_teller.specs.Lines.{lines_of}
+use Rattle.dc_io.specs.Stream.{Puts}
+use Rattle.dc_io.specs.Lines.{lines_of}
 use Rattle.dc_poller.specs.ImageRun.{ImageWent}
 use Rattle.dc_poller.specs.Link.{AreAbsent, links_of}
 use Rattle.dc_poller.specs.Script.{ScriptCut}

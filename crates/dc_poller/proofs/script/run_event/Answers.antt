@@ -1,5 +1,5 @@
 use Rattle.std.proofs.Common.{◌≡◌, ◌+◌, ◌∷◌, [], ℕ, List, take, map, append-nil, subst, arith}
-use Rattle.dc_stream.specs.Stream.{Puts}
+use Rattle.dc_io.specs.Stream.{Puts}
 use Rattle.dc_core.specs.Run.{event_of, Ran}
 use Rattle.dc_core.specs.Text.{answer_text}
 use Rattle.dc_poller.proofs.Wents.{event_went}

@@ -1,7 +1,7 @@
 use Rattle.std.proofs.Common.{◌++◌, ◌∙◌, ap, subst}
 use Rattle.dc_gateway.specs.Bus.{AreExchanged}
-use Rattle.dc_stream.specs.Stream.{Puts}
-use Rattle.dc_stream.proofs.Pieces.{puts-both}
+use Rattle.dc_io.specs.Stream.{Puts}
+use Rattle.dc_io.proofs.Pieces.{puts-both}
 use Rattle.dc_poller.specs.Link.{link_by, loss_text}
 use Rattle.dc_poller.specs.Search.{late_by, late_text, search_text}
 use Rattle.dc_poller.proofs.LineRuns.{on_ok}

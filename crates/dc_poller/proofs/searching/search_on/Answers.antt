@@ -1,5 +1,5 @@
 use Rattle.std.proofs.Common.{◌≡◌, List, ℕ, [], ◌∷◌, Some, None, Err, refl, ap, sym, subst, ◌∙◌}
-use Rattle.dc_stream.specs.Stream.{Puts}
+use Rattle.dc_io.specs.Stream.{Puts}
 use Rattle.dc_core.specs.Event.{Answer, commits, committed}
 use Rattle.dc_gateway.specs.Bus.{AreExchanged, Exchange}
 use Rattle.dc_poller.specs.Link.{link_by}

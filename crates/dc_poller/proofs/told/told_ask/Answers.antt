@@ -1,5 +1,5 @@
 use Rattle.std.proofs.Common.{refl, ap}
-use Rattle.dc_stream.proofs.Pieces.{puts-none}
+use Rattle.dc_io.proofs.Pieces.{puts-none}
 use Rattle.dc_core.specs.Event.{asks, asked}
 use Rattle.dc_poller.proofs.Tolds.{rested}
 use Rattle.dc_poller.proofs.told.told_ask.Goals as goal

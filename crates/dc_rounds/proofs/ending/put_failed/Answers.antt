@@ -1,4 +1,4 @@
-use Rattle.dc_stream.proofs.Pieces.{puts_front-first}
+use Rattle.dc_io.proofs.Pieces.{puts_front-first}
 use Rattle.dc_rounds.proofs.ending.put_failed.Goals as goal
 
 pub returns-in-Err : goal.returns-in-Err

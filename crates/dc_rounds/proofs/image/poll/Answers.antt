@@ -2,10 +2,10 @@ use Rattle.std.proofs.Common.{◌≡◌, ◌≤◌, ◌-◌, ◌^◌, ℕ, List,
 use Rattle.std.specs.Prelude.{min, Option}
 use Rattle.std.specs.List.{All}
 use Rattle.dc_address.specs.declared.identity.Identity.{Identity}
-use Rattle.dc_base.specs.Failures.{HasRisen}
+use Rattle.dc_io.specs.Failures.{HasRisen}
 use Rattle.dc_changes.specs.State.{State}
 use Rattle.dc_core.specs.Core.{present}
-use Rattle.dc_stream.specs.Stream.{Puts}
+use Rattle.dc_io.specs.Stream.{Puts}
 use Rattle.dc_rounds.specs.Planned.{ArePlanned, AreQueues, AreStations, has_bus, refused_count, refused_text}
 use Rattle.dc_rounds.specs.Polls.{PollsAll}
 use Rattle.dc_rounds.specs.Round.{IsFresh, most_lines}

@@ -1,6 +1,6 @@
 use Rattle.std.proofs.Common.{◌≡◌, ◌≤◌, ◌<◌, ◌+◌, ℕ, List, Ok, Err, inl, inr, length, get_or, refl, ◌∙◌, arith}
 use Rattle.std.specs.List.{All}
-use Rattle.dc_stream.specs.Stream.{Puts}
+use Rattle.dc_io.specs.Stream.{Puts}
 use Rattle.dc_rounds.specs.Round.{HasFew, IsFresh, IsOver, IsSilent}
 use Rattle.dc_rounds.specs.Station.{rounds_of}
 use Rattle.dc_rounds.specs.declared.station.Station.{Station}

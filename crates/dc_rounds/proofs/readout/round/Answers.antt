@@ -1,7 +1,7 @@
 use Rattle.std.proofs.Common.{◌≡◌, ◌++◌, ℕ, Bool, List, Result, refl, sym, subst, ◌∙◌}
 use Rattle.std.specs.List.{All}
 use Rattle.dc_core.specs.Core.{Core}
-use Rattle.dc_stream.specs.Stream.{Puts}
+use Rattle.dc_io.specs.Stream.{Puts}
 use Rattle.dc_rounds.specs.Happening.{Happening}
 use Rattle.dc_rounds.specs.Keeping.{IsAsking}
 use Rattle.dc_rounds.specs.Polls.{GoesRound}

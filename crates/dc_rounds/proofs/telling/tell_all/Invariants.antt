@@ -1,7 +1,7 @@
 use Rattle.std.proofs.Common.{◌≡◌, ◌≤◌, ◌+◌, ℕ, List, length}
 use Rattle.std.specs.List.{All}
 use Rattle.dc_core.specs.Core.{Core}
-use Rattle.dc_stream.specs.Stream.{Puts}
+use Rattle.dc_io.specs.Stream.{Puts}
 use Rattle.dc_rounds.specs.Happening.{Happening}
 use Rattle.dc_rounds.specs.Round.{AllTells, Runs}
 use Rattle.dc_rounds.specs.Station.{IsSound, rounds_of}

@@ -1,6 +1,6 @@
 use Rattle.std.proofs.Common.{◌≡◌, ◌+◌, ◌∷◌, ℕ, List, drop, ap, arith}
 use Rattle.std.proofs.lemmas.Grind.{common_steps}
-use Rattle.dc_stream.specs.Stream.{PutsFront}
+use Rattle.dc_io.specs.Stream.{PutsFront}
 use Rattle.dc_changes.specs.State.{PartRow}
 use Rattle.dc_upload.specs.Window.{part_line, part_lines}
 use Rattle.dc_upload.proofs.Prefixes.{front_of_all}

@@ -2,8 +2,8 @@ use Rattle.std.proofs.Common.{◌≡◌, List, take, subst, arith}
 use Rattle.std.proofs.lemmas.Grind.{common_steps}
 use Rattle.std.specs.Prelude.{flat_map}
 use Rattle.std.specs.VecDeque.Iter.{deque_iter_rest}
-use Rattle.dc_stream.specs.Stream.{PutsFront}
-use Rattle.dc_stream.proofs.Pieces.{puts_front-first}
+use Rattle.dc_io.specs.Stream.{PutsFront}
+use Rattle.dc_io.proofs.Pieces.{puts_front-first}
 use Rattle.dc_changes.specs.State.{ReadingRow}
 use Rattle.dc_upload.specs.Reply.{window_text}
 use Rattle.dc_upload.specs.Window.{reading_lines, window}

@@ -1,10 +1,10 @@
 use Rattle.std.proofs.Common.{take, sym, ◌∙◌, ap, subst}
 use Rattle.std.specs.List.{AllByRecursion}
 use Rattle.std.proofs.lemmas.List.{take_all}
-use Rattle.dc_lives.specs.World.{World, IsWhole, world_after}
-use Rattle.dc_lives.specs.InStep.{IsRegularWorld}
-use Rattle.dc_lives.proofs.Worlds.{every_world_is_regular, step_on, held_is_whole}
-use Rattle.dc_lives.proofs.lives.play.Goals as goal
+use Rattle.dc_world.specs.World.{World, IsWhole, world_after}
+use Rattle.dc_world.specs.InStep.{IsRegularWorld}
+use Rattle.dc_world.proofs.Worlds.{every_world_is_regular, step_on, held_is_whole}
+use Rattle.dc_world.proofs.lives.play.Goals as goal
 
 pub step-requires-clause-in_step : goal.step-requires-clause-in_step
 step-requires-clause-in_step g c = subst (IsRegularWorld c.args.scripts.now) (sym c.loop-i.invariant) (every_world_is_regular c.args.scripts.now c.requires (take c.loop-i.i c.args.events.now))

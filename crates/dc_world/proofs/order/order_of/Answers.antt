@@ -4,7 +4,7 @@ use Rattle.dc_linkframe.specs.Control.{selection_by}
 use Rattle.dc_linkframe.specs.Fault.{fault_of}
 use Rattle.dc_linkframe.specs.Frame.{seen}
 use Rattle.dc_linkframe.proofs.Spellings.{fault_of-spelling, same_frame}
-use Rattle.dc_gateway.proofs.order.order_of.Goals as goal
+use Rattle.dc_world.proofs.order.order_of.Goals as goal
 
 pub returns-in-Ok-clause-select : goal.returns-in-Ok-clause-select
 returns-in-Ok-clause-select c = λ mask is sent.

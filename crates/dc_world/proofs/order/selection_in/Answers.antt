@@ -1,9 +1,9 @@
 use Rattle.std.proofs.Common.{length, ap, ◌∙◌}
 use Rattle.dc_address.specs.Mask.{are_sent, mask_at}
 use Rattle.dc_address.proofs.Masks.{mask_at-mask_wire}
-use Rattle.dc_gateway.specs.declared.order.Order.TheVariants.{Select}
-use Rattle.dc_gateway.proofs.Orders.{eight_sent, sent}
-use Rattle.dc_gateway.proofs.order.selection_in.Goals as goal
+use Rattle.dc_world.specs.declared.order.Order.TheVariants.{Select}
+use Rattle.dc_world.proofs.Orders.{eight_sent, sent}
+use Rattle.dc_world.proofs.order.selection_in.Goals as goal
 
 pub returns-then-body-ne-WIRE_LEN : goal.returns-then-body-ne-WIRE_LEN
 returns-then-body-ne-WIRE_LEN c = λ mask is body. absurd (c.if-body-ne-WIRE_LEN.true (ap length body ∙ eight_sent mask is))

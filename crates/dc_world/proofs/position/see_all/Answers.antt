@@ -1,10 +1,10 @@
 use Rattle.std.proofs.Common.{◌≡◌, ◌<◌, ◌+◌, length, get_or, slice_set, arith, refl, sym, ◌∙◌, ap, subst}
 use Rattle.dc_linkframe.specs.Frame.{FrameSeen}
-use Rattle.dc_lives.specs.Meter.{Position, moved_by}
-use Rattle.dc_lives.specs.Request.{frame_asked, MayGoOn}
-use Rattle.dc_lives.proofs.Lists.{there}
-use Rattle.dc_lives.proofs.Turns.{next_stands, turn, all_turns}
-use Rattle.dc_lives.proofs.position.see_all.Goals as goal
+use Rattle.dc_world.specs.Meter.{Position, moved_by}
+use Rattle.dc_world.specs.Request.{frame_asked, MayGoOn}
+use Rattle.dc_world.proofs.Lists.{there}
+use Rattle.dc_world.proofs.Turns.{next_stands, turn, all_turns}
+use Rattle.dc_world.proofs.position.see_all.Goals as goal
 
 pub see-requires : goal.see-requires
 see-requires g c =

@@ -1,12 +1,12 @@
 use Rattle.std.proofs.Common.{◌≡◌, true, false, cond, Some, None, sym, ◌∙◌, ap}
 use Rattle.dc_linkframe.specs.Frame.{ack}
 use Rattle.dc_address.specs.Mask.{mask_of, matches}
-use Rattle.dc_lives.specs.Meter.{Meter, Position, answer_to, body_at, hears_at, is_own, response}
-use Rattle.dc_lives.specs.Reply.{bytes_of}
-use Rattle.dc_lives.specs.Request.{frame_asked}
-use Rattle.dc_lives.proofs.Moves.{answer_to-data}
-use Rattle.dc_lives.proofs.Replies.{answer_to-reset, answer_to-selection}
-use Rattle.dc_lives.proofs.reply.reply_to.Goals as goal
+use Rattle.dc_world.specs.Meter.{Meter, Position, answer_to, body_at, hears_at, is_own, response}
+use Rattle.dc_world.specs.Reply.{bytes_of}
+use Rattle.dc_world.specs.Request.{frame_asked}
+use Rattle.dc_world.proofs.Moves.{answer_to-data}
+use Rattle.dc_world.proofs.Replies.{answer_to-reset, answer_to-selection}
+use Rattle.dc_world.proofs.reply.reply_to.Goals as goal
 
 pub returns-in-Reset : goal.returns-in-Reset
 returns-in-Reset g c =

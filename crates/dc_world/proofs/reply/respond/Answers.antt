@@ -2,11 +2,11 @@ use Rattle.std.proofs.Common.{◌-◌, ◌<◌, length, arith, sym, ◌∙◌, a
 use Rattle.std.specs.Prelude.{slice_get, unwrap_or}
 use Rattle.dc_linkframe.specs.Control.{variable_data}
 use Rattle.dc_linkframe.specs.Frame.{long, spelling}
-use Rattle.dc_lives.specs.Meter.{Meter, response, rsp_ud}
-use Rattle.dc_lives.specs.Reply.{bytes_of}
-use Rattle.dc_lives.proofs.Asked.{body_there}
-use Rattle.dc_lives.proofs.Lists.{there}
-use Rattle.dc_lives.proofs.reply.respond.Goals as goal
+use Rattle.dc_world.specs.Meter.{Meter, response, rsp_ud}
+use Rattle.dc_world.specs.Reply.{bytes_of}
+use Rattle.dc_world.proofs.Asked.{body_there}
+use Rattle.dc_world.proofs.Lists.{there}
+use Rattle.dc_world.proofs.reply.respond.Goals as goal
 
 pub returns : goal.returns
 returns g c = λ fits.

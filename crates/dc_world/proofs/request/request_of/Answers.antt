@@ -4,9 +4,9 @@ use Rattle.dc_linkframe.specs.Control.{request_to}
 use Rattle.dc_linkframe.specs.Frame.{ack, short, seen}
 use Rattle.dc_linkframe.specs.Reading.{frame_of}
 use Rattle.dc_readout.specs.Summary.{asked_by}
-use Rattle.dc_lives.specs.Request.{frame_asked}
-use Rattle.dc_lives.proofs.Asked.{sent_frame, data_asked, never_ack}
-use Rattle.dc_lives.proofs.request.request_of.Goals as goal
+use Rattle.dc_world.specs.Request.{frame_asked}
+use Rattle.dc_world.proofs.Asked.{sent_frame, data_asked, never_ack}
+use Rattle.dc_world.proofs.request.request_of.Goals as goal
 
 pub returns-in_err-control-clause-exact : goal.returns-in_err-control-clause-exact
 returns-in_err-control-clause-exact c =

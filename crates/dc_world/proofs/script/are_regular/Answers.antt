@@ -1,11 +1,11 @@
 use Rattle.std.proofs.Common.{◌≡◌, ℕ, Some, arith, refl, ◌∙◌, subst}
 use Rattle.std.specs.Prelude.{IsTrue, slice_get}
 use borrow.Author.Count.{below_more}
-use Rattle.dc_lives.specs.Meter.{Meter}
-use Rattle.dc_lives.specs.Regular.{IsFitting, StandsApart}
-use Rattle.dc_lives.proofs.Lists.{there, get_there}
-use Rattle.dc_lives.proofs.Regulars.{all_regular, regular_fits, regular_apart}
-use Rattle.dc_lives.proofs.script.are_regular.Goals as goal
+use Rattle.dc_world.specs.Meter.{Meter}
+use Rattle.dc_world.specs.Regular.{IsFitting, StandsApart}
+use Rattle.dc_world.proofs.Lists.{there, get_there}
+use Rattle.dc_world.proofs.Regulars.{all_regular, regular_fits, regular_apart}
+use Rattle.dc_world.proofs.script.are_regular.Goals as goal
 
 pub returns-then-not-is_fitting : goal.returns-then-not-is_fitting
 returns-then-not-is_fitting g c =

@@ -3,8 +3,8 @@ use Rattle.std.specs.Prelude.{slice_get}
 use Rattle.std.proofs.lemmas.Option.{slice_get_within}
 use borrow.Author.Count.{below_more}
 use Rattle.dc_linkframe.specs.Frame.{longest_body}
-use Rattle.dc_lives.proofs.Lists.{there, get_there}
-use Rattle.dc_lives.proofs.script.are_short.Goals as goal
+use Rattle.dc_world.proofs.Lists.{there, get_there}
+use Rattle.dc_world.proofs.script.are_short.Goals as goal
 
 pub returns-then-at-gt-MAX_BODY : goal.returns-then-at-gt-MAX_BODY
 returns-then-at-gt-MAX_BODY g c =

@@ -3,11 +3,11 @@ use Rattle.std.specs.Prelude.{slice_get}
 use Rattle.std.proofs.lemmas.Bool.{false≢true}
 use Rattle.std.proofs.lemmas.Option.{slice_get_within}
 use borrow.Author.Count.{below_more}
-use Rattle.dc_lives.specs.Meter.{Meter}
-use Rattle.dc_lives.specs.Regular.{clashes}
-use Rattle.dc_lives.proofs.Lists.{get_there}
-use Rattle.dc_lives.proofs.script.stands_apart.Goals as goal
-use Rattle.dc_lives.proofs.script.stands_apart.Goals.{else-other-meter-via-then-other-meter+else-clashes, else-other-meter-via-else-other-meter}
+use Rattle.dc_world.specs.Meter.{Meter}
+use Rattle.dc_world.specs.Regular.{clashes}
+use Rattle.dc_world.proofs.Lists.{get_there}
+use Rattle.dc_world.proofs.script.stands_apart.Goals as goal
+use Rattle.dc_world.proofs.script.stands_apart.Goals.{else-other-meter-via-then-other-meter+else-clashes, else-other-meter-via-else-other-meter}
 
 pub loop-other-preserved : goal.loop-other-preserved
 loop-other-preserved g c =

@@ -1,7 +1,7 @@
 use Rattle.std.proofs.Common.{List, ℕ, subst}
 use Rattle.dc_gateway.specs.Talk.{IsContent}
-use Rattle.dc_simulated.proofs.Blocks.{served}
-use Rattle.dc_simulated.proofs.serving.serve.Goals as goal
+use Rattle.dc_world.proofs.Blocks.{served}
+use Rattle.dc_world.proofs.serving.serve.Goals as goal
 
 pub returns : goal.returns
 returns g c =

@@ -1,13 +1,13 @@
 use Rattle.std.proofs.Common.{◌<◌, List, length, get_or, arith, sym, ◌∙◌, ap}
 use Rattle.dc_linkframe.specs.Frame.{FrameSeen}
-use Rattle.dc_lives.specs.Meter.{Position, answer_to}
-use Rattle.dc_lives.specs.Reply.{bytes_of}
-use Rattle.dc_lives.specs.Request.{frame_asked}
-use Rattle.dc_lives.specs.World.{all_moved, heard_in}
-use Rattle.dc_lives.proofs.Asked.{asks_near, asks_fit, asks_heard}
-use Rattle.dc_lives.proofs.Lists.{there}
-use Rattle.dc_lives.proofs.Moves.{length-moved}
-use Rattle.dc_lives.proofs.world.carry.Goals as goal
+use Rattle.dc_world.specs.Meter.{Position, answer_to}
+use Rattle.dc_world.specs.Reply.{bytes_of}
+use Rattle.dc_world.specs.Request.{frame_asked}
+use Rattle.dc_world.specs.World.{all_moved, heard_in}
+use Rattle.dc_world.proofs.Asked.{asks_near, asks_fit, asks_heard}
+use Rattle.dc_world.proofs.Lists.{there}
+use Rattle.dc_world.proofs.Moves.{length-moved}
+use Rattle.dc_world.proofs.world.carry.Goals as goal
 
 pub see_all-requires-clause-near : goal.see_all-requires-clause-near
 see_all-requires-clause-near g c = asks_near c.args.scripts.now c.args.positions.now c.args.meter c.args.request c.requires.asks

@@ -1,5 +1,5 @@
 use Rattle.std.proofs.Common.{◌≡◌, ◌⊎◌, ⊎_elim, ap, sym, subst, ◌∙◌, refl, List, ℕ}
-use Rattle.dc_stream.specs.Stream.{Wrote}
+use Rattle.dc_io.specs.Written.{Wrote}
 use Rattle.dc_upload.specs.Verdict.{verdict_of}
 use Rattle.dc_upload.specs.Reply.{refusal_line, reply_text, TakesMemory}
 use Rattle.dc_upload.specs.declared.code.Code.TheVariants.{Memory}
@@ -11,7 +11,7 @@ pub returns-in-Repeat : goal.returns-in-Repeat
 returns-in-Repeat g c =
     let machine = c.args.self.now in
     let line = c.args.line.now in
-    let wrote : List ℕ → Type 0 = Wrote g.W.Sink.written g.W.Sink.put_failures c.write_answer.result c.args.out.now c.write_answer.new.out in
+    let wrote : List ℕ → Type 0 = Wrote g.W.Sink c.write_answer.result c.args.out.now c.write_answer.new.out in
     let is : verdict_of machine.house line ≡ c.judge.result = ap (λ (b : Machine (g.row.D.Denot)). verdict_of b.house line) (sym c.self.view_is) ∙ sym c.judge.ensures.verdict in
     let told : wrote (reply_text machine.house line) ⊎ (TakesMemory line × wrote (refusal_line Memory)) =
     subst (λ (b : Machine (g.row.D.Denot)). wrote (reply_text b.house line) ⊎ (TakesMemory line × wrote (refusal_line Memory))) c.self.view_is c.write_answer.ensures.told in

@@ -6,7 +6,7 @@ use Rattle.dc_recovery.specs.Halves.{half_len_of}
 use Rattle.dc_recovery.specs.Stands.{StandsForFront}
 use Rattle.dc_recovery.specs.Store.{Fits, Kept}
 use Rattle.dc_recovery.proofs.Fronts.{either_is_front}
-use Rattle.dc_waiting.specs.Writing.{IsWornFor}
+use Rattle.dc_pending.specs.Writing.{IsWornFor}
 use Rattle.dc_core.specs.Core.{Core}
 use Rattle.dc_core.specs.Images.{Machine, IsAt}
 use Rattle.dc_core.proofs.At.{at_committed, at_device}

@@ -10,12 +10,12 @@ use Rattle.dc_core.proofs.Refused.{answer_is, by_refusal}
 use Rattle.dc_records.specs.Telegram.{parsed}
 use Rattle.dc_readout.specs.Summary.{Summary, again, ready, new, failed, heard_by, asked_by}
 use Rattle.dc_core.specs.declared.line_heard.LineHeard.TheVariants.{Again, Ready, Accepted, Failed}
-use Rattle.dc_waiting.specs.Lines.{is_line, on_line, put_on}
+use Rattle.dc_pending.specs.Lines.{is_line, on_line, put_on}
 use Rattle.dc_core.specs.Step.{hear_answer, unless_refused, MayHear}
 use Rattle.dc_core.specs.Fault.{hear_fault}
-use Rattle.dc_waiting.specs.declared.fault.TakeFault.{TakeFault}
-use Rattle.dc_waiting.specs.Taking.{change_of, IsTaken, refuses}
-use Rattle.dc_waiting.specs.Waiting.{Waiting}
+use Rattle.dc_pending.specs.declared.fault.TakeFault.{TakeFault}
+use Rattle.dc_pending.specs.Taking.{change_of, IsTaken, refuses}
+use Rattle.dc_pending.specs.Waiting.{Waiting}
 use Rattle.dc_changes.specs.State.{Held, State}
 use Rattle.dc_core.specs.Images.{Machine}
 use Rattle.dc_core.proofs.At.{at_heard, at_taken}

@@ -1,5 +1,5 @@
 use Rattle.std.proofs.Common.{◌≡◌, ⊎_elim, ap, sym, subst, ◌∙◌, List, ℕ}
-use Rattle.dc_stream.specs.Stream.{Wrote}
+use Rattle.dc_io.specs.Written.{Wrote}
 use Rattle.dc_changes.specs.State.{Held}
 use Rattle.dc_changes.specs.Apply.{applied}
 use Rattle.dc_upload.specs.declared.verdict.Verdict.{Verdict}
@@ -14,7 +14,7 @@ use Rattle.dc_core.proofs.concentrator.Concentrator.obey.Goals as goal
 
 pub returns-in-Err-clause-answered : goal.returns-in-Err-clause-answered
 returns-in-Err-clause-answered g c origin core at running =
-    let wrote : List ℕ → Type 0 = Wrote g.W.Sink.written g.W.Sink.put_failures c.write_refusal.result c.args.out.now c.write_refusal.new.out in
+    let wrote : List ℕ → Type 0 = Wrote g.W.Sink c.write_refusal.result c.args.out.now c.write_refusal.new.out in
     answered_memory (g.D.Disk.keeps origin) g.D.Disk.sectors g.D.Disk.failures g.D.Disk.reads g.D.Disk.choices g.D.Disk.moment g.D.Disk.images_since
     c.args.self.now c.order.new.self core c.args.line.now c.args.change.now wrote at c.requires.empty
     (λ h image left. g.met.D.Disk.only_now c.args.self.now.store.disk image left) c.requires.verdict c.in-Err.ensures.err c.write_refusal.ensures
@@ -29,7 +29,7 @@ write_answer-requires-clause-answered g c =
 
 pub returns-clause-answered : goal.returns-clause-answered
 returns-clause-answered g c origin core at running =
-    let wrote : List ℕ → Type 0 = Wrote g.W.Sink.written g.W.Sink.put_failures c.write_answer.result c.args.out.now c.write_answer.new.out in
+    let wrote : List ℕ → Type 0 = Wrote g.W.Sink c.write_answer.result c.args.out.now c.write_answer.new.out in
     let change = c.args.change.now in
     let at_mid = c.in-Ok.ensures.at origin core at in
     let done = c.in-Ok-settle.ensures.ok origin (ordered change core) at_mid in
@@ -42,7 +42,7 @@ returns-clause-answered g c origin core at running =
 
 pub returns-in-Err-settle-clause-answered : goal.returns-in-Err-settle-clause-answered
 returns-in-Err-settle-clause-answered g c origin core at running =
-    let wrote : List ℕ → Type 0 = Wrote g.W.Sink.written g.W.Sink.put_failures c.write_refusal-in-Err-settle.result c.args.out.now c.write_refusal-in-Err-settle.new.out in
+    let wrote : List ℕ → Type 0 = Wrote g.W.Sink c.write_refusal-in-Err-settle.result c.args.out.now c.write_refusal-in-Err-settle.new.out in
     let change = c.args.change.now in
     let at_mid = c.in-Ok.ensures.at origin core at in
     let failed = c.in-Err-settle.ensures.err origin (ordered change core) at_mid in

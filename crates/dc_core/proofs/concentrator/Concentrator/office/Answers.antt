@@ -1,6 +1,6 @@
 use Rattle.std.proofs.Common.{Ok, Result}
-use Rattle.dc_stream.specs.Stream.{Wrote}
-use Rattle.dc_stream.specs.declared.stream.IoFault.{IoFault}
+use Rattle.dc_io.specs.Written.{Wrote}
+use Rattle.dc_io.specs.declared.stream.IoFault.{IoFault}
 use Rattle.dc_core.specs.declared.fault.WriteFault.{WriteFault}
 use Rattle.dc_core.specs.Event.{offices}
 use Rattle.dc_core.proofs.Answering.{turned_by}
@@ -11,5 +11,5 @@ returns-in-Ok-clause-turned g c origin core at =
     let told : Result (Unit {0}) IoFault = Ok tt in
     let answered : Result (Unit {0}) WriteFault = Ok tt in
     turned_by (g.D.Disk.keeps origin) g.D.Disk.sectors g.D.Disk.failures g.D.Disk.reads g.D.Disk.choices g.D.Disk.moment g.D.Disk.images_since
-    c.args.self.now c.reply.new.self core (offices c.args.line.now) (Wrote g.W.Sink.written g.W.Sink.put_failures told c.args.out.now c.reply.new.out) (Wrote g.W.Sink.written g.W.Sink.put_failures answered c.args.out.now c.reply.new.out)
+    c.args.self.now c.reply.new.self core (offices c.args.line.now) (Wrote g.W.Sink told c.args.out.now c.reply.new.out) (Wrote g.W.Sink answered c.args.out.now c.reply.new.out)
     (λ text wrote. wrote) (c.in-Ok.ensures.turned origin core at)

@@ -1,7 +1,7 @@
 use Rattle.std.proofs.Common.{rules, ap, sym, subst}
 use Rattle.dc_recovery.specs.Halves.{half_len_of}
 use Rattle.dc_recovery.specs.Stands.{EachStands}
-use Rattle.dc_waiting.specs.Waiting.{Waiting}
+use Rattle.dc_pending.specs.Waiting.{Waiting}
 use Rattle.dc_core.specs.Images.{Machine}
 use Rattle.dc_core.proofs.At.{at_opened}
 use Rattle.dc_core.proofs.Headline.{stopped_reads}

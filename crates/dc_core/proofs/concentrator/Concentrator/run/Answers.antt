@@ -1,10 +1,11 @@
 use Rattle.std.proofs.Common.{refl, arith, length, Result, Ok, ◌<◌, ◌≡◌, ℕ, List, [], ◌∷◌, ◌++◌, map, take, get_or, ap, sym, ◌+◌, subst, ◌∙◌}
 use Rattle.std.proofs.lemmas.List.{map-append, take_more}
 use Rattle.std.proofs.Math.Seq.{take-length}
-use Rattle.dc_base.specs.Failures.{HasRisen}
-use Rattle.dc_stream.specs.declared.stream.IoFault.{IoFault}
-use Rattle.dc_stream.specs.Stream.{Puts, Wrote}
-use Rattle.dc_stream.proofs.Pieces.{puts-both, puts-none}
+use Rattle.dc_io.specs.Failures.{HasRisen}
+use Rattle.dc_io.specs.declared.stream.IoFault.{IoFault}
+use Rattle.dc_io.specs.Stream.{Puts}
+use Rattle.dc_io.specs.Written.{Wrote}
+use Rattle.dc_io.proofs.Pieces.{puts-both, puts-none}
 use Rattle.dc_core.specs.declared.event.Event as declared
 use Rattle.dc_core.specs.Core.{opened}
 use Rattle.dc_core.specs.Event.{Event}
@@ -37,7 +38,7 @@ loop-event-preserved g c = record {
       let new = c.turn.new.self in
       let ran = c.loop-event.invariant.ran origin state before chain at in
       let core = leads (opened state) (before ++ ran.turns) in
-      let piece : List ℕ → Type 0 = Wrote g.W.Sink.written g.W.Sink.put_failures done c.loop-event.out c.turn.new.out in
+      let piece : List ℕ → Type 0 = Wrote g.W.Sink done c.loop-event.out c.turn.new.out in
       let turned = subst (λ (b : ℕ). Turned (g.D.Disk.keeps origin) g.D.Disk.sectors g.D.Disk.failures g.D.Disk.reads g.D.Disk.choices g.D.Disk.moment g.D.Disk.images_since b core (event_of event) piece c.loop-event.self new) c.loop-event.invariant.budget (c.in-Ok.ensures.turned origin core ran.at) in
       let more = ran_more (g.D.Disk.keeps origin) g.D.Disk.sectors g.D.Disk.failures g.D.Disk.reads g.D.Disk.choices g.D.Disk.moment g.D.Disk.images_since c.args.self.now.house.budget state before (map event_of (take i events)) (event_of event)
       (Puts (g.W.Sink.written c.args.out.now) (g.W.Sink.written c.loop-event.out)) piece (Puts (g.W.Sink.written c.args.out.now) (g.W.Sink.written c.turn.new.out)) c.args.self.now c.loop-event.self new ran turned c.in-Ok.ensures.count
@@ -59,17 +60,16 @@ returns-in-Err-clause-ended g c origin state before chain at =
     let ran = c.loop-event.invariant.ran origin state before chain at in
     let core = leads (opened state) (before ++ ran.turns) in
     let written = g.W.Sink.written in
-    let failures = g.W.Sink.put_failures in
     let old_out = c.args.out.now in
     let mid_out = c.loop-event.out in
     let new_out = c.turn.new.out in
-    let piece : List ℕ → Type 0 = Wrote written failures c.turn.result mid_out new_out in
+    let piece : List ℕ → Type 0 = Wrote g.W.Sink c.turn.result mid_out new_out in
     let turned = subst (λ (b : ℕ). Turned (g.D.Disk.keeps origin) g.D.Disk.sectors g.D.Disk.failures g.D.Disk.reads g.D.Disk.choices g.D.Disk.moment g.D.Disk.images_since b core (event_of event) piece c.loop-event.self new) c.loop-event.invariant.budget (c.turn.ensures.turned origin core ran.at) in
     let RanOf : List Event → Type 0 = λ es. Ran (g.D.Disk.keeps origin) g.D.Disk.sectors g.D.Disk.failures g.D.Disk.reads g.D.Disk.choices g.D.Disk.moment g.D.Disk.images_since c.args.self.now.house.budget state before es (λ text. Unit {0}) c.args.self.now new in
     let more = ran_more (g.D.Disk.keeps origin) g.D.Disk.sectors g.D.Disk.failures g.D.Disk.reads g.D.Disk.choices g.D.Disk.moment g.D.Disk.images_since c.args.self.now.house.budget state before (map event_of (take i events)) (event_of event)
     (Puts (written old_out) (written mid_out)) piece (λ text. Unit {0}) c.args.self.now c.loop-event.self new ran turned c.turn.ensures.count
     (λ text piece_text front piece. tt) in
-    let Whole : List Event → Type 0 = λ es. (all : RanOf es) × FailedInLast written failures all.turns old_out new_out in
+    let Whole : List Event → Type 0 = λ es. (all : RanOf es) × FailedInLast g.W.Sink all.turns old_out new_out in
     let both : Whole (map event_of (take i events) ++ event_of event ∷ []) = (
       more,
       record {
@@ -79,7 +79,7 @@ returns-in-Err-clause-ended g c origin state before chain at =
         mid = mid_out;
         put = ran.text;
         none_failed = c.loop-event.invariant.well;
-        failed = subst (λ (r : Result (Unit {0}) IoFault). Wrote written failures r mid_out new_out (answer_text turned.answer)) c.in-Err.is turned.text;
+        failed = subst (λ (r : Result (Unit {0}) IoFault). Wrote g.W.Sink r mid_out new_out (answer_text turned.answer)) c.in-Err.is turned.text;
       },
     ) in
     let all = subst Whole (sym (next_events events i event c.loop-event-test.true c.event-item.is)) both in

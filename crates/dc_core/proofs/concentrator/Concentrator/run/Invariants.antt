@@ -1,5 +1,5 @@
 use Rattle.std.proofs.Common.{◌≡◌, List, map, take}
-use Rattle.dc_stream.specs.Stream.{Puts}
+use Rattle.dc_io.specs.Stream.{Puts}
 use Rattle.dc_changes.specs.State.{State}
 use Rattle.dc_core.specs.Core.{opened}
 use Rattle.dc_core.specs.Transcript.{Turn, leads, IsChain}

@@ -1,7 +1,7 @@
 use Rattle.std.proofs.Common.{◌≡◌, ap, sym, subst, ◌∙◌, Option, Some}
 use Rattle.dc_changes.specs.State.{MeterRow, Held, row_of}
 use Rattle.dc_readout.specs.Summary.{Summary, begun}
-use Rattle.dc_waiting.specs.Lines.{put_on}
+use Rattle.dc_pending.specs.Lines.{put_on}
 use Rattle.dc_core.specs.Core.{present, with_session}
 use Rattle.dc_core.specs.Step.{address_in}
 use Rattle.dc_core.specs.Images.{Machine, IsAt}

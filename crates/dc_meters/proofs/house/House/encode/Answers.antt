@@ -4,8 +4,8 @@ use Rattle.dc_changes.specs.State.{State, Held, MeterRow, ReadingRow}
 use Rattle.dc_meters.proofs.Fields.{state_in}
 use Rattle.dc_meters.proofs.Sizes.{meters-le, readings-le}
 use Rattle.dc_changes.specs.Size.{size_of}
-use Rattle.dc_changes.proofs.Writes.{written_both, stopped_first, stopped_second}
-use Rattle.dc_changes.proofs.Writes.{on_any_err}
+use Rattle.dc_io.proofs.Writes.{written_both, stopped_first, stopped_second}
+use Rattle.dc_io.proofs.Writes.{on_any_err}
 use Rattle.dc_meters.proofs.house.House.encode.Goals as goal
 
 pub returns-in_err-put_head-clause-err : goal.returns-in_err-put_head-clause-err

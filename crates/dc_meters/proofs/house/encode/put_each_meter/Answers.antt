@@ -3,9 +3,9 @@ use Rattle.std.specs.List.{flat_map}
 use Rattle.dc_address.specs.declared.identity.Identity.{Identity}
 use Rattle.dc_changes.specs.State.{MeterRow}
 use Rattle.dc_changes.specs.Encoding.{meter_bytes}
-use Rattle.dc_changes.specs.Writing.{IsStopped}
-use Rattle.dc_changes.proofs.Writes.{written_none, written_both, stopped_first, stopped_second}
-use Rattle.dc_changes.proofs.Writes.{on_any_err}
+use Rattle.dc_io.specs.Written.{IsStopped}
+use Rattle.dc_io.proofs.Writes.{written_none, written_both, stopped_first, stopped_second}
+use Rattle.dc_io.proofs.Writes.{on_any_err}
 use Rattle.dc_meters.proofs.house.encode.put_each_meter.Goals as goal
 
 pub loop-meter-init : goal.loop-meter-init
@@ -29,4 +29,4 @@ returns-in_err-put_meter-clause-err g c =
     let left : c.loop-meter.meter-iterator ≡ e ∷ c.next.new.self = search rules in
     let all : (before.0 ++ meter_bytes e) ++ flat_map meter_bytes c.next.new.self ≡ flat_map meter_bytes c.args.meters.now.entries =
     append_assoc before.0 (meter_bytes e) (flat_map meter_bytes c.next.new.self) ∙ ap (λ (es : List (Identity × MeterRow)). before.0 ++ flat_map meter_bytes es) (sym left) ∙ before.2 in
-    on_any_err _ (subst (IsStopped g.S.Sink.written g.S.Sink.put_failures g.S.Sink.puts g.S.Sink.breaks c.args.sink.now c.put_meter.new.sink) all (stopped_first (flat_map meter_bytes c.next.new.self) (stopped_second before.1 c.in_err-put_meter.ensures.err)))
+    on_any_err _ (subst (IsStopped g.S.Sink c.args.sink.now c.put_meter.new.sink) all (stopped_first (flat_map meter_bytes c.next.new.self) (stopped_second before.1 c.in_err-put_meter.ensures.err)))

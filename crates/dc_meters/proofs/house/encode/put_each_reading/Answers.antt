@@ -3,9 +3,9 @@ use Rattle.std.specs.List.{flat_map}
 use Rattle.std.specs.VecDeque.Iter.{deque_iter_rest}
 use Rattle.dc_changes.specs.State.{ReadingRow}
 use Rattle.dc_changes.specs.Encoding.{reading_bytes}
-use Rattle.dc_changes.specs.Writing.{IsStopped}
-use Rattle.dc_changes.proofs.Writes.{written_none, written_both, stopped_first, stopped_second}
-use Rattle.dc_changes.proofs.Writes.{on_any_err}
+use Rattle.dc_io.specs.Written.{IsStopped}
+use Rattle.dc_io.proofs.Writes.{written_none, written_both, stopped_first, stopped_second}
+use Rattle.dc_io.proofs.Writes.{on_any_err}
 use Rattle.dc_meters.proofs.house.encode.put_each_reading.Goals as goal
 
 pub loop-reading-init : goal.loop-reading-init
@@ -29,4 +29,4 @@ returns-in_err-put_reading-clause-err g c =
     let left : deque_iter_rest c.loop-reading.reading-iterator ≡ r ∷ deque_iter_rest c.next.new.self = search rules in
     let all : (before.0 ++ reading_bytes r) ++ flat_map reading_bytes (deque_iter_rest c.next.new.self) ≡ flat_map reading_bytes c.args.readings.now.items =
     append_assoc before.0 (reading_bytes r) (flat_map reading_bytes (deque_iter_rest c.next.new.self)) ∙ ap (λ (rs : List ReadingRow). before.0 ++ flat_map reading_bytes rs) (sym left) ∙ before.2 in
-    on_any_err _ (subst (IsStopped g.S.Sink.written g.S.Sink.put_failures g.S.Sink.puts g.S.Sink.breaks c.args.sink.now c.put_reading.new.sink) all (stopped_first (flat_map reading_bytes (deque_iter_rest c.next.new.self)) (stopped_second before.1 c.in_err-put_reading.ensures.err)))
+    on_any_err _ (subst (IsStopped g.S.Sink c.args.sink.now c.put_reading.new.sink) all (stopped_first (flat_map reading_bytes (deque_iter_rest c.next.new.self)) (stopped_second before.1 c.in_err-put_reading.ensures.err)))

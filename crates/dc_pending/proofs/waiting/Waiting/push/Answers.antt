@@ -1,10 +1,10 @@
 use Rattle.std.proofs.Common.{◌≡◌, ◌≤◌, ◌+◌, ◌*◌, ◌++◌, length, ap, arith, length-append}
 use Rattle.dc_changes.specs.Encoding.{change_bytes, longest_change}
 use Rattle.dc_changes.proofs.ChangeSpellings.{change_len, change_some}
-use Rattle.dc_waiting.specs.Waiting.{Waiting, most_waiting}
-use Rattle.dc_waiting.proofs.Broken.{no_break}
-use Rattle.dc_waiting.proofs.waiting.Waiting.push.Goals.{After-encode_change}
-use Rattle.dc_waiting.proofs.waiting.Waiting.push.Goals as goal
+use Rattle.dc_pending.specs.Waiting.{Waiting, most_waiting}
+use Rattle.dc_pending.proofs.Broken.{no_break}
+use Rattle.dc_pending.proofs.waiting.Waiting.push.Goals.{After-encode_change}
+use Rattle.dc_pending.proofs.waiting.Waiting.push.Goals as goal
 
 -- THE CHANGE HAS ROOM after those that wait.
 record HasRoom (c : After-encode_change) : Type 0 where

@@ -4,8 +4,9 @@ use Rattle.dc_address.specs.declared.identity.Identity.{Identity}
 use Rattle.dc_search.specs.Answer.{answer_of}
 use Rattle.dc_search.proofs.Sweeps.{noise}
 use Rattle.dc_gateway.specs.Blocks.{most_answer}
-use Rattle.dc_gateway.specs.Bus.{Respond, chosen}
-use Rattle.dc_gateway.proofs.listed.ListedBus.respond.Goals as goal
+use Rattle.dc_gateway.specs.Bus.{Respond}
+use Rattle.dc_world.specs.Listed.{chosen}
+use Rattle.dc_world.proofs.listed.ListedBus.respond.Goals as goal
 
 collides : (meters : List Identity) (answer : List ℕ) → 1 < length meters → answer_of answer ≡ None → Respond meters answer
 collides [] answer more is = absurd (omega (arith, more))

@@ -1,11 +1,11 @@
 use Rattle.std.proofs.Common.{◌≡◌, true, false, cond, Some, sym, ◌∙◌, ap}
 use Rattle.dc_address.specs.Mask.{mask_of, matches}
-use Rattle.dc_lives.specs.Meter.{Meter, Position, at_reset, at_selection, gone_on, hears_at, moved_by}
-use Rattle.dc_lives.specs.Request.{frame_asked}
-use Rattle.dc_lives.proofs.Exchanges.{moved_by-selection}
-use Rattle.dc_lives.proofs.Moves.{moved_by-data}
-use Rattle.dc_lives.proofs.Turns.{moved_by-reset}
-use Rattle.dc_lives.proofs.position.Position.see.Goals as goal
+use Rattle.dc_world.specs.Meter.{Meter, Position, at_reset, at_selection, gone_on, hears_at, moved_by}
+use Rattle.dc_world.specs.Request.{frame_asked}
+use Rattle.dc_world.proofs.Exchanges.{moved_by-selection}
+use Rattle.dc_world.proofs.Moves.{moved_by-data}
+use Rattle.dc_world.proofs.Turns.{moved_by-reset}
+use Rattle.dc_world.proofs.position.Position.see.Goals as goal
 
 pub returns-in-Reset : goal.returns-in-Reset
 returns-in-Reset g c =

@@ -1,7 +1,7 @@
 use Rattle.std.proofs.Common.{subst, sym}
-use Rattle.dc_lives.specs.Meter.{Meter}
-use Rattle.dc_lives.specs.Regular.{Fits, IsOwnOnly}
-use Rattle.dc_lives.proofs.script.MeterScript.is_fitting.Goals as goal
+use Rattle.dc_world.specs.Meter.{Meter}
+use Rattle.dc_world.specs.Regular.{Fits, IsOwnOnly}
+use Rattle.dc_world.proofs.script.MeterScript.is_fitting.Goals as goal
 
 pub returns-then-is_own_only : goal.returns-then-is_own_only
 returns-then-is_own_only g c = (

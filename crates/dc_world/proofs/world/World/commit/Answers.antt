@@ -3,14 +3,14 @@ use Rattle.std.specs.Prelude.{slice_get, slice_set, unwrap_or}
 use Rattle.std.proofs.lemmas.Bool.{false≢true}
 use Rattle.dc_readout.specs.declared.stage.Stage.TheVariants.{Pending}
 use Rattle.dc_readout.specs.Summary.{IsPending}
-use Rattle.dc_lives.specs.World.{World, Running, committed, joined, more_after}
-use Rattle.dc_lives.specs.InStep.{IsNextBody, IsRegularWorld}
-use Rattle.dc_lives.proofs.Asked.{open_within, pending_when, waits_at}
-use Rattle.dc_lives.proofs.Committing.{last_held, more_open, more_follow, none_follow, parts_joined, world_of}
-use Rattle.dc_lives.proofs.Lists.{there, set_again}
-use Rattle.dc_lives.proofs.world.World.commit.Given.{Over}
-use Rattle.dc_lives.proofs.world.World.commit.Goals as goal
-use Rattle.dc_lives.proofs.world.World.commit.Goals.{In-Some-waiting, After-is_over, in-Some+in-Some-self-4, in-Some+in-None-2, in-None-2}
+use Rattle.dc_world.specs.World.{World, Running, committed, joined, more_after}
+use Rattle.dc_world.specs.InStep.{IsNextBody, IsRegularWorld}
+use Rattle.dc_world.proofs.Asked.{open_within, pending_when, waits_at}
+use Rattle.dc_world.proofs.Committing.{last_held, more_open, more_follow, none_follow, parts_joined, world_of}
+use Rattle.dc_world.proofs.Lists.{there, set_again}
+use Rattle.dc_world.proofs.world.World.commit.Given.{Over}
+use Rattle.dc_world.proofs.world.World.commit.Goals as goal
+use Rattle.dc_world.proofs.world.World.commit.Goals.{In-Some-waiting, After-is_over, in-Some+in-Some-self-4, in-Some+in-None-2, in-None-2}
 
 -- the session that runs, and the world before the commit
 abbrev session_of : (g : Over) → In-Some-waiting g → Running

@@ -1,9 +1,9 @@
 use Rattle.std.proofs.Common.{◌<◌, length, refl, sym, ◌∙◌, ap, subst}
 use Rattle.dc_readout.specs.Answer.{max_parts}
 use Rattle.dc_readout.specs.Summary.{asked_by}
-use Rattle.dc_lives.specs.World.{World, Running}
-use Rattle.dc_lives.proofs.Asked.{place_within}
-use Rattle.dc_lives.proofs.world.World.exchange.Goals as goal
+use Rattle.dc_world.specs.World.{World, Running}
+use Rattle.dc_world.proofs.Asked.{place_within}
+use Rattle.dc_world.proofs.world.World.exchange.Goals as goal
 
 pub carry-reply-requires-clause-one_each : goal.carry-reply-requires-clause-one_each
 carry-reply-requires-clause-one_each g c =

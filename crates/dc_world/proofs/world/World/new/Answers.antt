@@ -1,8 +1,8 @@
 use Rattle.std.proofs.Common.{[], List, ℕ, map, refl, ◌∙◌, ap}
 use Rattle.std.proofs.lemmas.List.{take_all}
-use Rattle.dc_lives.specs.Meter.{first_position}
-use Rattle.dc_lives.proofs.Lists.{one_more}
-use Rattle.dc_lives.proofs.world.World.new.Goals as goal
+use Rattle.dc_world.specs.Meter.{first_position}
+use Rattle.dc_world.proofs.Lists.{one_more}
+use Rattle.dc_world.proofs.world.World.new.Goals as goal
 
 pub loop-i-preserved : goal.loop-i-preserved
 loop-i-preserved g c =

@@ -1,2 +1,0 @@
--- what is escaped so far, and one character more
-mod Escapes

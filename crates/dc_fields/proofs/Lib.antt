@@ -1,2 +1,0 @@
--- numbers in a sector read back
-pub mod Numbers
