@@ -6,7 +6,7 @@ pub mod Keeping
 pub mod Taking
 -- an answer block by block
 pub mod Reading
--- where no answer stands
+-- where no answer begins
 pub mod Missing
 -- the masks of a walk are masks
 pub mod Digits

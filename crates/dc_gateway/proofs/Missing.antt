@@ -1,4 +1,4 @@
--- Where no answer stands: blocks have one spelling, so what was taken says that none does.
+-- Where no answer begins: blocks have one spelling, so the bytes taken show that none does.
 use Rattle.std.proofs.Common.{◌≡◌, ◌⊎◌, inl, inr, ℕ, ◌+◌, ◌-◌, ◌<◌, ◌≤◌, List, [], ◌∷◌, ◌++◌, Option, Some, None, length, drop, arith, ap, sym, ◌∙◌, append_assoc, append-nil, length-append, subst}
 use Rattle.std.specs.List.{All}
 use Rattle.std.proofs.Math.Seq.{drop-append_seam}
@@ -10,7 +10,7 @@ use Rattle.dc_gateway.specs.Blocks.{Answers, IsBlock, block, blocks_bytes, most_
 use Rattle.dc_gateway.specs.Talk.{HasNoAnswer, IsFront, TakesFront}
 use Rattle.dc_gateway.proofs.Reading.{Reading}
 
--- no answer of at most this many blocks stands in front
+-- these bytes begin with no answer of at most this many blocks
 abbrev NoneWithin : ℕ → List ℕ → Type 0
 NoneWithin limit bytes = (blocks : List (List ℕ)) (rest : List ℕ) → All IsBlock blocks → length blocks ≤ limit → bytes ≡ blocks_bytes blocks ++ (0 ∷ rest) → ⊥
 

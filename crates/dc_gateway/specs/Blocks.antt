@@ -26,7 +26,7 @@ blocks_bytes blocks = flat_map block blocks
 abbrev pub IsBlock : List ℕ → Type 0
 IsBlock bytes = (0 < length bytes) × (length bytes ≤ most_block)
 
--- these blocks may stand before the one of length 0
+-- these blocks may precede the block of length 0
 pub record AreBlocks (blocks : List (List ℕ)) : Type 0 where
   pub each : All IsBlock blocks
   pub few : length blocks ≤ most_blocks

@@ -36,22 +36,23 @@ pub record IsHeard (meters before after : List Identity) (request answer : List 
 
 -- ---- a search
 
--- these answers are heard, one after the other
+-- the search after these answers, in order
 abbrev pub heard_all : List (List ℕ) → SearchState → SearchState
 heard_all [] search = search
 heard_all (answer ∷ more) search = heard_all more (after answer search)
 
--- A search with this budget that heard some answers, whoever gave them.
+-- A search with this budget after some answers, whoever gave them.
 pub record HasHeard (budget : ℕ) (search : SearchState) : Type 0 where
   pub answers : List (List ℕ)
   pub state : search ≡ heard_all answers (new_search budget)
 
--- A request, and what is heard of it.
+-- A request and its answer.
 pub record Exchange : Type 0 where
   pub request : List ℕ
   pub answer : List ℕ
 
--- These exchanges happened one after the other between a bus and what they left of it, and nothing else was asked.
+-- These exchanges happened one after the other between the two states of a bus, and nothing else
+-- was requested.
 abbrev pub AreExchanged : {B : Type 0} → (B → List ℕ → List ℕ → B → Type 0) → B → List Exchange → B
     → Type 0
 AreExchanged asks old [] new = new ≡ old
@@ -59,8 +60,8 @@ AreExchanged {B} asks old (exchange ∷ more) new =
     (between : B) × asks old exchange.request exchange.answer between
     × AreExchanged asks between more new
 
--- Each request is that of the search's next step, each answer is heard by the search, and this is the search after
--- them.
+-- Each request is that of the search's next step, the search takes each answer, and this is the
+-- search after them.
 abbrev pub AreAskedBy : SearchState → List Exchange → SearchState → Type 0
 AreAskedBy search [] last = last ≡ search
 AreAskedBy search (exchange ∷ more) last =

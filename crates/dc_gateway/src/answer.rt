@@ -25,7 +25,7 @@ pub(crate) fn take_answer<R: Source>(reader: &mut R) -> Result<AnswerBuf, IoFaul
         }
         take_content(reader, count, &mut answer)?;
     }
-    // After this many blocks only the one of length 0 is an answer.
+    // After this many blocks only the block of length 0 is accepted.
     let count = take_length(reader)?;
     if count == 0 { Ok(answer) } else { Err(IoFault) }
 }

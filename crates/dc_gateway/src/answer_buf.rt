@@ -1,14 +1,14 @@
-//! The bytes of one answer, without memory.
+//! The bytes of one answer, without heap memory.
 
 ghost use Rattle.std.specs.Prelude.{◌≡◌, ◌≤◌, ◌++◌, [], length, take};
 ghost use Rattle.dc_gateway.specs.Blocks.{most_answer};
 
 use std::marker::Model;
 
-/// The most bytes of an answer that are kept: more than the longest frame has.
+/// Maximum number of bytes kept of an answer: more than the longest frame has.
 pub const MOST_ANSWER: usize = 300;
 
-/// The bytes of one answer, at most 300; none is silence.
+/// The bytes of one answer, at most 300; no byte is silence.
 #[derive(Drop)]
 pub struct AnswerBuf {
     bytes: [u8; MOST_ANSWER],
@@ -27,7 +27,7 @@ impl Model for AnswerBuf {
 }
 
 impl AnswerBuf {
-    /// No byte.
+    /// Returns an empty answer.
     pub fn new() -> AnswerBuf
         ensures { result ≡ [] }
     {
@@ -37,7 +37,7 @@ impl AnswerBuf {
         }
     }
 
-    /// Its bytes.
+    /// The answer's bytes.
     pub fn as_slice(&self) -> &[u8]
         ensures bytes { result.now ≡ self.now }
         ensures fits { length self.now ≤ most_answer }
@@ -45,7 +45,7 @@ impl AnswerBuf {
         &self.bytes[..self.len]
     }
 
-    /// Adds bytes at the end. Those past the room are dropped.
+    /// Appends bytes. Those that don't fit are dropped.
     pub fn append(&mut self, more: &[u8])
         ensures { self.new ≡ take most_answer (self.old ++ more.now) }
     {

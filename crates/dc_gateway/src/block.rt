@@ -1,4 +1,4 @@
-//! Blocks, one at a time.
+//! Single blocks.
 
 ghost use Rattle.std.specs.Prelude.{◌≡◌, ◌≤◌, ◌∷◌, [], ◌++◌, length, take, IfOk, OnOk, OnErr};
 ghost use Rattle.dc_io.specs.Stream.{Puts, PutsFront, Takes};
@@ -10,13 +10,13 @@ ghost use Rattle.dc_gateway.specs.Talk.{HasStopped, IsContent, IsCut};
 use crate::answer_buf::AnswerBuf;
 use dc_io::{IoFault, Sink, Source};
 
-/// The most bytes that a block has, since its length is a byte.
+/// Maximum number of bytes of a block, since its length is a byte.
 pub const MOST_BLOCK: usize = 255;
 
-/// The most blocks of an answer before the one of length 0.
+/// Maximum number of blocks of an answer before the block of length 0.
 pub const MOST_BLOCKS: usize = 600;
 
-/// Puts these bytes as one block, by one put.
+/// Writes these bytes as one block, in one put.
 pub fn put_block<W: Sink>(writer: &mut W, bytes: &[u8]) -> Result<(), IoFault>
     requires { length bytes.now ≤ most_block }
     ensures bytes { OnOk result (PutsInto W.Sink writer.old writer.new
@@ -35,7 +35,7 @@ pub fn put_block<W: Sink>(writer: &mut W, bytes: &[u8]) -> Result<(), IoFault>
     writer.put(spelled.as_slice())
 }
 
-/// Takes the length of the next block; the end of the reader is a fault.
+/// Takes the length byte of the next block; the end of the input is a fault.
 pub fn take_length<R: Source>(reader: &mut R) -> Result<u8, IoFault>
     ensures bytes { IfOk result (λ count.
         Takes (R.left reader.old) (R.left reader.new) (count ∷ [])) }
@@ -51,7 +51,7 @@ pub fn take_length<R: Source>(reader: &mut R) -> Result<u8, IoFault>
     Ok(length[0])
 }
 
-/// Takes this many bytes into the answer; the end of the reader is a fault.
+/// Takes this many bytes into the answer; the end of the input is a fault.
 pub fn take_content<R: Source>(
     reader: &mut R,
     count: u8,

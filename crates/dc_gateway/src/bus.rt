@@ -1,4 +1,4 @@
-//! A bus of meters, whatever it is reached over, and a search on it.
+//! A bus of meters over any transport, and a search on it.
 
 ghost use Rattle.std.specs.Prelude.{◌≡◌, ◌≤◌, ℕ, Bool, true, List, [], Option, IfSome, IfOk, OnErr};
 ghost use Rattle.std.specs.Prelude.{IsTrue, length};
@@ -14,31 +14,31 @@ use dc_linkframe::FrameBuf;
 use dc_search::Search;
 use std::alloc::Allocator;
 
-/// Meters that are asked by frames.
+/// Meters that take request frames and answer them.
 pub trait Bus {
-    // The meters on it, or `None` where the bus doesn't tell them.
+    // The meters on the bus, or `None` where they aren't known.
     ghost meters: { Self → Option (List Meter) };
 
-    // Those that are selected.
+    // The selected meters.
     ghost selected: { Self → List Meter };
-    // Whether all is silence from now on.
+    // Whether the bus is lost, and silent from now on.
     ghost lost: { Self → Bool };
 
-    // What a request and the answer that is heard of it do to the bus.
+    // What a request and its answer do to the bus.
     ghost asks: { Self → List ℕ → List ℕ → Self → Type 0 };
 
-    /// Whether the bus is lost, and all is silence from now on.
+    /// Whether the bus is lost, and silent from now on.
     fn is_lost(&self) -> bool
         ensures { result ≡ lost self.now };
 
-    /// Sends a request, and gives what is heard of it; no byte is silence.
+    /// Sends a request and returns the answer; no byte is silence.
     fn ask(&mut self, request: &FrameBuf) -> AnswerBuf
         requires { length request.now ≤ most_block }
         ensures meters { meters self.new ≡ meters self.old }
         ensures heard { IfSome (meters self.old)
             (λ told. IsHeard told (selected self.old) (selected self.new) request.now result) }
         ensures asked { asks self.old request.now result self.new }
-        // A lost bus is silent and untouched.
+        // A lost bus is silent, and isn't touched.
         ensures silence { lost self.old ≡ true → result ≡ [] }
         ensures untouched { lost self.old ≡ true → self.new ≡ self.old };
 }
@@ -47,7 +47,7 @@ impl<R: Source + Drop, W: Sink + Drop> Bus for Gateway<R, W> {
     ghost use Rattle.std.specs.Prelude.{None, []};
     ghost use Rattle.dc_gateway.specs.Asking.{Asks};
 
-    // Whom a gateway leads to isn't told.
+    // The meters at the other end of a gateway aren't known.
     ghost meters = { λ _. None };
 
     ghost selected = { λ _. [] };
@@ -65,24 +65,24 @@ impl<R: Source + Drop, W: Sink + Drop> Bus for Gateway<R, W> {
     }
 }
 
-/// Searches a bus with at most `budget` selections: each step's request is sent, and what is heard of it goes into the
-/// search. It ends whatever the bus answers.
+/// Searches a bus with at most `budget` selections: sends each step's request, and passes the
+/// answer to the search. It ends whatever the bus answers.
 ///
 /// # Errors
-/// Where memory is refused.
+/// Out of memory.
 pub fn search_over<A: Allocator + Copy, B: Bus>(
     alloc: A,
     budget: u32,
     bus: &mut B,
 ) -> Result<Search<A>, NoMemory>
-    // Nothing is left to be done, or the budget is spent.
+    // The search is done, or the budget is spent.
     ensures ended { IfOk result (λ search. IsTrue (is_idle (step_of search))) }
     ensures within { IfOk result (λ search. search.selections ≤ budget) }
 
-    // It is what the answers that were heard lead to.
+    // It is what the answers lead to.
     ensures heard { IfOk result (λ search. HasHeard budget search) }
-    // Its steps' requests and their answers are all that happened to the bus, also where memory was refused to the last
-    // answer.
+    // The requests of its steps and their answers are all that happened to the bus, even if memory
+    // ran out at the last answer.
     ensures asked { IfOk result (λ search. HasAsked B.asks budget bus.old bus.new search) }
     ensures stopped { OnErr result ((search : SearchState)
         × HasAsked B.asks budget bus.old bus.new search) }
@@ -90,7 +90,7 @@ pub fn search_over<A: Allocator + Copy, B: Bus>(
     ensures walk { IfOk result (λ search.
         IfSome (B.meters bus.old) (λ told. IsSearched told budget search)) }
     ensures meters { B.meters bus.new ≡ B.meters bus.old }
-    // Over a lost bus nobody is found, and it is left as it was.
+    // Over a lost bus it finds no meter, and the bus isn't touched.
     ensures nobody { B.lost bus.old ≡ true → IfOk result (λ search. IsSearched [] budget search) }
     ensures untouched { B.lost bus.old ≡ true → bus.new ≡ bus.old }
 {

@@ -1,4 +1,4 @@
-//! Both ends of the gateway, as long as it isn't lost.
+//! A gateway: its reader, its writer, and whether it is lost.
 
 ghost use Rattle.std.specs.Prelude.{◌≡◌, ◌⊎◌, ◌≤◌, [], length, true, false};
 ghost use Rattle.dc_io.specs.Failures.{HasRisen};
@@ -12,19 +12,19 @@ use crate::talk::{Talk, exchange};
 use dc_io::{Sink, Source};
 use dc_linkframe::FrameBuf;
 
-/// Both ends of a gateway, and whether it is lost.
+/// A gateway's reader and writer, and whether it is lost.
 #[derive(Drop)]
 pub struct Gateway<R: Source + Drop, W: Sink + Drop> {
-    /// What answers come from.
+    /// The reader of answers.
     pub reader: R,
-    /// What requests go to.
+    /// The writer of requests.
     pub writer: W,
-    /// Whether an exchange was lost; the gateway is silent from then on.
+    /// Whether an exchange failed; the gateway is silent from then on.
     pub lost: bool,
 }
 
 impl<R: Source + Drop, W: Sink + Drop> Gateway<R, W> {
-    /// A gateway that isn't lost.
+    /// Returns a gateway that isn't lost.
     pub fn new(reader: R, writer: W) -> Self
         ensures { result ≡ record { reader = reader; writer = writer; lost = false } }
     {
@@ -35,21 +35,21 @@ impl<R: Source + Drop, W: Sink + Drop> Gateway<R, W> {
         }
     }
 
-    /// Whether an exchange was lost.
+    /// Whether an exchange failed.
     pub fn is_lost(&self) -> bool
         ensures { result ≡ self.now.lost }
     {
         self.lost
     }
 
-    /// Sends a request, and gives the answer to it. Once the gateway is lost, that is silence, and neither end is
-    /// touched.
+    /// Sends a request and returns the answer. A lost gateway is silent, and neither its reader nor
+    /// its writer is touched.
     pub fn ask(&mut self, request: &FrameBuf) -> AnswerBuf
         requires { length request.now ≤ most_block }
         ensures untouched { self.old.lost ≡ true → self.new ≡ self.old }
         ensures silence { self.new.lost ≡ true → result ≡ [] }
 
-        // While it isn't lost, this is an exchange that gave an answer.
+        // While it isn't lost, this is an exchange that returned an answer.
         ensures answer { self.new.lost ≡ false
             → TakesAnswer (R.left self.old.reader) (R.left self.new.reader) result }
         ensures request { self.new.lost ≡ false
@@ -61,7 +61,7 @@ impl<R: Source + Drop, W: Sink + Drop> Gateway<R, W> {
         ensures writer_well { self.new.lost ≡ false
             → W.put_failures self.new.writer ≡ W.put_failures self.old.writer }
 
-        // It is lost by an exchange that is lost.
+        // An exchange that fails makes it lost.
         ensures lost { self.old.lost ≡ false → self.new.lost ≡ true
             → HasRisen (W.put_failures self.old.writer) (W.put_failures self.new.writer)
             ⊎ (HasRisen (R.take_failures self.old.reader) (R.take_failures self.new.reader)

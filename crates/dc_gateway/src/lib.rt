@@ -1,14 +1,14 @@
-//! The talk with the gateway to a line of the wired M-Bus (this product): a stream of blocks, each its length and so
-//! many bytes.
+//! The protocol of a gateway to a wired M-Bus line (this product): a stream of blocks, each a
+//! length byte and that many bytes.
 //!
-//! [`exchange`] sends a request as one block and takes the answer, which is blocks up to one of length 0. It reads no
-//! byte after that one, and returns for every reader and writer. [`Gateway`] is both ends: once an exchange is lost
-//! it is silent, and touches neither of them.
+//! [`exchange`] sends a request as one block and takes the answer, which is blocks up to one of
+//! length 0. It reads no byte after that one, and returns for every reader and writer. [`Gateway`]
+//! is a reader and a writer: once an exchange fails it is silent, and touches neither of them.
 //!
-//! A [`Bus`] is whatever meters are asked over, and [`search_over`] searches one, a lost one in silence; a [`Gateway`]
-//! is a bus whose meters no clause names.
+//! A [`Bus`] is any way to reach meters, and [`search_over`] searches one; a lost one is silent. A
+//! [`Gateway`] is a bus whose meters no clause names.
 //!
-//! Nothing here waits but for its ends, and an exchange takes no memory.
+//! Nothing here waits except in the reader and the writer, and an exchange uses no memory.
 #![tactic(auto)]
 
 mod answer;

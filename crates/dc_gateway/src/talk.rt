@@ -13,21 +13,22 @@ use crate::block::put_block;
 use dc_io::{Sink, Source};
 use dc_linkframe::FrameBuf;
 
-/// What an exchange with the gateway gave.
+/// The result of an exchange with the gateway.
 #[derive(Drop)]
 pub enum Talk {
-    /// What was heard on the line; no byte is silence.
+    /// The answer on the line; no byte is silence.
     Answer(AnswerBuf),
-    /// An end is at its end or failed, or the gateway sent more blocks than an answer has: nothing more comes from it.
+    /// The reader or the writer ended or failed, or the gateway sent more blocks than an answer may
+    /// have. No answer follows.
     Lost,
 }
 
-/// Sends a request, and takes the answer to it. It returns whatever the ends do.
+/// Sends a request and takes the answer. It returns whatever the reader and the writer do.
 ///
-/// The answer is the first 300 bytes of its blocks, and nothing after the block of length 0 is read.
+/// The answer is the first 300 bytes of its blocks. Nothing after the block of length 0 is read.
 pub fn exchange<R: Source, W: Sink>(reader: &mut R, writer: &mut W, request: &FrameBuf) -> Talk
     requires { length request.now ≤ most_block }
-    // An answer stood there, and the one block of the request went out.
+    // An answer was read, and the request went out as one block.
     ensures answer { IfAnswer result (λ answer.
         TakesAnswer (R.left reader.old) (R.left reader.new) answer) }
     ensures request { IfAnswer result (λ _.
@@ -38,11 +39,11 @@ pub fn exchange<R: Source, W: Sink>(reader: &mut R, writer: &mut W, request: &Fr
     ensures writer_well { IfAnswer result (λ _.
         W.put_failures writer.new ≡ W.put_failures writer.old) }
 
-    // It is lost where no answer is there, or an end failed.
+    // It is lost if no answer was there, or the reader or the writer failed.
     ensures lost { OnLost result (HasRisen (W.put_failures writer.old) (W.put_failures writer.new)
         ⊎ (HasRisen (R.take_failures reader.old) (R.take_failures reader.new)
         ⊎ HasNoAnswer (R.left reader.old))) }
-    // The request went out all the same, or the reader is untouched.
+    // The request was still written, or the reader wasn't touched.
     ensures sent { OnLost result (PutsInto W.Sink writer.old writer.new
         (block request.now)
         ⊎ ((reader.new ≡ reader.old) × PutsFront (W.written writer.old) (W.written writer.new)

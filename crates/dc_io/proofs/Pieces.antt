@@ -29,7 +29,7 @@ pub puts-none : (old : Option (List ℕ)) → Puts old old []
 puts-none None = refl
 puts-none (Some held) = ap Some (sym (append-nil held))
 
--- the same pieces, taken apart: two of them, and a byte in front of more
+-- the same pieces, split further: two of them, and a first byte with the rest
 pub append_known-apart : (known : Option (List ℕ)) (front back : List ℕ) → append_known known (front ++ back) ≡ append_known (append_known known front) back
 append_known-apart known front back = sym (append_known-more known front back)
 
@@ -76,7 +76,7 @@ begins_with-same known = begins_with-rest known known [] (sym (append_known-nil 
 pub begins_with-told : (all more : List ℕ) → begins_with (Some (all ++ more)) (Some all) ≡ true
 begins_with-told all more = begins_with-rest (Some (all ++ more)) (Some all) more refl
 
--- what a sink proves its own failed put by, where nothing went in
+-- a sink proves its own failed put by these, where nothing went in
 pub ruleset told = (begins_with-told, begins_with-same)
 
 -- what a chain of puts is proved by, up to its end or to the put that failed

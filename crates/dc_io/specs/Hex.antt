@@ -17,7 +17,7 @@ pair_value (Some high) (Some low) = Some (high * 16 + low)
 pair_value (Some high) None = None
 pair_value None low = None
 
--- a byte in front of bytes, if there are both
+-- a byte prepended to bytes, where both exist
 abbrev pub onto_bytes : Option ℕ → Option (List ℕ) → Option (List ℕ)
 onto_bytes (Some byte) rest = prepend_known (byte ∷ []) rest
 onto_bytes None rest = None

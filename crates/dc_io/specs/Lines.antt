@@ -14,12 +14,13 @@ longest_input_line = 4096
 abbrev pub most_spelled : ℕ
 most_spelled = 2048
 
--- a byte in front of the first line
+-- a byte prepended to the first line
 abbrev pub onto_first : ℕ → List (List ℕ) → List (List ℕ)
 onto_first b [] = (b ∷ []) ∷ []
 onto_first b (line ∷ lines) = (b ∷ line) ∷ lines
 
--- The lines, without what ends them: a line feed, or the end of the input. After a last line feed there is no line.
+-- The lines of a text, without their ends. A line feed or the end of the input ends a line; no line
+-- follows the last line feed.
 unfoldable pub lines_of : List ℕ → List (List ℕ)
 lines_of [] = []
 lines_of (b ∷ rest) = if b == 10 then [] ∷ lines_of rest else onto_first b (lines_of rest)

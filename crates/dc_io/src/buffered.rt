@@ -1,4 +1,4 @@
-//! A sink that goes on to its writer in large pieces.
+//! A sink that buffers small puts and writes large pieces to its writer.
 
 ghost use Rattle.std.specs.Prelude.{◌≡◌, ◌+◌, ◌≤◌, ◌↔◌, ◌++◌, [], length, take, IsTrue, IfOk};
 ghost use Rattle.std.specs.Prelude.{OnOk, OnErr};
@@ -11,10 +11,10 @@ use crate::{IoFault, NoMemory, Sink, room};
 use std::alloc::Allocator;
 use std::marker::Model;
 
-/// A writer, and bytes on their way to it, which wait until its room is full or [`Buffered::flush`] or
+/// A buffered writer: bytes are held back until the buffer is full or [`Buffered::flush`] or
 /// [`Buffered::finish`] is called.
 ///
-/// Where a put to the writer fails, the bytes that waited are let go.
+/// If a put to the writer fails, the held bytes are dropped.
 #[derive(Drop)]
 pub struct Buffered<W: Sink + Drop, A: Allocator> {
     writer: W,
@@ -38,10 +38,10 @@ impl<W: Sink + Drop, A: Allocator> Model for Buffered<W, A> {
 }
 
 impl<W: Sink + Drop, A: Allocator> Buffered<W, A> {
-    /// The writer behind room for this many bytes.
+    /// Returns a buffer of `capacity` bytes over the writer.
     ///
     /// # Errors
-    /// Where memory is refused, and the writer is then let go.
+    /// Out of memory; the writer is then dropped.
     pub fn new(alloc: A, capacity: usize, writer: W) -> Result<Self, NoMemory>
         ensures { IfOk result (λ b. b ≡ record { writer = writer; held = []; capacity = capacity }) }
     {
@@ -53,7 +53,7 @@ impl<W: Sink + Drop, A: Allocator> Buffered<W, A> {
         })
     }
 
-    /// Writes what is buffered.
+    /// Writes the held bytes to the writer.
     pub fn flush(&mut self) -> Result<(), IoFault>
         ensures wrote { Wrote W.Sink result self.old.writer self.new.writer
             self.old.held }
@@ -65,7 +65,7 @@ impl<W: Sink + Drop, A: Allocator> Buffered<W, A> {
         put
     }
 
-    /// Writes what is buffered, and gives the writer back with the answer.
+    /// Writes the held bytes, and returns the writer with the result.
     pub fn finish(self) -> (W, Result<(), IoFault>)
         ensures { Wrote W.Sink result.1 self.writer result.0 self.held }
     {
@@ -75,7 +75,7 @@ impl<W: Sink + Drop, A: Allocator> Buffered<W, A> {
         (writer, put)
     }
 
-    // Whether this many bytes more fit.
+    // Whether this many more bytes fit.
     #[inline]
     fn has_place(&self, count: usize) -> bool
         ensures { IsTrue result ↔ (length self.now.held + count ≤ self.now.capacity) }
@@ -93,7 +93,7 @@ impl<W: Sink + Drop, A: Allocator> Buffered<W, A> {
         self.used += piece.len();
     }
 
-    // Writes what is buffered, and then a piece that had no place after it.
+    // Writes the held bytes, and then a piece that didn't fit after them.
     #[cold]
     #[tactic(auto, using(crate::proofs::Pieces::written))]
     fn put_past(&mut self, piece: &[u8]) -> Result<(), IoFault>

@@ -9,8 +9,8 @@ use crate::{NoMemory, one_failure_more};
 use std::alloc::Allocator;
 use std::marker::Model;
 
-/// A queue of bytes in memory: a put adds at the end, and a take reads on from the front. What was taken stays in
-/// [`Bytes::as_slice`].
+/// A queue of bytes in memory: a put appends, and a take reads on from where the last one ended.
+/// Bytes that were taken stay in [`Bytes::as_slice`].
 #[derive(Drop)]
 pub struct Bytes<A: Allocator> {
     items: Vec<u8, A>,
@@ -30,7 +30,7 @@ impl<A: Allocator> Model for Bytes<A> {
 }
 
 impl<A: Allocator> Bytes<A> {
-    /// No bytes. An empty queue takes no memory.
+    /// Returns an empty queue, which uses no memory.
     pub fn new(alloc: A) -> Self
         ensures { result ≡ record { bytes = []; taken = 0; failures = 0 } }
     {
@@ -41,7 +41,7 @@ impl<A: Allocator> Bytes<A> {
         }
     }
 
-    /// A copy of these bytes, none of them taken.
+    /// Returns a copy of these bytes, none of them taken.
     pub fn from_slice(alloc: A, bytes: &[u8]) -> Result<Self, NoMemory>
         ensures { IfOk result (λ b. b ≡ record { bytes = bytes.now; taken = 0; failures = 0 }) }
     {
@@ -50,7 +50,7 @@ impl<A: Allocator> Bytes<A> {
         Ok(copy)
     }
 
-    /// All the bytes that went in.
+    /// All bytes that were put, taken or not.
     pub fn as_slice(&self) -> &[u8]
         ensures { result.now ≡ self.now.bytes }
     {
@@ -70,7 +70,8 @@ impl<A: Allocator> Source for Bytes<A> {
         ensures end { IfOk result (λ n.
             n ≡ 0 → 0 < length room.old → IsAtEnd (Some (drop self.new.taken self.new.bytes))) }
 
-        // It never fails, gives as many bytes as there are and fit, and takes none out of the slice.
+        // It never fails, copies as many bytes as are left and fit, and changes nothing outside the
+        // room.
         ensures always { result ≡ Ok (min (length self.old.bytes - self.old.taken)
             (length room.old)) }
         ensures moved { IfOk result (λ n.

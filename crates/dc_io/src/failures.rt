@@ -1,9 +1,9 @@
-//! How failures are counted.
+//! Saturating counts of failures.
 
 ghost use Rattle.std.specs.Prelude.{◌≡◌, ◌+◌, ◌-◌, ◌^◌, min};
 ghost use Rattle.dc_io.specs.Failures.{HasRisen};
 
-/// The count after one more failure; at `u64::MAX` it stays.
+/// Adds one failure to a count, which saturates at `u64::MAX`.
 pub const fn one_failure_more(failures: u64) -> u64
     ensures exact { result ≡ min (failures + 1) (2 ^ 64 - 1) }
     ensures risen { HasRisen failures result }

@@ -6,7 +6,7 @@ ghost use Rattle.dc_io.specs.Words.{fault_text, fault_line};
 use crate::number::put_number;
 use crate::{IoFault, Sink};
 
-/// Puts a fault's number and its name: `n Name`.
+/// Writes a fault as its number and its name: `n Name`.
 #[tactic(auto, using(crate::proofs::Pieces::written), unfolding(crate::specs::Words::fault_text))]
 pub fn put_fault<W: Sink>(out: &mut W, number: u8, name: &str) -> Result<(), IoFault>
     ensures { Wrote W.Sink result out.old out.new (fault_text number name.now) }
@@ -16,7 +16,7 @@ pub fn put_fault<W: Sink>(out: &mut W, number: u8, name: &str) -> Result<(), IoF
     out.put(name.as_bytes())
 }
 
-/// Puts the line of what is at fault: `WHAT n Name`.
+/// Writes the fault line of an input: `WHAT n Name`.
 #[tactic(auto, using(crate::proofs::Pieces::written), unfolding(crate::specs::Words::fault_line))]
 pub fn put_fault_line<W: Sink>(
     out: &mut W,

@@ -1,4 +1,4 @@
-//! A sink of fixed room, which takes no memory.
+//! A sink of fixed capacity, which uses no heap memory.
 
 ghost use Rattle.std.specs.Prelude.{◌≡◌, ◌+◌, ◌-◌, ◌^◌, ◌≤◌, ◌<◌, min, ◌++◌, [], length, Some};
 
@@ -6,7 +6,7 @@ use crate::one_failure_more;
 use crate::stream::{IoFault, Sink};
 use std::marker::Model;
 
-/// At most `N` bytes, in the order in which they were put.
+/// A sink of at most `N` bytes, in the order in which they were put.
 #[derive(Drop)]
 pub struct FixedSink<const N: usize> {
     room: [u8; N],
@@ -26,7 +26,7 @@ impl<const N: usize> Model for FixedSink<N> {
 }
 
 impl<const N: usize> FixedSink<N> {
-    /// No bytes.
+    /// Returns an empty sink.
     pub fn new() -> Self
         ensures { result ≡ record { bytes = []; failures = 0 } }
     {
@@ -37,7 +37,7 @@ impl<const N: usize> FixedSink<N> {
         }
     }
 
-    /// The bytes that went in.
+    /// The bytes that were put.
     pub fn as_slice(&self) -> &[u8]
         ensures bytes { result.now ≡ self.now.bytes }
         ensures fits { length self.now.bytes ≤ N }
@@ -45,7 +45,7 @@ impl<const N: usize> FixedSink<N> {
         &self.room[..self.len]
     }
 
-    /// Lets go of the bytes. The count of failures stays.
+    /// Drops the bytes. The count of failures is kept.
     pub fn clear(&mut self)
         ensures { self.new ≡ record self.old { bytes = [] } }
     {
@@ -58,7 +58,7 @@ impl<const N: usize> Sink for FixedSink<N> {
 
     ghost put_failures = { λ s. s.failures };
 
-    // A put fails exactly where there is no room for all of its bytes. It then adds nothing, and is counted.
+    // A put fails exactly when its bytes don't all fit. It then adds nothing, and is counted.
     ghost puts = { λ old bytes new. (length old.bytes + length bytes ≤ N)
         × (new ≡ record old { bytes = old.bytes ++ bytes }) };
 

@@ -37,7 +37,8 @@ fn value_of(digit: u8) -> Option<u8>
     if value < 16 { Some(value) } else { None }
 }
 
-/// The bytes of pairs of digits, and how many; `None` where they aren't pairs of digits.
+/// Decodes pairs of hex digits into `out` and returns the number of bytes; `None` if the text isn't
+/// pairs of hex digits.
 pub fn decode_hex(digits: &[u8], out: &mut [u8]) -> Option<usize>
     requires { length digits.now ≤ 2 * length out.old }
     ensures value { MatchOption result (bytes_of digits.now ≡ None)
@@ -64,7 +65,7 @@ fn digit_of(n: u8) -> u8
     if n < 10 { b'0' + n } else { b'A' - 10 + n }
 }
 
-// A byte in two capital hex digits.
+// A byte as two capital hex digits.
 #[inline]
 fn pair_of(byte: u8) -> [u8; 2]
     ensures { result ≡ upper_pair byte }
@@ -72,7 +73,7 @@ fn pair_of(byte: u8) -> [u8; 2]
     [digit_of(byte / 16), digit_of(byte % 16)]
 }
 
-/// Puts a byte in two capital hex digits.
+/// Writes a byte as two capital hex digits.
 #[inline]
 pub fn put_byte<W: Sink>(out: &mut W, byte: u8) -> Result<(), IoFault>
     ensures { Wrote W.Sink result out.old out.new (upper_pair byte) }
@@ -80,7 +81,7 @@ pub fn put_byte<W: Sink>(out: &mut W, byte: u8) -> Result<(), IoFault>
     out.put(&pair_of(byte))
 }
 
-/// Puts bytes in capital hex digits.
+/// Writes bytes in capital hex digits.
 #[tactic(auto, using(crate::proofs::Pieces::joined, crate::proofs::Digits::digits))]
 pub fn put_hex<W: Sink>(out: &mut W, bytes: &[u8]) -> Result<(), IoFault>
     ensures { Wrote W.Sink result out.old out.new (upper_hex bytes.now) }
@@ -91,7 +92,7 @@ pub fn put_hex<W: Sink>(out: &mut W, bytes: &[u8]) -> Result<(), IoFault>
     Ok(())
 }
 
-/// Puts a space and a byte in two capital hex digits.
+/// Writes a space and a byte in two capital hex digits.
 #[tactic(auto, using(crate::proofs::Pieces::written))]
 pub fn put_byte_word<W: Sink>(out: &mut W, byte: u8) -> Result<(), IoFault>
     ensures { Wrote W.Sink result out.old out.new (byte_word byte) }
@@ -100,7 +101,7 @@ pub fn put_byte_word<W: Sink>(out: &mut W, byte: u8) -> Result<(), IoFault>
     put_byte(out, byte)
 }
 
-/// Puts a space and bytes in capital hex digits; `-` stands for no bytes.
+/// Writes a space and bytes in capital hex digits, or `-` for no bytes.
 #[tactic(auto, using(crate::proofs::Pieces::written, crate::proofs::Digits::words))]
 pub fn put_hex_word<W: Sink>(out: &mut W, bytes: &[u8]) -> Result<(), IoFault>
     ensures { Wrote W.Sink result out.old out.new (hex_word bytes.now) }

@@ -1,4 +1,4 @@
-//! The whole input, read before anything is written.
+//! Reads the whole input before anything is written.
 
 ghost use Rattle.std.specs.Prelude.{◌≡◌, ◌⊎◌, ◌<◌, ◌≤◌, length, vec_len, IfOk, IfErr, OnOk};
 ghost use Rattle.std.specs.Prelude.{IsErrOf};
@@ -10,13 +10,13 @@ use crate::Source;
 use crate::text_fault::TextFault;
 use std::alloc::Allocator;
 
-/// How many bytes one read asks for.
+/// Number of bytes that one read asks for.
 pub const CHUNK: usize = 65_536;
 
-/// The most bytes that an input may have.
+/// Maximum number of bytes of an input.
 pub const MOST: usize = 1_048_576;
 
-/// Reads until the source is at its end or gave more than an input may have. `chunk` is room for one read.
+/// Reads until the source ends or the input exceeds its maximum. `chunk` is the room for one read.
 pub fn read_input<A: Allocator, R: Source>(
     alloc: A,
     reader: &mut R,
@@ -32,7 +32,7 @@ pub fn read_input<A: Allocator, R: Source>(
     ensures read { IsErrOf result TextFault.Read
         → HasRisen (R.take_failures reader.old) (R.take_failures reader.new) }
 {
-    // So that no growth follows: a read that begins at the limit still fits.
+    // No growth follows: a read that begins at the limit still fits.
     let Ok(mut input) = Vec::with_capacity(alloc, MOST + CHUNK) else {
         return Err(TextFault::NoMemory);
     };

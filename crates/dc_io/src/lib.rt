@@ -1,18 +1,20 @@
-//! Where bytes come from and go to, what they spell as text, and how an input comes apart into lines.
+//! Sources and sinks of bytes, their spelling as text, and the lines of an input.
 //!
-//! [`Source`] and [`Sink`] are the readers and writers of this product. They give their bytes where they can and count
-//! their failures, so that a function that reports a fault can be held to a failure that happened: [`Bytes`] is both
-//! over memory, [`FixedSink`] a sink of fixed room that takes no memory, [`Buffered`] a sink that goes on to its
-//! writer in large pieces. [`ReadSource`] and [`WriteSink`] are those of std: they give no bytes of their own, but
-//! their contracts name the calls of std's reader and writer.
+//! [`Source`] and [`Sink`] are the readers and writers of this product. Contracts see their bytes
+//! where they are known, and a count of their failures, so that a function that reports a fault is
+//! bound to a failure that happened. [`Bytes`] is both over memory, [`FixedSink`] a sink of fixed
+//! capacity that uses no memory, [`Buffered`] a sink that writes to its writer in large pieces.
+//! [`ReadSource`] and [`WriteSink`] wrap those of std: their bytes aren't known, but their
+//! contracts name the calls of std's reader and writer.
 //!
-//! Text: numbers in decimal ([`put_number`]), bytes in capital hex digits ([`put_byte`], [`put_hex`]), a fault as its
-//! number and name ([`put_fault`]), each into any [`Sink`] and without memory. One word of the contract says that the
-//! bytes went out, so that a chain of puts proves by itself. [`decode_hex`] reads hex digits of either case.
+//! Text: numbers in decimal ([`put_number`]), bytes in capital hex digits ([`put_byte`],
+//! [`put_hex`]), a fault as its number and name ([`put_fault`]), each into any [`Sink`] and without
+//! memory. One word of the contract states that the bytes were written, so that a chain of puts
+//! proves by itself. [`decode_hex`] reads hex digits of either case.
 //!
 //! Input: [`read_input`] reads a whole input of at most 1 MiB, and [`first_line`] takes its lines one by one.
 //!
-//! Laws: [`lines_end_at_feeds`], [`hex_is_read_back`].
+//! Theorems: [`lines_end_at_feeds`], [`hex_is_read_back`].
 #![tactic(auto)]
 
 mod buffered;

@@ -5,10 +5,10 @@ ghost use Rattle.dc_io.specs.Lines.{lines_of};
 
 use memchr::memchr;
 
-/// The most bytes that a line may have.
+/// Maximum number of bytes of a line.
 pub const LONGEST: usize = 4096;
 
-/// The first line, and what follows it.
+/// Splits off the first line of a text, and returns it with the rest.
 pub fn first_line(text: &[u8]) -> (&[u8], &[u8])
     requires { 0 < length text.now }
     ensures lines { lines_of text.now ≡ result.0.now ∷ lines_of result.1.now }

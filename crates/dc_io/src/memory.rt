@@ -1,11 +1,11 @@
-//! Out of memory, and memory for bytes that are read or held back.
+//! The out-of-memory fault, and rooms for bytes that are read or held back.
 
 ghost use Rattle.std.specs.Prelude.{◌≡◌, vec_len, IfOk};
 
 use std::alloc::{AllocError, AllocFailed, Allocator};
 use thiserror::Error;
 
-/// Memory was refused.
+/// Out of memory.
 #[derive(Clone, Copy, Debug, PartialEq, Eq, Error)]
 #[error("memory was refused")]
 pub struct NoMemory;
@@ -22,7 +22,8 @@ impl<T: Drop> From<AllocFailed<T>> for NoMemory {
     }
 }
 
-/// Allocates this many bytes. Their values are left open: a proof that saw them would write them out.
+/// Allocates a room of this many bytes. No contract states their values, since proofs would write
+/// them out.
 pub fn room<A: Allocator>(alloc: A, len: usize) -> Result<Vec<u8, A>, NoMemory>
     ensures { IfOk result (λ bytes. vec_len bytes ≡ len) }
 {

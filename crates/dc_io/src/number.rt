@@ -7,7 +7,7 @@ ghost use Rattle.dc_io.specs.Words.{number_word};
 use crate::{IoFault, Sink};
 use itoa::Buffer;
 
-/// Puts a number in decimal.
+/// Writes a number in decimal.
 pub fn put_number<W: Sink>(out: &mut W, number: u64) -> Result<(), IoFault>
     ensures { Wrote W.Sink result out.old out.new (decimal number) }
 {
@@ -15,7 +15,7 @@ pub fn put_number<W: Sink>(out: &mut W, number: u64) -> Result<(), IoFault>
     out.put(digits.format(number).as_bytes())
 }
 
-/// Puts a space and a number in decimal.
+/// Writes a space and a number in decimal.
 #[tactic(auto, using(crate::proofs::Pieces::written, std::proofs::lemmas::Fmt::decimal_digit))]
 pub fn put_number_word<W: Sink>(out: &mut W, number: u64) -> Result<(), IoFault>
     ensures { Wrote W.Sink result out.old out.new (number_word number) }

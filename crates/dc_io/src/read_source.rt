@@ -1,4 +1,4 @@
-//! A reader of std as a source, which tells no bytes.
+//! A reader of std as a source, whose bytes no contract knows.
 
 ghost use Rattle.std.specs.Prelude.{◌≡◌, ◌≤◌, None, length, IfOk, OnOk, OnErr};
 ghost use Rattle.std.specs.Io.KnownBytes.{Keeps, ReadConsumes};
@@ -18,7 +18,7 @@ pub struct ReadSource<R: Read + Drop> {
 }
 
 impl<R: Read + Drop> ReadSource<R> {
-    /// The reader as a source that hasn't failed.
+    /// Wraps the reader, with no failures counted.
     pub fn new(reader: R) -> Self
         ensures { result ≡ record { reader = reader; failures = 0 } }
     {
@@ -34,7 +34,7 @@ impl<R: Read + Drop> Source for ReadSource<R> {
 
     ghost take_failures = { λ s. s.failures };
 
-    // The last clause says of the reader what a source doesn't tell.
+    // The last clause states of the reader what the trait's clauses don't.
     fn take(&mut self, room: &mut [u8]) -> Result<usize, IoFault>
         ensures count { IfOk result (λ n. n ≤ length room.old) }
         ensures well { OnOk result (self.new.failures ≡ self.old.failures) }
@@ -50,7 +50,7 @@ impl<R: Read + Drop> Source for ReadSource<R> {
     }
 }
 
-// One read, again where a signal broke it off.
+// One read, retried if a signal interrupts it.
 fn read_some<R: Read>(reader: &mut R, room: &mut [u8]) -> Result<usize, IoFault>
     ensures count { IfOk result (λ n. n ≤ length room.old) }
     ensures bytes { ReadConsumes (R.remaining reader.old) (R.remaining reader.new) result room.new }

@@ -15,7 +15,7 @@ pub fn lacks_space(line: &[u8]) -> bool
     }
 }
 
-/// What is no space of a line, and how many characters.
+/// Copies a line without its spaces into `out`, and returns the number of characters.
 pub fn squeeze_into(line: &[u8], out: &mut [u8]) -> usize
     requires { length line.now ≤ length out.old }
     ensures count { result ≤ length line.now }

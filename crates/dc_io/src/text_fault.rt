@@ -1,4 +1,4 @@
-//! What stops an engine over lines.
+//! The faults of a program over lines.
 
 ghost use Rattle.std.specs.Prelude.{◌≡◌};
 ghost use Rattle.dc_io.specs.Fault.{number_of, name_of};
@@ -7,7 +7,7 @@ ghost use Rattle.dc_io.specs.declared.text_fault.TextFault.TheVariants.{NoMemory
 use crate::NoMemory;
 use thiserror::Error;
 
-/// Why an input wasn't told (this product).
+/// Why an input wasn't printed (this product).
 #[derive(Clone, Copy, Debug, PartialEq, Eq, Error)]
 pub enum TextFault {
     /// A read failed.
@@ -19,13 +19,13 @@ pub enum TextFault {
     /// A write failed.
     #[error("the output can't be written")]
     Write,
-    /// Memory was refused.
+    /// Out of memory.
     #[error("memory was refused")]
     NoMemory,
 }
 
 impl TextFault {
-    /// 1 to 4.
+    /// The fault's number, 1 to 4.
     pub fn number(&self) -> u8
         ensures { result ≡ number_of self.now }
     {

@@ -1,4 +1,4 @@
-//! A writer of std as a sink, which tells no bytes.
+//! A writer of std as a sink, whose bytes no contract knows.
 
 ghost use Rattle.std.specs.Prelude.{◌≡◌, ◌≤◌, None, length, IfOk, OnOk, OnErr};
 ghost use Rattle.std.specs.Io.KnownBytes.{Keeps, Appends};
@@ -9,17 +9,18 @@ use crate::one_failure_more;
 use crate::stream::{IoFault, Sink};
 use std::io::Write;
 
-/// A writer of std as a sink. A put into a buffered writer isn't out before [`WriteSink::flush`].
+/// A writer of std as a sink. Bytes put into a buffered writer are written out by
+/// [`WriteSink::flush`].
 #[derive(Drop)]
 pub struct WriteSink<W: Write + Drop> {
     /// The writer.
     pub writer: W,
-    /// How many puts and flushes failed.
+    /// Number of puts and flushes that failed.
     pub failures: u64,
 }
 
 impl<W: Write + Drop> WriteSink<W> {
-    /// The writer as a sink that hasn't failed.
+    /// Wraps the writer, with no failures counted.
     pub fn new(writer: W) -> Self
         ensures { result ≡ record { writer = writer; failures = 0 } }
     {
@@ -48,7 +49,7 @@ impl<W: Write + Drop> Sink for WriteSink<W> {
 
     ghost put_failures = { λ s. s.failures };
 
-    // The last clause says of the writer what a sink doesn't tell.
+    // The last clause states of the writer what the trait's clauses don't.
     #[tactic(auto, using(crate::proofs::Pieces::told))]
     fn put(&mut self, bytes: &[u8]) -> Result<(), IoFault>
         ensures well { OnOk result (self.new.failures ≡ self.old.failures) }

@@ -47,7 +47,7 @@ step_by (digits ∷ rest) false left = selection digits left
 abbrev pub step_of : SearchState → Step
 step_of s = step_by s.due s.answered (nat_lt s.selections s.budget)
 
--- nothing is to be heard
+-- no answer is expected
 abbrev pub is_idle : Step → Bool
 is_idle (Select mask) = false
 is_idle Request = false
@@ -64,11 +64,11 @@ abbrev pub rest_of : List (List ℕ) → List (List ℕ)
 rest_of [] = []
 rest_of (digits ∷ rest) = rest
 
--- the first mask is settled
+-- the first mask is finished
 abbrev pub settled : SearchState → SearchState
 settled s = record s { due = rest_of s.due; answered = false }
 
--- the answer to a selection: silence is nobody, any byte is to be followed by a request
+-- the answer to a selection: silence means that no meter matches; any byte is followed by a request
 abbrev pub after_selection : List ℕ → SearchState → SearchState
 after_selection [] s = settled (record s { selections = s.selections + 1 })
 after_selection (byte ∷ bytes) s = record s { answered = true; selections = s.selections + 1 }
@@ -106,18 +106,18 @@ after_step Request bytes s = after_meter (answer_of bytes) s
 after_step Done bytes s = s
 after_step Budget bytes s = s
 
--- the search after these bytes were heard
+-- the search after an answer of these bytes
 abbrev pub after : List ℕ → SearchState → SearchState
 after bytes s = after_step (step_of s) bytes s
 
--- ---- how a search is kept
+---- the representation of a search
 
--- the mask that is next, and the ones after it from the end of their list
+-- the next mask, and those after it from the end of their list
 abbrev pub due_of : Option (List ℕ) → List (List ℕ) → List (List ℕ)
 due_of None later = []
 due_of (Some digits) later = digits ∷ reverse later
 
--- nothing is kept after nothing
+-- where no mask is next, the list is empty
 abbrev pub is_ended : Option (List ℕ) → List (List ℕ) → Bool
 is_ended None [] = true
 is_ended None (digits ∷ more) = false
@@ -130,6 +130,7 @@ pub record IsSearch (current : Option (List ℕ)) (later : List (List ℕ))
 
 -- ---- a search ends
 
--- how many answers can still be heard: two for each selection that the budget leaves, and one that was asked for
+-- maximum number of answers to come: two for each selection left in the budget, and one if a
+-- request is out
 abbrev pub rounds_left : SearchState → ℕ
 rounds_left s = 2 * (s.budget - s.selections) + (if s.answered then 1 else 0)

@@ -59,13 +59,14 @@ shared_in visit = if has_collision visit && length visit.digits == 8
 abbrev pub shared_of : List Visit → List ℕ
 shared_of visits = filter_map shared_in visits
 
--- ---- what a whole walk promises
+---- what a whole walk finds
 
 -- the meters that have this number
 abbrev pub with_number : ℕ → List Identity → List Identity
 with_number number bus = filter (λ meter. meter.number == number) bus
 
--- found are the meters that share their number with no other, shared the numbers of more than one; both ascend
+-- `found` are the meters whose number is unique, `shared` the numbers of several meters; both
+-- ascend
 pub record FindsAll (bus found : List Identity) (shared : List ℕ) : Type 0 where
   pub alone : (meter : Identity) → Contains found meter ↔
       (with_number meter.number bus ≡ meter ∷ [])

@@ -1,4 +1,4 @@
-//! What the answer to a request tells.
+//! What a search learns from the answer to a request.
 
 ghost use Rattle.std.specs.Prelude.{◌≡◌, Some};
 ghost use Rattle.dc_search.specs.Answer.{answer_of, identity_at, identity_in};
@@ -19,7 +19,7 @@ fn identity_at(body: &[u8]) -> Option<Identity>
     }
 }
 
-/// The meter that a frame's telegram comes from.
+/// The meter that sent the telegram in a frame.
 fn meter_in(frame: &Frame<'_>) -> Option<Identity>
     ensures { result ≡ identity_in (Some (seen frame.now)) }
 {
@@ -34,7 +34,7 @@ fn meter_in(frame: &Frame<'_>) -> Option<Identity>
     }
 }
 
-/// The meter that a readable response with a telegram comes from.
+/// The meter that sent a readable response with a telegram.
 #[tactic(auto, unfolding(crate::specs::Answer::answer_of))]
 pub fn meter_of(bytes: &[u8]) -> Option<Identity>
     ensures { result ≡ answer_of bytes.now }

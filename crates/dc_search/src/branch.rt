@@ -43,7 +43,7 @@ impl Branch {
     ghost use Rattle.dc_search.specs.Prefix.{mask_of_digits};
     ghost use Rattle.dc_search.specs.State.{children};
 
-    /// All wildcards.
+    /// The mask of all wildcards.
     pub fn root() -> Branch
         ensures { result ≡ [] }
     {
@@ -54,7 +54,7 @@ impl Branch {
         }
     }
 
-    /// The mask.
+    /// The wildcard secondary address that is selected.
     pub fn mask(&self) -> Mask
         ensures { result ≡ mask_of_digits self.now }
     {
@@ -68,14 +68,14 @@ impl Branch {
         self.fixed == 8
     }
 
-    /// The number that the fixed digits write.
+    /// The number that the fixed digits spell.
     pub fn number(&self) -> u32
         ensures { result ≡ number_from_digits 10 self.now }
     {
         self.number
     }
 
-    /// The mask with the next digit fixed too.
+    /// The mask with this digit fixed next.
     pub fn child(&self, digit: u8) -> Branch
         requires room { length self.now < 8 }
         requires digit { digit < 10 }

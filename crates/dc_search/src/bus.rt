@@ -1,4 +1,4 @@
-//! A bus of meters that a search is tried on.
+//! A bus as a list of meters, on which a search is run.
 
 ghost use Rattle.std.specs.Prelude.{◌≡◌, ◌<◌, ◌≤◌, ◌+◌, ◌*◌, ◌++◌, ◌∷◌, [], Contains, IfOk, OnOk};
 ghost use Rattle.std.specs.Prelude.{Some, None, filter, length, take, min, if◌then◌else◌, nat_le};
@@ -19,21 +19,21 @@ use dc_linkframe::control::{RSP_UD, VARIABLE_DATA};
 use dc_linkframe::{ACK, FrameBuf, write_long};
 use std::alloc::Allocator;
 
-/// A byte that is no frame, as colliding answers make it.
+/// A byte that is no frame, as read when answers collide.
 const NOISE: u8 = 0x00;
 
-/// Which meters match a mask.
+/// The meters that match a mask: none, one or several.
 #[derive(Clone, Copy)]
 pub enum Matching {
-    /// None.
+    /// No meter.
     Nobody,
-    /// This one alone.
+    /// Exactly this meter.
     One(Identity),
-    /// Two or more.
+    /// Two or more meters.
     More,
 }
 
-/// Which meters on a bus match a mask.
+/// Finds the meters on a bus that match a mask.
 pub fn matches_on(bus: &[Identity], mask: &Mask) -> Matching
     ensures { IsMatching result (filter (matches mask.now) bus.now) }
 {
@@ -52,7 +52,7 @@ pub fn matches_on(bus: &[Identity], mask: &Mask) -> Matching
     }
 }
 
-/// A telegram's body that has a header and no record.
+/// Writes a telegram's body: a header without records.
 fn body_of(meter: &Identity) -> [u8; 12]
     ensures { result ≡ wire_of meter.now ++ 0 ∷ 0 ∷ 0 ∷ 0 ∷ [] }
 {
@@ -61,7 +61,7 @@ fn body_of(meter: &Identity) -> [u8; 12]
     body
 }
 
-/// What a meter answers to a request for data: a telegram with a header and no record.
+/// A meter's answer to a request for data: a telegram with a header and no records.
 pub fn telegram_of(meter: &Identity) -> FrameBuf
     ensures { answer_of result ≡ Some meter.now }
 {
@@ -70,8 +70,8 @@ pub fn telegram_of(meter: &Identity) -> FrameBuf
     frame
 }
 
-/// A selection by the mask that is due: silence where no meter matches, else an acknowledgement and, to
-/// the request that follows, the one meter's telegram or noise.
+/// Performs the selection that is due: silence where no meter matches; else an acknowledgement and,
+/// to the request that follows, the one meter's telegram or noise.
 fn select<A: Allocator + Copy>(
     search: &mut Search<A>,
     bus: &[Identity],
@@ -93,9 +93,10 @@ fn select<A: Allocator + Copy>(
     }
 }
 
-/// Runs a search on a bus, which is the list of the meters on it: a selection that no meter matches is met
-/// by silence, one that one meter matches by an acknowledgement and then its telegram, any other by an
-/// acknowledgement and then bytes that are no frame. Found and shared ascend by number.
+/// Runs a search on a bus given as the list of its meters. A selection that no meter matches is
+/// answered by silence, one that one meter matches by an acknowledgement and then its telegram, any
+/// other by an acknowledgement and then bytes that are no frame. Found meters and shared numbers
+/// ascend.
 pub fn sweep<A: Allocator + Copy>(
     alloc: A,
     bus: &[Identity],

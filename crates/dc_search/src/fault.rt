@@ -1,14 +1,14 @@
-//! Why a search takes no answer.
+//! Why a search rejects an answer.
 
 use thiserror::Error;
 
-/// Why what was heard was not taken; the search is unchanged.
+/// Why an answer was rejected; the search is unchanged.
 #[derive(Clone, Copy, Debug, PartialEq, Eq, Error)]
 #[error("{} {}", self.number(), self.name())]
 pub enum SearchFault {
-    /// Nothing was to be heard: the search is done, or its budget is spent.
+    /// No answer was expected: the search is done, or its budget is spent.
     Idle,
-    /// Memory was refused; the same bytes can be heard again.
+    /// Out of memory; the same bytes can be passed again.
     NoMemory,
 }
 

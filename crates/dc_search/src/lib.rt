@@ -5,12 +5,13 @@
 //! ten masks with the next digit of the identification number, deeper ones first. A meter that answers
 //! alone is found; where all eight digits are fixed and answers still collide, the number is shared.
 //!
-//! [`Search`] does no talking: [`Search::next`] says what to do, [`Step::request`] has the frame to be sent for it,
-//! [`Search::heard`] takes what came, and these are a rule on the masks due, what was found and the selections made.
-//! [`sweep`] runs a search on a list of meters: within the budget it finds every meter whose number no other has,
-//! names every number that more than one has, both ascending, with at most forty selections a meter and the first.
+//! [`Search`] does no I/O: [`Search::next`] returns the next step, [`Step::request`] the frame to
+//! send for it, and [`Search::heard`] takes the answer. Their definition is a rule on the masks
+//! due, what was found and the selections made. [`sweep`] runs a search on a list of meters: within
+//! the budget it finds every meter whose number is unique and every number of several meters, both
+//! ascending, with at most forty selections a meter and one more.
 //!
-//! Memory grows with the depth of the walk and with what is found, not with the selections.
+//! Memory grows with the depth of the walk and the number of meters found, not with the selections.
 #![tactic(auto)]
 
 mod answer;

@@ -1,4 +1,4 @@
-//! The rule of a search, step by step.
+//! The steps of a search.
 
 use crate::answer::meter_of;
 use crate::branch::Branch;
@@ -9,7 +9,7 @@ use dc_io::NoMemory;
 use std::alloc::Allocator;
 use std::marker::Model;
 
-/// A wildcard search: what is to be selected, and what was found.
+/// A wildcard search: the masks due, and what was found.
 #[derive(Drop)]
 pub struct Search<A: Allocator + Copy> {
     // The mask that is selected next or was selected last, and those after it, the last of them first.
@@ -51,7 +51,7 @@ impl<A: Allocator + Copy> Search<A> {
     ghost use Rattle.std.specs.Int.Digits.{number_from_digits};
     ghost use Rattle.dc_search.specs.declared.step.Step.TheVariants.{Request};
 
-    /// A search of at most `budget` selections.
+    /// Starts a search of at most `budget` selections.
     pub fn new(alloc: A, budget: u32) -> Search<A>
         ensures { result ≡ new_search budget }
     {
@@ -66,7 +66,7 @@ impl<A: Allocator + Copy> Search<A> {
         }
     }
 
-    /// What is to be done next.
+    /// The next step.
     pub fn next(&self) -> Step
         ensures { result ≡ step_of self.now }
     {
@@ -78,34 +78,34 @@ impl<A: Allocator + Copy> Search<A> {
         }
     }
 
-    /// The meters found so far, in the order in which they were found: where each answers for itself, that
-    /// is ascending by number.
+    /// The meters found so far, in the order in which they were found: ascending by number, if each
+    /// answers for itself.
     pub fn found(&self) -> &[Identity]
         ensures { result.now ≡ self.now.found }
     {
         &self.found
     }
 
-    /// The numbers so far that more than one meter has, in the order in which they were found.
+    /// The numbers found so far that several meters have, in the order in which they were found.
     pub fn shared(&self) -> &[u32]
         ensures { result.now ≡ self.now.shared }
     {
         &self.shared
     }
 
-    /// How many selections were made and their answers heard.
+    /// Number of selections made whose answers were received.
     pub fn selections(&self) -> u32
         ensures { result ≡ self.now.selections }
     {
         self.selections
     }
 
-    /// Takes what came as the answer to the next step; no byte is silence. A selection counts here.
+    /// Takes the answer to the next step; no byte is silence. A selection is counted here.
     pub fn heard(&mut self, bytes: &[u8]) -> Result<(), SearchFault>
         ensures ok { OnOk result (self.new ≡ after bytes.now self.old) }
         ensures err { OnErr result (self.new ≡ self.old) }
         ensures idle { (result ≡ Err SearchFault.Idle) ↔ IsTrue (is_idle (step_of self.old)) }
-        // Only the answer to a request can want memory.
+        // Only the answer to a request can need memory.
         ensures memory { result ≡ Err SearchFault.NoMemory → step_of self.old ≡ Request }
     {
         match self.next() {

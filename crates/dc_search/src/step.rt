@@ -1,4 +1,4 @@
-//! What a search is to do next, and what it sends for it.
+//! The steps of a search, and the frames that it sends.
 
 ghost use Rattle.std.specs.Prelude.{◌≡◌, ◌≤◌, IfSome, length, option_map};
 ghost use Rattle.dc_linkframe.specs.Frame.{spelling};
@@ -8,22 +8,22 @@ use dc_address::Mask;
 use dc_linkframe::FrameBuf;
 use dc_linkframe::control::{SELECTED, write_request, write_selection};
 
-/// What a search is to do next.
+/// The next step of a search.
 #[derive(Clone, Copy, Debug, PartialEq, Eq)]
 pub enum Step {
     /// Select the meters that match.
     Select(Mask),
-    /// Ask the selected meter for its data (REQ_UD2).
+    /// Request data from the selected meter (REQ_UD2).
     Request,
-    /// Nothing is left to select.
+    /// The search is done.
     Done,
-    /// A selection is due, and the budget is spent.
+    /// A selection is due, but the budget is spent.
     Budget,
 }
 
 impl Step {
-    /// The frame that is sent for it: the selection by the mask, or the request for data with frame count
-    /// bit 1. At the end there is no request.
+    /// The frame to send: the selection by the mask, or the request for data with frame count bit
+    /// 1; `None` at the end.
     pub fn request(&self) -> Option<FrameBuf>
         ensures exact { result ≡ option_map spelling (request_by self.now) }
         ensures short { IfSome result (λ request. length request ≤ 17) }

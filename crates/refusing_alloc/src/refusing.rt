@@ -10,7 +10,7 @@ pub struct Refusing<B: Allocator> {
 }
 
 impl<B: Allocator> Refusing<B> {
-    /// Over `inner`. It refuses nothing until `refuse` says so.
+    /// Wraps `inner`. No request is refused until `refuse` is called.
     pub fn new(inner: B) -> Refusing<B> {
         Refusing {
             inner,
@@ -23,12 +23,12 @@ impl<B: Allocator> Refusing<B> {
         self.requests.refuse(k);
     }
 
-    /// Whether the request to refuse is still to come.
+    /// Whether the request to refuse hasn't been made yet.
     pub fn is_waiting(&self) -> bool {
         self.requests.is_waiting()
     }
 
-    /// How many requests were made, refused ones too.
+    /// Number of requests made, refused ones included.
     pub fn requests(&self) -> u64 {
         self.requests.made()
     }

@@ -1,8 +1,8 @@
-//! The requests of an allocator, counted.
+//! A count of allocation requests.
 
 use std::cell::Cell;
 
-/// How many requests were made, and how many are left up to the one that is refused.
+/// Number of requests made, and the number left up to the one that is refused.
 #[derive(Drop)]
 pub struct Requests {
     until: Cell<u64>,
@@ -10,7 +10,7 @@ pub struct Requests {
 }
 
 impl Requests {
-    /// None was made, and none is refused.
+    /// A count of 0, with no request to refuse.
     pub fn new() -> Requests {
         Requests {
             until: Cell::new(0),
@@ -23,17 +23,17 @@ impl Requests {
         self.until.set(k);
     }
 
-    /// Whether the one to refuse is still to come.
+    /// Whether the request to refuse hasn't been made yet.
     pub fn is_waiting(&self) -> bool {
         self.until.get() != 0
     }
 
-    /// How many were made; at `u64::MAX` it stays.
+    /// Number of requests made; it saturates at `u64::MAX`.
     pub fn made(&self) -> u64 {
         self.made.get()
     }
 
-    /// Counts a request, and tells whether it is the one to refuse.
+    /// Counts a request, and returns whether it is the one to refuse.
     pub fn is_next_refused(&self) -> bool {
         let left = self.until.get();
         self.until.set(left.saturating_sub(1));
