@@ -110,7 +110,7 @@ after_step Budget bytes s = s
 abbrev pub after : List ℕ → SearchState → SearchState
 after bytes s = after_step (step_of s) bytes s
 
----- the representation of a search
+-- ---- the representation of a search
 
 -- the next mask, and those after it from the end of their list
 abbrev pub due_of : Option (List ℕ) → List (List ℕ) → List (List ℕ)

@@ -59,7 +59,7 @@ shared_in visit = if has_collision visit && length visit.digits == 8
 abbrev pub shared_of : List Visit → List ℕ
 shared_of visits = filter_map shared_in visits
 
----- what a whole walk finds
+-- ---- what a whole walk finds
 
 -- the meters that have this number
 abbrev pub with_number : ℕ → List Identity → List Identity
