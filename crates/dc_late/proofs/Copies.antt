@@ -78,7 +78,7 @@ no_copy (Some l) request x other = go (bytes_eq x l.answer) refl
     go true e = absurd (other l refl ((bytes_eq-Decides x l.answer).0 e))
     go false e = rw e refl
 
--- what is no long frame is none
+-- bytes that are no long frame are no copy
 not_long : (last : Option Last) (request x : List ℕ) → IsLongLast last → ((control sender ci : ℕ) (body : List ℕ) → frame_of x ≡ Some (long control sender ci body) → ⊥) → is_copy last request x ≡ false
 not_long last request x is other = no_copy last request x (λ l e same. go last l e same is)
   where

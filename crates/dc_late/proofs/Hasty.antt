@@ -1,5 +1,5 @@
 -- Without the rule of quiet a reading is wrong: the late acknowledgement of one meter is taken for that of another,
--- which then goes on where it stood.
+-- which then continues from its old position.
 use Rattle.std.proofs.Common.{◌≡◌, ◌≢◌, ℕ, zero, suc, ◌+◌, ◌⊎◌, inl, inr, Bool, true, false, List, [], ◌∷◌, length, Option, Some, None, Ok, ◌==◌, arith, refl, sym, ◌∙◌, ap, subst}
 use Rattle.std.specs.Prelude.{slice_get, slice_index, ◌≤◌}
 use Rattle.std.specs.List.{AllByRecursion}

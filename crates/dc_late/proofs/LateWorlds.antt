@@ -240,7 +240,7 @@ still_clear in_time last frame sent way clear unanswered group None is e = go (h
 
 -- ---- the exchange
 
--- the same meter, where it stands
+-- the same meter, at its position
 pub follows_there : (meters : List Meter) (w : LateWorld) (r : Running) (m : Meter) (p : Position) → Follows meters w r → slice_get meters r.meter ≡ Some m → slice_get w.world.positions r.meter ≡ Some p
     → IsUnderWay r.session.stage r.session.address r.session.settled r.meter m p w.world.positions w.under_way × IsLast r.session.stage r.session.address m r.session.settled w.last
 follows_there meters w r m p f at stands =

@@ -25,7 +25,7 @@ use Rattle.dc_world.proofs.Replies.{answer_to-reset, answer_to-selection}
 use Rattle.dc_late.specs.Late.{and_sent}
 use Rattle.dc_late.proofs.UnderWay.{answer_no, IsOld, IsNew, IsAcknowledged, IsUnreadable, IsUnderWay, all_map, ordered_map, all_sent, ordered_sent}
 
--- where the meter stands, and what is under way
+-- the meter's position, and the answers under way
 pub record Line (stage : Stage) (address : Option ℕ) (n i : ℕ) (m : Meter) (positions : List Position) (way : List (List ℕ)) : Type 0 where
   pub position : Position
   pub stands : slice_get positions i ≡ Some position

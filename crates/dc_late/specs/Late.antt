@@ -1,5 +1,5 @@
--- A line whose link may deliver answers late, first in first out, and the two rules of the line layer: copies and
--- quiet.
+-- A line whose link may deliver answers late, first in first out, and the two rules of the line
+-- layer: copies and quiet.
 use Rattle.std.specs.Prelude.{◌≡◌, ◌≢◌, ℕ, ◌+◌, Bool, true, false, not, ◌&&◌, ◌||◌, List, [], ◌∷◌}
 use Rattle.std.specs.Prelude.{◌++◌, drop, Option, Some, None, slice_get, ◌==◌, bytes_eq}
 use Rattle.std.specs.Prelude.{if◌then◌else◌}
@@ -14,13 +14,13 @@ use Rattle.dc_world.specs.Meter.{Meter, Position, moved_by, answer_to}
 use Rattle.dc_world.specs.World.{World, Running, new_world, world_step, positions_after, heard_in}
 use Rattle.dc_world.specs.World.{running_after}
 
--- the last long frame that was heard on the line, and the request that it was heard for
+-- the last long frame that was received on the line, and the request that it answered
 pub record Last : Type 0 where
   pub request : List ℕ
   pub answer : List ℕ
 
--- the meters, the session and what is held, as on a line that isn't late; the answers under way, the oldest first;
--- whether no answer was missed since the line was last quiet
+-- the meters, the session and the finished readouts, as on a line without delay; the answers under
+-- way, the oldest first; whether no answer was missed since the line was last quiet
 pub record LateWorld : Type 0 where
   pub world : World
   pub under_way : List (List ℕ)
@@ -35,9 +35,9 @@ new_late_world meters = record {
   clear = true;
 }
 
--- A readout is to begin; the oldest answers arrive and are dropped; the session's request goes out, the line
--- does this to it and to its answer, and an answer is heard in time or isn't; what was heard is committed; the
--- concentrator stops.
+-- A readout begins; the oldest answers arrive and are dropped; the session's request goes out with
+-- this outcome, and an answer is received in time or not; the received telegram is committed; the
+-- concentrator crashes.
 pub data LateEvent : Type 0 where
   starts : ℕ → LateEvent
   passes : ℕ → LateEvent
@@ -45,7 +45,8 @@ pub data LateEvent : Type 0 where
   commits : LateEvent
   stops : LateEvent
 
--- ---- the rule of copies: what equals the last long frame, which another request got, is no answer
+-- ---- the rule of copies: an answer that equals the last long frame, which answered another
+-- request, is dropped
 
 abbrev pub is_copy : Option Last → List ℕ → List ℕ → Bool
 is_copy None request answer = false
@@ -58,7 +59,7 @@ past_copies last request [] = []
 past_copies last request (answer ∷ more) =
     if is_copy last request answer then past_copies last request more else answer ∷ more
 
--- an acknowledgement makes the line forget the last one; what is no frame, or a short one, changes nothing
+-- an acknowledgement clears the last frame; bytes that are no frame, or a short frame, leave it
 abbrev pub last_after : Option FrameSeen → List ℕ → List ℕ → Option Last → Option Last
 last_after None request answer last = last
 last_after (Some ack) request answer last = None
@@ -66,15 +67,15 @@ last_after (Some (short control address)) request answer last = last
 last_after (Some (long control address ci body)) request answer last =
     Some (record { request = request; answer = answer })
 
--- ---- the rule of quiet: where an answer was missed, a session begins only when nothing is under way any more
+-- ---- the rule of quiet: after a missed answer a session begins only when no answer is under way
 
--- the reset of every selected meter has no answer
+-- the reset of all selected meters has no answer
 abbrev pub has_answer : FrameSeen → Bool
 has_answer ack = true
 has_answer (short control address) = not (control == snd_nke && address == selected)
 has_answer (long control address ci body) = true
 
--- silence, or what is no frame, where an answer was to come
+-- silence or bytes that are no frame, where an answer was expected
 abbrev pub clear_after : FrameSeen → Option FrameSeen → Bool → Bool
 clear_after request None clear = if has_answer request then false else clear
 clear_after request (Some frame) clear = clear
@@ -85,12 +86,12 @@ is_quiet (answer ∷ more) = false
 
 -- ---- an exchange
 
--- silence isn't under way
+-- adds an answer to those under way; silence adds none
 abbrev pub and_sent : List ℕ → List (List ℕ) → List (List ℕ)
 and_sent [] way = way
 and_sent (byte ∷ bytes) way = way ++ (byte ∷ bytes) ∷ []
 
--- what is heard, and what stays under way
+-- the answer received, and what stays under way
 pub record Listened : Type 0 where
   pub heard : List ℕ
   pub left : List (List ℕ)
@@ -104,7 +105,7 @@ abbrev pub listened : Bool → Option Last → List ℕ → List (List ℕ) → 
 listened true last request way = first_of (past_copies last request way)
 listened false last request way = record { heard = []; left = way }
 
--- the session judges what was heard
+-- the session judges the answer
 abbrev pub heard_late : Listened → FrameSeen → List Position → Running → LateWorld → LateWorld
 heard_late l frame positions r w = record {
   world = record w.world {
@@ -116,7 +117,7 @@ heard_late l frame positions r w = record {
   clear = clear_after frame (frame_of l.heard) w.clear;
 }
 
--- the answer goes onto the link behind those under way
+-- the answer goes onto the link after those under way
 abbrev pub exchanged_as : List Meter → Outcome → Bool → FrameSeen → Running → LateWorld → LateWorld
 exchanged_as meters outcome in_time frame r w =
     heard_late (listened in_time w.last (spelling frame)
@@ -142,7 +143,7 @@ started_if true meters place w = record w {
 }
 started_if false meters place w = w
 
--- a concentrator that stops forgets what was heard last, and whether an answer was missed
+-- a crash of the concentrator clears the last frame and whether an answer was missed
 abbrev pub late_step : List Meter → LateWorld → LateEvent → LateWorld
 late_step meters w (starts place) = started_if (is_quiet w.under_way || w.clear) meters place w
 late_step meters w (passes count) = record w { under_way = drop count w.under_way }
@@ -161,16 +162,16 @@ late_from meters w (event ∷ events) = late_from meters (late_step meters w eve
 abbrev pub late_after : List Meter → List LateEvent → LateWorld
 late_after meters events = late_from meters (new_late_world meters) events
 
--- ---- premise and statements
+-- ---- premise and theorems
 
--- a telegram and the next of one readout differ, as their access numbers do
+-- consecutive telegrams of a readout differ, as their access numbers do
 abbrev pub AreDifferent : List Meter → Type 0
 AreDifferent meters =
     (i k : ℕ) (meter : Meter) (body next : List ℕ) → slice_get meters i ≡ Some meter
     → slice_get meter.bodies k ≡ Some body → slice_get meter.bodies (k + 1) ≡ Some next
     → body ≢ next
 
--- what the meter that is read answers to the request that is out is no copy
+-- the answer to the current request is never a copy
 abbrev pub NoAnswerIsACopy : List Meter → LateWorld → Type 0
 NoAnswerIsACopy meters w =
     (r : Running) (frame answer : FrameSeen) (meter : Meter) (p : Position)

@@ -3,7 +3,7 @@ use Rattle.std.specs.Prelude.{List, [], ◌∷◌, None, true}
 use Rattle.dc_world.specs.Meter.{Meter}
 use Rattle.dc_late.specs.Late.{LateWorld, LateEvent, starts, started_if, late_step, new_late_world}
 
--- without the rule of copies: nothing that was heard is remembered
+-- without the rule of copies: no frame is remembered
 abbrev pub careless_step : List Meter → LateWorld → LateEvent → LateWorld
 careless_step meters w event = record (late_step meters w event) { last = None }
 

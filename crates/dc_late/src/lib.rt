@@ -1,12 +1,12 @@
-//! The promises of dc_world over a link that delivers answers late: after the time-out, as the answer to a later
-//! request, first in first out.
+//! The theorems of dc_world over a link that delivers answers late: after the time-out, as the
+//! answer to a later request, first in first out.
 //!
-//! The line layer keeps two rules. Copies: what equals, byte for byte, the last long frame that was heard on the
-//! line, and that another request got, is no answer; it is dropped, and the line is listened to further. Quiet: where
-//! an answer was missed since the line was last quiet, a session begins only when nothing is under way any more.
+//! The line layer keeps two rules. Copies: an answer that equals, byte for byte, the last long
+//! frame received on the line, which answered another request, is dropped, and the line waits for
+//! the next answer. Quiet: after a missed answer a session begins only when no answer is under way.
 //!
-//! So each reading is one whole readout of one meter, in order, however late answers come. Without either rule one is
-//! wrong: two laws show how.
+//! Then each reading is one whole readout of one meter, in order, however late answers arrive.
+//! Without either rule a reading can be wrong: two theorems give the example.
 #![tactic(auto)]
 
 mod laws;

@@ -12,7 +12,7 @@ use Rattle.dc_gateway.specs.Blocks.{most_answer}
 use Rattle.dc_line.specs.Heard.{Hearing, IsKept, came_by, begins, echo_room, past_echo, missing_of, missing_by, wanted_of, heard_of}
 use Rattle.dc_line.proofs.Pieces.{exact_more}
 
--- ---- a list at the front of another
+-- ---- a list that is a prefix of another
 
 pub begins_front : (front bytes : List ℕ) → begins front bytes ≡ true → bytes ≡ front ++ drop (length front) bytes
 begins_front front bytes is = (starts_is Decides-eqb bytes front (begins front bytes) refl).0 is

@@ -3,26 +3,27 @@ use Rattle.std.specs.Prelude.{◌≡◌, ℕ, Bool, true, List, [], ◌∷◌, O
 use Rattle.std.specs.Prelude.{nat_le}
 use Rattle.dc_gateway.specs.Blocks.{most_block}
 
--- the most times that an answer is found not to be complete yet
+-- maximum number of times that an answer is found incomplete
 abbrev pub most_waits : ℕ
 most_waits = 65535
 
--- a count of waits, which is never more than those
+-- a count of waits, at most that many
 abbrev pub waits_of : ℕ → ℕ
 waits_of count = min count most_waits
 
--- the most steps in which a bus settles: 64 answers or silences, each of which may be waited for as often as that
+-- maximum number of steps in which a bus settles: 64 answers or silences, each after that many
+-- waits at most
 abbrev pub most_settles : ℕ
 most_settles = 4259840
 
--- a request that one block holds, where there is one
+-- a request that fits one block, if any
 abbrev pub is_short : Option (List ℕ) → Bool
 is_short None = true
 is_short (Some request) = nat_le (length request) most_block
 
 -- ---- several steps
 
--- the bus gave these answers, one after the other, and in between none was complete
+-- the bus returned these answers, one after the other, with waits between them
 pub data Runs {B : Type 0} (gives : B → List ℕ → B → Type 0) (waits : B → B → Type 0)
     : B → List (List ℕ) → B → Type 0 where
   rests : {old new : B} → new ≡ old → Runs gives waits old [] new

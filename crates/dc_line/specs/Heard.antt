@@ -1,4 +1,5 @@
--- What is heard of an answer on a wire, on which nothing marks its end (this product; the frames of EN 13757-2).
+-- What is received as an answer on a wire, on which nothing marks its end (this product; the frames
+-- of EN 13757-2).
 use Rattle.std.specs.Prelude.{◌≡◌, ℕ, ◌-◌, ◌<◌, ◌≤◌, Bool, true, false, List, [], ◌∷◌, ◌++◌, drop}
 use Rattle.std.specs.Prelude.{length, take, min, ◌==◌, nat_eq, if◌then◌else◌}
 use Rattle.std.specs.List.{All, concat, starts_with}
@@ -10,18 +11,18 @@ use Rattle.dc_line.specs.Wire.{Sound, piece, nothing, gap, silence, pieces, byte
 
 -- ---- the bytes
 
--- The first frame, where one is whole at the front of the bytes, and else all that is kept: bytes that begin no frame
--- are heard out.
+-- The first frame, if the bytes begin with a whole one, and otherwise all that is kept: bytes that
+-- begin no frame are read until the line is silent.
 abbrev pub front_by : Need → List ℕ → List ℕ
 front_by (Whole count) bytes = take count bytes
 front_by (More count) bytes = take most_answer bytes
 front_by Bad bytes = take most_answer bytes
 
--- WHAT IS HEARD OF THESE BYTES, after which the line is silent
+-- WHAT IS RECEIVED AS THE ANSWER, of these bytes and then silence
 abbrev pub heard_of : List ℕ → List ℕ
 heard_of bytes = front_by (need_of bytes) bytes
 
--- how many bytes an answer still misses: none where it is whole or as long as is kept
+-- the number of bytes that an answer lacks: 0 if it is whole or as long as is kept
 abbrev pub missing_by : Need → ℕ → ℕ
 missing_by (Whole count) room = 0
 missing_by (More count) room = min count room
@@ -39,24 +40,24 @@ is_over answer = missing_of answer == 0
 abbrev pub begins : List ℕ → List ℕ → Bool
 begins front bytes = starts_with nat_eq bytes front
 
--- A converter may echo the request: where the bytes begin with it, the answer is what follows.
+-- A converter may echo the request: if the bytes begin with it, the answer is what follows.
 abbrev pub past_echo : List ℕ → List ℕ → List ℕ
 past_echo request bytes = if begins request bytes then drop (length request) bytes else bytes
 
--- bytes that may become an echo are heard to its end at most
+-- bytes that may become an echo are read to its end at most
 abbrev pub echo_room : List ℕ → List ℕ → ℕ
 echo_room request bytes =
     if begins request bytes then most_answer
     else if begins bytes request then length request - length bytes
     else most_answer
 
--- how many bytes more are wanted after these: never more than the answer misses
+-- the number of bytes to read next: never more than the answer lacks
 abbrev pub wanted_of : List ℕ → List ℕ → ℕ
 wanted_of request bytes = min (missing_of (past_echo request bytes)) (echo_room request bytes)
 
 -- ---- the answer to a request
 
--- a request, and the bytes that came since
+-- a request, and the bytes received since
 pub record Hearing : Type 0 where
   pub request : List ℕ
   pub bytes : List ℕ
@@ -64,13 +65,13 @@ pub record Hearing : Type 0 where
 abbrev pub answer_of : Hearing → List ℕ
 answer_of hearing = past_echo hearing.request hearing.bytes
 
--- the answer is kept without the echo, and is as long as what is heard of it
+-- the answer is kept without the echo, and is as long as the answer that its bytes spell
 pub record IsKept (request answer : List ℕ) (echoed : Bool) : Type 0 where
   pub fits : length answer ≤ most_answer
   pub exact : heard_of answer ≡ answer
   pub plain : echoed ≡ false → begins request answer ≡ false
 
--- the bytes that came, of which the echo may be the front
+-- the bytes received, which may begin with the echo
 abbrev pub came_by : List ℕ → List ℕ → Bool → List ℕ
 came_by request answer echoed = (if echoed then request else []) ++ answer
 
@@ -80,18 +81,19 @@ and_bytes hearing bursts = record hearing { bytes = hearing.bytes ++ concat burs
 abbrev pub HasByte : List ℕ → Type 0
 HasByte burst = 0 < length burst
 
--- how an answer ends: it is over, or there is silence after it, or, after a first byte, a gap
+-- how an answer ends: it is over, silence follows it, or a gap follows its first byte
 pub data Ends (answer : List ℕ) : List Sound → Type 0 where
   is_whole : is_over answer ≡ true → Ends answer []
   is_silent : is_over answer ≡ false → Ends answer (silence ∷ [])
   has_gap : is_over answer ≡ false → 0 < length answer → Ends answer (gap ∷ [])
 
--- why it isn't complete yet: nothing more came, and a gap before its first byte ends nothing
+-- why it isn't complete yet: nothing more came, or a gap came before its first byte
 pub data Lasts (answer : List ℕ) : Sound → Type 0 where
   still : Lasts answer nothing
   still_none : answer ≡ [] → Lasts answer gap
 
--- AN ANSWER WAS HEARD by a wire that gave these bytes in this step: no byte is left out, and none is too many.
+-- AN ANSWER WAS RECEIVED by a wire that gave these bytes in this step: no byte is missing and none
+-- is added.
 pub record Answers {W : Type 0} (hears : W → Sound → W → Type 0) (old : W) (before : Hearing)
     (answer : List ℕ)
     (new : W) (after : Hearing) : Type 0 where
@@ -116,7 +118,7 @@ pub record Waits {W : Type 0} (hears : W → Sound → W → Type 0) (old : W) (
   pub lasts : Lasts (answer_of after) last
   pub unfinished : is_over (answer_of after) ≡ false
 
--- what came late was dropped, and then the request went out
+-- late bytes were dropped, and then the request was sent
 pub record Sends {W : Type 0} (drops : W → W → Type 0) (sends : W → List ℕ → W → Type 0) (old : W)
     (request : List ℕ)
     (new : W) : Type 0 where
@@ -124,10 +126,10 @@ pub record Sends {W : Type 0} (drops : W → W → Type 0) (sends : W → List �
   pub dropped : drops old between
   pub sent : sends between request new
 
--- ---- the whole of it, from the request on
+-- ---- the whole exchange, from the request on
 
--- THESE ARE HEARD AS THIS ANSWER: every byte that came is one of it or of the echo, it is no longer than what is heard
--- of its bytes, and it ends as an answer ends.
+-- THESE SOUNDS GIVE THIS ANSWER: every byte received belongs to it or to the echo, it is no longer
+-- than the answer that its bytes spell, and it ends as an answer ends.
 pub record Heard (request : List ℕ) (sounds : List Sound) (answer : List ℕ) : Type 0 where
   pub front : List Sound
   pub end : List Sound
@@ -136,7 +138,7 @@ pub record Heard (request : List ℕ) (sounds : List Sound) (answer : List ℕ) 
   pub exact : heard_of answer ≡ answer
   pub ends : Ends answer end
 
--- these bytes came, and where the answer isn't over, no more of them
+-- these bytes came, and if the answer isn't over, no more of them
 pub record ComesFrom (bytes : List ℕ) (sounds : List Sound) (answer : List ℕ) : Type 0 where
   pub rest : List ℕ
   pub came : bytes ≡ bytes_in sounds ++ rest
@@ -145,6 +147,6 @@ pub record ComesFrom (bytes : List ℕ) (sounds : List Sound) (answer : List ℕ
 abbrev pub IsByte : ℕ → Type 0
 IsByte byte = byte < 256
 
--- what its own first bytes say of its length is its length
+-- its length is the one that its first bytes state
 abbrev pub IsFrame : List ℕ → Type 0
 IsFrame request = need_of request ≡ Whole (length request)

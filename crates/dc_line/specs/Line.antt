@@ -1,4 +1,4 @@
--- A line over a wire, as long as it isn't lost (this product).
+-- A line over a wire, until it is lost (this product).
 use Rattle.std.specs.Prelude.{◌≡◌, ℕ, Bool, true, false, List, [], if◌then◌else◌}
 use Rattle.dc_io.specs.Failures.{HasRisen}
 use Rattle.dc_line.specs.Heard.{Hearing, Answers, Sends, Waits}
@@ -6,12 +6,12 @@ use Rattle.dc_line.specs.Wire.{Sound, AreHeard}
 use Rattle.dc_line.specs.declared.line.Line.{Line}
 use Rattle.dc_line.specs.declared.wire.Wire.{Ghosts as WireGhosts}
 
--- A line is lost by a failure of its wire alone, and then it stays as it is.
+-- A line is lost only by a failure of its wire, and then it stays as it is.
 pub record IsLostBy {W : Type 0} (failures : W → ℕ) (old new : Line W) : Type 0 where
   pub untouched : old.lost ≡ true → new ≡ old
   pub failed : old.lost ≡ false → new.lost ≡ true → HasRisen (failures old.wire) (failures new.wire)
 
--- a lost line waits for nothing
+-- a lost line has no waits left
 abbrev pub left_of : {W : Type 0} → (W → ℕ) → Line W → ℕ
 left_of left line = if line.lost then 0 else left line.wire
 
@@ -34,7 +34,7 @@ pub record LineGives {W : Type 0} (wire : WireGhosts W) (old : Line W) (answer :
 
 -- ---- from the request to the answer
 
--- a line that is heard again and again gives this answer, over a wire that gave these
+-- repeated calls of the line return this answer, over a wire that gave these sounds
 pub data GivesOver {W : Type 0} (wire : WireGhosts W) : Line W → List ℕ → Line W → Type 0 where
   gives_now : {old new : Line W} {answer : List ℕ} → LineGives wire old answer new
       → GivesOver wire old answer new

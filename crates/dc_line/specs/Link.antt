@@ -1,4 +1,5 @@
--- A link of the block protocol as a bus in two halves (this product): its answers are ended, so none is late.
+-- A link of the block protocol as a bus in two halves (this product): blocks mark an answer's end,
+-- so none is late.
 use Rattle.std.specs.Prelude.{◌≡◌, ℕ, true, false, List, [], Option, Some, None}
 use Rattle.dc_gateway.specs.Asking.{Asks}
 use Rattle.dc_io.specs.declared.stream.Sink.{Ghosts as SinkGhosts}
@@ -13,7 +14,7 @@ pub record LinkSends {R W : Type 0} (reader : SourceGhosts R) (writer : SinkGhos
   pub gateway : new.gateway ≡ old.gateway
   pub kept : old.gateway.lost ≡ false → new.request ≡ Some request
 
--- the exchange with the gateway for the request that is kept, and silence where none is
+-- the exchange with the gateway for the request that is kept, or silence if no request is kept
 abbrev pub Exchanged : {R W : Type 0} (reader : SourceGhosts R) (writer : SinkGhosts W)
     → Option (List ℕ)
     → BlockLink R W reader writer → List ℕ → BlockLink R W reader writer → Type 0

@@ -9,7 +9,7 @@ pub record Taped : Type 0 where
   pub events : List Event
   pub failures : ℕ
 
--- as often as events are left
+-- the number of events left
 abbrev pub tape_waits : Taped → ℕ
 tape_waits tape = waits_of (length tape.events)
 

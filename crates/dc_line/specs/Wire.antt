@@ -1,10 +1,10 @@
--- What comes on a wire, one thing after the other (this product).
+-- The sounds of a wire, one after the other (this product).
 use Rattle.std.specs.Prelude.{◌≡◌, ℕ, ◌≤◌, ◌<◌, List, [], ◌∷◌, ◌++◌, length, map, take}
 use Rattle.dc_line.specs.declared.wire.Came.{Came}
 use Rattle.dc_line.specs.declared.wire.Came.TheVariants.{Bytes, Nothing, Gap, Silence}
 
--- Some bytes came; nothing yet; nothing for as long as ends an answer, since the last byte; nothing for the whole
--- patience, since the request, the last byte or the last silence.
+-- Some bytes; nothing yet; a gap: nothing since the last byte for as long as ends an answer;
+-- silence: nothing for the whole time-out, since the request, the last byte or the last silence.
 pub data Sound : Type 0 where
   piece : List ℕ → Sound
   nothing : Sound
@@ -25,29 +25,29 @@ bytes_in (sound ∷ more) = bytes_of sound ++ bytes_in more
 abbrev pub pieces : List (List ℕ) → List Sound
 pieces bursts = map piece bursts
 
--- these came one after the other
+-- these sounds came one after the other
 abbrev pub AreHeard : {W : Type 0} → (W → Sound → W → Type 0) → W → List Sound → W → Type 0
 AreHeard hears old [] new = new ≡ old
 AreHeard {W} hears old (sound ∷ more) new =
     (between : W) × hears old sound between × AreHeard hears between more new
 
--- ---- the answer of one call
+-- ---- the result of one call
 
--- what came is at the front of the room
+-- the first bytes of the room are those that came
 abbrev pub sound_of : Came → List ℕ → Sound
 sound_of (Bytes count) room = piece (take count room)
 sound_of Nothing room = nothing
 sound_of Gap room = gap
 sound_of Silence room = silence
 
--- bytes that came are one at least, and fit
+-- at least one byte came, and all of them fit
 abbrev pub FitsRoom : Came → ℕ → Type 0
 FitsRoom (Bytes count) room = (0 < count) × (count ≤ room)
 FitsRoom Nothing room = Unit {0}
 FitsRoom Gap room = Unit {0}
 FitsRoom Silence room = Unit {0}
 
--- how often nothing may still come: less often after nothing or a gap, and never more often
+-- the number of waits left: smaller after nothing or a gap, and never larger
 abbrev pub Wanes : Came → ℕ → ℕ → Type 0
 Wanes (Bytes count) before now = now ≤ before
 Wanes Nothing before now = now < before

@@ -8,8 +8,8 @@ use dc_gateway::{AnswerBuf, Gateway};
 use dc_io::{Sink, Source};
 use dc_linkframe::FrameBuf;
 
-/// A gateway, and the request that is to be exchanged with it. Taking the answer is the whole
-/// exchange, which waits for the answer's end; so no answer is late.
+/// A gateway, and the request to exchange with it. Taking the answer performs the whole exchange,
+/// which waits for the answer's end; so no answer is late.
 #[derive(Drop)]
 pub struct BlockLink<R: Source + Drop, W: Sink + Drop> {
     /// The gateway.
@@ -20,7 +20,7 @@ pub struct BlockLink<R: Source + Drop, W: Sink + Drop> {
 }
 
 impl<R: Source + Drop, W: Sink + Drop> BlockLink<R, W> {
-    /// A gateway that nothing is asked yet.
+    /// A link on which no request was sent yet.
     pub fn new(gateway: Gateway<R, W>) -> Self
         ensures gateway { result.gateway ≡ gateway }
         ensures none { result.request ≡ None }

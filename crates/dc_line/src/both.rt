@@ -1,4 +1,4 @@
-//! A whole bus of the two halves, for whoever asks one bus alone.
+//! A whole bus over its two halves, for callers that use one bus at a time.
 
 ghost use Rattle.std.specs.Prelude.{◌≡◌, ◌≤◌, true, [], ◌∷◌, length};
 ghost use Rattle.dc_gateway.specs.Blocks.{most_block};
@@ -9,18 +9,18 @@ use crate::bus::{HalfBus, QuietBus};
 use dc_gateway::{AnswerBuf, Bus};
 use dc_linkframe::FrameBuf;
 
-/// Waits until a bus may have something.
+/// A way to wait until a bus may have received something.
 pub trait Pause<B> {
-    /// Waits until something may have come on the bus, or its patience is over.
+    /// Waits until something may have arrived on the bus, or its time-out is over.
     fn pause(&mut self, bus: &B);
 }
 
-/// A bus, and how its answers are waited for.
+/// A bus, and the way to wait for its answers.
 #[derive(Drop)]
 pub struct Both<B: HalfBus + Drop, P: Pause<B> + Drop> {
     /// The bus.
     pub bus: B,
-    /// How it waits.
+    /// The way to wait.
     pub pause: P,
 }
 
@@ -54,7 +54,7 @@ impl<B: HalfBus + Drop, P: Pause<B> + Drop> Bus for Both<B, P> {
     ghost use Rattle.std.specs.Prelude.{None, []};
     ghost use Rattle.dc_line.specs.Both.{BothAsk};
 
-    // Whom it leads to isn't told.
+    // The meters on it aren't known to contracts.
     ghost meters = { λ _. None };
 
     ghost selected = { λ _. [] };

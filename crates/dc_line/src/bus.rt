@@ -1,4 +1,4 @@
-//! A bus in two halves: a request is sent, and its answer is taken once it is complete.
+//! A bus in two halves: send a request, and take its answer once it is complete.
 
 ghost use Rattle.std.specs.Prelude.{◌≡◌, ◌⊎◌, ◌≤◌, ◌<◌, ℕ, Bool, true, List, [], IfSome, IfNone};
 ghost use Rattle.std.specs.Prelude.{length};
@@ -10,17 +10,17 @@ use dc_linkframe::FrameBuf;
 
 /// A bus on which a request is sent first, and its answer is taken once it is complete.
 ///
-/// No call waits. Whoever asks several buses waits for all of them at once, and then calls
+/// No call waits. A caller with several buses waits for all of them at once, and then calls
 /// [`hear`](HalfBus::hear) on each.
 pub trait HalfBus {
     // Whether the bus is lost: it is silent and untouched from then on.
     ghost lost: { Self → Bool };
 
-    // How often `hear` can still find no complete answer.
+    // Number of times that `hear` can still find the answer incomplete.
     ghost waits_left: { Self → ℕ };
 
-    // What it does to the bus that a request is sent, that no answer is complete yet, and that an
-    // answer is taken.
+    // The effect on the bus of sending a request, of finding no complete answer, and of taking an
+    // answer.
     ghost sends: { Self → List ℕ → Self → Type 0 };
 
     ghost waits: { Self → Self → Type 0 };
@@ -51,31 +51,32 @@ pub trait HalfBus {
         ensures at_once { lost self.old ≡ true → IfNone result ⊥ };
 }
 
-/// A bus on which answers may come late, so that a readout may begin only when none is under way.
+/// A bus on which answers may be late, so that a readout may begin only when no answer is under
+/// way.
 pub trait QuietBus: HalfBus {
     // Whether a readout may begin.
     ghost ready: { Self → Bool };
 
-    // What a step of settling does to the bus.
+    // The effect of a step of settling on the bus.
     ghost settles: { Self → Self → Type 0 };
 
-    // How many steps of settling it may still take.
+    // Maximum number of steps of settling left.
     ghost settles_left: { Self → ℕ };
 
-    // How many late answers were dropped.
+    // Number of late answers that were dropped.
     ghost late: { Self → ℕ };
 
-    /// Whether a readout may begin. A lost bus is ready, as it is silent.
+    /// Whether a readout may begin. A lost bus is ready, since it is silent.
     fn is_ready(&self) -> bool
         ensures ready { result ≡ ready self.now }
         ensures few { settles_left self.now ≤ most_settles };
 
-    /// Drops what has come by now, one step toward a quiet bus. It doesn't wait.
+    /// Drops what has arrived so far, one step towards a quiet bus. It doesn't wait.
     fn settle(&mut self)
         ensures step { settles self.old self.new }
         ensures fewer { (ready self.new ≡ true) ⊎ (settles_left self.new < settles_left self.old) };
 
-    /// How many late answers were dropped.
+    /// Number of late answers that were dropped.
     fn late(&self) -> u64
         ensures { result ≡ late self.now };
 }

@@ -1,4 +1,4 @@
-//! An answer in the making.
+//! An answer that is being received.
 
 ghost use Rattle.std.specs.Prelude.{◌≡◌, ◌+◌, ◌<◌, ◌≤◌, ◌++◌, ◌==◌, [], length, not};
 ghost use Rattle.dc_gateway.specs.Blocks.{most_answer};
@@ -9,12 +9,12 @@ use dc_linkframe::{FrameBuf, Need, need};
 use std::marker::Model;
 use std::mem;
 
-/// A request, and the bytes that came since. The echo of the request is no part of the answer.
+/// A request, and the bytes received since. The echo of the request is no part of the answer.
 #[derive(Drop)]
 pub struct Hearing {
     request: FrameBuf,
     answer: AnswerBuf,
-    // Whether the bytes that came begin with the request.
+    // Whether the bytes received begin with the request.
     echoed: bool,
 }
 
@@ -31,7 +31,7 @@ impl Model for Hearing {
     ghost invariant = { λ h. IsKept h.request h.answer h.echoed };
 }
 
-// How many bytes an answer still misses: none, where it is over.
+// Number of bytes that an answer lacks: 0 if it is over.
 fn missing(answer: &[u8]) -> usize
     requires { length answer.now ≤ most_answer }
     ensures { result ≡ missing_of answer.now }
@@ -45,7 +45,7 @@ fn missing(answer: &[u8]) -> usize
 }
 
 impl Hearing {
-    /// The request has just been sent, and no byte came.
+    /// Begins after a request was sent, with no byte received.
     pub fn new(request: &FrameBuf) -> Hearing
         ensures { result ≡ record { request = request.now; bytes = [] } }
     {
@@ -56,7 +56,7 @@ impl Hearing {
         }
     }
 
-    /// How many bytes more are wanted: none, where the answer is over.
+    /// Number of bytes to read next: 0 if the answer is over.
     pub fn wanted(&self) -> usize
         ensures wanted { result ≡ wanted_of self.now.request self.now.bytes }
         ensures fits { length self.now.bytes + result ≤ length self.now.request + most_answer }
@@ -73,14 +73,14 @@ impl Hearing {
         count
     }
 
-    /// Whether a byte of the answer came.
+    /// Whether a byte of the answer was received.
     pub fn has_begun(&self) -> bool
         ensures { result ≡ not (length (answer_of self.now) == 0) }
     {
         !self.answer.as_slice().is_empty()
     }
 
-    /// Adds bytes that came.
+    /// Appends received bytes.
     pub fn append(&mut self, more: &[u8])
         requires { length more.now ≤ wanted_of self.old.request self.old.bytes }
         ensures { self.new ≡ record self.old { bytes = self.old.bytes ++ more.now } }

@@ -1,15 +1,16 @@
-//! A bus line through a transparent level converter: raw bytes of EN 13757-2, whose answers have no
-//! mark at their end.
+//! A bus line through a transparent level converter: the raw bytes of EN 13757-2, in which nothing
+//! marks the end of an answer.
 //!
-//! A [`Wire`] sends bytes and gives what has come by now; no call waits. A [`Line`] is a wire as long
-//! as it hasn't failed: what is heard of an answer is its first whole frame, or all that came before
-//! the silence, at most 300 bytes ([`AnswerBuf`](dc_gateway::AnswerBuf)), without the echo of the
-//! request that some converters send. It is a [`HalfBus`], a bus on which a request is sent first, and
-//! its answer is taken once it is complete; so one thread can serve several. A [`BlockLink`] is one
-//! over the block protocol.
+//! A [`Wire`] sends bytes and returns what has arrived so far; no call waits. A [`Line`] is a wire
+//! until it fails. Its answer is the first whole frame, or all bytes before the silence, at most
+//! 300 ([`AnswerBuf`](dc_gateway::AnswerBuf)), without the echo of the request that some converters
+//! send. It is a [`HalfBus`], a bus on which a request is sent first, and its answer is taken once
+//! it is complete; so one thread can serve several. A [`BlockLink`] is a half bus over the block
+//! protocol.
 //!
-//! [`PollWire`] is the wire over a descriptor, a TCP stream's or a terminal's; it tells no bytes.
-//! [`Tape`] is one in memory. [`Both`] makes one bus of the halves, on which a search works.
+//! [`PollWire`] is the wire over a descriptor, of a TCP stream or a terminal; its bytes aren't
+//! known to contracts. [`Tape`] is a wire in memory. [`Both`] makes one bus of the halves, on which
+//! a search runs.
 #![tactic(auto)]
 
 mod block_link;

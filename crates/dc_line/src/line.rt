@@ -1,4 +1,4 @@
-//! A line over a wire, as long as it isn't lost.
+//! A line over a wire, until it is lost.
 
 ghost use Rattle.std.specs.Prelude.{◌≡◌, ◌≤◌, ◌<◌, [], true, false, IfSome, IfNone};
 ghost use Rattle.dc_line.specs.Line.{LineGives, LineSends, LineWaits, left_of};
@@ -17,12 +17,12 @@ pub struct Line<W: Wire + Drop> {
     pub wire: W,
     /// Whether the wire failed; the line is silent from then on.
     pub lost: bool,
-    /// The request that was sent last, and what came since.
+    /// The request that was sent last, and the bytes received since.
     pub hearing: Hearing,
 }
 
 impl<W: Wire + Drop> Line<W> {
-    /// A line that isn't lost.
+    /// Returns a line that isn't lost.
     pub fn new(wire: W) -> Self
         ensures { result ≡ record {
           wire = wire;

@@ -10,7 +10,7 @@ use dc_gateway::{AnswerBuf, MOST_ANSWER};
 use dc_io::IoFault;
 use dc_linkframe::FrameBuf;
 
-/// Sends a request, after whatever came late is dropped.
+/// Drops late bytes, and sends a request.
 pub fn send<W: Wire>(wire: &mut W, request: &FrameBuf) -> Result<(), IoFault>
     ensures sent { OnOk result (Sends W.drops W.sends wire.old request.now wire.new) }
     ensures well { OnOk result (W.failures wire.new ≡ W.failures wire.old) }
@@ -20,7 +20,7 @@ pub fn send<W: Wire>(wire: &mut W, request: &FrameBuf) -> Result<(), IoFault>
     wire.send(request.as_slice())
 }
 
-/// Takes what has come by now, and the answer once it is complete.
+/// Takes what has arrived so far, and returns the answer once it is complete.
 pub fn hear<W: Wire>(wire: &mut W, hearing: &mut Hearing) -> Result<Option<AnswerBuf>, IoFault>
     ensures heard { IfOk result (λ heard. IfSome heard (λ answer.
         Answers W.hears wire.old hearing.old answer wire.new hearing.new)) }

@@ -16,36 +16,36 @@ use std::os::fd::AsRawFd;
 use std::rt::Clock;
 use std::time::{Duration, Instant};
 
-/// How many milliseconds without a byte end an answer that has begun.
+/// The gap that ends an answer which has begun, in milliseconds.
 pub const GAP: u64 = 500;
 
-// This many reads at most drop what came late.
+// Maximum number of reads that drop late bytes.
 const MOST_DISCARDS: usize = 64;
 
-// So often at most it is polled again where a signal broke a poll or a read off.
+// Maximum number of polls repeated because a signal interrupted a poll or a read.
 const MOST_POLLS: usize = 1_000;
 
-// So often nothing may come after a request, before the wire itself waits for the rest of its
-// patience.
+// Maximum number of times that nothing may come after a request, before the wire itself waits for
+// the rest of its time-out.
 const MOST_WAITS: u16 = 65_535;
 
-/// A TCP stream or a terminal as a wire, by polls that don't wait. A read that gives no byte, though
-/// there is something to read, is the end.
+/// A TCP stream or a terminal as a wire, by polls that don't wait. A read that returns no byte when
+/// the descriptor is readable means the end of the stream.
 #[derive(Drop)]
 pub struct PollWire<S: Read + Write + AsRawFd + Drop, C: Clock + Drop> {
     stream: S,
     clock: C,
     patience: Duration,
-    // When the request went out, the last byte came or the last silence was answered.
+    // The time at which the request was sent, the last byte came or the last silence was returned.
     since: Instant,
-    // Whether a byte came since, and no gap after it was answered.
+    // Whether a byte came since, and no gap after it was returned.
     begun: bool,
     waits: u16,
     failures: u64,
 }
 
 impl<S: Read + Write + AsRawFd + Drop, C: Clock + Drop> PollWire<S, C> {
-    /// The stream as a wire that is silent after this many milliseconds.
+    /// Returns the stream as a wire with a time-out of this many milliseconds.
     ///
     /// # Errors
     /// The clock fails.
@@ -64,12 +64,12 @@ impl<S: Read + Write + AsRawFd + Drop, C: Clock + Drop> PollWire<S, C> {
         })
     }
 
-    /// The descriptor, by which a caller can wait for bytes of several wires at once.
+    /// The descriptor, for a caller that waits for the bytes of several wires at once.
     pub fn fd(&self) -> i32 {
         self.stream.as_raw_fd()
     }
 
-    /// How long it is until the next gap or silence, if no byte comes; none where the clock fails.
+    /// The time until the next gap or silence, if no byte comes; zero if the clock fails.
     pub fn left(&self) -> Duration {
         let limit = if self.begun {
             Duration::from_millis(GAP).min(self.patience)
@@ -82,7 +82,8 @@ impl<S: Read + Write + AsRawFd + Drop, C: Clock + Drop> PollWire<S, C> {
         }
     }
 
-    // What has come by now. Once nothing has come too often, it waits for the rest of the patience.
+    // Takes what has arrived. After `MOST_WAITS` calls without a byte it waits for the rest of the
+    // time-out.
     fn look(&mut self, room: &mut [u8]) -> Result<Came, IoFault>
         requires { 0 < length room.old }
         ensures fits { IfOk result (λ came. FitsRoom came (length room.old)) }
@@ -107,7 +108,7 @@ impl<S: Read + Write + AsRawFd + Drop, C: Clock + Drop> PollWire<S, C> {
         Ok(Came::Bytes(count))
     }
 
-    // Nothing has come, for so long.
+    // The result where nothing has come for this long.
     fn nothing(&mut self, spent: Duration) -> Result<Came, IoFault>
         ensures fits { IfOk result (λ came. FitsRoom came 0) }
         ensures fewer { IfOk result (λ came. Wanes came
@@ -159,7 +160,7 @@ impl<S: Read + Write + AsRawFd + Drop, C: Clock + Drop> Wire for PollWire<S, C> 
 
     ghost drops = { λ _ _. Unit {0} };
 
-    // The last clause says of the writer what a wire doesn't tell.
+    // The last clause states of the writer what the trait's clauses don't.
     fn send(&mut self, bytes: &[u8]) -> Result<(), IoFault>
         ensures well { OnOk result (self.new.failures ≡ self.old.failures) }
         ensures failed { OnErr result (HasRisen self.old.failures self.new.failures) }
@@ -173,7 +174,7 @@ impl<S: Read + Write + AsRawFd + Drop, C: Clock + Drop> Wire for PollWire<S, C> 
         sent
     }
 
-    // The last clause says of the reader what a wire doesn't tell.
+    // The last clause states of the reader what the trait's clauses don't.
     fn hear(&mut self, room: &mut [u8]) -> Result<Came, IoFault>
         requires { 0 < length room.old }
         ensures fits { IfOk result (λ came. FitsRoom came (length room.old)) }
@@ -208,12 +209,12 @@ fn spent_since<C: Clock>(since: Instant, clock: &C) -> Result<Duration, IoFault>
     since.elapsed(clock).map_err(|_| IoFault)
 }
 
-// Rounded up, so that the time is over afterwards.
+// Rounded up, so that the time is over when the wait ends.
 fn millis_of(time: Duration) -> i32 {
     i32::try_from(time.as_millis()).map_or(i32::MAX, |millis| millis.saturating_add(1))
 }
 
-// What is there within this many milliseconds; no byte where there is nothing.
+// Reads what comes within this many milliseconds; no byte if nothing comes.
 fn read_within<S: Read + AsRawFd>(
     stream: &mut S,
     millis: i32,
@@ -233,7 +234,7 @@ fn read_within<S: Read + AsRawFd>(
         if ready == 0 {
             return Ok(0);
         }
-        // A signal broke it off: a read might wait.
+        // A signal interrupted the poll: a read might wait.
         if ready < 0 {
             continue;
         }
@@ -250,7 +251,7 @@ fn read_within<S: Read + AsRawFd>(
     Err(IoFault)
 }
 
-// What is there already.
+// Drops what has arrived already.
 fn drop_late<S: Read + AsRawFd>(stream: &mut S) -> Result<(), IoFault> {
     let mut room = [0; 300];
     for _ in 0..MOST_DISCARDS {

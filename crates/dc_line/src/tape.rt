@@ -1,4 +1,4 @@
-//! A wire in memory, on which what a script says comes.
+//! A wire in memory that plays a script.
 
 ghost use Rattle.std.specs.Prelude.{◌≡◌, ◌≤◌, ◌<◌, length};
 ghost use Rattle.dc_io.specs.Failures.{HasRisen};
@@ -10,27 +10,27 @@ use crate::wire::{Came, Wire};
 use dc_io::{IoFault, one_failure_more};
 use std::marker::Model;
 
-/// What comes next on a tape.
+/// An event of a tape.
 #[derive(Clone, Copy, Debug, PartialEq, Eq)]
 pub enum Event {
-    /// This many bytes, in as many pieces as they are asked for.
+    /// This many bytes, in any pieces in which they are read.
     Bytes(usize),
     /// Nothing yet.
     Nothing,
     /// Nothing for as long as ends an answer.
     Gap,
-    /// Nothing for the whole patience.
+    /// Nothing for the whole time-out.
     Silence,
     /// The next call fails.
     Loss,
 }
 
-/// Bytes, and the events in which they come; after the last one there is silence.
+/// Bytes, and the events in which they arrive; silence follows the last event.
 #[derive(Drop)]
 pub struct Tape<'a> {
     bytes: &'a [u8],
     events: &'a [Event],
-    // How many bytes of the first event came already.
+    // Number of bytes of the first event already taken.
     came: usize,
     failures: u64,
 }
@@ -52,7 +52,7 @@ impl<'a> Model for Tape<'a> {
 }
 
 impl<'a> Tape<'a> {
-    /// These bytes, as the events say.
+    /// Returns a tape of these bytes and events.
     pub fn new(bytes: &'a [u8], events: &'a [Event]) -> Tape<'a>
         requires { length events.now ≤ most_waits }
         ensures { result ≡ record { bytes = bytes.now; events = events.now; failures = 0 } }
@@ -65,14 +65,14 @@ impl<'a> Tape<'a> {
         }
     }
 
-    /// How many bytes are still to come.
+    /// Number of bytes left.
     pub fn left(&self) -> usize
         ensures { result ≡ length self.now.bytes }
     {
         self.bytes.len()
     }
 
-    // The front of the bytes that the first event says, and whether it is over with them.
+    // Plays the first bytes of the first event, and removes the event once it is over.
     fn play(&mut self, room: &mut [u8], count: usize, more: &'a [Event]) -> Came
         requires { length more.now < length self.old.events }
         ensures fits { FitsRoom result (length room.old) }

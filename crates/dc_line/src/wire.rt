@@ -1,4 +1,4 @@
-//! A line's wire, as bytes go out on it and come back.
+//! A wire: bytes are sent on it, and bytes arrive on it.
 
 ghost use Rattle.std.specs.Prelude.{◌≡◌, ℕ, ◌≤◌, ◌<◌, List, length, IfOk, OnOk, OnErr};
 ghost use Rattle.dc_io.specs.Failures.{HasRisen};
@@ -7,32 +7,32 @@ ghost use Rattle.dc_line.specs.Wire.{FitsRoom, Sound, Wanes, sound_of};
 
 use dc_io::IoFault;
 
-/// What came on a wire by now.
+/// What has arrived on a wire so far.
 #[derive(Clone, Copy, Debug, PartialEq, Eq)]
 pub enum Came {
-    /// This many bytes, one at least.
+    /// This many bytes, at least one.
     Bytes(usize),
     /// Nothing yet.
     Nothing,
-    /// Nothing since the last byte, for as long as ends an answer that has begun. It comes once
-    /// after a byte.
+    /// Nothing since the last byte for as long as ends an answer that has begun. It is returned
+    /// once after a byte.
     Gap,
-    /// Nothing for the wire's whole patience since the request, the last byte or the last silence.
+    /// Nothing for the wire's whole time-out since the request, the last byte or the last silence.
     Silence,
 }
 
-/// A line's wire. No call waits.
+/// The wire of a line. No call waits.
 pub trait Wire {
-    // How many calls failed.
+    // Number of calls that failed.
     ghost failures: { Self → ℕ };
 
-    // How often nothing may still come.
+    // Number of times that nothing may still come.
     ghost waits_left: { Self → ℕ };
 
     ghost few: { (wire : Self) → waits_left wire ≤ most_waits };
 
-    // What a call that succeeds does to the wire: these bytes went out; this came; what had come
-    // late was dropped.
+    // The effect of a call that succeeds on the wire: these bytes were sent; this arrived; late
+    // bytes were dropped.
     ghost sends: { Self → List ℕ → Self → Type 0 };
 
     ghost hears: { Self → Sound → Self → Type 0 };
@@ -45,7 +45,7 @@ pub trait Wire {
         ensures well { OnOk result (failures self.new ≡ failures self.old) }
         ensures failed { OnErr result (HasRisen (failures self.old) (failures self.new)) };
 
-    /// Takes what has come by now into the front of `room`.
+    /// Takes what has arrived so far into the first bytes of `room`.
     fn hear(&mut self, room: &mut [u8]) -> Result<Came, IoFault>
         requires { 0 < length room.old }
         ensures fits { IfOk result (λ came. FitsRoom came (length room.old)) }
@@ -55,7 +55,7 @@ pub trait Wire {
         ensures well { OnOk result (failures self.new ≡ failures self.old) }
         ensures failed { OnErr result (HasRisen (failures self.old) (failures self.new)) };
 
-    /// Drops what came late, as far as it is here already.
+    /// Drops late bytes that have arrived already.
     fn discard(&mut self) -> Result<(), IoFault>
         ensures step { OnOk result (drops self.old self.new) }
         ensures well { OnOk result (failures self.new ≡ failures self.old) }

@@ -1,4 +1,4 @@
--- The steps of a line that is steady, taken again and again (this product).
+-- Repeated steps of a steady line (this product).
 use Rattle.std.specs.Prelude.{◌≡◌, ℕ, Bool, true, false, ◌||◌, List, []}
 use Rattle.dc_line.specs.declared.bus.HalfBus.{Ghosts as HalfGhosts}
 use Rattle.dc_steady.specs.declared.line.Steady.{Steady}
@@ -37,7 +37,7 @@ pub record SteadySettles {B : Type 0} (half : HalfGhosts B) (old new : Steady B)
 
 -- ---- several steps
 
--- this is heard of the request that was sent last
+-- this is received as the answer to the request that was sent last
 pub data Hears {B : Type 0} (gives : B → List ℕ → B → Type 0) (waits : B → B → Type 0)
     : Steady B → List ℕ → Steady B → Type 0 where
   takes : {old new : Steady B} {heard : List ℕ} → Takes gives old heard new

@@ -1,4 +1,5 @@
--- The line layer over a link that is first in first out, and a concentrator's readouts on it (this product).
+-- The line layer over a first-in-first-out link, and a concentrator's readouts on it (this
+-- product).
 use Rattle.std.specs.Prelude.{◌≡◌, ℕ, true, false, List, [], ◌∷◌, Some}
 use Rattle.dc_linkframe.specs.Frame.{FrameSeen, spelling}
 use Rattle.dc_readout.specs.Summary.{asked_by, verdict_by}
@@ -12,7 +13,7 @@ use Rattle.dc_late.specs.Late.{stops}
 use Rattle.dc_steady.specs.declared.line.Steady.{Steady}
 use Rattle.dc_steady.specs.Life.{BecomesClear, Hears}
 
--- WHAT SUCH A LINK GIVES: nothing within the patience, or the oldest answer that is under way
+-- WHAT SUCH A LINK GIVES: nothing within the time-out, or the oldest answer under way
 abbrev pub LinkGives : List (List ℕ) → List ℕ → List (List ℕ) → Type 0
 LinkGives way [] left = left ≡ way
 LinkGives way (byte ∷ bytes) left = way ≡ (byte ∷ bytes) ∷ left
@@ -21,7 +22,8 @@ LinkGives way (byte ∷ bytes) left = way ≡ (byte ∷ bytes) ∷ left
 abbrev pub LinkWaits : List (List ℕ) → List (List ℕ) → Type 0
 LinkWaits way left = left ≡ way
 
--- the line of a world, which isn't given up, with these answers under way and this request sent last
+-- the line of a world, which isn't given up, with these answers under way and this request sent
+-- last
 abbrev pub line_of : LateWorld → List (List ℕ) → List ℕ → Steady (List (List ℕ))
 line_of w way request = record {
   bus = way;
@@ -44,22 +46,23 @@ with_line world line = record {
   clear = line.clear;
 }
 
--- what is under way when the request has gone out: the answer to it comes after the others
+-- the answers under way once the request is sent: the answer to it comes after the others
 abbrev pub way_of : List Meter → LateWorld → Outcome → FrameSeen → List (List ℕ)
 way_of meters w outcome frame = and_sent
     (heard_in outcome frame meters w.world.positions) w.under_way
 
--- the session judges what was heard
+-- the session judges the answer
 abbrev pub judged : List Meter → Outcome → FrameSeen → Running → List ℕ → World → World
 judged meters outcome frame r heard world = record world {
   positions = positions_after outcome frame meters world.positions;
   running = running_after (verdict_by r.session heard) r;
 }
 
--- ONE EVENT, as the line layer lets it happen: the oldest answers arrive and are dropped before a request;
--- a readout begins where the line is clear, or after it has settled, under the PREMISE that nothing is under way when
--- nothing came for twice the patience; the session's request goes out, and the session judges what the line hears of
--- it; what was heard is committed; the concentrator stops, and what begins again has a new line.
+-- ONE EVENT, as the line layer allows it: the oldest answers arrive and are dropped before a
+-- request; a readout begins where the line is clear, or after it has settled, under the PREMISE
+-- that no answer is under way once nothing came for twice the time-out; the session's request is
+-- sent, and the session judges the line's answer; the received telegram is committed; the
+-- concentrator crashes, and restarts with a new line.
 pub data Happens (meters : List Meter) (w new : LateWorld) : Type 0 where
   drops : (count : ℕ) → new ≡ late_step meters w (passes count) → Happens meters w new
   begins : (place : ℕ) → w.clear ≡ true
@@ -76,7 +79,7 @@ pub data Happens (meters : List Meter) (w new : LateWorld) : Type 0 where
   keeps : new ≡ late_step meters w commits → Happens meters w new
   restarts : new ≡ late_step meters w stops → Happens meters w new
 
--- a line that was just connected isn't clear
+-- a newly connected line isn't clear
 abbrev pub first_world : List Meter → LateWorld
 first_world meters = record (new_late_world meters) { clear = false }
 

@@ -1,4 +1,5 @@
--- What is heard on a line whose link may deliver answers late, and when such a line is clear (this product).
+-- What is received on a line whose link may deliver answers late, and when such a line is clear
+-- (this product).
 use Rattle.std.specs.Prelude.{◌≡◌, ℕ, ◌+◌, ◌-◌, ◌^◌, ◌≤◌, ◌<◌, Bool, true, false, ◌&&◌, List, []}
 use Rattle.std.specs.Prelude.{◌∷◌, length, min, Option, Some, None, ◌==◌, if◌then◌else◌}
 use Rattle.dc_io.specs.Chain.{IsRun}
@@ -7,22 +8,23 @@ use Rattle.dc_linkframe.specs.Reading.{frame_of}
 use Rattle.dc_late.specs.Late.{Last, clear_after, first_of, last_after, past_copies}
 use Rattle.dc_steady.specs.declared.line.Steady.{Steady}
 
--- the count of late answers, which stays at the most that it can be
+-- the saturating count of late answers
 abbrev pub and_late : ℕ → ℕ → ℕ
 and_late late count = min (late + count) (2 ^ 64 - 1)
 
--- ---- a request and what is heard of it
+-- ---- a request and its answer
 
--- this many answers at most are taken of one request; where all are copies, it is silence
+-- maximum number of answers taken for one request; if all are copies, the answer is silence
 abbrev pub most_copies : ℕ
 most_copies = 8
 
--- how many of these answers are copies at their front
+-- the number of copies that these answers begin with
 abbrev pub copies_in : Option Last → List ℕ → List (List ℕ) → ℕ
 copies_in last request answers = length answers - length (past_copies last request answers)
 
--- WHAT IS HEARD, after some copies: the bus gave these answers, one after the other. Heard is the first that is no
--- copy, and nothing was taken after it. Where each is a copy, as many were taken as may be, and it is silence.
+-- WHAT IS RECEIVED, after some copies: the bus returned these answers, one after the other. The
+-- answer is the first that is no copy, and nothing was taken after it. If each is a copy, the
+-- maximum was taken, and the answer is silence.
 pub record Listens {B : Type 0} (gives : B → List ℕ → B → Type 0) (last : Option Last)
     (request : List ℕ) (before : ℕ)
     (old : B) (heard : List ℕ) (after : ℕ) (new : B) : Type 0 where
@@ -45,12 +47,12 @@ pub record Waits {B : Type 0} (gives : B → List ℕ → B → Type 0) (waits :
   pub few : length copies < most_copies - before
   pub counted : after ≡ before + length copies
 
--- the frame of a request, and what is none counts as one that is to be answered
+-- the frame of a request; bytes that are no frame count as a request that has an answer
 abbrev pub request_of : Option FrameSeen → FrameSeen
 request_of (Some frame) = frame
 request_of None = ack
 
--- the request went out, and is the one that the next answer is for
+-- the request was sent, and the next answer is for it
 pub record Sent {B : Type 0} (sends : B → List ℕ → B → Type 0) (old : Steady B) (request : List ℕ)
     (new : Steady B)
     : Type 0 where
@@ -63,7 +65,7 @@ pub record Sent {B : Type 0} (sends : B → List ℕ → B → Type 0) (old : St
     silent = false;
   }
 
--- this was heard of it; the line remembers what it is to remember of that, and counts the copies
+-- this was received as its answer; the line updates its last frame, and counts the copies
 pub record Takes {B : Type 0} (gives : B → List ℕ → B → Type 0) (old : Steady B) (heard : List ℕ)
     (new : Steady B)
     : Type 0 where
@@ -77,7 +79,7 @@ pub record Takes {B : Type 0} (gives : B → List ℕ → B → Type 0) (old : S
     late = and_late old.late (copies - old.copies);
   }
 
--- nothing was heard of it yet, and the copies count
+-- no answer was received yet, and the copies count
 pub record StillWaits {B : Type 0} (gives : B → List ℕ → B → Type 0) (waits : B → B → Type 0)
     (old new : Steady B)
     : Type 0 where
@@ -90,19 +92,19 @@ pub record StillWaits {B : Type 0} (gives : B → List ℕ → B → Type 0) (wa
 
 -- ---- quiet
 
--- this many answers and silences at most are taken of a line that settles
+-- maximum number of answers and silences taken of a line that settles
 abbrev pub most_settling : ℕ
 most_settling = 64
 
 abbrev pub is_silence : List ℕ → Bool
 is_silence answer = length answer == 0
 
--- an answer that a line drops while it settles is late, and silence isn't
+-- an answer that is dropped while a line settles is late; silence isn't
 abbrev pub late_with : ℕ → Bool → ℕ
 late_with late silence = if silence then late else and_late late 1
 
--- What a line that settles drops, an answer or silence: with the second silence in a row it is clear, and once it was
--- listened to as long as may be, it is given up.
+-- What a settling line drops, an answer or silence: with the second silence in a row it is clear,
+-- and after the maximum number of answers and silences it is given up.
 pub data Drops {B : Type 0} (silence : Bool) (old new : Steady B) : Type 0 where
   quiet : (old.silent && silence) ≡ true
       → new ≡ record old { clear = true; settled = 0; silent = false }
@@ -118,7 +120,7 @@ pub data Drops {B : Type 0} (silence : Bool) (old new : Steady B) : Type 0 where
       → new ≡ record old { loud = true; silent = silence; late = late_with old.late silence }
       → Drops silence old new
 
--- ONE STEP OF A LINE THAT SETTLES: no answer is complete yet, or what came is dropped
+-- ONE STEP OF A SETTLING LINE: no answer is complete yet, or what came is dropped
 pub data Settles {B : Type 0} (gives : B → List ℕ → B → Type 0) (waits : B → B → Type 0)
     (old new : Steady B)
     : Type 0 where

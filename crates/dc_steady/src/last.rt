@@ -1,4 +1,4 @@
-//! The last long frame that was heard, and what is a copy of it.
+//! The last long frame that was received, and copies of it.
 
 ghost use Rattle.std.specs.Prelude.{◌≡◌, ◌≤◌, Bool, Option, length};
 ghost use Rattle.dc_gateway.specs.Blocks.{most_answer};
@@ -11,7 +11,7 @@ use dc_linkframe::control::{SELECTED, SND_NKE};
 use dc_linkframe::{Frame, FrameBuf, parse};
 use std::marker::Model;
 
-/// The last long frame that was heard, and the request that it was heard for.
+/// The last long frame that was received, and the request that it answered.
 #[derive(Drop)]
 pub struct LastFrame {
     request: FrameBuf,
@@ -26,7 +26,7 @@ impl Model for LastFrame {
     ghost view = { λ last. record { request = last.request; answer = last.answer } };
 }
 
-// Whether an answer is a copy of the last long frame, which another request got.
+// Whether an answer is a copy of the last long frame, which answered another request.
 pub(crate) fn is_copy(last: &Option<LastFrame>, request: &FrameBuf, answer: &AnswerBuf) -> bool
     ensures { result ≡ is_copy last.now request.now answer.now }
 {
@@ -39,8 +39,8 @@ pub(crate) fn is_copy(last: &Option<LastFrame>, request: &FrameBuf, answer: &Ans
     }
 }
 
-// The last long frame after an answer. An acknowledgement makes the line forget it, and what is no
-// frame or a short one changes nothing.
+// The last long frame after an answer. An acknowledgement clears it; bytes that are no frame, or a
+// short frame, leave it.
 pub(crate) fn next_last(
     last: Option<LastFrame>,
     request: &FrameBuf,
@@ -67,8 +67,8 @@ fn copy_of(answer: &AnswerBuf) -> AnswerBuf
     copy
 }
 
-// Whether no answer was missed, after what was heard of a request. The reset of every selected
-// meter has no answer.
+// Whether no answer was missed, after the answer to a request. The reset of all selected meters has
+// no answer.
 pub(crate) fn stays_clear(request: &FrameBuf, answer: &AnswerBuf, clear: bool) -> bool
     ensures { result ≡ clear_after (request_of (frame_of request.now)) (frame_of answer.now) clear }
 {

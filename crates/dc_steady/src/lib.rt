@@ -1,14 +1,14 @@
 //! A line whose link may deliver answers late, and the two rules that keep readings whole on it.
 //!
-//! A [`Steady`] is a bus in two halves over another one, and no call waits. **A copy is no answer**:
-//! what equals the last long frame that was heard, byte for byte, and comes for another request, is
-//! dropped, and the line is listened to further. **A readout begins on a quiet line**: where an
-//! answer was missed, and where the line is new, it isn't ready, until it has settled: nothing came
-//! for twice the patience. A line that doesn't become quiet is given up, and is silent from then on.
-//! What is dropped so is counted.
+//! A [`Steady`] is a bus in two halves over another one, and no call waits. **Copies are dropped**:
+//! an answer that equals the last long frame received, byte for byte, but comes for another
+//! request, is dropped, and the line waits for the next answer. **A readout begins on a quiet
+//! line**: after a missed answer, and on a new line, it isn't ready until it has settled: nothing
+//! came for twice the time-out. A line that doesn't become quiet is given up, and is silent from
+//! then on. Dropped answers are counted.
 //!
-//! So each reading over a link that is first in first out is one whole readout of one meter, however
-//! late answers come.
+//! Then each reading over a first-in-first-out link is one whole readout of one meter, however late
+//! answers arrive.
 #![tactic(auto)]
 
 mod last;

@@ -1,4 +1,4 @@
-//! A line on which late answers do no harm.
+//! A line that tolerates late answers.
 
 ghost use Rattle.std.specs.Prelude.{◌≡◌, ◌+◌, ◌-◌, ◌≤◌, ◌<◌, ◌⊎◌, [], None, true, false, IfSome};
 ghost use Rattle.std.specs.Prelude.{IfNone, length};
@@ -14,10 +14,10 @@ use dc_gateway::AnswerBuf;
 use dc_line::{HalfBus, QuietBus};
 use dc_linkframe::FrameBuf;
 
-// This many answers and silences at most are taken of a line that settles.
+// Maximum number of answers and silences taken of a line that settles.
 const MOST_SETTLING: u8 = 64;
 
-/// A bus whose answers may come late, the last long frame that was heard on it, and whether it is
+/// A bus whose answers may be late, the last long frame that was received on it, and whether it is
 /// clear.
 #[derive(Drop)]
 pub struct Steady<B: HalfBus + Drop> {
@@ -25,24 +25,25 @@ pub struct Steady<B: HalfBus + Drop> {
     pub bus: B,
     /// The request that was sent last.
     pub request: FrameBuf,
-    /// The last long frame that was heard, and the request that it was heard for.
+    /// The last long frame that was received, and the request that it answered.
     pub last: Option<LastFrame>,
     /// Whether no answer was missed since the bus was last quiet.
     pub clear: bool,
-    /// Whether the bus didn't become quiet. It is given up then, as a lost one is.
+    /// Whether the bus didn't become quiet. It is then given up, and behaves as a lost one.
     pub loud: bool,
-    /// How many copies came since the request, or since the last answer to it.
+    /// Number of copies since the request, or since the last answer to it.
     pub copies: u8,
-    /// How many answers and silences were taken since the bus began to settle.
+    /// Number of answers and silences taken since the bus began to settle.
     pub settled: u8,
     /// Whether the last one was silence.
     pub silent: bool,
-    /// How many late answers were dropped.
+    /// Number of late answers that were dropped.
     pub late: u64,
 }
 
 impl<B: HalfBus + Drop> Steady<B> {
-    /// A bus that was just connected: answers to others may be under way on it, so it isn't clear.
+    /// Returns a newly connected line: answers to earlier requests may be under way, so it isn't
+    /// clear.
     pub fn new(bus: B) -> Self
         ensures { result ≡ record {
           bus = bus;
@@ -69,7 +70,7 @@ impl<B: HalfBus + Drop> Steady<B> {
         }
     }
 
-    /// Whether it is lost: the bus is, or didn't become quiet.
+    /// Whether the line is given up: the bus is lost, or didn't become quiet.
     pub fn is_given_up(&self) -> bool
         ensures gone { result ≡ is_gone B.lost self.now }
         ensures few { B.waits_left self.now.bus ≤ most_waits }
@@ -77,7 +78,7 @@ impl<B: HalfBus + Drop> Steady<B> {
         self.bus.is_lost() || self.loud
     }
 
-    /// Sends a request. Once it is lost, nothing changes.
+    /// Sends a request. A line that is given up doesn't change.
     pub fn put(&mut self, request: &FrameBuf)
         requires { length request.now ≤ most_block }
         ensures step { SteadySends B.HalfBus self.old request.now self.new }
@@ -93,8 +94,8 @@ impl<B: HalfBus + Drop> Steady<B> {
         self.silent = false;
     }
 
-    /// What is heard of it: the first answer that is no copy, or silence; nothing, where no answer
-    /// is complete yet. Once it is lost, nothing changes.
+    /// Takes the answer: the first that is no copy, or silence; `None` if no answer is complete
+    /// yet. A line that is given up doesn't change.
     pub fn take(&mut self) -> Option<AnswerBuf>
         ensures heard { IfSome result (λ heard. SteadyGives B.HalfBus self.old heard self.new) }
         ensures waits { IfNone result (SteadyWaits B.HalfBus self.old self.new) }
@@ -118,9 +119,9 @@ impl<B: HalfBus + Drop> Steady<B> {
         Some(answer)
     }
 
-    /// One step toward a clear line: takes what has come by now, and drops it. Two silences in a row
-    /// make it clear; where they don't come within 64 answers and silences, it is given up. A line
-    /// that is clear or lost stays as it is.
+    /// Performs one step towards a clear line: takes what has arrived, and drops it. Two silences
+    /// in a row make the line clear; if they don't come within 64 answers and silences, it is given
+    /// up. A line that is clear or given up stays as it is.
     pub fn calm(&mut self)
         ensures step { SteadySettles B.HalfBus self.old self.new }
         ensures fewer { (is_ready B.lost self.new ≡ true) ⊎

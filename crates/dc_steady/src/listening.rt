@@ -1,4 +1,4 @@
-//! A bus is listened to past copies.
+//! Takes answers from a bus until one is no copy.
 
 ghost use Rattle.std.specs.Prelude.{◌≡◌, ◌≤◌, ◌<◌, [], true, IfSome, IfNone};
 ghost use Rattle.dc_steady.specs.Steady.{Listens, Waits};
@@ -8,10 +8,10 @@ use dc_gateway::AnswerBuf;
 use dc_line::HalfBus;
 use dc_linkframe::FrameBuf;
 
-// This many answers at most are taken of one request.
+// Maximum number of answers taken for one request.
 const MOST_COPIES: u8 = 8;
 
-// The first answer that is no copy of the last long frame, or silence; nothing, where no answer is
+// The first answer that is no copy of the last long frame, or silence; `None` if no answer is
 // complete yet.
 pub(crate) fn listen<B: HalfBus>(
     bus: &mut B,

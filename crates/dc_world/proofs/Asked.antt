@@ -78,7 +78,7 @@ asks_near meters positions place (Data bit address) a i m p at stands = λ hears
     let left = a.left in
     omega arith
 
--- the meter that is asked, and where it stands
+-- the meter that is asked, and its position
 pub asks_at : (meters : List Meter) (positions : List Position) (place : ℕ) (frame : FrameSeen) (a : Asks meters positions place frame)
     → (slice_get meters place ≡ Some a.agrees.meter) × (slice_get positions place ≡ Some a.agrees.position)
 asks_at meters positions place frame a = (
@@ -102,7 +102,7 @@ asks_heard meters positions place frame m q a at stands =
     ap (λ x. bytes_of (answer_to frame x q)) (sym one) ∙ ap (λ x. bytes_of (answer_to frame a.agrees.meter x)) moved
     ∙ sym heard ∙ ap (heard_in AsSent frame meters) a.positions_are
 
--- ---- the body that a meter stands at
+-- ---- the body at a meter's position
 
 pub body_there : (place : ℕ) (bodies : List (List ℕ)) (body : List ℕ) → place ≢ 0 → slice_get bodies (place - 1) ≡ Some body → body_at place bodies ≡ Some body
 body_there place bodies body some at = rw (ne_eqb place 0 some) at

@@ -91,7 +91,7 @@ pub alone_pending : (more : Bool) (address : Option ℕ) (i : ℕ) (positions : 
 alone_pending more None i positions alone = alone
 alone_pending more (Some a) i positions alone = alone
 
--- ---- where the meter stands after an exchange
+-- ---- the meter's position after an exchange
 
 pub record After (meters : List Meter) (stage : Stage) (address : Option ℕ) (n i : ℕ) (positions : List Position) : Type 0 where
   pub position : Position

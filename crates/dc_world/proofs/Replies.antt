@@ -104,7 +104,7 @@ in_step_place : (n : ℕ) (p : Position) → HasNotGoneOn n p ⊎ HasGoneOn n p 
 in_step_place n p (inl not_yet) = let e = not_yet.0 in omega arith
 in_step_place n p (inr gone) = let e = gone.0 in omega arith
 
--- a meter that hears the request stands at most one past the session's count
+-- a meter that takes the request is at most one past the session's count
 pub heard_place : (meters : List Meter) (regular : AreRegular meters) (w : World) (r : Running) (j : ℕ) (x : Meter) (q : Position) → Agrees meters w r → r.session.stage ≡ Requests
     → slice_get meters j ≡ Some x → slice_get w.positions j ≡ Some q → hears_at x.address (link_address r.session.address) q ≡ true → q.place ≤ r.session.settled + 1
 heard_place meters regular w r j x q a is at stands hears =

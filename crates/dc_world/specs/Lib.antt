@@ -3,21 +3,22 @@
 -- a meter that follows the standard: EN 13757-2, the frame count bit at the secondary station; EN 13757-3 (2004,
 -- 2013) and EN 13757-7, selection
 pub mod Meter
--- one line, its meters, and a concentrator that may stop at any moment: this product's model of a lossy line
+-- one line, its meters, and a concentrator that may crash at any moment: this product's model of a
+-- lossy line
 pub mod World
--- what holds of a running session and its meter after each event of a world
+-- the invariant of a running session and its meter after each event of a world
 pub mod InStep
--- what `are_regular` asks of one meter, and of two
+-- what `are_regular` requires of one meter, and of two
 pub mod Regular
--- the frame of what a session asks, and what may be asked of a meter
+-- the frame that a session sends, and when a meter may take it
 pub mod Request
--- the bytes of what is heard in answer to a request
+-- the bytes of the answer to a request
 pub mod Reply
--- a meter on a line, and what it makes of the frames that come over it
+-- a meter on a line, and how it takes frames
 pub mod Standing
--- several meters on one line, and what is heard of them at once
+-- several meters on one line, and what is received of them at once
 pub mod Line
--- one exchange at the gateway's end
+-- one exchange on the gateway's side
 pub mod Serving
 -- a bus in memory, as the list of its meters
 pub mod Listed

@@ -49,7 +49,7 @@ hears_at own address p = is_own own address || (if address == selected then p.se
 
 -- ---- what a frame makes of a meter
 
--- the same bit again repeats, the other goes one body on
+-- the same bit again repeats the telegram, the other advances by one body
 abbrev pub same_bit : Option Bool → Bool → Bool
 same_bit None bit = false
 same_bit (Some true) bit = bit
@@ -84,7 +84,7 @@ moved_by (long control address ci body) meter p =
 
 -- ---- what it answers
 
--- the body that it stands at; past the last it is silent
+-- the body at its position; after the last it is silent
 abbrev pub body_at : ℕ → List (List ℕ) → Option (List ℕ)
 body_at place bodies = if place == 0 then None else slice_get bodies (place - 1)
 
@@ -96,7 +96,7 @@ abbrev pub response : Meter → Option (List ℕ) → Option FrameSeen
 response meter None = None
 response meter (Some body) = Some (long rsp_ud (unwrap_or meter.address 0) variable_data body)
 
--- what a meter that is there now answers to the frame that brought it there
+-- the answer of a meter that the frame brought to this position
 unfoldable pub answer_to : FrameSeen → Meter → Position → Option FrameSeen
 answer_to ack meter p = None
 answer_to (short control address) meter p =

@@ -1,4 +1,4 @@
--- What `are_regular` asks of one meter, and of two.
+-- What `are_regular` requires of one meter, and of two.
 use Rattle.std.specs.Prelude.{◌≡◌, ◌≢◌, ℕ, ◌≤◌, Bool, true, false, ◌||◌, List, length, Option, Some}
 use Rattle.std.specs.Prelude.{None, slice_get, ◌==◌}
 use Rattle.dc_linkframe.specs.Control.{selected}
@@ -10,7 +10,7 @@ use Rattle.dc_linkframe.specs.Frame.{longest_body}
 abbrev pub Fits : List (List ℕ) → Type 0
 Fits bodies = (j : ℕ) (body : List ℕ) → slice_get bodies j ≡ Some body → length body ≤ longest_body
 
--- an own address isn't that of the selected meters
+-- an own address isn't the address of the selected meters (253)
 abbrev pub IsOwnOnly : Option ℕ → Type 0
 IsOwnOnly own = (address : ℕ) → own ≡ Some address → address ≢ selected
 

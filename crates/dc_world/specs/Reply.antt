@@ -1,4 +1,4 @@
--- The bytes of what is heard in answer to a request.
+-- The bytes of the answer to a request.
 use Rattle.std.specs.Prelude.{ℕ, List, [], Option, Some, None}
 use Rattle.dc_linkframe.specs.Frame.{FrameSeen, ack, spelling}
 use Rattle.dc_world.specs.declared.reply.Reply.{Reply}

@@ -1,4 +1,4 @@
--- The frame of what a session asks, and what may be asked of a meter.
+-- The frame that a session sends, and when a meter may take it.
 use Rattle.std.specs.Prelude.{◌≡◌, ◌<◌, ◌≤◌, ℕ, true, List, Option, Some}
 use Rattle.dc_linkframe.specs.Control.{reset_to, request_to}
 use Rattle.dc_linkframe.specs.Frame.{FrameSeen}
@@ -15,13 +15,14 @@ frame_asked (Reset address) = reset_to address
 frame_asked (Select identity) = selection_of identity
 frame_asked (Data bit address) = request_to bit address
 
--- a meter that takes this request as its own stands within the parts of a readout
+-- a meter that takes this request as its own is within the parts of a readout
 abbrev pub MayGoOn : Request → Option ℕ → Position → Type 0
 MayGoOn (Reset address) own p = Unit {0}
 MayGoOn (Select identity) own p = Unit {0}
 MayGoOn (Data bit address) own p = hears_at own address p ≡ true → p.place ≤ max_parts
 
--- On a line of regular meters that stand so, a session with the meter of this place asks for this frame.
+-- On a line of regular meters at these positions, a session with the meter at this place sends this
+-- frame.
 pub record Asks (meters : List Meter) (positions : List Position) (place : ℕ)
     (frame : FrameSeen) : Type 0 where
   pub world : World

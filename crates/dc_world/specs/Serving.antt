@@ -1,23 +1,24 @@
--- One exchange at the gateway's end (this product): a block is taken, and the blocks of an answer are put.
+-- One exchange on the gateway's side (this product): a block is taken, and the blocks of an answer
+-- are put.
 use Rattle.std.specs.Prelude.{◌≡◌, ℕ, List, [], ◌∷◌, Option, length}
 use Rattle.dc_gateway.specs.Blocks.{Answers}
 use Rattle.dc_world.specs.Standing.{Standing}
 use Rattle.dc_world.specs.Line.{Hears}
 use Rattle.dc_io.specs.Stream.{Puts, Takes}
 
--- a block with these bytes, or none where there are none
+-- one block of these bytes; no block for no bytes
 abbrev pub blocks_with : List ℕ → List (List ℕ)
 blocks_with [] = []
 blocks_with (byte ∷ more) = (byte ∷ more) ∷ []
 
--- as many bytes were put, which are the blocks of this answer
+-- this many bytes were put: the blocks of this answer
 pub record PutsAnswer (before after : Option (List ℕ)) (answer : List ℕ) (count : ℕ) : Type 0 where
   pub bytes : List ℕ
   pub puts : Puts before after bytes
   pub blocks : Answers bytes answer []
   pub counted : count ≡ length bytes
 
--- One block was taken, the meters heard it as a request, and the answer was put.
+-- One block was taken, the meters received it as a request, and the answer was put.
 pub record Serves (left left_after written written_after : Option (List ℕ))
     (before after : List Standing) (count : ℕ) : Type 0 where
   pub request : List ℕ

@@ -1,4 +1,5 @@
--- One line, its meters, and a concentrator that may stop at any moment: this product's model of a lossy line.
+-- One line, its meters, and a concentrator that may crash at any moment: this product's model of a
+-- lossy line.
 use Rattle.std.specs.Prelude.{◌≡◌, ◌≢◌, ℕ, ◌+◌, ◌≤◌, Bool, true, false, List, [], ◌∷◌, ◌++◌, length}
 use Rattle.std.specs.Prelude.{map, Option, Some, None, slice_get, slice_set, unwrap_or, take}
 use Rattle.std.specs.Prelude.{Result, Ok, Err, option_map, ◌==◌, if◌then◌else◌}
@@ -18,18 +19,18 @@ use Rattle.dc_world.specs.declared.event.WorldEvent.{WorldEvent}
 use Rattle.dc_world.specs.declared.event.WorldEvent.TheVariants.{Start, Exchange, Commit, Stop}
 use Rattle.dc_world.specs.Meter.{Meter, Position, first_position, moved_by, answer_to}
 
--- a session with the meter of this place, and the body that was heard and isn't committed
+-- a session with the meter at this place, and the body that was received and isn't committed
 pub record Running : Type 0 where
   pub meter : ℕ
   pub session : Summary
   pub waiting : Option (List ℕ)
 
--- a readout that came to its end, of the meter of this place
+-- a finished readout of the meter at this place
 pub record Finished : Type 0 where
   pub meter : ℕ
   pub parts : List (List ℕ)
 
--- positions and committed open parts stand in the order of the meters
+-- positions and committed open parts are in the order of the meters
 pub record World : Type 0 where
   pub positions : List Position
   pub running : Option Running
@@ -53,7 +54,7 @@ all_moved frame meters positions = map (λ x. moved_by frame x.0 x.1) (zip meter
 abbrev pub noise : List ℕ
 noise = 0x00 ∷ []
 
--- the reply of the one meter that answers; more at once are no frame
+-- the reply of the one meter that answers; several replies at once are no frame
 abbrev pub only_reply : List FrameSeen → List ℕ
 only_reply [] = []
 only_reply (reply ∷ []) = spelling reply
@@ -75,7 +76,7 @@ heard_in ReplyUnreadable frame meters positions = noise
 heard_in AsSent frame meters positions =
     only_reply (replies frame meters (all_moved frame meters positions))
 
--- a session goes on but after a failure
+-- a failure ends the session; after any other verdict it goes on
 abbrev pub running_after : Verdict → Running → Option Running
 running_after again r = Some (record r { session = heard_by r.session again })
 running_after ready r = Some (record r { session = heard_by r.session ready })
@@ -159,7 +160,7 @@ world_from meters w (event ∷ events) = world_from meters (world_step meters w 
 abbrev pub world_after : List Meter → List WorldEvent → World
 world_after meters events = world_from meters (new_world meters) events
 
--- ---- premise and statements
+-- ---- premise and theorems
 
 -- Each body fits one frame, no primary address is that of the selected meters, primary addresses differ, and no
 -- meter's selection matches another: so identities differ too. Nothing arrives late: a reply comes in its exchange or

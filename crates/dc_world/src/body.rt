@@ -1,4 +1,4 @@
-//! Bodies of telegrams, kept in memory.
+//! Bodies of telegrams in memory.
 
 ghost use Rattle.std.specs.Prelude.{◌≡◌, ◌==◌, ◌<◌, ◌++◌, ◌∷◌, [], IfOk, OnOk, length};
 ghost use Rattle.std.specs.Prelude.{slice_index_or};
@@ -31,7 +31,7 @@ impl<A: Allocator> Body<A> {
         })
     }
 
-    /// Its bytes.
+    /// The body's bytes.
     pub fn as_slice(&self) -> &[u8]
         ensures { result.now ≡ self.now }
     {
@@ -54,7 +54,7 @@ impl<A: Allocator> Model for Bodies<A> {
 }
 
 impl<A: Allocator> Bodies<A> {
-    /// No body yet.
+    /// Returns an empty list.
     pub fn new(alloc: A) -> Bodies<A>
         ensures { result ≡ [] }
     {
@@ -63,7 +63,7 @@ impl<A: Allocator> Bodies<A> {
         }
     }
 
-    /// Adds a body at the end.
+    /// Appends a body.
     pub fn push(&mut self, body: Body<A>) -> Result<(), NoMemory>
         ensures { OnOk result (self.new ≡ self.old ++ body ∷ []) }
     {
@@ -71,21 +71,21 @@ impl<A: Allocator> Bodies<A> {
         Ok(())
     }
 
-    /// How many they are.
+    /// Number of bodies.
     pub fn len(&self) -> usize
         ensures { result ≡ length self.now }
     {
         self.bodies.len()
     }
 
-    /// Whether there is nothing.
+    /// Whether there are no bodies.
     pub fn is_empty(&self) -> bool
         ensures { result ≡ (length self.now == 0) }
     {
         self.bodies.is_empty()
     }
 
-    /// The body at this place, from 0.
+    /// The body at this index, from 0.
     pub fn at(&self, place: usize) -> &[u8]
         requires { place < length self.now }
         ensures { result.now ≡ slice_index_or self.now place result.now }

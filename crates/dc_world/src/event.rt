@@ -1,27 +1,28 @@
-//! What happens on a line, and what the line does to an exchange.
+//! The events on a line, and what the line does to an exchange.
 
 /// What a line does to one exchange of a request and its reply.
 #[derive(Clone, Copy, Debug, PartialEq, Eq)]
 pub enum Outcome {
-    /// No meter sees the request, and silence is heard.
+    /// No meter sees the request; the answer is silence.
     RequestLost,
-    /// Each meter sees the request, and silence is heard.
+    /// Each meter sees the request; the answer is silence.
     ReplyLost,
-    /// Each meter sees the request, and one byte is heard that is no frame.
+    /// Each meter sees the request; the answer is one byte that is no frame.
     ReplyUnreadable,
-    /// Each meter sees the request, and its reply is heard, or silence where it sends nothing.
+    /// Each meter sees the request; the answer is its reply, or silence if it sends nothing.
     AsSent,
 }
 
-/// One event in the lives of a concentrator.
+/// An event in the lives of a concentrator. A life is the time between two crashes.
 #[derive(Clone, Copy, Debug, PartialEq, Eq)]
 pub enum WorldEvent {
-    /// A readout of the meter of this place begins.
+    /// A readout of the meter at this place begins.
     Start(usize),
-    /// The session's request goes out, and this comes of it.
+    /// The session sends its request, with this outcome.
     Exchange(Outcome),
-    /// What was heard is committed.
+    /// The received telegram is committed.
     Commit,
-    /// The concentrator stops: its session and what isn't committed are lost, and the meters stay as they are.
+    /// The concentrator crashes: its session and what isn't committed are lost, and the meters keep
+    /// their positions.
     Stop,
 }

@@ -1,15 +1,15 @@
-//! What a life leaves.
+//! Finished readouts.
 
 use crate::body::Bodies;
 use std::alloc::Allocator;
 use std::marker::Model;
 
-/// A readout that came to its end: the meter's place, and its bodies in order.
+/// A finished readout: the meter's place, and its bodies in order.
 #[derive(Drop)]
 pub struct Held<A: Allocator> {
     /// The place of the meter, from 0.
     pub meter: usize,
-    /// The bodies that were committed.
+    /// The committed bodies.
     pub parts: Bodies<A>,
 }
 

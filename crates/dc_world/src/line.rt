@@ -14,7 +14,7 @@ use dc_linkframe::{ACK, FrameBuf};
 use std::alloc::Allocator;
 use std::marker::Model;
 
-/// The meters on one line.
+/// The simulated meters on one line.
 #[derive(Drop)]
 pub struct SimulatedBus<A: Allocator> {
     meters: Vec<SimulatedMeter<A>, A>,
@@ -30,7 +30,7 @@ impl<A: Allocator> Model for SimulatedBus<A> {
 }
 
 impl<A: Allocator> SimulatedBus<A> {
-    /// No meter.
+    /// Returns a line without meters.
     pub fn new(alloc: A) -> Self
         ensures { result ≡ [] }
     {
@@ -39,10 +39,10 @@ impl<A: Allocator> SimulatedBus<A> {
         }
     }
 
-    /// One meter more.
+    /// Adds a meter.
     ///
     /// # Errors
-    /// Where memory is refused.
+    /// Out of memory.
     pub fn add(&mut self, meter: SimulatedMeter<A>) -> Result<(), NoMemory>
         ensures ok { OnOk result (self.new ≡ self.old ++ meter ∷ []) }
         ensures err { OnErr result (self.new ≡ self.old) }
@@ -51,8 +51,8 @@ impl<A: Allocator> SimulatedBus<A> {
         Ok(())
     }
 
-    /// What is heard in answer to a request: nothing, what one meter sends, acknowledgements as one, or noise
-    /// where telegrams collide.
+    /// Sends a request to all meters, and returns what is received: silence, one meter's answer,
+    /// one acknowledgement for several, or noise where telegrams collide.
     pub fn hear(&mut self, request: &[u8]) -> AnswerBuf
         ensures { Hears request.now self.old self.new result }
     {
@@ -61,7 +61,7 @@ impl<A: Allocator> SimulatedBus<A> {
     }
 }
 
-// What is heard of these meters, each of which takes the request.
+// What is received of these meters, each of which takes the request.
 fn hear_all<A: Allocator>(meters: &mut [SimulatedMeter<A>], request: &[u8]) -> Reply
     ensures sees { (frame : FrameSeen) → frame_of request.now ≡ Some frame → SelectsByMask frame
         → AreAble meters.old → meters.new ≡ map (seen_by frame) meters.old }
@@ -93,7 +93,7 @@ fn is_ack(reply: &Reply) -> bool
     reply.as_slice() == [ACK].as_slice()
 }
 
-// What is heard of two at once.
+// What is received of two answers at once.
 fn both(one: Reply, other: Reply) -> Reply
     ensures { bytes_heard result ≡ heard_both (bytes_heard one) (bytes_heard other) }
 {
@@ -109,7 +109,8 @@ fn both(one: Reply, other: Reply) -> Reply
 impl<A: Allocator> Bus for SimulatedBus<A> {
     ghost use Rattle.std.specs.Prelude.{None, [], false};
 
-    // Its meters aren't told: they may have several telegrams, and bodies that are none.
+    // Its meters aren't known to contracts: they may have several telegrams, and bodies that are no
+    // telegram.
     ghost meters = { λ _. None };
 
     ghost selected = { λ _. [] };

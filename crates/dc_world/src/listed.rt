@@ -12,10 +12,11 @@ use dc_linkframe::{ACK, FrameBuf};
 use dc_search::bus::{Matching, matches_on, telegram_of};
 use std::marker::Model;
 
-// A byte that is no frame, as colliding answers make it.
+// A byte that is no frame, as read when answers collide.
 const NOISE: u8 = 0x00;
 
-/// Meters that each answer with one telegram: what a search over any bus is promised to find, it finds here.
+/// Meters that each answer with one telegram. It shows that a search over a bus finds what its
+/// contract states.
 #[derive(Drop)]
 pub struct ListedBus<'a> {
     meters: &'a [Identity],
@@ -31,14 +32,14 @@ impl<'a> Model for ListedBus<'a> {
 }
 
 impl<'a> ListedBus<'a> {
-    /// These meters, none of them selected.
+    /// A bus of these meters, none of them selected.
     pub fn new(meters: &'a [Identity]) -> ListedBus<'a>
         ensures { result ≡ record { meters = meters.now; mask = None } }
     {
         ListedBus { meters, mask: None }
     }
 
-    // Which meters are selected.
+    // Finds the selected meters.
     fn matching(&self) -> Matching
         ensures { IsMatching result (chosen self.now) }
     {
@@ -54,7 +55,7 @@ impl<'a> ListedBus<'a> {
         self.mask = Some(mask);
     }
 
-    // What is heard of a selection.
+    // What is received after a selection.
     fn acknowledge(&self) -> AnswerBuf
         ensures { Acknowledge (chosen self.now) result }
     {
@@ -65,7 +66,7 @@ impl<'a> ListedBus<'a> {
         answer
     }
 
-    // What is heard of the request that follows.
+    // What is received after the request for data that follows.
     fn respond(&self) -> AnswerBuf
         ensures { Respond (chosen self.now) result }
     {

@@ -1,4 +1,4 @@
-//! Lives of a concentrator on one line, played through.
+//! Plays the lives of a concentrator on one line.
 
 ghost use Rattle.std.specs.Prelude.{◌≡◌, IfOk};
 ghost use Rattle.std.specs.List.{AllByRecursion};
@@ -11,11 +11,12 @@ use crate::world::World;
 use dc_io::NoMemory;
 use std::alloc::Allocator;
 
-/// What is held after these events, in order: each is a whole readout of one meter.
+/// Plays these events, and returns the finished readouts in order: each is a whole readout of one
+/// meter.
 ///
-/// It runs the real session against meters that follow the standard. An event that has nothing to act on is
-/// skipped: a start while a session runs or of a meter that isn't there, an exchange without a request, a commit
-/// without a telegram that waits.
+/// It runs the real session against meters that follow the standard. An event that doesn't apply is
+/// skipped: a start while a session runs or of a meter that doesn't exist, an exchange without a
+/// request, a commit without a received telegram.
 pub fn play<A: Allocator + Copy>(
     alloc: A,
     scripts: &[MeterScript<A>],

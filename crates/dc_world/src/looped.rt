@@ -1,4 +1,4 @@
-//! A stream whose gateway is served by the one who reads it: both ends in one thread.
+//! A stream that serves its own gateway on each read: both sides of the gateway in one thread.
 
 ghost use Rattle.std.specs.Prelude.{◌≡◌, ◌≤◌, None, IfOk, length};
 
@@ -7,8 +7,8 @@ use crate::serving::serve;
 use dc_io::{IoFault, Sink, Source, one_failure_more};
 use std::alloc::Allocator;
 
-/// What is read from a gateway that waits for its turn. Where nothing is left of an answer, the request that was sent
-/// meanwhile is taken at the gateway's end and answered there, and then the answer is read.
+/// A reader of answers. Once an answer is used up, a read takes the next request from `requests`,
+/// answers it on the gateway's side, and reads that answer.
 #[derive(Drop)]
 pub struct Looped<S: Source + Drop, R: Source + Drop, W: Sink + Drop, A: Allocator> {
     answers: S,
@@ -41,7 +41,7 @@ impl<S: Source + Drop, R: Source + Drop, W: Sink + Drop, A: Allocator> Looped<S,
         }
     }
 
-    // Some bytes of an answer.
+    // Reads some bytes of an answer.
     fn read(&mut self, room: &mut [u8]) -> Result<usize, IoFault>
         ensures count { IfOk result (λ n. n ≤ length room.old) }
         ensures failures { self.new.failures ≡ self.old.failures }

@@ -1,4 +1,4 @@
-//! One meter, as the bytes of a line come to it.
+//! One simulated meter.
 
 ghost use Rattle.std.specs.Prelude.{◌≡◌, ◌<◌, ◌&&◌, ℕ, [], Some, None, if◌then◌else◌};
 ghost use Rattle.dc_address.specs.Mask.{mask_at, matches};
@@ -23,10 +23,10 @@ use std::marker::Model;
 // SND_UD with the other frame count bit, which a selection may have too.
 const SND_UD_AGAIN: u8 = 0x73;
 
-// The bytes of a mask.
+// Number of bytes of a secondary address.
 const WIRE_LEN: usize = 8;
 
-/// A meter that follows the standard, and where it stands in its readout.
+/// A meter that follows the standard, and its position in its readout.
 #[derive(Drop)]
 pub struct SimulatedMeter<A: Allocator> {
     script: MeterScript<A>,
@@ -42,7 +42,7 @@ impl<A: Allocator> Model for SimulatedMeter<A> {
 }
 
 impl<A: Allocator> SimulatedMeter<A> {
-    /// A meter of which nothing was asked yet.
+    /// A meter that has received no request yet.
     pub fn new(script: MeterScript<A>) -> Self
         ensures { result ≡ record { meter = script; position = first_position } }
     {
@@ -52,14 +52,14 @@ impl<A: Allocator> SimulatedMeter<A> {
         }
     }
 
-    /// Takes a request as it comes over the line, and gives what the meter sends.
+    /// Takes the bytes of a request, and returns what the meter sends.
     pub fn hear(&mut self, request: &[u8]) -> Reply
         ensures meter { self.new.meter ≡ self.old.meter }
-        // A frame is seen as defined, until the places are at their end.
+        // It sees a frame as defined, while its place can still be counted.
         ensures sees { (frame : FrameSeen) → frame_of request.now ≡ Some frame → SelectsByMask frame
             → self.old.position.place < last_place
             → Sees frame self.old self.new (bytes_heard result) }
-        // What is no frame isn't seen.
+        // It doesn't see bytes that are no frame.
         ensures unseen { frame_of request.now ≡ None → self.new ≡ self.old }
         ensures silent { frame_of request.now ≡ None → bytes_heard result ≡ [] }
     {
@@ -154,7 +154,7 @@ impl<A: Allocator> SimulatedMeter<A> {
     }
 }
 
-// Whether a selection with this body means the meter.
+// Whether a selection with this body matches the meter.
 fn is_meant(body: &[u8], meter: &Identity) -> bool
     ensures { SendsMask body.now → result ≡ matches (mask_at body.now) meter.now }
 {

@@ -1,4 +1,4 @@
-//! What a search's requests ask of the meters on a bus.
+//! The requests of a search, as the meters on a bus read them.
 
 ghost use Rattle.std.specs.Prelude.{◌≡◌, ◌∷◌, [], ℕ, Some, true, option_map, length};
 ghost use Rattle.dc_address.specs.Mask.{IsMask, MaskParts, mask_wire};
@@ -10,21 +10,21 @@ use dc_address::Mask;
 use dc_linkframe::control::{SELECTED, SELECTION, SND_UD, req_ud2};
 use dc_linkframe::{Frame, parse};
 
-// The bytes of a mask.
+// Number of bytes of a secondary address.
 const WIRE_LEN: usize = 8;
 
-/// What is asked of the meters on a bus.
+/// A request of a search.
 #[derive(Clone, Copy)]
 pub(crate) enum Order {
-    /// Those that match are selected.
+    /// Select the meters that match.
     Select(Mask),
-    /// The selected ones are to send their data, by a request with frame count bit 1.
+    /// The selected meters send their data, on a request with frame count bit 1.
     Data,
-    /// Nothing that a search asks.
+    /// Any request that a search doesn't send.
     Other,
 }
 
-/// What a request asks.
+/// Reads a request.
 pub(crate) fn order_of(request: &[u8]) -> Order
     ensures select { (mask : MaskParts) → IsMask mask
         → request.now ≡ spelling (selection_by (mask_wire mask)) → result ≡ Select mask }
@@ -36,7 +36,7 @@ pub(crate) fn order_of(request: &[u8]) -> Order
     }
 }
 
-/// What a frame asks.
+/// Reads a frame as a request.
 fn order_in(frame: &Frame<'_>) -> Order
     ensures select { (mask : MaskParts) → IsMask mask
         → seen frame.now ≡ selection_by (mask_wire mask) → result ≡ Select mask }

@@ -1,4 +1,5 @@
-//! Where a meter stands in its readout: the frame count bit at the secondary station (EN 13757-2), and selection.
+//! A meter's position in its readout: the frame count bit at the secondary station (EN 13757-2),
+//! and selection.
 
 ghost use Rattle.std.specs.Prelude.{◌≡◌, ◌<◌, Some, ℕ, length, slice_get};
 ghost use Rattle.dc_address.specs.Mask.{mask_of, matches};
@@ -16,7 +17,8 @@ use dc_linkframe::control::SELECTED;
 use std::alloc::Allocator;
 use std::marker::Model;
 
-/// How many bodies a meter has gone on to, the last frame count bit, and whether it is selected.
+/// The number of bodies a meter has advanced by, the last frame count bit, and whether it is
+/// selected.
 #[derive(Clone, Copy, Debug, PartialEq, Eq)]
 pub(crate) struct Position {
     place: usize,
@@ -68,7 +70,7 @@ impl Position {
         self.bit = None;
     }
 
-    /// The same bit again repeats, the other goes one body on.
+    /// The same bit again repeats the telegram, the other advances by one body.
     pub(crate) fn go_on(&mut self, bit: bool)
         requires { self.old.place < last_place }
         ensures { self.new ≡ gone_on (Some bit) self.old }
@@ -82,7 +84,8 @@ impl Position {
         }
     }
 
-    /// The reset at its own address begins its readout anew; that of the selected meters deselects it.
+    /// A reset at its own address starts its readout anew; a reset of the selected meters deselects
+    /// it.
     pub(crate) fn reset(&mut self, own: Option<Primary>, address: u8)
         ensures { self.new ≡ at_reset own address self.old }
     {
@@ -96,7 +99,7 @@ impl Position {
         }
     }
 
-    /// A selection that matches begins its readout anew.
+    /// A matching selection starts its readout anew.
     pub(crate) fn select(&mut self, matches: bool)
         ensures { self.new ≡ at_selection matches self.old }
     {
@@ -106,7 +109,7 @@ impl Position {
         self.selected = matches;
     }
 
-    /// What a request makes of the meter.
+    /// Applies a request to the meter.
     fn see<A: Allocator>(&mut self, request: Request, script: &MeterScript<A>)
         requires { MayGoOn request script.now.address self.old }
         ensures { self.new ≡ moved_by (frame_asked request) script.now self.old }
@@ -123,7 +126,7 @@ impl Position {
     }
 }
 
-/// Each meter sees the request.
+/// Applies the request to each meter.
 pub(crate) fn see_all<A: Allocator>(
     request: Request,
     scripts: &[MeterScript<A>],

@@ -1,4 +1,4 @@
-//! What a meter answers, and what is heard of it.
+//! A meter's answer, and what is received of it.
 
 ghost use Rattle.std.specs.Prelude.{◌≡◌, ◌≤◌, length, Some, None, unwrap_or, if◌then◌else◌};
 ghost use Rattle.dc_linkframe.specs.Buffer.{capacity};
@@ -19,21 +19,21 @@ use std::alloc::Allocator;
 // A byte that is no frame.
 const NOISE: u8 = 0x00;
 
-/// What is heard in answer to a request.
+/// What is received as the answer to a request.
 #[derive(Clone, Copy)]
 pub enum Reply {
-    /// Nothing: the request isn't for the meter, or it has no more telegrams.
+    /// No byte: the request isn't for the meter, or it has no more telegrams.
     Silence,
     /// A byte that is no frame.
     Noise,
     /// The acknowledgement.
     Acknowledged,
-    /// A telegram, as a frame.
+    /// A telegram, in its frame.
     Telegram(FrameBuf),
 }
 
 impl Reply {
-    /// Its bytes; silence has none.
+    /// The reply's bytes; silence has none.
     pub fn as_slice(&self) -> &[u8]
         ensures bytes { result.now ≡ bytes_heard self.now }
         ensures fits { length (bytes_heard self.now) ≤ capacity }
@@ -47,7 +47,7 @@ impl Reply {
     }
 }
 
-/// The acknowledgement of whoever answers.
+/// The acknowledgement, if a meter answers.
 pub(crate) fn acknowledged_if(answers: bool) -> Reply
     ensures { bytes_heard result ≡ bytes_of (if answers then Some ack else None) }
 {
@@ -68,7 +68,7 @@ fn sender_of(own: Option<Primary>) -> u8
     }
 }
 
-/// Whether it is the meter's own address.
+/// Whether this is the meter's own address.
 pub(crate) fn is_own(own: Option<Primary>, address: u8) -> bool
     ensures { result ≡ is_own own address }
 {
@@ -78,8 +78,8 @@ pub(crate) fn is_own(own: Option<Primary>, address: u8) -> bool
     }
 }
 
-/// The telegram with the body that the meter stands at; past the last it is silent, and so it is with a body that no
-/// frame has room for.
+/// The telegram with the body at the meter's position. After the last body the meter is silent, and
+/// it is silent if the body doesn't fit a frame.
 pub(crate) fn respond<A: Allocator>(script: &MeterScript<A>, place: usize) -> Reply
     ensures { Fits script.now.bodies
         → bytes_heard result ≡ bytes_of (response script.now (body_at place script.now.bodies)) }
@@ -102,7 +102,7 @@ pub(crate) fn respond<A: Allocator>(script: &MeterScript<A>, place: usize) -> Re
     Reply::Telegram(frame)
 }
 
-/// What the meter answers that the request has brought to this position.
+/// The answer of a meter that the request brought to this position.
 pub(crate) fn reply_to<A: Allocator>(
     request: Request,
     script: &MeterScript<A>,

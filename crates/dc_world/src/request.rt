@@ -1,4 +1,4 @@
-//! What a session asks of the meters on its line.
+//! The request of a session, as the meters on its line read it.
 
 ghost use Rattle.std.specs.Prelude.{◌≡◌, ◌<◌, IsSome, option_map};
 ghost use Rattle.dc_readout.specs.Answer.{max_parts};
@@ -10,7 +10,7 @@ use dc_linkframe::control::{SND_NKE, req_ud2};
 use dc_linkframe::{Frame, parse};
 use dc_readout::Session;
 
-/// A request, as the meters see it.
+/// A request, as the meters read it.
 #[derive(Clone, Copy, Debug, PartialEq, Eq)]
 pub(crate) enum Request {
     /// The reset of the link at an address.

@@ -1,4 +1,4 @@
-//! A session with one meter, and what it heard.
+//! A session with one meter, and the body that it received.
 
 ghost use Rattle.std.specs.Prelude.{◌≡◌, IfOk, IsSome, None};
 ghost use Rattle.dc_readout.specs.Summary.{asked_by, begun, verdict_by};
@@ -11,7 +11,7 @@ use dc_readout::{Heard, Session};
 use std::alloc::Allocator;
 use std::marker::Model;
 
-/// A session with the meter of this place, and the body that was heard and isn't committed.
+/// A session with the meter at this place, and the body that was received and isn't committed.
 #[derive(Drop)]
 pub(crate) struct Running<A: Allocator> {
     pub(crate) meter: usize,
@@ -42,7 +42,7 @@ impl<A: Allocator> Running<A> {
         }
     }
 
-    /// Hears an answer; nothing runs on after a failure.
+    /// Takes an answer; a failure ends the session.
     pub(crate) fn hear(self, alloc: A, heard: &[u8]) -> Result<Option<Running<A>>, NoMemory>
         requires { IsSome (asked_by self.session) }
         ensures { IfOk result (λ next.

@@ -10,15 +10,15 @@ use dc_linkframe::control::SELECTED;
 use std::alloc::Allocator;
 use std::marker::Model;
 
-/// The most bytes of a body that fits one frame.
+/// Maximum number of bytes of a body that fits one frame.
 pub(crate) const MAX_BODY: usize = 252;
 
-/// Who a meter is, and the bodies of one readout of it.
+/// A simulated meter: its identity, address and the bodies of one readout.
 #[derive(Drop)]
 pub struct MeterScript<A: Allocator> {
-    /// Its identity.
+    /// The meter's identity.
     pub identity: Identity,
-    /// Its primary address; without one it is read by selection.
+    /// The meter's primary address; without one it is read by secondary addressing.
     pub address: Option<Primary>,
     /// The bodies of its telegrams, in order.
     pub bodies: Bodies<A>,
@@ -57,7 +57,7 @@ fn shares(one: Option<Primary>, other: Option<Primary>) -> bool
     }
 }
 
-// Whether it isn't the address of the selected meters, which no primary address is.
+// Whether an address isn't that of the selected meters (253), which no primary address is.
 fn is_own_only(address: Option<Primary>) -> bool
     ensures { IsTrue result ↔ IsOwnOnly address }
 {

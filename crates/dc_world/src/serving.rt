@@ -1,4 +1,4 @@
-//! The gateway's end of an exchange.
+//! The gateway's side of an exchange.
 
 ghost use Rattle.std.specs.Prelude.{◌≡◌, ◌+◌, ◌≤◌, length, IfOk, OnOk};
 ghost use Rattle.dc_gateway.specs.Blocks.{blocks_bytes, most_block};
@@ -10,10 +10,11 @@ use dc_gateway::{AnswerBuf, MOST_BLOCK, put_block, take_content, take_length};
 use dc_io::{IoFault, Sink, Source};
 use std::alloc::Allocator;
 
-/// Takes one request from the reader, and puts what the bus answers to it. Says how many bytes it put.
+/// Takes one request from the reader, writes the bus's answer to it, and returns the number of
+/// bytes written.
 ///
 /// # Errors
-/// Where the reader is at its end, a take fails or a put fails.
+/// The reader has ended, a take failed or a put failed.
 pub fn serve<R: Source, W: Sink, A: Allocator>(
     reader: &mut R,
     writer: &mut W,
@@ -30,7 +31,7 @@ pub fn serve<R: Source, W: Sink, A: Allocator>(
     Ok(put)
 }
 
-// The blocks of an answer, and the one of length 0.
+// Writes the blocks of an answer, and the block of length 0.
 fn put_answer<W: Sink>(writer: &mut W, answer: &AnswerBuf) -> Result<usize, IoFault>
     ensures { IfOk result (PutsAnswer (W.written writer.old) (W.written writer.new) answer.now) }
 {
@@ -41,7 +42,7 @@ fn put_answer<W: Sink>(writer: &mut W, answer: &AnswerBuf) -> Result<usize, IoFa
     Ok(count + 1)
 }
 
-// A block with these bytes and its length, or none where there are none.
+// Writes one block of these bytes, or nothing for no bytes.
 fn put_some<W: Sink>(writer: &mut W, bytes: &[u8]) -> Result<usize, IoFault>
     requires { length bytes.now ≤ most_block }
     ensures puts { OnOk result (PutsInto W.Sink writer.old writer.new

@@ -1,4 +1,4 @@
-//! One line, its meters, and a concentrator that may stop at any moment.
+//! One line, its meters, and a concentrator that may crash at any moment.
 
 ghost use Rattle.std.specs.Prelude.{◌≡◌, ◌<◌, ◌++◌, ◌∷◌, [], IfOk, OnOk, if◌then◌else◌, length};
 ghost use Rattle.std.specs.Prelude.{slice_get};
@@ -21,7 +21,8 @@ use std::alloc::Allocator;
 use std::marker::Model;
 use std::mem::replace;
 
-/// Where the meters stand, who is read, what is committed of each meter's readout, and what is held.
+/// The meters' positions, the running session, the committed parts of each meter's readout, and the
+/// finished readouts.
 #[derive(Drop)]
 pub(crate) struct World<A: Allocator> {
     positions: Vec<Position, A>,
@@ -67,7 +68,7 @@ impl<A: Allocator + Copy> World<A> {
         self.held
     }
 
-    /// An event that has nothing to act on is skipped.
+    /// Applies an event; one that doesn't apply is skipped.
     pub(crate) fn step(
         &mut self,
         alloc: A,
@@ -129,7 +130,8 @@ impl<A: Allocator + Copy> World<A> {
         Ok(())
     }
 
-    // What was heard joins the meter's open parts, as in the register; the last part makes them one that is held.
+    // The received part joins the meter's open parts, as in the register; the last part makes them
+    // a finished readout.
     fn commit(&mut self, alloc: A, scripts: &[MeterScript<A>]) -> Result<(), NoMemory>
         requires { IsRegularWorld scripts.now self.old }
         ensures { OnOk result (self.new ≡ committed self.old.running self.old) }
@@ -181,7 +183,7 @@ fn joined<A: Allocator + Copy>(
     Ok(parts)
 }
 
-// What the line makes of a request and its reply. Only the meter that is asked answers.
+// Applies a request and its reply to the line. Only the meter that is asked answers.
 fn carry<A: Allocator>(
     scripts: &[MeterScript<A>],
     positions: &mut [Position],
