@@ -1,4 +1,4 @@
--- No space stands in a number.
+-- A number contains no space.
 use Rattle.std.specs.Prelude.{◌≡◌, ◌≢◌, ℕ, ◌<◌, not, length}
 use Rattle.std.specs.Fmt.{decimal}
 use Rattle.std.proofs.Common.{◌^◌, true, get_or, ap, arith}

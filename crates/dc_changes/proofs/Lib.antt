@@ -1,10 +1,10 @@
 -- what a crate above may cite
 
--- no space stands in a number
+-- a number contains no space
 pub mod Decimals
 -- the first space of a text, and numbers as their digits
 pub mod LineSpellings
--- the words of a line that tells a telegram, and that a line tells one change
+-- the words of a telegram's line, and that a line spells one change
 pub mod TelegramLines
 -- how long a state's spelling is
 pub mod Lengths
@@ -22,5 +22,5 @@ pub mod Runs
 pub mod History
 -- lemmas of this crate alone
 mod Lines
--- bytes in front of zeros
+-- bytes followed by zeros
 mod Padding

@@ -80,7 +80,7 @@ first_space_ends text word rest is whole =
     subst (λ t. position is_space t ≡ Some (length word)) (sym whole)
     (ap (λ (test : Bool). cond test (Some (prefix_len is_inside (word ++ 32 ∷ rest))) None) (lt-ltb _ _ below) ∙ ap Some ends)
 
--- what stands in front of the first space, and after it
+-- the text before the first space, and the text after it
 pub record PartsAt (space : ℕ) (text : List ℕ) : Type 0 where
   pub is_word : IsWord (take space text)
   pub whole : text ≡ take space text ++ 32 ∷ drop 1 (drop space text)

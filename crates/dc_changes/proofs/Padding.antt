@@ -1,4 +1,4 @@
--- Bytes in front of zeros.
+-- Bytes followed by zeros.
 use Rattle.std.proofs.Common.{◌≡◌, ℕ, ◌-◌, ◌≤◌, List, ◌++◌, length, take, drop, replicate, ap, subst, sym, ◌∙◌, arith, ◌+◌, length-append, append_assoc}
 use Rattle.std.proofs.lemmas.List.{drop-replicate}
 use Rattle.std.proofs.Math.Seq.{take-append_seam, drop-append_seam}

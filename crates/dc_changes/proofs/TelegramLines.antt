@@ -1,4 +1,4 @@
--- The words of a line that tells a telegram, and that a line tells one change.
+-- The words of a telegram's line, and that a line spells one change.
 use Rattle.std.proofs.Common.{ℕ, ◌≤◌, ◌^◌, List, [], ◌∷◌, ◌++◌, ◌≡◌, ◌<◌, ◌∙◌, Option, Some, length, get_or, zero, suc, codes, refl, sym, ap, subst, arith}
 use Rattle.std.proofs.lemmas.Grind.{same_number_lists}
 use Rattle.std.specs.List.{join_with_byte}
@@ -46,7 +46,7 @@ pub is_telegram : (word : List ℕ) → length word ≡ 8 → get_or word 0 0 �
 is_telegram word len a b c d e f g h =
     same_number_lists word (codes "TELEGRAM") len (λ k below. letters word a b c d e f g h k (omega arith))
 
--- no command's line tells a telegram: a number doesn't begin with T
+-- no command's line is a telegram's: a number doesn't begin with T
 pub apart : (line : List ℕ) (part moment : ℕ) (bytes : List ℕ) (number : ℕ) (command : Command) → number < 10 ^ 18 → SpellsTelegram line part moment bytes → line ≡ line_of number command → ⊥
 unfolding line_of
 apart line part moment bytes number command fits told is =
@@ -55,11 +55,11 @@ apart line part moment bytes number command fits told is =
     let digits = decimal_is_IsNumeral number (omega arith) in
     omega (arith, digit_at (decimal number) 0 digits.0.1 digits.0.0)
 
--- what follows the first word of a line that tells a telegram
+-- what follows the first word of a telegram's line
 pub words_are : (words : List ℕ) (part moment : ℕ) (bytes : List ℕ) (told : SpellsTelegram (codes "TELEGRAM" ++ 32 ∷ words) part moment bytes) → words ≡ words_of_telegram part moment told.digits
 words_are words part moment bytes told = (one_word (codes "TELEGRAM") (codes "TELEGRAM") words (words_of_telegram part moment told.digits) refl refl told.line_is).1
 
--- ---- a line tells one change
+-- ---- a line spells one change
 
 record SpellOne (part moment : ℕ) (bytes : List ℕ) (part_2 moment_2 : ℕ) (bytes_2 : List ℕ) : Type 0 where
   parts : part ≡ part_2

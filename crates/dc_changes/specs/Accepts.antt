@@ -20,12 +20,12 @@ use Rattle.dc_changes.specs.Apply.{told, commanded}
 use Rattle.dc_changes.specs.Size.{size_of}
 use Rattle.dc_changes.specs.Valid.{end_of_numbers}
 
--- the part is the readout's first, or the next after those that are open
+-- the part is the readout's first, or the next after the open ones
 abbrev pub continues : ℕ → Option MeterRow → Bool
 continues number None = false
 continues number (Some row) = number == 1 || number == length row.parts + 1
 
--- ---- the tests, one a fault
+-- ---- the tests, one per fault
 
 abbrev pub same_primary : Option ℕ → Option ℕ → Bool
 same_primary None taken = false
@@ -39,13 +39,13 @@ occupies line address row = row.line == line && same_primary address row.address
 abbrev pub is_taken : ℕ → Option ℕ → State → Bool
 is_taken line address s = list_any (occupies line address) (values_of s.meters)
 
--- the same of the meters but one, on that meter's line
+-- the same of the other meters, on that meter's line
 abbrev pub is_taken_by_other : Identity → Option ℕ → Option MeterRow → State → Bool
 is_taken_by_other old address None s = false
 is_taken_by_other old address (Some row) s =
     list_any (λ e. not (is_at (identity_cmp old) e.0) && occupies row.line address e.1) s.meters
 
--- the new meter is registered already
+-- the new meter is already registered
 abbrev pub is_known : Command → State → Bool
 is_known (Fit meter line address flat) s = is_some (row_of meter s)
 is_known (Move meter flat) s = false
@@ -68,7 +68,7 @@ is_address_taken (Out meter) s = false
 is_address_taken (Confirm serial) s = false
 is_address_taken (Swap old new address) s = is_taken_by_other old address (row_of old s) s
 
--- a serial that wasn't given yet is confirmed
+-- the confirmed serial hasn't been given yet
 abbrev pub is_beyond : Command → State → Bool
 is_beyond (Fit meter line address flat) s = false
 is_beyond (Move meter flat) s = false
@@ -76,7 +76,7 @@ is_beyond (Out meter) s = false
 is_beyond (Confirm serial) s = nat_le s.next_serial serial
 is_beyond (Swap old new address) s = false
 
--- the state after it would be above the budget
+-- the state after the command would exceed the budget
 abbrev pub is_full : ℕ → Command → State → Bool
 is_full budget (Fit meter line address flat) s =
     nat_lt budget (size_of (commanded (Fit meter line address flat) s))
@@ -92,7 +92,7 @@ command_stands budget command s AddressTaken = is_address_taken command s
 command_stands budget command s Beyond = is_beyond command s
 command_stands budget command s Full = is_full budget command s
 
--- A telegram is full too where the reading that it finishes would need a serial that is never given.
+-- A telegram is `Full` too if the reading that it finishes would need a serial beyond the last one.
 abbrev pub telegram_stands : ℕ → ℕ → ℕ → BodyRow → State → ChangeFault → Bool
 telegram_stands budget part moment body s Unknown = not (continues part (row_of body.meter s))
 telegram_stands budget part moment body s Known = false
@@ -102,7 +102,7 @@ telegram_stands budget part moment body s Full =
     nat_lt budget (size_of (told part moment body s)) ||
     (not body.more && nat_le end_of_numbers s.next_serial)
 
--- ---- the first that stands
+-- ---- the first fault that applies
 
 abbrev pub faults_in_order : List ChangeFault
 faults_in_order = Known ∷ Unknown ∷ AddressTaken ∷ Beyond ∷ Full ∷ []
@@ -122,7 +122,7 @@ abbrev pub refused_by : Option ChangeFault → Result (Unit {0}) ChangeFault
 refused_by None = Ok tt
 refused_by (Some fault) = Err fault
 
--- a command has the number after the last one's
+-- a command's number is one more than the last command's
 abbrev pub is_next : Change → State → Bool
 is_next (Telegram part moment body) s = true
 is_next (Numbered number command) s = number == s.last_number + 1

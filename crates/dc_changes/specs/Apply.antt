@@ -13,16 +13,16 @@ use Rattle.dc_changes.specs.Body.{BodyRow}
 use Rattle.dc_changes.specs.State.{State, MeterRow, PartRow, row_of}
 use Rattle.dc_changes.specs.Line.{line_of}
 
--- a state whose meter has this row
+-- the state with this row for the meter
 abbrev pub with_row : Identity → MeterRow → State → State
 with_row meter row s = record s { meters = set_value (is_at (identity_cmp meter)) s.meters row }
 
--- the parts after one more: part 1 begins the readout anew
+-- the parts after one more: part 1 starts the readout anew
 abbrev pub joined : ℕ → PartRow → List PartRow → List PartRow
 joined number part parts = if number == 1 then part ∷ [] else parts ++ part ∷ []
 
--- A part at its meter's row. Where more follow it stays open; else the open parts become a reading, in the flat of
--- today.
+-- A part at its meter's row. If more parts follow, it stays open; otherwise the open parts become a
+-- reading, with the meter's flat at that time.
 abbrev pub heard : Identity → Bool → ℕ → PartRow → Option MeterRow → State → State
 heard meter more number part None s = s
 heard meter true number part (Some row) s =
@@ -39,7 +39,7 @@ heard meter false number part (Some row) s =
       next_serial = s.next_serial + 1;
     }
 
--- a telegram at its meter
+-- a telegram applied to its meter
 abbrev pub told : ℕ → ℕ → BodyRow → State → State
 told part moment body s = heard body.meter body.more part
     (record { moment = moment; body = body.bytes }) (row_of body.meter s) s
@@ -51,11 +51,11 @@ moved meter flat (Some row) s = with_row meter (record row { flat = flat }) s
 abbrev pub fitted : Identity → MeterRow → State → State
 fitted meter row s = record s { meters = insert_entry identity_cmp s.meters meter row }
 
--- the meter and its open parts go, its readings stay
+-- the meter and its open parts are removed, its readings stay
 abbrev pub taken_out : Identity → State → State
 taken_out meter s = record s { meters = remove_entry (is_at (identity_cmp meter)) s.meters }
 
--- the new meter hangs where the old one did, with nothing open
+-- the new meter takes the place of the old one, with no open parts
 abbrev pub swapped : Identity → Identity → Option ℕ → Option MeterRow → State → State
 swapped old new address None s = s
 swapped old new address (Some row) s =

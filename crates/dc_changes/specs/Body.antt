@@ -1,4 +1,4 @@
--- The body of a telegram as the register keeps it.
+-- The body of a telegram as the register stores it.
 use Rattle.std.specs.Prelude.{◌≡◌, ℕ, ◌≤◌, Bool, List, length}
 use Rattle.dc_address.specs.declared.identity.Identity.{Identity}
 use Rattle.dc_records.specs.Body.{continues}
@@ -10,7 +10,7 @@ pub record BodyRow : Type 0 where
   pub meter : Identity
   pub more : Bool
 
--- what the register keeps of a telegram
+-- the body of a parsed telegram
 abbrev pub body_of : Parsed → BodyRow
 body_of telegram = record {
   bytes = telegram.body;
@@ -18,7 +18,7 @@ body_of telegram = record {
   more = continues telegram.ending;
 }
 
--- what fits a frame after its control bytes
+-- the number of bytes that fit a frame after its control bytes
 abbrev pub longest_body : ℕ
 longest_body = 252
 

@@ -1,4 +1,4 @@
--- The line of a change (this product): a command's, or one that tells a telegram.
+-- The line of a change (this product): a command's or a telegram's.
 use Rattle.std.specs.Prelude.{◌≡◌, ℕ, ◌≤◌, List, [], ◌∷◌, codes, length, decimal, Some}
 use Rattle.std.specs.List.{join_with_byte}
 use Rattle.dc_io.specs.Hex.{bytes_of}
@@ -7,11 +7,11 @@ use Rattle.dc_changes.specs.Valid.{IsChange}
 use Rattle.dc_changes.specs.declared.change.Change.{Change}
 use Rattle.dc_changes.specs.declared.change.Change.TheVariants.{Telegram, Command as Numbered}
 
--- the bytes of the longest line that is read
+-- the length of the longest line that is read, in bytes
 abbrev pub longest_change_line : ℕ
 longest_change_line = 4096
 
--- the words `TELEGRAM part moment hex`, the last one being these bytes in hex digits of either case
+-- the words `TELEGRAM part moment hex`; `hex` is the body in hex digits of either case
 pub record SpellsTelegram (line : List ℕ) (part moment : ℕ) (bytes : List ℕ) : Type 0 where
   pub digits : List ℕ
   pub bytes_are : bytes_of digits ≡ Some bytes

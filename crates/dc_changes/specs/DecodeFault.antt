@@ -1,4 +1,4 @@
--- The number and the name of each fault of bytes that are read back.
+-- The number and the name of each decoding fault.
 use Rattle.std.specs.Prelude.{ℕ, List, codes}
 use Rattle.dc_changes.specs.declared.decode_fault.DecodeFault.{DecodeFault}
 use Rattle.dc_changes.specs.declared.decode_fault.DecodeFault.TheVariants.{Bad, NoMemory}

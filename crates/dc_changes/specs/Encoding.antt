@@ -1,5 +1,5 @@
--- How changes and states are spelled (this product): numbers low byte first, identities as they are sent, texts and
--- bodies after a length byte.
+-- The encoding of changes and states (this product): numbers little-endian, identities as they are
+-- sent, texts and bodies after a length byte.
 use Rattle.std.specs.Prelude.{ℕ, Option, None, Some, List, [], ◌∷◌, ◌++◌, length}
 use Rattle.std.specs.List.{flat_map}
 use Rattle.byteorder.specs.Endian.{little_bytes}
@@ -29,7 +29,7 @@ byte value = value ∷ []
 unfoldable pub counted : List ℕ → List ℕ
 counted bytes = byte (length bytes) ++ bytes
 
--- 0 where the meter is selected by its identity
+-- the primary address; 0 for secondary addressing
 abbrev pub address_byte : Option ℕ → ℕ
 address_byte None = 0
 address_byte (Some address) = address
@@ -57,7 +57,7 @@ command_bytes number (Confirm serial) = (byte 5 ++ long_bytes number) ++ long_by
 command_bytes number (Swap old new address) =
     (((byte 6 ++ long_bytes number) ++ wire_of old) ++ wire_of new) ++ byte (address_byte address)
 
--- the bytes of the longest change: a telegram with the longest body
+-- the length of the longest change in bytes: a telegram with the longest body
 abbrev pub longest_change : ℕ
 longest_change = 263
 

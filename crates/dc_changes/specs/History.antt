@@ -1,4 +1,4 @@
--- A list of changes, one after the other.
+-- A list of changes, applied in order.
 use Rattle.std.specs.Prelude.{ℕ, List, [], ◌∷◌}
 use Rattle.dc_changes.specs.declared.change.Change.{Change}
 use Rattle.dc_changes.specs.State.{State}

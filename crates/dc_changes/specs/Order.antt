@@ -1,4 +1,4 @@
--- Meters and readings in the order in which a state keeps them.
+-- The order of meters and readings in a state.
 use Rattle.std.specs.Prelude.{ℕ, ◌<◌, List, map, All}
 use Rattle.std.specs.Map.{keys_of}
 use Rattle.std.specs.List.Sorted.{IsStrictlySortedBy}
@@ -17,7 +17,7 @@ pub record ReadingsAscend (confirmed next : ℕ) (readings : List ReadingRow) : 
   pub ascend : IsStrictlySortedBy nat_cmp (map (λ (r : ReadingRow). r.serial) readings)
   pub are_open : All (λ (r : ReadingRow). IsOpenSerial confirmed next r.serial) readings
 
--- what a serial must be to come next
+-- the condition on the next serial
 pub record IsNextSerial (confirmed next : ℕ) (readings : List ReadingRow)
     (serial : ℕ) : Type 0 where
   pub is_open : IsOpenSerial confirmed next serial

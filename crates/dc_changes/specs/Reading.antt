@@ -1,5 +1,5 @@
--- Reading from the front of bytes: a value and what follows it, or nothing. `Spellings` ties each reading to a
--- spelling, both ways.
+-- Reading a value from the start of bytes: the value and the rest, or `None`. `Spellings` ties each
+-- reading to a spelling, both ways.
 use Rattle.std.specs.Prelude.{◌≡◌, ℕ, zero, suc, Bool, true, false, ◌&&◌, List, [], ◌∷◌, length}
 use Rattle.std.specs.Prelude.{take, drop, Option, Some, None, Result, Ok, Err, nat_lt, nat_le, ◌==◌}
 use Rattle.std.specs.Prelude.{if◌then◌else◌, refl}
@@ -24,7 +24,7 @@ use Rattle.dc_changes.specs.Valid.{last_moment, end_of_numbers}
 abbrev pub Reader : Type 0 → Type 0
 Reader X = List ℕ → Option (X × List ℕ)
 
--- what a function answered, seen by view, is what is read, unless memory was refused
+-- a function's result, seen by `view`, is what the definition reads, unless memory ran out
 abbrev pub Fails : {Y : Type 0} → DecodeFault → Option Y → Type 0
 Fails Bad read = read ≡ None
 Fails NoMemory read = Unit {0}
@@ -33,23 +33,23 @@ abbrev pub Gives : {X Y : Type 0} → (X → Y) → Result X DecodeFault → Opt
 Gives view (Ok x) read = read ≡ Some (view x)
 Gives view (Err e) read = Fails e read
 
--- the same where no memory is taken: what isn't read is Bad
+-- the same for functions that use no memory: what can't be read is `Bad`
 abbrev pub Reads : {X Y : Type 0} → (X → Y) → Result X DecodeFault → Option Y → Type 0
 Reads view (Ok x) read = read ≡ Some (view x)
 Reads view (Err e) read = (e ≡ Bad) × (read ≡ None)
 
--- ---- ways to read
+-- ---- combinators
 
 infixl 10 ◌>>=◌
 abbrev pub ◌>>=◌ : {A B : Type 0} → Option A → (A → Option B) → Option B
 (Some x) >>= f = f x
 None >>= f = None
 
--- one and then another
+-- one value and then another
 abbrev pub both : {X Y : Type 0} → Reader X → Reader Y → Reader (X × Y)
 both first second bytes = first bytes >>= λ x. second x.1 >>= λ y. Some ((x.0, y.0), y.1)
 
--- what a value stands for, if it is allowed
+-- the value that a value read decodes to, if it is allowed
 abbrev pub chosen : {X Y : Type 0} → (X → Option Y) → Reader X → Reader Y
 chosen meaning at bytes = at bytes >>= λ x. meaning x.0 >>= λ y. Some (y, x.1)
 
@@ -57,12 +57,12 @@ chosen meaning at bytes = at bytes >>= λ x. meaning x.0 >>= λ y. Some (y, x.1)
 abbrev pub only : {X : Type 0} → (X → Bool) → X → Option X
 only test x = if test x then Some x else None
 
--- this many
+-- this many values
 abbrev pub many : {X : Type 0} → Reader X → ℕ → Reader (List X)
 many at zero bytes = Some ([], bytes)
 many at (suc n) bytes = at bytes >>= λ x. many at n x.1 >>= λ xs. Some (x.0 ∷ xs.0, xs.1)
 
--- the announced number of them
+-- a count, and then that many values
 abbrev pub listed : {X : Type 0} → Reader ℕ → Reader X → Reader (List X)
 listed count at bytes = count bytes >>= λ n. many at n.0 n.1
 
@@ -107,7 +107,7 @@ serial_at bytes = chosen (only (λ n. nat_lt n end_of_numbers)) long_at bytes
 unfoldable pub line_at : Reader ℕ
 line_at bytes = chosen (only (λ n. nat_le 1 n && nat_le n 8)) byte_at bytes
 
--- 0 where the meter is selected by its identity
+-- the primary address; 0 means secondary addressing
 abbrev pub address_of : ℕ → Option (Option ℕ)
 address_of number = if number == 0 then Some None else if nat_le number 250 then Some (Some number)
     else None
@@ -147,7 +147,7 @@ parts_at bytes = listed byte_at part_at bytes
 abbrev pub telegram_of : ℕ × (ℕ × BodyRow) → Change
 telegram_of x = Telegram x.0 x.1.0 x.1.1
 
--- after the tag
+-- a telegram, after the tag
 unfoldable pub telegram_change_at : Reader Change
 telegram_change_at bytes = chosen (λ (x : ℕ × (ℕ × BodyRow)). Some (telegram_of x))
     (both byte_at (both moment_at body_at)) bytes

@@ -1,10 +1,10 @@
--- The bytes that a state is counted as (this product): a fixed part, and for each meter, reading and part what it
--- needs.
+-- The size of a state in bytes (this product): a fixed part, and a part for each meter, reading and
+-- part of a readout.
 use Rattle.std.specs.Prelude.{ℕ, ◌+◌, List, length, sum_by}
 use Rattle.std.specs.Map.{values_of}
 use Rattle.dc_changes.specs.State.{State, MeterRow, PartRow, ReadingRow}
 
--- the fixed part: what the state without meters and readings needs
+-- the fixed part: the size of a state without meters and readings
 abbrev pub empty_size : ℕ
 empty_size = 153
 

@@ -1,4 +1,4 @@
--- Which bytes spell a state or a list of changes.
+-- The bytes that spell a state or a list of changes.
 use Rattle.std.specs.Prelude.{◌≡◌, ℕ, List, All}
 use Rattle.dc_changes.specs.declared.change.Change.{Change}
 use Rattle.dc_changes.specs.State.{State}

@@ -1,4 +1,4 @@
--- Which values are changes and states: what the encodings accept.
+-- The valid changes and states: those that the encodings accept.
 use Rattle.std.specs.Prelude.{ℕ, ◌<◌, ◌≤◌, ◌^◌, Bool, Option, None, Some, List, length, map, All}
 use Rattle.std.specs.Map.{keys_of, values_of}
 use Rattle.std.specs.List.Sorted.{IsStrictlySortedBy}
@@ -61,7 +61,7 @@ IsChange (Numbered number command) = IsNumber number × IsCommand command
 
 -- ---- states
 
--- some telegram has this body
+-- the body of some telegram
 pub record IsBodyText (bytes : List ℕ) : Type 0 where
   pub meter : Identity
   pub more : Bool

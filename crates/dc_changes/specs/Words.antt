@@ -1,4 +1,5 @@
--- The words of a line of the office (this product): single spaces stand between them, and a number has one spelling.
+-- The words of a billing office's line (this product): single spaces separate them, and a number
+-- has one spelling.
 use Rattle.std.specs.Prelude.{◌≡◌, ◌≢◌, ℕ, ◌<◌, ◌==◌, Bool, not, List, length, slice_index, IsTrue}
 use Rattle.std.specs.List.{list_all}
 
@@ -12,7 +13,7 @@ is_inside byte = not (is_space byte)
 abbrev pub IsWord : List ℕ → Type 0
 IsWord bytes = IsTrue (list_all is_inside bytes)
 
--- the word has no sign, and no 0 in front of other digits
+-- the word has no sign, and no leading 0 before other digits
 pub record BeginsNumber (word : List ℕ) : Type 0 where
   pub some : 0 < length word
   pub unsigned : slice_index word 0 ≢ 43

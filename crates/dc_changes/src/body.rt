@@ -28,7 +28,7 @@ impl<'a> Model for Body<'a> {
 }
 
 impl<'a> Body<'a> {
-    /// The body of a telegram that was read; none where it has more than [`LONGEST_BODY`] bytes.
+    /// The body of a parsed telegram; `None` if it has more than [`LONGEST_BODY`] bytes.
     pub fn of(telegram: &Telegram<'a>) -> Option<Body<'a>>
         ensures { SomeIff result (length (parsed telegram.now).body ≤ longest_body)
             (body_of (parsed telegram.now)) }
@@ -44,7 +44,7 @@ impl<'a> Body<'a> {
         })
     }
 
-    /// Reads a body; none where the bytes are no telegram, or more than [`LONGEST_BODY`].
+    /// Parses a body; `None` if the bytes are no telegram, or more than [`LONGEST_BODY`].
     pub fn parse(bytes: &'a [u8]) -> Option<Body<'a>>
         ensures found { IfSome result (λ body. (body.bytes ≡ bytes.now) × IsBody body) }
         ensures only { (body : BodyRow) → IsBody body → body.bytes ≡ bytes.now

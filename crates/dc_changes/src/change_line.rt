@@ -1,4 +1,4 @@
-//! Changes from their lines.
+//! Parses changes from their lines.
 
 ghost use Rattle.std.specs.Prelude.{◌≡◌, ◌≤◌, ◌*◌, ◌∷◌, ◌++◌, ℕ, List, IfSome, Some, length};
 ghost use Rattle.std.specs.Prelude.{decimal, codes};
@@ -15,9 +15,10 @@ use dc_io::decode_hex;
 use dc_records::one_telegram;
 
 impl<'a> Change<'a> {
-    /// The change that a line spells; none where it spells none, or is longer than [`LONGEST_CHANGE_LINE`]. A command
-    /// has its one line, and a telegram the words `TELEGRAM part moment hex`, with hex digits of either case. The bytes
-    /// of a body are put into `room`, of at least half as many bytes as the longest line.
+    /// Parses the change that a line spells; `None` if it spells none, or is longer than
+    /// [`LONGEST_CHANGE_LINE`]. A command has exactly one line; a telegram is the words `TELEGRAM
+    /// part moment hex`, with hex digits of either case. The bytes of a body are decoded into
+    /// `room`, which needs half as many bytes as the longest line.
     pub fn parse_line(line: &[u8], room: &'a mut [u8]) -> Option<Change<'a>>
         requires { longest_change_line ≤ 2 * length room.old }
         ensures found { IfSome result (λ change. IsLineOf line.now change) }
@@ -36,14 +37,14 @@ impl<'a> Change<'a> {
     }
 }
 
-/// A line spells one change, if any.
+/// A line spells at most one change.
 pub fn a_line_has_one_change()
     ensures { (line : List ℕ) (a b : Change) → IsLineOf line a → IsLineOf line b → a ≡ b }
 {
     one_telegram();
 }
 
-// The telegram that a line tells.
+// Parses the telegram that a line spells.
 fn parse_telegram<'a>(line: &[u8], room: &'a mut [u8]) -> Option<Change<'a>>
     requires { length line.now ≤ 2 * length room.old }
     ensures found { IfSome result (λ change. IsChange change × Spells line.now change) }

@@ -1,4 +1,4 @@
-//! The commands of the office, and their lines.
+//! The commands of the billing office, and their lines.
 
 ghost use Rattle.std.specs.Prelude.{◌≡◌, ◌+◌, ◌<◌, ◌≤◌, ◌++◌, ◌∷◌, length};
 ghost use Rattle.std.specs.List.{join_with_byte};
@@ -9,54 +9,54 @@ ghost use Rattle.dc_changes.specs.Valid.{IsCommand, IsNumber, end_of_numbers};
 use crate::{CommandLine, Flat};
 use dc_address::{Identity, Primary};
 
-/// What the office orders.
+/// A command of the billing office.
 #[derive(Clone, Copy)]
 pub enum Command {
-    /// A meter is fitted.
+    /// Registers a meter.
     Fit {
         /// The meter.
         meter: Identity,
         /// The bus line, from 1 to 8.
         line: u8,
-        /// Its primary address; none where it is selected by its identity.
+        /// Its primary address; `None` for secondary addressing.
         address: Option<Primary>,
-        /// The flat in which it hangs.
+        /// Its flat.
         flat: Flat,
     },
-    /// A meter belongs to another flat from now on.
+    /// Assigns a meter to another flat.
     Move {
         /// The meter.
         meter: Identity,
-        /// Its flat from now on.
+        /// Its new flat.
         flat: Flat,
     },
-    /// A meter is taken out.
+    /// Removes a meter.
     Out {
         /// The meter.
         meter: Identity,
     },
-    /// The office has the readings up to a serial.
+    /// Confirms the readings up to a serial.
     Confirm {
-        /// The last serial that it has, of at most 18 digits.
+        /// The last serial that the office has, of at most 18 digits.
         serial: u64,
     },
-    /// A meter is changed for another, which hangs in its place.
+    /// Replaces a meter by another at the same place.
     Swap {
-        /// The meter that goes.
+        /// The old meter.
         old: Identity,
-        /// The meter that comes.
+        /// The new meter.
         new: Identity,
-        /// The new one's primary address; none where it is selected by its identity.
+        /// The new meter's primary address; `None` for secondary addressing.
         address: Option<Primary>,
     },
 }
 
-/// A command under its number.
+/// A command and its number.
 #[derive(Clone, Copy)]
 pub struct Numbered {
     /// Its number, from 1, of at most 18 digits.
     pub number: u64,
-    /// What is ordered.
+    /// The command.
     pub command: Command,
 }
 

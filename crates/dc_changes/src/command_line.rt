@@ -1,4 +1,4 @@
-//! The line of a command, in place.
+//! The line of a command, stored in place.
 
 ghost use Rattle.std.specs.Prelude.{◌≡◌, ◌+◌, ◌≤◌, ◌<◌, ◌++◌, ◌∷◌, SomeIff, [], length};
 ghost use Rattle.std.specs.Fmt.{decimal};
@@ -34,7 +34,7 @@ impl Model for CommandLine {
 }
 
 impl CommandLine {
-    /// No bytes.
+    /// Returns an empty line.
     pub fn empty() -> CommandLine
         ensures { result ≡ [] }
     {
@@ -44,7 +44,7 @@ impl CommandLine {
         }
     }
 
-    /// These bytes, if they are at most 120.
+    /// Returns a line of these bytes, if they are at most 120.
     pub fn new(line: &[u8]) -> Option<CommandLine>
         ensures { SomeIff result (length line.now ≤ longest_line) line.now }
     {
@@ -65,7 +65,7 @@ impl CommandLine {
         &self.bytes[..usize::from(self.len)]
     }
 
-    /// The bytes come after the line.
+    /// Appends bytes to the line.
     fn push(&mut self, bytes: &[u8])
         requires { length self.old + length bytes.now ≤ longest_line }
         ensures line { self.new ≡ self.old ++ bytes.now }
@@ -77,7 +77,7 @@ impl CommandLine {
         self.len = end as u8;
     }
 
-    /// A space and a word come after the line.
+    /// Appends a space and a word to the line.
     pub(crate) fn push_word(&mut self, word: &[u8])
         requires { length self.old + 1 + length word.now ≤ longest_line }
         ensures line { self.new ≡ self.old ++ 32 ∷ word.now }
@@ -87,7 +87,7 @@ impl CommandLine {
         self.push(word);
     }
 
-    /// A line of one number.
+    /// Returns a line of one number.
     pub(crate) fn of_number(number: u64) -> CommandLine
         requires { number < end_of_numbers }
         ensures line { result ≡ decimal number }
@@ -98,7 +98,7 @@ impl CommandLine {
         line
     }
 
-    /// A space and a number come after the line.
+    /// Appends a space and a number to the line.
     pub(crate) fn push_number(&mut self, number: u64)
         requires number { number < end_of_numbers }
         requires room { length self.old + 1 + most_digits ≤ longest_line }

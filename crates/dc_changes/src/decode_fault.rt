@@ -1,4 +1,4 @@
-//! Why bytes aren't read.
+//! The faults of decoding.
 
 ghost use Rattle.std.specs.Prelude.{◌≡◌};
 ghost use Rattle.dc_changes.specs.DecodeFault.{number_of, name_of};
@@ -7,13 +7,13 @@ ghost use Rattle.dc_changes.specs.declared.decode_fault.DecodeFault.TheVariants.
 use std::alloc::{AllocError, AllocFailed};
 use thiserror::Error;
 
-/// Why bytes aren't read.
+/// Why bytes can't be decoded.
 #[derive(Clone, Copy, Debug, PartialEq, Eq, Error)]
 pub enum DecodeFault {
-    /// They spell nothing of what was asked for.
+    /// The bytes don't spell the expected value.
     #[error("{} {}", self.number(), self.name())]
     Bad,
-    /// Memory was refused.
+    /// Out of memory.
     #[error("{} {}", self.number(), self.name())]
     NoMemory,
 }

@@ -1,4 +1,4 @@
-//! Changes out of bytes.
+//! Decodes changes from bytes.
 
 ghost use Rattle.std.specs.Prelude.{◌≡◌, ◌<◌, IfOk, IsErrOf, List, length};
 ghost use Rattle.dc_changes.specs.declared.change.Change.{Change};
@@ -14,7 +14,7 @@ use crate::pieces::{
 use crate::{Change, Command, DecodeFault};
 use std::alloc::Allocator;
 
-/// A telegram, after its tag.
+/// Decodes a telegram, after its tag.
 #[tactic(auto, unfolding(crate::specs::Reading::telegram_change_at))]
 fn telegram_at(bytes: &[u8]) -> Result<(Change<'_>, &[u8]), DecodeFault>
     ensures { Reads (λ x. (x.0, x.1.now)) result (telegram_change_at bytes.now) }
@@ -90,7 +90,7 @@ fn swap_at(bytes: &[u8]) -> Result<(Change<'_>, &[u8]), DecodeFault>
     Ok((Change::Command { number, command }, rest))
 }
 
-/// A change: its tag, and what the tag announces.
+/// Decodes a change: its tag, and the fields of that tag.
 #[tactic(auto, unfolding(crate::specs::Reading::change_at))]
 pub fn change_at(bytes: &[u8]) -> Result<(Change<'_>, &[u8]), DecodeFault>
     ensures { Reads (λ x. (x.0, x.1.now)) result (change_at bytes.now) }
@@ -107,12 +107,12 @@ pub fn change_at(bytes: &[u8]) -> Result<(Change<'_>, &[u8]), DecodeFault>
     }
 }
 
-/// The changes that the bytes spell, in order. Their bodies are borrowed.
+/// Decodes the changes that the bytes spell, in order. Their bodies are borrowed.
 pub fn decode_changes<'a, A: Allocator + Copy>(
     alloc: A,
     bytes: &'a [u8],
 ) -> Result<Vec<Change<'a>, A>, DecodeFault>
-    // What is read is spelled so, and nothing that is spelled so is refused.
+    // The result is what the bytes spell, and no bytes that spell changes are rejected.
     ensures found { IfOk result (λ changes. SpellsChanges bytes.now changes.items) }
     ensures bad { IsErrOf result DecodeFault.Bad → (changes : List Change)
         → SpellsChanges bytes.now changes → ⊥ }

@@ -1,4 +1,4 @@
-//! Changes as bytes.
+//! Encodes changes as bytes.
 
 ghost use Rattle.std.specs.Prelude.{◌≡◌, ◌≤◌, ◌++◌, length, OnOk, OnErr};
 ghost use Rattle.dc_changes.specs.Encoding.{change_bytes, command_bytes, telegram_bytes};
@@ -10,7 +10,7 @@ use crate::{Body, Change, Command, Flat};
 use dc_address::{Identity, Primary};
 use dc_io::{IoFault, Sink};
 
-/// Writes a change: a tag and its fields, numbers low byte first. A failed put ends it.
+/// Writes a change: a tag and its fields, numbers little-endian. It stops at the first failed put.
 pub fn encode_change<S: Sink>(change: &Change<'_>, sink: &mut S) -> Result<(), IoFault>
     ensures ok { OnOk result (IsWritten S.Sink sink.old sink.new
         (change_bytes change.now)) }
@@ -156,7 +156,7 @@ fn encode_swap<S: Sink>(
     Ok(())
 }
 
-/// The byte of a primary address: 0 for a meter that is selected by its identity.
+/// The byte of a primary address: 0 for secondary addressing.
 pub fn address_number(address: Option<Primary>) -> u8
     ensures { result ≡ address_byte address }
 {

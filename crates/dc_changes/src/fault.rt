@@ -11,16 +11,16 @@ pub enum ChangeFault {
     /// No such meter, or a part that is neither the first nor the next.
     #[error("{} {}", self.number(), self.name())]
     Unknown,
-    /// The new meter is registered already.
+    /// The new meter is already registered.
     #[error("{} {}", self.number(), self.name())]
     Known,
     /// Another meter has this primary address on the bus line.
     #[error("{} {}", self.number(), self.name())]
     AddressTaken,
-    /// A serial that wasn't given yet is confirmed.
+    /// The confirmed serial hasn't been given yet.
     #[error("{} {}", self.number(), self.name())]
     Beyond,
-    /// The state would be above its budget, or the serials are used up.
+    /// The state would exceed its budget, or the serials are exhausted.
     #[error("{} {}", self.number(), self.name())]
     Full,
 }

@@ -36,7 +36,7 @@ impl Model for Flat {
 }
 
 impl Flat {
-    /// The flat of this name, if it is one.
+    /// Returns the flat of this name, if the name is valid.
     pub fn new(name: &[u8]) -> Option<Flat>
         ensures { SomeIff result (IsFlat name.now) name.now }
     {
@@ -57,7 +57,7 @@ impl Flat {
         &self.bytes[..usize::from(self.len)]
     }
 
-    /// How many bytes the name has.
+    /// Number of bytes of the name.
     pub fn len(&self) -> u8
         ensures exact { result ≡ length self.now }
         ensures is_flat { IsFlat self.now }

@@ -1,9 +1,9 @@
-//! Short texts in arrays.
+//! Short texts in fixed arrays.
 
 ghost use Rattle.std.specs.Prelude.{◌≡◌, ◌≤◌, length};
 ghost use Rattle.dc_changes.specs.Flat.{padded};
 
-/// The bytes, and zeros after them.
+/// Copies the bytes into an array, with zeros after them.
 #[tactic(auto, using(crate::proofs::Padding::padded_copied))]
 pub fn padded<const N: usize>(bytes: &[u8]) -> [u8; N]
     requires { length bytes.now ≤ N }

@@ -1,4 +1,5 @@
-//! Laws of changes and of spellings. The functions do nothing; their contracts are the laws.
+//! Theorems about changes and their spellings. The functions have no effect; their contracts state
+//! the theorems.
 
 ghost use Rattle.std.specs.Prelude.{◌≡◌, ℕ, ◌+◌, ◌^◌, ◌<◌, ◌≤◌, List, [], ◌∷◌, ◌++◌, length};
 ghost use Rattle.dc_changes.specs.declared.change.Change.{Change};
@@ -12,8 +13,8 @@ ghost use Rattle.dc_changes.specs.Line.{longest_line};
 ghost use Rattle.dc_changes.specs.Valid.{IsChange, IsState};
 ghost use Rattle.dc_changes.specs.Spelled.{SpellsState, SpellsChanges};
 
-/// The state after a list of changes is that after its second part, from the state after its first; one change
-/// more is applied last.
+/// The state after a list of changes is the state after its second part, from the state after its
+/// first part; appending a change applies it last.
 #[tactic(auto, using(crate::proofs::History::after_of_append, crate::proofs::History::after_of_push))]
 pub fn after_goes_by_parts()
     ensures append { (s : State) (first then : List Change)
@@ -22,8 +23,8 @@ pub fn after_goes_by_parts()
         → after s (changes ++ change ∷ []) ≡ applied change (after s changes) }
 {}
 
-/// A list of changes is accepted where its first part is, and its second part in the state after the first; with one
-/// change more, where that is accepted in the state after the others.
+/// A list of changes is accepted if its first part is, and its second part in the state after the
+/// first; an appended change is accepted if it is in the state after the others.
 #[tactic(auto, using(crate::proofs::History::accepts_all_of_append, crate::proofs::History::accepts_all_parts, crate::proofs::History::accepts_all_of_push))]
 pub fn acceptance_goes_by_parts()
     ensures append { (budget : ℕ) (s : State) (first then : List Change) → AcceptsAll budget s first
@@ -36,8 +37,8 @@ pub fn acceptance_goes_by_parts()
         → AcceptsAll budget s (changes ++ change ∷ []) }
 {}
 
-/// A state is spelled in the bytes of its size, less the room that its last line leaves of the longest: within the
-/// budget, and in 33 bytes at least. A change is spelled in 1 to 263 bytes.
+/// The encoding of a state has the state's size, less the unused bytes of its last line: it is
+/// within the budget, and at least 33 bytes. The encoding of a change has 1 to 263 bytes.
 #[tactic(auto, using(crate::proofs::ChangeSpellings::change_some, crate::proofs::ChangeSpellings::change_len, crate::proofs::Lengths::state_len, crate::proofs::Lengths::state_fits, crate::proofs::Lengths::state_some))]
 pub fn length_of_spelling()
     ensures size { (s : State) → length (state_bytes s) + longest_line ≡ size_of s
@@ -48,8 +49,9 @@ pub fn length_of_spelling()
         × (length (change_bytes change) ≤ longest_change) }
 {}
 
-/// No two states are spelled alike, and no two lists of changes; no spelling of a change begins another. No changes
-/// are spelled in no bytes, and one change more in its own bytes after the others'.
+/// No two states have the same encoding, and no two lists of changes; no change's encoding is a
+/// prefix of another's. An empty list is encoded as no bytes, and an appended change by its own
+/// bytes after the others'.
 #[tactic(auto, using(crate::proofs::StateSpellings::spelled_once, crate::proofs::ChangeSpellings::changes_spelled_once, crate::proofs::ChangeSpellings::one_change))]
 pub fn one_spelling()
     ensures states { (budget other : ℕ) (bytes : List ℕ) (s t : State) → budget < 2 ^ 32

@@ -1,15 +1,18 @@
-//! What changes the register of a house's meters (this product): changes, the office's commands and their lines, and
-//! how changes and states are spelled. The register itself stands above, in dc_meters.
+//! The changes of a house's meter register (this product): the billing office's commands and their
+//! lines, meters' telegrams, and the encoding of changes and states. The register itself is in
+//! dc_meters.
 //!
-//! A meter hangs on a bus line, has a primary address or is selected by its identity, and belongs to a flat. Its
-//! telegrams (EN 13757-3) come in parts; the part after which no more follow makes a reading of them, with a serial
-//! and the flat of that day. The office fits, moves, swaps and takes out meters, and confirms the readings it has.
-//! The definitions (`specs/`) say what a state is, which changes are accepted in it and what they make of it.
+//! A meter is on a bus line, has a primary address or is read by secondary addressing, and belongs
+//! to a flat. Its telegrams (EN 13757-3) come in parts; the part after which no more follow
+//! completes a reading, which gets a serial and the meter's flat at that time. The office
+//! registers, moves, replaces and removes meters, and confirms the readings that it has. The
+//! definitions (`specs/`) state what a state is, which changes it accepts and the state after them.
 //!
-//! Proved: a command has one line, a line spells one command at most, and [`Command::parse_line`] reads the one that
-//! it spells; a line spells one change at most, a command or a telegram, and [`Change::parse_line`] reads that. Changes
-//! and states have one spelling in bytes ([`one_spelling`]), and no spelling of a change begins another.
-//! [`encode_change`] writes a change's, [`decode_changes`] reads what is spelled, and refuses nothing else.
+//! Proved: a command has one line, a line spells at most one command, and [`Command::parse_line`]
+//! parses it; a line spells at most one change, a command or a telegram, and [`Change::parse_line`]
+//! parses it. Changes and states have one encoding ([`one_spelling`]), and no change's encoding is
+//! a prefix of another's. [`encode_change`] writes a change's encoding; [`decode_changes`] reads
+//! all encodings of lists of changes, and rejects nothing else.
 #![tactic(auto)]
 
 mod body;

@@ -1,11 +1,11 @@
-//! The seconds at which telegrams come.
+//! The time stamps of telegrams.
 
 ghost use Rattle.std.specs.Prelude.{◌≤◌};
 ghost use Rattle.dc_changes.specs.Valid.{last_moment};
 
 use crate::LAST_MOMENT;
 
-/// A moment: a second since 1970, up to the end of the year 9999 (this product).
+/// A time stamp: a second since 1970, up to the end of the year 9999 (this product).
 #[derive(Clone, Copy)]
 pub struct Moment {
     /// The seconds since 1970.
@@ -17,7 +17,7 @@ impl Moment {
     ghost use Rattle.std.specs.Prelude.{◌≡◌, ◌<◌, ◌≤◌, MatchOption};
     ghost use Rattle.dc_changes.specs.Valid.{last_moment};
 
-    /// The moment at this many seconds since 1970, if it is one.
+    /// Returns the time stamp of this many seconds since 1970, if it is in range.
     pub fn from_seconds(seconds: u64) -> Option<Moment>
         ensures { MatchOption result (last_moment < seconds)
             (λ moment. (seconds ≤ last_moment) × (moment.seconds ≡ seconds)) }

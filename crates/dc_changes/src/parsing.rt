@@ -1,4 +1,4 @@
-//! Commands from their lines.
+//! Parses commands from their lines.
 
 ghost use Rattle.std.specs.Prelude.{◌≡◌, ◌≤◌, ◌++◌, ◌∷◌, ℕ, List, Option, Some, IfSome};
 ghost use Rattle.std.specs.Prelude.{MatchOption, codes, length};
@@ -16,8 +16,8 @@ use crate::{Command, Flat, Numbered};
 use dc_address::{Identity, Primary};
 
 impl Command {
-    /// The command that a line spells, and its number; none where the line spells no command. Each command has one
-    /// line, of at most 120 bytes.
+    /// Parses the command that a line spells, and its number; `None` if the line spells no command.
+    /// Each command has exactly one line, of at most 120 bytes.
     #[tactic(auto, using(crate::proofs::LineSpellings::number_is_word, crate::proofs::LineSpellings::line_fits), unfolding(crate::specs::Line::line_of))]
     pub fn parse_line(line: &[u8]) -> Option<Numbered>
         ensures found { IfSome result (λ found.
@@ -38,14 +38,14 @@ impl Command {
     }
 }
 
-/// A line spells one command under one number, if any.
+/// A line spells at most one command, under one number.
 #[tactic(auto, using(crate::proofs::LineSpellings::one_line))]
 pub fn a_line_has_one_command()
     ensures { (m n : ℕ) (a b : Command) → IsNumber m → IsCommand a → NamesMeters a → IsNumber n
         → IsCommand b → NamesMeters b → line_of m a ≡ line_of n b → (m ≡ n) × (a ≡ b) }
 {}
 
-// The command of a line without its number.
+// Parses a command from its line without the number.
 fn parse_command(text: &[u8]) -> Option<Command>
     ensures found { IfSome result (λ command.
         IsCommand command × NamesMeters command × (text.now ≡ command_text command)) }
@@ -136,7 +136,7 @@ fn parse_swap(arguments: &[u8]) -> Option<Command>
     Some(Command::Swap { old, new, address })
 }
 
-// ---- words, and a first word with what follows its space
+// ---- words, and a first word with the text after its space
 
 fn parse_meter(word: &[u8]) -> Option<Identity>
     ensures found { IfSome result (λ meter. IsOfBytes meter × (word.now ≡ text_of meter)) }

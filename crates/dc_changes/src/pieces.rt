@@ -1,4 +1,4 @@
-//! Pieces that are read from the front of bytes.
+//! Decodes values from the start of bytes.
 
 ghost use Rattle.std.specs.Prelude.{◌≤◌, ◌<◌, IfOk};
 ghost use Rattle.dc_changes.specs.Flat.{IsFlat};
@@ -13,7 +13,7 @@ use crate::{Body, DecodeFault, END_OF_NUMBERS, Flat, Moment};
 use byteorder::{ByteOrder, LittleEndian};
 use dc_address::{Identity, Primary};
 
-/// A byte.
+/// Decodes a byte.
 #[tactic(auto, unfolding(crate::specs::Reading::byte_at))]
 pub fn byte_at(bytes: &[u8]) -> Result<(u8, &[u8]), DecodeFault>
     ensures { Reads (λ x. (x.0, x.1.now)) result (byte_at bytes.now) }
@@ -24,7 +24,7 @@ pub fn byte_at(bytes: &[u8]) -> Result<(u8, &[u8]), DecodeFault>
     Ok((*first, rest))
 }
 
-/// A number in eight bytes.
+/// Decodes a number of eight bytes.
 #[tactic(auto, unfolding(crate::specs::Reading::long_at))]
 pub fn long_at(bytes: &[u8]) -> Result<(u64, &[u8]), DecodeFault>
     ensures { Reads (λ x. (x.0, x.1.now)) result (long_at bytes.now) }
@@ -35,7 +35,7 @@ pub fn long_at(bytes: &[u8]) -> Result<(u64, &[u8]), DecodeFault>
     Ok((LittleEndian::read_u64(front), rest))
 }
 
-/// A number in four bytes.
+/// Decodes a number of four bytes.
 #[tactic(auto, unfolding(crate::specs::Reading::count_at))]
 pub fn count_at(bytes: &[u8]) -> Result<(u32, &[u8]), DecodeFault>
     ensures { Reads (λ x. (x.0, x.1.now)) result (count_at bytes.now) }
@@ -46,7 +46,7 @@ pub fn count_at(bytes: &[u8]) -> Result<(u32, &[u8]), DecodeFault>
     Ok((LittleEndian::read_u32(front), rest))
 }
 
-/// A length byte, and this many bytes.
+/// Decodes a length byte, and that many bytes.
 #[tactic(auto, unfolding(crate::specs::Reading::counted_at))]
 pub fn counted_at(bytes: &[u8]) -> Result<(&[u8], &[u8]), DecodeFault>
     ensures { Reads (λ x. (x.0.now, x.1.now)) result (counted_at bytes.now) }
@@ -58,7 +58,7 @@ pub fn counted_at(bytes: &[u8]) -> Result<(&[u8], &[u8]), DecodeFault>
     Ok((text, rest))
 }
 
-/// An identity, as it is sent.
+/// Decodes an identity, as it is sent.
 #[tactic(auto, unfolding(crate::specs::Reading::identity_at), using(crate::proofs::PieceSpellings::identity_again, crate::proofs::PieceSpellings::identity_none))]
 pub fn identity_at(bytes: &[u8]) -> Result<(Identity, &[u8]), DecodeFault>
     ensures { Reads (λ x. (x.0, x.1.now)) result (identity_at bytes.now) }
@@ -72,7 +72,7 @@ pub fn identity_at(bytes: &[u8]) -> Result<(Identity, &[u8]), DecodeFault>
     Ok((identity, rest))
 }
 
-/// A moment: up to the end of the year 9999.
+/// Decodes a time stamp, up to the end of the year 9999.
 #[tactic(auto, unfolding(crate::specs::Reading::moment_at))]
 pub fn moment_at(bytes: &[u8]) -> Result<(u64, &[u8]), DecodeFault>
     ensures read { Reads (λ x. (x.0, x.1.now)) result (moment_at bytes.now) }
@@ -85,7 +85,7 @@ pub fn moment_at(bytes: &[u8]) -> Result<(u64, &[u8]), DecodeFault>
     Ok((moment.seconds, rest))
 }
 
-/// The number of a command: from 1, of at most 18 digits.
+/// Decodes the number of a command: at least 1, of at most 18 digits.
 #[tactic(auto, unfolding(crate::specs::Reading::number_at))]
 pub fn number_at(bytes: &[u8]) -> Result<(u64, &[u8]), DecodeFault>
     ensures read { Reads (λ x. (x.0, x.1.now)) result (number_at bytes.now) }
@@ -99,7 +99,7 @@ pub fn number_at(bytes: &[u8]) -> Result<(u64, &[u8]), DecodeFault>
     }
 }
 
-/// A serial of at most 18 digits.
+/// Decodes a serial of at most 18 digits.
 #[tactic(auto, unfolding(crate::specs::Reading::serial_at))]
 pub fn serial_at(bytes: &[u8]) -> Result<(u64, &[u8]), DecodeFault>
     ensures read { Reads (λ x. (x.0, x.1.now)) result (serial_at bytes.now) }
@@ -113,7 +113,7 @@ pub fn serial_at(bytes: &[u8]) -> Result<(u64, &[u8]), DecodeFault>
     }
 }
 
-/// A bus line, from 1 to 8.
+/// Decodes a bus line, from 1 to 8.
 #[tactic(auto, unfolding(crate::specs::Reading::line_at))]
 pub fn line_at(bytes: &[u8]) -> Result<(u8, &[u8]), DecodeFault>
     ensures read { Reads (λ x. (x.0, x.1.now)) result (line_at bytes.now) }
@@ -127,7 +127,7 @@ pub fn line_at(bytes: &[u8]) -> Result<(u8, &[u8]), DecodeFault>
     }
 }
 
-/// The primary address of this number; none where it is 0, for a meter that is selected by its identity.
+/// The primary address of this number; `None` for 0, which means secondary addressing.
 pub fn address_of(number: u8) -> Result<Option<Primary>, DecodeFault>
     ensures means { Reads (λ x. x) result (address_of number) }
     ensures is_address { IfOk result (λ x. IsAddress x) }
@@ -141,7 +141,7 @@ pub fn address_of(number: u8) -> Result<Option<Primary>, DecodeFault>
     Ok(Some(address))
 }
 
-/// The flat of this name.
+/// Returns the flat of this name.
 pub fn flat_of(name: &[u8]) -> Result<Flat, DecodeFault>
     ensures means { Reads (λ x. x) result (only is_flat name.now) }
     ensures is_flat { IfOk result (λ x. IsFlat x) }
@@ -152,7 +152,7 @@ pub fn flat_of(name: &[u8]) -> Result<Flat, DecodeFault>
     Ok(flat)
 }
 
-/// A telegram's body after its length.
+/// Decodes a telegram's body, after its length.
 #[tactic(auto, unfolding(crate::specs::Reading::body_at), using(crate::proofs::PieceSpellings::body_again, crate::proofs::PieceSpellings::body_none))]
 pub fn body_at(bytes: &[u8]) -> Result<(Body<'_>, &[u8]), DecodeFault>
     ensures read { Reads (λ x. (x.0, x.1.now)) result (body_at bytes.now) }

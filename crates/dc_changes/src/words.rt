@@ -16,7 +16,7 @@ fn first_space(text: &[u8]) -> Option<usize>
     text.iter().position(|byte| *byte == b' ')
 }
 
-/// The text up to its first space, and what follows that space; none where the text has no space.
+/// Splits a text at its first space, into the text before and after it; `None` if it has no space.
 pub fn split_word(text: &[u8]) -> Option<(&[u8], &[u8])>
     ensures found { IfSome result (λ parts.
         IsWord parts.0.now × (text.now ≡ parts.0.now ++ 32 ∷ parts.1.now)) }
@@ -38,7 +38,8 @@ pub fn a_text_has_one_first_word()
         → word ++ 32 ∷ rest ≡ other ++ 32 ∷ more → (word ≡ other) × (rest ≡ more) }
 {}
 
-// Whether a word begins as a number does: not with a sign, nor with a 0 in front of other digits.
+// Whether a word begins as a number does: without a sign, and without a leading 0 before other
+// digits.
 fn begins_number(word: &[u8]) -> bool
     ensures { IsTrue result ↔ BeginsNumber word.now }
 {
@@ -49,7 +50,8 @@ fn begins_number(word: &[u8]) -> bool
     }
 }
 
-/// The number that a word spells: 1 to 18 decimal digits, the first of several not 0.
+/// Parses the number that a word spells: 1 to 18 decimal digits, without a leading 0 before other
+/// digits.
 pub fn parse_number(word: &[u8]) -> Option<u64>
     ensures found { IfSome result (λ number.
         (number < end_of_numbers) × (word.now ≡ decimal number)) }

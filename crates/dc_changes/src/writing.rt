@@ -1,4 +1,4 @@
-//! Pieces that are written to a sink.
+//! Writes the pieces of an encoding to a sink.
 
 ghost use Rattle.std.specs.Prelude.{◌≡◌, ◌≤◌, ◌++◌, length, OnOk, OnErr};
 ghost use Rattle.dc_address.specs.Identity.{wire_of};
@@ -9,7 +9,7 @@ use byteorder::{ByteOrder, LittleEndian};
 use dc_address::Identity;
 use dc_io::{IoFault, Sink};
 
-/// One piece.
+/// Writes one piece.
 #[tactic(auto, using(dc_io::proofs::Writes::written_one, dc_io::proofs::Writes::stopped_one))]
 pub fn put<S: Sink>(sink: &mut S, bytes: &[u8]) -> Result<(), IoFault>
     ensures ok { OnOk result (IsWritten S.Sink sink.old sink.new
@@ -21,7 +21,7 @@ pub fn put<S: Sink>(sink: &mut S, bytes: &[u8]) -> Result<(), IoFault>
     Ok(())
 }
 
-/// A byte.
+/// Writes a byte.
 #[tactic(auto, unfolding(crate::specs::Encoding::byte))]
 pub fn put_byte<S: Sink>(sink: &mut S, value: u8) -> Result<(), IoFault>
     ensures ok { OnOk result (IsWritten S.Sink sink.old sink.new
@@ -33,7 +33,7 @@ pub fn put_byte<S: Sink>(sink: &mut S, value: u8) -> Result<(), IoFault>
     Ok(())
 }
 
-/// A number in eight bytes.
+/// Writes a number as eight bytes.
 #[tactic(auto, unfolding(crate::specs::Encoding::long_bytes))]
 pub fn put_long<S: Sink>(sink: &mut S, number: u64) -> Result<(), IoFault>
     ensures ok { OnOk result (IsWritten S.Sink sink.old sink.new
@@ -47,7 +47,7 @@ pub fn put_long<S: Sink>(sink: &mut S, number: u64) -> Result<(), IoFault>
     Ok(())
 }
 
-/// A number in four bytes.
+/// Writes a number as four bytes.
 #[tactic(auto, unfolding(crate::specs::Encoding::count_bytes))]
 pub fn put_count<S: Sink>(sink: &mut S, number: u32) -> Result<(), IoFault>
     ensures ok { OnOk result (IsWritten S.Sink sink.old sink.new
@@ -61,7 +61,7 @@ pub fn put_count<S: Sink>(sink: &mut S, number: u32) -> Result<(), IoFault>
     Ok(())
 }
 
-/// An identity, as it is sent.
+/// Writes an identity, as it is sent.
 pub fn put_identity<S: Sink>(sink: &mut S, identity: &Identity) -> Result<(), IoFault>
     ensures ok { OnOk result (IsWritten S.Sink sink.old sink.new
         (wire_of identity.now)) }
@@ -72,7 +72,7 @@ pub fn put_identity<S: Sink>(sink: &mut S, identity: &Identity) -> Result<(), Io
     Ok(())
 }
 
-/// A length byte, and this many bytes.
+/// Writes a length byte, and that many bytes.
 pub fn put_counted<S: Sink>(sink: &mut S, bytes: &[u8]) -> Result<(), IoFault>
     requires { length bytes.now ≤ 255 }
     ensures ok { OnOk result (IsWritten S.Sink sink.old sink.new

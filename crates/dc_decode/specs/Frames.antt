@@ -15,7 +15,7 @@ use Rattle.dc_records.specs.Telegram.{Parsed, telegram_at}
 use Rattle.dc_io.specs.Words.{number_word, byte_word, fault_line}
 use Rattle.dc_decode.specs.Telegram.{telegram_text}
 
--- how many bytes the text at the front has: those of a whole frame, or else all that are left
+-- the length of the first text: that of a whole frame, or otherwise all bytes left
 abbrev pub len_by : List ℕ → Need → ℕ
 len_by bytes (Whole n) = n
 len_by bytes (More n) = length bytes
@@ -24,14 +24,15 @@ len_by bytes Bad = length bytes
 abbrev pub front_len : List ℕ → ℕ
 front_len bytes = len_by bytes (need_of bytes)
 
--- One text after the other, in this many turns.
+-- Splits off one text after the other, this many times.
 abbrev pub cut : ℕ → List ℕ → List (List ℕ)
 cut zero bytes = []
 cut (suc turns) [] = []
 cut (suc turns) (b ∷ bytes) = take (front_len (b ∷ bytes)) (b ∷ bytes)
     ∷ cut turns (drop (front_len (b ∷ bytes)) (b ∷ bytes))
 
--- The texts that bytes come apart into. Each has a byte, so as many turns as bytes are enough.
+-- The texts that bytes split into. Each has at least one byte, so the number of bytes is enough
+-- steps.
 unfoldable pub frames_of : List ℕ → List (List ℕ)
 frames_of bytes = cut (length bytes) bytes
 
@@ -39,7 +40,7 @@ abbrev pub read_by : Option FrameFault → FrameSeen → Result FrameSeen FrameF
 read_by None frame = Ok frame
 read_by (Some f) frame = Err f
 
--- the fault that a text has, or else the frame that it spells
+-- the fault of a text, or otherwise the frame that it spells
 unfoldable pub read_as : List ℕ → Result FrameSeen FrameFault
 read_as text = read_by (link.fault_of text) (fields_of text)
 
@@ -48,7 +49,7 @@ abbrev pub body_text : Result Parsed BodyFault → List ℕ
 body_text (Ok t) = telegram_text t
 body_text (Err f) = fault_line (codes "BODY FAULT") (records.number_of f) (records.name_of f)
 
--- a body is shown for CI 72
+-- a body is printed for CI 72
 unfoldable pub content_text : ℕ → List ℕ → List ℕ
 content_text ci body = if ci == 0x72 then body_text (telegram_at body) else []
 
@@ -74,7 +75,7 @@ is_bad_frame ack = false
 is_bad_frame (short control address) = false
 is_bad_frame (long control address ci body) = is_bad_content ci body
 
--- what is shown for a frame that a text spells, or for the fault that it has
+-- the text printed for a frame, or for the fault of a text
 abbrev pub read_text : Result FrameSeen FrameFault → List ℕ
 read_text (Ok frame) = frame_text frame
 read_text (Err f) = fault_line (codes "FRAME FAULT") (link.number_of f) (link.name_of f)
@@ -89,7 +90,7 @@ shown text = read_text (read_as text)
 unfoldable pub is_bad : List ℕ → Bool
 is_bad text = is_bad_read (read_as text)
 
--- what is shown for several texts, and whether one is at fault
+-- the text printed for several texts, and whether one has a fault
 unfoldable pub all_shown : List (List ℕ) → List ℕ
 all_shown texts = flat_map shown texts
 

@@ -1,7 +1,7 @@
 -- the definitions that contracts cite
--- how a line comes apart into frames, and their text
+-- the frames of a line, and their text
 pub mod Frames
--- the value that a record's line ends in
+-- the value at the end of a record's line
 pub mod Seen
 -- a telegram, as text
 pub mod Telegram

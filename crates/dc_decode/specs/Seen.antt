@@ -1,5 +1,5 @@
--- What a record's line ends in: its data point, where the table of units has one (this product; the units are
--- those of EN 13757-3).
+-- The end of a record's line: its data point, if the table of units has one (this product; the
+-- units are those of EN 13757-3).
 use Rattle.std.specs.Prelude.{ℕ, List, [], ◌++◌, codes}
 use Rattle.dc_records.specs.Record.{Entry}
 use Rattle.dc_units.specs.declared.point.Point.{Point}

@@ -9,22 +9,22 @@ use Rattle.dc_records.specs.Telegram.{Parsed}
 use Rattle.dc_decode.specs.Seen.{seen_word}
 use Rattle.dc_io.specs.Words.{number_word, hex_word}
 
--- who sent it, the access number and the status byte
+-- the meter's identity, the access number and the status byte
 unfoldable pub meter_line : Header → List ℕ
 meter_line h = codes "METER " ++ (text_of h.identity
     ++ (number_word h.access ++ (number_word h.status ++ codes "\n")))
 
--- what a record is about: the numbers of its storage, tariff, subunit and function
+-- the numbers of a record: its storage, tariff, subunit and function
 unfoldable pub record_words : Entry → List ℕ
 record_words r = number_word r.storage ++ number_word r.tariff ++ number_word r.subunit
     ++ number_word r.function
 
--- with its VIB, its data and what they are
+-- with its VIB, its data and their decoded value
 unfoldable pub record_line : Entry → List ℕ
 record_line r = codes "RECORD" ++ (record_words r
     ++ (hex_word r.vib ++ (hex_word r.content ++ (seen_word r ++ codes "\n"))))
 
--- how it ends, and how many bytes of the manufacturer's data are there
+-- the end of a body, and the number of bytes of the manufacturer's data
 abbrev pub end_line : Ending → List ℕ
 end_line plain = codes "END\n"
 end_line (last rest) = codes "LAST" ++ number_word (length rest) ++ codes "\n"

@@ -1,4 +1,4 @@
-//! The engine of `decode`: from a source's lines of hex digits to a sink's text.
+//! The engine of `decode`: from lines of hex digits in a source to text in a sink.
 
 ghost use Rattle.std.specs.Prelude.{◌≡◌, ◌≢◌, ◌<◌, ◌≤◌, [], length, take, Some, None, MatchOption};
 ghost use Rattle.std.specs.Prelude.{IfSome, IfOk, IfErr, OnOk, OnErr, IsErrOf};
@@ -14,8 +14,8 @@ use dc_io::{
 };
 use std::alloc::Allocator;
 
-/// The bytes of a line's digits, and how many; none where it isn't pairs of hex digits, or is too long. `digits` is
-/// room for the line without its spaces.
+/// Decodes a line of hex digits and returns the number of bytes; `None` if it isn't pairs of hex
+/// digits, or is too long. `digits` is room for the line without its spaces.
 #[tactic(auto, unfolding(crate::specs::Text::decoded))]
 pub fn decode_line(line: &[u8], digits: &mut [u8], bytes: &mut [u8]) -> Option<usize>
     requires digits { longest_input_line ≤ length digits.old }
@@ -34,7 +34,7 @@ pub fn decode_line(line: &[u8], digits: &mut [u8], bytes: &mut [u8]) -> Option<u
     decode_hex(&digits[..count], bytes)
 }
 
-// Writes what a line has, and says whether a fault is among it.
+// Writes the text of a line, and returns whether it has a fault.
 #[tactic(auto, using(dc_io::proofs::Pieces::written), unfolding(crate::specs::Text::line_text, crate::specs::Text::is_bad_line))]
 fn put_line<W: Sink>(
     line: &[u8],
@@ -56,7 +56,7 @@ fn put_line<W: Sink>(
     }
 }
 
-// Writes what the lines of an input have, and says whether a fault is among it.
+// Writes the text of an input's lines, and returns whether it has a fault.
 #[tactic(auto, using(dc_io::proofs::Pieces::written, crate::proofs::Inputs::lines))]
 fn put_lines<W: Sink>(
     input: &[u8],
@@ -80,15 +80,16 @@ fn put_lines<W: Sink>(
     Ok(found)
 }
 
-/// Writes what the lines of hex digits that the reader has left stand for: the frames in each, and the telegram of
-/// a frame with CI 72h. The answer says whether a fault of a line, a frame or a body is among it.
+/// Decodes the lines of hex digits left in the reader: writes the frames of each line, and the
+/// telegram of a frame with CI 72h. Returns whether a line, a frame or a body has a fault.
 ///
-/// The whole input is read, and all memory taken, before anything is written. The text is defined by
-/// `specs/Text.antt`, over the frames of EN 13757-2 and the telegrams of EN 13757-3.
+/// The whole input is read, and all memory allocated, before anything is written. The text is
+/// defined by `specs/Text.antt`, over the frames of EN 13757-2 and the telegrams of EN 13757-3.
 ///
 /// # Errors
-/// [`TextFault::Read`] and [`TextFault::Write`] where that end failed, [`TextFault::TooLong`] over 1 MiB,
-/// [`TextFault::NoMemory`] where memory was refused. Only after `Write` may something have been written.
+/// [`TextFault::Read`] and [`TextFault::Write`] if the reader or the writer failed,
+/// [`TextFault::TooLong`] over 1 MiB, [`TextFault::NoMemory`] if memory ran out. Only after `Write`
+/// may something have been written.
 pub fn decode_lines<A: Allocator + Copy, R: Source, W: Sink>(
     alloc: A,
     reader: &mut R,
@@ -97,16 +98,16 @@ pub fn decode_lines<A: Allocator + Copy, R: Source, W: Sink>(
     // What is written is the text for the input, byte for byte.
     ensures text { OnOk result (IfSome (R.left reader.old)
         (λ input. PutsInto W.Sink writer.old writer.new (text_of input))) }
-    // The answer says whether a fault is among it.
+    // The result is whether a fault is in that text.
     ensures fault { IfOk result (λ found.
         IfSome (R.left reader.old) (λ input. found ≡ has_fault input)) }
 
-    // An input over the limit is refused, and no other is refused for its length.
+    // Exactly the inputs over the limit are rejected for their length.
     ensures fits { OnOk result (IfSome (R.left reader.old) (λ input. length input ≤ most_input)) }
     ensures too_long { IsErrOf result TextFault.TooLong
         → IfSome (R.left reader.old) (λ input. most_input < length input) }
 
-    // A fault of an end is reported only where that end counted a failure.
+    // A read or write fault is returned only if that end counted a failure.
     ensures read { IsErrOf result TextFault.Read
         → HasRisen (R.take_failures reader.old) (R.take_failures reader.new) }
     ensures write { IsErrOf result TextFault.Write
@@ -114,7 +115,7 @@ pub fn decode_lines<A: Allocator + Copy, R: Source, W: Sink>(
     ensures ok { OnOk result ((R.take_failures reader.new ≡ R.take_failures reader.old)
         × (W.put_failures writer.new ≡ W.put_failures writer.old)) }
 
-    // After any fault but a failed write the writer is as it was.
+    // After any fault but a failed write the writer is unchanged.
     ensures untouched { IfErr result (λ fault. fault ≢ TextFault.Write → writer.new ≡ writer.old) }
 {
     let mut digits = room(alloc, LONGEST)?;

@@ -15,7 +15,7 @@ use dc_records::Telegram;
 /// The CI field of a variable data structure (EN 13757-3).
 const VARIABLE_DATA: u8 = 0x72;
 
-// How many bytes the text at the front has.
+// Number of bytes of the first text.
 fn front_len(bytes: &[u8]) -> usize
     ensures { result ≡ front_len bytes.now }
 {
@@ -25,7 +25,8 @@ fn front_len(bytes: &[u8]) -> usize
     }
 }
 
-/// The text at the front of a line's bytes that is read as one frame, and what follows it.
+/// Splits off the first text of a line's bytes, which is read as one frame, and returns it with the
+/// rest.
 #[tactic(auto, using(crate::proofs::Cuts::cuts))]
 pub fn first_frame(bytes: &[u8]) -> (&[u8], &[u8])
     requires { 0 < length bytes.now }
@@ -35,7 +36,7 @@ pub fn first_frame(bytes: &[u8]) -> (&[u8], &[u8])
     bytes.split_at(front_len(bytes))
 }
 
-/// The frame that the text spells, or its fault.
+/// Reads a text as a frame, or returns its fault.
 pub fn read(text: &[u8]) -> Result<Frame<'_>, FrameFault>
     ensures { MatchResult result (λ frame. read_as text.now ≡ Ok (seen frame))
         (λ fault. read_as text.now ≡ Err fault) }
@@ -43,7 +44,7 @@ pub fn read(text: &[u8]) -> Result<Frame<'_>, FrameFault>
     parse(text)
 }
 
-// Writes what a body has, where the CI field says that it is a telegram, and says whether it isn't one.
+// Writes the text of a body, if the CI field states a telegram, and returns whether it has a fault.
 #[tactic(auto, using(dc_io::proofs::Pieces::written), unfolding(crate::specs::Frames::content_text, crate::specs::Frames::is_bad_content))]
 fn put_content<W: Sink>(ci: u8, body: &[u8], out: &mut W) -> Result<bool, IoFault>
     ensures wrote { Wrote W.Sink result out.old out.new
@@ -96,7 +97,7 @@ fn put_long<W: Sink>(
     out.put(b"\n")
 }
 
-// Writes what a frame has, and says whether its body is at fault.
+// Writes the text of a frame, and returns whether its body has a fault.
 #[tactic(auto, using(dc_io::proofs::Pieces::written))]
 fn put_frame<W: Sink>(frame: Frame<'_>, out: &mut W) -> Result<bool, IoFault>
     ensures wrote { Wrote W.Sink result out.old out.new
@@ -124,7 +125,7 @@ fn put_frame<W: Sink>(frame: Frame<'_>, out: &mut W) -> Result<bool, IoFault>
     }
 }
 
-// Writes what stands for a text, and says whether a fault is among it.
+// Writes the line of a text, frame or fault, and returns whether it has a fault.
 #[tactic(auto, using(dc_io::proofs::Pieces::written), unfolding(crate::specs::Frames::shown, crate::specs::Frames::is_bad))]
 fn put_shown<W: Sink>(text: &[u8], out: &mut W) -> Result<bool, IoFault>
     ensures wrote { Wrote W.Sink result out.old out.new (shown text.now) }
@@ -139,7 +140,7 @@ fn put_shown<W: Sink>(text: &[u8], out: &mut W) -> Result<bool, IoFault>
     }
 }
 
-/// Writes what stands for the frames of a line's bytes, and says whether a fault is among it.
+/// Writes the lines of the frames in a line's bytes, and returns whether one has a fault.
 #[tactic(auto, using(dc_io::proofs::Pieces::written, crate::proofs::Cuts::shows))]
 pub fn put_frames<W: Sink>(bytes: &[u8], out: &mut W) -> Result<bool, IoFault>
     ensures wrote { Wrote W.Sink result out.old out.new

@@ -44,7 +44,7 @@ fn put_answer<W: Sink>(seen: &Seen, out: &mut W) -> Result<(), IoFault>
     }
 }
 
-/// Writes what a record's data are.
+/// Writes the decoded value of a record's data.
 #[tactic(auto, using(dc_io::proofs::Pieces::written), unfolding(crate::specs::Seen::seen_word))]
 pub fn put_seen<W: Sink>(found: &Record<'_>, out: &mut W) -> Result<(), IoFault>
     ensures { Wrote W.Sink result out.old out.new (seen_word (view found.now)) }

@@ -24,7 +24,7 @@ fn put_meter<W: Sink>(header: &Header, out: &mut W) -> Result<(), IoFault>
     out.put(b"\n")
 }
 
-// Writes the numbers of what a record is about.
+// Writes the numbers of a record.
 #[tactic(auto, using(dc_io::proofs::Pieces::written), unfolding(crate::specs::Telegram::record_words))]
 fn put_numbers<W: Sink>(found: &Record<'_>, out: &mut W) -> Result<(), IoFault>
     ensures { Wrote W.Sink result out.old out.new

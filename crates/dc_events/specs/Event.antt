@@ -1,7 +1,7 @@
--- The lines of a poll's text, and the JSON objects that stand for them (RFC 8259; this product).
+-- The lines of a poll's text, and their JSON objects (RFC 8259; this product).
 use Rattle.std.specs.Prelude.{ℕ, List, ◌++◌, codes}
 
--- what a line says, in its words
+-- the content of a line, by its words
 pub data Event : Type 0 where
   was_read : (meter serial parts : List ℕ) → Event
   has_failed : (meter number name : List ℕ) → Event
@@ -10,14 +10,14 @@ pub data Event : Type 0 where
   came_late : (line answers : List ℕ) → Event
   has_ended : (read failed : List ℕ) → Event
 
--- the words of a line with a space after each but the last
+-- two words separated by a space
 abbrev pub two_words : List ℕ → List ℕ → List ℕ
 two_words a b = a ++ (codes " " ++ b)
 
 abbrev pub three_words : List ℕ → List ℕ → List ℕ → List ℕ
 three_words a b c = a ++ (codes " " ++ two_words b c)
 
--- a line: its first word, and what follows the space after it
+-- a line: its first word, a space and the rest
 unfoldable pub kind_line : List ℕ → List ℕ → List ℕ
 kind_line kind words = kind ++ (codes " " ++ words)
 

@@ -1,4 +1,4 @@
 -- the definitions that contracts cite
 
--- the lines of a poll's text, and the objects that stand for them
+-- the lines of a poll's text, and their JSON objects
 pub mod Event

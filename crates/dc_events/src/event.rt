@@ -1,4 +1,4 @@
-//! A line of a poll's text as an object.
+//! Writes a line of a poll's text as a JSON object.
 
 ghost use Rattle.std.specs.Prelude.{◌≡◌, ◌⊎◌, ℕ, List, MatchOption, codes};
 ghost use Rattle.dc_changes.specs.Words.{IsWord};
@@ -11,7 +11,7 @@ ghost use Rattle.dc_events.specs.Event.{was_refused};
 use dc_changes::split_word;
 use dc_io::{IoFault, Sink};
 
-// The first word of a line, and what follows the space after it.
+// Splits a line into its first word and what follows the space after it.
 #[tactic(auto, unfolding(crate::specs::Event::kind_line))]
 fn split_kind(line: &[u8]) -> Option<(&[u8], &[u8])>
     ensures only { (kind words : List ℕ) → IsWord kind → line.now ≡ kind_line kind words
@@ -20,7 +20,7 @@ fn split_kind(line: &[u8]) -> Option<(&[u8], &[u8])>
     split_word(line)
 }
 
-// The three words of a text; of the last one it isn't asked that it has no space.
+// Splits a text into three words; the last one may contain spaces.
 fn split_three(text: &[u8]) -> Option<(&[u8], &[u8], &[u8])>
     ensures only { (a b c : List ℕ) → IsWord a → IsWord b → text.now ≡ three_words a b c
         → MatchOption result ⊥ (λ words.
@@ -73,7 +73,7 @@ fn put_fault<W: Sink>(out: &mut W, number: &[u8], name: &[u8]) -> Result<(), IoF
     out.put(b"}\n")
 }
 
-// Writes that a meter was read.
+// Writes the event of a meter that was read.
 #[tactic(auto, using(dc_io::proofs::Pieces::written))]
 fn put_read<W: Sink>(out: &mut W, meter: &[u8], serial: &[u8], parts: &[u8]) -> Result<(), IoFault>
     ensures { Wrote W.Sink result out.old out.new
@@ -83,7 +83,7 @@ fn put_read<W: Sink>(out: &mut W, meter: &[u8], serial: &[u8], parts: &[u8]) -> 
     put_reading(out, serial, parts)
 }
 
-// Writes that a meter failed.
+// Writes the event of a meter whose readout failed.
 #[tactic(auto, using(dc_io::proofs::Pieces::written))]
 fn put_failed<W: Sink>(out: &mut W, meter: &[u8], number: &[u8], name: &[u8]) -> Result<(), IoFault>
     ensures { Wrote W.Sink result out.old out.new
@@ -93,7 +93,7 @@ fn put_failed<W: Sink>(out: &mut W, meter: &[u8], number: &[u8], name: &[u8]) ->
     put_fault(out, number, name)
 }
 
-// Writes that a meter was refused.
+// Writes the event of a meter whose telegram was refused.
 #[tactic(auto, using(dc_io::proofs::Pieces::written))]
 fn put_refused<W: Sink>(
     out: &mut W,
@@ -108,7 +108,7 @@ fn put_refused<W: Sink>(
     put_fault(out, number, name)
 }
 
-// Writes that a line was lost.
+// Writes the event of a lost line.
 #[tactic(auto, using(dc_io::proofs::Pieces::written))]
 fn put_lost<W: Sink>(out: &mut W, line: &[u8]) -> Result<(), IoFault>
     ensures { Wrote W.Sink result out.old out.new
@@ -118,7 +118,7 @@ fn put_lost<W: Sink>(out: &mut W, line: &[u8]) -> Result<(), IoFault>
     out.put(b"}\n")
 }
 
-// Writes how many answers of a line came late.
+// Writes the number of late answers of a line.
 #[tactic(auto, using(dc_io::proofs::Pieces::written))]
 fn put_late<W: Sink>(out: &mut W, line: &[u8], answers: &[u8]) -> Result<(), IoFault>
     ensures { Wrote W.Sink result out.old out.new

@@ -5,13 +5,13 @@ ghost use Rattle.std.specs.Prelude.{◌≡◌, None};
 use crate::event::put_event;
 use dc_io::{IoFault, Sink, one_failure_more};
 
-// The longest line of a poll has fewer bytes.
+// Room for a line: the longest line of a poll is shorter.
 const ROOM: usize = 128;
 
 const LINE_FEED: u8 = b'\n';
 
-/// A sink that takes the text of a poll and writes the object of each line, when the line's end came. It doesn't tell the
-/// bytes; a line over 127 bytes, which no poll has, is a failed put.
+/// A sink that takes the text of a poll and writes the object of each line once the line ends. Its
+/// bytes aren't known to contracts. A line over 127 bytes, which no poll prints, is a failed put.
 #[derive(Drop)]
 pub struct EventSink<'w, W: Sink> {
     out: &'w mut W,
@@ -21,7 +21,7 @@ pub struct EventSink<'w, W: Sink> {
 }
 
 impl<'w, W: Sink> EventSink<'w, W> {
-    /// A sink that writes there.
+    /// Returns a sink that writes the objects to `out`.
     pub fn new(out: &'w mut W) -> Self {
         EventSink {
             out,

@@ -46,7 +46,7 @@ values_of_take f (x ∷ xs) (suc i) below =
     let more : suc i + 1 ≡ suc (i + 1) = omega arith in
     rw more (ap (λ (ts : List Token). json_tokens (f x) ++ ts) (values_of_take f xs i (omega arith)) ∙ sym (append_assoc (json_tokens (f x)) (values_tokens (map f (take i xs))) (json_tokens (f (get_or xs i 0)))))
 
--- one field in front of others, in one piece
+-- one field and those after it, in one piece
 pub fields-cons : (field : Field) (fields : List Field) → fields_tokens (field ∷ fields) ≡ fields_tokens (field ∷ []) ++ fields_tokens fields
 unfolding fields_tokens
 fields-cons field fields =

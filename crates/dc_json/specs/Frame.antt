@@ -1,5 +1,5 @@
--- A link frame as JSON, or the fault that stands in its place (this product; frames are those of EN 13757-2, bodies
--- those of EN 13757-3).
+-- A link frame or its fault as JSON (this product; frames are those of EN 13757-2, bodies those of
+-- EN 13757-3).
 use Rattle.std.specs.Prelude.{ℕ, ◌==◌, if◌then◌else◌, List, [], ◌∷◌, ◌++◌, codes, Option, Some}
 use Rattle.std.specs.Prelude.{None, Result, Ok, Err, map}
 use Rattle.hex.specs.Hex.{encode_upper}
@@ -38,18 +38,18 @@ link_fields control address =
 unfoldable pub ci_fields : ℕ → List Field
 ci_fields ci = (codes "ci", count ci) ∷ (codes "ci_name", string (ci_name ci)) ∷ []
 
--- bytes that nothing here reads
+-- bytes that aren't decoded
 unfoldable pub bytes_field : List ℕ → List ℕ → Field
 bytes_field name bytes = (name, string (encode_upper bytes))
 
--- a body that is a telegram, or the fault that it has
+-- a body that is a telegram, or its fault
 abbrev pub body_fields : List ℕ → Result Parsed BodyFault → List Field
 body_fields body (Ok t) = telegram_fields t
 body_fields body (Err f) =
     bytes_field (codes "body") body ∷ fault_field (codes "body") (records.number_of f)
     (records.name_of f) ∷ []
 
--- a body is read for CI 72
+-- a body is decoded for CI 72
 unfoldable pub content_fields : ℕ → List ℕ → List Field
 content_fields ci body =
     if ci == variable_data then body_fields body (telegram_at body)
@@ -63,7 +63,7 @@ frame_fields line (long control address ci body) =
     place_fields line (codes "long")
     ++ (link_fields control address ++ (ci_fields ci ++ content_fields ci body))
 
--- the frame that a text spells, or the fault that it has
+-- the frame that a text spells, or its fault
 abbrev pub read_fields : ℕ → List ℕ → Result FrameSeen FrameFault → List Field
 read_fields line text (Ok frame) = frame_fields line frame
 read_fields line text (Err f) =

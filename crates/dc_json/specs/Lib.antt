@@ -1,6 +1,6 @@
 -- the definitions that contracts cite
 
--- JSON objects as lists of fields, and what a call adds to a text
+-- JSON objects as lists of fields, and what a call appends to a text
 pub mod Object
 -- a meter's identity and its status byte
 pub mod Meter
@@ -8,9 +8,9 @@ pub mod Meter
 pub mod Record
 -- a telegram
 pub mod Telegram
--- a link frame, or the fault that stands in its place
+-- a link frame or its fault
 pub mod Frame
--- the lines that are written for an input
+-- the lines printed for an input
 pub mod Text
 -- the rows of the tables of `report`
 pub mod Report

@@ -22,7 +22,7 @@ identity_fields i =
 abbrev pub has_bit : ℕ → ℕ → Bool
 has_bit power status = status / power % 2 == 1
 
--- bits 1 and 0, 2, 3 and 4, and what bits 7 to 5 say to the manufacturer
+-- bits 1 and 0, 2, 3 and 4, and bits 7 to 5, which the manufacturer defines
 unfoldable pub status_fields : ℕ → List Field
 status_fields status =
     (codes "code", count status)

@@ -1,4 +1,4 @@
--- JSON objects as lists of fields, and what a call adds to a text (RFC 8259; this product).
+-- JSON objects as lists of fields, and what a call appends to a text (RFC 8259; this product).
 use Rattle.std.specs.Prelude.{◌≡◌, ℕ, List, [], ◌∷◌, ◌++◌, map, decimal, Result, OnOk}
 use Rattle.json.specs.Json.{Json, number, object, array, Items, no_items, item, Members, no_members}
 use Rattle.json.specs.Json.{member}
@@ -41,11 +41,11 @@ unfoldable pub values_tokens : List Json → List Token
 values_tokens [] = []
 values_tokens (value ∷ values) = json_tokens value ++ values_tokens values
 
--- these tokens were added to a text, and nothing before it was changed
+-- these tokens were appended to a text
 pub record Added (old new : Written) (tokens : List Token) : Type 0 where
   pub kept : new.before ≡ old.before
   pub grown : new.tokens ≡ old.tokens ++ tokens
 
--- Where the answer is Ok, they were.
+-- If the result is Ok, the tokens were appended.
 abbrev pub Adds : {X E : Type 0} → Result X E → Written → Written → List Token → Type 0
 Adds result old new tokens = OnOk result (Added old new tokens)

@@ -18,7 +18,7 @@ use Rattle.dc_names.specs.Vib.{code_of, quantity_name, qualifiers}
 use Rattle.dc_names.specs.Vife.{vife_name}
 use Rattle.dc_json.specs.Object.{Field, object_of, array_of, count}
 
--- what a record is about
+-- the numbers and the function of a record
 unfoldable pub about_fields : Entry → List Field
 about_fields e =
     (codes "storage", count e.storage)
@@ -36,15 +36,15 @@ sent_fields e = (codes "vib", string (encode_upper e.vib))
 unfoldable pub qualifier : ℕ → Json
 qualifier vife = string (vife_name (code_of vife))
 
--- what the value information block says in words
+-- the value information block in words
 unfoldable pub quantity_fields : Entry → List Field
 quantity_fields e =
     (codes "quantity", string (quantity_name e.vib))
     ∷ (codes "qualifiers", array_of (map qualifier (qualifiers e.vib)))
     ∷ []
 
--- A value is a text: an exact decimal, a date or a date and time of ISO 8601, flags in hex. A meter that has none to
--- give has null.
+-- A value is a text: an exact decimal, a date or a date and time of ISO 8601, flags in hex. It is
+-- null if the meter sent no value.
 unfoldable pub value_json : Value → Json
 value_json (Number decimal) = string (value_text (Number decimal))
 value_json (Flags len bits) = string (value_text (Flags len bits))
@@ -52,7 +52,7 @@ value_json (OnDay date) = string (value_text (OnDay date))
 value_json (Minute date hour minute) = string (value_text (Minute date hour minute))
 value_json NoValue = null
 
--- what has no unit has null
+-- a value without a unit has null
 unfoldable pub unit_json : List ℕ → Json
 unit_json unit = if length unit == 0 then null else string unit
 
@@ -60,7 +60,7 @@ unfoldable pub value_fields : List ℕ → Json → Json → List Field
 value_fields reading value unit =
     (codes "reading", string reading) ∷ (codes "value", value) ∷ (codes "unit", unit) ∷ []
 
--- by the table of plain numbers, where the due-date table leaves the record as other
+-- by the table of plain numbers, if the due-date table doesn't have the record
 abbrev pub plain_fields : Option (Value × List ℕ) → List Field
 plain_fields None = value_fields (codes "other") null null
 plain_fields (Some plain) = value_fields (codes "plain") (value_json plain.0) (unit_json plain.1)

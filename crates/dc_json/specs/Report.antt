@@ -18,17 +18,17 @@ use Rattle.dc_json.specs.Meter.{identity_fields}
 use Rattle.dc_json.specs.Record.{value_json, unit_json}
 use Rattle.dc_json.specs.Text.{value_line}
 
--- a primary address; a meter that is selected by its identity has none
+-- a primary address; null for secondary addressing
 abbrev pub address_json : Option ℕ → Json
 address_json None = null
 address_json (Some address) = count address
 
--- the flat and the meter that a row is about
+-- the flat and the meter of a row
 unfoldable pub whose_fields : List ℕ → Identity → List Field
 whose_fields flat meter = (codes "flat", string flat)
     ∷ (codes "meter", object_of (identity_fields meter)) ∷ []
 
--- where a meter hangs, and how many parts of a readout are open
+-- the meter's bus line and address, and the number of its open parts
 unfoldable pub station_fields : MeterRow → List Field
 station_fields row =
     (codes "line", count row.line) ∷ (codes "address", address_json row.address)
@@ -41,7 +41,7 @@ meter_fields meter row = whose_fields row.flat meter ++ station_fields row
 unfoldable pub meter_json : Identity → MeterRow → Json
 meter_json meter row = object_of (meter_fields meter row)
 
--- the line of a meter, which has one where it is registered
+-- the line of a registered meter; empty for any other
 abbrev pub meter_line : Identity → Option MeterRow → List ℕ
 meter_line meter None = []
 meter_line meter (Some row) = value_line (meter_json meter row)
@@ -54,11 +54,11 @@ line_at s place = meter_line place.meter (row_of place.meter s)
 abbrev pub register_lines : State → List ℕ
 register_lines s = flat_map (line_at s) (by_flat s.meters)
 
--- the date for which a row is
+-- the due date of a row
 unfoldable pub date_fields : Day → List Field
 date_fields date = (codes "date", string (day_text date)) ∷ []
 
--- a point of a reading: its serial, what the point is about, and its value
+-- a point of a reading: its serial, the point's numbers, and its value
 unfoldable pub point_fields : ℕ → Point → List Field
 point_fields serial p =
     (codes "serial", count serial)

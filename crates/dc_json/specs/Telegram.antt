@@ -10,7 +10,7 @@ use Rattle.dc_json.specs.Object.{Field, object_of, array_of, count}
 use Rattle.dc_json.specs.Meter.{identity_fields, status_fields}
 use Rattle.dc_json.specs.Record.{record_json}
 
--- who sent it, the access number and the status byte
+-- the meter's identity, the access number and the status byte
 unfoldable pub header_fields : Header → List Field
 header_fields h =
     (codes "meter", object_of (identity_fields h.identity))

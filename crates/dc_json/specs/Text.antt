@@ -1,4 +1,5 @@
--- The JSON lines that are written for an input: one object for each frame and for each fault, in order (this product).
+-- The JSON lines printed for an input: one object for each frame and for each fault, in order (this
+-- product).
 use Rattle.std.specs.Prelude.{ℕ, ◌+◌, List, [], ◌∷◌, ◌++◌, flat_map, map, Option, Some, None}
 use Rattle.json.specs.Json.{Json}
 use Rattle.json.specs.Print.{print}
@@ -12,7 +13,7 @@ use Rattle.dc_json.specs.Frame.{text_json, hex_fault_json}
 unfoldable pub value_line : Json → List ℕ
 value_line value = print (json_tokens value) ++ 10 ∷ []
 
--- the objects of a line: one for each text that its bytes come apart into
+-- the objects of a line: one for each text that its bytes split into
 abbrev pub decoded_objects : ℕ → Option (List ℕ) → List Json
 decoded_objects line None = hex_fault_json line ∷ []
 decoded_objects line (Some bytes) = map (text_json line) (frames_of bytes)
@@ -20,7 +21,7 @@ decoded_objects line (Some bytes) = map (text_json line) (frames_of bytes)
 unfoldable pub line_objects : ℕ → List ℕ → List Json
 line_objects number line = decoded_objects number (decoded line)
 
--- and of lines, by the number of the first
+-- the objects of several lines, numbered from the first one's number
 unfoldable pub objects_from : ℕ → List (List ℕ) → List Json
 objects_from number [] = []
 objects_from number (line ∷ lines) = line_objects number line ++ objects_from (number + 1) lines
@@ -33,6 +34,6 @@ objects_of input = objects_from 1 (lines_of input)
 unfoldable pub lines_text : List Json → List ℕ
 lines_text values = flat_map value_line values
 
--- what is written for an input
+-- the text printed for an input
 abbrev pub json_text : List ℕ → List ℕ
 json_text input = lines_text (objects_of input)

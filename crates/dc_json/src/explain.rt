@@ -1,6 +1,6 @@
-//! The table for people: what the frames of lines of hex digits say, in words and aligned.
+//! A table for readers: the frames of lines of hex digits, in words and aligned.
 //!
-//! Its text has no contract of its own: it is proved safe, and its faults are those of `decode_lines`.
+//! Its text has no contract: it is proved safe, and its faults are those of `decode_lines`.
 
 ghost use Rattle.std.specs.Prelude.{◌≡◌, ◌≢◌, ◌<◌, ◌≤◌, length, IfSome, IfErr, OnOk, IsErrOf};
 ghost use Rattle.dc_io.specs.Failures.{HasRisen};
@@ -19,10 +19,10 @@ use dc_names::{ci_name, control_name};
 use dc_records::Telegram;
 use std::alloc::Allocator;
 
-// The bytes of a long frame in front of its body.
+// Number of bytes of a long frame before its body.
 const BODY: usize = 7;
 
-// Writes where a fault lies in the line and what was expected there.
+// Writes the place of a fault in the line and what was expected there.
 fn put_expected<W: Sink>(out: &mut W, place: usize, expected: &str) -> Result<(), IoFault> {
     out.put(b" at byte ")?;
     put_number(out, place as u64)?;
@@ -40,7 +40,8 @@ fn put_link<W: Sink>(out: &mut W, control: u8, address: u8) -> Result<(), IoFaul
     put_number(out, u64::from(address))
 }
 
-// Writes what a body says, or its fault, and says whether it has one. `start` is its place in the line.
+// Writes a body in words, or its fault, and returns whether it has one. `start` is its place in the
+// line.
 fn put_body<W: Sink>(out: &mut W, start: usize, body: &[u8]) -> Result<bool, IoFault> {
     match Telegram::parse(body) {
         Ok(telegram) => {
@@ -57,7 +58,7 @@ fn put_body<W: Sink>(out: &mut W, start: usize, body: &[u8]) -> Result<bool, IoF
     }
 }
 
-// Writes what stands for a text that begins at a place of a line, and says whether a fault is in it.
+// Writes a text that begins at this place of a line, and returns whether it has a fault.
 fn put_text_table<W: Sink>(out: &mut W, start: usize, text: &[u8]) -> Result<bool, IoFault> {
     match read_frame(text) {
         Ok(Frame::Ack) => {
@@ -100,7 +101,7 @@ fn put_text_table<W: Sink>(out: &mut W, start: usize, text: &[u8]) -> Result<boo
     }
 }
 
-// Writes what the frames of a line say, and says whether a fault is among it.
+// Writes the frames of a line in words, and returns whether one has a fault.
 fn put_frames<W: Sink>(out: &mut W, number: u64, bytes: &[u8]) -> Result<bool, IoFault> {
     let mut found = false;
     let mut rest = bytes;
@@ -116,7 +117,7 @@ fn put_frames<W: Sink>(out: &mut W, number: u64, bytes: &[u8]) -> Result<bool, I
     Ok(found)
 }
 
-// Writes what a line says, and says whether a fault is in it.
+// Writes a line in words, and returns whether it has a fault.
 fn put_line<W: Sink>(
     out: &mut W,
     number: u64,
@@ -138,7 +139,7 @@ fn put_line<W: Sink>(
     }
 }
 
-// Writes what lines say, and says whether a fault is among it.
+// Writes lines in words, and returns whether one has a fault.
 fn put_lines<W: Sink>(
     out: &mut W,
     input: &[u8],
@@ -161,32 +162,33 @@ fn put_lines<W: Sink>(
     Ok(found)
 }
 
-/// Writes what the lines of hex digits that the reader has left say, in words: each frame, the meter, its status, a
-/// table of its records, and of each fault where it lies in the line (in bytes, from 0) and what was expected there.
-/// The answer says whether a fault of a line, a frame or a body was met.
+/// Writes the lines of hex digits left in the reader in words: each frame, the meter, its status, a
+/// table of its records, and for each fault its place in the line (in bytes, from 0) and what was
+/// expected there. Returns whether a line, a frame or a body has a fault.
 ///
-/// The whole input is read, and the whole text made, before anything is written.
+/// The whole input is read, and the whole text built, before anything is written.
 ///
 /// # Errors
-/// [`TextFault::Read`] and [`TextFault::Write`] where that end failed, [`TextFault::TooLong`] over 1 MiB,
-/// [`TextFault::NoMemory`] where memory was refused. Only after `Write` may something have been written.
+/// [`TextFault::Read`] and [`TextFault::Write`] if the reader or the writer failed,
+/// [`TextFault::TooLong`] over 1 MiB, [`TextFault::NoMemory`] if memory ran out. Only after `Write`
+/// may something have been written.
 pub fn explain_lines<A: Allocator + Copy, R: Source, W: Sink>(
     alloc: A,
     reader: &mut R,
     writer: &mut W,
 ) -> Result<bool, TextFault>
-    // An input over the limit is refused, and no other is refused for its length.
+    // Exactly the inputs over the limit are rejected for their length.
     ensures fits { OnOk result (IfSome (R.left reader.old) (λ input. length input ≤ most_input)) }
     ensures too_long { IsErrOf result TextFault.TooLong
         → IfSome (R.left reader.old) (λ input. most_input < length input) }
 
-    // A fault of an end is answered only where that end counted a failure.
+    // A read or write fault is returned only if that end counted a failure.
     ensures read { IsErrOf result TextFault.Read
         → HasRisen (R.take_failures reader.old) (R.take_failures reader.new) }
     ensures write { IsErrOf result TextFault.Write
         → HasRisen (W.put_failures writer.old) (W.put_failures writer.new) }
 
-    // After any fault but a failed write the writer is as it was.
+    // After any fault but a failed write the writer is unchanged.
     ensures untouched { IfErr result (λ fault. fault ≢ TextFault.Write → writer.new ≡ writer.old) }
 {
     let mut digits = room(alloc, LONGEST)?;

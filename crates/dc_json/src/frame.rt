@@ -1,4 +1,4 @@
-//! A link frame, or the fault that stands in its place.
+//! A link frame or its fault.
 
 ghost use Rattle.std.specs.Prelude.{◌≡◌, ◌∷◌, [], ◌++◌, codes, Err, IfOk};
 ghost use Rattle.dc_linkframe.specs.Frame.{seen, long};
@@ -19,7 +19,7 @@ use dc_records::{BodyFault, Telegram};
 use json::Writer;
 use std::alloc::Allocator;
 
-// The bytes at the front of a long frame.
+// The control, address and CI bytes of a long frame.
 #[derive(Clone, Copy)]
 struct Head {
     control: u8,
@@ -42,7 +42,7 @@ fn put_fault_fields<A: Allocator>(
     Ok(())
 }
 
-/// Writes where a fault is found, its number and its name.
+/// Writes the place of a fault, its number and its name.
 pub(crate) fn put_fault<A: Allocator>(
     out: &mut Writer<A>,
     place: &str,
@@ -91,7 +91,7 @@ fn put_ci<A: Allocator>(out: &mut Writer<A>, ci: u8) -> Result<(), NoMemory>
     Ok(())
 }
 
-// Writes bytes that nothing here reads.
+// Writes bytes that aren't decoded.
 fn put_bytes<A: Allocator + Copy>(
     alloc: A,
     out: &mut Writer<A>,
@@ -134,8 +134,8 @@ fn put_frame_fault<A: Allocator + Copy>(
     Ok(())
 }
 
-// Writes what a body has, where the CI field says that it is a telegram, else its bytes, and says whether it is at
-// fault.
+// Writes a telegram if the CI field states one, otherwise the body's bytes, and returns whether the
+// body has a fault.
 #[tactic(auto, unfolding(crate::specs::Frame::content_fields, dc_decode::specs::Frames::is_bad_content))]
 fn put_content<A: Allocator + Copy>(
     alloc: A,
@@ -177,7 +177,7 @@ fn put_short<A: Allocator>(
     Ok(())
 }
 
-// Writes the fields of a long frame, and says whether its body is at fault.
+// Writes the fields of a long frame, and returns whether its body has a fault.
 fn put_long<A: Allocator + Copy>(
     alloc: A,
     out: &mut Writer<A>,
@@ -201,7 +201,7 @@ fn put_long<A: Allocator + Copy>(
     Ok(bad)
 }
 
-// Writes the fields of a frame, and says whether its body is at fault.
+// Writes the fields of a frame, and returns whether its body has a fault.
 fn put_frame<A: Allocator + Copy>(
     alloc: A,
     out: &mut Writer<A>,
@@ -237,7 +237,7 @@ fn put_frame<A: Allocator + Copy>(
     }
 }
 
-/// Writes the fields of what stands for a text, and says whether a fault is among them.
+/// Writes the fields of a text, frame or fault, and returns whether it has a fault.
 #[tactic(auto, unfolding(crate::specs::Frame::text_fields, dc_decode::specs::Frames::is_bad))]
 pub(crate) fn put_shown<A: Allocator + Copy>(
     alloc: A,

@@ -1,14 +1,17 @@
-//! What `decode` reads, as JSON Lines for programs and as a table for people; and the tables of `report` as JSON Lines.
+//! The output of `decode` as JSON Lines for programs and as a table for readers, and the tables of
+//! `report` as JSON Lines.
 //!
-//! [`json_lines`] reads lines of hex digits, as [`decode_lines`](dc_decode::decode_lines) does, and writes one JSON
-//! object for each frame and for each fault: its fields are those of link frames (EN 13757-2) and telegrams (EN
-//! 13757-3). What it writes is the text that `specs/Text.antt` defines for the whole input, byte for byte: each
-//! object is the compact text of the value that `specs/Frame.antt` gives.
+//! [`json_lines`] reads lines of hex digits, as [`decode_lines`](dc_decode::decode_lines) does, and
+//! writes one JSON object for each frame and for each fault, with the fields of link frames (EN
+//! 13757-2) and telegrams (EN 13757-3). Its text is the one that `specs/Text.antt` defines for the
+//! whole input, byte for byte: each object is the compact text of the value that `specs/Frame.antt`
+//! defines.
 //!
-//! [`register_json`] and [`due_json`] give the tables of a house as JSON Lines, an object a row (`specs/Report.antt`).
+//! [`register_json`] and [`due_json`] return the tables of a house as JSON Lines, an object per row
+//! (`specs/Report.antt`).
 //!
-//! [`explain_lines`] writes the same in words and aligned, and says of each fault where it lies and what was expected
-//! there. Its text has no contract.
+//! [`explain_lines`] writes the same in words and aligned, with the place of each fault and what
+//! was expected there. Its text has no contract.
 #![tactic(auto)]
 
 mod explain;

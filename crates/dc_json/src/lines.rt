@@ -1,4 +1,4 @@
-//! The engine of JSON lines: from a source's lines of hex digits to a sink's objects.
+//! The engine of `decode --json`: from lines of hex digits in a source to JSON objects in a sink.
 
 ghost use Rattle.std.specs.Prelude.{◌≡◌, ◌≢◌, ◌<◌, ◌≤◌, ◌++◌, length, map, IfSome, IfOk, IfErr};
 ghost use Rattle.std.specs.Prelude.{OnOk, IsErrOf};
@@ -26,7 +26,7 @@ struct Numbered<'a> {
     line: &'a [u8],
 }
 
-// Adds the object of a text that is read as one frame.
+// Appends the object of a text that is read as one frame.
 fn add_text<A: Allocator + Copy>(
     alloc: A,
     text: Vec<u8, A>,
@@ -46,7 +46,7 @@ fn add_text<A: Allocator + Copy>(
     Ok((grown, bad))
 }
 
-// Adds the object of a line that isn't pairs of hex digits.
+// Appends the object of a line that isn't pairs of hex digits.
 fn add_hex_fault<A: Allocator>(text: Vec<u8, A>, line: u64) -> Result<Vec<u8, A>, NoMemory>
     ensures { IfOk result (λ added. added.items ≡ text.items ++ value_line (hex_fault_json line)) }
 {
@@ -60,7 +60,7 @@ fn add_hex_fault<A: Allocator>(text: Vec<u8, A>, line: u64) -> Result<Vec<u8, A>
     Ok(grown)
 }
 
-// Adds the objects of a line's bytes, and says whether a fault is among them.
+// Appends the objects of a line's bytes, and returns whether one has a fault.
 #[tactic(auto, using(dc_decode::proofs::Cuts::shows))]
 fn add_frames<A: Allocator + Copy>(
     alloc: A,
@@ -85,8 +85,8 @@ fn add_frames<A: Allocator + Copy>(
     Ok((grown, found))
 }
 
-// Adds the objects of a line, and says whether a fault is among them. `digits` and `bytes` are room for what is
-// decoded.
+// Appends the objects of a line, and returns whether one has a fault. `digits` and `bytes` are room
+// for the decoding.
 #[tactic(auto, unfolding(crate::specs::Text::line_objects, dc_decode::specs::Text::is_bad_line))]
 fn add_line<A: Allocator + Copy>(
     alloc: A,
@@ -111,7 +111,7 @@ fn add_line<A: Allocator + Copy>(
     }
 }
 
-// Adds the objects of an input's lines, and says whether a fault is among them.
+// Appends the objects of an input's lines, and returns whether one has a fault.
 #[tactic(auto, using(dc_decode::proofs::Inputs::lines))]
 fn add_lines<A: Allocator + Copy>(
     alloc: A,
@@ -141,17 +141,18 @@ fn add_lines<A: Allocator + Copy>(
     Ok((grown, found))
 }
 
-/// Writes what the lines of hex digits that the reader has left stand for as JSON Lines (RFC 8259): an object for
-/// each frame and for each fault of a line or a frame, in order. The answer says whether a fault of a line, a frame
-/// or a body is among it.
+/// Writes the lines of hex digits left in the reader as JSON Lines (RFC 8259): an object for each
+/// frame and for each fault of a line or a frame, in order. Returns whether a line, a frame or a
+/// body has a fault.
 ///
-/// The whole input is read, and the whole text made, before anything is written. The text is defined by
-/// `specs/Text.antt`, over the frames of EN 13757-2 and the telegrams of EN 13757-3; the value of a record is that of
-/// [`point_of`](dc_units::point_of), as `decode` prints it.
+/// The whole input is read, and the whole text built, before anything is written. The text is
+/// defined by `specs/Text.antt`, over the frames of EN 13757-2 and the telegrams of EN 13757-3; the
+/// value of a record is that of [`point_of`](dc_units::point_of), as `decode` prints it.
 ///
 /// # Errors
-/// [`TextFault::Read`] and [`TextFault::Write`] where that end failed, [`TextFault::TooLong`] over 1 MiB,
-/// [`TextFault::NoMemory`] where memory was refused. Only after `Write` may something have been written.
+/// [`TextFault::Read`] and [`TextFault::Write`] if the reader or the writer failed,
+/// [`TextFault::TooLong`] over 1 MiB, [`TextFault::NoMemory`] if memory ran out. Only after `Write`
+/// may something have been written.
 pub fn json_lines<A: Allocator + Copy, R: Source, W: Sink>(
     alloc: A,
     reader: &mut R,
@@ -160,16 +161,16 @@ pub fn json_lines<A: Allocator + Copy, R: Source, W: Sink>(
     // What is written is the text for the input, byte for byte.
     ensures text { OnOk result (IfSome (R.left reader.old)
         (λ input. PutsInto W.Sink writer.old writer.new (json_text input))) }
-    // The answer says whether a fault is among it.
+    // The result is whether a fault is in that text.
     ensures fault { IfOk result (λ found.
         IfSome (R.left reader.old) (λ input. found ≡ has_fault input)) }
 
-    // An input over the limit is refused, and no other is refused for its length.
+    // Exactly the inputs over the limit are rejected for their length.
     ensures fits { OnOk result (IfSome (R.left reader.old) (λ input. length input ≤ most_input)) }
     ensures too_long { IsErrOf result TextFault.TooLong
         → IfSome (R.left reader.old) (λ input. most_input < length input) }
 
-    // A fault of an end is answered only where that end counted a failure.
+    // A read or write fault is returned only if that end counted a failure.
     ensures read { IsErrOf result TextFault.Read
         → HasRisen (R.take_failures reader.old) (R.take_failures reader.new) }
     ensures write { IsErrOf result TextFault.Write
@@ -177,7 +178,7 @@ pub fn json_lines<A: Allocator + Copy, R: Source, W: Sink>(
     ensures ok { OnOk result ((R.take_failures reader.new ≡ R.take_failures reader.old)
         × (W.put_failures writer.new ≡ W.put_failures writer.old)) }
 
-    // After any fault but a failed write the writer is as it was.
+    // After any fault but a failed write the writer is unchanged.
     ensures untouched { IfErr result (λ fault. fault ≢ TextFault.Write → writer.new ≡ writer.old) }
 {
     let mut digits = room(alloc, LONGEST)?;

@@ -1,14 +1,15 @@
-//! Where a fault lies, and what was expected there.
+//! The place of a fault, and what was expected there.
 
 use dc_linkframe::FrameFault;
 use dc_records::{BodyFault, Telegram};
 
-// The bytes of a telegram's header, and the place of the security mode in it (EN 13757-3, long data header).
+// Number of bytes of a telegram's header, and the place of the security mode in it (EN 13757-3,
+// long data header).
 const HEADER: usize = 12;
 
 const MODE: usize = 11;
 
-/// Where the fault of a text lies that is no frame, counted in bytes from its start, and what was expected there.
+/// The place of a frame fault in a text, in bytes from its start, and what was expected there.
 pub(crate) fn frame_place(text: &[u8], fault: FrameFault) -> (usize, &'static str) {
     let last = text.len().saturating_sub(1);
     match fault {
@@ -22,7 +23,7 @@ pub(crate) fn frame_place(text: &[u8], fault: FrameFault) -> (usize, &'static st
     }
 }
 
-/// Where the fault of a body lies, counted in bytes from its start, and what was expected there.
+/// The place of a fault in a body, in bytes from its start, and what was expected there.
 pub(crate) fn body_place(body: &[u8], fault: BodyFault) -> (usize, &'static str) {
     let item = whole_items(body);
     match fault {
@@ -38,7 +39,7 @@ pub(crate) fn body_place(body: &[u8], fault: BodyFault) -> (usize, &'static str)
     }
 }
 
-// How many bytes of a body are its header and whole items: the longest front that is a telegram.
+// Number of bytes of a body's header and whole items: the longest prefix that is a telegram.
 fn whole_items(body: &[u8]) -> usize {
     let mut whole = 0;
     'ends: for end in HEADER..body.len() {

@@ -49,7 +49,7 @@ pub(crate) fn put_name<A: Allocator>(out: &mut Writer<A>, name: &str) -> Result<
     Ok(())
 }
 
-/// Writes a text.
+/// Writes a string.
 pub(crate) fn put_string<A: Allocator>(out: &mut Writer<A>, text: &str) -> Result<(), NoMemory>
     ensures { Adds result out.old out.new (Token.string text.now ∷ []) }
 {
@@ -65,7 +65,7 @@ pub(crate) fn put_null<A: Allocator>(out: &mut Writer<A>) -> Result<(), NoMemory
     Ok(())
 }
 
-/// Writes a field that is a text.
+/// Writes a field whose value is a string.
 pub(crate) fn put_text<A: Allocator>(
     out: &mut Writer<A>,
     name: &str,
@@ -78,7 +78,7 @@ pub(crate) fn put_text<A: Allocator>(
     Ok(())
 }
 
-/// Writes a field that is a whole number.
+/// Writes a field whose value is a whole number.
 pub(crate) fn put_count<A: Allocator>(
     out: &mut Writer<A>,
     name: &str,
@@ -91,7 +91,7 @@ pub(crate) fn put_count<A: Allocator>(
     Ok(())
 }
 
-/// Writes a field that is true or false.
+/// Writes a field whose value is true or false.
 pub(crate) fn put_flag<A: Allocator>(
     out: &mut Writer<A>,
     name: &str,
@@ -119,7 +119,7 @@ pub(crate) fn put_hex<A: Allocator + Copy>(
     Ok(())
 }
 
-/// ASCII bytes as a text.
+/// Returns ASCII bytes as a `str`.
 pub(crate) fn ascii(bytes: &[u8]) -> &str
     requires { IsAscii bytes.now }
     ensures { result.now ≡ bytes.now }

@@ -21,7 +21,7 @@ use dc_units::{Seen, TEXT_ROOM, Value, point_of};
 use json::Writer;
 use std::alloc::Allocator;
 
-// Writes what a record is about.
+// Writes the numbers and the function of a record.
 fn put_about<A: Allocator>(out: &mut Writer<A>, found: &Record<'_>) -> Result<(), NoMemory>
     ensures { Adds result out.old out.new (fields_tokens (about_fields (view found.now))) }
 {
@@ -72,7 +72,7 @@ pub(crate) fn put_unit<A: Allocator>(out: &mut Writer<A>, unit: &str) -> Result<
     Ok(())
 }
 
-// Writes what is read of a record's data.
+// Writes the decoded value of a record's data.
 fn put_reading<A: Allocator>(
     out: &mut Writer<A>,
     reading: &str,
@@ -90,7 +90,7 @@ fn put_reading<A: Allocator>(
     Ok(())
 }
 
-// Writes what is read of a record that the due-date table leaves as other.
+// Writes the decoded value of a record that the due-date table doesn't have.
 #[tactic(auto, unfolding(crate::specs::Record::value_fields, crate::specs::Object::fields_tokens))]
 fn put_plain<A: Allocator>(out: &mut Writer<A>, plain: &Option<Plain>) -> Result<(), NoMemory>
     ensures { Adds result out.old out.new
@@ -109,7 +109,7 @@ fn put_plain<A: Allocator>(out: &mut Writer<A>, plain: &Option<Plain>) -> Result
     }
 }
 
-// Writes what is read of a record.
+// Writes the decoded value of a record.
 #[tactic(auto, unfolding(crate::specs::Record::reading_fields))]
 fn put_seen<A: Allocator>(out: &mut Writer<A>, found: &Record<'_>) -> Result<(), NoMemory>
     ensures { Adds result out.old out.new (fields_tokens (reading_fields (view found.now))) }
@@ -137,7 +137,7 @@ pub(crate) fn put_record<A: Allocator + Copy>(
     Ok(())
 }
 
-// Writes what a record's value information block says in words.
+// Writes a record's value information block in words.
 fn put_quantity<A: Allocator>(out: &mut Writer<A>, found: &Record<'_>) -> Result<(), NoMemory>
     ensures { Adds result out.old out.new (fields_tokens (quantity_fields (view found.now))) }
 {

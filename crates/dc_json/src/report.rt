@@ -48,7 +48,7 @@ fn put_address<A: Allocator>(out: &mut Writer<A>, address: Option<Primary>) -> R
     Ok(())
 }
 
-// Writes where a meter hangs, and how many parts of a readout are open.
+// Writes a meter's bus line and address, and the number of its open parts.
 fn put_station<A: Allocator + Copy>(out: &mut Writer<A>, row: &Meter<A>) -> Result<(), NoMemory>
     ensures { Adds result out.old out.new (fields_tokens (station_fields row.now)) }
 {
@@ -59,7 +59,7 @@ fn put_station<A: Allocator + Copy>(out: &mut Writer<A>, row: &Meter<A>) -> Resu
     Ok(())
 }
 
-// Writes the date for which a row is.
+// Writes the due date of a row.
 fn put_date<A: Allocator>(out: &mut Writer<A>, date: Date) -> Result<(), NoMemory>
     ensures { Adds result out.old out.new (fields_tokens (date_fields date)) }
 {
@@ -84,7 +84,7 @@ fn put_point<A: Allocator>(out: &mut Writer<A>, serial: u64, point: &Point) -> R
     Ok(())
 }
 
-// Adds the object of a registered meter.
+// Appends the object of a registered meter.
 fn add_meter<A: Allocator + Copy>(
     text: Vec<u8, A>,
     meter: &Identity,
@@ -103,7 +103,7 @@ fn add_meter<A: Allocator + Copy>(
     Ok(grown)
 }
 
-// Adds the object of a row of the due-date table.
+// Appends the object of a row of the due-date table.
 fn add_row<A: Allocator + Copy>(
     text: Vec<u8, A>,
     date: Date,
@@ -123,7 +123,7 @@ fn add_row<A: Allocator + Copy>(
     Ok(grown)
 }
 
-// Adds the lines of a house's meters.
+// Appends the lines of a house's meters.
 fn add_meters<A: Allocator + Copy>(
     text: Vec<u8, A>,
     house: &House<A>,
@@ -140,7 +140,7 @@ fn add_meters<A: Allocator + Copy>(
     Ok(grown)
 }
 
-// Adds the lines of rows.
+// Appends the lines of rows.
 fn add_rows<A: Allocator + Copy>(
     text: Vec<u8, A>,
     date: Date,
@@ -155,8 +155,8 @@ fn add_rows<A: Allocator + Copy>(
     Ok(grown)
 }
 
-/// The register as JSON Lines (RFC 8259): an object for each registered meter, by flat and then by identity. The only
-/// error is out of memory.
+/// Returns the register as JSON Lines (RFC 8259): an object for each registered meter, by flat and
+/// then by identity. The only error is out of memory.
 pub fn register_json<A: Allocator + Copy>(
     alloc: A,
     house: &House<A>,
@@ -166,8 +166,8 @@ pub fn register_json<A: Allocator + Copy>(
     add_meters(Vec::new(alloc), house)
 }
 
-/// The due-date table for a date as JSON Lines (RFC 8259): an object for each row, in the order of
-/// [`due_table`](dc_report::due_table). The only error is out of memory.
+/// Returns the due-date table for a date as JSON Lines (RFC 8259): an object for each row, in the
+/// order of [`due_table`](dc_report::due_table). The only error is out of memory.
 pub fn due_json<A: Allocator + Copy>(
     alloc: A,
     house: &House<A>,

@@ -16,7 +16,7 @@ const UNIT: usize = 11;
 
 const NUMBER: usize = 8;
 
-// Writes this many spaces, and one.
+// Writes this many spaces, and one more.
 fn put_spaces<W: Sink>(out: &mut W, count: usize) -> Result<(), IoFault> {
     'spaces: for _ in 0..count {
         out.put(b" ")?;
@@ -30,7 +30,7 @@ fn put_cell<W: Sink>(out: &mut W, text: &[u8], width: usize) -> Result<(), IoFau
     put_spaces(out, width.saturating_sub(text.len()))
 }
 
-// How many digits a number has.
+// Number of digits of a number.
 fn digits_of(number: u64) -> usize {
     let mut digits = 1;
     let mut power = 10;
@@ -49,7 +49,7 @@ fn put_number_cell<W: Sink>(out: &mut W, number: u64) -> Result<(), IoFault> {
     put_spaces(out, NUMBER.saturating_sub(digits_of(number)))
 }
 
-// Writes who sent a telegram and how it is.
+// Writes the meter of a telegram and its status.
 fn put_header<W: Sink>(out: &mut W, header: &Header) -> Result<(), IoFault> {
     out.put(b"  meter   ")?;
     out.put(&header.identity.text())?;

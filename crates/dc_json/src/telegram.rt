@@ -18,7 +18,7 @@ use dc_records::{End, Header, Records, Telegram};
 use json::Writer;
 use std::alloc::Allocator;
 
-// Writes who sent a telegram, the access number and the status byte.
+// Writes the meter's identity, the access number and the status byte.
 fn put_header<A: Allocator>(out: &mut Writer<A>, header: &Header) -> Result<(), NoMemory>
     ensures { Adds result out.old out.new (fields_tokens (header_fields header.now)) }
 {
@@ -60,7 +60,7 @@ fn put_records_field<A: Allocator + Copy>(
     Ok(())
 }
 
-// Writes how a body ends that has the manufacturer's data.
+// Writes the end of a body with the manufacturer's data.
 fn put_ending<A: Allocator + Copy>(
     alloc: A,
     out: &mut Writer<A>,
@@ -75,7 +75,7 @@ fn put_ending<A: Allocator + Copy>(
     Ok(())
 }
 
-// Writes how a body ends.
+// Writes the end of a body.
 #[tactic(auto, unfolding(crate::specs::Telegram::end_fields))]
 fn put_end<A: Allocator + Copy>(alloc: A, out: &mut Writer<A>, end: End<'_>) -> Result<(), NoMemory>
     ensures { Adds result out.old out.new (fields_tokens (end_fields (ending end.entry))) }
@@ -87,7 +87,7 @@ fn put_end<A: Allocator + Copy>(alloc: A, out: &mut Writer<A>, end: End<'_>) -> 
     }
 }
 
-// Writes that a body ends with its last record.
+// Writes the end of a body without the manufacturer's data.
 fn put_no_ending<A: Allocator>(out: &mut Writer<A>) -> Result<(), NoMemory>
     ensures { Adds result out.old out.new (fields_tokens (ending_fields false null)) }
 {

@@ -39,7 +39,7 @@ absent_behind (e ∷ es) meter all =
     let first = turned identities_total e.0 meter (All-head (λ q. identity_cmp q meter ≡ Less) e.0 (keys_of es) all) in
     ap (λ (o : Ordering). cond (is_eq o) (Some e.1) (lookup (is_at (identity_cmp meter)) es)) first ∙ absent_behind es meter (All-tail (λ q. identity_cmp q meter ≡ Less) e.0 (keys_of es) all)
 
--- in an ascending list what stands before an element is below it
+-- in an ascending list the elements before one are below it
 at_next : {X K : Type 0} (f : X → K) (P : K → Type 0) (xs : List X) (x : X) (zs : List X) → AllByRecursion P (map f (xs ++ x ∷ zs)) → P (f x)
 at_next f P [] x zs all = all.0
 at_next f P (y ∷ xs) x zs all = at_next f P xs x zs all.1

@@ -24,7 +24,7 @@ serials_rise readings sorted i j d before within =
     let rise = non_decreasing_from_sorted (map serial_of readings) sorted i j d.serial before (omega (arith, length-map readings serial_of)) in
     omega (arith, rise, get_or-map serial_of readings i d, get_or-map serial_of readings j d)
 
--- what passes a test stands after what doesn't
+-- the elements that pass a test come after those that don't
 pub filter_behind : {X : Type 0} (p : X → Bool) (xs : List X) (i : ℕ) → ((k : ℕ) (d : X) → k < i → k < length xs → p (get_or xs k d) ≡ false)
     → ((k : ℕ) (d : X) → i ≤ k → k < length xs → p (get_or xs k d) ≡ true) → filter p xs ≡ drop i xs
 filter_behind p [] zero before behind = refl

@@ -119,11 +119,11 @@ and_true : (a : Bool) → (a && true) ≡ a
 and_true true = refl
 and_true false = refl
 
--- another meter stands at another place
+-- another meter has another place
 apart : (q : Place) (e : Identity × MeterRow) → is_eq (identity_cmp q.meter e.0) ≡ false → eq_by_cmp place_cmp q (place_of e) ≡ false
 apart q e other = place_ties q (place_of e) ∙ ap (λ (b : Bool). is_eq (slice_cmp nat_cmp q.flat e.1.flat) && b) other ∙ and_false (is_eq (slice_cmp nat_cmp q.flat e.1.flat))
 
--- no later meter stands at the place of an earlier one
+-- no later meter has the place of an earlier one
 none_behind : (q : Place) (es : List (Identity × MeterRow)) → AllByRecursion (λ k. identity_cmp q.meter k ≡ Less) (keys_of es) → list_any (eq_by_cmp place_cmp q) (map place_of es) ≡ false
 none_behind q [] all = refl
 none_behind q (e ∷ es) all = ap (λ (b : Bool). b || list_any (eq_by_cmp place_cmp q) (map place_of es)) (apart q e (ap is_eq all.0)) ∙ none_behind q es all.1

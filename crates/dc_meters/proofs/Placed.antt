@@ -36,7 +36,7 @@ module _ {P : Type 0} (cmp : P → P → Ordering) (meter_of : P → Identity) (
   same_row : (meter : Identity) (q : P) (meters : List (Identity × MeterRow)) (o : Option MeterRow) → is_at (identity_cmp meter) (meter_of q) ≡ true → lookup (is_at (identity_cmp meter)) meters ≡ o → row_at q meters ≡ o
   same_row meter q meters o e is = subst (λ (m : Identity). lookup (is_at (identity_cmp m)) meters ≡ o) (same_from_tie meter (meter_of q) e) is
 
-  -- a meter that isn't registered stands nowhere
+  -- a meter that isn't registered has no place
   pub nowhere : (places : List P) (meters : List (Identity × MeterRow)) (meter : Identity) → ArePlaces cmp meter_of here places meters → lookup (is_at (identity_cmp meter)) meters ≡ None → IsNowhere cmp meter_of meter places
   nowhere places meters meter are absent q e = are q ∙ ap (stands here q) (same_row meter q meters None e absent)
 
@@ -63,7 +63,7 @@ module _ {P : Type 0} (cmp : P → P → Ordering) (meter_of : P → Identity) (
         at true e = ap (λ (b : Bool). b && not (here q row)) (are q ∙ ap (stands here q) (same_row meter q old (Some row) e found)) ∙ none (here q row)
         at false e = and_true (among cmp places q) ∙ are q
 
-    -- a meter with another row that stands where it did
+    -- a meter with another row at the same place
     pub placed_same : (row after : MeterRow) → lookup (is_at (identity_cmp meter)) old ≡ Some row → ((q : P) → here q after ≡ here q row) → ((q : P) → among cmp new q ≡ among cmp places q)
         → ((k : Identity) → lookup (is_at (identity_cmp k)) meters ≡ cond (is_at (identity_cmp meter) k) (Some after) (lookup (is_at (identity_cmp k)) old)) → ArePlaces cmp meter_of here new meters
     placed_same row after found alike same map_is q = same q ∙ are q ∙ at (is_at (identity_cmp meter) (meter_of q)) refl ∙ sym (ap (stands here q) (map_is (meter_of q)))
@@ -72,7 +72,7 @@ module _ {P : Type 0} (cmp : P → P → Ordering) (meter_of : P → Identity) (
         at true e = ap (stands here q) (same_row meter q old (Some row) e found) ∙ sym (alike q)
         at false e = refl
 
-    -- a meter with another row that stands elsewhere
+    -- a meter with another row at another place
     pub placed_moved : (between : List P) (row after : MeterRow) → lookup (is_at (identity_cmp meter)) old ≡ Some row → ((q : P) → here q row ≡ true → here q after ≡ true → ⊥)
         → ((q : P) → among cmp between q ≡ (among cmp places q || own meter after q)) → ((q : P) → among cmp new q ≡ (among cmp between q && not (own meter row q)))
         → ((k : Identity) → lookup (is_at (identity_cmp k)) meters ≡ cond (is_at (identity_cmp meter) k) (Some after) (lookup (is_at (identity_cmp k)) old)) → ArePlaces cmp meter_of here new meters

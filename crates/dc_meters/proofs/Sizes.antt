@@ -53,7 +53,7 @@ pub size_of-heard_last : (meter : Identity) (number : ℕ) (part : PartRow) (row
 size_of-heard_last meter number part row s found =
     omega (arith, size_of-with_row meter row (record row { parts = [] }) s found, sum_by-append reading_size s.readings (record { serial = s.next_serial; meter = meter; flat = row.flat; parts = joined number part row.parts } ∷ []))
 
--- ---- a telegram's size from what its meter tells
+-- ---- a telegram's size from its meter's row
 
 pub parts_size-joined : (number : ℕ) (part : PartRow) (parts : List PartRow) → parts_size (joined number part parts) ≡ (if number == 1 then 0 else parts_size parts) + part_size part
 parts_size-joined number part parts =

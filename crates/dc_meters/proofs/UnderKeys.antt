@@ -135,7 +135,7 @@ module _ {K : Type 0} (R : K → K → Ordering) where
         ltb_no : (x y : ℕ) → nat_lt x y ≡ false → x < y → ⊥
         ltb_no x y e l = grind (arith, nat_tests)
 
-    -- under the key stand the serials of the readings that have it
+    -- the serials under the key are those of the readings that have it
     pub serials_are : IsStrictlySortedBy (filed_cmp R) fs → IsStrictlySortedBy nat_cmp (map (λ (r : ReadingRow). r.serial) readings) → serials_under R key fs ≡ map (λ (r : ReadingRow). r.serial) (filter (has key) readings)
     serials_are sorted ascend =
         same_in_order nat_cmp_total exact_unsigned (serials_under R key fs) (map (λ (r : ReadingRow). r.serial) (filter (has key) readings)) (serials_rise total key fs sorted) (sorted_of_kept (has key) readings ascend)

@@ -14,7 +14,7 @@ use Rattle.dc_units.specs.Value.{day_of}
 use Rattle.dc_changes.specs.State.{ReadingRow}
 use Rattle.dc_meters.specs.Points.{points_of}
 
--- A date, or a date and time, of function 0, tariff 0 and subunit 0 dates its storage number, by its day.
+-- A date, or a date and time, of function 0, tariff 0 and subunit 0 gives its storage number a day.
 abbrev pub is_dating : Point → Bool
 is_dating p = is_time_point p.quantity && (p.function == 0 && (p.tariff == 0 && p.subunit == 0))
 
@@ -24,16 +24,16 @@ dating_day p = if is_dating p then day_of p.value else None
 abbrev pub day_for : ℕ → Point → Option Day
 day_for storage p = if p.storage == storage then dating_day p else None
 
--- the day of a storage number: of the points that date it, the first that isn't none counts
+-- the day of a storage number: the first day that a point gives it
 abbrev pub dated : ℕ → List Point → Option Day
 dated storage [] = None
 dated storage (p ∷ ps) = option_or (day_for storage p) (dated storage ps)
 
--- a value that was stored: no date, and not of storage 0, which is the current one
+-- a stored value: no date, and not of storage 0, which is the current one
 abbrev pub is_stored : Point → Bool
 is_stored p = not (is_time_point p.quantity) && nat_le 1 p.storage
 
--- the day at which a point's value was stored, as the points of its reading say
+-- the day at which a point's value was stored, as given by the points of its reading
 abbrev pub due_day : List Point → Point → Option Day
 due_day points p = if is_stored p then dated p.storage points else None
 
@@ -56,16 +56,17 @@ is_due date points p = is_on date (due_day points p)
 abbrev pub due_value : Day → List Point → List Point
 due_value date points = filter (is_due date points) points
 
--- the days for which there is a due-date value: that of each point of one, so a day may come more than once
+-- the days that have a due-date value: the day of each of its points, so a day may occur more than
+-- once
 abbrev pub due_days : List Point → List Day
 due_days points = filter_map (due_day points) points
 
--- a reading whose due-date value for the date isn't empty
+-- a reading that has a due-date value for the date
 abbrev pub has_value : Day → ReadingRow → Bool
 has_value date r = list_any (is_due date (points_of r.parts)) (points_of r.parts)
 
 -- ---- the days of a readout's storage numbers, looked up once
 
--- what is kept at each storage number is its day
+-- the map holds the day of each storage number
 pub record AreDays (points : List Point) (days : BTreeMap ℕ Day) : Type 0 where
   pub each : (storage : ℕ) → get nat_cmp days storage ≡ dated storage points

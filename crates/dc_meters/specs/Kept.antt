@@ -1,4 +1,4 @@
--- A house in memory: its running number is the size of its state.
+-- A house in memory: its running size is the size of its state.
 use Rattle.std.specs.Prelude.{◌≡◌, ℕ}
 use Rattle.dc_changes.specs.State.{State}
 use Rattle.dc_changes.specs.Size.{size_of}

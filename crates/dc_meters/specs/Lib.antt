@@ -1,17 +1,17 @@
 -- the definitions that contracts cite
--- a house in memory: its running number is the size of its state
+-- a house in memory: its running size is the size of its state
 pub mod Kept
 -- the data points of a reading
 pub mod Points
 -- the due-date value of a reading
 pub mod Due
--- what the steps of an accepted command need
+-- the preconditions of the steps of an accepted command
 pub mod Steps
--- changes that are applied as they are read
+-- changes that are applied as they are decoded
 pub mod Replay
--- what is asked of readings by serial, and the serials filed under keys
+-- queries of readings by serial, and the serials indexed by keys
 pub mod Orders
--- any items in order
+-- ordered lists of any items
 pub mod Ascending
--- the meters by flat, and by bus line and primary address
+-- the meters indexed by flat, and by bus line and primary address
 pub mod Places

@@ -1,4 +1,4 @@
--- What is asked of readings that ascend by serial, and the serials that are filed under keys (this product).
+-- Queries of readings that ascend by serial, and the serials indexed by keys (this product).
 use Rattle.std.specs.Prelude.{◌≡◌, ℕ, ◌<◌, ◌-◌, ◌^◌, ◌==◌, Bool, true, false, ◌&&◌, List, map}
 use Rattle.std.specs.Prelude.{filter, find, nat_le, All, Option}
 use Rattle.std.specs.List.{list_any}
@@ -17,9 +17,9 @@ use Rattle.dc_meters.specs.Due.{day_cmp, due_days, has_value}
 use Rattle.dc_meters.specs.Points.{points_of}
 use Rattle.dc_meters.specs.declared.filed.Filed.{Filed}
 
--- ---- what is asked, each the filter of the readings
+-- ---- the queries, each a filter of the readings
 
--- the readings with at least a serial
+-- the readings from a serial on
 abbrev pub readings_from : ℕ → List ReadingRow → List ReadingRow
 readings_from serial readings = filter (λ r. nat_le serial r.serial) readings
 
@@ -38,9 +38,9 @@ serials_of meter readings = map (λ r. r.serial) (filter (is_of meter) readings)
 abbrev pub due_serials : Day → List ReadingRow → List ℕ
 due_serials date readings = map (λ r. r.serial) (filter (has_value date) readings)
 
--- ---- serials under keys
+-- ---- serials indexed by keys
 
--- by key, and under one key by serial
+-- by key, and by serial for equal keys
 abbrev pub filed_cmp : {K : Type 0} → (K → K → Ordering) → Filed K → Filed K → Ordering
 filed_cmp R a b = ordering_then (R a.key b.key) (nat_cmp a.serial b.serial)
 
@@ -50,19 +50,19 @@ serials_under {K} R key filed = map (λ (f : Filed K). f.serial)
     (filter (range_contains (filed_cmp R) (Included (record { key = key; serial = 0 }))
     (Included (record { key = key; serial = 2 ^ 64 - 1 }))) filed)
 
--- under each key stand the serials of the readings that have it
+-- the index has, under each key, the serials of the readings that have it
 abbrev pub AreFiled : {K : Type 0} → (K → K → Ordering) → (K → ReadingRow → Bool) → List (Filed K)
     → List ReadingRow → Type 0
 AreFiled {K} R has filed readings =
     (q : Filed K) → list_any (is_at (filed_cmp R q)) filed ≡ list_any (λ r.
     has q.key r && is_eq (nat_cmp q.serial r.serial)) readings
 
--- ---- one reading's serial, under its meter and under the days for which it has a due-date value
+-- ---- one reading's serial, indexed by its meter and by the days for which it has a due-date value
 
 abbrev pub found : {K : Type 0} → (K → K → Ordering) → List (Filed K) → Filed K → Bool
 found R filed q = list_any (is_at (filed_cmp R q)) filed
 
--- the serial stands under no key
+-- the serial is under no key
 abbrev pub IsUnfiled : {K : Type 0} → (K → K → Ordering) → ℕ → List (Filed K) → Type 0
 IsUnfiled {K} R serial filed = (q : Filed K) → is_eq (nat_cmp q.serial serial) ≡ true
     → found R filed q ≡ false
@@ -84,7 +84,7 @@ pub record IsDated (days : List Day) (reading : ReadingRow) : Type 0 where
 pub record ReadingRows : Type 0 where
   pub items : List ReadingRow
 
--- readings that ascend, and their serials by meter and by due date
+-- readings that ascend, and the indexes of their serials by meter and by due date
 pub record AreOrdered (by_meter : List (Filed Identity)) (by_day : List (Filed Day))
     (readings : List ReadingRow) : Type 0 where
   pub ascend : IsStrictlySortedBy nat_cmp (map (λ (r : ReadingRow). r.serial) readings)

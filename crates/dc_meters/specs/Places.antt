@@ -1,4 +1,4 @@
--- The meters by flat, and by bus line and primary address (this product).
+-- The meters indexed by flat, and by bus line and primary address (this product).
 use Rattle.std.specs.Prelude.{◌≡◌, ℕ, ◌==◌, Bool, true, false, ◌&&◌, List, [], ◌∷◌, ◌++◌, map}
 use Rattle.std.specs.Prelude.{Option, None, Some}
 use Rattle.std.specs.List.{list_any}
@@ -31,7 +31,7 @@ place_of entry = record { flat = entry.1.flat; meter = entry.0 }
 abbrev pub by_flat : List (Identity × MeterRow) → List Place
 by_flat meters = ascending place_cmp (map place_of meters)
 
--- ---- the orders that are kept beside the meters
+-- ---- the indexes of the meters
 
 -- by bus line, then by primary address, and then by identity
 abbrev pub bus_cmp : BusPlace → BusPlace → Ordering
@@ -60,13 +60,13 @@ abbrev pub is_own : {P : Type 0} → (P → Identity) → (P → MeterRow → Bo
     → Bool
 is_own meter_of here meter row q = is_at (identity_cmp meter) (meter_of q) && here q row
 
--- no place is this meter's
+-- the meter has no place
 abbrev pub IsNowhere : {P : Type 0} → (P → P → Ordering) → (P → Identity) → Identity → List P
     → Type 0
 IsNowhere {P} cmp meter_of meter places =
     (q : P) → is_at (identity_cmp meter) (meter_of q) ≡ true → among cmp places q ≡ false
 
--- the places are those at which the meters stand
+-- the places are those of the meters
 abbrev pub ArePlaces : {P : Type 0} → (P → P → Ordering) → (P → Identity) → (P → MeterRow → Bool)
     → List P → List (Identity × MeterRow) → Type 0
 ArePlaces {P} cmp meter_of here places meters =
@@ -83,14 +83,14 @@ meter_on_bus p = p.meter
 pub record MeterRows : Type 0 where
   pub entries : List (Identity × MeterRow)
 
--- meters that ascend, and their places by flat and on the bus
+-- meters that ascend, and their indexes by flat and on the bus
 pub record AreIndexed (flats : List Place) (bus : List BusPlace)
     (meters : List (Identity × MeterRow)) : Type 0 where
   pub ascend : IsStrictlySortedBy identity_cmp (keys_of meters)
   pub by_flat : ArePlaces place_cmp meter_by_flat is_in_flat flats meters
   pub on_bus : ArePlaces bus_cmp meter_on_bus hangs_at bus meters
 
--- the meters after one moved to a flat
+-- the meters after one was assigned to a flat
 abbrev pub moved_in : Identity → List ℕ → Option MeterRow → List (Identity × MeterRow)
     → List (Identity × MeterRow)
 moved_in meter flat None meters = meters
@@ -104,7 +104,7 @@ pub record IsWrittenOver (meter : Identity) (row : MeterRow) (size : ℕ)
   pub size_is : size ≡ meter_size row
   pub is_meter : IsMeter row
 
--- a reading more, of this size
+-- one more reading, of this size
 pub record IsRead (reading : ReadingRow) (size : ℕ) (old new : List ReadingRow) : Type 0 where
   pub readings : new ≡ old ++ reading ∷ []
   pub size_is : size ≡ reading_size reading

@@ -10,7 +10,7 @@ use Rattle.dc_units.specs.declared.point.Point.{Point}
 use Rattle.dc_units.specs.Point.{seen_of}
 use Rattle.dc_changes.specs.State.{PartRow}
 
--- a record that the table of units doesn't have shows no point
+-- a record that isn't in the table of units has no point
 abbrev pub shown : Seen → List Point
 shown (Known p) = p ∷ []
 shown Other = []
@@ -25,7 +25,7 @@ points_read (Err fault) = []
 abbrev pub points_of : List PartRow → List Point
 points_of parts = flat_map (λ part. points_read (telegram_at part.body)) parts
 
--- the points of those of a telegram's records that are left, if one is being read
+-- the points of the records left in the current telegram, if any
 abbrev pub points_left : Option (List Entry) → List Point
 points_left None = []
 points_left (Some records) = points_in records

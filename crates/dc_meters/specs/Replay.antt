@@ -1,4 +1,4 @@
--- Changes that are applied as they are read.
+-- Changes that are applied as they are decoded.
 use Rattle.std.specs.Prelude.{◌≡◌, ℕ, List, ◌++◌, All}
 use Rattle.dc_changes.specs.declared.change.Change.{Change}
 use Rattle.dc_changes.specs.State.{Held}
@@ -7,7 +7,7 @@ use Rattle.dc_changes.specs.History.{after, AcceptsAll}
 use Rattle.dc_changes.specs.Encoding.{change_bytes, changes_bytes}
 use Rattle.dc_changes.specs.Valid.{IsChange}
 
--- a prefix of the bytes spells changes, each accepted in turn and applied; the rest is after it
+-- a prefix of the bytes spells changes, each accepted in turn and applied; the rest follows
 pub record IsApplied (old new : Held) (bytes rest : List ℕ) : Type 0 where
   pub changes : List Change
   pub spelled : bytes ≡ changes_bytes changes ++ rest

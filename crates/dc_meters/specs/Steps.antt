@@ -1,4 +1,4 @@
--- What the steps of an accepted command need.
+-- The preconditions of the steps of an accepted command.
 use Rattle.std.specs.Prelude.{◌≡◌, ℕ, ◌<◌, ◌≤◌, None, IsSome}
 use Rattle.dc_changes.specs.declared.command.Command.{Command}
 use Rattle.dc_changes.specs.declared.command.Command.TheVariants.{Fit, Move, Out, Confirm, Swap}

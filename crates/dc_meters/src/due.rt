@@ -16,8 +16,8 @@ use std::alloc::Allocator;
 use std::collections::BTreeMap;
 use std::marker::Model;
 
-/// The days by which a readout dates its storage numbers, looked up once for all its points (OMS Volume 2, due-date
-/// values). Contracts see the readout's parts.
+/// The days of a readout's storage numbers, looked up once for all its points (OMS Volume 2,
+/// due-date values). Contracts see the readout's parts.
 #[derive(Drop)]
 pub struct StorageDates<'a, A: Allocator + Copy> {
     parts: &'a [Part<A>],
@@ -38,7 +38,8 @@ impl<'a, A: Allocator + Copy> Model for StorageDates<'a, A> {
 }
 
 impl<'a, A: Allocator + Copy> StorageDates<'a, A> {
-    /// Looks up the days in a readout with these parts. It takes memory for each storage number that is dated.
+    /// Looks up the days in a readout with these parts. It allocates for each storage number that
+    /// has a day.
     pub fn of(alloc: A, parts: &'a [Part<A>]) -> Result<StorageDates<'a, A>, NoMemory>
         ensures { IfOk result (λ dates. dates ≡ parts.now) }
     {
@@ -49,15 +50,15 @@ impl<'a, A: Allocator + Copy> StorageDates<'a, A> {
         Ok(StorageDates { parts, days })
     }
 
-    /// The day of a storage number, where a date, or a date and time, of function 0, tariff 0 and subunit 0 tells it;
-    /// of several, the first that isn't none.
+    /// The day of a storage number: the first one that a date, or a date and time, of function 0,
+    /// tariff 0 and subunit 0 gives it.
     pub fn day(&self, storage: u64) -> Option<Date>
         ensures { result ≡ dated storage (points_of self.now) }
     {
         self.days.get(&storage).copied()
     }
 
-    /// The day at which a point's value was stored; none for a date, and for a current value.
+    /// The day at which a point's value was stored; `None` for a date, and for a current value.
     pub fn due_day(&self, point: &Point) -> Option<Date>
         ensures { result ≡ due_day (points_of self.now) point.now }
     {
@@ -68,7 +69,7 @@ impl<'a, A: Allocator + Copy> StorageDates<'a, A> {
         }
     }
 
-    /// Whether a point is of the due-date value for a date.
+    /// Whether a point belongs to the due-date value for a date.
     pub fn is_due(&self, point: &Point, date: Date) -> bool
         ensures { result ≡ is_due date (points_of self.now) point.now }
     {
@@ -90,7 +91,8 @@ impl<'a, A: Allocator + Copy> StorageDates<'a, A> {
         }
     }
 
-    /// The days for which there is a due-date value: the day of each of its points, so one may come more than once.
+    /// The days for which there is a due-date value: the day of each of its points, so a day may
+    /// occur more than once.
     pub fn due_days(&self) -> DueDays<'_, 'a, A>
         ensures { result ≡ due_days (points_of self.now) }
     {
@@ -108,7 +110,7 @@ impl<'a, A: Allocator + Copy> StorageDates<'a, A> {
     }
 }
 
-/// The points of a due-date value. Contracts see the list of those that are still to come.
+/// The points of a due-date value. Contracts see the list of those still to come.
 #[derive(Drop)]
 pub struct DuePoints<'d, 'a, A: Allocator + Copy> {
     points: Points<'a, A>,
@@ -146,7 +148,7 @@ impl<'d, 'a, A: Allocator + Copy> Iterator for DuePoints<'d, 'a, A> {
     }
 }
 
-/// The days of due-date values. Contracts see the list of those that are still to come.
+/// The days of due-date values. Contracts see the list of those still to come.
 #[derive(Drop)]
 pub struct DueDays<'d, 'a, A: Allocator + Copy> {
     points: Points<'a, A>,
@@ -184,7 +186,8 @@ impl<'d, 'a, A: Allocator + Copy> Iterator for DueDays<'d, 'a, A> {
     }
 }
 
-/// The days for which a readout with these parts has a due-date value: that of each point of one.
+/// The days for which a readout with these parts has a due-date value: the day of each of its
+/// points.
 pub(crate) fn due_days_of<A: Allocator + Copy>(
     alloc: A,
     parts: &[Part<A>],
@@ -199,7 +202,7 @@ pub(crate) fn due_days_of<A: Allocator + Copy>(
     Ok(days)
 }
 
-/// The day by which a point dates its storage number is kept, unless one is already there.
+/// Keeps the day that a point gives its storage number, unless it has one already.
 fn keep_first<A: Allocator + Copy>(
     days: &mut BTreeMap<u64, Date, A>,
     point: &Point,
@@ -217,7 +220,7 @@ fn keep_first<A: Allocator + Copy>(
     Ok(())
 }
 
-/// The day by which a point dates its storage number.
+/// The day that a point gives its storage number.
 fn dating_day(point: &Point) -> Option<Date>
     ensures { result ≡ dating_day point.now }
 {

@@ -1,6 +1,6 @@
-//! A reading's serial in an order.
+//! A reading's serial under an index key.
 
-/// A serial that is filed under a key: in order of the keys, and under one key in order of the serials.
+/// A serial under a key: ordered by key, and by serial for equal keys.
 #[derive(Clone, Copy, Debug, PartialEq, Eq, PartialOrd, Ord)]
 pub struct Filed<K> {
     /// The key.

@@ -23,7 +23,7 @@ use std::collections::btree_map::Iter;
 use std::collections::{VecDeque, btree_set, vec_deque};
 use std::marker::Model;
 
-/// The bytes that a state without meters and readings is counted as.
+/// The size of a state without meters and readings.
 const EMPTY_SIZE: u32 = 153;
 
 /// The register of a house's meters, and their readings.
@@ -71,7 +71,7 @@ impl<A: Allocator + Copy> Model for House<A> {
 }
 
 impl<A: Allocator + Copy> House<A> {
-    /// A house with no meter and no reading, in whose budget every later state stays.
+    /// Returns a house without meters and readings, whose states stay within the budget.
     pub fn new(alloc: A, budget: u32) -> House<A>
         requires { empty_size ≤ budget }
         ensures { result ≡ record { state = empty_state; budget = budget } }
@@ -89,8 +89,8 @@ impl<A: Allocator + Copy> House<A> {
         }
     }
 
-    /// The bytes that the state is counted as: 153, 12 and the flat for a meter, 18 and the flat for a reading, 9
-    /// and the body for a part.
+    /// The size of the state in bytes: 153, 12 and the flat's name for a meter, 18 and the flat's
+    /// name for a reading, 9 and the body for a part.
     pub fn size(&self) -> u32
         ensures size { result ≡ size_of self.now.state }
         ensures is_state { IsState self.now.budget self.now.state }
@@ -98,7 +98,7 @@ impl<A: Allocator + Copy> House<A> {
         self.size
     }
 
-    /// The bytes within which the state stays.
+    /// The maximum size of the state in bytes.
     pub fn budget(&self) -> u32
         ensures budget { result ≡ self.now.budget }
         ensures is_state { IsState self.now.budget self.now.state }
@@ -130,7 +130,7 @@ impl<A: Allocator + Copy> House<A> {
         self.next_serial
     }
 
-    /// The serial up to which the office has confirmed the readings; 0 at first.
+    /// The last serial that the office has confirmed; 0 at first.
     pub fn confirmed(&self) -> u64
         ensures serial { result ≡ self.now.state.confirmed }
         ensures is_state { IsState self.now.budget self.now.state }
@@ -138,7 +138,7 @@ impl<A: Allocator + Copy> House<A> {
         self.confirmed
     }
 
-    /// A registered meter.
+    /// The row of a registered meter.
     pub fn meter(&self, meter: &Identity) -> Option<&Meter<A>>
         ensures { option_copied result ≡ row_of meter.now self.now.state }
     {
@@ -153,7 +153,8 @@ impl<A: Allocator + Copy> House<A> {
         self.meters.iter()
     }
 
-    /// The registered meters' places: by flat, byte by byte, and in a flat by identity. It takes no memory.
+    /// The registered meters' places, ordered by the bytes of the flat and then by identity. It
+    /// uses no memory.
     pub fn meters_by_flat(&self) -> btree_set::Iter<'_, Place>
         ensures places { result ≡ by_flat self.now.state.meters }
         ensures is_state { IsState self.now.budget self.now.state }
@@ -169,7 +170,7 @@ impl<A: Allocator + Copy> House<A> {
         self.readings.all()
     }
 
-    /// The readings with at least a serial, by serial. Those before aren't gone over.
+    /// The readings from a serial on, by serial. Earlier readings aren't visited.
     pub fn from(&self, serial: u64) -> vec_deque::Iter<'_, Reading<A>>
         ensures { deque_iter_rest result ≡ readings_from serial self.now.state.readings }
     {

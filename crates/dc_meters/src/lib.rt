@@ -1,18 +1,20 @@
 //! The register of a house's meters and their readings, in memory (this product).
 //!
-//! Proved: a [`House`] is the state of the definitions (dc_changes) and changes as they say ([`House::apply`]); a
-//! change is refused with the first fault that stands, and only then ([`House::check`]); where memory is refused
-//! nothing has changed; the size is that of the state and stays within the budget.
+//! Proved: a [`House`] is the state of the definitions (dc_changes) and changes as they state
+//! ([`House::apply`]); a change is refused with the first fault that applies, and only then
+//! ([`House::check`]); if memory runs out, nothing has changed; the size is that of the state and
+//! stays within the budget.
 //!
-//! A state has one spelling in bytes, which is what is written ([`House::encode`]) and all that is read
-//! ([`House::decode`]); [`House::replay`] does the changes that bytes spell, each accepted in turn. Bytes are refused
-//! exactly where they spell nothing.
+//! A state has one encoding, which is what [`House::encode`] writes and all that [`House::decode`]
+//! accepts; [`House::replay`] applies the changes that bytes spell, each accepted in turn. Bytes
+//! are rejected exactly when they spell no state or change.
 //!
-//! A telegram costs one look-up and one copy of its body, whatever the number of readings held. A confirmation costs
-//! what it drops. What is asked of the meters and the readings costs what it shows, by orders that the house keeps
-//! beside the state: of the readings from a serial on, by meter ([`House::serials_of`]) and by due date
-//! ([`House::due`]); of the meters by flat ([`House::meters_by_flat`]), and by bus line and primary address, so that
-//! whether an address is taken is one look-up. Bytes are read in one pass, and a body is copied once.
+//! A telegram costs one look-up and one copy of its body, whatever the number of readings held. A
+//! confirmation costs what it drops. Queries of meters and readings cost what they return, by
+//! indexes that the house keeps beside the state: of the readings by serial, by meter
+//! ([`House::serials_of`]) and by due date ([`House::due`]); of the meters by flat
+//! ([`House::meters_by_flat`]), and by bus line and primary address, so that the test for a taken
+//! address is one look-up. Bytes are decoded in one pass, and a body is copied once.
 #![tactic(auto)]
 
 mod due;

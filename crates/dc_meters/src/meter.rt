@@ -49,7 +49,7 @@ impl<A: Allocator> Model for Meter<A> {
 }
 
 impl<A: Allocator> Meter<A> {
-    /// A meter with no open part.
+    /// Returns a meter without open parts.
     pub(crate) fn new(alloc: A, line: u8, address: Option<Primary>, flat: Flat) -> Meter<A>
         requires { IsMeter (record { line = line; address = address; flat = flat; parts = [] }) }
         ensures row { result ≡ record { line = line; address = address; flat = flat; parts = [] } }
@@ -63,7 +63,7 @@ impl<A: Allocator> Meter<A> {
         }
     }
 
-    /// A meter with these open parts.
+    /// Returns a meter with these open parts.
     pub(crate) fn with_parts(
         line: u8,
         address: Option<Primary>,
@@ -91,7 +91,7 @@ impl<A: Allocator> Meter<A> {
         }
     }
 
-    /// The bus line on which it hangs, from 1 to 8.
+    /// The meter's bus line, from 1 to 8.
     pub fn line(&self) -> u8
         ensures line { result ≡ self.now.line }
         ensures is_meter { IsMeter self.now }
@@ -99,7 +99,7 @@ impl<A: Allocator> Meter<A> {
         self.line
     }
 
-    /// Its primary address; none where it is selected by its identity.
+    /// The meter's primary address; `None` for secondary addressing.
     pub fn address(&self) -> Option<Primary>
         ensures address { result ≡ self.now.address }
         ensures is_meter { IsMeter self.now }
@@ -107,7 +107,7 @@ impl<A: Allocator> Meter<A> {
         self.address
     }
 
-    /// The flat to which it belongs.
+    /// The meter's flat.
     pub fn flat(&self) -> Flat
         ensures flat { result ≡ self.now.flat }
         ensures is_meter { IsMeter self.now }
@@ -115,7 +115,7 @@ impl<A: Allocator> Meter<A> {
         self.flat
     }
 
-    /// The parts of a readout that isn't finished, in order.
+    /// The parts of an unfinished readout, in order.
     pub fn parts(&self) -> &[Part<A>]
         ensures parts { result.now ≡ self.now.parts }
         ensures is_meter { IsMeter self.now }
@@ -131,7 +131,7 @@ impl<A: Allocator> Meter<A> {
         12 + u32::from(self.flat.len()) + parts_size(&self.parts)
     }
 
-    /// The bytes that it is counted as once it has no open part.
+    /// The meter's size once it has no open part.
     pub(crate) fn closed_size(&self) -> u32
         ensures size { result ≡ meter_size (record self.now { parts = [] }) }
         ensures bound { result ≤ 24 }
@@ -140,7 +140,7 @@ impl<A: Allocator> Meter<A> {
         12 + u32::from(self.flat.len())
     }
 
-    /// The bytes that a part of this number drops: part 1 drops what was open.
+    /// The size of the parts that this part replaces: part 1 drops the open ones.
     pub(crate) fn dropped_size(&self, number: u8) -> u32
         ensures size { result ≡ (if number == 1 then parts_size self.now.parts else 0) }
         ensures bound { result ≤ 66600 }
@@ -152,7 +152,7 @@ impl<A: Allocator> Meter<A> {
         }
     }
 
-    /// The bytes that a reading adds to its parts, where the readout ends.
+    /// The size that a reading adds to its parts, if the readout ends.
     pub(crate) fn read_size(&self, more_follows: bool) -> u32
         ensures size { result ≡ (if more_follows then 0 else 18 + length self.now.flat) }
         ensures bound { result ≤ 30 }
@@ -164,7 +164,7 @@ impl<A: Allocator> Meter<A> {
         }
     }
 
-    /// It belongs to another flat from now on.
+    /// Assigns the meter to another flat.
     pub(crate) fn set_flat(&mut self, flat: Flat)
         requires { IsFlat flat }
         ensures flat { self.new ≡ record self.old { flat = flat } }
@@ -173,7 +173,7 @@ impl<A: Allocator> Meter<A> {
         self.flat = flat;
     }
 
-    /// Keeps a part; part 1 begins the readout anew.
+    /// Adds a part; part 1 starts the readout anew.
     pub(crate) fn join(&mut self, alloc: A, number: u8, part: Part<A>) -> Result<(), NoMemory>
         requires continues { continues number (Some self.old) ≡ true }
         requires part_is { IsPart part }
@@ -188,7 +188,7 @@ impl<A: Allocator> Meter<A> {
         }
     }
 
-    /// Keeps one part alone.
+    /// Keeps only this part.
     fn begin(&mut self, alloc: A, part: Part<A>) -> Result<(), NoMemory>
         requires { IsPart part }
         ensures ok { OnOk result (self.new ≡ record self.old { parts = part ∷ [] }) }
@@ -200,7 +200,7 @@ impl<A: Allocator> Meter<A> {
         Ok(())
     }
 
-    /// Keeps one part more.
+    /// Appends a part.
     fn push(&mut self, part: Part<A>) -> Result<(), NoMemory>
         requires part_is { IsPart part }
         requires room { length self.old.parts + 1 ≤ most_parts }
@@ -212,7 +212,7 @@ impl<A: Allocator> Meter<A> {
         Ok(())
     }
 
-    /// Takes the parts for a reading, and keeps none.
+    /// Takes the parts for a reading, and leaves none.
     pub(crate) fn close(&mut self, alloc: A, ended: Ended, days: Vec<Date, A>) -> Reading<A>
         requires { days.items ≡ due_days (points_of self.old.parts) }
         ensures reading { result ≡ record {
@@ -231,8 +231,9 @@ impl<A: Allocator> Meter<A> {
 }
 
 impl<A: Allocator + Copy> Meter<A> {
-    /// The part ends the readout: with the open ones it becomes a reading, in the flat of today. Gives the bytes that
-    /// the reading is counted as. Where memory is refused, nothing has changed.
+    /// Ends the readout with this part: the open parts and this one become a reading, with the
+    /// meter's flat at that time. Returns the reading's size. If memory runs out, nothing has
+    /// changed.
     pub(crate) fn finish(
         &mut self,
         alloc: A,
@@ -269,7 +270,7 @@ impl<A: Allocator + Copy> Meter<A> {
         ensures is_meter { IsMeter self.new }
     {
         if number == 1 {
-            // The open parts are dropped only once the reading is there.
+            // The open parts are dropped only once the reading exists.
             let mut anew = Meter::new(alloc, self.line, self.address, self.flat);
             anew.push(part)?;
             let size = readings.close(alloc, ended, &mut anew)?;

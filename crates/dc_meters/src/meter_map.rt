@@ -1,4 +1,4 @@
-//! The registered meters, and their orders.
+//! The registered meters, and their indexes.
 
 ghost use Rattle.std.specs.Prelude.{◌≡◌, ◌+◌, ◌<◌, ◌^◌, ◌∷◌, ◌++◌, [], Option, None, Some, true};
 ghost use Rattle.std.specs.Prelude.{false, All, OnOk, OnErr, IfOk, IfNone, is_some, option_copied};
@@ -28,7 +28,7 @@ use std::alloc::Allocator;
 use std::collections::{BTreeMap, btree_map, btree_set};
 use std::marker::Model;
 
-/// The registered meters by identity, and where they stand by flat and on the bus.
+/// The registered meters by identity, and their indexes by flat and on the bus.
 #[derive(Drop)]
 pub(crate) struct MeterMap<A: Allocator + Copy> {
     rows: BTreeMap<Identity, Meter<A>, A>,
@@ -46,7 +46,7 @@ impl<A: Allocator + Copy> Model for MeterMap<A> {
 }
 
 impl<A: Allocator + Copy> MeterMap<A> {
-    /// No meter.
+    /// Returns an empty map.
     pub(crate) fn new(alloc: A) -> MeterMap<A>
         ensures { result.entries ≡ [] }
     {
@@ -99,7 +99,7 @@ impl<A: Allocator + Copy> MeterMap<A> {
         self.orders.at(line, address).next().is_some()
     }
 
-    /// Whether a meter other than this one does.
+    /// Whether a meter other than this one has the address.
     pub(crate) fn is_taken_by_other(&self, old: &Identity, line: u8, address: Primary) -> bool
         ensures { result ≡ list_any (λ e.
             not (is_at (identity_cmp old.now) e.0) && occupies line (Some address) e.1)
@@ -110,7 +110,7 @@ impl<A: Allocator + Copy> MeterMap<A> {
             .any(|place| old.cmp(&place.meter).is_ne())
     }
 
-    /// A meter more.
+    /// Adds a meter.
     pub(crate) fn insert(&mut self, meter: Identity, row: Meter<A>) -> Result<(), NoMemory>
         requires absent { lookup (is_at (identity_cmp meter)) self.old.entries ≡ None }
         ensures entries { OnOk result (self.new.entries
@@ -132,7 +132,7 @@ impl<A: Allocator + Copy> MeterMap<A> {
         }
     }
 
-    /// A meter less.
+    /// Removes a meter.
     pub(crate) fn remove(&mut self, meter: &Identity) -> Option<Meter<A>>
         ensures value { result ≡ lookup (is_at (identity_cmp meter.now)) self.old.entries }
         ensures entries { self.new.entries
@@ -145,7 +145,7 @@ impl<A: Allocator + Copy> MeterMap<A> {
         Some(row)
     }
 
-    /// A meter belongs to another flat from now on, if it is registered.
+    /// Assigns a registered meter to another flat.
     pub(crate) fn move_to(&mut self, meter: Identity, flat: Flat) -> Result<(), NoMemory>
         requires { IsFlat flat }
         ensures entries { OnOk result (self.new.entries
@@ -158,7 +158,7 @@ impl<A: Allocator + Copy> MeterMap<A> {
             Some(row) => row.flat(),
         };
         if !self.orders.by_flat.insert(Place { flat, meter })? {
-            // It is there already.
+            // It is in that flat already.
             return Ok(());
         }
         let row = self.rows.get_mut(&meter).unwrap();
@@ -170,7 +170,8 @@ impl<A: Allocator + Copy> MeterMap<A> {
         Ok(())
     }
 
-    /// A part of a registered meter's readout, which more follow; gives the bytes that the meter is counted as then.
+    /// Adds a part of a registered meter's readout that isn't the last; returns the meter's size
+    /// after it.
     #[tactic(auto, using(std::proofs::lemmas::Map::Steps::set_value_same))]
     pub(crate) fn join(
         &mut self,
@@ -195,7 +196,8 @@ impl<A: Allocator + Copy> MeterMap<A> {
         Ok(row.size())
     }
 
-    /// The part that ends a registered meter's readout: a reading more; gives the bytes that it is counted as.
+    /// Adds the part that ends a registered meter's readout, which becomes a reading; returns the
+    /// reading's size.
     #[tactic(auto, using(std::proofs::lemmas::Map::Steps::set_value_same))]
     pub(crate) fn finish(
         &mut self,

@@ -1,4 +1,4 @@
-//! The meters by flat, and by bus line and primary address.
+//! The indexes of the meters: by flat, and by bus line and primary address.
 
 ghost use Rattle.std.specs.Prelude.{◌≡◌, ◌||◌, ◌&&◌, not, OnOk, OnErr, filter};
 ghost use Rattle.std.specs.Map.Iter.{ShowsInOrder, deref};
@@ -15,7 +15,7 @@ use std::alloc::Allocator;
 use std::collections::BTreeSet;
 use std::collections::btree_set::Range;
 
-/// Where the meters stand: each in its flat, and on the bus if it has a primary address.
+/// The places of the meters: each in its flat, and on the bus if it has a primary address.
 #[derive(Drop)]
 pub(crate) struct MeterOrders<A: Allocator + Copy> {
     pub(crate) by_flat: BTreeSet<Place, A>,
@@ -25,7 +25,7 @@ pub(crate) struct MeterOrders<A: Allocator + Copy> {
 impl<A: Allocator + Copy> MeterOrders<A> {
     ghost use Rattle.std.specs.Prelude.{[]};
 
-    /// No meter.
+    /// Returns empty indexes.
     pub(crate) fn new(alloc: A) -> MeterOrders<A>
         ensures flats { result.by_flat.keys ≡ [] }
         ensures bus { result.on_bus.keys ≡ [] }
@@ -36,7 +36,7 @@ impl<A: Allocator + Copy> MeterOrders<A> {
         }
     }
 
-    /// A meter that stands nowhere gets its places. Where memory is refused, it stands nowhere.
+    /// Adds the places of a meter that has none. If memory runs out, it has none.
     pub(crate) fn file(&mut self, meter: Identity, row: &Meter<A>) -> Result<(), NoMemory>
         requires no_flat { IsNowhere place_cmp meter_by_flat meter self.old.by_flat.keys }
         ensures flats { OnOk result ((q : Place)
@@ -66,7 +66,7 @@ impl<A: Allocator + Copy> MeterOrders<A> {
         }
     }
 
-    /// A meter loses its places.
+    /// Removes a meter's places.
     pub(crate) fn unfile(&mut self, meter: Identity, row: &Meter<A>)
         ensures flats { (q : Place) → among place_cmp self.new.by_flat.keys q
             ≡ (among place_cmp self.old.by_flat.keys q && not
@@ -103,7 +103,7 @@ impl<A: Allocator + Copy> MeterOrders<A> {
     }
 }
 
-/// A meter gets its place on the bus, if it has a primary address.
+/// Adds a meter's place on the bus, if it has a primary address.
 fn hang<A: Allocator + Copy>(
     on_bus: &mut BTreeSet<BusPlace, A>,
     meter: Identity,
@@ -125,7 +125,7 @@ fn hang<A: Allocator + Copy>(
     Ok(())
 }
 
-/// A meter loses its place on the bus.
+/// Removes a meter's place on the bus.
 fn unhang<A: Allocator + Copy>(on_bus: &mut BTreeSet<BusPlace, A>, meter: Identity, row: &Meter<A>)
     ensures { (q : BusPlace) → among bus_cmp on_bus.new.keys q
         ≡ (among bus_cmp on_bus.old.keys q && not (is_own meter_on_bus hangs_at meter row.now q)) }

@@ -1,4 +1,4 @@
-//! The serials of readings by meter and by due date.
+//! The indexes of readings: serials by meter and by due date.
 
 ghost use Rattle.std.specs.Prelude.{◌≡◌, ◌||◌, ◌&&◌, not, OnOk, OnErr};
 ghost use Rattle.dc_address.specs.Identity.{identity_cmp};
@@ -12,7 +12,7 @@ use dc_units::Date;
 use std::alloc::Allocator;
 use std::collections::BTreeSet;
 
-/// Which reading a readout becomes.
+/// The meter and the serial of a finished readout.
 #[derive(Clone, Copy)]
 pub(crate) struct Ended {
     pub(crate) meter: Identity,
@@ -32,7 +32,7 @@ impl<A: Allocator + Copy> Orders<A> {
     ghost use Rattle.dc_address.specs.declared.identity.Identity.{Identity};
     ghost use Rattle.dc_units.specs.Date.{Day};
 
-    /// No serial.
+    /// Returns empty indexes.
     pub(crate) fn new(alloc: A) -> Orders<A>
         ensures meters { result.by_meter.keys ≡ [] }
         ensures days { result.by_day.keys ≡ [] }
@@ -43,7 +43,7 @@ impl<A: Allocator + Copy> Orders<A> {
         }
     }
 
-    /// Files a reading that isn't filed, of this many due days. Where memory is refused, nothing is filed.
+    /// Adds a reading with these due days. If memory runs out, nothing is added.
     pub(crate) fn file(&mut self, ended: Ended, days: &[Date]) -> Result<(), NoMemory>
         requires no_meter { IsUnfiled identity_cmp ended.serial self.old.by_meter.keys }
         requires no_day { IsUnfiled day_cmp ended.serial self.old.by_day.keys }
@@ -72,7 +72,7 @@ impl<A: Allocator + Copy> Orders<A> {
         }
     }
 
-    /// A reading of these due days is filed no more.
+    /// Removes a reading with these due days.
     pub(crate) fn unfile(&mut self, ended: Ended, days: &[Date])
         ensures meters { (q : Filed Identity)
             → found identity_cmp self.new.by_meter.keys q
@@ -92,7 +92,7 @@ impl<A: Allocator + Copy> Orders<A> {
 ghost use Rattle.dc_meters.specs.declared.filed.Filed.{Filed};
 ghost use Rattle.dc_units.specs.Date.{Day};
 
-/// Files a serial that isn't filed under each of these days.
+/// Adds a serial under each of these days.
 fn file_days<A: Allocator + Copy>(
     by_day: &mut BTreeSet<Filed<Date>, A>,
     days: &[Date],
@@ -117,7 +117,7 @@ fn file_days<A: Allocator + Copy>(
     Ok(())
 }
 
-/// Takes a serial from under each of these days.
+/// Removes a serial from under each of these days.
 fn unfile_days<A: Allocator + Copy>(
     by_day: &mut BTreeSet<Filed<Date>, A>,
     days: &[Date],

@@ -11,7 +11,7 @@ use dc_records::Telegram;
 use std::alloc::Allocator;
 use std::marker::Model;
 
-/// A part of a readout: one telegram's body, and when it came.
+/// A part of a readout: one telegram's body, and its time stamp.
 #[derive(Drop)]
 pub struct Part<A: Allocator> {
     moment: u64,
@@ -40,7 +40,7 @@ impl<A: Allocator> Part<A> {
         })
     }
 
-    /// When it came, in seconds since 1970.
+    /// The time stamp of the telegram, in seconds since 1970.
     pub fn moment(&self) -> u64
         ensures moment { result ≡ self.now.moment }
         ensures is_part { IsPart self.now }
@@ -56,7 +56,7 @@ impl<A: Allocator> Part<A> {
         &self.body
     }
 
-    /// The telegram whose body it is.
+    /// The telegram that the body spells.
     pub fn telegram(&self) -> Telegram<'_>
         ensures { telegram_at self.now.body ≡ Ok (parsed result) }
     {
@@ -74,7 +74,7 @@ impl<A: Allocator> Part<A> {
     }
 }
 
-/// The bytes that parts are counted as.
+/// The size of these parts.
 pub(crate) fn parts_size<A: Allocator>(parts: &[Part<A>]) -> u32
     requires { length parts.now ≤ most_parts }
     ensures size { result ≡ parts_size parts.now }

@@ -1,4 +1,4 @@
-//! The parts of a readout as bytes, and out of bytes.
+//! Encodes and decodes the parts of a readout.
 
 ghost use Rattle.std.specs.Prelude.{◌≡◌, ◌≤◌, ◌++◌, length, IfOk, OnOk, OnErr};
 ghost use Rattle.std.specs.List.{flat_map};
@@ -14,7 +14,7 @@ use dc_changes::writing::{put_byte, put_counted, put_long};
 use dc_io::{IoFault, Sink};
 use std::alloc::Allocator;
 
-/// A kept part, as a telegram's moment and body.
+/// Writes a part: its time stamp and body.
 pub(crate) fn put_kept_part<S: Sink, A: Allocator>(
     sink: &mut S,
     part: &Part<A>,
@@ -41,7 +41,7 @@ fn put_each_part<S: Sink, A: Allocator>(sink: &mut S, parts: &[Part<A>]) -> Resu
     Ok(())
 }
 
-/// How many parts there are, and the parts.
+/// Writes the number of parts, and the parts.
 pub(crate) fn put_parts<S: Sink, A: Allocator>(
     sink: &mut S,
     parts: &[Part<A>],
@@ -57,7 +57,7 @@ pub(crate) fn put_parts<S: Sink, A: Allocator>(
     Ok(())
 }
 
-/// A part, its body copied.
+/// Decodes a part, and copies its body.
 #[tactic(auto, unfolding(dc_changes::specs::Reading::part_at))]
 fn part_at<A: Allocator>(alloc: A, bytes: &[u8]) -> Result<(Part<A>, &[u8]), DecodeFault>
     ensures { Gives (λ x. (x.0, x.1.now)) result (part_at bytes.now) }
@@ -85,7 +85,7 @@ fn each_part<A: Allocator + Copy>(
     Ok((parts, rest))
 }
 
-/// How many parts there are, and the parts.
+/// Decodes the number of parts, and the parts.
 #[tactic(auto, unfolding(dc_changes::specs::Reading::parts_at))]
 pub(crate) fn parts_at<A: Allocator + Copy>(
     alloc: A,

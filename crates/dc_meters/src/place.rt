@@ -1,9 +1,9 @@
-//! Where a meter stands in the orders of the meters.
+//! A meter's places in the indexes.
 
 use dc_address::Identity;
 use dc_changes::Flat;
 
-/// A meter's place by flat: by the flat's bytes, and in a flat by identity.
+/// A meter's place by flat: ordered by the flat's bytes, and by identity within a flat.
 #[derive(Clone, Copy, Debug, PartialEq, Eq, PartialOrd, Ord)]
 pub struct Place {
     /// The flat.
@@ -12,7 +12,7 @@ pub struct Place {
     pub meter: Identity,
 }
 
-/// A meter's place on the bus: by bus line, then by primary address, and at one address by identity.
+/// A meter's place on the bus: ordered by bus line, then by primary address, and then by identity.
 #[derive(Clone, Copy, Debug, PartialEq, Eq, PartialOrd, Ord)]
 pub(crate) struct BusPlace {
     pub(crate) line: u8,

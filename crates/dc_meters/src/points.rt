@@ -11,8 +11,8 @@ use dc_units::{Point, Seen, point_of};
 use std::alloc::Allocator;
 use std::marker::Model;
 
-/// The data points of a readout, in order of its parts and of their records (EN 13757-3). Contracts see the list of
-/// the points that are still to come.
+/// The data points of a readout, in order of its parts and of their records (EN 13757-3). Contracts
+/// see the list of the points still to come.
 #[derive(Drop)]
 pub struct Points<'a, A: Allocator> {
     records: Option<Records<'a>>,
@@ -64,7 +64,7 @@ impl<'a, A: Allocator> Iterator for Points<'a, A> {
     }
 }
 
-/// The next point among records.
+/// The next point of these records.
 fn next_in(records: &mut Records<'_>) -> Option<Point>
     ensures { YieldsFirst points_in records.old result records.new }
 {

@@ -73,7 +73,7 @@ impl<A: Allocator> Reading<A> {
         }
     }
 
-    /// Its serial, from 1; each is given once.
+    /// The reading's serial, from 1; no serial is given twice.
     pub fn serial(&self) -> u64
         ensures serial { result ≡ self.now.serial }
         ensures is_reading { IsReading self.now }
@@ -88,14 +88,14 @@ impl<A: Allocator> Reading<A> {
         self.meter
     }
 
-    /// The flat in which the meter was when the readout ended.
+    /// The meter's flat when the readout ended.
     pub fn flat(&self) -> Flat
         ensures { result ≡ self.now.flat }
     {
         self.flat
     }
 
-    /// Its parts, in order.
+    /// The parts, in order.
     pub fn parts(&self) -> &[Part<A>]
         ensures parts { result.now ≡ self.now.parts }
         ensures is_reading { IsReading self.now }
@@ -103,7 +103,8 @@ impl<A: Allocator> Reading<A> {
         &self.parts
     }
 
-    /// The days for which it has a due-date value: that of each point of one, so a day may come more than once.
+    /// The days for which it has a due-date value: the day of each of its points, so a day may
+    /// occur more than once.
     pub(crate) fn due_days(&self) -> &[Date]
         ensures { result.now ≡ due_days (points_of self.now.parts) }
     {

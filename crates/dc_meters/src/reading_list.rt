@@ -1,4 +1,4 @@
-//! The readings that aren't confirmed, and their orders.
+//! The unconfirmed readings, and their indexes.
 
 ghost use Rattle.std.specs.Prelude.{◌≡◌, ◌+◌, ◌-◌, ◌<◌, ◌≤◌, ◌^◌, [], ◌∷◌, ◌++◌, All, OnOk, OnErr};
 ghost use Rattle.std.specs.Prelude.{IfOk, IfSome, IfNone, length, slice_get, map, filter, nat_lt};
@@ -21,7 +21,7 @@ use std::collections::VecDeque;
 use std::collections::vec_deque::Iter;
 use std::marker::Model;
 
-/// The readings that aren't confirmed, by serial, and their serials by meter and by due date.
+/// The unconfirmed readings by serial, and their serials by meter and by due date.
 #[derive(Drop)]
 pub(crate) struct ReadingList<A: Allocator + Copy> {
     items: VecDeque<Reading<A>, A>,
@@ -39,7 +39,7 @@ impl<A: Allocator + Copy> Model for ReadingList<A> {
 }
 
 impl<A: Allocator + Copy> ReadingList<A> {
-    /// No reading.
+    /// Returns an empty list.
     pub(crate) fn new(alloc: A) -> ReadingList<A>
         ensures { result.items ≡ [] }
     {
@@ -49,7 +49,7 @@ impl<A: Allocator + Copy> ReadingList<A> {
         }
     }
 
-    /// A reading more, after all others.
+    /// Appends a reading.
     pub(crate) fn push(&mut self, reading: Reading<A>) -> Result<(), NoMemory>
         requires later { All (λ r. r.serial < reading.serial) self.old.items }
         ensures ok { OnOk result (self.new.items ≡ self.old.items ++ reading ∷ []) }
@@ -65,8 +65,8 @@ impl<A: Allocator + Copy> ReadingList<A> {
         Ok(())
     }
 
-    /// The open parts of a meter become a reading, after all others; gives the bytes that it is counted as. Where
-    /// memory is refused, the meter keeps its parts.
+    /// Makes a meter's open parts the last reading, and returns the reading's size. If memory runs
+    /// out, the meter keeps its parts.
     pub(crate) fn close(
         &mut self,
         alloc: A,
@@ -106,7 +106,7 @@ impl<A: Allocator + Copy> ReadingList<A> {
         Ok(size)
     }
 
-    /// Drops the readings up to a serial, and gives the bytes that they were counted as. What stays isn't gone over.
+    /// Drops the readings up to a serial, and returns their size. Later readings aren't visited.
     pub(crate) fn forget(&mut self, serial: u64) -> u32
         requires { sum_by reading_size self.old.items < 2 ^ 32 }
         ensures kept { self.new.items ≡ filter (λ r. nat_lt serial r.serial) self.old.items }
@@ -120,7 +120,7 @@ impl<A: Allocator + Copy> ReadingList<A> {
         size
     }
 
-    /// The first reading goes, where it has this serial or a lower one.
+    /// Removes the first reading, if its serial is at most this one.
     fn pop_up_to(&mut self, serial: u64) -> Option<Reading<A>>
         ensures first { IfSome result (λ r. self.old.items ≡ r ∷ self.new.items) }
         ensures low { IfSome result (λ r. r.serial ≤ serial) }
@@ -154,7 +154,7 @@ impl<A: Allocator + Copy> ReadingList<A> {
         &self.items
     }
 
-    /// Those with at least a serial. Those before aren't gone over.
+    /// The readings from a serial on. Earlier readings aren't visited.
     pub(crate) fn from(&self, serial: u64) -> Iter<'_, Reading<A>>
         ensures readings { deque_iter_rest result ≡ readings_from serial self.now.items }
         ensures ascend { IsStrictlySortedBy nat_cmp (map (λ r. r.serial) self.now.items) }

@@ -1,4 +1,4 @@
-//! The serials that are filed under a key.
+//! The serials under a key of an index.
 
 ghost use Rattle.std.specs.Prelude.{◌≡◌};
 ghost use Rattle.std.specs.List.Sorted.{IsStrictlySortedBy};
@@ -10,7 +10,7 @@ use std::collections::BTreeSet;
 use std::collections::btree_set::Range;
 use std::marker::Model;
 
-/// Serials of readings, ascending. Contracts see the list of those that are still to come.
+/// Serials of readings, ascending. Contracts see the list of those still to come.
 #[derive(Drop)]
 pub struct Serials<'a, K> {
     filed: Range<'a, Filed<K>>,

@@ -175,7 +175,7 @@ last_at date q all sorted = found_last q date all all (agree date all [] all (λ
 abbrev pub entry_place : Identity × Bor ReadingRow → Place
 entry_place e = record { flat = e.1.now.flat; meter = e.0 }
 
--- the last entry that stands at a place
+-- the last entry at a place
 abbrev pub entry_at : Place → List (Identity × Bor ReadingRow) → Option ReadingRow
 entry_at q [] = None
 entry_at q (e ∷ es) = option_or (entry_at q es) (cond (is_eq (place_cmp q (entry_place e))) (Some e.1.now) None)
@@ -189,7 +189,7 @@ seen o = option_map (λ r. r.now) o
 apart : (o : Ordering) → o ≡ Less → is_eq o ≡ false
 apart o e = ap is_eq e
 
--- no meter behind this one is it
+-- no later meter is this one
 not_behind : (meter : Identity) (es : List (Identity × Bor ReadingRow)) → AllByRecursion (λ k. identity_cmp meter k ≡ Less) (keys es) → lookup (is_at (identity_cmp meter)) es ≡ None
 not_behind meter [] above = refl
 not_behind meter (e ∷ es) above =

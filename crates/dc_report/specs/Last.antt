@@ -1,4 +1,4 @@
--- The last reading of a meter that has a value for a date, as a run over the readings finds it.
+-- The last reading of a meter that has a value for a date, as a loop over the readings finds it.
 use Rattle.std.specs.Prelude.{◌&&◌, if◌then◌else◌, List, [], ◌∷◌, Option, None, Some}
 use Rattle.std.specs.Option.{option_or}
 use Rattle.std.specs.Ordering.{is_eq}

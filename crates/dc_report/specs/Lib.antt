@@ -3,13 +3,14 @@
 pub mod Line
 -- the names of device types
 pub mod Medium
--- any items in the order of their keys
+-- lists of any items in the order of their keys
 pub mod Ascending
 -- the register table
 pub mod RegisterTable
 -- the due-date table
 pub mod DueTable
--- the last reading of a meter as a run over the readings finds it: for the contracts of private functions
+-- the last reading of a meter, as a loop over the readings finds it: for the contracts of private
+-- functions
 pub mod Last
--- a table while it is written: for the contracts of private functions
+-- a table that is being written: for the contracts of private functions
 pub mod Written

@@ -1,4 +1,4 @@
--- A line of a table (this product): its fields with commas between them, and a line feed.
+-- A line of a table (this product): its fields separated by commas, and a line feed.
 use Rattle.std.specs.Prelude.{ℕ, List, [], ◌∷◌, ◌++◌}
 use Rattle.std.specs.List.{join_with_byte}
 

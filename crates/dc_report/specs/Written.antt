@@ -1,11 +1,11 @@
--- A table while it is written with `csv`.
+-- A table that is being written with `csv`.
 use Rattle.std.specs.Prelude.{◌≡◌, ℕ, false, List, ◌++◌}
 use Rattle.csv.specs.declared.writer.Writer.{Writer}
 use Rattle.csv.specs.Writing.{default_writer, writer_under, writer_pending, writer_setup}
 use Rattle.csv.specs.Writing.{fields_written, has_written, needs_quotes}
 use Rattle.std.specs.List.{AllByRecursion}
 
--- what a writer holds, and what of it still waits to be passed on
+-- the bytes of a writer: those written, and those it still holds back
 abbrev pub so_far : {W : Type 0} → (W → List ℕ) → Writer W → List ℕ
 so_far items w = items (writer_under w) ++ writer_pending w
 

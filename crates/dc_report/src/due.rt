@@ -15,9 +15,9 @@ use dc_units::{Date, TEXT_ROOM};
 use itoa::Buffer;
 use std::alloc::Allocator;
 
-/// The due-date table for a date (OMS Volume 2, due-date values): a header, and of each meter the points of its last
-/// reading that has a value for the date, by the flat of that readout and then by identity. The only error is want of
-/// memory.
+/// Writes the due-date table for a date (OMS Volume 2, due-date values): a header, and for each
+/// meter the points of its last reading that has a value for the date, by the flat of that readout
+/// and then by identity. The only error is out of memory.
 pub fn due_table<A: Allocator + Copy>(
     alloc: A,
     house: &House<A>,
@@ -29,7 +29,8 @@ pub fn due_table<A: Allocator + Copy>(
     Ok(bytes)
 }
 
-/// The due-date table for a date with the number of its rows, which are found once. The only error is out of memory.
+/// Writes the due-date table for a date, and counts its rows, which are searched once. The only
+/// error is out of memory.
 pub fn counted_due_table<A: Allocator + Copy>(
     alloc: A,
     house: &House<A>,
@@ -59,7 +60,8 @@ pub fn counted_due_table<A: Allocator + Copy>(
     })
 }
 
-/// The rows of the due-date table for a date, its header not counted. The only error is out of memory.
+/// Number of rows of the due-date table for a date, without the header. The only error is out of
+/// memory.
 pub fn due_rows<A: Allocator + Copy>(
     alloc: A,
     house: &House<A>,
@@ -70,7 +72,7 @@ pub fn due_rows<A: Allocator + Copy>(
     Ok(rows(alloc, house, date)?.len())
 }
 
-/// The rows of the due-date table for a date. The only error is want of memory.
+/// The rows of the due-date table for a date. The only error is out of memory.
 pub fn rows<A: Allocator + Copy>(
     alloc: A,
     house: &House<A>,
@@ -86,7 +88,7 @@ pub fn rows<A: Allocator + Copy>(
     Ok(rows)
 }
 
-/// The rows of a reading.
+/// Appends the rows of a reading.
 fn push_rows<A: Allocator + Copy>(
     alloc: A,
     rows: &mut Vec<Row, A>,

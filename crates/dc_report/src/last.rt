@@ -1,4 +1,4 @@
-//! The last reading of each meter that has a due-date value, and these by flat.
+//! The last reading of each meter that has a due-date value, ordered by flat.
 
 ghost use Rattle.std.specs.Prelude.{◌≡◌, IfOk, map, option_map};
 ghost use Rattle.std.specs.BTreeMap.{get};
@@ -39,7 +39,8 @@ pub(crate) fn due_readings<'a, A: Allocator + Copy>(
     Ok(rows)
 }
 
-/// The last reading of each meter that has a value for the date: a later one takes the place of an earlier one.
+/// The last reading of each meter that has a value for the date: a later reading replaces an
+/// earlier one.
 fn last_readings<'a, A: Allocator + Copy>(
     alloc: A,
     house: &'a House<A>,

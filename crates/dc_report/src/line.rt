@@ -9,7 +9,7 @@ use csv::Writer;
 use dc_io::NoMemory;
 use std::alloc::Allocator;
 
-/// An empty table. It takes no memory yet.
+/// Returns an empty table, which uses no memory yet.
 pub(crate) fn new_table<A: Allocator>(alloc: A) -> Writer<Vec<u8, A>>
     ensures ready { IsAtLine result }
     ensures empty { so_far (λ v. v.items) result ≡ [] }
@@ -17,7 +17,7 @@ pub(crate) fn new_table<A: Allocator>(alloc: A) -> Writer<Vec<u8, A>>
     Writer::from_writer(Vec::new(alloc))
 }
 
-/// A line more.
+/// Appends a line.
 pub(crate) fn put_line<A: Allocator>(
     table: &mut Writer<Vec<u8, A>>,
     fields: &[&[u8]],
@@ -32,7 +32,7 @@ pub(crate) fn put_line<A: Allocator>(
     csv_line(table, fields)
 }
 
-/// A line as `csv` writes it.
+/// Appends a line as `csv` writes it.
 fn csv_line<A: Allocator>(table: &mut Writer<Vec<u8, A>>, fields: &[&[u8]]) -> Result<(), NoMemory>
     requires { IsAtLine table.old }
     ensures ready { OnOk result (IsAtLine table.new) }
@@ -45,7 +45,7 @@ fn csv_line<A: Allocator>(table: &mut Writer<Vec<u8, A>>, fields: &[&[u8]]) -> R
     }
 }
 
-/// The table's text.
+/// Returns the table's text.
 pub(crate) fn finish<A: Allocator>(table: Writer<Vec<u8, A>>) -> Result<Vec<u8, A>, NoMemory>
     ensures { IfOk result (λ text. text.items ≡ so_far (λ v. v.items) table) }
 {

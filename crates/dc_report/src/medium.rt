@@ -4,7 +4,7 @@ ghost use Rattle.std.specs.Prelude.{◌≡◌, ◌<◌};
 ghost use Rattle.dc_address.specs.Text.{hex_code};
 ghost use Rattle.dc_report.specs.Medium.{medium_text};
 
-/// The name of a device type (EN 13757-3), or its two hex digits where it has none here.
+/// The name of a device type (EN 13757-3), or its two hex digits if it has no name here.
 pub(crate) fn medium(kind: u8, room: &mut [u8; 2]) -> &[u8]
     ensures { result.now ≡ medium_text kind }
 {

@@ -17,8 +17,8 @@ use dc_meters::{House, Meter};
 use itoa::Buffer;
 use std::alloc::Allocator;
 
-/// The register table: a header, and a line for each registered meter, by flat and then by identity. The only error is
-/// out of memory.
+/// Writes the register table: a header, and a line for each registered meter, by flat and then by
+/// identity. The only error is out of memory.
 pub fn register_table<A: Allocator + Copy>(
     alloc: A,
     house: &House<A>,
@@ -32,7 +32,7 @@ pub fn register_table<A: Allocator + Copy>(
     finish(table)
 }
 
-/// The rows of the register table, its header not counted.
+/// Number of rows of the register table, without the header.
 pub fn register_rows<A: Allocator + Copy>(house: &House<A>) -> usize
     ensures { result ≡ length house.now.state.meters }
 {
@@ -82,7 +82,7 @@ fn put_meter<A: Allocator + Copy>(
     put_line(table, &fields)
 }
 
-/// A primary address, or `S` where the meter is selected by its identity.
+/// The text of a primary address, or `S` for secondary addressing.
 fn address_text(address: Option<Primary>, room: &mut Buffer) -> &[u8]
     ensures { result.now ≡ address_word address }
 {

@@ -7,7 +7,7 @@ use dc_units::Point;
 /// A row: a point of a reading's due-date value.
 #[derive(Clone, Copy, Debug, PartialEq, Eq)]
 pub struct Row {
-    /// The flat in which the meter was when the readout ended.
+    /// The meter's flat when the readout ended.
     pub flat: Flat,
     /// The meter.
     pub meter: Identity,

@@ -39,7 +39,7 @@ codes_of_faults budget ordered s next =
 
 -- ---- repeats
 
--- what is to be done, nothing stands against
+-- a line whose change is done has no code
 unrefused : (r : Bool) (code : Option Code) (line : OfficeLine) (change : Change) → cond r Repeat (unless code line) ≡ Do change → granted line ≡ Do change
 unrefused true code line change is = absurd cc
 unrefused false (Some code) line change is = absurd cc
@@ -84,7 +84,7 @@ pub record IsOrder (house : Held) (change : Change) : Type 0 where
   pub change_is : change ≡ Ordered ordered.number ordered.command
   pub accepted : Accepts house.budget change house.state
 
--- nothing stands against a line: its number is the next one, and its command has no fault
+-- no code applies to a line: its number is the next one, and its command has no fault
 clear : (last : ℕ) (next known unknown address beyond full : Bool)
     → cond (not next) (Some (Order last)) (cond known (Some Known) (cond unknown (Some Unknown) (cond address (Some Address) (cond beyond (Some Beyond) (cond full (Some Full) None))))) ≡ None
     → (next ≡ true) × (cond known (Some fault.Known) (cond unknown (Some fault.Unknown) (cond address (Some fault.AddressTaken) (cond beyond (Some fault.Beyond) (cond full (Some fault.Full) None)))) ≡ None)

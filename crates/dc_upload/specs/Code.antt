@@ -1,4 +1,4 @@
--- Why a line of the office is refused (this product), and the word that says so.
+-- Why a billing office's line is refused (this product), and the code's word.
 use Rattle.std.specs.Prelude.{ℕ, List, codes}
 use Rattle.dc_changes.specs.declared.fault.ChangeFault.{ChangeFault}
 use Rattle.dc_changes.specs.declared.fault.ChangeFault.TheVariants as fault

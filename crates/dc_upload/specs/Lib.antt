@@ -1,13 +1,13 @@
 -- the definitions that contracts cite
--- what a line of the office spells
+-- what a billing office's line spells
 pub mod Line
 -- why a line is refused
 pub mod Code
--- what becomes of a line
+-- the verdict on a line
 pub mod Verdict
--- the meters as the office is shown them
+-- the meters as shown to the office
 pub mod Register
--- the readings that the office is shown
+-- the readings shown to the office
 pub mod Window
 -- the number and the name of each fault
 pub mod Fault

@@ -1,4 +1,4 @@
--- What the office sends (this product): words with single spaces.
+-- The lines of a billing office (this product): words separated by single spaces.
 use Rattle.std.specs.Prelude.{ℕ, ◌≤◌, IsTrue, List, [], ◌∷◌, codes}
 use Rattle.std.specs.List.{join_with_byte}
 use Rattle.std.specs.Fmt.{decimal}
@@ -9,7 +9,7 @@ use Rattle.dc_units.specs.Text.{day_text}
 use Rattle.dc_upload.specs.declared.line.OfficeLine.{OfficeLine}
 use Rattle.dc_upload.specs.declared.line.OfficeLine.TheVariants.{Command, Window, Register, Report}
 
--- how many readings are asked for
+-- the number of readings asked for
 pub record IsCount (count : ℕ) : Type 0 where
   pub low : 1 ≤ count
   pub high : count ≤ 100

@@ -1,4 +1,4 @@
--- The meters as the office is shown them (this product).
+-- The meters as shown to the billing office (this product).
 use Rattle.std.specs.Prelude.{ℕ, List, ◌++◌, codes, length, flat_map}
 use Rattle.dc_address.specs.Text.{text_of}
 use Rattle.dc_address.specs.declared.identity.Identity.{Identity}
@@ -11,7 +11,7 @@ unfoldable pub place_words : Identity → MeterRow → List ℕ
 place_words meter row = codes " " ++ text_of meter ++ number_word row.line ++ codes " "
     ++ address_word row.address
 
--- `METER ident line addr flat open`, the last being the number of parts of a readout that isn't finished
+-- `METER ident line addr flat open`; `open` is the number of parts of an unfinished readout
 unfoldable pub meter_line : Identity × MeterRow → List ℕ
 meter_line (meter, row) =
     codes "METER" ++ place_words meter row ++ codes " " ++ row.flat

@@ -1,4 +1,5 @@
--- The replies to the office's lines (this product): words with single spaces, each line ended by LF.
+-- The replies to a billing office's lines (this product): words separated by single spaces, each
+-- line ended by LF.
 use Rattle.std.specs.Prelude.{◌≡◌, ℕ, List, [], ◌++◌, codes, length, flat_map, Option}
 use Rattle.dc_io.specs.Failures.{HasRisen}
 use Rattle.dc_io.specs.Stream.{PutsFront}
@@ -20,7 +21,7 @@ use Rattle.dc_upload.specs.declared.line.OfficeLine.TheVariants.{Command, Window
 use Rattle.dc_upload.specs.declared.verdict.Verdict.{Verdict}
 use Rattle.dc_upload.specs.declared.verdict.Verdict.TheVariants.{Repeat, Do, Show, Refuse}
 
--- a command is done, now or before
+-- a command is done, now or earlier
 unfoldable pub done_line : ℕ → List ℕ
 done_line number = codes "OK" ++ number_word number ++ codes "\n"
 
@@ -41,11 +42,11 @@ detail_of Memory = []
 unfoldable pub refusal_line : Code → List ℕ
 refusal_line code = codes "ERR " ++ word_of code ++ detail_of code ++ codes "\n"
 
--- what was shown ends, with how much it was
+-- the last line of what is shown, with a count
 unfoldable pub end_line : ℕ → List ℕ
 end_line count = codes "END" ++ number_word count ++ codes "\n"
 
--- ---- what is shown
+-- ---- the text that is shown
 
 unfoldable pub window_text : ℕ → ℕ → State → List ℕ
 window_text from count s = flat_map reading_lines (window from count s)
@@ -54,7 +55,7 @@ window_text from count s = flat_map reading_lines (window from count s)
 unfoldable pub register_text : State → List ℕ
 register_text s = meter_lines s ++ end_line (length s.meters)
 
--- the due-date table, and how many rows it has, its header not counted
+-- the due-date table, and the number of its rows, without the header
 unfoldable pub report_text : Day → State → List ℕ
 report_text date s = due_text date s ++ end_line (length (due_rows date s))
 
@@ -75,16 +76,17 @@ text_for (Refuse code) line s = refusal_line code
 unfoldable pub reply_text : Held → OfficeLine → List ℕ
 reply_text house line = text_for (verdict_of house line) line house.state
 
--- ---- why there is no reply
+-- ---- why a reply isn't written
 
--- memory is wanted for a REPORT alone
+-- only a REPORT uses memory
 abbrev pub TakesMemory : OfficeLine → Type 0
 TakesMemory (Command ordered) = ⊥
 TakesMemory (Window from count) = ⊥
 TakesMemory Register = ⊥
 TakesMemory (Report date) = Unit {0}
 
--- Where memory was refused, the writer is as it was; else a write failed, and a prefix of the reply is written.
+-- If memory ran out, the writer is unchanged; otherwise a write failed, and a prefix of the reply
+-- is written.
 abbrev pub Tells : {W : Type 0} → (W → Option (List ℕ)) → (W → ℕ) → OfficeLine → List ℕ → W → W
     → ReplyFault → Type 0
 Tells written failures line text old new NoMemory = TakesMemory line × (new ≡ old)

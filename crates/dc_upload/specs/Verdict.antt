@@ -1,4 +1,5 @@
--- What becomes of a line of the office (this product): a repeat, a refusal, a change to be done, or something to show.
+-- The verdict on a billing office's line (this product): a repeat, a refusal, a change to be done,
+-- or something to show.
 use Rattle.std.specs.Prelude.{ℕ, ◌+◌, Bool, false, not, ◌&&◌, ◌==◌, if◌then◌else◌, Option, None}
 use Rattle.std.specs.Prelude.{Some, List, [], ◌∷◌, find, nat_le}
 use Rattle.std.specs.Str.{bytes_eq}
@@ -16,7 +17,7 @@ use Rattle.dc_upload.specs.declared.line.OfficeLine.TheVariants.{Command, Window
 use Rattle.dc_upload.specs.declared.verdict.Verdict.{Verdict}
 use Rattle.dc_upload.specs.declared.verdict.Verdict.TheVariants.{Repeat, Do, Show, Refuse}
 
--- the command has the last number, and its line is the last line, byte for byte
+-- the command has the last command's number, and its line is the last line, byte for byte
 abbrev pub is_repeat : Ordered → State → Bool
 is_repeat ordered s = ordered.number == s.last_number && bytes_eq
     (line_of ordered.number ordered.command) s.last_line
@@ -27,7 +28,7 @@ repeats (Window from count) s = false
 repeats Register s = false
 repeats (Report date) s = false
 
--- ---- where a code stands
+-- ---- where a code applies
 
 abbrev pub command_stands : ℕ → Ordered → State → Code → Bool
 command_stands budget ordered s Syntax = false
@@ -60,7 +61,7 @@ stands budget (Window from count) s code = window_stands from s code
 stands budget Register s code = false
 stands budget (Report date) s code = false
 
--- ---- the first that stands
+-- ---- the first code that applies
 
 abbrev pub codes_in_order : State → List Code
 codes_in_order s = Order s.last_number ∷ Known ∷ Unknown ∷ Address ∷ Beyond ∷ Gone s.confirmed
@@ -71,7 +72,7 @@ code_against budget line s = find (stands budget line s) (codes_in_order s)
 
 -- ---- the verdict
 
--- of a line that nothing stands against
+-- of a line to which no code applies
 abbrev pub granted : OfficeLine → Verdict
 granted (Command ordered) = Do (Numbered ordered.number ordered.command)
 granted (Window from count) = Show

@@ -1,14 +1,15 @@
-//! The words in which a line of the office is refused.
+//! The codes by which a billing office's line is refused.
 
 ghost use Rattle.std.specs.Prelude.{◌≡◌};
 ghost use Rattle.dc_upload.specs.Code.{code_of, word_of};
 
 use dc_changes::ChangeFault;
 
-/// Why a line isn't answered with what it asks for. The concentrator finds the first, the second and the last.
+/// Why a line is refused. The concentrator itself finds the first two and the last;
+/// [`judge`](crate::judge) finds the others.
 #[derive(Clone, Copy, Debug, PartialEq, Eq)]
 pub enum Code {
-    /// The text is no line of the office.
+    /// The text is no line of the billing office.
     Syntax,
     /// The store is stopped, or a commit failed.
     Store,
@@ -17,22 +18,22 @@ pub enum Code {
         /// The last command's number.
         last: u64,
     },
-    /// The new meter is registered already.
+    /// The new meter is already registered.
     Known,
     /// The meter isn't registered.
     Unknown,
     /// Another meter has this primary address on the bus line.
     Address,
-    /// A serial that wasn't given yet is confirmed.
+    /// The confirmed serial hasn't been given yet.
     Beyond,
-    /// The first reading asked for was confirmed already.
+    /// The first reading asked for is already confirmed.
     Gone {
-        /// The serial up to which the readings were confirmed.
+        /// The last confirmed serial.
         confirmed: u64,
     },
-    /// The state would be above its budget.
+    /// The state would exceed its budget.
     Full,
-    /// Memory was refused.
+    /// Out of memory.
     Memory,
 }
 
@@ -50,7 +51,7 @@ impl Code {
         }
     }
 
-    /// The word that names it in a reply.
+    /// The code's word in a reply.
     pub fn word(&self) -> &'static str
         ensures { result.now ≡ word_of self.now }
     {

@@ -1,4 +1,4 @@
-//! Why a reply is not written, with the numbers and names of the faults.
+//! Why a reply isn't written, with the numbers and names of the faults.
 
 ghost use Rattle.std.specs.Prelude.{◌≡◌};
 ghost use Rattle.dc_upload.specs.Fault.{name_of, number_of};
@@ -10,7 +10,7 @@ use thiserror::Error;
 /// Why a reply wasn't written.
 #[derive(Clone, Copy, Debug, PartialEq, Eq, Error)]
 pub enum ReplyFault {
-    /// Memory was refused for the table of a REPORT; nothing was written.
+    /// Out of memory for the table of a REPORT; nothing was written.
     #[error("{} {}", self.number(), self.name())]
     NoMemory,
     /// A write failed.

@@ -1,7 +1,8 @@
 //! The billing office's lines and the replies to them (this product).
 //!
-//! The office sends numbered commands that change the register, and asks for readings and for the register as it is.
-//! Each of its lines is read ([`parse_line`]), judged on the house ([`judge`]) and answered ([`write_reply`]).
+//! The office sends numbered commands that change the register, and asks for readings and for the
+//! meters. Each of its lines is parsed ([`parse_line`]), judged on the house ([`judge`]) and
+//! answered ([`write_reply`]).
 #![tactic(auto)]
 
 mod code;

@@ -1,4 +1,4 @@
-//! What the office sends.
+//! The lines that a billing office sends.
 
 ghost use Rattle.std.specs.Prelude.{◌≡◌, ℕ, ◌≤◌, ◌∷◌, ◌++◌, List, Some, IfSome, IsSome, IsTrue};
 ghost use Rattle.std.specs.Prelude.{codes, length};
@@ -12,16 +12,16 @@ ghost use Rattle.dc_upload.specs.Line.{IsCount, IsOfficeLine, office_text};
 use dc_changes::{Command, Numbered, parse_number, split_word};
 use dc_report::Date;
 
-/// A line of the office.
+/// A line of the billing office.
 #[derive(Clone, Copy)]
 pub enum OfficeLine {
     /// A command under its number: `n FIT ident line addr flat` and the like.
     Command(Numbered),
-    /// `WINDOW from count`: the readings from a serial on, at most this many.
+    /// `WINDOW from count`: the readings from a serial on, at most `count`.
     Window {
         /// The first serial, from 1, of at most 18 digits.
         from: u64,
-        /// How many readings at most, from 1 to 100.
+        /// Maximum number of readings, from 1 to 100.
         count: u8,
     },
     /// `REGISTER`: the meters.
@@ -33,7 +33,8 @@ pub enum OfficeLine {
     },
 }
 
-/// The line of the office that a text spells; none where it spells none. Each has one text, of at most 120 bytes.
+/// Parses a line of the office; `None` for any other text. Each line has exactly one text, of at
+/// most 120 bytes.
 pub fn parse_line(text: &[u8]) -> Option<OfficeLine>
     ensures found { IfSome result (λ line. IsOfficeLine line × (text.now ≡ office_text line)) }
     ensures only { (line : OfficeLine) → IsOfficeLine line → text.now ≡ office_text line
@@ -63,7 +64,7 @@ fn parse_command(text: &[u8]) -> Option<OfficeLine>
     Some(OfficeLine::Command(ordered))
 }
 
-// What follows `WINDOW` and a space.
+// The text after `WINDOW` and a space.
 fn behind_window(text: &[u8]) -> Option<&[u8]>
     ensures found { IfSome result (λ bounds. text.now ≡ codes "WINDOW" ++ 32 ∷ bounds.now) }
     ensures only { (bounds : List ℕ) → text.now ≡ codes "WINDOW" ++ 32 ∷ bounds → IsSome result }
@@ -90,7 +91,7 @@ fn parse_window(bounds: &[u8]) -> Option<OfficeLine>
     Some(OfficeLine::Window { from, count })
 }
 
-// What follows `REPORT` and a space.
+// The text after `REPORT` and a space.
 fn behind_report(text: &[u8]) -> Option<&[u8]>
     ensures found { IfSome result (λ date. text.now ≡ codes "REPORT" ++ 32 ∷ date.now) }
     ensures only { (date : List ℕ) → text.now ≡ codes "REPORT" ++ 32 ∷ date → IsSome result }
@@ -121,7 +122,7 @@ fn parse_count(word: &[u8]) -> Option<u8>
     }
 }
 
-/// A text spells one line of the office, if any.
+/// A text spells at most one line of the office.
 #[tactic(auto, using(crate::proofs::Texts::one_text))]
 pub fn a_text_spells_one_line()
     ensures { (line other : OfficeLine) → IsOfficeLine line → IsOfficeLine other

@@ -1,4 +1,4 @@
-//! The meters as the office is shown them.
+//! Writes the meters for the billing office.
 
 ghost use Rattle.std.specs.Prelude.{◌≡◌, ◌++◌, codes};
 ghost use Rattle.dc_changes.specs.Line.{address_word};
@@ -11,8 +11,8 @@ use dc_io::{IoFault, Sink, put_number_word};
 use dc_meters::{House, Meter};
 use std::alloc::Allocator;
 
-/// Writes a line for each meter, by identity: `METER ident line addr flat open`, the last being the number of its
-/// open parts.
+/// Writes a line for each meter, by identity: `METER ident line addr flat open`; `open` is the
+/// number of its open parts.
 #[tactic(auto, using(dc_io::proofs::Pieces::written))]
 pub fn write_meters<A: Allocator + Copy, W: Sink>(
     house: &House<A>,
@@ -42,7 +42,7 @@ fn write_meter<A: Allocator, W: Sink>(
     out.put(b"\n")
 }
 
-// The meter, and where it hangs.
+// Writes the meter, its bus line and its address.
 #[tactic(auto, using(dc_io::proofs::Pieces::written), unfolding(crate::specs::Register::place_words))]
 fn put_place<A: Allocator, W: Sink>(
     out: &mut W,

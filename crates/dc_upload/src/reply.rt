@@ -1,4 +1,4 @@
-//! Replies to the office's lines.
+//! Writes the replies to a billing office's lines.
 
 ghost use Rattle.std.specs.Prelude.{◌≡◌, ◌++◌, IfErr, OnOk};
 ghost use Rattle.dc_changes.specs.Valid.{IsState};
@@ -16,12 +16,13 @@ use dc_meters::House;
 use dc_report::{Date, counted_due_table};
 use std::alloc::Allocator;
 
-/// Writes the reply to a line that is no new command; one that was just done is a repeat. A REPORT takes memory for its
-/// table, which is made before anything is written; no other line takes any, and a WINDOW costs what it shows.
+/// Writes the reply to a line that is no new command; a command that was just done is a repeat. A
+/// REPORT allocates its table before anything is written; no other line uses memory, and a WINDOW
+/// costs what it shows.
 ///
 /// # Errors
-/// NoMemory where memory was refused for a REPORT's table; nothing was written. Write where a write failed; a prefix of
-/// the reply is written then.
+/// NoMemory: out of memory for a REPORT's table; nothing was written. Write: a write failed; a
+/// prefix of the reply is written then.
 #[tactic(auto, unfolding(crate::specs::Reply::reply_text))]
 pub fn write_reply<A: Allocator + Copy, W: Sink>(
     alloc: A,
@@ -112,7 +113,7 @@ fn write_register<A: Allocator + Copy, W: Sink>(
     write_end(house.meters().len(), out)
 }
 
-// The table is there before anything is written.
+// The table is complete before anything is written.
 #[tactic(auto, unfolding(crate::specs::Reply::report_text))]
 fn write_report<A: Allocator + Copy, W: Sink>(
     alloc: A,

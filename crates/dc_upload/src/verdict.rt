@@ -1,4 +1,4 @@
-//! What becomes of a line on a house as it stands.
+//! Judges a billing office's line on the current house.
 
 ghost use Rattle.std.specs.Prelude.{◌≡◌, ℕ};
 ghost use Rattle.dc_changes.specs.Accepts.{Accepts};
@@ -14,20 +14,21 @@ use dc_changes::{Change, Numbered};
 use dc_meters::House;
 use std::alloc::Allocator;
 
-/// What becomes of a line.
+/// The verdict on a line.
 #[derive(Drop)]
 pub enum Verdict {
-    /// It is the last command once more, which was done.
+    /// It repeats the last command, which is done.
     Repeat,
-    /// It is a new command: the change is accepted.
+    /// It is a new command, and its change is accepted.
     Do(Change<'static>),
-    /// It asks for what can be shown.
+    /// It asks for something to show.
     Show,
-    /// It is refused.
+    /// It is refused with this code.
     Refuse(Code),
 }
 
-/// Judges a line: a repeat goes by its bytes; else the first code that stands refuses it.
+/// Judges a line: a repeat of the last command, byte for byte, or else refused by the first code
+/// that applies.
 #[tactic(auto, unfolding(crate::specs::Verdict::verdict_of))]
 pub fn judge<A: Allocator + Copy>(house: &House<A>, line: &OfficeLine) -> Verdict
     requires { IsOfficeLine line.now }
@@ -64,7 +65,7 @@ fn judge_command<A: Allocator + Copy>(house: &House<A>, ordered: Numbered) -> Ve
     }
 }
 
-// Whether the command has the last number and is the last line.
+// Whether the command has the last command's number and is the last line.
 fn is_repeat<A: Allocator + Copy>(house: &House<A>, ordered: &Numbered) -> bool
     requires { IsOfficeLine (OfficeLine.Command ordered.now) }
     ensures { result ≡ is_repeat ordered.now house.now.state }
@@ -86,7 +87,7 @@ fn judge_window<A: Allocator + Copy>(house: &House<A>, from: u64) -> Verdict
     Verdict::Show
 }
 
-/// A new command that was done is a repeat when it comes again, and the reply is `OK` and its number.
+/// A new command that was done is a repeat when it comes again; the reply is `OK` and its number.
 #[tactic(auto, using(crate::proofs::Verdicts::repeated, crate::proofs::Verdicts::replied))]
 pub fn a_done_command_is_repeated()
     ensures repeat { (house : Held) (line : OfficeLine) (change : Change)

@@ -1,4 +1,4 @@
-//! The readings that the office is shown.
+//! Writes readings for the billing office.
 
 ghost use Rattle.std.specs.Prelude.{flat_map, take};
 ghost use Rattle.std.specs.VecDeque.Iter.{deque_iter_rest};
@@ -14,8 +14,8 @@ use dc_meters::{House, Part, Reading};
 use std::alloc::Allocator;
 use std::collections::vec_deque::Iter;
 
-/// Writes the readings from a serial on, at most this many, with their parts, and how many they were. What stands
-/// before that serial isn't gone over.
+/// Writes the readings from a serial on, at most this many, with their parts, and their number.
+/// Earlier readings aren't visited.
 #[tactic(auto, using(dc_io::proofs::Pieces::written), unfolding(crate::specs::Reply::window_text))]
 pub fn write_window<A: Allocator + Copy, W: Sink>(
     house: &House<A>,
@@ -32,7 +32,7 @@ pub fn write_window<A: Allocator + Copy, W: Sink>(
     write_end(shown, out)
 }
 
-// The first of the readings, this many.
+// Writes the first of the readings, this many.
 #[tactic(auto, using(dc_io::proofs::Pieces::written))]
 fn write_readings<A: Allocator, W: Sink>(
     mut readings: Iter<'_, Reading<A>>,
@@ -59,7 +59,7 @@ fn write_reading<A: Allocator, W: Sink>(reading: &Reading<A>, out: &mut W) -> Re
     write_parts(reading.parts(), out)
 }
 
-// The reading's own line.
+// Writes the reading's own line.
 #[tactic(auto, using(dc_io::proofs::Pieces::written), unfolding(crate::specs::Window::reading_line))]
 fn write_head<A: Allocator, W: Sink>(reading: &Reading<A>, out: &mut W) -> Result<(), IoFault>
     ensures { Wrote W.Sink result out.old out.new (reading_line reading.now) }
@@ -70,7 +70,7 @@ fn write_head<A: Allocator, W: Sink>(reading: &Reading<A>, out: &mut W) -> Resul
     out.put(b"\n")
 }
 
-// The meter, its flat, and how many parts the reading has.
+// Writes the meter, its flat, and the number of parts of the reading.
 #[tactic(auto, using(dc_io::proofs::Pieces::written), unfolding(crate::specs::Window::owner_words))]
 fn put_owner<A: Allocator, W: Sink>(out: &mut W, reading: &Reading<A>) -> Result<(), IoFault>
     ensures { Wrote W.Sink result out.old out.new (owner_words reading.now) }

@@ -1,4 +1,4 @@
-//! What a change does to a house.
+//! Applies changes to a house.
 
 ghost use Rattle.std.specs.Prelude.{◌≡◌, ◌+◌, ◌-◌, ◌≤◌, ◌<◌, ◌^◌, ◌∷◌, ◌++◌, [], true, false, None};
 ghost use Rattle.std.specs.Prelude.{Some, IsSome, length, OnOk, OnErr, filter, nat_lt, sum_by};
@@ -23,7 +23,7 @@ use dc_io::NoMemory;
 use std::alloc::Allocator;
 
 impl<A: Allocator + Copy> House<A> {
-    /// Does the change. Where memory is refused, the house is as it was.
+    /// Applies the change. If memory runs out, the house is unchanged.
     pub fn apply(&mut self, change: &Change<'_>) -> Result<(), NoMemory>
         requires change { IsChange change.now }
         requires accepted { Accepts self.old.budget change.now self.old.state }
@@ -37,7 +37,7 @@ impl<A: Allocator + Copy> House<A> {
         }
     }
 
-    /// A meter more.
+    /// Registers a meter.
     pub(super) fn fit(&mut self, meter: Identity, row: Meter<A>) -> Result<(), NoMemory>
         requires absent { row_of meter self.old.state ≡ None }
         requires room { size_of (fitted meter row self.old.state) ≤ self.old.budget }
@@ -52,7 +52,7 @@ impl<A: Allocator + Copy> House<A> {
         Ok(())
     }
 
-    /// A meter belongs to another flat.
+    /// Assigns a meter to another flat.
     pub(super) fn move_to(&mut self, meter: Identity, flat: Flat) -> Result<(), NoMemory>
         requires is_flat { IsFlat flat }
         requires room { size_of (moved meter flat (row_of meter self.old.state) self.old.state)
@@ -71,7 +71,7 @@ impl<A: Allocator + Copy> House<A> {
         Ok(())
     }
 
-    /// A meter less, and its open parts.
+    /// Removes a meter and its open parts.
     pub(super) fn take_out(&mut self, meter: Identity)
         ensures { self.new ≡ record self.old { state = taken_out meter self.old.state } }
     {
@@ -80,7 +80,7 @@ impl<A: Allocator + Copy> House<A> {
         }
     }
 
-    /// A part that more follow: it stays open.
+    /// Adds a part that isn't the last: it stays open.
     fn keep_open(&mut self, meter: Identity, number: u8, part: Part<A>) -> Result<(), NoMemory>
         requires continues { continues number (row_of meter self.old.state) ≡ true }
         requires part_is { IsPart part }
@@ -100,7 +100,7 @@ impl<A: Allocator + Copy> House<A> {
         Ok(())
     }
 
-    /// The part that ends a readout: a reading more, in the flat of today.
+    /// Adds the part that ends a readout: a new reading, with the meter's flat at that time.
     fn finish(&mut self, meter: Identity, number: u8, part: Part<A>) -> Result<(), NoMemory>
         requires continues { continues number (row_of meter self.old.state) ≡ true }
         requires part_is { IsPart part }
@@ -128,7 +128,7 @@ impl<A: Allocator + Copy> House<A> {
         Ok(())
     }
 
-    /// A telegram: its part is kept.
+    /// Applies a telegram: keeps its part.
     fn hear(&mut self, number: u8, moment: u64, body: &Body<'_>) -> Result<(), NoMemory>
         requires telegram { IsTelegram number moment body.now }
         requires continues { continues number (row_of body.now.meter self.old.state) ≡ true }
@@ -146,7 +146,7 @@ impl<A: Allocator + Copy> House<A> {
         }
     }
 
-    /// A meter hangs where another did, which goes with its open parts.
+    /// Replaces a meter, and removes the old one's open parts.
     pub(super) fn swap(
         &mut self,
         old: Identity,
@@ -172,7 +172,7 @@ impl<A: Allocator + Copy> House<A> {
         Ok(())
     }
 
-    /// What a command orders, without its number and line.
+    /// Applies a command, without its number and line.
     fn order(&mut self, command: &Command) -> Result<(), NoMemory>
         requires is_command { IsCommand command.now }
         requires unrefused { CanBeApplied self.old.budget command.now self.old.state }
@@ -203,7 +203,7 @@ impl<A: Allocator + Copy> House<A> {
         }
     }
 
-    /// A command, with its number and line.
+    /// Applies a command, with its number and line.
     fn command(&mut self, number: u64, command: &Command) -> Result<(), NoMemory>
         requires is_number { IsNumber number }
         requires is_command { IsCommand command.now }
@@ -222,7 +222,7 @@ impl<A: Allocator + Copy> House<A> {
         Ok(())
     }
 
-    /// The number and the line of the last command.
+    /// Sets the number and the line of the last command.
     fn sign(&mut self, number: u64, line: CommandLine)
         requires number { number < end_of_numbers }
         requires line { length line ≤ longest_line }
@@ -234,12 +234,12 @@ impl<A: Allocator + Copy> House<A> {
         self.last_line = line;
     }
 
-    /// The readings up to a serial are confirmed, and go.
+    /// Confirms the readings up to a serial, and drops them.
     pub(super) fn confirm(&mut self, serial: u64)
         requires { serial < self.old.state.next_serial }
         ensures { self.new ≡ record self.old { state = confirmed_up_to serial self.old.state } }
     {
-        // What the mark has passed is gone: a confirmation below it looks at no reading.
+        // Readings up to the mark are gone: a confirmation below it visits no reading.
         if serial <= self.confirmed {
             return;
         }

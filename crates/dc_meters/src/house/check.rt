@@ -1,4 +1,4 @@
-//! Which changes a house refuses.
+//! Checks whether a house accepts a change.
 
 ghost use Rattle.std.specs.Prelude.{◌≡◌, ℕ, ◌+◌, ◌≤◌, None, Some, nat_lt, not, ◌&&◌, if◌then◌else◌};
 ghost use Rattle.std.specs.List.{list_any};
@@ -17,8 +17,8 @@ use dc_changes::{Body, Change, ChangeFault, Command, END_OF_NUMBERS, Flat};
 use std::alloc::Allocator;
 
 impl<A: Allocator + Copy> House<A> {
-    /// Why the change is refused, if it is: the first that stands of Known, Unknown, AddressTaken, Beyond and Full.
-    /// Whether a command's number is the next isn't looked at.
+    /// Why the change is refused, if it is: the first of Known, Unknown, AddressTaken, Beyond and
+    /// Full that applies. It doesn't check whether a command's number is the next.
     pub fn check(&self, change: &Change<'_>) -> Result<(), ChangeFault>
         ensures { result ≡ refused_by (refusal self.now.budget change.now self.now.state) }
     {
@@ -28,7 +28,7 @@ impl<A: Allocator + Copy> House<A> {
         }
     }
 
-    /// Whether a command has the number after the last one's; a telegram has none.
+    /// Whether a command's number is one more than the last command's; true for a telegram.
     pub fn is_next(&self, change: &Change<'_>) -> bool
         ensures { result ≡ is_next change.now self.now.state }
     {
@@ -175,7 +175,7 @@ impl<A: Allocator + Copy> House<A> {
     {
         match address {
             Some(address) => self.meters.is_taken(line, address),
-            // A meter that is selected by its identity is in no other's way.
+            // A meter that is read by secondary addressing takes no address.
             None => false,
         }
     }

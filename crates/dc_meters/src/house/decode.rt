@@ -1,4 +1,4 @@
-//! A house out of bytes.
+//! Decodes a house from bytes.
 
 ghost use Rattle.std.specs.Prelude.{◌≡◌, ◌+◌, ◌<◌, ◌≤◌, ℕ, List, Some, None, All, length, map};
 ghost use Rattle.std.specs.Prelude.{true, false, IfSome, IfNone, IfOk, IsErrOf};
@@ -26,7 +26,7 @@ use dc_changes::pieces::{
 use dc_changes::{CommandLine, DecodeFault, END_OF_NUMBERS, LONGEST_LINE};
 use std::alloc::Allocator;
 
-/// What stands before the meters.
+/// The fields before the meters.
 #[derive(Clone, Copy)]
 struct Head<'a> {
     next_serial: u64,
@@ -69,7 +69,7 @@ impl<'a> Head<'a> {
     }
 }
 
-/// A meter and its row.
+/// Decodes a meter and its row.
 #[tactic(auto, unfolding(dc_changes::specs::Reading::entry_at, dc_changes::specs::Reading::address_at, dc_changes::specs::Reading::flat_at))]
 fn entry_at<A: Allocator + Copy>(
     alloc: A,
@@ -87,7 +87,7 @@ fn entry_at<A: Allocator + Copy>(
     Ok((meter, Meter::with_parts(line, address, flat, parts), rest))
 }
 
-/// A reading.
+/// Decodes a reading.
 #[tactic(auto, unfolding(dc_changes::specs::Reading::reading_at, dc_changes::specs::Reading::flat_at))]
 fn reading_at<A: Allocator + Copy>(
     alloc: A,
@@ -141,7 +141,7 @@ fn each_meter<A: Allocator + Copy>(
     Ok((meters, rest))
 }
 
-/// How many meters there are, and the meters.
+/// Decodes the number of meters, and the meters.
 fn meters_at<A: Allocator + Copy>(
     alloc: A,
     bytes: &[u8],
@@ -169,7 +169,8 @@ fn is_later<A: Allocator + Copy>(readings: &ReadingList<A>, serial: u64) -> bool
     }
 }
 
-/// Whether a serial is the next of a state's readings: between the mark and the next serial, after all of these.
+/// Whether a serial is the next of a state's readings: between the mark and the next serial, after
+/// all of these.
 fn is_next_serial<A: Allocator + Copy>(
     readings: &ReadingList<A>,
     confirmed: u64,
@@ -209,7 +210,7 @@ fn each_reading<A: Allocator + Copy>(
     Ok((readings, rest))
 }
 
-/// How many readings there are, and the readings.
+/// Decodes the number of readings, and the readings.
 fn readings_at<A: Allocator + Copy>(
     alloc: A,
     confirmed: u64,
@@ -244,9 +245,11 @@ fn spelled_size(bytes: &[u8], last_line: &[u8], budget: u32) -> Option<u32>
 }
 
 impl<A: Allocator + Copy> House<A> {
-    /// The house that the bytes spell within a budget: what [`House::encode`] writes, and nothing else.
+    /// Decodes the house that the bytes spell within a budget: what [`House::encode`] writes, and
+    /// nothing else.
     pub fn decode(alloc: A, bytes: &[u8], budget: u32) -> Result<House<A>, DecodeFault>
-        // What is read is spelled so, and no state within the budget that is spelled so is refused.
+        // The result is what the bytes spell, and no bytes that spell a state within the budget are
+        // rejected.
         ensures found { IfOk result (λ h.
             SpellsState budget bytes.now h.state × (h.budget ≡ budget)) }
         ensures bad { IsErrOf result DecodeFault.Bad → (s : State) → SpellsState budget bytes.now s

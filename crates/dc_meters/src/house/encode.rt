@@ -1,4 +1,4 @@
-//! A house as bytes.
+//! Encodes a house as bytes.
 
 ghost use Rattle.std.specs.Prelude.{◌≡◌, ◌*◌, ◌≤◌, ◌<◌, ◌^◌, length, OnOk, OnErr};
 ghost use Rattle.std.specs.List.{flat_map};
@@ -17,15 +17,15 @@ use std::alloc::Allocator;
 use std::collections::{BTreeMap, VecDeque};
 
 impl<A: Allocator + Copy> House<A> {
-    /// Writes the state: numbers, the last line, the meters by identity, the readings by serial. A failed put ends
-    /// it. No memory is taken.
+    /// Writes the state: numbers, the last line, the meters by identity, the readings by serial. It
+    /// stops at the first failed put, and uses no memory.
     pub fn encode<S: Sink>(&self, sink: &mut S) -> Result<(), IoFault>
         ensures ok { OnOk result (IsWritten S.Sink sink.old sink.new
             (state_bytes self.now.state)) }
         ensures err { OnErr result (IsStopped S.Sink sink.old
             sink.new (state_bytes self.now.state)) }
     {
-        let _ = self.size(); // for what it says: more meters or readings than a size can count, there are not
+        let _ = self.size(); // its clause bounds the numbers of meters and readings
         self.put_head(sink)?;
         put_meters(sink, self.meters.rows())?;
         put_readings(sink, self.readings.all())?;

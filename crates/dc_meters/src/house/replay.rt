@@ -1,4 +1,4 @@
-//! Changes that are read and applied one by one.
+//! Decodes and applies changes one by one.
 
 ghost use Rattle.std.specs.Prelude.{◌≡◌, ℕ, List, OnOk, OnErr, IsErrOf};
 ghost use Rattle.dc_changes.specs.declared.change.Change.{Change};
@@ -14,9 +14,9 @@ use dc_changes::{Change, DecodeFault, change_at};
 use std::alloc::Allocator;
 
 impl<A: Allocator + Copy> House<A> {
-    /// Applies the changes that the bytes spell, each as it is read. It returns `Bad` at the first bytes that spell no
-    /// accepted change, and `NoMemory` at a change that is accepted and finds no memory. All changes before that one
-    /// stay applied.
+    /// Applies the changes that the bytes spell, each as it is decoded. It returns `Bad` at the
+    /// first bytes that spell no accepted change, and `NoMemory` at an accepted change for which
+    /// memory runs out. The changes before stay applied.
     pub fn replay(&mut self, bytes: &[u8]) -> Result<(), DecodeFault>
         ensures ok { OnOk result ((changes : List Change) × SpellsChanges bytes.now changes
             × AcceptsAll self.old.budget self.old.state changes
@@ -39,7 +39,7 @@ impl<A: Allocator + Copy> House<A> {
         Ok(())
     }
 
-    /// Applies a change that is accepted.
+    /// Applies an accepted change.
     fn accept(&mut self, change: &Change<'_>) -> Result<(), DecodeFault>
         requires { IsChange change.now }
         ensures accepted { OnOk result (Accepts self.old.budget change.now self.old.state) }

@@ -8,7 +8,7 @@ use Rattle.dc_meters.specs.Places.{place_cmp}
 use Rattle.dc_report.proofs.LastReadings.{entry_at}
 use Rattle.dc_report.proofs.last.due_readings.Given as goal
 
--- a place has the last of the entries that stand at it: of those that are left, or else of those so far
+-- a place has its last entry: among those left, or otherwise among those so far
 abbrev pub invariant-loop-meter : goal.invariant-loop-meter
 invariant-loop-meter g l = record {
   ordered : IsStrictlySortedBy place_cmp (keys l.rows);
