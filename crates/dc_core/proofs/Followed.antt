@@ -102,7 +102,7 @@ turn_start line meter (Ok done) budget core keeps may =
 
 -- ---- hear
 
--- what stands where an answer is none of the first faults
+-- the answer if none of the first faults applies
 asks_split : (a b c : Bool) (f g h : HearFault) (wanted rest : Result LineHeard HearFault) → (wanted ≡ Err f → ⊥) → (wanted ≡ Err g → ⊥) → wanted ≡ (if not a then Err f else if b then Err g else rest) → (a ≡ true) × (wanted ≡ rest)
 asks_split false b c f g h wanted rest x y e = absurd (x e)
 asks_split true true c f g h wanted rest x y e = absurd (y e)

@@ -164,7 +164,7 @@ told_turn : (budget : ℕ) (state : State) (before : List Turn) (event : Event) 
 told_turn budget state before (offices text) (replied reply) chain = told_by budget state before text reply chain
 told_turn budget state before event answer chain = tt
 
--- ---- a front with all that is promised by number is kept
+-- ---- a prefix with all that is promised by number is kept
 
 -- a prefix of a list has each shorter one
 longer_prefix : (xs ys : List Change) (count : ℕ) → length xs ≤ count → IsPrefix xs (take count (xs ++ ys))

@@ -1,4 +1,4 @@
--- What can happen to a concentrator, and what it can answer (this product).
+-- The events of a concentrator, and their possible answers (this product).
 use Rattle.std.specs.Prelude.{ℕ, List, Option, Result}
 use Rattle.dc_address.specs.declared.identity.Identity.{Identity}
 use Rattle.dc_changes.specs.declared.change.Change.{Change}
@@ -15,9 +15,10 @@ pub data Event : Type 0 where
   commits : Event
   offices : List ℕ → Event
 
--- What becomes of a line of the office: the text is no line; what waited couldn't be committed; the last command came
--- once more, under its number; it is refused; this is shown; memory is refused; the command is done, which is the last
--- number's; or it is applied and waits, as its commit failed.
+-- The result of a billing office's line: the text is no line; the pending changes couldn't be
+-- committed; it repeats the last command, under its number; it is refused; this is shown; memory
+-- ran out; the command is done, and its number is the last one; or it is applied and pending, as
+-- its commit failed.
 pub data Reply : Type 0 where
   unread : Reply
   unstored : CommitFault → Reply

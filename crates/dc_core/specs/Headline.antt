@@ -1,5 +1,5 @@
--- THE HEADLINE, in two halves: how a concentrator was stopped, and what it holds when it is opened again (this
--- product). The theorem is the clause `the_headline` of `Concentrator::open`.
+-- THE HEADLINE, in two halves: how a concentrator crashed, and what it holds when it is opened
+-- again (this product). The theorem is the clause `the_headline` of `Concentrator::open`.
 use Rattle.std.specs.Prelude.{◌≡◌, ℕ, Some, Ok, List, [], ◌∷◌, ◌++◌, Contains}
 use Rattle.dc_sectors.specs.declared.device.Disk.{Ghosts}
 use Rattle.dc_sectors.specs.Disk.{LeavesOnly, settled}
@@ -17,7 +17,7 @@ use Rattle.dc_core.specs.Images.{Machine, IsAt}
 use Rattle.dc_core.specs.Run.{DidAll}
 use Rattle.dc_core.specs.Told.{Tells}
 
--- ---- how it was stopped
+-- ---- how it crashed
 
 -- The machine was just opened with this state: what its memory holds, and, where the answers of its disk until now kept
 -- the disk model, what its disk holds.
@@ -31,8 +31,8 @@ abbrev pub Does : {D : Type 0} → Ghosts D → D → ℕ → Core → List Turn
 Does g origin = DidAll (g.keeps origin) g.sectors g.failures g.reads g.choices g.moment
     g.images_since
 
--- The power went between these two states of a disk, before or within a call or after it. This disk has what was
--- left, and nothing else.
+-- A power cut came between these two states of a disk, before, within or after a call. This disk
+-- has what was left, and nothing else.
 pub record WasLeft {D : Type 0} (g : Ghosts D) (from to disk : D) : Type 0 where
   pub image : g.images_since to (g.moment from) (g.reads disk)
   pub is_settled : g.choices disk ≡ settled (g.reads disk)
@@ -44,10 +44,10 @@ IsOpening g from to =
     LeavesOnly g.moment g.images_since from to
     (StandsForOne (half_len_of (g.sectors from)) (g.choices from))
 
--- STOPPED before or within any disk call of any run of line answers, office lines and commits: a concentrator was
--- opened with the state from a disk whose answers until then kept the disk model, and has done the turns `done`; at
--- some moment of the turns `more` after them the power went. It may have gone again, any number of times, while what
--- was left was opened.
+-- CRASHED before or within any disk call of any run of line answers, office lines and commits: a
+-- concentrator was opened with the state from a disk whose answers until then kept the disk model,
+-- and has done the turns `done`; a power cut came at some moment of the turns `more` after them.
+-- More power cuts, any number of them, may have come while the remaining image was opened.
 pub data WasStopped {D : Type 0} (g : Ghosts D) (state : State) (done more : List Turn) : D
     → Type 0 where
   in_a_run : (first now last : Machine D) (disk : D) → IsOpened g state first
@@ -81,14 +81,15 @@ IsPromised (offices text) (replied (shown bytes)) behind = Unit {0}
 IsPromised commits (committed (Ok count)) behind = Unit {0}
 IsPromised event answer behind = ⊥
 
--- what a turn told the office is so of this state: the last command's number, readings, meters
+-- what a turn reported to the office holds of this state: the last command's number, readings,
+-- meters
 abbrev pub HasTold : Event → Answer → State → Type 0
 HasTold (offices text) (replied reply) state = Tells text reply state
 HasTold event answer state = Unit {0}
 
--- HELD is exactly the register and readings of a prefix of the accepted telegrams and commands, and that prefix
--- includes all that the turns which were done have promised. What these told the office is so of the state after
--- all that was accepted until then.
+-- HELD is exactly the register and readings of a prefix of the accepted telegrams and commands, and
+-- that prefix includes all that the completed turns have promised. What these reported to the
+-- office holds of the state after all that was accepted until then.
 pub record IsKept (state : State) (done more : List Turn) (held : State) : Type 0 where
   pub prefix : List Change
   pub held_is : held ≡ after state prefix

@@ -1,5 +1,5 @@
--- Why a telegram that was asked for isn't taken: for want of room, and never because the register doesn't know it
--- (this product).
+-- Why a telegram that was requested isn't taken: because the register has no room, and never
+-- because it doesn't know the meter (this product).
 use Rattle.std.specs.Prelude.{◌≡◌, ◌≢◌, ℕ, ◌≤◌, Some, Err, IsSome, List, length}
 use Rattle.dc_records.specs.Telegram.{Parsed}
 use Rattle.dc_readout.specs.Summary.{Summary, new, asked_by, verdict_by}

@@ -1,4 +1,5 @@
--- One life after another: what a life leaves may be opened, and is then what it stood for (this product).
+-- One life after another: the image that a life leaves can be opened, and reads as a state that it
+-- stood for (this product).
 use Rattle.std.specs.Prelude.{◌≡◌, ℕ, ◌≤◌, List, length, take}
 use Rattle.dc_sectors.specs.Disk.{Image, settled}
 use Rattle.dc_changes.specs.State.{State}
@@ -22,7 +23,7 @@ pub record MayFollow (half_len : ℕ) (state : State) (promised : ℕ) (changes 
   pub premise : EachStands half_len (settled image)
   pub found : (found : State) → Reads half_len found image → IsFront state promised changes found
 
--- AN IMAGE THAT A LIFE LEAVES MAY BE OPENED, and no other state than those for which it may stand is found.
+-- AN IMAGE THAT A LIFE LEAVES CAN BE OPENED, and it reads only as a state for which it may stand.
 abbrev pub LivesFollow : Type 0
 LivesFollow = (sectors : ℕ) (state : State) (promised : ℕ) (changes : List Change) (image : Image)
     → StandsForPromised (half_len_of sectors) state promised changes image

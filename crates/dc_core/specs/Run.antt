@@ -1,4 +1,4 @@
--- Events in code, and what a run of them leaves (this product).
+-- Events in code, and the result of a run of them (this product).
 use Rattle.std.specs.Prelude.{◌≡◌, ◌⊎◌, ℕ, ◌≤◌, ◌+◌, ◌-◌, ◌^◌, Option, None, Some, Err, List, []}
 use Rattle.std.specs.Prelude.{◌∷◌, ◌++◌, map}
 use Rattle.dc_io.specs.Failures.{HasRisen}
@@ -38,7 +38,7 @@ fault_in (replied (unstored fault)) = Some fault
 fault_in (replied (uncommitted change fault)) = Some fault
 fault_in answer = None
 
--- there is no next sequence, or no next generation
+-- the sequence or the generation has no next value
 abbrev pub IsWornOut : {D : Type 0} → Kept D → Type 0
 IsWornOut store = (2 ^ 64 - 1 ≤ store.last + 1) ⊎ (store.root.generation ≡ 2 ^ 64 - 1)
 

@@ -1,5 +1,6 @@
--- What each event does to a concentrator, and what it answers (this product). Each answer is a function of the state,
--- but where memory is refused, the disk fails, or the store's numbers are at their end.
+-- The effect of each event on a concentrator, and its answer (this product). Each answer is a
+-- function of the state, unless memory runs out, the disk fails, or a counter of the store is
+-- exhausted.
 use Rattle.std.specs.Prelude.{◌≡◌, ◌≢◌, ◌⊎◌, ℕ, Bool, true, false, not, ◌||◌, ◌==◌, Option, None}
 use Rattle.std.specs.Prelude.{Some, is_some, option_map, Result, Ok, Err, List, [], ◌∷◌, ◌++◌}
 use Rattle.std.specs.Prelude.{length, if◌then◌else◌}
@@ -82,7 +83,7 @@ abbrev pub unless_refused : Option TakeFault → LineHeard → Result LineHeard 
 unless_refused None accepted = Ok accepted
 unless_refused (Some fault) accepted = Err (hear_fault fault)
 
--- a telegram is accepted unless something stands against its change
+-- a telegram is accepted unless a fault applies to its change
 abbrev pub take_answer : ℕ → Core → Change → LineHeard → Result LineHeard HearFault
 take_answer budget core change accepted =
     unless_refused (refuses budget (length core.pending) change (present core)) accepted
@@ -101,7 +102,7 @@ answer_on budget core moment bytes (Some s) =
     if is_some (asked_by s) then verdict_answer budget core moment (verdict_by s bytes)
     else Err Idle
 
--- what is answered where memory isn't refused
+-- the answer if memory is available
 abbrev pub hear_answer : ℕ → Core → ℕ → ℕ → List ℕ → Result LineHeard HearFault
 hear_answer budget core line moment bytes =
     if not (is_line line) then Err NoLine
@@ -141,13 +142,14 @@ after_hear core line moment bytes (Err fault) = core
 abbrev pub IsAccepted : Result LineHeard HearFault → Type 0
 IsAccepted answer = (part : ℕ) × (more : Bool) × (answer ≡ Ok (Accepted part more))
 
--- out of memory stands in place of an accepted telegram alone
+-- out of memory replaces only the answer of an accepted telegram
 abbrev pub MayHear : Result LineHeard HearFault → Result LineHeard HearFault → Type 0
 MayHear right answer = (answer ≡ right) ⊎ ((answer ≡ Err NoMemory) × IsAccepted right)
 
 -- ---- the pending changes are committed
 
--- All that waits is committed, and each line settles its telegram; where nothing waits, nothing changes.
+-- All pending changes are committed, and each line acknowledges its telegram; if nothing is
+-- pending, nothing changes.
 abbrev pub settled_core : Core → List Change → Core
 settled_core core [] = core
 settled_core core (change ∷ changes) =
@@ -159,7 +161,8 @@ after_commit core (Err Device) = record core { stopped = true }
 after_commit core (Err Worn) = core
 after_commit core (Err CommitStopped) = core
 
--- Where nothing waits, the answer is 0. Else the disk may fail or be worn, and what has stopped stays stopped.
+-- If nothing is pending, the answer is 0. Otherwise the disk may fail or a counter be exhausted,
+-- and a stopped concentrator stays stopped.
 abbrev pub MayCommit : Core → Result ℕ CommitFault → Type 0
 MayCommit core (Ok count) = (count ≡ length core.pending)
     × ((core.pending ≡ []) ⊎ (core.stopped ≡ false))
@@ -169,11 +172,11 @@ MayCommit core (Err CommitStopped) = (core.pending ≢ []) × (core.stopped ≡ 
 
 -- ---- a line of the office comes
 
--- all that waits is committed before the line is judged
+-- all pending changes are committed before the line is judged
 abbrev pub settled : Core → Core
 settled core = settled_core core core.pending
 
--- what a line is judged on
+-- the state on which a line is judged
 abbrev pub held : ℕ → Core → Held
 held budget core = record { state = core.committed; budget = budget }
 
@@ -190,14 +193,14 @@ abbrev pub lines_after : Option Identity → List (Option Summary) → List (Opt
 lines_after None lines = lines
 lines_after (Some meter) lines = lines_without meter lines
 
--- A command is all that waits, and nobody reads a meter that it removes.
+-- The command is the only pending change, and no session reads a meter that it removes.
 abbrev pub ordered : Change → Core → Core
 ordered change core = record core {
   pending = change ∷ [];
   lines = lines_after (removed_by change) core.lines;
 }
 
--- where nothing waits
+-- if nothing is pending
 abbrev pub after_answer : Core → Reply → Core
 after_answer core (obeyed number change) = settled (ordered change core)
 after_answer core (uncommitted change fault) = after_commit (ordered change core) (Err fault)
@@ -222,8 +225,8 @@ IsUnstored core Device = (core.pending ≢ []) × (core.stopped ≡ false)
 IsUnstored core Worn = (core.pending ≢ []) × (core.stopped ≡ false)
 IsUnstored core CommitStopped = core.stopped ≡ true
 
--- By the verdict on what is committed. A command is done under its number, which is the last one then. Memory is
--- wanted for a new command, and for the table of a REPORT.
+-- By the verdict on what is committed. A command is done under its number, which is then the last
+-- one. A new command and the table of a REPORT need memory.
 abbrev pub MayAnswer : ℕ → Core → OfficeLine → Reply → Type 0
 MayAnswer budget core line unread = ⊥
 MayAnswer budget core line (unstored fault) = ⊥
@@ -240,7 +243,7 @@ MayAnswer budget core line (obeyed number change) =
 MayAnswer budget core line (uncommitted change fault) =
     (verdict_of (held budget core) line ≡ Do change) × IsUnstored (ordered change core) fault
 
--- the line is judged once all that waited is committed
+-- the line is judged once all pending changes are committed
 pub record IsJudged (budget : ℕ) (core : Core) (text : List ℕ) (reply : Reply) : Type 0 where
   pub line : OfficeLine
   pub spells : Spells text line

@@ -35,7 +35,7 @@ abbrev pub asked_text : Option (List ℕ) → List ℕ
 asked_text (Some request) = codes "SEND " ++ upper_hex request ++ codes "\n"
 asked_text None = codes "NONE\n"
 
--- why a session ended; a telegram's own fault stands after it
+-- why a session ended; a telegram's own fault follows it
 abbrev pub failed_text : Why → List ℕ
 failed_text (Content fault) = codes "FAILED "
     ++ fault_text (why_number (Content fault)) (why_name (Content fault)) ++ codes " "
@@ -68,7 +68,7 @@ abbrev pub committed_text : Result ℕ CommitFault → List ℕ
 committed_text (Ok count) = codes "COMMITTED" ++ number_word count ++ codes "\n"
 committed_text (Err fault) = refused_text (commit_number fault) (commit_name fault)
 
--- the office isn't told which fault of a commit it was
+-- the office's reply doesn't name the fault of a commit
 abbrev pub replied_text : Reply → List ℕ
 replied_text unread = refusal_line Syntax
 replied_text (unstored fault) = refusal_line Store

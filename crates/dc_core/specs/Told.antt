@@ -1,4 +1,4 @@
--- What was answered to the office is kept by every state that may be found later (this product).
+-- What was reported to the office holds in every state that may be found later (this product).
 use Rattle.std.specs.Prelude.{◌≡◌, ℕ, List, [], ◌∷◌, ◌++◌}
 use Rattle.dc_changes.specs.State.{State}
 use Rattle.dc_changes.specs.declared.change.Change.{Change}
@@ -11,8 +11,8 @@ use Rattle.dc_core.specs.Transcript.{Turn, leads, IsChain, accepted_in}
 use Rattle.dc_core.specs.Promised.{promised_in}
 use Rattle.dc_core.specs.Lives.{IsFront}
 
--- what a reply says of a state: `OK n`, that n is the last command's number; readings, meters or due-date values,
--- that it has those
+-- what a reply states of a state: `OK n`, that n is the last command's number; readings, meters or
+-- due-date values, that the state has those
 abbrev pub Tells : List ℕ → Reply → State → Type 0
 Tells text (repeated number) s = s.last_number ≡ number
 Tells text (obeyed number change) s = s.last_number ≡ number
@@ -33,9 +33,10 @@ IfTelling (obeyed number change) P = P
 IfTelling (shown bytes) P = P
 IfTelling reply P = Unit {0}
 
--- WHAT WAS ANSWERED TO THE OFFICE IS KEPT, in every chain of steps from a concentrator that was just opened: whatever
--- state may be found after it, or after a stop within the next event, which may accept more, has every command
--- acknowledged and every reading shown, and then what was accepted since.
+-- WHAT WAS REPORTED TO THE OFFICE IS KEPT, in every chain of steps from a newly opened
+-- concentrator: any state that may be found after it, or after a crash within the next event, which
+-- may accept more, has every command acknowledged and every reading shown, and then what was
+-- accepted since.
 abbrev pub ToldIsKept : Type 0
 ToldIsKept = (budget : ℕ) (state : State) (before : List Turn) (text : List ℕ) (reply : Reply)
     (later : List Turn) (more : List Change) (found : State)

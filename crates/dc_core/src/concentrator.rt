@@ -60,10 +60,11 @@ impl<D: Disk + Drop, A: Allocator + Copy> Model for Concentrator<D, A> {
 }
 
 impl<D: Disk + Drop, A: Allocator + Copy> Concentrator<D, A> {
-    /// Opens the image, as [`Store::open`] does. Nothing waits then, and nobody is on a line.
+    /// Opens the image, as [`Store::open`] does. Then nothing is pending, and no line has a
+    /// session.
     ///
     /// # Errors
-    /// The first that stands in the order of the steps: [`OpenFault`]. The disk comes back.
+    /// The first in the order of the steps: [`OpenFault`]. The disk is returned.
     pub fn open(alloc: A, disk: D) -> Result<Concentrator<D, A>, (OpenFault, D)>
         // THE HEADLINE. Stopped before or within any disk call of any run of line answers, office lines and
         // commits, and opened again, the concentrator holds exactly the register and readings of a prefix of the
@@ -140,7 +141,7 @@ impl<D: Disk + Drop, A: Allocator + Copy> Concentrator<D, A> {
     /// Begins the readout of a meter on its line, 1 to 8.
     ///
     /// # Errors
-    /// The first that stands, in the order `NoLine`, `Stopped`, `Unknown`, `Busy`; nothing has changed.
+    /// The first of `NoLine`, `Stopped`, `Unknown`, `Busy` that applies; nothing has changed.
     pub fn start(&mut self, line: u8, meter: &Identity) -> Result<(), StartFault>
         ensures may { (origin : D) (core : Core)
             → IsAt (D.keeps origin) D.sectors D.reads D.choices self.old core
@@ -169,9 +170,9 @@ impl<D: Disk + Drop, A: Allocator + Copy> Concentrator<D, A> {
         Ok(())
     }
 
-    /// The request that is asked on a line. None where there is no such line, no session on it, where its telegram
-    /// waits for a commit, and where the disk has stopped the concentrator. A selection is the longest request, of 17
-    /// bytes.
+    /// The request to send on a line. `None` if the line doesn't exist, has no session, has a
+    /// telegram that is pending, or if the disk has stopped the concentrator. A selection is the
+    /// longest request, of 17 bytes.
     pub fn ask(&self, line: u8) -> Option<FrameBuf>
         ensures may { (origin : D) (core : Core)
             → IsAt (D.keeps origin) D.sectors D.reads D.choices self.now core
@@ -185,15 +186,16 @@ impl<D: Disk + Drop, A: Allocator + Copy> Concentrator<D, A> {
         session.ask()
     }
 
-    /// The register, with what is pending.
+    /// The register, including the pending changes.
     pub fn house(&self) -> &House<A>
         ensures { result.now ≡ self.now.house }
     {
         &self.house
     }
 
-    /// Gives the disk back, and writes nothing: the pending changes are given up. Unless the disk has failed, each
-    /// image that it may leave stands for what is committed, and so that is what opening it again gives.
+    /// Returns the disk, and writes nothing: the pending changes are dropped. Unless the disk has
+    /// failed, each image that it may leave stands for what is committed, and so that is what
+    /// opening it again returns.
     pub fn close(self) -> D
         ensures disk { result ≡ self.store.disk }
         ensures holds { (origin : D) → D.keeps origin → (core : Core)

@@ -8,17 +8,17 @@ ghost use Rattle.dc_core.specs.Fault.{commit_number, commit_name, hear_fault};
 use dc_pending::TakeFault;
 use thiserror::Error;
 
-/// Why no session was started. They are looked at in the order NoLine, Stopped, Unknown, Busy.
+/// Why no session was started: the first of NoLine, Stopped, Unknown, Busy that applies.
 #[derive(Clone, Copy, Debug, PartialEq, Eq, Error)]
 #[error("{} {}", self.number(), self.name())]
 pub enum StartFault {
-    /// There is no line of that number.
+    /// The line doesn't exist.
     NoLine,
     /// The meter isn't registered on that line.
     Unknown,
-    /// A session is on the line.
+    /// The line has a session.
     Busy,
-    /// A failure of the disk has stopped the concentrator, until it is opened again.
+    /// A failure of the disk has stopped the concentrator; it must be opened again.
     Stopped,
 }
 
@@ -48,22 +48,22 @@ impl StartFault {
     }
 }
 
-/// Why an answer wasn't taken; the request still waits. They are looked at in the order NoLine, Stopped, Idle, and for
-/// a new telegram then PendingFull, Full, NoMemory.
+/// Why an answer wasn't taken: the first of NoLine, Stopped, Idle, and for a new telegram then
+/// PendingFull, Full, NoMemory that applies. The request can be answered again.
 #[derive(Clone, Copy, Debug, PartialEq, Eq, Error)]
 #[error("{} {}", self.number(), self.name())]
 pub enum HearFault {
-    /// There is no line of that number.
+    /// The line doesn't exist.
     NoLine,
-    /// Nothing was asked on the line.
+    /// The line has no request out.
     Idle,
     /// The register has no room for the telegram.
     Full,
-    /// Memory was refused.
+    /// Out of memory.
     NoMemory,
-    /// As many changes as may wait for a commit do.
+    /// The maximum number of changes is pending.
     PendingFull,
-    /// A failure of the disk has stopped the concentrator, until it is opened again.
+    /// A failure of the disk has stopped the concentrator; it must be opened again.
     Stopped,
 }
 
@@ -111,15 +111,15 @@ impl From<TakeFault> for HearFault {
     }
 }
 
-/// Why a commit answers no number; the changes stay pending.
+/// Why a commit failed; the changes stay pending.
 #[derive(Clone, Copy, Debug, PartialEq, Eq, Error)]
 #[error("{} {}", self.number(), self.name())]
 pub enum CommitFault {
-    /// The disk failed, and has counted the failure. The concentrator is stopped from then on.
+    /// The disk failed, and counted the failure. The concentrator is stopped from then on.
     Device,
-    /// There is no next sequence, or no next generation; nothing was written.
+    /// The sequence or the generation is exhausted; nothing was written.
     Worn,
-    /// A failure of the disk has stopped the concentrator, until it is opened again.
+    /// A failure of the disk has stopped the concentrator; it must be opened again.
     Stopped,
 }
 
@@ -147,7 +147,7 @@ impl CommitFault {
     }
 }
 
-/// The writer failed, and has counted the failure.
+/// The writer failed, and counted the failure.
 #[derive(Clone, Copy, Debug, PartialEq, Eq, Error)]
 #[error("writing failed")]
 pub struct WriteFault;

@@ -1,22 +1,24 @@
 //! The data concentrator of a house: eight bus lines, a register on a disk, and one commit for the pending changes
 //! (this product; the frame count bit is that of EN 13757-2).
 //!
-//! A meter goes on to its next telegram when the frame count bit of the request is toggled, and can't go back. So a
-//! [`Concentrator`] asks for the next telegram only after the last one is on the disk: what is heard waits, a
-//! [`Concentrator::commit`] writes all that waits with one sync, and only then do its lines go on.
+//! A meter discards a telegram once the frame count bit of the request is toggled. So a
+//! [`Concentrator`] requests the next telegram only after the last one is on the disk: a received
+//! telegram is pending, a [`Concentrator::commit`] writes all pending changes with one sync, and
+//! only then do its lines go on.
 //!
-//! The billing office is answered by what is on the disk: [`Concentrator::office`] commits the pending changes before
-//! it judges a line, and a command before it acknowledges it.
+//! The billing office is answered from what is on the disk: [`Concentrator::office`] commits the
+//! pending changes before it judges a line, and a command before it acknowledges it.
 //!
-//! Proved: each call is a step of the definition in `specs/Step.antt`, in each state that the concentrator may be in.
-//! Stopped before or within any call of the disk, what is opened again is the register after a prefix of what was
-//! accepted, which has every telegram after which another request was asked on its line, every command acknowledged and
-//! every reading shown to the office, and all that was accepted before a commit that answered a number
-//! (in one clause: [`Concentrator::open`], `the_headline`; [`what_is_promised_is_committed`],
+//! Proved: each call is a step of the definition in `specs/Step.antt`, in each state that the
+//! concentrator may be in. After a crash before or within any call of the disk, opening returns the
+//! register after a prefix of what was accepted, which has every telegram after which another
+//! request was sent on its line, every command acknowledged and every reading shown to the office,
+//! and all that was accepted before a commit that returned a number (in one clause:
+//! [`Concentrator::open`], `the_headline`; [`what_is_promised_is_committed`],
 //! [`what_the_office_is_told_is_kept`], [`Concentrator::run`]).
 //!
-//! Only [`Concentrator::open`] takes memory, [`Concentrator::hear`] for a new telegram, and [`Concentrator::office`]
-//! for a new command.
+//! Only [`Concentrator::open`] uses memory, [`Concentrator::hear`] for a new telegram, and
+//! [`Concentrator::office`] for a new command.
 #![tactic(auto)]
 
 mod concentrator;

@@ -1,15 +1,15 @@
-//! What an answer on a line was, as the concentrator tells it.
+//! The result of an answer on a line.
 
 use dc_readout::Why;
 
-/// What an answer on a line was.
+/// The result of an answer on a line.
 #[derive(Clone, Copy, Debug, PartialEq, Eq)]
 pub enum LineHeard {
-    /// It failed, and the same request goes out once more.
+    /// It was no valid answer, and the same request is sent again.
     Again,
-    /// It was the acknowledgement, and the next request goes out.
+    /// It was the acknowledgement, and the next request follows.
     Ready,
-    /// It was the readout's next telegram, which waits for a commit; parts count from 1.
+    /// It was the readout's next telegram, which is pending until a commit; parts count from 1.
     Accepted { part: u8, more: bool },
     /// It ended the session.
     Failed(Why),

@@ -2,7 +2,7 @@
 use Rattle.std.specs.Prelude.{◌≡◌, ℕ, ◌-◌, ◌≤◌, List, ◌++◌, length, take, drop, replicate}
 use Rattle.dc_pages.specs.Group.{page_payload, head_len}
 
--- this many bytes are used after the head, and those that follow are zero
+-- this many bytes after the head are used, and those after them are zero
 pub record IsBuffer (used : ℕ) (page : List ℕ) : Type 0 where
   pub small : used ≤ page_payload
   pub long : length page ≡ 512

@@ -24,7 +24,7 @@ change_kind = 0x50
 abbrev pub commit_kind : ℕ
 commit_kind = 0x43
 
--- what the head of a page or commit sector says
+-- the fields of the head of a page or commit sector
 pub record IsHead (kind version used index session sequence : ℕ) (bytes : List ℕ) : Type 0 where
   pub kind_is : slice_index bytes 0 ≡ kind
   pub version_is : slice_index bytes 1 ≡ version
@@ -33,7 +33,7 @@ pub record IsHead (kind version used index session sequence : ℕ) (bytes : List
   pub session_is : field 8 8 bytes ≡ session
   pub sequence_is : field 8 16 bytes ≡ sequence
 
--- a readable page of that group with this content; what follows its used bytes isn't looked at
+-- a readable page of that group with this content; the bytes after its used ones are ignored
 pub record IsPage (site : Site) (session index : ℕ) (content : List ℕ)
     (sector : Sector) : Type 0 where
   pub bytes : List ℕ
@@ -47,7 +47,7 @@ pub record IsCommit (site : Site) (session pages : ℕ) (sector : Sector) : Type
   pub readable : sector ≡ Bytes bytes
   pub head : IsHead commit_kind site.version 0 pages session site.sequence bytes
 
--- the i-th piece of a payload, as a page has room for; the last may be shorter
+-- the i-th piece of a payload, of a page's size; the last may be shorter
 abbrev pub piece : ℕ → List ℕ → List ℕ
 piece i payload = take page_payload (drop (page_payload * i) payload)
 
@@ -60,7 +60,7 @@ pub record IsGroup (site : Site) (session : ℕ) (payload : List ℕ) (pages : �
   pub page : (i : ℕ) → i < pages → IsPage site session i (piece i payload) (image (site.first + i))
   pub commit : IsCommit site session pages (image (site.first + pages))
 
--- that group is complete, of some session
+-- that group is complete, in some session
 pub record IsComplete (site : Site) (image : Image) : Type 0 where
   pub session : ℕ
   pub payload : List ℕ

@@ -1,4 +1,4 @@
--- How a sector fits after the pages that were read (this product's image format).
+-- Whether a sector continues the pages that were read (this product's image format).
 use Rattle.std.specs.Prelude.{◌≡◌, ◌⊎◌, ◌<◌, ◌≤◌, ℕ, Bool, true, false, List, length, take, drop}
 use Rattle.std.specs.Prelude.{Result, Ok, Err}
 use Rattle.dc_sectors.specs.declared.sector.Sector.TheVariants.{Bytes}
@@ -22,7 +22,7 @@ Judged site session pages bytes Neither =
     → length content ≤ page_payload → IsPage site s pages content (Bytes bytes) → ⊥)
     × (0 < pages → IsCommit site session pages (Bytes bytes) → ⊥)
 
--- What one sector more makes of the pages of that session with that payload: more of them, or a whole
+-- One more sector after the pages of that session with that payload: one more page, a complete
 -- group, or the place where the group is cut off.
 abbrev pub IsStep : (site : Site) → Image → (session pages : ℕ) → List ℕ → Result Bool GroupFault
     → Type 0

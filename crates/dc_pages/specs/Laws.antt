@@ -1,5 +1,5 @@
--- What is promised of groups and images (this product's image format), each proved by the lemma that is
--- named beside it.
+-- The theorems about groups and images (this product's image format), each proved by the lemma that
+-- is named beside it.
 use Rattle.std.specs.Prelude.{◌≡◌, ◌≢◌, ◌⊎◌, ◌<◌, ℕ, ◌+◌, ◌≤◌, List}
 use Rattle.dc_sectors.specs.Disk.{Image}
 use Rattle.dc_pages.specs.Group.{IsGroup, IsComplete, Carries, IsPageKind, IsKnown, commit_kind}
@@ -7,8 +7,8 @@ use Rattle.dc_pages.specs.Reading.{IsCutAt}
 use Rattle.dc_pages.specs.Writing.{IsTorn, IsPartOf}
 use Rattle.dc_pages.specs.declared.site.Site.{Site}
 
--- Where no sector of its range carried the stamp before, a group is complete only as it was before, or with each
--- sector of the range as it was written (old_or_as_written).
+-- If no sector of its range carried the stamp before, a group is complete only as it was before, or
+-- with each sector of the range as it was written (old_or_as_written).
 abbrev pub CompleteAsWritten : Type 0
 CompleteAsWritten =
     (site : Site) (session : ℕ) (payload : List ℕ) (pages : ℕ) (old written image : Image)
@@ -29,13 +29,13 @@ PartIsIncomplete =
     → (session' : ℕ) (payload' : List ℕ) (pages' : ℕ) → IsGroup site session' payload' pages' image
     → IsGroup site session' payload' pages' old
 
--- Where a sector doesn't fit, none is complete (cut_incomplete).
+-- If a sector doesn't fit, no group is complete (cut_incomplete).
 abbrev pub CutIsIncomplete : Type 0
 CutIsIncomplete =
     (site : Site) (n : ℕ) (image : Image) → site.kind ≢ commit_kind → IsCutAt site n image
     → IsComplete site image → ⊥
 
--- At a place one sector is the first that doesn't fit (one_cut).
+-- At a place exactly one sector is the first that doesn't fit (one_cut).
 abbrev pub OneCut : Type 0
 OneCut =
     (site : Site) (n n' : ℕ) (image : Image) → site.kind ≢ commit_kind → IsCutAt site n image

@@ -1,4 +1,4 @@
--- How far a group stands, and where it is cut off (this product's image format).
+-- How much of a group is there, and where it is cut off (this product's image format).
 use Rattle.std.specs.Prelude.{◌≡◌, ◌⊎◌, ◌<◌, ℕ, ◌+◌, ◌-◌, ◌*◌, ◌≤◌, List, length}
 use Rattle.dc_sectors.specs.Disk.{Image}
 use Rattle.dc_pages.specs.Group.{IsPage, IsCommit, piece, page_payload}

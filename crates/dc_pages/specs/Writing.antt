@@ -36,7 +36,7 @@ pub record IsPageWritten (site : Site) (session index : ℕ) (content : List ℕ
   pub page : IsPage site session index content sector
   pub bytes_are : sector ≡ Bytes (page_bytes site session index content)
 
--- such a sector stands where old or written stands, or is unreadable
+-- such a sector reads as in `old` or as in `written`, or is unreadable
 abbrev pub TornAt : (first count : ℕ) → Image → Image → ℕ → Sector → Type 0
 TornAt first count old written k s =
     (s ≡ old k) ⊎ ((first ≤ k) × (k < first + count) × ((s ≡ Unreadable) ⊎ (s ≡ written k)))

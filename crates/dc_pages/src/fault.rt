@@ -9,12 +9,12 @@ use thiserror::Error;
 #[derive(Clone, Copy, Debug, PartialEq, Eq, Error)]
 #[error("{} {}", self.number(), self.name())]
 pub enum GroupFault {
-    /// No group is complete there. The first sector that doesn't fit; where the half ends first, the
-    /// number after its last one.
+    /// The group isn't complete. The value is the first sector that doesn't fit, or the number
+    /// after the half's last sector if the half ends first.
     Incomplete(u32),
-    /// The disk failed, and has counted the failure.
+    /// The disk failed, and counted the failure.
     Device,
-    /// Memory was refused.
+    /// Out of memory.
     NoMemory,
 }
 

@@ -14,13 +14,13 @@ pub const CHANGES: u8 = 0x50;
 /// The kind of a commit sector.
 pub(crate) const COMMIT: u8 = 0x43;
 
-/// The length of a head: the payload follows.
+/// Number of bytes of a head; the payload follows.
 pub(crate) const HEAD: usize = 24;
 
-/// The bytes of payload that one page has room for.
+/// Number of payload bytes of a page.
 pub const PAYLOAD: usize = 488;
 
-/// What the head of a page or commit sector says.
+/// The fields of the head of a page or commit sector.
 #[derive(Clone, Copy)]
 pub(crate) struct Head {
     pub(crate) kind: u8,
@@ -46,7 +46,7 @@ pub(crate) fn read_head(sector: &[u8; 512]) -> Head
     }
 }
 
-/// Writes the head, and leaves what follows.
+/// Writes the head, and leaves the bytes after it.
 pub(crate) fn write_head(sector: &mut [u8; 512], head: &Head)
     ensures { sector.new ≡ head_bytes head.now.kind head.now.version head.now.used head.now.index
         head.now.session head.now.sequence ++ drop head_len sector.old }

@@ -1,17 +1,18 @@
 //! Groups of stamped sectors: what is written together is read together, or not at all.
 //!
-//! This product's own format. A group is pages of 488 bytes of payload and a commit sector after them,
-//! all stamped with one session and one sequence. Whether a group is complete is decided by the stamps
-//! alone, so that one sync makes the whole group durable. A [`Site`] says which group is meant, and where
-//! it lies.
+//! This product's own format. A group is pages of 488 bytes of payload and a commit sector after
+//! them, all stamped with one session and one sequence. The stamps alone decide whether a group is
+//! complete, so that one sync makes the whole group durable. A [`Site`] names a group and its
+//! place.
 //!
-//! [`GroupWriter`] streams a payload into sectors through the buffer of one page. It takes no memory and
-//! doesn't sync. It says of every moment which sectors a stop may leave; and [`complete_as_written`]
-//! says of such an image that a group is complete there only as it was before, or with each of its sectors as written.
-//! [`GroupSink`] is that writer with its disk, as a sink that an encoder puts its pieces into.
+//! [`GroupWriter`] streams a payload into sectors through a buffer of one page. It uses no memory
+//! and doesn't sync. Its contracts state for every moment which sectors a crash may leave; and
+//! [`complete_as_written`] states of such an image that a group is complete there only as it was
+//! before, or with each of its sectors as written. [`GroupSink`] is that writer with its disk, as a
+//! sink for encoders.
 //!
-//! [`read_group`] answers the payload exactly where a group is complete, and names the first sector that
-//! doesn't fit where none is.
+//! [`read_group`] returns the payload exactly if a group is complete, and otherwise names the first
+//! sector that doesn't fit.
 #![tactic(auto)]
 
 mod fault;

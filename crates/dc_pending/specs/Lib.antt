@@ -1,8 +1,8 @@
 -- the definitions that contracts cite
 
--- the eight bus lines: nobody is on a line, or a session is
+-- the eight bus lines and their sessions
 pub mod Lines
--- what is kept of the changes that aren't committed yet
+-- the changes that aren't committed yet
 pub mod Waiting
 -- a telegram that is taken into the register and into the pending changes
 pub mod Taking

@@ -1,4 +1,4 @@
--- The eight bus lines: nobody is on a line, or a session is (this product).
+-- The eight bus lines and their sessions (this product).
 use Rattle.std.specs.Prelude.{ℕ, ◌-◌, Bool, true, false, Option, None, Some, List, map, replicate}
 use Rattle.std.specs.Prelude.{nat_le, ◌&&◌, get_or, if◌then◌else◌}
 use Rattle.std.proofs.Math.ListN.{set}
@@ -8,7 +8,7 @@ use Rattle.dc_readout.specs.declared.stage.Stage.{Stage}
 use Rattle.dc_readout.specs.declared.stage.Stage.TheVariants.{Pending}
 use Rattle.dc_readout.specs.Summary.{Summary, settled_by}
 
--- as many lines has a concentrator
+-- number of bus lines
 abbrev pub line_count : ℕ
 line_count = 8
 
@@ -19,15 +19,15 @@ is_line line = nat_le 1 line && nat_le line line_count
 abbrev pub no_sessions : List (Option Summary)
 no_sessions = replicate line_count None
 
--- who is on a line
+-- the session on a line
 abbrev pub on_line : ℕ → List (Option Summary) → Option Summary
 on_line line lines = get_or lines (line - 1) None
 
--- somebody else, or nobody, is on a line
+-- replaces the session on a line
 abbrev pub put_on : ℕ → Option Summary → List (Option Summary) → List (Option Summary)
 put_on line session lines = set lines (line - 1) session
 
--- A telegram that waits is settled; after the last one of a readout nobody is on the line.
+-- A pending telegram is acknowledged; after the last one of a readout the line has no session.
 abbrev pub settled_at : Stage → Summary → Option Summary
 settled_at (Pending true) s = Some (settled_by s)
 settled_at (Pending false) s = None
@@ -40,7 +40,7 @@ settled_on (Some s) = settled_at s.stage s
 abbrev pub settled_lines : List (Option Summary) → List (Option Summary)
 settled_lines lines = map settled_on lines
 
--- Nobody reads that meter any more.
+-- Ends the session of that meter.
 abbrev pub unless_of : Identity → Option Summary → Option Summary
 unless_of meter None = None
 unless_of meter (Some s) = if is_meter meter s.meter then None else Some s

@@ -17,14 +17,14 @@ use Rattle.dc_pending.specs.Waiting.{Waiting, most_waiting}
 abbrev pub change_of : ℕ → ℕ → Parsed → Change
 change_of moment part telegram = Telegram part moment (body_of telegram)
 
--- why a change isn't taken, where memory isn't refused
+-- why a change isn't taken, if memory is available
 abbrev pub refuses : ℕ → ℕ → Change → State → Option TakeFault
 refuses budget count change state =
     if nat_le most_waiting count then Some PendingFull
     else if is_some (refusal budget change state) then Some Full
     else None
 
--- The register accepts the change and has it, and its spelling is the last of those that wait.
+-- The register accepts the change and has it, and its encoding is the last of the pending ones.
 pub record IsTaken (old new : Held) (before now : Waiting) (change : Change) : Type 0 where
   pub is_change : IsChange change
   pub accepted : Accepts old.budget change old.state

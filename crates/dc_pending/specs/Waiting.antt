@@ -1,18 +1,18 @@
--- What is kept of the changes that aren't committed yet (this product).
+-- The changes that aren't committed yet (this product).
 use Rattle.std.specs.Prelude.{ℕ, ◌≤◌, ◌*◌, List, length}
 use Rattle.dc_changes.specs.Encoding.{longest_change}
 use Rattle.dc_io.specs.Bytes.{Filled}
 
--- the changes' spellings, one after the other, and how many changes they are
+-- the encodings of the pending changes, one after the other, and their number
 pub record Waiting : Type 0 where
   pub bytes : List ℕ
   pub count : ℕ
 
--- at most this many changes wait for a commit
+-- maximum number of pending changes
 abbrev pub most_waiting : ℕ
 most_waiting = 4
 
--- room for as many changes as may wait
+-- room for the maximum number of pending changes
 abbrev pub waiting_room : ℕ
 waiting_room = longest_change * most_waiting
 

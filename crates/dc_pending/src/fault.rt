@@ -2,14 +2,14 @@
 
 use thiserror::Error;
 
-/// Why a telegram wasn't taken. The first that stands is answered.
+/// Why a telegram wasn't taken: the first fault that applies.
 #[derive(Clone, Copy, Debug, PartialEq, Eq, Error)]
 #[error("the telegram wasn't taken")]
 pub enum TakeFault {
-    /// As many changes as may wait for a commit do.
+    /// The maximum number of changes is pending.
     PendingFull,
     /// The register refuses the telegram.
     Full,
-    /// Memory was refused; nothing has changed.
+    /// Out of memory; nothing has changed.
     NoMemory,
 }

@@ -1,15 +1,16 @@
-//! The pending changes (this product): the telegrams that were taken and aren't on the disk yet, and the eight
-//! bus lines that wait with them.
+//! The pending changes (this product): the telegrams that were taken and aren't on the disk yet,
+//! and the sessions on the eight bus lines.
 //!
-//! A telegram is taken by [`take`]: the register has it from then on, and its change waits, encoded, in a buffer of
-//! fixed room. [`write_waiting`] writes all that waits as one group, or, where that doesn't fit, the register's whole
-//! state. [`Lines`] is who is read on each line; [`Lines::settle`] lets those go on whose telegram was written.
+//! [`take`] takes a telegram: adds it to the register, and its encoded change to a buffer of fixed
+//! size. [`write_waiting`] writes all pending changes as one group, or, if that doesn't fit, the
+//! register's whole state. [`Lines`] has the session on each line; [`Lines::settle`] acknowledges
+//! the telegrams that were written.
 //!
-//! Proved: a telegram is refused where no more changes may wait or where the register refuses it, and else taken, or
-//! memory was refused and nothing has changed; a write is on the disk whole or not at all, whatever stop falls into
-//! it.
+//! Proved: a telegram is refused if the maximum number of changes is pending or the register
+//! refuses it; otherwise it is taken, or memory ran out and nothing has changed. A write is on the
+//! disk whole or not at all, whenever a crash comes.
 //!
-//! Only [`take`] takes memory, and only the register's: no commit can fail for want of it.
+//! Only [`take`] uses memory, and only the register's: no commit can run out of memory.
 #![tactic(auto)]
 
 mod fault;

@@ -1,4 +1,4 @@
-//! The eight bus lines, and who is read on each.
+//! The eight bus lines and their sessions.
 
 ghost use Rattle.std.specs.Prelude.{◌≡◌, true, Option};
 ghost use Rattle.dc_readout.specs.Summary.{Summary};
@@ -9,10 +9,10 @@ use dc_address::Identity;
 use dc_readout::Session;
 use std::marker::Model;
 
-// As many bus lines has a concentrator.
+// Number of bus lines.
 const LINES: u8 = 8;
 
-/// Who is read on each of the eight lines. A line's number counts from 1.
+/// The sessions on the eight lines. A line's number counts from 1.
 #[derive(Drop)]
 pub struct Lines {
     sessions: [Option<Session>; LINES as usize],
@@ -28,7 +28,7 @@ impl Model for Lines {
 }
 
 impl Lines {
-    /// Nobody is on a line.
+    /// Returns lines without sessions.
     pub fn new() -> Lines
         ensures { result ≡ no_sessions }
     {
@@ -37,7 +37,7 @@ impl Lines {
         }
     }
 
-    /// Who is on that line, which has to be one.
+    /// The session on that line, which must exist.
     pub fn get(&self, line: u8) -> Option<Session>
         requires { is_line line ≡ true }
         ensures { result ≡ on_line line self.now }
@@ -46,7 +46,7 @@ impl Lines {
         self.sessions[place]
     }
 
-    /// Puts a session, or nobody, on that line, which has to be one.
+    /// Sets or removes the session on that line, which must exist.
     pub fn put(&mut self, line: u8, session: Option<Session>)
         requires { is_line line ≡ true }
         ensures { self.new ≡ put_on line session self.old }
@@ -61,7 +61,8 @@ impl Lines {
         end_each(&mut self.sessions, meter);
     }
 
-    /// Settles every telegram that waits. After the last one of a readout nobody is on its line.
+    /// Acknowledges every pending telegram. After the last one of a readout its line has no
+    /// session.
     pub fn settle(&mut self)
         ensures { self.new ≡ settled_lines self.old }
     {
@@ -111,7 +112,7 @@ fn settled(session: Option<Session>) -> Option<Session>
     }
 }
 
-/// Whether there is a line of that number.
+/// Whether the line of that number exists.
 pub fn is_line(line: u8) -> bool
     ensures { result ≡ is_line line }
 {

@@ -1,4 +1,4 @@
-//! The taking of a telegram: into the register, and among the pending changes.
+//! Takes a telegram: into the register, and among the pending changes.
 
 ghost use Rattle.std.specs.Prelude.{◌≡◌, ◌⊎◌, ◌≤◌, length, None, Some, Ok, Err, OnOk, OnErr};
 ghost use Rattle.dc_changes.specs.Body.{longest_body};
@@ -17,8 +17,8 @@ use std::alloc::Allocator;
 /// into the register.
 ///
 /// # Errors
-/// `PendingFull` where no more changes may wait, then `Full` where the register refuses the telegram, then `NoMemory`.
-/// Nothing has changed then.
+/// `PendingFull` if the maximum number of changes is pending, then `Full` if the register refuses
+/// the telegram, then `NoMemory`. Nothing has changed then.
 pub fn take<A: Allocator + Copy>(
     house: &mut House<A>,
     waiting: &mut Waiting,

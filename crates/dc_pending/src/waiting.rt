@@ -1,4 +1,4 @@
-//! The changes that wait for a commit, as they are going to be written.
+//! The pending changes, in the encoding in which they are written.
 
 ghost use Rattle.std.specs.Prelude.{◌≡◌, ◌+◌, ◌≤◌, ◌<◌, ◌++◌, [], length, nat_le};
 ghost use Rattle.dc_changes.specs.declared.change.Change.{Change};
@@ -10,13 +10,13 @@ use dc_changes::{Change, encode_change};
 use dc_io::{FixedSink, IoFault};
 use std::marker::Model;
 
-// At most this many changes wait.
+// Maximum number of pending changes.
 const MOST: u8 = 4;
 
-// Room for as many of the longest change.
+// Room for that many of the longest change.
 const ROOM: usize = 1052;
 
-/// The changes that wait, [`MOST`] at most, encoded one after the other in a buffer of fixed room.
+/// The pending changes, at most [`MOST`], encoded one after the other in a buffer of fixed size.
 #[derive(Drop)]
 pub struct Waiting {
     bytes: FixedSink<ROOM>,
@@ -34,7 +34,7 @@ impl Model for Waiting {
 }
 
 impl Waiting {
-    /// No change waits.
+    /// Returns an empty buffer.
     pub fn new() -> Waiting
         ensures { result ≡ record { bytes = []; count = 0 } }
     {
@@ -44,7 +44,7 @@ impl Waiting {
         }
     }
 
-    /// How many changes wait.
+    /// Number of pending changes.
     pub fn count(&self) -> usize
         ensures count { result ≡ self.now.count }
         ensures most { result ≤ most_waiting }
@@ -53,21 +53,21 @@ impl Waiting {
         usize::from(self.count)
     }
 
-    /// Whether as many wait as may.
+    /// Whether the maximum number of changes is pending.
     pub fn is_full(&self) -> bool
         ensures { result ≡ nat_le most_waiting self.now.count }
     {
         self.count >= MOST
     }
 
-    /// Their spellings, one after the other.
+    /// The encodings of the pending changes, one after the other.
     pub fn as_slice(&self) -> &[u8]
         ensures { result.now ≡ self.now.bytes }
     {
         self.bytes.as_slice()
     }
 
-    /// One change more, which always fits.
+    /// Appends a change, for which there must be room.
     pub fn push(&mut self, change: &Change<'_>)
         requires room { self.old.count < most_waiting }
         requires is_change { IsChange change.now }
@@ -83,7 +83,7 @@ impl Waiting {
         self.count += 1;
     }
 
-    /// Nothing waits any more.
+    /// Removes all changes.
     pub fn clear(&mut self)
         ensures { self.new ≡ record { bytes = []; count = 0 } }
     {

@@ -1,4 +1,4 @@
-//! The write of a commit.
+//! Writes the pending changes.
 
 ghost use Rattle.std.specs.Prelude.{◌≡◌, ◌⊎◌, ◌≤◌, ◌<◌, List, true, false, length, IsErrOf, OnOk};
 ghost use Rattle.dc_io.specs.Failures.{HasRisen};
@@ -19,8 +19,8 @@ use dc_recovery::{Store, StoreFault};
 use dc_sectors::Disk;
 use std::alloc::Allocator;
 
-/// Writes the pending changes after the groups that are there, or, where it doesn't fit in the half, the register's
-/// whole state into the other half. It takes no memory.
+/// Writes the pending changes after the existing groups, or, if they don't fit in the half, the
+/// register's whole state into the other half. It uses no memory.
 ///
 /// # Errors
 /// Those of the store: [`StoreFault`].
@@ -36,7 +36,7 @@ pub fn write_waiting<D: Disk + Drop, A: Allocator + Copy>(
     ensures worn { IsErrOf result Worn
         → IsWornFor (D.sectors store.old.disk) store.old (length waiting.now.bytes) }
 
-    // What fits in the half is one group more, under the same root.
+    // Changes that fit in the half become one more group, under the same root.
     ensures one_group { Fits (D.sectors store.old.disk) store.old (length waiting.now.bytes)
         → store.new.root ≡ store.old.root }
     ensures unchanged { IsErrOf result Stopped ⊎ IsErrOf result Worn → store.new ≡ store.old }

@@ -65,7 +65,7 @@ stands_of half_len root m place state image chosen is = record {
   fresh = is.fresh;
 }
 
--- THE NEXT ROOT, WRITTEN OR NOT: the image stands by the old root or by the next one
+-- THE NEXT ROOT, WRITTEN OR NOT: the image stands for its state by the old root or by the next one
 pub root_step : (half_len : ℕ) (root next : Root) (m place m' place' : ℕ) (state state' : State) (old image : Image)
     → stands_by half_len root m place state old → IsPrepared half_len next m' place' state' old
     → next.generation ≡ root.generation + 1 → IsRootWrite next old image
@@ -78,7 +78,7 @@ root_step half_len root next m place m' place' state state' old image is prepare
     same : (k : ℕ) → 3 ≤ k → old k ≡ image k
     same k low = let in_slot = slot_range next.generation in sym (write.elsewhere k (λ e. omega (arith, e)))
 
--- with the next root written, it stands by that one
+-- with the next root written, the image stands for its state by that one
 pub root_done : (half_len : ℕ) (root next : Root) (m place m' place' : ℕ) (state state' : State) (old image : Image)
     → stands_by half_len root m place state old → IsPrepared half_len next m' place' state' old
     → next.generation ≡ root.generation + 1 → ((k : ℕ) → k ≢ slot next.generation → image k ≡ old k) → IsRoot next (image (slot next.generation))

@@ -21,7 +21,7 @@ use Rattle.dc_recovery.specs.Refusal.{HasNoRoot, HasOtherLength, HasNoBase, HasB
 use Rattle.dc_recovery.proofs.Once.{one_holds, not_more}
 
 module _ (half_len : ℕ) (most : half_len ≤ 65536) (image : Image) where
-  -- reading stopped: no root in force fits, or there is no base group, or it spells no state
+  -- reading stopped: no root in force fits, the base group is missing, or it spells no state
   abbrev NoCurrent : ℕ → Type 0
   NoCurrent n = HasNoRoot n image ⊎ HasOtherLength half_len n image
 

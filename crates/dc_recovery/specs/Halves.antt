@@ -1,9 +1,9 @@
--- Where the two halves of an image lie, and what a half can hold: this product's image format.
+-- The place of the two halves of an image, and the capacity of a half: this product's image format.
 use Rattle.std.specs.Prelude.{◌≡◌, ◌⊎◌, ◌<◌, ◌≤◌, ℕ, ◌+◌, ◌-◌, ◌*◌, ◌/◌, min}
 use Rattle.dc_sectors.specs.Disk.{Image}
 use Rattle.dc_pages.specs.Group.{page_payload}
 
--- the fewest sectors that an image has, and how many a half has, at least and at most
+-- minimum number of sectors of an image, and minimum and maximum number of sectors of a half
 abbrev pub fewest_sectors : ℕ
 fewest_sectors = 131
 
@@ -13,7 +13,7 @@ shortest_half = 64
 abbrev pub longest_half : ℕ
 longest_half = 65536
 
--- How many sectors a half has. Sector 0 isn't used, and sectors 1 and 2 are the root slots.
+-- Number of sectors of a half. Sector 0 isn't used, and sectors 1 and 2 are the root slots.
 abbrev pub half_len_of : ℕ → ℕ
 half_len_of sectors = min longest_half ((sectors - 3) / 2)
 
@@ -24,10 +24,10 @@ half_start half_len half = 3 + half_len * half
 abbrev pub half_end : ℕ → ℕ → ℕ
 half_end half_len half = 3 + half_len * half + half_len
 
--- the greatest size of a state: the payload of half of the half's sectors
+-- maximum size of a state: the payload of half of the half's sectors
 abbrev pub budget_of : ℕ → ℕ
 budget_of half_len = page_payload * (half_len / 2)
 
--- the sectors that are no part of the disk's image, sector 0 and those after the second half, read as before
+-- the sectors outside the image, sector 0 and those after the second half, read as before
 abbrev pub SparesRest : ℕ → Image → Image → Type 0
 SparesRest half_len old image = (m : ℕ) → (m < 1) ⊎ (3 + 2 * half_len ≤ m) → image m ≡ old m

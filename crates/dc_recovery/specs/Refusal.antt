@@ -1,6 +1,6 @@
--- Why an image isn't opened, as a fact of the image: this product's image format. Opening looks at the roots, at the
--- version and the half length of the one in force, at the base group, and then at each group of changes; the first
--- step that fails is answered.
+-- Why an image isn't opened, as a fact of the image: this product's image format. Opening reads the
+-- roots, checks the version and the half length of the one in force, reads the base group, and then
+-- each group of changes; the first step that fails gives the fault.
 use Rattle.std.specs.Prelude.{◌≡◌, ◌≢◌, ◌⊎◌, ◌≤◌, ◌^◌, ◌-◌, ℕ, suc, ◌+◌, List, Some, None}
 use Rattle.dc_sectors.specs.Disk.{Image}
 use Rattle.dc_roots.specs.declared.root.Root.{Root}
@@ -16,7 +16,7 @@ use Rattle.dc_recovery.specs.Language.{State, Change, SpellsState, SpellsChanges
 use Rattle.dc_recovery.specs.Sites.{base_site, change_site}
 use Rattle.dc_recovery.specs.Stands.{image_version, IsSequence, IsCurrent, Holds, ReadsBy, Reads}
 
--- a root slot can't be read, and no other root is there
+-- a root slot can't be read, and the other one has no root
 pub record HasNoRoot (n : ℕ) (image : Image) : Type 0 where
   pub rootless : IsRootless (Some n) image
 
@@ -45,7 +45,8 @@ pub record HasBadBase (half_len n : ℕ) (image : Image) : Type 0 where
   pub no_state : (state : State) → SpellsState (budget_of half_len) payload state → ⊥
   pub at : n ≡ half_start half_len root.half
 
--- a complete group of changes, after those that could be read, spells no changes that are accepted in turn
+-- a complete group of changes, after those that could be read, spells no changes that are accepted
+-- in turn
 pub record HasBadGroup (half_len n : ℕ) (image : Image) : Type 0 where
   pub root : Root
   pub current : IsCurrent half_len root image
@@ -66,7 +67,7 @@ IsDamagedAt half_len n image =
     (((HasNoRoot n image ⊎ HasOtherLength half_len n image) ⊎ HasNoBase half_len n image)
     ⊎ HasBadBase half_len n image) ⊎ HasBadGroup half_len n image
 
--- the root in force is of a version that isn't known
+-- the root in force has an unknown version
 pub record HasOtherVersion (image : Image) : Type 0 where
   pub root : Root
   pub chosen : IsChosen root image
@@ -78,7 +79,7 @@ abbrev pub IsSpent : Root → ℕ → Type 0
 IsSpent root last = ((root.generation ≡ 2 ^ 64 - 1) ⊎ (root.session ≡ 2 ^ 64 - 1))
     ⊎ ((root.version ≢ image_version) × ((root.generation ≡ 2 ^ 64 - 2) ⊎ (2 ^ 64 - 1 ≤ last + 1)))
 
--- the image can be read, and no session can begin on it
+-- the image can be read, but no session can begin on it
 pub record IsWorn (half_len : ℕ) (image : Image) : Type 0 where
   pub root : Root
   pub m : ℕ
@@ -87,7 +88,7 @@ pub record IsWorn (half_len : ℕ) (image : Image) : Type 0 where
   pub by : ReadsBy half_len root m place state image
   pub spent : IsSpent root (root.base_sequence + m)
 
--- why reading the image stops; a device may always fail, and memory may always be refused
+-- why reading the image stops; a device may always fail, and memory may always run out
 abbrev pub IsRefused : ℕ → Image → OpenFault → Type 0
 IsRefused half_len image NotImage = IsRootless None image
 IsRefused half_len image (Damaged n) = IsDamagedAt half_len n image
@@ -96,7 +97,7 @@ IsRefused half_len image Worn = IsWorn half_len image
 IsRefused half_len image Device = Unit {0}
 IsRefused half_len image NoMemory = Unit {0}
 
--- what a fault says of the image; a device may always fail, and memory may always be refused
+-- what a fault states of the image; a device may always fail, and memory may always run out
 abbrev pub TellsOfImage : OpenFault → Type 0
 TellsOfImage NotImage = Unit {0}
 TellsOfImage (Damaged n) = Unit {0}
@@ -105,15 +106,16 @@ TellsOfImage Worn = Unit {0}
 TellsOfImage Device = ⊥
 TellsOfImage NoMemory = ⊥
 
--- WHAT IS PROMISED, each by the lemma that is named beside it
+-- THE THEOREMS, each by the lemma that is named beside it
 
--- An image has one refusal: where a fault's fact stands, no other's does (one_refusal).
+-- The refusals of an image exclude each other: if a fault's fact holds, no other's does
+-- (one_refusal).
 abbrev pub OneRefusal : Type 0
 OneRefusal = (half_len : ℕ) → half_len ≤ longest_half → (image : Image) (f g : OpenFault)
     → TellsOfImage f → TellsOfImage g → IsRefused half_len image f → IsRefused half_len image g
     → f ≡ g
 
--- An image that reads as a state is refused only as worn (read_or_refused).
+-- An image that reads as a state is refused only for an exhausted counter (read_or_refused).
 abbrev pub RefusedIsNotRead : Type 0
 RefusedIsNotRead = (half_len : ℕ) → half_len ≤ longest_half
     → (image : Image) (state : State) (f : OpenFault) → TellsOfImage f → IsRefused half_len image f

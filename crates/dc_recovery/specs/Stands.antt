@@ -99,8 +99,8 @@ pub record Stands (half_len : ℕ) (state : State) (image : Image) : Type 0 wher
   pub place : ℕ
   pub by : StandsBy half_len root m place state image
 
--- WHAT A STORE KNOWS IN ITS LIFE of the one image that its disk has: it stands, and none of its sectors has the stamp
--- that comes next.
+-- WHAT A STORE KNOWS, while it is open, of the one image that its disk has: it stands for the
+-- state, and none of its sectors has the stamp that comes next.
 pub record IsReady (half_len : ℕ) (root : Root) (m place : ℕ) (state : State)
     (image : Image) : Type 0 where
   pub stands : StandsBy half_len root m place state image
@@ -159,7 +159,8 @@ pub record StandsForFront (half_len : ℕ) (state : State) (changes : List Chang
   pub within : count ≤ length changes
   pub stands : Stands half_len (after state (take count changes)) image
 
--- A payload that spells accepted changes may follow: the image is ready, and this is the site of the next group.
+-- A payload that spells accepted changes may follow: the image is ready, and this is the site of
+-- the next group.
 pub record IsAppendable (half_len : ℕ) (root : Root) (m : ℕ) (site : Site) (was : State)
     (payload : List ℕ) (changes : List Change) (image : Image) : Type 0 where
   pub ready : IsReady half_len root m site.first was image

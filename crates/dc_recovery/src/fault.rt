@@ -6,22 +6,23 @@ ghost use Rattle.dc_recovery.specs.Fault.{store_number, store_name};
 
 use thiserror::Error;
 
-/// Why an image wasn't opened. The first that stands, in the order of the steps of opening, is answered.
+/// Why an image wasn't opened: the first fault in the order of the steps of opening.
 #[derive(Clone, Copy, Debug, PartialEq, Eq, Error)]
 #[error("{} {}", self.number(), self.name())]
 pub enum OpenFault {
     /// The disk has fewer than 131 sectors, or both root slots are readable and neither has a root.
     NotImage,
-    /// The image can't be read on from that sector.
+    /// The image can't be read from that sector on.
     Damaged(u32),
-    /// The root in force has another version than 1 and 2.
+    /// The version of the root in force is neither 1 nor 2.
     Version,
-    /// The generation or the session is `u64::MAX`; or the image has version 1, and the generation is `u64::MAX - 1`
-    /// or the next sequence is `u64::MAX` or above. Nothing was written.
+    /// A counter is exhausted: the generation or the session is `u64::MAX`; or the image has
+    /// version 1, and the generation is `u64::MAX - 1` or the next sequence is `u64::MAX` or above.
+    /// Nothing was written.
     Worn,
-    /// The disk failed, and has counted the failure.
+    /// The disk failed, and counted the failure.
     Device,
-    /// Memory was refused.
+    /// Out of memory.
     NoMemory,
 }
 
@@ -63,7 +64,7 @@ pub enum FormatFault {
     TooSmall,
     /// The disk has a valid root.
     AlreadyFormatted,
-    /// The disk failed, and has counted the failure.
+    /// The disk failed, and counted the failure.
     Device,
 }
 
@@ -95,11 +96,12 @@ impl FormatFault {
 #[derive(Clone, Copy, Debug, PartialEq, Eq, Error)]
 #[error("{} {}", self.number(), self.name())]
 pub enum StoreFault {
-    /// The disk failed, and has counted the failure. The store is stopped from then on.
+    /// The disk failed, and counted the failure. The store is stopped from then on.
     Device,
-    /// There is no next sequence, or no next generation; nothing was written.
+    /// A counter is exhausted: the sequence or the generation has no next value; nothing was
+    /// written.
     Worn,
-    /// The store was stopped by a failure of the disk, until it is opened again.
+    /// A failure of the disk stopped the store; it must be opened again.
     Stopped,
 }
 

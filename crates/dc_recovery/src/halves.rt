@@ -1,4 +1,4 @@
-//! Where the halves of an image lie.
+//! The place of the halves of an image.
 
 ghost use Rattle.std.specs.Prelude.{◌≡◌, ◌<◌, ◌≤◌, ◌^◌, ◌+◌, ◌*◌};
 ghost use Rattle.dc_recovery.specs.Halves.{half_len_of, half_start, half_end, budget_of};
@@ -6,13 +6,13 @@ ghost use Rattle.dc_recovery.specs.Halves.{shortest_half, longest_half, fewest_s
 
 use dc_pages::PAYLOAD;
 
-/// The fewest sectors that an image has: halves of 64.
+/// Minimum number of sectors of an image: halves of 64.
 pub const FEWEST_SECTORS: u32 = 131;
 
-/// The most sectors that a half has.
+/// Maximum number of sectors of a half.
 const LONGEST_HALF: u32 = 65536;
 
-/// The number of sectors of a half, on a disk of this many.
+/// Number of sectors of a half, on a disk of this many.
 pub fn half_len_of(sectors: u32) -> u32
     requires { fewest_sectors ≤ sectors }
     ensures exact { result ≡ half_len_of sectors }
@@ -43,7 +43,7 @@ pub fn half_end(half_len: u32, half: u8) -> u32
     half_start(half_len, half) + half_len
 }
 
-/// The greatest size of a state, in bytes.
+/// Maximum size of a state, in bytes.
 pub(crate) fn budget_of(half_len: u32) -> u32
     requires { half_len ≤ longest_half }
     ensures { result ≡ budget_of half_len }

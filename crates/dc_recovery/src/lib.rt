@@ -1,17 +1,19 @@
-//! The store: the register and the readings of a house on a disk, through every stop.
+//! The store: the register and the readings of a house on a disk, through every crash.
 //!
-//! This product's own format. After two root slots an image has two halves. The root in force names one; it
-//! begins with a base group that spells a whole state, and groups of changes with consecutive sequences follow
-//! as long as they are complete. What these lead to is the state that the image reads as. It stands for that
-//! state where it is fresh too: no sector carries a session or a sequence that is still to come.
+//! This product's own format. After two root slots an image has two halves. The root in force names
+//! one; it begins with a base group that spells a whole state, and groups of changes with
+//! consecutive sequences follow as long as they are complete. Together they give the state that the
+//! image reads as. The image stands for that state if it is fresh too: no sector carries a session
+//! or a sequence that is still to come.
 //!
-//! Proved, of any disk that keeps the disk rule: [`Store::open`] answers exactly the state that the image reads
-//! as, or why it reads as no state; and no image of any moment of a format that ended, an open, an append or a
-//! compaction stands for another state than the one before or the one after. So a stop within any call of the
-//! disk leaves an image that is opened as one of the two, and what was answered with `Ok` is there.
+//! Proved, of any disk that keeps the disk model: [`Store::open`] returns exactly the state that
+//! the image reads as, or why it reads as no state; and no image of any moment of a format that
+//! ended, an open, an append or a compaction stands for another state than the one before or the
+//! one after. So a crash within any call of the disk leaves an image that is opened as one of the
+//! two, and what was acknowledged with `Ok` is there.
 //!
-//! An image of version 1 opens too: after the session's root it is compacted into an image of version 2, which is
-//! what every store keeps. There is no way back.
+//! An image of version 1 opens too: after the session's root it is compacted into an image of
+//! version 2, which is what every store keeps. It can't be converted back.
 //!
 //! An append is a group and one sync. A compaction is the whole state as a base group in the other half, a
 //! sync, the next root and a sync. An open reads each sector that it needs once.

@@ -1,4 +1,4 @@
--- Which root of an image is in force: this product's image format.
+-- The choice of the root in force: this product's image format.
 use Rattle.std.proofs.Common.{◌≡◌, ◌≢◌, ◌⊎◌, ◌≤◌, ℕ, Option, Some, None, Result, Ok, Err}
 use Rattle.dc_sectors.specs.declared.sector.Sector.{Sector}
 use Rattle.dc_sectors.specs.declared.sector.Sector.TheVariants.{Bytes, Unreadable}
@@ -17,7 +17,7 @@ pub record IsChosen (root : Root) (image : Image) : Type 0 where
   pub here : HasRoot root image
   pub greatest : (other : Root) → HasRoot other image → other.generation ≤ root.generation
 
--- the first of the two slots that is unreadable
+-- the first unreadable one of the two slots
 abbrev pub first_unreadable : Sector → Sector → Option ℕ
 first_unreadable Unreadable second = Some 1
 first_unreadable (Bytes first) Unreadable = Some 2
@@ -28,14 +28,14 @@ pub record IsRootless (unreadable : Option ℕ) (image : Image) : Type 0 where
   pub none : (root : Root) → HasRoot root image → ⊥
   pub first : unreadable ≡ first_unreadable (image 1) (image 2)
 
--- what a choice from an image may answer; a device may always fail
+-- the possible results of a choice from an image; a device may always fail
 abbrev pub IsChoice : Image → Result Root RootFault → Type 0
 IsChoice image (Ok root) = IsChosen root image
 IsChoice image (Err (NoRoot unreadable)) = IsRootless unreadable image
 IsChoice image (Err Worn) = ⊥
 IsChoice image (Err Device) = Unit {0}
 
--- The image is the old one, but the slot of that root may be unreadable or hold it.
+-- The image is the old one, except that the slot of that root may be unreadable or hold it.
 pub record IsRootWrite (next : Root) (old image : Image) : Type 0 where
   pub elsewhere : (k : ℕ) → k ≢ slot next.generation → image k ≡ old k
   pub here : ((image (slot next.generation) ≡ old (slot next.generation))

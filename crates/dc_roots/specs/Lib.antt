@@ -1,10 +1,10 @@
--- what a root sector says, which root is chosen, and the faults
+-- the contents of a root sector, the choice of a root, and the faults
 
--- which root of an image is in force
+-- the choice of the root in force
 pub mod Choice
 -- the numbers and names of the faults of roots (this product)
 pub mod Fault
--- what one root slot holds
+-- the contents of a root slot
 pub mod Held
 -- root sectors
 pub mod Root

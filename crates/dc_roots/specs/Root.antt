@@ -14,8 +14,8 @@ magic = 0x4D ∷ 0x42 ∷ 0x44 ∷ 0x43 ∷ []
 abbrev pub slot : ℕ → ℕ
 slot generation = 1 + generation % 2
 
--- The sector is readable and is a valid root that says this. The two bytes after the half's, and
--- those from 36 on, aren't looked at.
+-- The sector is readable and is a valid root with these fields. The two bytes after the half's, and
+-- those from 36 on, are ignored.
 pub record IsRoot (root : Root) (sector : Sector) : Type 0 where
   pub bytes : List ℕ
   pub readable : sector ≡ Bytes bytes
@@ -32,7 +32,7 @@ pub record IsRoot (root : Root) (sector : Sector) : Type 0 where
 abbrev pub root_front : Root → List ℕ
 root_front root = magic ++ root.version ∷ root.half ∷ 0 ∷ 0 ∷ []
 
--- the sector that is written for a root: what isn't named is zero
+-- the sector that is written for a root: bytes that aren't named are zero
 unfoldable pub root_bytes : Root → List ℕ
 root_bytes root =
     ((((root_front root ++ number_bytes 8 root.generation) ++ number_bytes 8 root.session)

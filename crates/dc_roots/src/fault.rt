@@ -5,15 +5,15 @@ ghost use Rattle.dc_roots.specs.Fault.{number_of, name_of};
 
 use thiserror::Error;
 
-/// Why no root was chosen, or none written.
+/// Why no root was chosen or written.
 #[derive(Clone, Copy, Debug, PartialEq, Eq, Error)]
 #[error("{} {}", self.number(), self.name())]
 pub enum RootFault {
-    /// No slot has a valid root. The first slot that is unreadable, if one is.
+    /// No slot has a valid root. The value is the first unreadable slot, if any.
     NoRoot(Option<u32>),
-    /// The generation is `u64::MAX`: there is no next root.
+    /// The generation is exhausted: it is `u64::MAX`, and no next root exists.
     Worn,
-    /// The disk failed, and has counted the failure.
+    /// The disk failed, and counted the failure.
     Device,
 }
 

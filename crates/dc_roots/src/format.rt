@@ -1,4 +1,4 @@
-//! The bytes of a root sector, both ways.
+//! Encodes and decodes a root sector.
 
 ghost use Rattle.std.specs.Prelude.{◌≡◌, MatchOption};
 ghost use Rattle.dc_sectors.specs.declared.sector.Sector.TheVariants.{Bytes};
@@ -10,7 +10,7 @@ use dc_sectors::{put_u32, put_u64, u32_at, u64_at};
 
 const MAGIC: [u8; 4] = [0x4D, 0x42, 0x44, 0x43];
 
-/// The valid root that a sector's bytes are. Whose slot it stands in isn't looked at.
+/// Decodes a sector as a valid root. It doesn't check which slot the sector is in.
 pub(crate) fn root_of(bytes: &[u8; 512]) -> Option<Root>
     ensures { MatchOption result ((root : Root) → IsRoot root (Bytes bytes.now) → ⊥)
         (λ root. IsRoot root (Bytes bytes.now)) }
@@ -28,7 +28,7 @@ pub(crate) fn root_of(bytes: &[u8; 512]) -> Option<Root>
     })
 }
 
-/// The sector that is written for a root.
+/// Encodes a root as a sector.
 pub(crate) fn sector_of(root: &Root) -> [u8; 512]
     ensures { result ≡ root_bytes root.now }
 {

@@ -1,21 +1,21 @@
-//! What a root says.
+//! The fields of a root.
 
 ghost use Rattle.std.specs.Prelude.{◌≡◌};
 
-/// What a root sector says.
+/// The fields of a root sector.
 #[derive(Clone, Copy, Debug, PartialEq, Eq)]
 pub struct Root {
     /// The version of the image's sectors.
     pub version: u8,
     /// The half in use, 0 or 1.
     pub half: u8,
-    /// One more in each root that is written.
+    /// The generation: each root that is written has the next one.
     pub generation: u64,
-    /// The session that may write groups since this root was synced.
+    /// The session that may write groups once this root is synced.
     pub session: u64,
     /// The sequence of the half's base group.
     pub base_sequence: u64,
-    /// The number of sectors of a half.
+    /// Number of sectors of a half.
     pub half_len: u32,
 }
 

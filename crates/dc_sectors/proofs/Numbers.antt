@@ -34,7 +34,7 @@ put_number n at number k old buffer within rest is =
     ap (λ (l : List ℕ). take at old ++ (buffer ++ l)) none
     ∙ ap (λ (l : List ℕ). take at old ++ l) (append-nil buffer ∙ is ∙ ap (λ (l : List ℕ). little_bytes n number ++ drop n l) all ∙ ap (λ (l : List ℕ). little_bytes n number ++ l) tail)
 
--- A number written after a prefix that stands already goes to its end.
+-- A number written after the prefix that is already there goes to its end.
 pub written_behind : (n at number : ℕ) (front rest old new : List ℕ) → old ≡ front ++ rest → length front ≡ at → new ≡ take at old ++ (number_bytes n number ++ drop (at + n) old)
     → new ≡ (front ++ number_bytes n number) ++ drop n rest
 written_behind n at number front rest old new is long put =

@@ -1,20 +1,20 @@
--- Which calls of a disk in memory fail because a test wants them to.
+-- The calls of a disk in memory that a test makes fail.
 use Rattle.std.specs.Prelude.{◌+◌, ◌-◌, ◌^◌, ◌&&◌, min, ℕ, zero, suc, Bool, true, false, Option}
 use Rattle.std.specs.Prelude.{Some, None}
 use Rattle.dc_sectors.specs.declared.calls.Calls.{Calls}
 
--- a call passes while there are calls left, or no end is set
+-- a call passes while passes are left, or no limit is set
 abbrev pub are_left : Option ℕ → Bool
 are_left None = true
 are_left (Some zero) = false
 are_left (Some (suc left)) = true
 
--- a fuse that has burnt stays so
+-- a used-up fuse stays so
 abbrev pub fuse_next : Option ℕ → Option ℕ
 fuse_next None = None
 fuse_next (Some left) = Some (left - 1)
 
--- a failure that is set comes once
+-- a failure that is set occurs once
 abbrev pub fails_next : Option ℕ → Option ℕ
 fails_next None = None
 fails_next (Some zero) = None

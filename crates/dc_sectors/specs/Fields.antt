@@ -1,4 +1,4 @@
--- Numbers of several bytes at a place in a sector, the lowest byte first (this product's image format).
+-- Numbers of several bytes at a place in a sector, little-endian (this product's image format).
 use Rattle.std.proofs.Common.{ℕ, List, drop}
 use Rattle.byteorder.specs.Endian.{little_number, little_bytes}
 
@@ -6,6 +6,7 @@ use Rattle.byteorder.specs.Endian.{little_number, little_bytes}
 abbrev pub field : ℕ → ℕ → List ℕ → ℕ
 field n at bytes = little_number n (drop at bytes)
 
--- the n bytes of a number. They are named and not spelled out, so that a goal shows them as one piece.
+-- the n bytes of a number. They are named and not spelled out, so that a goal shows them as one
+-- piece.
 unfoldable pub number_bytes : ℕ → ℕ → List ℕ
 number_bytes n number = little_bytes n number

@@ -16,9 +16,9 @@ use Rattle.dc_sectors.specs.FileCalls.{Call, Measured, Got, Put, Synced}
 
 pub record FileState : Type 0 where
   pub sectors : ℕ
-  -- how often the file failed; at 2 ^ 64 - 1 it stays
+  -- number of failures of the file; it saturates at 2 ^ 64 - 1
   pub failures : ℕ
-  -- a sync failed: what was written since the one before may be gone, so that every call fails from then on
+  -- a sync failed: what was written since the last one may be lost, so that every later call fails
   pub lost : Bool
   -- the calls of the file so far, the newest first
   pub calls : List Call
@@ -74,7 +74,7 @@ IsSyncOf old (Ok _) calls = (old.lost ≡ false) × (calls ≡ Synced true ∷ o
 IsSyncOf old (Err _) calls = ((old.lost ≡ true) × (calls ≡ old.calls))
     ⊎ ((old.lost ≡ false) × (calls ≡ Synced false ∷ old.calls))
 
--- What the disk rule says after these calls, where the sectors held `start` before the first.
+-- What the disk model states after these calls, if the sectors held `start` before the first.
 
 -- one more call: a write, done where all was taken, or a sync that succeeded
 abbrev pub noted : List Event → Call → List Event
@@ -98,8 +98,8 @@ choices_in start disk = choices_after start (events_of disk.calls)
 abbrev pub moment_in : FileState → ℕ
 moment_in disk = length (events_of disk.calls)
 
--- The other half of the hypothesis, which no call shows: after a stop at any moment of these calls the file holds one
--- of the images since moment 0, and that is the next `start`.
+-- The other half of the hypothesis, which no call shows: after a crash at any moment of these calls
+-- the file holds one of the images since moment 0, and that is the next `start`.
 abbrev pub images_in : Image → FileState → ℕ → Image → Type 0
 images_in start disk = ImageSince start (events_of disk.calls)
 

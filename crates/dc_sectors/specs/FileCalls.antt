@@ -3,21 +3,21 @@ use Rattle.std.specs.Prelude.{ℕ, Bool, List, take, Option, Some, None, Result,
 
 -- a call with its result
 pub data Call : Type 0 where
-  -- the file's length in bytes; none where the call failed
+  -- the file's length in bytes; `None` if the call failed
   Measured : Option ℕ → Call
-  -- a read of this many bytes from this byte on, and the bytes that came: the first of them, or all
+  -- a read of this many bytes from this byte on, and the bytes read, which may be fewer
   Got : ℕ → ℕ → Option (List ℕ) → Call
-  -- a write of these bytes from this byte on, and how many of them were taken
+  -- a write of these bytes from this byte on, and the number of bytes written
   Put : ℕ → List ℕ → Option ℕ → Call
   -- a sync, and whether it succeeded
   Synced : Bool → Call
 
--- what a call returned, where it succeeded
+-- the value of a call that succeeded
 abbrev pub value_of : {T E : Type 0} → Result T E → Option T
 value_of (Ok x) = Some x
 value_of (Err e) = None
 
--- the bytes that a read put into a buffer, where it succeeded
+-- the bytes that a successful read put into a buffer
 abbrev pub came : {E : Type 0} → Result ℕ E → List ℕ → Option (List ℕ)
 came (Ok n) buffer = Some (take n buffer)
 came (Err e) buffer = None

@@ -1,10 +1,10 @@
--- the disk rule, and lemmas on choices
+-- the disk model, and lemmas about possible contents
 
--- the disk rule, of this product
+-- the disk model of this product
 pub mod Disk
 -- lemmas on the images that choices allow, for callers
 pub mod Images
--- the calls of a disk in memory, and those that are to fail
+-- the calls of a disk in memory, and those that a test makes fail
 pub mod Calls
 -- a disk in memory, as contracts see it
 pub mod Memory

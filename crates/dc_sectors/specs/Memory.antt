@@ -19,13 +19,13 @@ use Rattle.dc_sectors.specs.Disk.{Image, Choices}
 use Rattle.dc_sectors.specs.Record.{image_of, reads_after, choices_after, writes_after}
 
 pub record Memory : Type 0 where
-  -- what each sector read when the record began: zeros, or what a stop left
+  -- what each sector read when the record began: zeros, or the contents after a crash
   pub start : List Sector
-  -- each write, also one that a test made fail, and each sync that succeeded
+  -- each write, including those that a test made fail, and each sync that succeeded
   pub events : List Event
-  -- how many events the record has memory for
+  -- number of events for which the record has memory
   pub capacity : ℕ
-  -- the calls so far, and those to come that are to fail
+  -- the calls so far, and the failures that a test set
   pub calls : Calls
 
 -- a new disk, of zeros
@@ -37,7 +37,7 @@ blank count = record {
   calls = record { made = 0; failed = 0; fuse = None; fails_at = None };
 }
 
--- what a read of a sector answers, where the call passes
+-- the result of a read of a sector, if the call passes
 abbrev pub answer_of : Sector → Result (List ℕ) ReadFault
 answer_of (Bytes bytes) = Ok bytes
 answer_of Unreadable = Err CannotRead
@@ -48,7 +48,8 @@ reads_of disk = reads_after (image_of disk.start) disk.events
 abbrev pub choices_of : Memory → Choices
 choices_of disk = choices_after (image_of disk.start) disk.events
 
--- A call passes, or fails because a test makes it fail, or because the record is full and gets no more memory.
+-- A call passes, or fails because a test makes it fail, or because the record is full and no memory
+-- is available.
 
 abbrev pub after_pass : Memory → Memory
 after_pass disk = record disk { calls = counted disk.calls }
@@ -56,7 +57,7 @@ after_pass disk = record disk { calls = counted disk.calls }
 abbrev pub after_failure : Memory → Memory
 after_failure disk = record disk { calls = failed_once_more (counted disk.calls) }
 
--- the disk after this event, in a record that may have got more memory
+-- the disk after this event, in a record that may have grown
 abbrev pub recorded : Memory → Event → Memory → Memory
 recorded disk event new = record disk {
   events = disk.events ++ event ∷ [];
@@ -73,7 +74,7 @@ IsRead old n result new =
     (result ≡ (if passes old.calls then answer_of (reads_of old n) else Err ReadFailed))
     × (new ≡ (if passes old.calls then after_pass old else after_failure old))
 
--- A write that a test makes fail is recorded. One isn't recorded only where the record is full.
+-- A write that a test makes fail is recorded. A write isn't recorded only if the record is full.
 abbrev pub IsWrite : Memory → ℕ → List ℕ → Result (Unit {0}) Failed → Memory → Type 0
 IsWrite old n bytes (Ok _) new = (passes old.calls ≡ true)
     × (new ≡ recorded (after_pass old) (Write n bytes true) new)
@@ -96,7 +97,7 @@ pending_below writes (suc n) = pending_below writes n
 abbrev pub pending_of : Memory → List (ℕ × ℕ)
 pending_of disk = pending_below (writes_after disk.events) (length disk.start)
 
--- a pick may name a write that there was, counted from 0
+-- a pick names an existing write, counted from 0
 abbrev pub IsPickFor : ℕ × ℕ → Pick → Type 0
 IsPickFor (n, writes) Old = Unit {0}
 IsPickFor (n, writes) (Written k) = k < writes

@@ -1,4 +1,5 @@
--- What a record of writes and syncs says: what is read, the choices, and the images of its moments.
+-- A record of writes and syncs: what is read after it, the possible contents, and the images of its
+-- moments.
 use Rattle.std.specs.Prelude.{◌≡◌, ◌⊎◌, ◌==◌, ◌<◌, ℕ, ◌+◌, ◌≤◌, slice_index_or, true, false, List}
 use Rattle.std.specs.Prelude.{[], ◌∷◌, ◌++◌, length, take, if◌then◌else◌, refl}
 use Rattle.std.proofs.Common.{sym, subst, arith, inl, inr, length-append}
@@ -10,7 +11,7 @@ use Rattle.dc_sectors.specs.declared.event.Event.TheVariants.{Write, Sync}
 use Rattle.dc_sectors.specs.Disk.{Image, Choices, IsImage, put, added, settled, Elapses}
 use Rattle.dc_sectors.specs.Images.{within_added, image_within, put_added, settled_is_image}
 
--- what these sectors read; there is nothing past the last
+-- what these sectors read; no sector exists after the last
 abbrev pub image_of : List Sector → Image
 image_of sectors = λ n. slice_index_or sectors n Unreadable
 
@@ -19,12 +20,12 @@ abbrev pub reads_next : Image → Event → Image
 reads_next image (Write at bytes is_done) = if is_done then put image at bytes else image
 reads_next image Sync = image
 
--- what each sector may read after a stop, after one more event; a write that failed counts as written
+-- the possible contents of each sector after one more event; a write that failed counts as written
 abbrev pub choices_next : Image → Choices → Event → Choices
 choices_next image choices (Write at bytes is_done) = added choices at bytes
 choices_next image choices Sync = settled image
 
--- how often each sector was written since the sync, after one more event
+-- number of writes of each sector since the sync, after one more event
 abbrev pub writes_next : (ℕ → ℕ) → Event → ℕ → ℕ
 writes_next writes (Write at bytes is_done) = λ n. if n == at then writes n + 1 else writes n
 writes_next writes Sync = λ n. 0
@@ -77,7 +78,7 @@ pub writes_from-push : (writes : ℕ → ℕ) (events : List Event) (event : Eve
 writes_from-push writes [] event = refl
 writes_from-push writes (e ∷ events) event = writes_from-push (writes_next writes e) events event
 
--- what is read is one of the choices
+-- what is read is one of the possible contents
 
 next_choice : (image : Image) (choices : Choices) (event : Event) → IsImage choices image
     → IsImage (choices_next image choices event) (reads_next image event)

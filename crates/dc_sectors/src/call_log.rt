@@ -6,7 +6,7 @@ ghost use Rattle.dc_sectors.specs.Note.{Note};
 
 use std::marker::{Model, PhantomData};
 
-/// The calls of a file so far, the newest first. They take no memory.
+/// The calls of a file so far, the newest first. They use no memory.
 #[derive(Drop)]
 pub struct CallLog {
     marker: PhantomData<u8>,
@@ -26,7 +26,8 @@ impl CallLog {
         }
     }
 
-    /// Adds a call. The numbers are its kind, its place in the file, a count, and 1 where it succeeded.
+    /// Adds a call. The numbers are its kind, its place in the file, a count, and 1 if it
+    /// succeeded.
     pub(crate) fn note(&mut self, _numbers: &[u64], _bytes: &[u8])
         ensures { self.new.notes ≡ (_numbers.now, _bytes.now) ∷ self.old.notes }
     {}

@@ -1,20 +1,20 @@
-//! The calls of a disk in memory, counted, and those that are to fail.
+//! A count of a disk's calls, and the failures that a test set.
 
 ghost use Rattle.std.specs.Prelude.{◌≡◌};
 
 use crate::Failed;
 use dc_io::one_failure_more;
 
-/// The calls of a disk so far, and those to come that are to fail.
+/// The calls of a disk so far, and the failures that a test set.
 #[derive(Clone, Copy)]
 pub struct Calls {
-    /// How many there were; at `u64::MAX` it stays.
+    /// Number of calls; it saturates at `u64::MAX`.
     pub made: u64,
-    /// How many failed; at `u64::MAX` it stays.
+    /// Number of calls that failed; it saturates at `u64::MAX`.
     pub failed: u64,
-    /// After this many more all fail.
+    /// Number of calls that pass before all fail.
     pub fuse: Option<u64>,
-    /// After this many more one fails.
+    /// Number of calls that pass before one fails.
     pub fails_at: Option<u64>,
 }
 
@@ -28,7 +28,7 @@ impl Calls {
         fails_at: None,
     };
 
-    /// Counts a call, and says whether it passes.
+    /// Counts a call, and returns whether it passes.
     pub fn begin(&mut self) -> bool
         ensures passes { result ≡ passes self.old }
         ensures counted { self.new ≡ counted self.old }

@@ -1,4 +1,4 @@
-//! The disk rule: what each call of a disk does, and what a stop may leave.
+//! The disk model: the effect of each call of a disk, and its possible contents after a crash.
 
 ghost use Rattle.std.specs.Prelude.{◌≡◌, ◌≢◌, ◌⊎◌, ◌<◌, ◌≤◌, List, ℕ, OnOk, OnErr, IsErrOf};
 ghost use Rattle.std.specs.Prelude.{Contains};
@@ -18,25 +18,26 @@ pub trait Disk {
     /// What this disk's reads have returned until now is what the disk rule says.
     ghost keeps: { Self → Type 0 };
 
-    /// How many sectors it has.
+    /// Number of sectors.
     ghost sectors: { Self → ℕ };
 
     /// What each sector reads now.
     ghost reads: { Self → ℕ → Sector };
 
-    /// What each sector may read after a stop at this moment.
+    /// The possible contents of each sector after a crash at this moment.
     ghost choices: { Self → ℕ → List Sector };
 
-    /// The moment, as a number that doesn't fall.
+    /// The moment, as a number that never falls.
     ghost moment: { Self → ℕ };
 
-    /// The images that a stop at some moment from that one on might have left, within a call or between two.
+    /// The images that a crash at some moment since that one could leave, within a call or between
+    /// two.
     ghost images_since: { Self → ℕ → (ℕ → Sector) → Type 0 };
 
-    /// How often the device has failed; a call that passes leaves it. At `u64::MAX` the count stays.
+    /// Number of failures of the device; a call that passes leaves it. It saturates at `u64::MAX`.
     ghost failures: { Self → ℕ };
 
-    /// The number of sectors.
+    /// Number of sectors.
     fn count(&self) -> u32
         ensures { result ≡ sectors self.now };
 
@@ -88,14 +89,14 @@ pub trait Disk {
         ensures passed { OnOk result (failures self.new ≡ failures self.old) }
         ensures failed { OnErr result (HasRisen (failures self.old) (failures self.new)) };
 
-    /// What a sector reads is one of its choices.
+    /// What a sector reads is one of its possible contents.
     ghost reads_a_choice: { (disk : Self) (n : ℕ) → Contains (choices disk n) (reads disk n) };
 
     /// The images of this moment are among those since an earlier one.
     ghost counts_now: { (disk : Self) (t : ℕ) (image : ℕ → Sector) → t ≤ moment disk
         → IsImage (choices disk) image → images_since disk t image };
 
-    /// Since this moment there is no other image than its own.
+    /// Since this moment no image but its own is possible.
     ghost only_now: { (disk : Self) (image : ℕ → Sector) → images_since disk (moment disk) image
         → IsImage (choices disk) image };
 }

@@ -1,9 +1,9 @@
-//! The record that a disk in memory keeps.
+//! The record of a disk in memory.
 
-/// What a disk in memory has recorded.
+/// An event that a disk in memory recorded.
 #[derive(Clone, Copy)]
 pub enum Event {
-    /// A write, and whether it was done.
+    /// A write, and whether it succeeded.
     Write {
         at: u32,
         bytes: [u8; 512],

@@ -1,11 +1,11 @@
-//! Numbers of several bytes at a place of a sector.
+//! Numbers of several bytes at a place of a sector, little-endian.
 
 ghost use Rattle.std.specs.Prelude.{◌≡◌, ◌≤◌, ◌+◌, ◌++◌, take, drop};
 ghost use Rattle.dc_sectors.specs.Fields.{field, number_bytes};
 
 use byteorder::{ByteOrder, LittleEndian};
 
-/// Puts a number into the two bytes from that place on.
+/// Writes a number into the two bytes from that place on.
 pub fn put_u16(sector: &mut [u8; 512], at: usize, number: u16)
     requires { at ≤ 510 }
     ensures { sector.new ≡ take at sector.old
@@ -14,7 +14,7 @@ pub fn put_u16(sector: &mut [u8; 512], at: usize, number: u16)
     LittleEndian::write_u16(&mut sector[at..], number);
 }
 
-/// Puts a number into the four bytes from that place on.
+/// Writes a number into the four bytes from that place on.
 pub fn put_u32(sector: &mut [u8; 512], at: usize, number: u32)
     requires { at ≤ 508 }
     ensures { sector.new ≡ take at sector.old
@@ -23,7 +23,7 @@ pub fn put_u32(sector: &mut [u8; 512], at: usize, number: u32)
     LittleEndian::write_u32(&mut sector[at..], number);
 }
 
-/// Puts a number into the eight bytes from that place on.
+/// Writes a number into the eight bytes from that place on.
 pub fn put_u64(sector: &mut [u8; 512], at: usize, number: u64)
     requires { at ≤ 504 }
     ensures { sector.new ≡ take at sector.old

@@ -6,7 +6,7 @@ ghost use Rattle.dc_sectors.specs.FileCalls.{Call, Measured, Got, Put, Synced, v
 
 use std::io;
 
-/// A file, by the calls that a disk over it makes. Its history has each call with its result.
+/// A file, reduced to the calls of a disk over it. Its history has each call with its result.
 pub trait FileCalls {
     /// The calls so far with their results, the newest first.
     ghost history: { Self → List Call };
@@ -18,18 +18,19 @@ pub trait FileCalls {
     fn measure(&mut self) -> io::Result<u64>
         ensures noted { history self.new ≡ Measured (value_of result) ∷ history self.old };
 
-    /// Reads once from that byte on into the front of `bytes`, and returns how many bytes came.
+    /// Reads once from that byte on into the first bytes of the buffer, and returns the number of
+    /// bytes read.
     fn read_some(&mut self, at: u64, bytes: &mut [u8]) -> io::Result<usize>
         ensures count { IfOk result (λ n. n ≤ length bytes.old) }
         ensures noted { history self.new ≡ Got at (length bytes.old) (came result bytes.new)
             ∷ history self.old };
 
-    /// Writes these bytes once from that byte on, and returns how many of them were taken.
+    /// Writes these bytes once from that byte on, and returns the number of bytes written.
     fn write_some(&mut self, at: u64, bytes: &[u8]) -> io::Result<usize>
         ensures count { IfOk result (λ n. n ≤ length bytes.now) }
         ensures noted { history self.new ≡ Put at bytes.now (value_of result) ∷ history self.old };
 
-    /// Makes what was written durable, by one call.
+    /// Makes the written bytes durable, in one call.
     fn sync_once(&mut self) -> io::Result<()>
         ensures noted { history self.new ≡ Synced (is_ok result) ∷ history self.old };
 }

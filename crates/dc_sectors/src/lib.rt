@@ -1,30 +1,34 @@
-//! The disk rule: what a disk of sectors reads, and what a stop may leave of it.
+//! The disk model: what a disk of sectors reads, and its possible contents after a crash.
 //!
-//! This product's own rule. A sector has 512 bytes. Until a sync that succeeds, each sector that was
-//! written may read, after a stop, as it did at the sync before, as any content written since, or as
-//! unreadable, each sector by itself; what is synced stays. A write that failed counts as written.
+//! This product's own model. A sector has 512 bytes. Until a sync succeeds, each sector that was
+//! written may read, after a crash, as it did at the last sync, as any content written since, or as
+//! unreadable, each sector independently; what is synced stays. A write that failed counts as
+//! written.
 //!
-//! [`Disk`] is that rule as a contract: what each sector reads now, its choices after a stop at this
-//! moment, the images that a stop at any earlier moment might have left, and a count of failures. What a read
-//! returns is said where the disk `keeps` the rule: where all that its reads returned until then is what the rule
-//! says. All else needs no premise. A stop may come within a call: within a write the choices are those after it,
-//! within a sync those before it.
+//! [`Disk`] is that model as a contract: what each sector reads now, its possible contents after a
+//! crash at this moment, the images that a crash at any earlier moment could leave, and a count of
+//! failures. What a read returns is stated under the premise that the disk `keeps` the model: all
+//! its reads so far returned what the model states. Everything else needs no premise. A crash may
+//! come within a call: within a write the possible contents are those after it, within a sync those
+//! before it.
 //!
-//! [`MemoryDisk`] always keeps the rule. Its choices and images are read off a record of its writes and
-//! syncs, it fails where a test says so, and its stop leaves the image that was picked: one of those that
-//! the rule allows, and the only one from then on.
+//! [`MemoryDisk`] always keeps the model. It derives the possible contents and images from a record
+//! of its writes and syncs, fails where a test says so, and its crash leaves the image that was
+//! picked: one of those that the model allows, and the only one from then on.
 //!
-//! [`FileDisk`] is a disk over a file. Its contract says which call of the file each of its calls makes, and what it
-//! returns by that call's result: the file's calls are in a history that only clauses read. No contract can say what a
-//! file keeps, so the disk rule is a hypothesis on that history, `KeepsRule` of specs/File: that is its `keeps`. What
-//! the file held before the first call is the image of a [`Start`], which no code reads. Each fault of the file is a
-//! counted failure, and after a sync that failed every call fails.
+//! [`FileDisk`] is a disk over a file. Its contract states which call of the file each of its calls
+//! makes, and what it returns for that call's result: the file's calls are in a history that only
+//! clauses read. No contract can state what a file keeps, so the disk model is a hypothesis on that
+//! history, `KeepsRule` of specs/File: that is its `keeps`. The file's contents before the first
+//! call are the image of a [`Start`], which no code reads. Each fault of the file is a counted
+//! failure, and after a sync that failed every call fails.
 //!
-//! Callers state what they leave for every moment, and prove it from the trait alone. The lemmas for that are
-//! `proofs/Moments` on runs of calls and `specs/Images` on choices.
+//! Callers state the images that they leave for every moment, and prove them from the trait alone.
+//! The lemmas for that are `proofs/Moments` on sequences of calls and `specs/Images` on possible
+//! contents.
 //!
-//! [`u16_at`] .. [`put_u64`] read and write numbers of several bytes at a place in a sector, the lowest byte first: the
-//! layout that root sectors and pages of the image share.
+//! [`u16_at`] .. [`put_u64`] read and write numbers of several bytes at a place in a sector,
+//! little-endian: the layout that root sectors and pages of the image share.
 #![tactic(auto)]
 
 mod call_log;

@@ -1,12 +1,12 @@
-//! What a stop leaves of one sector.
+//! The contents of a sector after a crash.
 
-/// What a stop leaves of a sector that was written since the sync.
+/// The contents, after a crash, of a sector that was written since the sync.
 #[derive(Clone, Copy, Debug, PartialEq, Eq)]
 pub enum Pick {
-    /// What the sector read when it was synced.
+    /// What the sector read at the last sync.
     Old,
-    /// What one of the writes since wrote; they are counted from 0.
+    /// The bytes of one of the writes since, counted from 0.
     Written(usize),
-    /// Nothing that can be read.
+    /// Unreadable.
     Unreadable,
 }

@@ -1,28 +1,28 @@
-//! What a sector reads, and the failures of a device.
+//! The contents of a sector, and the failures of a device.
 
 use thiserror::Error;
 
-/// What a sector of 512 bytes reads.
+/// The contents of a sector of 512 bytes.
 #[derive(Clone, Copy, Debug, PartialEq, Eq)]
 pub enum Sector {
     /// These bytes.
     Bytes([u8; 512]),
-    /// Nothing: a stop came within a write, or some time after one that was not synced.
+    /// Unreadable: a crash came within a write, or after one that wasn't synced.
     Unreadable,
 }
 
-/// The device failed, and has counted the failure.
+/// The device failed, and counted the failure.
 #[derive(Clone, Copy, Debug, PartialEq, Eq, Error)]
 #[error("the disk failed")]
 pub struct Failed;
 
-/// Why a read gave no bytes.
+/// Why a read returned no bytes.
 #[derive(Clone, Copy, Debug, PartialEq, Eq, Error)]
 pub enum ReadFault {
-    /// The sector is unreadable: a fact of the image, and no failure.
+    /// The sector is unreadable: a fact of the image, not a failure.
     #[error("the sector is unreadable")]
     Unreadable,
-    /// The device failed, and has counted the failure.
+    /// The device failed, and counted the failure.
     #[error("the disk failed")]
     Failed,
 }

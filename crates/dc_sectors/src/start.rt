@@ -1,11 +1,11 @@
-//! What a file held before a disk's first call of it.
+//! The contents of a file before a disk's first call of it.
 
 ghost use Rattle.std.specs.Prelude.{ℕ};
 ghost use Rattle.dc_sectors.specs.declared.sector.Sector.{Sector};
 ghost use Rattle.dc_sectors.specs.declared.sector.Sector.TheVariants.{Unreadable as NotKnown};
 
-/// What each sector of a file held before the first call. No code can read it, so what is proved over `S: Start` is
-/// proved of all contents.
+/// The contents of each sector of a file before the first call. No code can read it, so what is
+/// proved over `S: Start` is proved for all contents.
 pub trait Start: Drop {
     ghost image: { ℕ → Sector };
 }

@@ -21,14 +21,15 @@ use dc_sectors::Disk;
 use std::alloc::Allocator;
 
 impl<D: Disk + Drop, A: Allocator + Copy> Concentrator<D, A> {
-    /// Writes all that waits, as one group with one sync, or as the whole register where that doesn't fit, and
-    /// settles every line whose telegram it wrote. It answers the number of changes; where nothing waits, 0 without a
-    /// call of the disk. No memory is taken.
+    /// Writes all pending changes, as one group with one sync, or as the whole register if the
+    /// group doesn't fit, and acknowledges the telegram on every line whose telegram it wrote.
+    /// Returns the number of changes; if nothing is pending, 0 without a call of the disk. It uses
+    /// no memory.
     ///
     /// # Errors
-    /// `Stopped` after a failure; `Worn` where there is no next sequence or generation, and nothing has changed;
-    /// `Device` where the disk failed: the pending changes may be on the disk or not, and nothing more is asked or
-    /// written.
+    /// `Stopped` after a failure; `Worn` if the sequence or the generation is exhausted, and
+    /// nothing has changed; `Device` if the disk failed: the pending changes may be on the disk or
+    /// not, and nothing more is requested or written.
     pub fn commit(&mut self) -> Result<usize, CommitFault>
         ensures may { (origin : D) (core : Core)
             → IsAt (D.keeps origin) D.sectors D.reads D.choices self.old core

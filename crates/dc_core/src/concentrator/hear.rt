@@ -1,4 +1,4 @@
-//! What is heard on a line.
+//! The answers on a line.
 
 ghost use Rattle.std.specs.Prelude.{◌≡◌};
 ghost use Rattle.dc_core.specs.Core.{Core};
@@ -15,12 +15,13 @@ use dc_sectors::Disk;
 use std::alloc::Allocator;
 
 impl<D: Disk + Drop, A: Allocator + Copy> Concentrator<D, A> {
-    /// Hears an answer on a line, at a moment. No byte is silence. A telegram is taken into the register and waits
-    /// for a commit; a session that failed leaves its line. Memory is taken for a telegram alone.
+    /// Takes an answer received on a line, with its time stamp. No byte is silence. A telegram is
+    /// added to the register and is pending until a commit; a failed session leaves its line. Only
+    /// a telegram uses memory.
     ///
     /// # Errors
-    /// The first that stands, in the order `NoLine`, `Stopped`, `Idle`, and for a telegram `PendingFull`, `Full`,
-    /// `NoMemory`; nothing has changed, and the request still waits.
+    /// The first of `NoLine`, `Stopped`, `Idle`, and for a telegram `PendingFull`, `Full`,
+    /// `NoMemory` that applies; nothing has changed, and the request can be answered again.
     pub fn hear(&mut self, line: u8, moment: Moment, answer: &[u8]) -> Result<LineHeard, HearFault>
         ensures may { (origin : D) (core : Core)
             → IsAt (D.keeps origin) D.sectors D.reads D.choices self.old core

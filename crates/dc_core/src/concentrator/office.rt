@@ -35,14 +35,14 @@ use dc_upload::{
 use std::alloc::Allocator;
 
 impl<D: Disk + Drop, A: Allocator + Copy> Concentrator<D, A> {
-    /// Answers a line of the office, which comes without its line end. The pending changes are committed first, so
-    /// nothing is judged or shown that isn't on the disk; a new command is applied and committed before `OK`. A
-    /// command that removes a meter ends its session. Memory is taken for a new command, and for the table of a
-    /// REPORT.
+    /// Answers a line of the office, given without its line end. Pending changes are committed
+    /// first, so that nothing is judged or shown that isn't on the disk; a new command is applied
+    /// and committed before `OK`. A command that removes a meter ends its session. Only a new
+    /// command and the table of a REPORT use memory.
     ///
     /// # Errors
-    /// `WriteFault` where the writer failed. What the line did stands then, and a command's repeat answers `OK`; a
-    /// prefix of the reply is written.
+    /// `WriteFault` if the writer failed. The line's effect remains, and a repeat of the command
+    /// answers `OK`; a prefix of the reply is written.
     pub fn office<W: Sink>(&mut self, line: &[u8], out: &mut W) -> Result<(), WriteFault>
         ensures turned { (origin : D) (core : Core)
             → IsAt (D.keeps origin) D.sectors D.reads D.choices self.old core
@@ -82,7 +82,7 @@ impl<D: Disk + Drop, A: Allocator + Copy> Concentrator<D, A> {
         self.answer(&line, out)
     }
 
-    // Commits the pending changes; a store that has stopped takes no line.
+    // Commits the pending changes; a stopped store takes no line.
     fn settle(&mut self) -> Result<(), CommitFault>
         ensures ok { (origin : D) (core : Core)
             → IsAt (D.keeps origin) D.sectors D.reads D.choices self.old core
@@ -113,7 +113,7 @@ impl<D: Disk + Drop, A: Allocator + Copy> Concentrator<D, A> {
         }
     }
 
-    // Answers a line where nothing waits.
+    // Answers a line when nothing is pending.
     fn answer<W: Sink>(&mut self, line: &OfficeLine, out: &mut W) -> Result<(), IoFault>
         requires line { IsOfficeLine line.now }
         requires empty { self.old.waiting.count ≡ 0 }
@@ -135,7 +135,7 @@ impl<D: Disk + Drop, A: Allocator + Copy> Concentrator<D, A> {
         }
     }
 
-    // Does a new command where nothing waits.
+    // Does a new command when nothing is pending.
     fn obey<W: Sink>(
         &mut self,
         change: &Change<'_>,
@@ -169,7 +169,8 @@ impl<D: Disk + Drop, A: Allocator + Copy> Concentrator<D, A> {
         write_answer(self.alloc, &self.house, line, out)
     }
 
-    // Takes a command where nothing waits: the register has it, it waits, and nobody reads a meter that it removes.
+    // Takes a command when nothing is pending: adds it to the register and the pending changes, and
+    // ends the session of a meter that it removes.
     fn order(&mut self, change: &Change<'_>) -> Result<(), NoMemory>
         requires empty { self.old.waiting.count ≡ 0 }
         requires is_change { IsChange change.now }
@@ -190,7 +191,7 @@ impl<D: Disk + Drop, A: Allocator + Copy> Concentrator<D, A> {
     }
 }
 
-// The reply to a line that is no new command, or that memory was refused for it.
+// Writes the reply to a line that is no new command, or to a command for which memory ran out.
 fn write_answer<A: Allocator + Copy, W: Sink>(
     alloc: A,
     house: &House<A>,
@@ -213,7 +214,7 @@ fn write_answer<A: Allocator + Copy, W: Sink>(
     }
 }
 
-// Nobody reads a meter that the change removes.
+// Ends the session of a meter that the change removes.
 fn end_removed(lines: &mut Lines, change: &Change<'_>)
     ensures { lines.new ≡ lines_after (removed_by change.now) lines.old }
 {
