@@ -23,7 +23,7 @@ pub record MayFollow (half_len : ℕ) (state : State) (promised : ℕ) (changes 
   pub premise : EachStands half_len (settled image)
   pub found : (found : State) → Reads half_len found image → IsFront state promised changes found
 
--- AN IMAGE THAT A LIFE LEAVES CAN BE OPENED, and it reads only as a state for which it may stand.
+-- AN IMAGE THAT A LIFE LEAVES CAN BE OPENED, and it reads only as a state that it may stand for.
 abbrev pub LivesFollow : Type 0
 LivesFollow = (sectors : ℕ) (state : State) (promised : ℕ) (changes : List Change) (image : Image)
     → StandsForPromised (half_len_of sectors) state promised changes image

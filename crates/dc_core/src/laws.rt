@@ -26,7 +26,7 @@ pub fn a_settled_telegram_toggles_the_bit()
 {}
 
 /// An image that a crash leaves in one life satisfies the premise of the opening that begins the
-/// next, and it reads only as a state for which it may stand.
+/// next, and it reads only as a state that it may stand for.
 pub fn an_image_of_a_life_may_be_opened()
     ensures { LivesFollow }
 {}

@@ -1,10 +1,10 @@
 -- the definitions that contracts cite
 
--- what the lines of `inspect` are
+-- the lines of `inspect`
 pub mod Text
--- what is told of an image
+-- what `inspect` prints of an image
 pub mod Told
--- a table of what an image holds, as JSON
+-- a table of an image's contents, as JSON
 pub mod Report
--- what a look at an image answers: for the contracts of private functions
+-- the result of reading an image: for the contracts of private functions
 pub mod Look

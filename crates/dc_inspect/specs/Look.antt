@@ -1,4 +1,4 @@
--- What a look at an image answers: for the contracts of private functions.
+-- The result of reading an image: for the contracts of private functions.
 use Rattle.std.specs.Prelude.{◌≡◌, ◌⊎◌, ℕ, Option, option_map}
 use Rattle.dc_sectors.specs.Disk.{Image}
 use Rattle.dc_roots.specs.Held.{IsHeld}
@@ -10,11 +10,11 @@ use Rattle.dc_recovery.specs.declared.reading.Found.{Found}
 use Rattle.dc_inspect.specs.Told.{Seen, IsLook}
 use Rattle.dc_inspect.specs.declared.look.Slots.{Slots}
 
--- the slots hold that
+-- the contents of the slots
 abbrev pub AreHeld : Image → Slots → Type 0
 AreHeld image slots = IsHeld 1 (image 1) slots.first × IsHeld 2 (image 2) slots.second
 
--- what was found, as what was seen
+-- what was found, as contracts see it
 abbrev pub seen_of : {A : Type 0} → Found A → Seen
 seen_of found = record {
   root = found.root;
@@ -26,7 +26,7 @@ seen_of found = record {
 abbrev pub IsSeen : {A : Type 0} → ℕ → Image → Option (Found A) → Option OpenFault → Type 0
 IsSeen half_len image found refusal = IsLook half_len image (option_map seen_of found) refusal
 
--- what stops a look, where reading answers that fault
+-- the program fault for a reading fault that ends the inspection
 abbrev pub IsStop : OpenFault → ProgramFault → Type 0
 IsStop fault stop = ((fault ≡ Device) × (stop ≡ Open Device))
     ⊎ ((fault ≡ NoMemory) × (stop ≡ Refused))

@@ -1,4 +1,4 @@
--- A table of what an image holds, as JSON Lines (this product).
+-- A table of an image's contents, as JSON Lines (this product).
 use Rattle.std.specs.Prelude.{ℕ, List}
 use Rattle.dc_changes.specs.State.{State}
 use Rattle.dc_json.specs.Report.{due_lines, register_lines}

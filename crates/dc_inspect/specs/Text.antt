@@ -1,4 +1,4 @@
--- The lines of `inspect`: a fact a line, its name and its numbers (this product).
+-- The lines of `inspect`: one fact per line, its name and its numbers (this product).
 use Rattle.std.specs.Prelude.{ℕ, ◌-◌, List, [], ◌++◌, length, codes, slice_get, Option, Some, None}
 use Rattle.std.specs.Prelude.{option_map}
 use Rattle.dc_io.specs.Words.{number_word, fault_text}
@@ -21,12 +21,12 @@ number_line name n = name ++ number_word n ++ codes "\n"
 unfoldable pub pair_line : List ℕ → ℕ → ℕ → List ℕ
 pair_line name a b = name ++ number_word a ++ number_word b ++ codes "\n"
 
--- what a root says: its version, generation and session, and the half that it names
+-- the fields of a root: its version, generation and session, and the half that it names
 unfoldable pub root_words : Root → List ℕ
 root_words root = number_word root.version ++ number_word root.generation
     ++ number_word root.session ++ number_word root.half ++ codes "\n"
 
--- what a root slot holds: the slot is the sector, 1 or 2
+-- the contents of a root slot: the slot is the sector, 1 or 2
 abbrev pub held_words : Held → List ℕ
 held_words (Valid root) = root_words root
 held_words Other = codes " NONE\n"
@@ -35,8 +35,8 @@ held_words Lost = codes " UNREADABLE\n"
 unfoldable pub slot_line : ℕ → Held → List ℕ
 slot_line slot held = codes "ROOT" ++ number_word slot ++ held_words held
 
--- the version of the root in force, its half, how many groups of changes follow the base group, and how many sectors of
--- the half are in use and free
+-- the version of the root in force, its half, the number of groups of changes after the base group,
+-- and the numbers of used and free sectors of the half
 unfoldable pub place_text : ℕ → Root → ℕ → ℕ → List ℕ
 place_text half_len root last place =
     number_line (codes "VERSION") root.version
@@ -50,7 +50,7 @@ unfoldable pub serial_word : Option ℕ → List ℕ
 serial_word None = []
 serial_word (Some serial) = number_word serial
 
--- how many readings wait for the office, and the first and the last serial of them
+-- the number of readings that the office hasn't confirmed, and their first and last serial
 unfoldable pub readings_words : List ℕ → Summary → List ℕ
 readings_words name sum = name ++ (number_word sum.readings
     ++ (serial_word sum.first ++ (serial_word sum.last ++ codes "\n")))
@@ -58,7 +58,7 @@ readings_words name sum = name ++ (number_word sum.readings
 abbrev pub readings_line : Summary → List ℕ
 readings_line sum = readings_words (codes "READINGS") sum
 
--- the state's size and the greatest that it may have, in bytes; its meters and readings; up to which serial the
+-- the state's size and its maximum, in bytes; its meters and readings; the last serial that the
 -- office has confirmed; the number of the last command
 unfoldable pub summary_text : Summary → List ℕ
 summary_text sum =
@@ -71,7 +71,7 @@ summary_text sum =
 abbrev pub serial_at : ℕ → List ReadingRow → Option ℕ
 serial_at i readings = option_map (λ (r : ReadingRow). r.serial) (slice_get readings i)
 
--- a state within a budget, summed up
+-- the summary of a state within a budget
 abbrev pub summary_of : ℕ → State → Summary
 summary_of budget s = record {
   size = size_of s;

@@ -1,5 +1,5 @@
--- What `inspect` says of a disk's image (this product): the state that it reads as, by the definitions that opening is
--- held to, or its one refusal.
+-- What `inspect` prints of a disk's image (this product): the state that it reads as, by the
+-- definitions that opening follows, or its one refusal.
 use Rattle.std.specs.Prelude.{◌≡◌, ◌⊎◌, ◌<◌, ◌≤◌, ℕ, List, [], ◌++◌, codes, Option, Some, None}
 use Rattle.dc_sectors.specs.Disk.{Image}
 use Rattle.dc_changes.specs.State.{State}
@@ -17,15 +17,16 @@ use Rattle.dc_poller.specs.declared.fault.ProgramFault.TheVariants.{Open}
 use Rattle.dc_inspect.specs.Text.{number_line, slot_line, place_text, summary_of, summary_text}
 use Rattle.dc_inspect.specs.Text.{refused_line, refusal_text}
 
--- what an image was read as: the root in force, the sequence of the last group, the place of the next one, and the
--- state
+-- the content of an image: the root in force, the sequence of the last group, the place of the next
+-- one, and the state
 pub record Seen : Type 0 where
   pub root : Root
   pub last : ℕ
   pub place : ℕ
   pub state : State
 
--- why an image that reads doesn't open: no session can begin after that root and the group of that sequence
+-- why an image that reads doesn't open: no session can begin after that root and the group of that
+-- sequence
 abbrev pub IsWearOf : Root → ℕ → Option OpenFault → Type 0
 IsWearOf root last None = IsSpent root last → ⊥
 IsWearOf root last (Some fault) = (fault ≡ Worn) × IsSpent root last
@@ -47,19 +48,19 @@ seen_text half_len (Some seen) = place_text half_len seen.root seen.last seen.pl
 abbrev pub disk_line : ℕ → List ℕ
 disk_line sectors = number_line (codes "DISK") sectors
 
--- what is told of an image
+-- the text of an image
 unfoldable pub image_text : ℕ → Held → Held → Option Seen → Option OpenFault → List ℕ
 image_text half_len first second seen refusal =
     slot_line 1 first ++ (slot_line 2 second ++ (seen_text half_len seen ++ refusal_text refusal))
 
--- A disk that is too small for an image is none.
+-- A disk that is too small for an image holds none.
 pub record TellsSmall (sectors : ℕ) (refusal : Option OpenFault)
     (wrote : List ℕ → Type 0) : Type 0 where
   pub small : sectors < fewest_sectors
   pub refusal_is : refusal ≡ Some NotImage
   pub text : wrote (disk_line sectors ++ refused_line NotImage)
 
--- The slots, what the image reads as, and why it doesn't open, were told.
+-- The slots, the state that the image reads as, and why it doesn't open, were printed.
 pub record TellsImage (sectors : ℕ) (image : Image) (refusal : Option OpenFault)
     (wrote : List ℕ → Type 0) : Type 0 where
   pub enough : fewest_sectors ≤ sectors
@@ -71,12 +72,12 @@ pub record TellsImage (sectors : ℕ) (image : Image) (refusal : Option OpenFaul
   pub look : IsLook (half_len_of sectors) image seen refusal
   pub text : wrote (disk_line sectors ++ image_text (half_len_of sectors) first second seen refusal)
 
--- WHAT IS TOLD of a disk of this many sectors with that image, and why it doesn't open
+-- WHAT IS PRINTED of a disk of this many sectors with that image, and why it doesn't open
 abbrev pub Tells : ℕ → Image → Option OpenFault → (List ℕ → Type 0) → Type 0
 Tells sectors image refusal wrote =
     TellsSmall sectors refusal wrote ⊎ TellsImage sectors image refusal wrote
 
--- what stops a look: memory, the disk or the writer, of which an end has counted its failure
+-- what ends an inspection: memory, the disk or the writer, which has counted its failure
 abbrev pub IsOfLook : Type 0 → Type 0 → ProgramFault → Type 0
 IsOfLook disk_failed writer_failed Read = ⊥
 IsOfLook disk_failed writer_failed TooLong = ⊥

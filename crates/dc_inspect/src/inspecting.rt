@@ -25,7 +25,7 @@ use dc_recovery::{FEWEST_SECTORS, Found, OpenFault, half_len_of};
 use dc_sectors::{Disk, Failed};
 use std::alloc::Allocator;
 
-// Puts what is told of an image after the line of its disk.
+// Writes the text of an image after the line of its disk.
 #[tactic(auto, using(dc_io::proofs::Pieces::written), unfolding(crate::specs::Told::image_text))]
 fn put_image<A: Allocator + Copy, W: Sink>(
     out: &mut W,
@@ -50,7 +50,7 @@ fn put_image<A: Allocator + Copy, W: Sink>(
     put_refusal(out, look.refusal)
 }
 
-// Puts what was read of an image, if it reads.
+// Writes the state that an image reads as, if it reads.
 #[tactic(auto, using(dc_io::proofs::Pieces::written))]
 fn put_found<A: Allocator + Copy, W: Sink>(
     out: &mut W,
@@ -74,7 +74,7 @@ fn put_found<A: Allocator + Copy, W: Sink>(
     }
 }
 
-// Puts what is told of an image.
+// Writes the text of an image.
 #[tactic(auto, using(dc_io::proofs::Pieces::written))]
 fn put_disk<A: Allocator + Copy, W: Sink>(
     out: &mut W,
@@ -98,7 +98,7 @@ fn put_disk<A: Allocator + Copy, W: Sink>(
     put_image(out, half_len, slots, look)
 }
 
-// Puts what is told of a disk that is too small for an image.
+// Writes the text of a disk that is too small for an image.
 #[tactic(auto, using(dc_io::proofs::Pieces::written))]
 fn put_small<W: Sink>(out: &mut W, sectors: u32) -> Result<(), IoFault>
     ensures { Wrote W.Sink result out.old out.new
@@ -108,7 +108,7 @@ fn put_small<W: Sink>(out: &mut W, sectors: u32) -> Result<(), IoFault>
     put_refused_line(out, OpenFault::NotImage)
 }
 
-// Adds what is told of an image, and answers why it doesn't open.
+// Appends the text of an image, and returns why it doesn't open.
 fn tell_image<A: Allocator + Copy, D: Disk>(
     alloc: A,
     disk: &mut D,
@@ -138,7 +138,7 @@ fn tell_image<A: Allocator + Copy, D: Disk>(
     }
 }
 
-// Adds what is told of a disk that is too small for an image.
+// Appends the text of a disk that is too small for an image.
 fn tell_small<A: Allocator>(
     sectors: u32,
     text: &mut Bytes<A>,
@@ -154,7 +154,7 @@ fn tell_small<A: Allocator>(
     }
 }
 
-// Makes the whole text, and answers why the image doesn't open.
+// Builds the whole text, and returns why the image doesn't open.
 fn tell_disk<A: Allocator + Copy, D: Disk>(
     alloc: A,
     disk: &mut D,
@@ -176,22 +176,22 @@ fn tell_disk<A: Allocator + Copy, D: Disk>(
     tell_image(alloc, disk, sectors, text)
 }
 
-/// Reads the image and writes what it holds, a fact a line. Nothing is written to the disk and nothing is synced, not
-/// even the next root. The answer is why the image doesn't open, if it doesn't: a fact of the image, which the text
-/// tells too.
+/// Reads the image and writes its contents, one fact per line. Nothing is written to the disk and
+/// nothing is synced, not even the next root. Returns why the image doesn't open, if it doesn't: a
+/// fact of the image, which the text states too.
 ///
-/// The image is read as [`Store::open`](dc_recovery::Store::open) reads it. The text is made whole before it is
-/// written, with one put.
+/// The image is read as [`Store::open`](dc_recovery::Store::open) reads it. The text is built whole
+/// before it is written, in one put.
 ///
 /// # Errors
-/// `Open(Device)` where a read of the disk failed and [`ProgramFault::NoMemory`] where memory was refused, both with
-/// the writer as it was; [`ProgramFault::Write`] where the writer failed.
+/// `Open(Device)` if a read of the disk failed and [`ProgramFault::NoMemory`] if memory ran out,
+/// both with the writer unchanged; [`ProgramFault::Write`] if the writer failed.
 pub fn inspect<D: Disk, A: Allocator + Copy, W: Sink>(
     alloc: A,
     disk: &mut D,
     writer: &mut W,
 ) -> Result<Option<OpenFault>, ProgramFault>
-    // What is told is the state that the image reads as, or the image's one refusal.
+    // The text states the state that the image reads as, or the image's one refusal.
     ensures told { D.keeps disk.new → IfOk result (λ refusal.
         Tells (D.sectors disk.old) (D.reads disk.old) refusal
         (PutsInto W.Sink writer.old writer.new)) }
@@ -202,7 +202,8 @@ pub fn inspect<D: Disk, A: Allocator + Copy, W: Sink>(
     ensures looked { OnlyLooked D.keeps D.reads D.choices D.moment D.images_since D.sectors
         D.failures disk.old disk.new }
 
-    // A fault of an end is answered only where that end counted a failure, and only a failed write touches the writer.
+    // A fault of an end is returned only if that end counted a failure, and only a failed write
+    // touches the writer.
     ensures faults { IfErr result (IsOfLook (HasRisen (D.failures disk.old) (D.failures disk.new))
         (HasRisen (W.put_failures writer.old) (W.put_failures writer.new))) }
     ensures untouched { IfErr result (λ fault.

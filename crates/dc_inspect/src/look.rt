@@ -1,4 +1,4 @@
-//! What is seen of an image that is only read.
+//! The contents of an image that is only read.
 
 ghost use Rattle.std.specs.Prelude.{◌≡◌, ◌<◌, ◌≤◌, ◌+◌, ◌*◌, IfOk, IfErr, IfSome, OnOk, OnErr};
 ghost use Rattle.dc_io.specs.Failures.{HasRisen};
@@ -14,7 +14,7 @@ use dc_roots::{Held, Root, read_slot};
 use dc_sectors::{Disk, Failed};
 use std::alloc::Allocator;
 
-/// What the two root slots hold.
+/// The contents of the two root slots.
 #[derive(Clone, Copy)]
 pub(crate) struct Slots {
     /// Sector 1.
@@ -23,10 +23,10 @@ pub(crate) struct Slots {
     pub second: Held,
 }
 
-/// What an image was read as, and why it doesn't open.
+/// The state that an image reads as, and why it doesn't open.
 #[derive(Drop)]
 pub(crate) struct Look<A: Allocator + Copy> {
-    /// What was read of it, where it reads as a state.
+    /// The state and its place, if the image reads as one.
     pub found: Option<Found<A>>,
     /// Why it doesn't open, if it doesn't.
     pub refusal: Option<OpenFault>,
@@ -46,7 +46,8 @@ pub(crate) fn read_slots<D: Disk>(disk: &mut D) -> Result<Slots, Failed>
     Ok(Slots { first, second })
 }
 
-// What a fault of reading is: a refusal, which is a fact of the image, or what stops the look.
+// Sorts a fault of reading: a refusal, which is a fact of the image, or a fault that ends the
+// inspection.
 fn refusal_of(fault: OpenFault) -> Result<OpenFault, ProgramFault>
     ensures told { IfOk result (λ refusal. (refusal ≡ fault) × TellsOfImage fault) }
     ensures stopped { IfErr result (IsStop fault) }
@@ -71,7 +72,7 @@ fn wear_of(root: &Root, last: u64) -> Option<OpenFault>
     }
 }
 
-/// Reads what an image holds, as opening reads it.
+/// Reads an image's contents, as opening reads them.
 pub(crate) fn look_at<A: Allocator + Copy, D: Disk>(
     alloc: A,
     disk: &mut D,

@@ -1,4 +1,4 @@
-//! The engine of `report --json`: a table of what an image holds, as JSON Lines.
+//! The engine of `report --json`: a table of an image's contents, as JSON Lines.
 
 ghost use Rattle.std.specs.Prelude.{◌≡◌, ◌≢◌, ◌≤◌, ◌<◌, Err, IfOk, IfErr, OnOk, IsErrOf};
 ghost use Rattle.dc_io.specs.Failures.{HasRisen};
@@ -19,13 +19,13 @@ use dc_recovery::Store;
 use dc_sectors::Disk;
 use std::alloc::Allocator;
 
-/// Opens the image, writes a table of what it holds as JSON Lines (RFC 8259), with one put, and closes it. The table
-/// is made whole before anything is written. Opening begins a session, so the image's next root is written; nothing
-/// else is. The disk comes back whatever happens.
+/// Opens the image, writes a table of its contents as JSON Lines (RFC 8259) in one put, and closes
+/// it. The table is built whole before anything is written. Opening begins a session, so the
+/// image's next root is written; nothing else is. The disk is returned in every case.
 ///
 /// # Errors
-/// [`ProgramFault::Open`] where the image wasn't opened, and [`ProgramFault::NoMemory`] where memory was refused for
-/// the table, both with the writer as it was; [`ProgramFault::Write`] where the writer failed.
+/// [`ProgramFault::Open`] if the image wasn't opened, and [`ProgramFault::NoMemory`] if memory for
+/// the table ran out, both with the writer unchanged; [`ProgramFault::Write`] if the writer failed.
 pub fn report_json_on<D: Disk + Drop, A: Allocator + Copy, W: Sink>(
     alloc: A,
     disk: D,
@@ -38,7 +38,8 @@ pub fn report_json_on<D: Disk + Drop, A: Allocator + Copy, W: Sink>(
         (PutsInto W.Sink writer.old writer.new)) }
     ensures well { OnOk result.1 (W.put_failures writer.new ≡ W.put_failures writer.old) }
 
-    // An image that isn't opened is refused as the store refuses it; one that stands is refused only as worn.
+    // A refusal is that of the store; an image that stands for a state is refused only for an
+    // exhausted counter.
     ensures small { D.sectors disk < fewest_sectors → result.1 ≡ Err (ProgramFault.Open NotImage) }
     ensures refused { D.keeps result.0 → fewest_sectors ≤ D.sectors disk
         → IfErr result.1 (λ fault. IfOpen fault (λ e.
@@ -76,7 +77,7 @@ pub fn report_json_on<D: Disk + Drop, A: Allocator + Copy, W: Sink>(
     }
 }
 
-// The lines of the table of a house that isn't wanted any more.
+// The lines of the table of a house that isn't used any more.
 fn lines_of<A: Allocator + Copy>(
     alloc: A,
     house: House<A>,

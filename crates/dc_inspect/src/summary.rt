@@ -1,4 +1,4 @@
-//! What a state is summed up as.
+//! The summary of a state.
 
 ghost use Rattle.std.specs.Prelude.{◌≡◌, ◌-◌, length, option_copied, option_map, slice_get};
 ghost use Rattle.dc_inspect.specs.Text.{summary_of};
@@ -8,22 +8,22 @@ use dc_report::register_rows;
 use std::alloc::Allocator;
 use std::collections::VecDeque;
 
-/// What a state is summed up as.
+/// The numbers that sum up a state.
 #[derive(Clone, Copy)]
 pub(crate) struct Summary {
     /// Its size in bytes.
     pub size: u32,
-    /// The greatest size that it may have.
+    /// Maximum size in bytes.
     pub budget: u32,
-    /// The number of registered meters.
+    /// Number of registered meters.
     pub meters: usize,
-    /// The number of readings that the office hasn't confirmed.
+    /// Number of readings that the office hasn't confirmed.
     pub readings: usize,
-    /// The first serial of these.
+    /// The first serial of these readings.
     pub first: Option<u64>,
-    /// The last one.
+    /// The last serial of these readings.
     pub last: Option<u64>,
-    /// The serial up to which the office has confirmed.
+    /// The last serial that the office has confirmed.
     pub confirmed: u64,
     /// The number of the last command.
     pub command: u64,
@@ -60,7 +60,7 @@ fn last_of<A: Allocator>(readings: &VecDeque<Reading<A>, A>) -> Option<&Reading<
     readings.back()
 }
 
-/// Sums up what a house holds.
+/// Sums up a house.
 pub(crate) fn summary_of<A: Allocator + Copy>(house: &House<A>) -> Summary
     ensures { result ≡ summary_of house.now.budget house.now.state }
 {

@@ -1,4 +1,4 @@
-//! What was seen of an image, as text.
+//! Writes the contents of an image as text.
 
 ghost use Rattle.std.specs.Prelude.{◌≤◌, ◌++◌};
 ghost use Rattle.dc_io.specs.Written.{Wrote};
@@ -14,7 +14,7 @@ use dc_recovery::{Found, OpenFault, half_end, half_start};
 use dc_roots::{Held, Root};
 use std::alloc::Allocator;
 
-/// Puts a line of a name and a number.
+/// Writes a line of a name and a number.
 #[tactic(auto, using(dc_io::proofs::Pieces::written), unfolding(crate::specs::Text::number_line))]
 pub(crate) fn put_number_line<W: Sink>(out: &mut W, name: &[u8], number: u64) -> Result<(), IoFault>
     ensures { Wrote W.Sink result out.old out.new (number_line name.now number) }
@@ -24,7 +24,7 @@ pub(crate) fn put_number_line<W: Sink>(out: &mut W, name: &[u8], number: u64) ->
     out.put(b"\n")
 }
 
-// Puts a line of a name and two numbers.
+// Writes a line of a name and two numbers.
 #[tactic(auto, using(dc_io::proofs::Pieces::written), unfolding(crate::specs::Text::pair_line))]
 fn put_pair_line<W: Sink>(out: &mut W, name: &[u8], first: u64, second: u64) -> Result<(), IoFault>
     ensures { Wrote W.Sink result out.old out.new
@@ -36,7 +36,7 @@ fn put_pair_line<W: Sink>(out: &mut W, name: &[u8], first: u64, second: u64) -> 
     out.put(b"\n")
 }
 
-// Puts what a root says.
+// Writes the fields of a root.
 #[tactic(auto, using(dc_io::proofs::Pieces::written), unfolding(crate::specs::Text::root_words))]
 fn put_root<W: Sink>(out: &mut W, root: &Root) -> Result<(), IoFault>
     ensures { Wrote W.Sink result out.old out.new (root_words root.now) }
@@ -48,7 +48,7 @@ fn put_root<W: Sink>(out: &mut W, root: &Root) -> Result<(), IoFault>
     out.put(b"\n")
 }
 
-// Puts what a slot holds.
+// Writes the contents of a slot.
 fn put_held<W: Sink>(out: &mut W, held: &Held) -> Result<(), IoFault>
     ensures { Wrote W.Sink result out.old out.new (held_words held.now) }
 {
@@ -59,7 +59,7 @@ fn put_held<W: Sink>(out: &mut W, held: &Held) -> Result<(), IoFault>
     }
 }
 
-/// Puts the line of a root slot.
+/// Writes the line of a root slot.
 #[tactic(auto, using(dc_io::proofs::Pieces::written), unfolding(crate::specs::Text::slot_line))]
 pub(crate) fn put_slot<W: Sink>(out: &mut W, slot: u8, held: &Held) -> Result<(), IoFault>
     ensures { Wrote W.Sink result out.old out.new (slot_line slot held.now) }
@@ -69,7 +69,7 @@ pub(crate) fn put_slot<W: Sink>(out: &mut W, slot: u8, held: &Held) -> Result<()
     put_held(out, held)
 }
 
-/// Puts where the groups lie that lead to the state.
+/// Writes the place of the groups that lead to the state.
 #[tactic(auto, using(dc_io::proofs::Pieces::written), unfolding(crate::specs::Text::place_text))]
 pub(crate) fn put_place<A: Allocator + Copy, W: Sink>(
     out: &mut W,
@@ -97,7 +97,7 @@ pub(crate) fn put_place<A: Allocator + Copy, W: Sink>(
     put_pair_line(out, b"SECTORS", u64::from(used), u64::from(free))
 }
 
-// Puts a serial, if there is one.
+// Writes a serial, if there is one.
 #[tactic(auto, unfolding(crate::specs::Text::serial_word))]
 fn put_serial<W: Sink>(out: &mut W, serial: Option<u64>) -> Result<(), IoFault>
     ensures { Wrote W.Sink result out.old out.new (serial_word serial) }
@@ -108,7 +108,7 @@ fn put_serial<W: Sink>(out: &mut W, serial: Option<u64>) -> Result<(), IoFault>
     }
 }
 
-// Puts how many readings there are, and the first and the last serial, after a name.
+// Writes the number of readings, and their first and last serial, after a name.
 #[tactic(auto, using(dc_io::proofs::Pieces::written), unfolding(crate::specs::Text::readings_words))]
 fn put_readings<W: Sink>(out: &mut W, name: &[u8], sum: &Summary) -> Result<(), IoFault>
     ensures { Wrote W.Sink result out.old out.new
@@ -121,7 +121,7 @@ fn put_readings<W: Sink>(out: &mut W, name: &[u8], sum: &Summary) -> Result<(), 
     out.put(b"\n")
 }
 
-/// Puts what a state is summed up as.
+/// Writes the summary of a state.
 #[tactic(auto, using(dc_io::proofs::Pieces::written), unfolding(crate::specs::Text::summary_text))]
 pub(crate) fn put_summary<W: Sink>(out: &mut W, sum: &Summary) -> Result<(), IoFault>
     ensures { Wrote W.Sink result out.old out.new (summary_text sum.now) }
@@ -133,7 +133,7 @@ pub(crate) fn put_summary<W: Sink>(out: &mut W, sum: &Summary) -> Result<(), IoF
     put_number_line(out, b"COMMAND", sum.command)
 }
 
-// Puts the sector of a damaged image.
+// Writes the sector of a damaged image.
 #[tactic(auto, unfolding(crate::specs::Text::sector_word))]
 fn put_sector<W: Sink>(out: &mut W, fault: OpenFault) -> Result<(), IoFault>
     ensures { Wrote W.Sink result out.old out.new (sector_word fault) }
@@ -144,7 +144,7 @@ fn put_sector<W: Sink>(out: &mut W, fault: OpenFault) -> Result<(), IoFault>
     }
 }
 
-// Puts a fault and its sector.
+// Writes a fault and its sector.
 #[tactic(auto, using(dc_io::proofs::Pieces::written), unfolding(crate::specs::Text::fault_words))]
 fn put_fault_words<W: Sink>(
     out: &mut W,
@@ -160,7 +160,7 @@ fn put_fault_words<W: Sink>(
     out.put(b"\n")
 }
 
-// Puts a fault and its sector after a word.
+// Writes a fault and its sector after a word.
 #[tactic(auto, using(dc_io::proofs::Pieces::written))]
 fn put_refused<W: Sink>(
     out: &mut W,
@@ -176,14 +176,14 @@ fn put_refused<W: Sink>(
     put_fault_words(out, number, name, fault)
 }
 
-/// Puts why an image doesn't open.
+/// Writes why an image doesn't open.
 pub(crate) fn put_refused_line<W: Sink>(out: &mut W, fault: OpenFault) -> Result<(), IoFault>
     ensures { Wrote W.Sink result out.old out.new (refused_line fault) }
 {
     put_refused(out, b"REFUSED ", fault.number(), fault.name(), fault)
 }
 
-/// Puts why an image doesn't open, if it doesn't.
+/// Writes why an image doesn't open, if it doesn't.
 pub(crate) fn put_refusal<W: Sink>(out: &mut W, refusal: Option<OpenFault>) -> Result<(), IoFault>
     ensures { Wrote W.Sink result out.old out.new (refusal_text refusal) }
 {

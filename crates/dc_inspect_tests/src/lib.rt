@@ -1,7 +1,7 @@
-//! Tests of what is told of an image: the lines of `inspect` along a house's life and on images that don't open, the tables
-//! of `report` as JSON, refused memory and failing ends.
+//! Tests of what is printed of an image: the lines of `inspect` along a house's life and on images
+//! that don't open, the tables of `report` as JSON, out of memory and failing I/O.
 //!
-//! There is no product code here: what these tests use is what a program sees.
+//! The crate has no product code: these tests use what a program sees.
 #![tactic(auto)]
 
 #[cfg(test)]

@@ -1,4 +1,4 @@
-//! What is tried on looks into images, by topic.
+//! Tests of inspections, by topic.
 
 mod images;
 mod inspect;

@@ -151,7 +151,7 @@ module _ (W : List (List ℕ) → Type 0) (tail : (x : List ℕ) (xs : List (Lis
       go true rest = rest
       go false rest = u
 
--- no answer after the copies is one
+-- no answer after the copies is a copy
 pub past_is_none : (last : Option Last) (request : List ℕ) (way : List (List ℕ)) (x : List ℕ) (more : List (List ℕ))
     → past_copies last request way ≡ x ∷ more → is_copy last request x ≡ false
 past_is_none last request [] x more e = absurd cc

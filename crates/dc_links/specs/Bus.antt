@@ -1,5 +1,5 @@
--- What happens to a bus of one of two kinds (this product): what happens to the one that it is. Where there is none,
--- nothing does.
+-- The effect of a call on a bus of one of two kinds (this product): the effect on the bus that it
+-- is, or none if it is absent.
 use Rattle.std.specs.Prelude.{◌≡◌, ℕ, Bool, true, List, []}
 use Rattle.dc_links.specs.declared.bus.LinkBus.{LinkBus}
 use Rattle.dc_links.specs.declared.bus.LinkBus.TheVariants.{First, Second, Absent}
@@ -9,7 +9,7 @@ lost_by a b (First bus) = a bus
 lost_by a b (Second bus) = b bus
 lost_by a b Absent = true
 
--- no bus is silent, so a readout may begin
+-- an absent bus is silent, so a readout may begin
 abbrev pub ready_by : {A B : Type 0} → (A → Bool) → (B → Bool) → LinkBus A B → Bool
 ready_by a b (First bus) = a bus
 ready_by a b (Second bus) = b bus

@@ -1,5 +1,5 @@
 -- the definitions that contracts cite
--- what happens to a bus of one of two kinds
+-- the effect of a call on a bus of one of two kinds
 pub mod Bus
--- what a request of a script does to its link
+-- the effect of a script's request on its link
 pub mod Script

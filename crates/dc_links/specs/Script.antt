@@ -1,10 +1,11 @@
--- What a request of a script does to its link (this product).
+-- The effect of a script's request on its link (this product).
 use Rattle.std.specs.Prelude.{◌≡◌, ℕ, true, false, List, []}
 use Rattle.dc_line.specs.Both.{BothAsk}
 use Rattle.dc_line.specs.declared.bus.HalfBus.{Ghosts as HalfGhosts}
 use Rattle.dc_links.specs.declared.script.ScriptLink.{ScriptLink}
 
--- A lost link is untouched. Over another one this is heard of the request, or silence where the link is lost by it.
+-- A lost link is untouched. Otherwise this is the answer to the request, or silence if the link is
+-- lost by it.
 pub record LinkAsks {B P : Type 0} (half : HalfGhosts B) (old : ScriptLink B P)
     (request answer : List ℕ)
     (new : ScriptLink B P) : Type 0 where

@@ -6,14 +6,14 @@ use dc_gateway::AnswerBuf;
 use dc_line::{HalfBus, QuietBus};
 use dc_linkframe::FrameBuf;
 
-/// A bus of one kind or of another, or none at all.
+/// A bus of one of two kinds, or none.
 #[derive(Drop)]
 pub enum LinkBus<A: QuietBus + Drop, B: QuietBus + Drop> {
     /// A bus of the first kind.
     First(A),
     /// A bus of the second kind.
     Second(B),
-    /// No bus: it is lost from the start.
+    /// No bus: it counts as lost from the start.
     Absent,
 }
 

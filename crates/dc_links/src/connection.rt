@@ -8,14 +8,14 @@ use std::net::{Net, TcpStream, ToSocketAddrs};
 use std::rt::Clock;
 use std::time::{Duration, Instant};
 
-// How many seconds each address of the gateway has to take the connection.
+// Time limit for connecting to each address of the gateway, in seconds.
 const CONNECTING: u64 = 10;
 
-// How many seconds an exchange takes at most, from its request to the end of its answer. The longest frame takes 10 s
-// at 300 baud, and a meter up to a second before it answers.
+// Time limit of an exchange in seconds, from its request to the end of its answer. The longest
+// frame takes 10 s at 300 baud, and a meter takes up to a second before it answers.
 const EXCHANGE: u64 = 15;
 
-/// The stream from which answers come, and the one to which requests go.
+/// The stream of answers, and the stream of requests.
 pub type Ends<'a, C> = (ReadSource<&'a Connection<C>>, WriteSink<&'a Connection<C>>);
 
 /// A connection to a gateway on which an exchange has a time limit: reading the answer fails 15 s after the last write.
@@ -45,7 +45,7 @@ impl<C: Clock + Copy> Connection<C> {
         })
     }
 
-    /// Both ends of the connection.
+    /// The reader and the writer of the connection.
     pub fn ends(&self) -> Ends<'_, C> {
         (ReadSource::new(self), WriteSink::new(self))
     }
@@ -78,7 +78,7 @@ impl<C: Clock + Copy> Write for &Connection<C> {
 impl<C: Clock + Copy> Read for &Connection<C> {
     fn read(&mut self, room: &mut [u8]) -> io::Result<usize> {
         let spent = self.asked.get().elapsed(&self.clock)?;
-        // No time left is an error of `set_read_timeout`.
+        // A time limit of zero is an error of `set_read_timeout`.
         let left = Duration::from_secs(EXCHANGE).saturating_sub(spent);
         self.stream.set_read_timeout(Some(left))?;
         let mut stream = &self.stream;

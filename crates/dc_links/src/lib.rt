@@ -1,8 +1,8 @@
-//! The links of the bus lines, as the system has them: transparent gateways over TCP, serial level converters, and
-//! gateways of the block protocol.
+//! The links of the bus lines on this system: transparent gateways over TCP, serial level
+//! converters, and gateways of the block protocol.
 //!
-//! [`Peer::connect`] connects one by its name, and [`Peer::bus`] makes a bus of it ([`LinkBus`]). A [`Watch`] waits
-//! until one of several may have something.
+//! [`Peer::connect`] connects a link by its name, and [`Peer::bus`] returns its bus ([`LinkBus`]).
+//! A [`Watch`] waits until one of several buses may have received something.
 #![tactic(auto)]
 
 mod bus;

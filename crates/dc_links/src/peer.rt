@@ -1,4 +1,4 @@
-//! A link that is connected.
+//! A connected link.
 
 use crate::bus::LinkBus;
 use crate::connection::{Connection, connect};
@@ -15,21 +15,21 @@ use std::net::{Net, TcpStream};
 use std::rt::{Clock, Files};
 use std::time::Duration;
 
-// How many seconds a write may take: a peer that doesn't read is lost then.
+// Time limit of a write in seconds: a peer that doesn't read is then lost.
 const WRITING: u64 = 15;
 
 /// The other end of a link.
 #[derive(Drop)]
 pub enum Peer<C: Clock + Copy> {
-    /// A TCP stream that hands on the bytes of the bus.
+    /// A TCP stream that passes the bytes of the bus on.
     Tcp(TcpStream),
-    /// A terminal that does, prepared by `stty`.
+    /// A terminal that passes the bytes of the bus on, set up by `stty`.
     Serial(File),
-    /// It speaks the block protocol.
+    /// A gateway that speaks the block protocol.
     Blocks(Connection<C>),
 }
 
-/// The bus of a transparent link, on which late answers do no harm.
+/// The bus of a transparent link, which tolerates late answers.
 pub type RawBus<S, C> = Steady<Line<PollWire<S, C>>>;
 
 /// The bus of a TCP stream or of a terminal.
@@ -45,7 +45,8 @@ impl<C: Clock + Copy> Peer<C> {
     /// Connects a link by its name.
     ///
     /// # Errors
-    /// The host isn't found, takes no connection within 10 s, or there is no terminal to be opened.
+    /// The host isn't found or doesn't accept the connection within 10 s, or the terminal can't be
+    /// opened.
     pub fn connect(rt: &C, name: &LinkName<'_>) -> io::Result<Peer<C>>
     where
         C: Files<File = File> + Net<Stream = TcpStream>,
@@ -62,7 +63,7 @@ impl<C: Clock + Copy> Peer<C> {
         }
     }
 
-    /// Its bus, silent after this many milliseconds.
+    /// Returns the link's bus, with a time-out of this many milliseconds.
     ///
     /// # Errors
     /// The clock fails.
@@ -84,7 +85,7 @@ impl<C: Clock + Copy> Peer<C> {
     }
 }
 
-// A file that is no terminal has no meters behind it: what is written to it is lost, or spoils it.
+// A file that is no terminal has no meters: writing to it would lose the bytes or damage the file.
 fn open_terminal<R: Files<File = File>>(rt: &R, path: &str) -> io::Result<File> {
     let mut options = OpenOptions::new();
     options.read(true).write(true);

@@ -7,10 +7,11 @@ use dc_line::{Both, Pause, QuietBus};
 use dc_linkframe::FrameBuf;
 use dc_poller::ScriptBus;
 
-/// The bus of a script's line, of the two halves. What is heard over a request by which the link is lost is silence.
+/// The bus of a script's line, over the two halves. The answer to a request by which the link is
+/// lost is silence.
 #[derive(Drop)]
 pub struct ScriptLink<B: QuietBus + Drop, P: Pause<B> + Drop> {
-    /// The bus, and how its answers are waited for.
+    /// The bus, and the way to wait for its answers.
     pub both: Both<B, P>,
 }
 
@@ -18,7 +19,7 @@ impl<B: QuietBus + Drop, P: Pause<B> + Drop> Bus for ScriptLink<B, P> {
     ghost use Rattle.std.specs.Prelude.{None, []};
     ghost use Rattle.dc_links.specs.Script.{LinkAsks};
 
-    // Whom it leads to isn't told.
+    // The meters on it aren't known to contracts.
     ghost meters = { λ _. None };
 
     ghost selected = { λ _. [] };

@@ -1,4 +1,4 @@
-//! Connections that hand on the bytes of a bus as they are.
+//! Connections that pass the bytes of a bus on.
 
 use std::fs::File;
 use std::io;
@@ -13,7 +13,7 @@ pub struct Tcp<'a> {
     pub stream: &'a TcpStream,
 }
 
-/// A terminal that `stty` prepared, by reference.
+/// A terminal set up by `stty`, by reference.
 #[derive(Clone, Copy, Drop)]
 pub struct Terminal<'a> {
     /// The terminal's file.

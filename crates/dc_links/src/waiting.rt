@@ -8,24 +8,24 @@ use libc::types::pollfd;
 use std::rt::Clock;
 use std::time::Duration;
 
-// A wait takes at least this many milliseconds where no byte comes.
+// Minimum wait in milliseconds, unless a byte comes.
 const LEAST: u128 = 5;
 
-// And at most this many, so that what is shown of the progress is fresh.
+// Maximum wait in milliseconds, so that the progress shown is fresh.
 const LONGEST: u128 = 1_000;
 
-/// The buses of which one is waited for: at most eight.
+/// The buses to wait for: at most eight.
 #[derive(Drop)]
 pub struct Watch {
     asked: [pollfd; 8],
     count: usize,
     left: Duration,
-    // Whether one of them needs no wait.
+    // Whether one of the buses needs no wait.
     is_ready: bool,
 }
 
 impl Watch {
-    /// No bus yet.
+    /// Returns an empty set.
     pub fn new() -> Self {
         let none = pollfd {
             fd: -1,
@@ -40,7 +40,7 @@ impl Watch {
         }
     }
 
-    /// One bus more. Where one is lost, or of the block protocol, there is nothing to wait for.
+    /// Adds a bus. A lost bus, or one of the block protocol, needs no wait.
     pub fn add<C: Clock + Copy>(&mut self, bus: &SystemBus<'_, C>) {
         match bus {
             LinkBus::First(bytes) if !bus.is_lost() => self.add_bytes(bytes),
@@ -64,8 +64,9 @@ impl Watch {
         }
     }
 
-    /// Waits until a byte may have come on one of them, or the silence of one is over: five milliseconds at least,
-    /// unless a byte comes, and a second at most. Without a bus it doesn't wait.
+    /// Waits until a byte may have come on one of the buses, or the time-out of one is over: at
+    /// least five milliseconds, unless a byte comes, and at most a second. Without a bus it doesn't
+    /// wait.
     pub fn wait(mut self) {
         if self.is_ready || self.count == 0 {
             return;
@@ -75,7 +76,7 @@ impl Watch {
     }
 }
 
-/// Waits for one bus alone.
+/// Waits for a single bus.
 #[derive(Clone, Copy, Drop)]
 pub struct Waiter;
 

@@ -1,5 +1,5 @@
 pub mod Sizes  -- what a change does to the size
-pub mod Identities  -- meters told apart by their rows
+pub mod Identities  -- meters distinguished by their rows
 mod Readings  -- lists of readings
 mod Fields  -- the state that a house's fields hold
 mod Keeps  -- each step of a change leaves a state

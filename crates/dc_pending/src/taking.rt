@@ -27,7 +27,7 @@ pub fn take<A: Allocator + Copy>(
     telegram: &Telegram<'_>,
 ) -> Result<(), TakeFault>
     requires { length (parsed telegram.now).body ≤ longest_body }
-    // What stands against it is answered, and nothing else is but out of memory.
+    // The result is the fault that applies, and otherwise only out of memory.
     ensures refused { (fault : _) → refuses house.old.budget waiting.old.count
         (change_of moment.seconds part (parsed telegram.now)) house.old.state ≡ Some fault
         → result ≡ Err fault }

@@ -1,4 +1,4 @@
-//! Theorems about polls. The functions do nothing; their contracts are the theorems.
+//! Theorems about polls. The functions have no effect; their contracts state the theorems.
 
 ghost use Rattle.dc_poll_progress.specs.Polled.{PollsAreServed, PollsEnd};
 

@@ -302,7 +302,7 @@ module _ {D : Type 0} (known : Type 0) (sectors failures : D → ℕ) (reads : D
   halted_as (Err Write) budget state before moment asked links talked also first new so line = cut_so budget state before moment asked links talked also first new so line
   halted_as (Err NoMemory) budget state before moment asked links talked also first new so line = tt
 
-  -- where memory was refused
+  -- if memory runs out
   pub starved_as : {X : Type 0} (result : Result X Halt) (budget : ℕ) (state : State) (before : List Turn) (asked : LineSeen) (links : List LineLink) (wrote : List ℕ → Type 0) (talked also : List Exchange → Type 0) (first new : Machine D)
       → ((exchanges : List Exchange) → talked exchanges → also exchanges)
       → OnNoMemory result (LineStarved known sectors failures reads choices moment_of images_since budget state before asked links wrote talked first new)

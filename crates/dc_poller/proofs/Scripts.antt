@@ -18,7 +18,7 @@ use Rattle.dc_poller.specs.ScriptLine.{LineSeen, nothing, at, start, ask, hear, 
 pub line_is_word : (line : ℕ) → line ≤ greatest_line → IsWord (decimal line)
 line_is_word line fits = decimal_is_word line (omega arith)
 
--- ---- the first two letters tell the forms apart
+-- ---- the first two letters distinguish the forms
 
 abbrev letters_of : List ℕ → ℕ
 letters_of text = 256 * get_or text 0 0 + get_or text 1 0
@@ -76,7 +76,7 @@ no_space_in (byte ∷ front) rest is = no_space_in front rest (and_parts (is_ins
 no_space : (line : ℕ) (front rest : List ℕ) → line ≤ greatest_line → decimal line ≡ front ++ 32 ∷ rest → ⊥
 no_space line front rest fits same = no_space_in front rest (subst IsWord same (line_is_word line fits))
 
--- where no space stands after the first word, the answer is silence
+-- if the first word is followed by no space, the answer is silence
 pub only_silence : (text words : List ℕ) → text ≡ codes "HEAR" ++ 32 ∷ words → ((word rest : List ℕ) → IsWord word → words ≡ word ++ 32 ∷ rest → ⊥)
     → (line : ℕ) (answer : List ℕ) → IsLineOf text (hear line answer) → words ≡ decimal line
 only_silence text words is none line [] told =
@@ -90,7 +90,7 @@ pub record IsHeard (word digits : List ℕ) (line : ℕ) (answer : List ℕ) : T
   pub some : 0 < length answer
   pub bytes_are : bytes_of digits ≡ Some answer
 
--- where one is there, digits stand after it
+-- otherwise digits follow it
 pub only_digits : (text words word digits : List ℕ) → text ≡ codes "HEAR" ++ 32 ∷ words → IsWord word → words ≡ word ++ 32 ∷ digits
     → (line : ℕ) (answer : List ℕ) → IsLineOf text (hear line answer) → IsHeard word digits line answer
 only_digits text words word digits is is_word parts line [] told =
@@ -155,7 +155,7 @@ named_by text words word rest is is_word parts budget line fits (inl told) =
 named_by text words word rest is is_word parts budget line fits (inr told) =
     one_word word (decimal budget) rest (decimal line) is_word (budget_is_word budget fits) (sym parts ∙ ap (drop 7) (sym is ∙ told))
 
--- where no space stands after the first word, no line is named
+-- if the first word is followed by no space, no line is named
 pub only_unnamed : (text words : List ℕ) → text ≡ codes "SEARCH" ++ 32 ∷ words → ((word rest : List ℕ) → IsWord word → words ≡ word ++ 32 ∷ rest → ⊥)
     → (budget line : ℕ) → IsLineOf text (search budget line) → words ≡ decimal budget
 only_unnamed text words is none budget line told = unnamed_by text words is none budget line told.has_bounds.0 told.spells

@@ -62,7 +62,7 @@ module _ (meters : Option (List Identity)) (port : Port) (budget late : ℕ) (ta
   told_by link left (Ok done) exchanges s over left_is own so text = (exchanges, s, over, left_is, so, text)
   told_by link left (Err broken) exchanges s over left_is own so text = (exchanges, (s, own), so)
 
-  -- what was found is told
+  -- what was found is printed
   pub told_talked : (link left : Link) (put : Result (Unit {0}) IoFault) (r : Result (Unit {0}) Halt) (exchanges : List Exchange) (s : SearchState) → r ≡ halted_by put → IsOver meters budget link exchanges s → IsLeft link left → AreAskedBy (new_search budget) exchanges s → talked exchanges
       → OnOk put (wrote (loss_text port link left ++ (search_text s ++ late_text port late))) → Talked meters port budget late link left talked wrote r
   told_talked link left put r exchanges s is over left_is own so text =

@@ -1,4 +1,4 @@
--- Laws of the buses of a script (this product).
+-- Theorems about the buses of a script (this product).
 use Rattle.std.specs.Prelude.{◌≡◌, ℕ, Bool, true, false, List, []}
 use Rattle.std.proofs.Common.{subst}
 use Rattle.dc_gateway.specs.Asking.{Asks}
@@ -6,7 +6,7 @@ use Rattle.dc_gateway.specs.declared.gateway.Gateway.{Gateway}
 use Rattle.dc_io.specs.declared.stream.Sink.{Ghosts as SinkGhosts}
 use Rattle.dc_io.specs.declared.stream.Source.{Ghosts as SourceGhosts}
 
--- a gateway that is lost over a request is heard in silence
+-- the answer to a request by which a gateway is lost is silence
 pub gateway_is_silent : {R W : Type 0} (reader : SourceGhosts R) (writer : SinkGhosts W)
     (old new : Gateway R W) (request answer : List ℕ) → Asks reader writer old request answer new
     → new.lost ≡ true → answer ≡ []

@@ -1,4 +1,4 @@
--- How a run of the program ends: the status, and the line on standard error (this product).
+-- How a run of the program ends: the exit status, and the line on standard error (this product).
 use Rattle.std.specs.Prelude.{ℕ, List, [], ◌++◌, codes, Option, None, Some}
 use Rattle.dc_recovery.specs.Fault.{open_number, open_name, format_number, format_name}
 use Rattle.dc_recovery.specs.declared.fault.OpenFault.{OpenFault}
@@ -38,7 +38,7 @@ abbrev pub sector_word : Option ℕ → List ℕ
 sector_word None = []
 sector_word (Some sector) = number_word sector
 
--- a fault's number and name after what it is a fault of, and the sector at which it is
+-- a fault's number and name after what it is a fault of, and the damaged sector
 unfoldable pub fault_line : List ℕ → ℕ → List ℕ → Option ℕ → List ℕ
 fault_line what number name sector =
     what ++ fault_text number name ++ sector_word sector ++ codes "\n"

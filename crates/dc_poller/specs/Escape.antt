@@ -4,7 +4,7 @@ use Rattle.std.specs.Str.{chars, encode_utf8_all}
 use Rattle.std.specs.Char.{is_control}
 use Rattle.std.specs.Char.Escape.{escape_default}
 
--- the characters that stand for a character
+-- the characters that a character is printed as
 abbrev pub shown : ℕ → List ℕ
 shown c = if is_control c then escape_default c else c ∷ []
 

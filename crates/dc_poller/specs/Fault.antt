@@ -25,14 +25,14 @@ name_of Write = codes "Write"
 name_of NoMemory = codes "NoMemory"
 name_of (Open fault) = codes "Open"
 
--- what stops the telling of an input stops the program
+-- the fault of the program for a fault of printing an input
 abbrev pub stopped_by : TextFault → ProgramFault
 stopped_by NotRead = Read
 stopped_by TooMuch = TooLong
 stopped_by NotWritten = Write
 stopped_by Refused = NoMemory
 
--- what is said of why an image wasn't opened
+-- what is stated of the reason why an image wasn't opened
 abbrev pub IfOpen : ProgramFault → (OpenFault → Type 0) → Type 0
 IfOpen Read said = Unit {0}
 IfOpen TooLong said = Unit {0}
@@ -40,7 +40,7 @@ IfOpen Write said = Unit {0}
 IfOpen NoMemory said = Unit {0}
 IfOpen (Open fault) said = said fault
 
--- the input wasn't read, or no memory was there for it
+-- the input wasn't read, or memory for it ran out
 abbrev pub IsOfReading : ProgramFault → Type 0
 IsOfReading Read = Unit {0}
 IsOfReading TooLong = Unit {0}
@@ -56,6 +56,6 @@ IsOfImage Write = Unit {0}
 IsOfImage NoMemory = Unit {0}
 IsOfImage (Open fault) = Unit {0}
 
--- memory was refused to a search, which goes over a line that has a bus
+-- a search ran out of memory, on a line that has a bus
 abbrev pub IsOfSearch : List LineLink → ProgramFault → Type 0
 IsOfSearch links fault = (fault ≡ NoMemory) × ¬ (AreAbsent links)

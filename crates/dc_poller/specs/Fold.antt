@@ -1,4 +1,5 @@
--- What `fold` writes (this product): an answer to each line, and then the register as the lines left it.
+-- The text that `fold` prints (this product): an answer to each line, and then the register after
+-- all lines.
 use Rattle.std.specs.Prelude.{◌≡◌, ℕ, ◌&&◌, ◌||◌, if◌then◌else◌, Bool, false, Option, Some, None}
 use Rattle.std.specs.Prelude.{is_none, List, [], ◌∷◌, ◌++◌, codes}
 use Rattle.dc_changes.specs.Accepts.{is_next, refusal}
@@ -14,12 +15,12 @@ use Rattle.dc_io.specs.Words.{fault_line, number_word}
 
 -- ---- lines
 
--- A line is read as the change that it spells; None: it spells none.
+-- A line is read as the change that it spells; `None` if it spells none.
 abbrev pub IsReadAs : List ℕ → Option Change → Type 0
 IsReadAs line None = (change : Change) → ¬ (IsLineOf line change)
 IsReadAs line (Some change) = IsLineOf line change
 
--- each line is read as what stands at its place
+-- each line is read as the entry at its place
 abbrev pub AreReadAs : List (List ℕ) → List (Option Change) → Type 0
 AreReadAs [] [] = Unit {0}
 AreReadAs [] (read ∷ reads) = ⊥
@@ -35,7 +36,7 @@ abbrev pub verdict_line : Option ChangeFault → List ℕ
 verdict_line None = codes "OK\n"
 verdict_line (Some fault) = fault_line (codes "REFUSED") (number_of fault) (name_of fault)
 
--- what is answered to a change, and the state after it
+-- the answer to a change, and the state after it
 unfoldable pub change_answer : ℕ → Change → State → List ℕ
 change_answer budget change s = if is_next change s then verdict_line (refusal budget change s)
     else order_line s
@@ -70,7 +71,7 @@ any_unread (read ∷ reads) = is_none read || any_unread reads
 
 -- ---- the text
 
--- the bytes within which the register stays
+-- maximum size of the register in bytes
 abbrev pub fold_budget : ℕ
 fold_budget = 15616
 
@@ -85,7 +86,7 @@ pub record IsFolded (input text : List ℕ) (found : Bool) : Type 0 where
   pub text_is : text ≡ fold_text reads
   pub found_is : found ≡ any_unread reads
 
--- ---- the steps: what lines do to a house and to the text after which their answers go
+-- ---- the steps: the effect of lines on a house and on the text
 
 pub record IsStep (line : List ℕ) (unread : Bool) (old new : Held)
     (before text : List ℕ) : Type 0 where

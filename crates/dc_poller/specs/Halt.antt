@@ -1,4 +1,4 @@
--- What ends a script before its end (this product).
+-- What ends a script early (this product).
 use Rattle.std.specs.Prelude.{◌≡◌, ℕ, Result, Ok, Err}
 use Rattle.dc_io.specs.Failures.{HasRisen}
 use Rattle.dc_io.specs.declared.stream.IoFault.{IoFault}
@@ -21,7 +21,7 @@ OnNoMemory (Ok x) P = Unit {0}
 OnNoMemory (Err Write) P = Unit {0}
 OnNoMemory (Err NoMemory) P = P
 
--- a failed write is counted, and where it went well or memory was refused none is
+-- a failed write is counted; without one, also if memory ran out, the count stays
 abbrev pub IsCounted : {X : Type 0} → Result X Halt → ℕ → ℕ → Type 0
 IsCounted (Ok x) before after = after ≡ before
 IsCounted (Err Write) before after = HasRisen before after

@@ -13,9 +13,10 @@ use Rattle.dc_poller.specs.Link.{LineLink}
 use Rattle.dc_poller.specs.Script.{ScriptRan, ScriptCut}
 use Rattle.dc_poller.specs.Traffic.{Traffic}
 
--- The concentrator that was opened on the disk has the state that the image reads as. A stop within the opening
--- leaves an image that stands for a state that one of the disk's images stood for. Where the disk is what was left of
--- an earlier life that was stopped, the state is what of that life is kept.
+-- The concentrator that was opened on the disk has the state that the image reads as. A crash
+-- within the opening leaves an image that stands for a state that one of the disk's images stood
+-- for. If the disk is what was left of an earlier life that crashed, the state is what is kept of
+-- that life.
 pub record IsOpenedOn {D : Type 0} (g : Ghosts D) (disk : D) (state : State)
     (first : Machine D) : Type 0 where
   pub budget_is : first.house.budget ≡ budget_of (half_len_of (g.sectors disk))
@@ -59,8 +60,9 @@ ImageCut g links left carries =
     ScriptCut (g.keeps first.store.disk) g.sectors g.failures g.reads g.choices g.moment
     g.images_since first.house.budget state [] links lines carries first last)
 
--- THE TURNS ARE ONE LIFE, which began with the state and ended at the last machine. Wherever the turns are split, a
--- machine was between the two parts, and a disk that has what a power cut left at any moment after that `WasStopped`.
+-- THE TURNS ARE ONE LIFE, which began with the state and ended at the last machine. Wherever the
+-- turns are split, a machine was between the two parts, and a disk with what a power cut left at
+-- any moment after that `WasStopped`.
 abbrev pub IsOneLife : {D : Type 0} → Ghosts D → State → List Turn → Machine D → Type 0
 IsOneLife {D} g state turns last = (done more : List Turn) → done ++ more ≡ turns
     → (now : Machine D) × ((disk : D) → WasLeft g now.store.disk last.store.disk disk

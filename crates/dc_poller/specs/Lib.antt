@@ -1,9 +1,9 @@
 -- the definitions that contracts cite
 -- which faults are of reading, and how they are numbered and named
 pub mod Fault
--- laws of the buses of a script
+-- theorems about the buses of a script
 pub mod Buses
--- what ends a script before its end
+-- what ends a script early
 pub mod Halt
 -- what `run` does to an image
 pub mod ImageRun
@@ -19,11 +19,11 @@ pub mod Script
 pub mod ScriptLine
 -- a search for meters over a bus line
 pub mod Search
--- what a line does to a slot
+-- the effect of a line on a slot
 pub mod Slots
--- a script that a search without memory ended
+-- a script that ended because a search ran out of memory
 pub mod Starved
--- what goes over the buses of a script's lines
+-- the exchanges over the buses of a script's lines
 pub mod Traffic
 -- what is known of a poll between two of its calls
 pub mod Way
@@ -33,9 +33,9 @@ pub mod Went
 pub mod Fold
 -- the register, as text
 pub mod Register
--- status and line of an ending
+-- exit status and line of an ending
 pub mod Ending
 -- a text on one line
 pub mod Escape
--- the ending that an engine's result makes of a run
+-- the ending of a run, by its engine's result
 pub mod Outcome

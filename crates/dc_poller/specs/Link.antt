@@ -1,11 +1,11 @@
--- How a script finds the bus lines (this product).
+-- The state of a script's bus lines (this product).
 use Rattle.std.specs.Prelude.{◌≡◌, ℕ, zero, suc, Bool, true, false, Option, None, Some, List, []}
 use Rattle.std.specs.Prelude.{◌∷◌, ◌++◌, codes, get_or, map, set, if◌then◌else◌}
 use Rattle.dc_io.specs.Words.{number_word}
 use Rattle.dc_poller.specs.declared.port.Port.{Port}
 use Rattle.dc_poller.specs.declared.script_bus.Slot.{Slot}
 
--- There is no bus; it answers; or it was lost, and all is silence.
+-- No bus; a bus that answers; or a lost bus, which is silent.
 pub data Link : Type 0 where
   absent : Link
   linked : Link
@@ -22,7 +22,7 @@ HasBus absent = ⊥
 HasBus linked = Unit {0}
 HasBus lost = Unit {0}
 
--- what may be heard from it
+-- the possible answers of a bus
 abbrev pub IsHeardOver : Link → List ℕ → Type 0
 IsHeardOver absent bytes = ⊥
 IsHeardOver linked bytes = Unit {0}
@@ -104,7 +104,7 @@ abbrev pub loss_line : Port → List ℕ
 loss_line port = if port.is_gateway then codes "GATEWAY LOST\n"
     else (codes "LINE" ++ number_word port.line ++ codes " LOST\n")
 
--- it is told once
+-- the loss is printed once
 abbrev pub loss_text : Port → Link → Link → List ℕ
 loss_text port linked lost = loss_line port
 loss_text port before behind = []

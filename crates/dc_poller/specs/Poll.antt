@@ -15,8 +15,8 @@ use Rattle.dc_gateway.specs.Bus.{AreExchanged, Exchange}
 use Rattle.dc_poller.specs.Link.{Link, linked, lost, IsHeardOver, loss_line}
 use Rattle.dc_poller.specs.declared.port.Port.{Port}
 
--- no readout asks more often: three tries at a reset, a selection and each of 32 parts, and once more where nothing
--- is to be asked
+-- maximum number of requests asked for in a readout: three tries at a reset, a selection and each
+-- of 32 parts, and one without a result
 abbrev pub most_rounds : ℕ
 most_rounds = 103
 
@@ -131,7 +131,7 @@ exchanges_of loses = []
 abbrev pub happened_exchanges : List Happening → List Exchange
 happened_exchanges happened = flat_map exchanges_of happened
 
--- the text of an answer: that nothing is to be asked isn't told
+-- the text of an answer; nothing is printed if no request is left
 abbrev pub told_text : Answer → List ℕ
 told_text (started answer) = answer_text (started answer)
 told_text (asked None) = []

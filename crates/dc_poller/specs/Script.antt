@@ -19,7 +19,8 @@ use Rattle.dc_poller.specs.ScriptLine.{poll, search, IsLineOf}
 
 -- ---- reading
 
--- The first of these lines ask for this, each for what stands at its place, and `rest` are the lines behind them.
+-- The first of these lines ask for these, each for the entry at its place, and `rest` are the lines
+-- after them.
 abbrev pub AskFor : List (List ℕ) → List LineSeen → List (List ℕ) → Type 0
 AskFor lines [] rest = rest ≡ lines
 AskFor [] (asked ∷ more) rest = ⊥
@@ -194,7 +195,8 @@ DoesPart moment (search budget line) links turns exchanges =
     (HasBus (link_in links line) × SearchesPart line budget turns exchanges)
     ⊎ (¬ (HasBus (link_in links line)) × (turns ≡ []) × (exchanges ≡ []))
 
--- It failed at the first of these lines: the line asks for this, or it spells nothing, and was to be told.
+-- A write failed at the first of these lines: the line asks for this, or it spells nothing, which
+-- was to be printed.
 abbrev pub FailsAt : ℕ → List LineLink → List (List ℕ) → List Turn → List Traffic → Type 0
 FailsAt moment links [] turns traffic = ⊥
 FailsAt moment links (line ∷ rest) turns traffic =

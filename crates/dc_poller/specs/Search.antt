@@ -112,7 +112,7 @@ pub record IsBusy (line : ℕ) (link left : Link) (turns : List Turn) (exchanges
   pub unasked : exchanges ≡ []
   pub left_is : left ≡ link
 
--- none does: that the bus was lost is told first, and how many answers came late last
+-- none does: the loss of the bus is printed first, and the number of late answers last
 pub record Finds (meters : Option (List Identity)) (port : Port) (budget late : ℕ)
     (link left : Link) (turns : List Turn) (exchanges : List Exchange)
     (text : List ℕ) : Type 0 where
@@ -123,7 +123,7 @@ pub record Finds (meters : Option (List Identity)) (port : Port) (budget late : 
   pub text_is : text ≡ loss_text port link left ++ (search_text search ++ late_text port late)
   pub left_is : IsLeft link left
 
--- A SEARCH, over a bus that tells these meters or none, on which this many answers came late.
+-- A SEARCH, over a bus whose meters are known or not, on which this many answers came late.
 abbrev pub Searches : Option (List Identity) → Port → ℕ → ℕ → Link → Link → List Turn
     → List Exchange → List ℕ → Type 0
 Searches meters port budget late link left turns exchanges text =
@@ -148,7 +148,7 @@ SearchesPart line budget turns exchanges =
     × (exchanges ≡ []))
     ⊎ ((count : ℕ) × (turns ≡ looked_turns line count None) × AreOfSearch budget exchanges))
 
--- Memory was refused to it: nothing that it found is written.
+-- It ran out of memory: nothing that it found is written.
 pub record Starves (port : Port) (budget : ℕ) (link left : Link) (turns : List Turn)
     (exchanges : List Exchange) (text : List ℕ) : Type 0 where
   pub count : ℕ

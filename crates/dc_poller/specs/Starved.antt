@@ -1,4 +1,4 @@
--- A script that ended at a search to which memory was refused (this product).
+-- A script that ended because a search ran out of memory (this product).
 use Rattle.std.specs.Prelude.{◌≡◌, ℕ, List, [], ◌∷◌, ◌++◌, Option}
 use Rattle.dc_changes.specs.State.{State}
 use Rattle.dc_core.specs.Images.{Machine}

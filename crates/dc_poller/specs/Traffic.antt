@@ -26,7 +26,7 @@ pub record IsLeftBy {B : Type 0} (lost : B → Bool) (does : B → B → Type 0)
   pub does_so : does old.bus bus
   pub untouched : lost old.bus ≡ true → bus ≡ old.bus
 
--- where there is no bus none comes
+-- an empty slot stays empty
 abbrev pub GoesOver : {B : Type 0} → (B → Bool) → (Bool → B → B → Type 0) → Option (Slot B)
     → Option (Slot B) → Type 0
 GoesOver lost does None new = new ≡ None

@@ -1,4 +1,4 @@
-//! The ways in which a run ends.
+//! The endings of a run.
 
 ghost use Rattle.std.specs.Prelude.{◌≡◌};
 ghost use Rattle.dc_io.specs.Written.{Wrote};
@@ -11,33 +11,33 @@ use crate::escape::put_escaped;
 use dc_io::{IoFault, Sink, put_fault, put_number_word};
 use dc_recovery::{FormatFault, OpenFault};
 
-/// What stands for standard input or output in `mbdc: file: NAME`.
+/// The name of standard input or output in `mbdc: file: NAME`.
 pub const STREAM: &str = "-";
 
 /// How a run ended (this product).
 #[derive(Clone, Copy)]
 pub enum Ending<'a> {
-    /// Everything was printed, or done; help and the version were shown.
+    /// Everything was printed or done; help and the version included.
     Clean,
-    /// A line of the input was at fault, as the output says.
+    /// A line of the input had a fault, which the output states.
     Faulty,
-    /// The words aren't a command, and this is wrong with them.
+    /// The words aren't a command; the value is the mistake.
     Words(&'a str),
     /// The image wasn't formatted.
     Format(FormatFault),
     /// The image wasn't opened.
     Open(OpenFault),
-    /// The file of that name, or a stream, failed or had too much.
+    /// The file of that name, or a stream, failed or was too long.
     File(&'a str),
     /// The gateway wasn't reached.
     Gateway,
-    /// Memory was refused.
+    /// Out of memory.
     Memory,
 }
 
 impl Ending<'_> {
-    /// The status: 0, 1 for a fault in an input line, 2 for the words, 3 for an image or its disk, 4 for a file, a
-    /// socket or memory.
+    /// The exit status: 0, 1 for a fault in an input line, 2 for the words, 3 for an image or its
+    /// disk, 4 for a file, a socket or memory.
     pub fn status(&self) -> u8
         ensures { result ≡ status_of self.now }
     {
@@ -50,8 +50,8 @@ impl Ending<'_> {
         }
     }
 
-    /// Puts the line, with its line feed: `mbdc: ` and what happened. Where the status is 0 or 1 there is no line, and
-    /// nothing is put. No memory.
+    /// Writes the line, with its line feed: `mbdc: ` and what happened. For status 0 or 1 nothing
+    /// is written. It uses no memory.
     ///
     /// # Errors
     /// A put failed; a prefix of the line is written then.
@@ -87,7 +87,7 @@ fn put_named<W: Sink>(out: &mut W, what: &[u8], name: &str) -> Result<(), IoFaul
     out.put(b"\n")
 }
 
-// A fault's number and name, and the sector at which it is.
+// Writes a fault's number and name, and the damaged sector.
 #[tactic(auto, using(dc_io::proofs::Pieces::written), unfolding(crate::specs::Ending::fault_line))]
 fn put_store<W: Sink>(
     out: &mut W,
@@ -114,7 +114,7 @@ fn put_sector<W: Sink>(out: &mut W, sector: Option<u32>) -> Result<(), IoFault>
     }
 }
 
-// A damaged image has a sector at which it is.
+// The sector of a damaged image.
 fn sector_of(fault: OpenFault) -> Option<u32>
     ensures { result ≡ damaged_at fault }
 {
@@ -124,7 +124,7 @@ fn sector_of(fault: OpenFault) -> Option<u32>
     }
 }
 
-/// How a run over this input ended, by what its engine answered.
+/// The ending of a run over this input, by its engine's result.
 pub fn ending_of<'a>(outcome: Result<bool, ProgramFault>, input: &'a str) -> Ending<'a>
     ensures { EndsAs outcome input.now result }
 {

@@ -8,7 +8,7 @@ ghost use Rattle.dc_poller.specs.Escape.{escaped, shown};
 
 use dc_io::{IoFault, Sink};
 
-/// Puts a text with its control characters escaped.
+/// Writes a text with its control characters escaped.
 #[tactic(auto, using(dc_io::proofs::Pieces::written, crate::proofs::Escapes::shown_more), unfolding(crate::specs::Escape::escaped))]
 pub(crate) fn put_escaped<W: Sink>(out: &mut W, text: &str) -> Result<(), IoFault>
     ensures { Wrote W.Sink result out.old out.new (escaped text.now) }

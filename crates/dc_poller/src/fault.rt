@@ -1,4 +1,4 @@
-//! What stops an engine of the program.
+//! The faults of the program's engines.
 
 ghost use Rattle.std.specs.Prelude.{◌≡◌};
 ghost use Rattle.dc_poller.specs.Fault.{number_of, name_of, stopped_by};
@@ -20,7 +20,7 @@ pub enum ProgramFault {
     /// A write failed.
     #[error("the output can't be written")]
     Write,
-    /// Memory was refused.
+    /// Out of memory.
     #[error("memory was refused")]
     NoMemory,
     /// The image wasn't opened.
@@ -29,7 +29,7 @@ pub enum ProgramFault {
 }
 
 impl ProgramFault {
-    /// 1 to 5.
+    /// The fault's number, 1 to 5.
     pub fn number(&self) -> u8
         ensures { result ≡ number_of self.now }
     {

@@ -19,10 +19,10 @@ use dc_io::{
 use dc_meters::House;
 use std::alloc::Allocator;
 
-// The bytes within which the register stays: a disk of 131 sectors has room for as many.
+// Maximum size of the register in bytes: that of a disk of 131 sectors.
 const BUDGET: u32 = 15_616;
 
-// A put into memory fails where memory is refused.
+// A put into memory fails if memory runs out.
 fn kept(put: Result<(), IoFault>) -> Result<(), NoMemory>
     ensures { IsOk result ↔ IsOk put }
 {
@@ -41,7 +41,7 @@ fn put_order<A: Allocator + Copy, W: Sink>(house: &House<A>, out: &mut W) -> Res
     out.put(b"\n")
 }
 
-// Does a change if it can be done, and answers.
+// Applies a change if it is accepted, and writes the answer.
 #[tactic(auto, unfolding(crate::specs::Fold::change_answer, crate::specs::Fold::after_change))]
 fn answer<A: Allocator + Copy>(
     change: &Change<'_>,
@@ -66,7 +66,7 @@ fn answer<A: Allocator + Copy>(
     }
 }
 
-// Answers a line, and says whether it spells no change. `bytes` is room for a body.
+// Answers a line, and returns whether it spells no change. `bytes` is room for a body.
 fn fold_line<A: Allocator + Copy>(
     line: &[u8],
     bytes: &mut [u8],
@@ -89,7 +89,7 @@ fn fold_line<A: Allocator + Copy>(
     }
 }
 
-// Answers the lines of an input in order, and says whether one spells no change.
+// Answers the lines of an input in order, and returns whether one spells no change.
 fn fold_all<A: Allocator + Copy>(
     input: &[u8],
     bytes: &mut [u8],
@@ -111,7 +111,7 @@ fn fold_all<A: Allocator + Copy>(
     Ok(found)
 }
 
-// The text for an input, and whether a SYNTAX is in it.
+// Builds the text for an input, and returns it with whether a SYNTAX is in it.
 fn fold_input<A: Allocator + Copy>(
     alloc: A,
     input: &[u8],
@@ -127,16 +127,17 @@ fn fold_input<A: Allocator + Copy>(
     Ok((text, found))
 }
 
-/// Writes what becomes of the telegrams and the commands that the lines which the reader has left spell: an answer to
-/// each line, over an empty register at first, and then the register. A line is `TELEGRAM part moment hex` or a
-/// command's line. The answer says whether a SYNTAX is among it.
+/// Writes an answer to each line of telegrams and commands left in the reader, applied to a
+/// register that is empty at first, and then the register. A line is `TELEGRAM part moment hex` or
+/// a command's line. Returns whether a SYNTAX is among the answers.
 ///
-/// The whole input is read, and the whole text made, before anything is written. The text is defined by
-/// `specs/Fold.antt`.
+/// The whole input is read, and the whole text built, before anything is written. The text is
+/// defined by `specs/Fold.antt`.
 ///
 /// # Errors
-/// [`TextFault::Read`] and [`TextFault::Write`] where that end failed, [`TextFault::TooLong`] over 1 MiB,
-/// [`TextFault::NoMemory`] where memory was refused. Only after `Write` may something have been written.
+/// [`TextFault::Read`] and [`TextFault::Write`] if the reader or the writer failed,
+/// [`TextFault::TooLong`] over 1 MiB, [`TextFault::NoMemory`] if memory ran out. Only after `Write`
+/// may something have been written.
 pub fn fold_lines<A: Allocator + Copy, R: Source, W: Sink>(
     alloc: A,
     reader: &mut R,

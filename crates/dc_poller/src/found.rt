@@ -1,4 +1,4 @@
-//! What a search found, as text.
+//! The result of a search, as text.
 
 ghost use Rattle.std.specs.Prelude.{◌≡◌, ◌<◌, ◌≤◌, ◌+◌, ◌/◌, ◌%◌, ◌++◌, flat_map, map};
 ghost use Rattle.dc_address.specs.Digits.{decimal_digits};
@@ -15,7 +15,8 @@ use dc_io::{IoFault, Sink, put_number_word};
 use dc_search::{Search, Step};
 use std::alloc::Allocator;
 
-/// Puts what a search found, which numbers are shared, whether the budget was spent, and how many selections it made.
+/// Writes what a search found, which numbers are shared, whether the budget was spent, and the
+/// number of selections.
 #[tactic(auto, using(dc_io::proofs::Pieces::written))]
 pub fn put_search<A: Allocator + Copy, W: Sink>(
     search: &Search<A>,
@@ -27,8 +28,8 @@ pub fn put_search<A: Allocator + Copy, W: Sink>(
     put_rest(search, search.selections(), out)
 }
 
-/// Puts what a search found, as [`put_search`] does, where an earlier search of the same bus made `before`
-/// selections: the number of selections is that of both.
+/// Writes what a search found, as [`put_search`] does, after an earlier search of the same bus made
+/// `before` selections: the number of selections is that of both.
 #[tactic(auto, using(dc_io::proofs::Pieces::written))]
 pub fn put_search_after<A: Allocator + Copy, W: Sink>(
     before: u32,
@@ -125,7 +126,7 @@ fn put_selections<W: Sink>(count: u32, out: &mut W) -> Result<(), IoFault>
     out.put(b"\n")
 }
 
-/// Puts how many answers came late, where some did.
+/// Writes the number of late answers, if any.
 #[tactic(auto, using(dc_io::proofs::Pieces::written))]
 pub fn put_late<W: Sink>(port: Port, late: u64, out: &mut W) -> Result<(), IoFault>
     ensures { Wrote W.Sink result out.old out.new (late_text port late) }
@@ -156,7 +157,7 @@ fn eight_digits(number: u32) -> [u8; 8]
     ]
 }
 
-// The decimal digit that counts this power of ten.
+// The decimal digit at this power of ten.
 fn code_at(number: u32, power: u32) -> u8
     requires { 0 < power }
     ensures { result ≡ decimal_code (number / power % 10) }

@@ -1,16 +1,16 @@
-//! What ends a script before its end.
+//! What ends a script early.
 
 ghost use Rattle.std.specs.Prelude.{◌≡◌};
 ghost use Rattle.dc_poller.specs.Halt.{halted_by};
 
 use dc_io::IoFault;
 
-/// Why a script ended before its end.
+/// Why a script ended early.
 #[derive(Clone, Copy)]
 pub enum Halt {
     /// A write failed.
     Write,
-    /// Memory was refused to a search.
+    /// A search ran out of memory.
     NoMemory,
 }
 

@@ -1,4 +1,4 @@
-//! Theorems about the definitions alone.
+//! Theorems about the definitions of scripts.
 
 ghost use Rattle.std.specs.Prelude.{◌≡◌, ℕ, Bool, List, [], Option};
 ghost use Rattle.dc_changes.specs.declared.change.Change.{Change};
@@ -14,7 +14,7 @@ ghost use Rattle.dc_poller.specs.Went.{Went};
 use dc_changes::a_line_has_one_change;
 use dc_sectors::Disk;
 
-/// A line of a script asks for one thing, if any.
+/// A line of a script asks for at most one thing.
 #[tactic(auto, using(crate::proofs::Scripts::one_line))]
 pub fn a_script_line_asks_for_one_thing()
     ensures { (text : List ℕ) (asked other : LineSeen) → IsLineOf text asked → IsLineOf text other

@@ -1,24 +1,29 @@
 //! The engines of the program `mbdc` that work on an image, over any source and any sink of bytes.
 //!
-//! [`run_script_over`] reads the lines of a script ([`ScriptLine`]), opens an image and does what they ask for: a
-//! line is one event of a concentrator, the poll of a meter over a bus line, or a search for meters over it. The
-//! buses of the lines are any [`ScriptBus`]; [`run_script`] has a gateway alone, after line 1. What it writes, and
-//! what it leaves of the image at every moment, is what the run of these events writes and leaves
-//! (`specs/Script.antt`, `specs/Poll.antt`, `specs/Search.antt`, `specs/ImageRun.antt`). Over the bus of a bus line
-//! go the exchanges of the lines that name it, and nothing else (`specs/Traffic.antt`).
+//! [`run_script_over`] reads the lines of a script ([`ScriptLine`]), opens an image and executes
+//! them: a line is one event of a concentrator, the poll of a meter over a bus line, or a search
+//! for meters over it. The buses of the lines are any [`ScriptBus`]; [`run_script`] has only a
+//! gateway, on line 1. What it writes, and what it leaves of the image at every moment, is what the
+//! run of these events writes and leaves (`specs/Script.antt`, `specs/Poll.antt`,
+//! `specs/Search.antt`, `specs/ImageRun.antt`). Over the bus of a bus line go the exchanges of the
+//! lines that name it, and nothing else (`specs/Traffic.antt`).
 //!
-//! [`report_on`] opens an image and writes a table of what it holds ([`Report`]), made whole before it is written.
+//! [`report_on`] opens an image and writes a table of its contents ([`Report`]), built whole before
+//! it is written.
 //!
-//! Read and write faults are answered only where that end counted a failure, and a script over 1 MiB is never worked
-//! on. The script is read before the image is opened.
+//! Read and write faults are returned only if that end counted a failure, and a script over 1 MiB
+//! is rejected. The script is read before the image is opened.
 //!
-//! [`fold_lines`] works without an image: it applies lines of telegrams and of the billing office to an empty register,
-//! and writes an answer to each line and then the register (`specs/Fold.antt`).
+//! [`fold_lines`] works without an image: it applies lines of telegrams and of the billing office
+//! to an empty register, and writes an answer to each line and then the register
+//! (`specs/Fold.antt`).
 //!
-//! An [`Ending`] is the status of a run of the program and its one line on standard error; [`ending_of`] makes one of
-//! an engine's result. A control character of a file's name is written as Rust's `escape_default` writes it.
+//! An [`Ending`] is the exit status of a run of the program and its one line on standard error;
+//! [`ending_of`] derives it from an engine's result. A control character of a file's name is
+//! written as Rust's `escape_default` writes it.
 //!
-//! Laws: [`a_script_line_asks_for_one_thing`], [`a_run_is_one_life`], [`an_input_has_one_fold`].
+//! Theorems: [`a_script_line_asks_for_one_thing`], [`a_run_is_one_life`],
+//! [`an_input_has_one_fold`].
 #![tactic(auto)]
 
 mod ending;

@@ -27,8 +27,8 @@ use dc_linkframe::FrameBuf;
 use dc_sectors::Disk;
 use std::alloc::Allocator;
 
-// No readout asks more often: three tries at a reset, a selection and each of 32 parts, and once more where nothing
-// is to be asked.
+// Maximum number of requests of a readout: three tries at a reset, a selection and each of 32
+// parts, and one more look.
 const MOST_ROUNDS: usize = 103;
 
 /// Reads a meter over a bus line, at a moment. The bus settles first, so that the readout begins where no answer is

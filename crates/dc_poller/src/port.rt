@@ -1,4 +1,4 @@
-//! A bus line, as a script names it and states its loss.
+//! A bus line, as a script names it and prints its loss.
 
 ghost use Rattle.std.specs.Prelude.{◌≡◌, ◌++◌, codes};
 ghost use Rattle.dc_io.specs.Written.{Wrote};
@@ -22,7 +22,7 @@ pub const GATEWAY: Port = Port {
     is_gateway: true,
 };
 
-/// Puts that the bus of a line was lost, where it was lost since.
+/// Writes that the bus of a line was lost, if it was lost since.
 pub fn put_loss<W: Sink>(port: Port, was: bool, is: bool, out: &mut W) -> Result<(), IoFault>
     ensures { Wrote W.Sink result out.old out.new
         (loss_text port (link_by was) (link_by is)) }
@@ -33,7 +33,7 @@ pub fn put_loss<W: Sink>(port: Port, was: bool, is: bool, out: &mut W) -> Result
     }
 }
 
-/// Puts that the bus of a line was lost.
+/// Writes that the bus of a line was lost.
 pub fn put_lost<W: Sink>(port: Port, out: &mut W) -> Result<(), IoFault>
     ensures { Wrote W.Sink result out.old out.new (loss_line port) }
 {

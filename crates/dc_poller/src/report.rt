@@ -1,4 +1,4 @@
-//! The engine of `report`: a table of what an image holds.
+//! The engine of `report`: a table of an image's contents.
 
 ghost use Rattle.std.specs.Prelude.{◌≡◌, ◌≢◌, ◌≤◌, ◌<◌, ◌⊎◌, IsTrue, Some, Err, codes, IfSome};
 ghost use Rattle.std.specs.Prelude.{IfOk, IfErr, OnOk, OnErr, IsErrOf};
@@ -23,7 +23,7 @@ use dc_sectors::Disk;
 use dc_units::Date;
 use std::alloc::Allocator;
 
-/// A table of what an image holds.
+/// A table of an image's contents.
 #[derive(Clone, Copy)]
 pub enum Report {
     /// The registered meters, by flat.
@@ -33,7 +33,7 @@ pub enum Report {
 }
 
 impl Report {
-    /// The table that a word asks for: `register`, or a date that exists, as `2024-12-31`.
+    /// Parses the word of a table: `register`, or a valid date, as `2024-12-31`.
     pub fn parse(word: &[u8]) -> Option<Report>
         ensures found { IfSome result (λ report. word.now ≡ report_word report) }
         ensures register { word.now ≡ codes "register" → result ≡ Some Report.Register }
@@ -48,13 +48,13 @@ impl Report {
     }
 }
 
-/// Opens the image, writes a table of what it holds, with one put, and closes it. The table is made whole before
-/// anything is written. Opening begins a session, so the image's next root is written; nothing else is. The disk
-/// comes back whatever happens.
+/// Opens the image, writes a table of its contents in one put, and closes it. The table is built
+/// whole before anything is written. Opening begins a session, so the image's next root is written;
+/// nothing else is. The disk is returned in every case.
 ///
 /// # Errors
-/// [`ProgramFault::Open`] where the image wasn't opened, and [`ProgramFault::NoMemory`] where memory was refused for
-/// the table, both with the writer as it was; [`ProgramFault::Write`] where the writer failed.
+/// [`ProgramFault::Open`] if the image wasn't opened, and [`ProgramFault::NoMemory`] if memory for
+/// the table ran out, both with the writer unchanged; [`ProgramFault::Write`] if the writer failed.
 pub fn report_on<D: Disk + Drop, A: Allocator + Copy, W: Sink>(
     alloc: A,
     disk: D,
@@ -67,7 +67,8 @@ pub fn report_on<D: Disk + Drop, A: Allocator + Copy, W: Sink>(
         (PutsInto W.Sink writer.old writer.new)) }
     ensures well { OnOk result.1 (W.put_failures writer.new ≡ W.put_failures writer.old) }
 
-    // An image that isn't opened is refused as the store refuses it; one that stands is refused only as worn.
+    // A refusal is that of the store; an image that stands for a state is refused only for an
+    // exhausted counter.
     ensures small { D.sectors disk < fewest_sectors → result.1 ≡ Err (ProgramFault.Open NotImage) }
     ensures refused { D.keeps result.0 → fewest_sectors ≤ D.sectors disk
         → IfErr result.1 (λ fault. IfOpen fault (λ e.
@@ -105,7 +106,7 @@ pub fn report_on<D: Disk + Drop, A: Allocator + Copy, W: Sink>(
     }
 }
 
-// The table of a house that isn't wanted any more.
+// The table of a house that isn't used any more.
 fn table_of<A: Allocator + Copy>(
     alloc: A,
     house: House<A>,

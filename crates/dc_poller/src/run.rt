@@ -27,31 +27,35 @@ use dc_io::{CHUNK, LONGEST, MOST, NoMemory, Sink, Source, read_input, room};
 use dc_sectors::Disk;
 use std::alloc::Allocator;
 
-/// Opens the image, does what the lines of the script ask for that the reader has left, and closes it. The pending
-/// changes for a commit at the end is given up. Each event's answer is written as [`Concentrator::run`] writes it.
-/// The first line that spells nothing ends the script with `LINE i SYNTAX`, and the answer says whether there is one.
-/// The forms of the lines are those of [`ScriptLine`](crate::ScriptLine).
+/// Opens the image, executes the lines of the script left in the reader, and closes it. Changes
+/// that are still pending at the end are dropped. Each event's answer is written as
+/// [`Concentrator::run`] writes it. The first line that spells nothing ends the script with `LINE i
+/// SYNTAX`; the result is whether there was one. The forms of the lines are those of
+/// [`ScriptLine`](crate::ScriptLine).
 ///
-/// A bus line may have a bus: line n that of slot n - 1. `POLL n` reads a meter over it: the bus settles, each
-/// request goes out, its answer is heard at the script's moment, and each part that is accepted is committed; these
-/// events' answers are written like any other's. Where a bus is lost, `LINE n LOST` is written once, `GATEWAY LOST`
-/// for a gateway, and all is silence on that line from then on. For a line without a bus `POLL` writes `NO GATEWAY`.
+/// A bus line may have a bus: line n that of slot n - 1. `POLL n` reads a meter over it: the bus
+/// settles, each request goes out, its answer is received at the script's time, and each part that
+/// is accepted is committed; these events' answers are written like any other's. If a bus is lost,
+/// `LINE n LOST` is written once, `GATEWAY LOST` for a gateway, and the line is silent from then
+/// on. For a line without a bus `POLL` writes `NO GATEWAY`.
 ///
-/// `SEARCH` searches for meters over the bus of a line, with at most this many selections. The pending changes are
-/// committed first; where that is refused, the refusal is written. Where a request of the line waits, `REFUSED 3
-/// Busy` is written, as a selection would begin that readout anew. Else each meter found is written, each number that
-/// more than one meter has, whether the budget was spent, how many selections were made, and as `LATE line n` how
-/// many answers came late, where some did. A meter whose answer is lost or late isn't found. For a line without a bus
-/// `SEARCH` writes `NO GATEWAY`.
+/// `SEARCH` searches for meters over the bus of a line, with at most this many selections. The
+/// pending changes are committed first; if that is refused, the refusal is written. If a request of
+/// the line is pending, `REFUSED 3 Busy` is written, since a selection would restart that readout.
+/// Otherwise it writes each meter found, each number of several meters, whether the budget was
+/// spent, the number of selections, and as `LATE line n` the number of late answers, if any. A
+/// meter whose answer is lost or late isn't found. For a line without a bus `SEARCH` writes `NO
+/// GATEWAY`.
 ///
-/// The whole script is read before the image is opened. The disk comes back whatever happens.
+/// The whole script is read before the image is opened. The disk is returned in every case.
 ///
 /// # Errors
-/// [`ProgramFault::Read`], [`ProgramFault::TooLong`] over 1 MiB and [`ProgramFault::NoMemory`], with disk and writer
-/// as they were; [`ProgramFault::NoMemory`] also where memory is refused to a search: the lines before it are done,
-/// what waited for a commit is committed, and of the search nothing but the loss of the bus is written;
-/// [`ProgramFault::Open`] where the image wasn't opened, with the writer as it was; [`ProgramFault::Write`] where the
-/// writer failed: the line at which it did is done, and none after it.
+/// [`ProgramFault::Read`], [`ProgramFault::TooLong`] over 1 MiB and [`ProgramFault::NoMemory`],
+/// with disk and writer unchanged; [`ProgramFault::NoMemory`] also if a search runs out of memory:
+/// the lines before it are done, the pending changes are committed, and of the search only the loss
+/// of the bus is written; [`ProgramFault::Open`] if the image wasn't opened, with the writer
+/// unchanged; [`ProgramFault::Write`] if the writer failed: the line at which it did is done, and
+/// none after it.
 pub fn run_script_over<
     D: Disk + Drop,
     A: Allocator + Copy,
@@ -77,7 +81,7 @@ pub fn run_script_over<
         → IsErrOf result.1 ProgramFault.Write
         → ImageCut D.Disk (links_of B.lost lines.old) (R.left reader.old)
         (AreCarried B.lost B.asks B.settles B.ready lines.old lines.new) disk result.0 }
-    // Memory is refused before the image is opened, or to a search: then what is left of the image and the text are
+    // If memory runs out before the image is opened, or in a search, the image and the text are
     // those of the run up to it.
     ensures starved { (D.keeps disk → EachStands (half_len_of (D.sectors disk)) (D.choices disk))
         → IsErrOf result.1 ProgramFault.NoMemory → ((result.0 ≡ disk) × (writer.new ≡ writer.old))
@@ -85,7 +89,8 @@ pub fn run_script_over<
         (PutsInto W.Sink writer.old writer.new)
         (AreCarried B.lost B.asks B.settles B.ready lines.old lines.new) disk result.0 }
 
-    // An image that isn't opened is refused as the store refuses it; one that stands is refused only as worn.
+    // A refusal is that of the store; an image that stands for a state is refused only for an
+    // exhausted counter.
     ensures small { D.sectors disk < 131
         → MatchResult result.1 (λ faulty. ⊥)
         (λ fault. IfOpen fault (λ e. (e ≡ NotImage) × (result.0 ≡ disk))) }
@@ -105,7 +110,7 @@ pub fn run_script_over<
         LeavesOnly D.moment D.images_since disk result.0
         (StandsForOne (half_len_of (D.sectors disk)) (D.choices disk)))) }
 
-    // A script over the limit is refused, and no other is refused for its length.
+    // Exactly the scripts over the limit are rejected for their length.
     ensures fits { OnOk result.1 (IfSome (R.left reader.old) (λ input. length input ≤ most_input)) }
     ensures too_long { IsErrOf result.1 ProgramFault.TooLong
         → IfSome (R.left reader.old) (λ input. most_input < length input) }
@@ -123,8 +128,8 @@ pub fn run_script_over<
     ensures ok { OnOk result.1 ((R.take_failures reader.new ≡ R.take_failures reader.old)
         × (W.put_failures writer.new ≡ W.put_failures writer.old)) }
 
-    // What isn't read touches nothing, and after any fault but a failed write the writer is as it was; but for a search
-    // over a bus line, to which memory was refused.
+    // What isn't read touches nothing, and after any fault but a failed write the writer is
+    // unchanged, unless a search over a bus line ran out of memory.
     ensures unread { IfErr result.1 (λ fault.
         IsOfReading fault → (result.0 ≡ disk) ⊎ IsOfSearch (links_of B.lost lines.old) fault) }
     ensures untouched { IfErr result.1 (λ fault.
@@ -157,8 +162,8 @@ pub fn run_script_over<
     }
 }
 
-/// Runs a script as [`run_script_over`] does, where line 1 alone may have a bus: a gateway of these ends, that its
-/// blocks are put to and taken from (their form is dc_gateway's). The ends don't come back.
+/// Runs a script as [`run_script_over`] does, where only line 1 may have a bus: a gateway over this
+/// reader and writer of blocks (their form is dc_gateway's). They aren't returned.
 ///
 /// # Errors
 /// Those of [`run_script_over`].
@@ -194,7 +199,8 @@ pub fn run_script<
         ImageStarved D.Disk (only_gateway (link_at_first gateway)) (R.left reader.old)
         (PutsInto W.Sink writer.old writer.new) carries disk result.0) }
 
-    // An image that isn't opened is refused as the store refuses it; one that stands is refused only as worn.
+    // A refusal is that of the store; an image that stands for a state is refused only for an
+    // exhausted counter.
     ensures small { D.sectors disk < 131
         → MatchResult result.1 (λ faulty. ⊥)
         (λ fault. IfOpen fault (λ e. (e ≡ NotImage) × (result.0 ≡ disk))) }
@@ -214,7 +220,7 @@ pub fn run_script<
         LeavesOnly D.moment D.images_since disk result.0
         (StandsForOne (half_len_of (D.sectors disk)) (D.choices disk)))) }
 
-    // A script over the limit is refused, and no other is refused for its length.
+    // Exactly the scripts over the limit are rejected for their length.
     ensures fits { OnOk result.1 (IfSome (R.left reader.old) (λ input. length input ≤ most_input)) }
     ensures too_long { IsErrOf result.1 ProgramFault.TooLong
         → IfSome (R.left reader.old) (λ input. most_input < length input) }
@@ -232,8 +238,8 @@ pub fn run_script<
     ensures ok { OnOk result.1 ((R.take_failures reader.new ≡ R.take_failures reader.old)
         × (W.put_failures writer.new ≡ W.put_failures writer.old)) }
 
-    // What isn't read touches nothing, and after any fault but a failed write the writer is as it was; but for a search
-    // through a gateway, to which memory was refused.
+    // What isn't read touches nothing, and after any fault but a failed write the writer is
+    // unchanged, unless a search through a gateway ran out of memory.
     ensures unread { IfErr result.1 (λ fault. IsOfReading fault → (result.0 ≡ disk)
         ⊎ IsOfSearch (only_gateway (link_at_first gateway)) fault) }
     ensures untouched { IfErr result.1 (λ fault.

@@ -1,4 +1,4 @@
-//! The lines of a script, one by one through a concentrator.
+//! Executes the lines of a script on a concentrator.
 
 ghost use Rattle.std.specs.Prelude.{◌≡◌, ◌⊎◌, ◌≤◌, ◌<◌, ◌*◌, ◌++◌, ℕ, suc, List, codes, length};
 ghost use Rattle.std.specs.Prelude.{IfOk, IfSome, IfNone, OnOk, OnErr};
@@ -32,8 +32,8 @@ use dc_io::{IoFault, Sink, first_line, put_number_word};
 use dc_sectors::Disk;
 use std::alloc::Allocator;
 
-/// Runs the lines of an input, up to the first that spells nothing, and says whether there is one. `bytes` is room
-/// for an answer.
+/// Executes the lines of an input, up to the first that spells nothing, and returns whether there
+/// was one. `bytes` is room for an answer.
 pub fn run_lines<D: Disk + Drop, A: Allocator + Copy, B: ScriptBus + Drop, W: Sink>(
     alloc: A,
     concentrator: &mut Concentrator<D, A>,
@@ -77,7 +77,7 @@ pub fn run_lines<D: Disk + Drop, A: Allocator + Copy, B: ScriptBus + Drop, W: Si
     Ok(false)
 }
 
-// Does what a line asks for, at a moment.
+// Executes a line, at the script's time.
 fn run_line<D: Disk + Drop, A: Allocator + Copy, B: ScriptBus + Drop, W: Sink>(
     alloc: A,
     concentrator: &mut Concentrator<D, A>,
@@ -108,7 +108,7 @@ fn run_line<D: Disk + Drop, A: Allocator + Copy, B: ScriptBus + Drop, W: Sink>(
     }
 }
 
-// Does what a line asks for that is no search, at a moment.
+// Executes a line that is no search, at the script's time.
 fn run_plain<D: Disk + Drop, A: Allocator + Copy, B: ScriptBus + Drop, W: Sink>(
     concentrator: &mut Concentrator<D, A>,
     slots: &mut [Option<Slot<B>>],

@@ -11,20 +11,20 @@ pub trait ScriptBus: Bus {
     // Whether no answer is under way.
     ghost ready: { Self → Bool };
 
-    // What settling does to the bus.
+    // The effect of settling on the bus.
     ghost settles: { Self → Self → Type 0 };
 
-    // How many late answers were dropped.
+    // Number of late answers that were dropped.
     ghost late: { Self → ℕ };
 
-    /// Listens until no answer is under way, or the bus is lost. A lost bus isn't touched.
+    /// Waits until no answer is under way, or the bus is lost. A lost bus isn't touched.
     fn settle(&mut self)
         ensures step { settles self.old self.new }
         ensures ready { ready self.new ≡ true }
         ensures meters { Self.meters self.new ≡ Self.meters self.old }
         ensures untouched { Self.lost self.old ≡ true → self.new ≡ self.old };
 
-    /// How many late answers were dropped.
+    /// Number of late answers that were dropped.
     fn late(&self) -> u64
         ensures { result ≡ late self.now };
 
@@ -38,11 +38,11 @@ pub trait ScriptBus: Bus {
 pub struct Slot<B: ScriptBus + Drop> {
     /// The bus.
     pub bus: B,
-    /// Whether it is the line of `--gateway`, on which no answer comes late.
+    /// Whether it is the line of `--gateway`, on which no answer is late.
     pub is_gateway: bool,
 }
 
-// Each answer of a gateway is ended, so none comes late.
+// Blocks mark the end of a gateway's answer, so none is late.
 impl<R: Source + Drop, W: Sink + Drop> ScriptBus for Gateway<R, W> {
     ghost use Rattle.dc_poller.specs.Buses.{gateway_is_silent};
 

@@ -16,35 +16,36 @@ use dc_address::Identity;
 use dc_changes::{Moment, parse_number, split_word};
 use dc_io::{LONGEST, decode_hex};
 
-// The line of a search that names none.
+// The line of a search that names no line.
 const FIRST_LINE: u8 = 1;
 
-/// What a line of a script asks for.
+/// A line of a script.
 #[derive(Clone, Copy)]
 pub enum ScriptLine<'a> {
     /// Nothing: the line is empty.
     Nothing,
-    /// `AT seconds`: what is heard from now on is heard at that second since 1970.
+    /// `AT seconds`: sets the time stamp (Unix seconds) of the `HEAR` lines that follow.
     At { moment: Moment },
-    /// `START line ident`: the readout of a meter begins on its line.
+    /// `START line ident`: begins the readout of a meter on its line.
     Start { line: u8, meter: Identity },
-    /// `ASK line`: a line's request is asked for.
+    /// `ASK line`: prints a line's request.
     Ask { line: u8 },
-    /// `HEAR line hex`: an answer is heard on a line; `HEAR line` is silence.
+    /// `HEAR line hex`: an answer is received on a line; `HEAR line` is silence.
     Hear { line: u8, answer: &'a [u8] },
-    /// `COMMIT`: the pending changes are written.
+    /// `COMMIT`: writes the pending changes.
     Commit,
-    /// `OFFICE` and a space: what follows it is a line of the office.
+    /// `OFFICE` and a space, followed by a line of the office.
     Office { text: &'a [u8] },
-    /// `POLL line ident`: a meter is read over the bus of its line.
+    /// `POLL line ident`: reads a meter over the bus of its line.
     Poll { line: u8, meter: Identity },
-    /// `SEARCH budget line`: meters are searched for over the bus of a line; `SEARCH budget` is one of line 1.
+    /// `SEARCH budget line`: searches for meters over the bus of a line; `SEARCH budget` searches
+    /// line 1.
     Search { budget: u32, line: u8 },
 }
 
 impl<'a> ScriptLine<'a> {
-    /// What a line asks for; none where it spells nothing, or has more than 4,096 bytes. The bytes of an answer are put
-    /// into `room`, of at least half as many bytes.
+    /// Parses a line; `None` if it spells nothing, or has more than 4,096 bytes. The bytes of an
+    /// answer are decoded into `room`, which needs at least half as many bytes.
     pub fn parse(text: &'a [u8], room: &'a mut [u8]) -> Option<ScriptLine<'a>>
         requires { longest_input_line ≤ 2 * length room.old }
         ensures found { IfSome result (λ read. IsLineOf text.now (seen read)) }

@@ -1,4 +1,4 @@
-//! `SEARCH`: meters are searched for over a bus line.
+//! `SEARCH`: searches for meters over a bus line.
 
 ghost use Rattle.std.specs.Prelude.{◌≡◌, ◌++◌, true};
 ghost use Rattle.dc_gateway.specs.Bus.{AreExchanged};
@@ -20,9 +20,9 @@ use dc_search::Search;
 use dc_sectors::Disk;
 use std::alloc::Allocator;
 
-/// Searches for meters over a gateway, with at most `budget` selections. What is pending is committed first, and
-/// while a readout of the gateway's line is pending nothing is selected, as a selection would begin that readout
-/// anew.
+/// Searches for meters over a bus, with at most `budget` selections. The pending changes are
+/// committed first, and while a readout of the bus's line is pending nothing is selected, since a
+/// selection would restart that readout.
 pub fn search<D: Disk + Drop, A: Allocator + Copy, B: ScriptBus, W: Sink>(
     alloc: A,
     concentrator: &mut Concentrator<D, A>,
@@ -73,7 +73,8 @@ pub fn search_on<D: Disk + Drop, A: Allocator + Copy, B: ScriptBus, W: Sink>(
     }
 }
 
-// The search itself, and what it found. A loss of the bus is printed before, and how many answers came late after.
+// Runs the search and writes its result. A loss of the bus is printed before it, and the number of
+// late answers after it.
 fn search_bus<A: Allocator + Copy, B: ScriptBus, W: Sink>(
     alloc: A,
     port: Port,
@@ -106,7 +107,7 @@ fn search_bus<A: Allocator + Copy, B: ScriptBus, W: Sink>(
     }
 }
 
-// How many answers came late, by the counts of the bus before and after.
+// Number of late answers, by the counts of the bus before and after.
 fn late_since(port: Port, before: u64, after: u64) -> u64
     ensures { result ≡ late_by port.is_gateway before after }
 {

@@ -1,4 +1,4 @@
-//! Single events of a concentrator: each answer is written as a line of text, and handed on.
+//! Single events of a concentrator: each answer is written as a line of text, and returned.
 
 ghost use Rattle.std.specs.Prelude.{◌≡◌, ◌≤◌, IfOk, IfSome, OnOk, OnErr, length};
 ghost use Rattle.dc_io.specs.Failures.{HasRisen};
@@ -44,7 +44,7 @@ pub fn told_start<D: Disk + Drop, A: Allocator + Copy, W: Sink>(
     }
 }
 
-/// Asks for a line's request. Where there is none, nothing is written.
+/// Asks for a line's request. If there isn't one, nothing is written.
 pub fn told_ask<D: Disk + Drop, A: Allocator + Copy, W: Sink>(
     concentrator: &Concentrator<D, A>,
     line: u8,
@@ -70,7 +70,7 @@ pub fn told_ask<D: Disk + Drop, A: Allocator + Copy, W: Sink>(
     }
 }
 
-/// Hears an answer on a line.
+/// Takes an answer on a line.
 pub fn told_hear<D: Disk + Drop, A: Allocator + Copy, W: Sink>(
     concentrator: &mut Concentrator<D, A>,
     line: u8,

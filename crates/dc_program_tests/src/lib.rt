@@ -1,7 +1,7 @@
-//! Tests of the program's engines: what `decode`, `fold`, `run` and `report` write, line by line, the office's lines, talks
-//! with gateways, and the statuses and lines that end a program.
+//! Tests of the program's engines: the text of `decode`, `fold`, `run` and `report`, line by line,
+//! the office's lines, exchanges with gateways, and the exit statuses and lines that end a program.
 //!
-//! There is no product code here: what these tests use is what a program sees.
+//! The crate has no product code: these tests use what a program sees.
 #![tactic(auto)]
 
 #[cfg(test)]

@@ -1,4 +1,4 @@
-//! What is tried on the program's engines, by topic.
+//! Tests of the program's engines, by topic.
 
 mod common;
 mod decode;

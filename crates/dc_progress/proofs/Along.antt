@@ -72,7 +72,8 @@ module _ (budget line : ℕ) (meters : List Meter) (start : Scene) (place : ℕ)
 
   -- ---- what holds after each round
 
-  -- after this many rounds with this many losses, this many of them in a row at last, this many requests are left
+  -- the number of requests left after this many rounds with this many losses, of which the last
+  -- ones were in a row
   abbrev pub IsLeft : ℕ → ℕ → ℕ → ℕ → Type 0
   IsLeft done lost tries left = LeftOf total done lost tries left
 
@@ -290,7 +291,7 @@ module _ (budget line : ℕ) (meters : List Meter) (start : Scene) (place : ℕ)
       one_lost : (n : ℕ) → IsLeft done lost tries n → losses_by r.outcome ≡ 1 → tries_then ≡ tries + 1 → IsLeft (done + 1) lost_then tries_then n
       one_lost n due one more = lost_of total done lost tries n r.outcome due one more
 
-      -- where it leads, and how its answer was told
+      -- where it leads, and that its answer was taken
       record Went : Type 0 where
         behind : Behind (done + 1) lost_then tries_then next_scene
         is_told : Told r.answer

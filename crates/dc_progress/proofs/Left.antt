@@ -10,7 +10,7 @@ use Rattle.dc_address.specs.declared.identity.Identity.{Identity}
 use Rattle.dc_readout.specs.Summary.{reset_of, selection_of, request_of, asked_at}
 
 module _ (total : ℕ) where
-  -- after this many exchanges with this many losses, this many of them in a row at last
+  -- after this many exchanges with this many losses, of which the last ones were in a row
   pub record IsLeft (done lost tries left : ℕ) : Type 0 where
     pub least : total ≤ done + left
     pub most : done + left ≤ total + lost

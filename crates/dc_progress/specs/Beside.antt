@@ -28,7 +28,8 @@ use Rattle.dc_progress.specs.Rounds.{Scene, begun_on, losses_by, row_after}
 -- ---- the line
 
 -- The line of the readout: the positions of its meters, the frame that waits for an answer, the
--- number of exchanges, how many of them lost something, and how many in a row at last.
+-- number of exchanges, the number of losses, and how many of the last exchanges in a row lost
+-- something.
 pub record Bus : Type 0 where
   pub positions : List Position
   pub waits : Option FrameSeen
@@ -124,11 +125,10 @@ IsTakenUnlessFull (Err Full) = Unit {0}
 IsTakenUnlessFull (Err PendingFull) = Unit {0}
 IsTakenUnlessFull (Err fault) = ⊥
 
--- By these turns the readout never fails. The exchanges are at most its requests and one for
--- each loss, and at most three for each request. While the session is on the line and nothing
--- is pending, a request is asked, and while one waits, whatever the line makes of it is taken,
--- unless there is no room. Where nobody is on the line any more, the meter is read, and that is
--- committed.
+-- By these turns the readout never fails. The exchanges are at most its requests and one for each
+-- loss, and at most three for each request. While the session is on the line and nothing is
+-- pending, a request is sent, and while one waits, whatever the line makes of it is taken, unless
+-- room runs out. Once the session has left the line, the meter is read, and that is committed.
 pub record GoesBeside (budget line : ℕ) (meters : List Meter) (meter : Meter) (row : MeterRow)
     (parts : List (List ℕ)) (before now : Core) (turns : List Turn) (last : Bus) : Type 0 where
   pub never_fails :

@@ -1,4 +1,4 @@
-//! Theorems about readouts. The functions do nothing; their contracts are the theorems.
+//! Theorems about readouts. The functions have no effect; their contracts state the theorems.
 
 ghost use Rattle.dc_progress.specs.Beside.{ReadoutsEndBesideOthers, ReadoutsOfARunEnd};
 ghost use Rattle.dc_progress.specs.Needs.{PremisesAreMet};

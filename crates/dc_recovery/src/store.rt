@@ -40,7 +40,7 @@ use dc_sectors::{Disk, Failed};
 use std::alloc::Allocator;
 use std::marker::Model;
 
-/// An open image. It writes groups of changes after those that are there, and the whole state into the
+/// An open image. It writes groups of changes after the existing ones, and the whole state into the
 /// other half.
 #[derive(Drop)]
 pub struct Store<D: Disk + Drop> {
@@ -76,8 +76,9 @@ impl<D: Disk + Drop> Store<D> {
     ///
     /// # Errors
     ///
-    /// `TooSmall` under 131 sectors; `AlreadyFormatted` where no call failed and a slot has a valid root. Both
-    /// write nothing. `Device` where a call failed: nothing was written where a slot had a valid root.
+    /// `TooSmall` under 131 sectors; `AlreadyFormatted` if no call failed and a slot has a valid
+    /// root. Both write nothing. `Device` if a call failed: nothing was written if a slot had a
+    /// valid root.
     pub fn format(mut disk: D) -> Result<D, (FormatFault, D)>
         ensures small { D.sectors disk < fewest_sectors → result ≡ Err (TooSmall, disk) }
         ensures too_small { IfErr result (λ e. e.0 ≡ TooSmall → D.sectors disk < fewest_sectors) }
@@ -129,12 +130,13 @@ impl<D: Disk + Drop> Store<D> {
         }
     }
 
-    /// Opens the image: reads the state, and begins a session by the next root. An image of version 1 becomes one of
-    /// version 2: after the session's root the whole state goes into the other half, and the root after it names that.
+    /// Opens the image: reads the state, and begins a session by the next root. An image of version
+    /// 1 becomes one of version 2: after the session's root the whole state is written into the
+    /// other half, and the root after it names that half.
     ///
     /// # Errors
     ///
-    /// The first that stands in the order of the steps: [`OpenFault`]. The disk comes back.
+    /// The first in the order of the steps: [`OpenFault`]. The disk is returned.
     pub fn open<A: Allocator + Copy>(
         alloc: A,
         mut disk: D,
@@ -219,7 +221,7 @@ impl<D: Disk + Drop> Store<D> {
         }
     }
 
-    /// The greatest size of a state on this image, in bytes.
+    /// Maximum size of a state on this image, in bytes.
     pub fn budget(&self) -> u32
         ensures { result ≡ budget_of (half_len_of (D.sectors self.now.disk)) }
     {
@@ -233,7 +235,8 @@ impl<D: Disk + Drop> Store<D> {
         self.is_stopped
     }
 
-    /// Whether a group of this many bytes fits in the half's rest: its pages of 488 bytes, and one commit sector.
+    /// Whether a group of this many bytes fits in the rest of the half: its pages of 488 bytes, and
+    /// one commit sector.
     pub fn fits(&self, len: usize) -> bool
         ensures { IsTrue result ↔ Fits (D.sectors self.now.disk) self.now len }
     {
@@ -242,12 +245,12 @@ impl<D: Disk + Drop> Store<D> {
         pages < (limit - self.place) as usize
     }
 
-    /// Writes a group of encoded changes after those that are there, and syncs.
+    /// Writes a group of encoded changes after the existing groups, and syncs.
     ///
     /// # Errors
     ///
-    /// `Stopped` after a failure; `Worn` where there is no next sequence, and nothing was written; `Device` where
-    /// the disk failed, and the store is stopped from then on.
+    /// `Stopped` after a failure; `Worn` if the sequence is exhausted, and nothing was written;
+    /// `Device` if the disk failed, and the store is stopped from then on.
     pub fn append(&mut self, bytes: &[u8]) -> Result<(), StoreFault>
         requires some { 0 < length bytes.now }
         requires fits { Fits (D.sectors self.old.disk) self.old (length bytes.now) }
@@ -301,13 +304,14 @@ impl<D: Disk + Drop> Store<D> {
         }
     }
 
-    /// Writes the house's whole state as the base group of the other half, and puts that half in force. Each image
-    /// on the way stands for the state that the store keeps or for the house's, and in the end for the house's.
+    /// Writes the house's whole state as the base group of the other half, and puts that half in
+    /// force. Each image on the way stands for the state that the store keeps or for the house's,
+    /// and in the end for the house's.
     ///
     /// # Errors
     ///
-    /// `Stopped` after a failure; `Worn` where there is no next sequence or no next generation, and nothing was
-    /// written; `Device` where the disk failed, and the store is stopped from then on.
+    /// `Stopped` after a failure; `Worn` if the sequence or the generation is exhausted, and
+    /// nothing was written; `Device` if the disk failed, and the store is stopped from then on.
     pub fn compact<A: Allocator + Copy>(&mut self, house: &House<A>) -> Result<(), StoreFault>
         requires budget { house.now.budget ≤ budget_of (half_len_of (D.sectors self.old.disk)) }
         ensures stopped { IsErrOf result Stopped ↔ (self.old.is_stopped ≡ true) }
@@ -354,7 +358,7 @@ impl<D: Disk + Drop> Store<D> {
         }
     }
 
-    /// Gives the disk back, and writes nothing.
+    /// Returns the disk, and writes nothing.
     pub fn close(self) -> D
         ensures { result ≡ self.disk }
     {

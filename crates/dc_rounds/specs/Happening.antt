@@ -1,4 +1,4 @@
--- What happens in a poll, and its text (this product).
+-- The events of a poll, and its text (this product).
 use Rattle.std.specs.Prelude.{◌≡◌, ℕ, ◌+◌, Bool, false, ◌==◌, true, List, [], ◌∷◌, ◌++◌, codes}
 use Rattle.std.specs.Prelude.{flat_map, length, if◌then◌else◌, option_map, get_or, Option, None}
 use Rattle.std.specs.Prelude.{Some}
@@ -24,9 +24,9 @@ use Rattle.dc_rounds.specs.declared.end.Refusal.TheVariants.{Start, Hear, Commit
 use Rattle.dc_rounds.specs.declared.end.End.{End}
 use Rattle.dc_rounds.specs.declared.end.End.TheVariants.{Read, Failed, Refused}
 
--- what a line of text says
+-- a line of text
 pub data Told : Type 0 where
-  -- a meter was read: the serial of its reading, and how many parts it has
+  -- a meter was read: the serial of its reading, and the number of its parts
   was_read : Identity → ℕ → ℕ → Told
   has_failed : Identity → Why → Told
   was_refused : Identity → Refusal → Told
@@ -132,7 +132,7 @@ abbrev pub last_of : ℕ → List ℕ → ℕ
 last_of n [] = n
 last_of n (serial ∷ serials) = last_of serial serials
 
--- its serial; 0 where there is none
+-- its serial; 0 if there isn't one
 abbrev pub newest_serial : Identity → State → ℕ
 newest_serial meter state = last_of 0 (serials_of meter state.readings)
 
@@ -140,6 +140,6 @@ abbrev pub parts_in : Option ReadingRow → ℕ
 parts_in None = 0
 parts_in (Some reading) = length reading.parts
 
--- and how many parts it has
+-- the number of its parts
 abbrev pub newest_parts : Identity → State → ℕ
 newest_parts meter state = parts_in (reading_of (newest_serial meter state) state.readings)

@@ -16,9 +16,9 @@ use Rattle.dc_rounds.specs.Happening.{does, tells, newest_serial, newest_parts}
 
 -- ---- whether something is pending
 
--- After the last telegram that was accepted there is a commit that answered a number; there is none; or there
--- is one that answered a fault. A line of the office is judged after a commit of its own, so this can be said
--- of any run.
+-- The last commit after the last accepted telegram: it returned a number; no commit followed; or it
+-- returned a fault. A line of the office is judged after a commit of its own, so this applies to
+-- any run.
 pub data Store : Type 0 where
   all_kept : Store
   some_wait : Store
@@ -78,8 +78,8 @@ pub record IsRound (moment : ℕ) (turns : List Turn) : Type 0 where
   pub are_hearing : All (IsHearing moment) hearing
   pub is_commit : IsCommit last
 
--- One commit, and then round after round, as long as all is kept. In each round time passes after it was asked, and
--- what is heard is heard at the moment that the timer tells then.
+-- One commit, and then round after round, as long as all is kept. In each round time passes after
+-- the requests, and the answers get the time stamp that the timer returns then.
 pub data InRounds {T : Type 0} (told : T → ℕ → T → Type 0) (passes : T → T → Type 0)
     : T → List Turn → T → Type 0 where
   at_first : {first : T} {turns : List Turn} → IsCommit turns

@@ -17,8 +17,9 @@ abbrev pub store_of : Bool → Store
 store_of true = all_kept
 store_of false = unkept
 
--- A ROUND IS GONE THROUGH. All lines go on by what happens. After they were asked time passes; what is heard is heard
--- at the moment that the timer tells then, and is committed. Then it is written how readouts ended, and counted.
+-- ONE ROUND. All lines go on by what happens. After their requests time passes; the answers get the
+-- time stamp that the timer returns then, and are committed. Then the ends of readouts are written
+-- and counted.
 pub record GoesRound {B T : Type 0} (g : Bus B) (told : T → ℕ → T → Type 0)
     (passes : T → T → Type 0)
     (tries : ℕ) (kept : Bool) (olds news : List (Station B)) (first last : T)

@@ -1,10 +1,10 @@
-//! How the readout of a meter ended.
+//! The end of a meter's readout.
 
 use dc_address::Identity;
 use dc_core::{CommitFault, HearFault, StartFault};
 use dc_readout::Why;
 
-/// Which call refused.
+/// The call that refused.
 #[derive(Clone, Copy, Debug, PartialEq, Eq)]
 pub enum Refusal {
     /// The start of the readout.
@@ -15,13 +15,14 @@ pub enum Refusal {
     Commit(CommitFault),
 }
 
-/// How the readout of a meter ended.
+/// The end of a meter's readout.
 #[derive(Clone, Copy, Debug, PartialEq, Eq)]
 pub enum End {
-    /// It is whole.
+    /// The readout is whole.
     Read(Identity),
-    /// Its last try failed. One that was asked as often as no readout asks fails with no answer.
+    /// The last try failed. A readout that reaches the maximum number of requests fails with no
+    /// answer.
     Failed(Identity, Why),
-    /// It was refused.
+    /// The readout was refused.
     Refused(Identity, Refusal),
 }

@@ -76,7 +76,8 @@ pub fn poll_image<D: Disk + Drop, A: Allocator + Copy, B: QuietBus + Drop, T: Ti
         → IsErrOf result.1 ProgramFault.NoMemory
         → (out.new ≡ out.old) × ImageTurned D.Disk (λ core happened. happened ≡ []) disk result.0 }
 
-    // An image that isn't opened is refused as the store refuses it; one that stands is refused only as worn.
+    // A refusal is that of the store; an image that stands for a state is refused only for an
+    // exhausted counter.
     ensures small { D.sectors disk < 131
         → MatchResult result.1 (λ outcome. ⊥)
         (λ fault. IfOpen fault (λ e. (e ≡ NotImage) × (result.0 ≡ disk))) }

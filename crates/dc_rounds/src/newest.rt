@@ -7,7 +7,7 @@ use dc_address::Identity;
 use dc_meters::House;
 use std::alloc::Allocator;
 
-/// The serial of a meter's newest reading; 0 where there is none.
+/// The serial of a meter's newest reading; 0 if there isn't one.
 pub fn newest_serial<A: Allocator + Copy>(house: &House<A>, meter: &Identity) -> u64
     ensures { result ≡ newest_serial meter.now house.now.state }
 {
@@ -18,7 +18,7 @@ pub fn newest_serial<A: Allocator + Copy>(house: &House<A>, meter: &Identity) ->
     newest
 }
 
-/// How many parts it has.
+/// Number of parts of a meter's newest reading.
 pub fn newest_parts<A: Allocator + Copy>(house: &House<A>, meter: &Identity) -> usize
     ensures { result ≡ newest_parts meter.now house.now.state }
 {

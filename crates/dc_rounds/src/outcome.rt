@@ -1,10 +1,10 @@
 //! The counts of a poll.
 
-/// How many meters a poll read, and how many it didn't.
+/// The numbers of meters that a poll read and didn't read.
 #[derive(Clone, Copy, Debug, PartialEq, Eq)]
 pub struct Outcome {
-    /// The meters that were read.
+    /// Number of meters that were read.
     pub read: u64,
-    /// The meters that weren't.
+    /// Number of meters that weren't read.
     pub failed: u64,
 }

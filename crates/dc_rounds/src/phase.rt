@@ -1,28 +1,28 @@
-//! How a line's readout is found between two steps.
+//! The phase of a line's readout between two steps.
 
 use crate::end::End;
 use dc_gateway::AnswerBuf;
 
-/// How the readout of a line's present meter is found.
+/// The phase of the readout of a line's current meter.
 #[derive(Clone, Copy, Debug, PartialEq, Eq)]
 pub enum Phase {
-    /// No readout goes on.
+    /// No readout is running.
     Free,
-    /// One goes on, and asks at most so often yet.
+    /// A readout is running, with at most this many requests left.
     Busy(u8),
-    /// One goes on likewise, and its telegram is pending.
+    /// A readout is running, with at most this many requests left, and its telegram is pending.
     Pending(u8),
-    /// It ended, and that isn't written yet.
+    /// A readout has ended, and its end isn't written yet.
     Over(End),
 }
 
-/// How a line's request is found.
+/// The state of a line's request.
 #[derive(Drop)]
 pub enum Request {
-    /// None is out.
+    /// No request is out.
     Quiet,
-    /// One was sent.
+    /// A request was sent.
     Sent,
-    /// This is what was heard of it.
+    /// The answer to the request.
     Answered(AnswerBuf),
 }

@@ -1,4 +1,4 @@
-//! One line's part of the readout: its bus, and the meters that are still to be read on it.
+//! One line of a poll: its bus, and the meters left to read on it.
 
 ghost use Rattle.std.specs.Prelude.{◌≡◌, ◌⊎◌, ◌<◌, ◌≤◌, ◌+◌, ◌-◌, ℕ, List, IfNone, IfSome, OnOk};
 ghost use Rattle.std.specs.Prelude.{IfErr, length, nat_lt, true, false};
@@ -34,9 +34,9 @@ pub struct Station<'a, B: QuietBus + Drop> {
     pub used: u8,
     /// How its readout is found.
     pub phase: Phase,
-    /// How its request is found.
+    /// The state of its request.
     pub request: Request,
-    /// Whether it was written that the line is lost.
+    /// Whether the loss of the line was written.
     pub said: bool,
 }
 
@@ -56,7 +56,7 @@ impl<'a, B: QuietBus + Drop> Station<'a, B> {
         }
     }
 
-    /// Whether a request is out of which nothing was heard yet.
+    /// Whether a request is out without an answer yet.
     pub fn is_waiting(&self) -> bool
         ensures { result ≡ true → self.now.request ≡ Sent }
     {
@@ -82,7 +82,7 @@ impl<'a, B: QuietBus + Drop> Station<'a, B> {
         }
     }
 
-    // A request is sent, the last but this many; where there is none, the meter is done with.
+    // A request was sent, with this many left after it; without a request the meter is finished.
     pub(crate) fn asked(&mut self, meter: Identity, asks: u8, request: Option<FrameBuf>)
         requires short { IfSome request (λ bytes. length bytes ≤ longest_request) }
         ensures sent { IfSome request (λ bytes. B.sends self.old.bus bytes self.new.bus

@@ -1,4 +1,4 @@
-//! The theorem about the readouts of a poll. The function does nothing; its contract is the
+//! The theorem about the readouts of a poll. The function has no effect; its contract states the
 //! theorem.
 
 ghost use Rattle.dc_rounds_progress.specs.Talked.{ReadoutsOfAPollEnd};

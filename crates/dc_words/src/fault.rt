@@ -1,14 +1,14 @@
-//! What may be wrong with the words.
+//! Mistakes in the words of the command line.
 
 use clap::Error;
 use std::alloc::{AllocError, AllocFailed};
 use thiserror::Error;
 
-/// What is wrong with the word of a link.
+/// The mistake in the word of a link.
 #[derive(Clone, Copy, Debug, PartialEq, Eq, Error)]
 #[error("{}", self.text())]
 pub enum LinkFault {
-    /// There is no bus line before a `=`.
+    /// No bus line before a `=`.
     NoLine,
     /// The same bus line has two links.
     Twice,
@@ -21,7 +21,7 @@ pub enum LinkFault {
 }
 
 impl LinkFault {
-    /// What to say of it.
+    /// The message for the mistake.
     pub fn text(self) -> &'static str {
         match self {
             LinkFault::NoLine => "--line takes N=LINK, where N is a bus line from 1 to 8",
@@ -33,18 +33,18 @@ impl LinkFault {
     }
 }
 
-/// What is wrong with the words.
+/// The mistake in the words.
 #[derive(Debug, Drop)]
 pub enum WordsFault {
-    /// `clap` says it; help and the version are such, too.
+    /// A message of `clap`, help and the version included.
     Clap(Error),
     /// A link.
     Link(LinkFault),
-    /// A word that has to be a meter is none.
+    /// A word that has to name a meter doesn't.
     Meter,
     /// No bus line has a link.
     NoLink,
-    /// Memory was refused.
+    /// Out of memory.
     NoMemory,
 }
 

@@ -11,7 +11,7 @@ use std::rt::{Clock, Files};
 /// Connects each link; the first is that of line 1.
 ///
 /// # Errors
-/// How the command ends: a link can't be connected, or memory was refused.
+/// The ending of the command: a link can't be connected, or memory ran out.
 pub fn connect_all<'a, R>(
     host: &Host<'_, R>,
     links: &Links<'_>,

@@ -1,4 +1,5 @@
-//! How a run ends, told to the outside: the line on standard error and the status, which `dc_poller` decides.
+//! Reports how a run ended: the line on standard error and the exit status, which `dc_poller`
+//! decides.
 
 ghost use Rattle.std.specs.Prelude.{◌≡◌, ◌≢◌, ◌⊎◌};
 ghost use Rattle.std.specs.Process.{exit_status};
@@ -19,24 +20,24 @@ use std::io;
 use std::io::Write;
 use std::process::ExitCode;
 
-// A word that has to be a meter is none.
+// A word that has to name a meter doesn't.
 const NO_METER: &str =
     "a meter is its identity, as 12345678.PAD.01.07, or for read a primary address, 1 to 250";
 
 // No bus is connected.
 const NO_LINK: &str = "no bus line has a link; try mbdc poll --help";
 
-// A line that is no longer goes out as one write.
+// A line of up to this many bytes goes out as one write.
 const LINE: usize = 8_192;
 
-// What stands between the words of a fault of the system and its number.
+// The text between the system's message and its error number.
 const NUMBERED: &str = " (os error ";
 
-/// Tells how the run ended, and gives its status.
+/// Prints the line of the ending, and returns its exit status.
 pub fn told(rt: &HostRuntime, ending: &Ending) -> ExitCode
     ensures { exit_status result ≡ status_of ending.now }
 {
-    // A status stands where the line can't be written, too: there is nowhere left to say so.
+    // The status is returned even if the line can't be written: no other channel is left.
     let _ = put_line(rt, ending);
     ExitCode::from(ending.status())
 }
@@ -49,7 +50,7 @@ fn put_line(rt: &HostRuntime, ending: &Ending) -> Result<(), IoFault> {
     out.flush()
 }
 
-/// Prints on a second line why the run failed, where the system said it.
+/// Prints on a second line why the run failed, if the system gave a reason.
 pub fn told_why(rt: &HostRuntime, ending: &Ending, why: &Why) {
     if let Ending::File(_) | Ending::Gateway | Ending::Format(_) | Ending::Open(_) = ending
         && let Some(reason) = why.last()
@@ -71,7 +72,7 @@ fn line_with(alloc: Global, line: Option<u8>, words: &str) -> Result<String, All
     }
 }
 
-// What the system said, without the number of the fault.
+// The system's message, without the error number.
 fn words_of(said: &str) -> &str {
     match said.rsplit_once(NUMBERED) {
         Some((words, _)) => words,
@@ -79,7 +80,7 @@ fn words_of(said: &str) -> &str {
     }
 }
 
-/// Tells what is wrong with the words, and gives the status.
+/// Prints the mistake in the words, and returns the exit status.
 pub fn told_words(rt: &HostRuntime, fault: &WordsFault) -> ExitCode
     ensures memory { fault.now ≡ WordsFault.NoMemory → exit_status result ≡ 4 }
     ensures mistake { IfMistake fault.now (exit_status result ≡ 2) }
@@ -93,8 +94,8 @@ pub fn told_words(rt: &HostRuntime, fault: &WordsFault) -> ExitCode
     }
 }
 
-/// Tells what `clap` says of the words, and gives the status. Help and the version go to standard output, which may
-/// fail as any output may.
+/// Prints `clap`'s message, and returns the exit status. Help and the version go to standard
+/// output, which may fail as any output may.
 fn told_by_clap(rt: &HostRuntime, error: &Error) -> ExitCode
     ensures memory { kind_of error.now ≡ OutOfMemory → exit_status result ≡ 4 }
     ensures shown { (kind_of error.now ≡ DisplayHelp) ⊎ (kind_of error.now ≡ DisplayVersion)
@@ -122,7 +123,7 @@ fn shown<R: Print>(rt: &R, error: &Error) -> io::Result<()> {
     io::writer(rt).flush()
 }
 
-// What is wrong with the words, on one line: `clap` says it in a paragraph, and its usage follows.
+// The mistake in the words, on one line: `clap` prints a paragraph, and its usage after it.
 fn mistake(alloc: Global, error: &Error) -> Result<String, AllocError> {
     let text = format!(in alloc; "{error}")?;
     let mut what = String::new(alloc);

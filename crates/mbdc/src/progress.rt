@@ -1,4 +1,4 @@
-//! How far a poll is, on a terminal.
+//! The progress of a poll, on a terminal.
 
 use crate::host::Host;
 use dc_line::QuietBus;
@@ -12,13 +12,13 @@ use std::time::Instant;
 // Back to the first column, and nothing after it.
 const CLEAR: &str = "\r\u{1b}[K";
 
-/// The line on standard error that says how far a poll is: `37 of 120 meters, 2 failed, 41 s`. Where
-/// that is no terminal there is none.
+/// The line on standard error that shows the progress of a poll: `37 of 120 meters, 2 failed, 41
+/// s`. It is shown only on a terminal.
 #[derive(Drop)]
 pub struct Progress<'h, R> {
     host: Host<'h, R>,
     begun: Option<Instant>,
-    // The meters that are to be read; none before the first round.
+    // Number of meters to read; none before the first round.
     meters: Cell<u64>,
     done: Cell<u64>,
     failed: Cell<u64>,
@@ -27,7 +27,7 @@ pub struct Progress<'h, R> {
 }
 
 impl<'h, R: Clock + Eprint> Progress<'h, R> {
-    /// The poll begins.
+    /// Begins with no progress shown.
     pub fn new(host: Host<'h, R>) -> Self {
         let begun = Instant::now(host.rt).ok();
         Progress {
@@ -40,7 +40,7 @@ impl<'h, R: Clock + Eprint> Progress<'h, R> {
         }
     }
 
-    /// Shows it, where it isn't what the terminal shows.
+    /// Shows the progress, if it isn't what the terminal shows.
     pub fn show<B: QuietBus + Drop>(&self, stations: &[Station<'_, B>]) {
         if !self.host.is_watched {
             return;
@@ -114,9 +114,9 @@ fn meters_of<B: QuietBus + Drop>(stations: &[Station<'_, B>]) -> u64 {
 /// The text of a poll, whose lines are counted. The progress is cleared before each of them.
 #[derive(Drop)]
 pub struct Counted<'p, 'h, R, W: Write + Drop> {
-    /// Where the text goes.
+    /// The writer of the text.
     pub writer: W,
-    /// What is counted.
+    /// The progress that counts the lines.
     pub progress: &'p Progress<'h, R>,
     /// Whether a line begins.
     pub is_begin: bool,

@@ -7,7 +7,7 @@ use dc_sectors::{Disk, MemoryDisk};
 use std::alloc::Global;
 use std::test::Fail;
 
-/// A meter is fitted and read out in two parts, each committed before the next is asked for.
+/// Registers a meter and reads it in two parts, each committed before the next is requested.
 pub const LIFE: &[u8] = b"AT 1735689600
 OFFICE 1 FIT 12345678.PAD.01.07 1 1 A1
 START 1 12345678.PAD.01.07

@@ -88,7 +88,7 @@ REFUSED 4 Worn
 // The slot of the first root.
 const SLOT: u32 = 2;
 
-// A look tells this text, and why the image doesn't open.
+// An inspection prints this text, and returns why the image doesn't open.
 fn is_told(
     rt: &(impl Abort + AllocGlobal),
     disk: &mut MemoryDisk<Global>,
@@ -124,7 +124,7 @@ fn what_is_no_image_is_told(rt: HostRuntime) -> Result<(), Fail> {
     is_told(&rt, &mut small, SMALL, Some(OpenFault::NotImage))
 }
 
-// An image of an empty register with other bytes in its root, and settled.
+// An image of an empty register with other bytes in its root, synced.
 fn with_root(heap: Global, at: usize, bytes: &[u8]) -> Result<MemoryDisk<Global>, Fail> {
     let mut root = root_of(heap)?;
     for (i, byte) in bytes.iter().enumerate() {
@@ -184,7 +184,7 @@ fn refused_memory_tells_nothing(rt: HostRuntime) -> Result<(), Fail> {
     Err(Fail::from("no end"))
 }
 
-// A read that fails is answered, and nothing is written; the next look tells all.
+// A failed read is returned as a fault, and nothing is written; the next inspection prints all.
 #[test]
 fn a_failed_read_is_answered(rt: HostRuntime) -> Result<(), Fail> {
     let heap = rt.alloc();

@@ -11,7 +11,7 @@ use std::alloc::Global;
 use std::process::Abort;
 use std::test::Fail;
 
-// Two meters: one hangs at an address, one is selected by its identity. By flat.
+// Two meters: one has a primary address, one is read by secondary addressing. By flat.
 const FITS: &[u8] = b"OFFICE 2 FIT 08470054.PAD.38.06 2 S A0\n";
 
 const REGISTER: &[u8] =
@@ -57,7 +57,7 @@ fn the_due_date_table_is_an_object_a_row(rt: HostRuntime) -> Result<(), Fail> {
     is_shown(&rt, read_out(rt.alloc())?, date, DUE)
 }
 
-// Each growth is refused in turn, of the opening first and of the lines at last.
+// Each growth is refused in turn, first those of the opening and then those of the lines.
 #[test]
 fn refused_memory_shows_nothing(rt: HostRuntime) -> Result<(), Fail> {
     let disk = read_out(rt.alloc())?;

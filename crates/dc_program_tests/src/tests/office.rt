@@ -176,7 +176,7 @@ fn tables_want_memory<'a, A: Allocator>(
     Err(Fail::from("a table of at most 100 requests"))
 }
 
-// Each request for memory is refused in turn, until no request is left.
+// Out of memory at each request in turn, until no request is left.
 #[test]
 fn a_report_that_wants_memory_writes_nothing(rt: HostRuntime) -> Result<(), Fail> {
     let heap = Refusing::new(rt.alloc());
