@@ -3,7 +3,7 @@
 use crate::fault::CaseFault;
 use std::alloc::Global;
 
-/// What a line of a case file is.
+/// The kind of a case file's line.
 #[derive(Clone, Copy)]
 pub enum Kind<'a> {
     /// Empty, or a comment.

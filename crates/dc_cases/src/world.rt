@@ -1,4 +1,5 @@
-//! What the commands of a file work on: a disk in memory, what a gateway gives, and when input and output fail.
+//! The state that the commands of a file share: a disk in memory, a gateway's answers, and when
+//! input and output fail.
 
 use crate::ends::{Input, Limits, NONE, Output};
 use crate::fault::CaseFault;
@@ -23,7 +24,7 @@ use std::alloc::Global;
 // Name of the input where it can't be read.
 const INPUT: &str = "input";
 
-/// What the commands of a file work on.
+/// The state that the commands of a file share.
 #[derive(Drop)]
 pub struct World {
     heap: Global,
@@ -33,7 +34,7 @@ pub struct World {
 }
 
 impl World {
-    /// No disk, no gateway, and input and output that don't fail.
+    /// Returns a state without disk and gateway, whose input and output don't fail.
     pub fn new(heap: Global) -> World {
         World {
             heap,

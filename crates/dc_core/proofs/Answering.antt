@@ -43,7 +43,7 @@ none_done v is = ⊎_elim
     (λ rest. ⊎_elim (λ show. rw show tt) (λ refuse. rw (refuse.1) tt) rest)
     is
 
--- what can't be written shows that the store is worn out
+-- what can't be written shows that a counter of the store is exhausted
 worn_out : {D : Type 0} {P : Type 0} (store : Kept D) → (2 ^ 64 - 1 ≤ store.last + 1) ⊎ (P × (store.root.generation ≡ 2 ^ 64 - 1)) → IsWornOut store
 worn_out store worn = ⊎_elim (λ last. inl last) (λ more. inr more.1) worn
 
@@ -247,7 +247,7 @@ module _ {D : Type 0} (known : Type 0) (sectors failures : D → ℕ) (reads : D
   after_is budget core line (obeyed number change) may = refl
   after_is budget core line (uncommitted change fault) may = refl
 
-  -- what is committed once all that waited is
+  -- what is committed once all pending changes are
   committed_is : (core : Core) (pending : List Change) → core.pending ≡ pending → (settled_core core pending).committed ≡ after core.committed core.pending
   committed_is core [] none = sym (ap (after core.committed) none)
   committed_is core (change ∷ changes) some = refl
@@ -266,7 +266,7 @@ module _ {D : Type 0} (known : Type 0) (sectors failures : D → ℕ) (reads : D
   shown_since budget line machine mid new core (uncommitted change Worn) may shows risen = shows
   shown_since budget line machine mid new core (uncommitted change Stopped) may shows risen = tt
 
-  -- what waited is committed, and then the line is answered
+  -- the pending changes are committed, and then the line is answered
   pub turned_answered : (machine mid new : Machine D) (core : Core) (text : List ℕ) (line : OfficeLine) (wrote : List ℕ → Type 0) → Spells text line → core.stopped ≡ false
       → mid.house.budget ≡ machine.house.budget → sectors mid.store.disk ≡ sectors machine.store.disk → failures machine.store.disk ≤ failures mid.store.disk
       → (known → LeavesOnly moment images_since machine.store.disk mid.store.disk (StandsForFront (half_len_of (sectors machine.store.disk)) core.committed core.pending))

@@ -1,4 +1,4 @@
--- A settled telegram toggles the frame count bit (the law of specs/Toggled).
+-- An acknowledged telegram toggles the frame count bit (the theorem of specs/Toggled).
 use Rattle.std.proofs.Common.{◌≡◌, ℕ, ◌+◌, Bool, true, false, not, Option, Some, arith, refl, subst, ap, ◌∙◌}
 use Rattle.std.proofs.lemmas.Bool.Decides.{nat_tests}
 use Rattle.dc_linkframe.specs.Frame.{FrameSeen}

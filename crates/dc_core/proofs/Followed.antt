@@ -1,4 +1,4 @@
--- In every chain of steps each session follows the register (the law of specs/Known).
+-- In every chain of steps each session follows the register (the theorem of specs/Known).
 use Rattle.std.proofs.Common.{◌≡◌, ◌≢◌, ◌⊎◌, ⊎_elim, inl, inr, ◌<◌, ◌≤◌, ◌+◌, ◌-◌, ℕ, zero, suc, Bool, true, false, not, Option, None, Some, Result, Ok, Err, List, [], ◌∷◌, ◌++◌, length, get_or, refl, ap, sym, subst, arith, ◌∙◌, length-append, get_or-set_other, get_or-set_same}
 use Rattle.std.specs.Prelude.{replicate, is_some, nat_le, if◌then◌else◌}
 use Rattle.std.proofs.Math.ListN.{set}
@@ -44,8 +44,9 @@ use Rattle.dc_readout.proofs.Taken.{taken}
 use Rattle.dc_core.proofs.Registered.{IsFollowed, FollowsAt, Follows, asks_followed, ready_follows, told_own, told_session}
 use Rattle.dc_core.proofs.Ordered.{left_on, get_left, order_follows, accepted_new}
 
--- WHAT HOLDS ALONG A CHAIN: there are eight lines, no more changes wait than may, and each session follows the register. Places in the
--- list of lines count from 0, and bus lines from 1.
+-- WHAT HOLDS ALONG A CHAIN: there are eight lines, at most the maximum number of changes is
+-- pending, and each session follows the register. Places in the list of lines count from 0, and bus
+-- lines from 1.
 record Keeps (core : Core) : Type 0 where
   eight : length core.lines ≡ 8
   few : length core.pending ≤ most_waiting
@@ -229,7 +230,7 @@ length-lines_after : (removed : Option Identity) (lines : List (Option Summary))
 length-lines_after None lines = refl
 length-lines_after (Some meter) lines = length-map lines (unless_of meter)
 
--- a command waits where nothing waited
+-- a command is pending when nothing was before
 ordered_keeps : (budget : ℕ) (core : Core) (change : Change) → core.pending ≡ [] → IsOrder (held budget core) change → Keeps core → Keeps (ordered change core)
 ordered_keeps budget core change none order keeps =
     let removed = removed_by change in

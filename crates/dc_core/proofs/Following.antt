@@ -1,4 +1,4 @@
--- One life after another (the law of specs/Lives).
+-- One life after another (the theorem of specs/Lives).
 use Rattle.std.proofs.Common.{ℕ, sym, subst, arith}
 use Rattle.dc_sectors.specs.Disk.{Image}
 use Rattle.dc_sectors.specs.Images.{settled_image}

@@ -1,4 +1,4 @@
--- Of the changes accepted in a chain, what is committed has all that is promised (the law of specs/Promised).
+-- Of the changes accepted in a chain, what is committed has all that is promised (the theorem of specs/Promised).
 use Rattle.std.proofs.Common.{◌≡◌, ◌≢◌, ⊎_elim, ◌<◌, ◌≤◌, ◌+◌, ◌-◌, ℕ, zero, suc, Bool, true, false, Option, None, Some, Result, Ok, Err, List, [], ◌∷◌, ◌++◌, length, take, get_or, refl, ap, sym, subst, arith, ◌∙◌, length-append, append_assoc, get_or-set_other, get_or-set_same}
 use Rattle.std.specs.Prelude.{replicate, is_some, option_map, not, ◌||◌, if◌then◌else◌}
 use Rattle.std.proofs.Math.ListN.{set}
@@ -32,7 +32,7 @@ use Rattle.dc_core.specs.Step.{May, next, unless_refused, verdict_answer, answer
 use Rattle.dc_core.specs.Transcript.{Turn, leads, IsChain, accepted_by, accepted_in, taken_from}
 use Rattle.dc_core.specs.Promised.{Seen, nothing_seen, and_seen, and_accepted, seen_from, PromisedIsCommitted}
 
--- whether nobody is asked on a line because a telegram waits
+-- whether nothing is requested on a line because its telegram is pending
 abbrev waits : Option Summary → Bool
 waits None = false
 waits (Some s) = not (is_some (asked_by s))
@@ -57,7 +57,7 @@ OneTurn event answer = (budget : ℕ) (state : State) (taken : List Change) (see
 same : (state : State) (taken : List Change) (seen : Seen) (core : Core) → Holds state taken seen core → Holds state (taken ++ []) seen core
 same state taken seen core holds = subst (λ (t : List Change). Holds state t seen core) (sym (append-nil taken)) holds
 
--- somebody else is on a line on which no telegram waited
+-- another session, or none, is on a line that had no pending telegram
 with_line : (state : State) (taken : List Change) (seen : Seen) (core : Core) (line : ℕ) (session : Option Summary) → Holds state taken seen core → waits (session_of core line) ≡ false
     → Holds state taken seen (with_session line session core)
 with_line state taken seen core line session holds was = record {
@@ -79,7 +79,7 @@ set_le [] i v = omega arith
 set_le (x ∷ xs) zero v = omega arith
 set_le (x ∷ xs) (suc i) v = set_le xs i v
 
--- a telegram is taken, and waits on its line
+-- a telegram is taken, and is pending on its line
 with_change : (state : State) (taken : List Change) (seen : Seen) (core : Core) (line : ℕ) (s : Summary) (change : Change) → Holds state taken seen core → line - 1 < 8 → waits (Some s) ≡ true
     → Holds state (taken ++ change ∷ []) (record seen { accepted = seen.accepted + 1; latest = set seen.latest (line - 1) (seen.accepted + 1) }) (record (with_session line (Some s) core) { pending = core.pending ++ change ∷ [] })
 with_change state taken seen core line s change holds is waiting =
@@ -247,7 +247,7 @@ turn_commit (Err fault) budget state taken seen core holds may = same state take
 
 -- ---- a line of the office
 
--- Nothing waits: all that was accepted is committed.
+-- Nothing is pending: all that was accepted is committed.
 record HoldsAll (state : State) (taken : List Change) (seen : Seen) (core : Core) : Type 0 where
   none : core.pending ≡ []
   committed : core.committed ≡ after state taken
@@ -299,7 +299,7 @@ length-lines_after : (removed : Option Identity) (lines : List (Option Summary))
 length-lines_after None lines = refl
 length-lines_after (Some meter) lines = length-map lines (unless_of meter)
 
--- a command waits
+-- a command is pending
 and_ordered : (state : State) (taken : List Change) (seen : Seen) (core : Core) (change : Change) → HoldsAll state taken seen core
     → Holds state (taken ++ change ∷ []) (record seen { accepted = seen.accepted + 1 }) (ordered change core)
 and_ordered state taken seen core change all =
@@ -397,7 +397,7 @@ accepted_counted budget state turns chain = (holds_along budget state turns chai
 pub latest_within : (budget : ℕ) (state : State) (turns : List Turn) → IsChain budget (opened state) turns → (line : ℕ) → get_or (seen_from nothing_seen turns).latest line 0 ≤ (seen_from nothing_seen turns).accepted
 latest_within budget state turns chain = (holds_along budget state turns chain).latest
 
--- what is heard on no line isn't taken
+-- an answer on a line that doesn't exist isn't taken
 pub heard_on_line : (budget : ℕ) (core : Core) (line moment : ℕ) (bytes : List ℕ) (answer : LineHeard) → May budget core (hears line moment bytes) (heard (Ok answer)) → is_line line ≡ true
 heard_on_line budget core line moment bytes answer may =
     let right : Ok answer ≡ hear_answer budget core line moment bytes = ⊎_elim (λ e. e) (λ bad. absurd (cc bad.0)) may in

@@ -4,23 +4,23 @@
 pub mod At
 -- a telegram that isn't taken
 pub mod Refused
--- a settled telegram toggles the frame count bit (the law of specs/Toggled)
+-- an acknowledged telegram toggles the frame count bit (the theorem of specs/Toggled)
 pub mod Bits
--- of the changes accepted in a chain, what is committed has all that is promised (the law of specs/Promised)
+-- of the changes accepted in a chain, what is committed has all that is promised (the theorem of specs/Promised)
 pub mod Fronts
--- a telegram that is asked for is of a registered meter, and its readout's next part (the law of specs/Known)
+-- a telegram that is asked for is of a registered meter, and its readout's next part (the theorem of specs/Known)
 pub mod Registered
--- a command leaves each session that goes on at its meter's row (for the law of specs/Known)
+-- a command leaves each session that goes on at its meter's row (for the theorem of specs/Known)
 pub mod Ordered
--- in every chain of steps each session follows the register (the law of specs/Known)
+-- in every chain of steps each session follows the register (the theorem of specs/Known)
 pub mod Followed
 -- a run goes on by one turn
 pub mod Going
 -- a line of the office, answered
 pub mod Answering
--- one life after another (the law of specs/Lives)
+-- one life after another (the theorem of specs/Lives)
 pub mod Following
--- what was answered to the office is kept (the law of specs/Told)
+-- what was answered to the office is kept (the theorem of specs/Told)
 pub mod Told
 -- how long a request is
 pub mod Requests

@@ -1,4 +1,4 @@
--- A command leaves each session that goes on at its meter's row (for the law of specs/Known).
+-- A command leaves each session that goes on at its meter's row (for the theorem of specs/Known).
 use Rattle.std.proofs.Common.{◌≡◌, ◌⊎◌, ◌+◌, ℕ, length, zero, suc, Bool, true, false, cond, Option, None, Some, List, [], ◌∷◌, get_or, refl, ap, sym, subst, ◌∙◌}
 use Rattle.std.specs.Prelude.{is_some}
 use Rattle.std.specs.BTreeMap.{is_at, insert_entry}

@@ -1,4 +1,4 @@
--- A telegram that is asked for is of a registered meter, and its readout's next part (the law of specs/Known).
+-- A telegram that is asked for is of a registered meter, and its readout's next part (the theorem of specs/Known).
 use Rattle.std.proofs.Common.{◌≡◌, ◌≢◌, ◌⊎◌, ⊎_elim, inr, ◌+◌, ℕ, Bool, true, false, cond, eqb, Option, None, Some, List, [], ◌∷◌, ◌++◌, length, refl, ap, sym, arith, ◌∙◌, length-append}
 use Rattle.std.specs.Prelude.{is_some}
 use Rattle.std.specs.BTreeMap.{is_at}
@@ -40,7 +40,7 @@ row_of_other m meter row s apart =
 
 -- ---- what a session's meter has in the register
 
--- The meter is registered on this bus line, and has as many open parts as telegrams were settled, or none was.
+-- The meter is registered on this bus line, and has as many open parts as telegrams were acknowledged, or none was.
 pub record IsFollowed (line : ℕ) (meter : Identity) (count : ℕ) (s : State) : Type 0 where
   pub row : MeterRow
   pub found : row_of meter s ≡ Some row

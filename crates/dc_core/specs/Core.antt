@@ -1,5 +1,5 @@
--- The state of a concentrator, whatever its disk: what is committed, which changes wait, who is on each line, and
--- whether a failure of the disk has stopped it (this product).
+-- The state of a concentrator, apart from its disk: what is committed, the pending changes, the
+-- session on each line, and whether a failure of the disk has stopped it (this product).
 use Rattle.std.specs.Prelude.{ℕ, Bool, false, Option, List, []}
 use Rattle.dc_changes.specs.State.{State}
 use Rattle.dc_changes.specs.declared.change.Change.{Change}
@@ -23,6 +23,6 @@ session_of core line = on_line line core.lines
 abbrev pub with_session : ℕ → Option Summary → Core → Core
 with_session line session core = record core { lines = put_on line session core.lines }
 
--- a concentrator that was just opened: nothing waits, and nobody is on a line
+-- a newly opened concentrator: nothing is pending, and no line has a session
 abbrev pub opened : State → Core
 opened state = record { committed = state; pending = []; lines = no_sessions; stopped = false }

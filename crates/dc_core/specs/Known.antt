@@ -29,8 +29,9 @@ pub record IsForWantOfRoom (budget : ℕ) (core : Core) (line moment : ℕ)
   pub is_telegram : IsTelegramFor core line answer part telegram
   pub full : refusal budget (change_of moment part telegram) (present core) ≡ Some RegisterFull
 
--- Each telegram that is asked for is of a registered meter and its readout's next part. No more changes wait than may;
--- `Full` says that the register is full, and `PendingFull` that as many wait as may.
+-- Each telegram that is requested is of a registered meter and its readout's next part. At most the
+-- maximum number of changes is pending; `Full` means that the register is full, and `PendingFull`
+-- that the maximum number is pending.
 pub record KnowsItsMeters (budget : ℕ) (core : Core) : Type 0 where
   pub known : (line moment part : ℕ) (answer : List ℕ) (telegram : Parsed)
       → IsTelegramFor core line answer part telegram

@@ -17,7 +17,7 @@ pub record IsFront (state : State) (promised : ℕ) (changes : List Change)
   pub within : count ≤ length changes
   pub found_is : found ≡ after state (take count changes)
 
--- A disk that a stop left with this image may be opened, and the state that it reads as is one of those.
+-- A disk that a crash left with this image may be opened, and the state that it reads as is one of those.
 pub record MayFollow (half_len : ℕ) (state : State) (promised : ℕ) (changes : List Change)
     (image : Image) : Type 0 where
   pub premise : EachStands half_len (settled image)

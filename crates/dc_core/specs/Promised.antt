@@ -1,4 +1,4 @@
--- How many of the accepted changes are promised to survive every stop, and the law that they do (this product).
+-- How many of the accepted changes are promised to survive every crash, and the theorem that they do (this product).
 use Rattle.std.specs.Prelude.{◌≡◌, ℕ, ◌+◌, ◌-◌, ◌≤◌, max, Some, Ok, List, [], ◌∷◌, ◌++◌, length}
 use Rattle.std.specs.Prelude.{take, replicate, get_or}
 use Rattle.std.proofs.Math.ListN.{set}

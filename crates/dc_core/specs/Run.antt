@@ -63,7 +63,7 @@ pub record Answered {D : Type 0} (known : Type 0) (sectors failures : D → ℕ)
       (StandsForFront (half_len_of (sectors old.store.disk)) core.committed (taken_with reply))
 
 -- ONE EVENT in a state: an answer that it may have, its text is what was written, and the concentrator is in the next
--- state. A stop at any moment of it leaves what is committed and a prefix of the pending changes and of what it
+-- state. A crash at any moment of it leaves what is committed and a prefix of the pending changes and of what it
 -- accepted.
 pub record Turned {D : Type 0} (known : Type 0) (sectors failures : D → ℕ) (reads : D → Image)
     (choices : D → Choices) (moment : D → ℕ) (images_since : D → ℕ → Image → Type 0) (budget : ℕ)
@@ -77,7 +77,7 @@ pub record Turned {D : Type 0} (known : Type 0) (sectors failures : D → ℕ) (
       (StandsForFront (half_len_of (sectors old.store.disk)) core.committed
       (core.pending ++ accepted_by core event answer))
 
--- ONE TURN, machine to machine: the event may have this answer, and the concentrator is in the next state. A stop at
+-- ONE TURN, machine to machine: the event may have this answer, and the concentrator is in the next state. A crash at
 -- any moment of it leaves what is committed and a prefix of the pending changes and of what it accepted.
 pub record Did {D : Type 0} (known : Type 0) (sectors failures : D → ℕ) (reads : D → Image)
     (choices : D → Choices) (moment : D → ℕ) (images_since : D → ℕ → Image → Type 0) (budget : ℕ)
@@ -104,7 +104,7 @@ DidAll {D} known sectors failures reads choices moment images_since budget core
 
 -- A RUN of these events, after the turns that were before, in a life that began with the state: the turns make a
 -- chain of steps, machine to machine, their text is what was written, and the concentrator is where the chain ends.
--- There what is promised is committed, and the register knows what comes. A stop at any moment of the run leaves an
+-- There what is promised is committed, and the register knows what comes. A crash at any moment of the run leaves an
 -- image that stands for the state after a prefix of what was accepted, with all that was promised before the run; a
 -- stop after it, with all that is promised then.
 pub record Ran {D : Type 0} (known : Type 0) (sectors failures : D → ℕ) (reads : D → Image)

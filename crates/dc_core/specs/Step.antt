@@ -77,7 +77,7 @@ abbrev pub ask_answer : Core → ℕ → Option (List ℕ)
 ask_answer core line = if not (is_line line) || core.stopped then None
     else asked_on (session_of core line)
 
--- ---- an answer is heard
+-- ---- an answer is received
 
 abbrev pub unless_refused : Option TakeFault → LineHeard → Result LineHeard HearFault
 unless_refused None accepted = Ok accepted
@@ -133,7 +133,7 @@ abbrev pub heard_on : Core → ℕ → ℕ → List ℕ → Option Summary → C
 heard_on core line moment bytes None = core
 heard_on core line moment bytes (Some s) = judged core line moment s (verdict_by s bytes)
 
--- after a fault the request still waits
+-- after a fault the request stays open
 abbrev pub after_hear : Core → ℕ → ℕ → List ℕ → Result LineHeard HearFault → Core
 after_hear core line moment bytes (Ok answer) =
     heard_on core line moment bytes (session_of core line)

@@ -11,15 +11,15 @@ abbrev pub HaveOtherBits : FrameSeen → FrameSeen → Type 0
 HaveOtherBits request other = (bit : Bool) × (address : ℕ)
     × ((request ≡ request_to bit address) × (other ≡ request_to (not bit) address))
 
--- The answer to a request was the readout's next telegram. Until that is settled, nothing is asked on the line. Once it
--- is, the line's next request, where there is one, has the other bit.
+-- The answer to a request was the readout's next telegram. Until it is acknowledged, nothing is
+-- requested on the line. Once it is, the line's next request, if any, has the other bit.
 pub record TogglesOnce (s : Summary) (part : ℕ) (telegram : Parsed) : Type 0 where
   pub waits : asked_by (heard_by s (new part telegram)) ≡ None
   pub toggles : (settled : Summary) (request other : FrameSeen) → asked_by s ≡ Some request
       → settled_on (Some (heard_by s (new part telegram))) ≡ Some settled
       → asked_by settled ≡ Some other → HaveOtherBits request other
 
--- A SETTLED TELEGRAM TOGGLES THE BIT, and no other does.
+-- AN ACKNOWLEDGED TELEGRAM TOGGLES THE BIT, and no other does.
 abbrev pub SettlingToggles : Type 0
 SettlingToggles = (s : Summary) (answer : List ℕ) (part : ℕ) (telegram : Parsed)
     → verdict_by s answer ≡ new part telegram → TogglesOnce s part telegram

@@ -32,7 +32,7 @@ use dc_sectors::Disk;
 use std::alloc::Allocator;
 use std::marker::Model;
 
-/// The concentrator of a house. The state that it is in is defined in `specs/Core.antt`, and what a stop leaves of it
+/// The concentrator of a house. The state that it is in is defined in `specs/Core.antt`, and what a crash leaves of it
 /// in `specs/Images.antt`.
 #[derive(Drop)]
 pub struct Concentrator<D: Disk + Drop, A: Allocator + Copy> {
@@ -70,7 +70,7 @@ impl<D: Disk + Drop, A: Allocator + Copy> Concentrator<D, A> {
         // commits, and opened again, the concentrator holds exactly the register and readings of a prefix of the
         // accepted telegrams and commands, and that prefix includes every telegram after which a frame count bit
         // was toggled, every command acknowledged and every reading uploaded. Its next life begins with that. Such an
-        // image is refused only as worn, where the device failed, or out of memory.
+        // image is refused only for an exhausted counter, where the device failed, or out of memory.
         ensures the_headline { (state : State) (done more : List Turn)
             → WasStopped D.Disk state done more disk
             → EachStands (half_len_of (D.sectors disk)) (D.choices disk)
@@ -104,7 +104,7 @@ impl<D: Disk + Drop, A: Allocator + Copy> Concentrator<D, A> {
         ensures durable { IfOk result (λ c.
             D.choices c.store.disk ≡ settled (D.reads c.store.disk)) }
 
-        // Where each image stands for some state, the concentrator is in the opened state, and a stop leaves an image
+        // Where each image stands for some state, the concentrator is in the opened state, and a crash leaves an image
         // that stands for a state that one of them stood for.
         ensures at { IfOk result (λ c.
             (D.keeps c.store.disk → EachStands (half_len_of (D.sectors disk)) (D.choices disk))

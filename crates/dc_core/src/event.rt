@@ -3,7 +3,7 @@
 use dc_address::Identity;
 use dc_changes::Moment;
 
-/// What happens to a concentrator: a call, with its arguments.
+/// An event of a concentrator: a call, with its arguments.
 #[derive(Clone, Copy)]
 pub enum Event<'a> {
     /// The readout of a meter begins on its line.
@@ -15,7 +15,7 @@ pub enum Event<'a> {
     Ask {
         line: u8,
     },
-    /// An answer is heard on a line, at a moment. No byte is silence.
+    /// An answer is received on a line, with its time stamp. No byte is silence.
     Hear {
         line: u8,
         moment: Moment,

@@ -1,4 +1,4 @@
-//! What is tried on the concentrator, by topic.
+//! Tests of the concentrator, by topic.
 
 mod memory;
 mod room;

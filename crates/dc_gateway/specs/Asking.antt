@@ -26,7 +26,7 @@ pub record IsLostOver {R W : Type 0} (reader : SourceGhosts R) (writer : SinkGho
       (writer.written new.writer) (block request))
   pub read : TakesFront (reader.left old.reader) (reader.left new.reader)
 
--- A request to a gateway and the answer that is heard: silence from a lost one, which isn't touched.
+-- A request to a gateway and its answer: silence from a lost one, which isn't touched.
 pub record Asks {R W : Type 0} (reader : SourceGhosts R) (writer : SinkGhosts W) (old : Gateway R W)
     (request answer : List ℕ) (new : Gateway R W) : Type 0 where
   pub untouched : old.lost ≡ true → new ≡ old

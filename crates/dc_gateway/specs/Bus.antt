@@ -1,4 +1,5 @@
--- A bus as the list of its meters, by what is heard on it (EN 13757-3, selection with wildcards; EN 13757-2, REQ_UD2).
+-- A bus as the list of its meters, by its answers (EN 13757-3, selection with wildcards; EN
+-- 13757-2, REQ_UD2).
 -- The meters that match a selection acknowledge it at once, and answer the request that follows together.
 use Rattle.std.specs.Prelude.{◌≡◌, ℕ, ◌≤◌, true, List, [], ◌∷◌, Some, None, filter, length}
 use Rattle.std.specs.Prelude.{min, option_map, take, if◌then◌else◌, nat_le}
@@ -12,13 +13,13 @@ use Rattle.dc_search.specs.State.{SearchState, after, new_search, step_of}
 use Rattle.dc_search.specs.Walk.{FindsAll, found_of, shared_of, walk_of}
 use Rattle.dc_search.specs.declared.step.Step.TheVariants.{Done, Budget}
 
--- what is heard where these meters are selected: silence, or acknowledgements that are one
+-- the answer when these meters are selected: silence, or acknowledgements that are one
 abbrev pub Acknowledge : List Identity → List ℕ → Type 0
 Acknowledge [] answer = answer ≡ []
 Acknowledge (meter ∷ more) answer = answer ≡ spelling ack
 
--- what is heard where these are asked for their data: silence, the telegram of the one, or no telegram where answers
--- collide
+-- the answer when these are requested to send their data: silence, the telegram of the one, or no
+-- telegram if answers collide
 abbrev pub Respond : List Identity → List ℕ → Type 0
 Respond [] answer = answer ≡ []
 Respond (meter ∷ []) answer = answer_of answer ≡ Some meter

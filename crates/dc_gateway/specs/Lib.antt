@@ -6,5 +6,5 @@ pub mod Blocks
 pub mod Talk
 -- what a request to a gateway does
 pub mod Asking
--- a bus of meters, by what is heard on it
+-- a bus of meters, by its answers
 pub mod Bus

@@ -7,18 +7,19 @@ use Rattle.dc_gateway.specs.Bus.{AreExchanged, Exchange}
 use Rattle.dc_core.specs.Text.{failed_text}
 use Rattle.dc_decode.specs.Frames.{all_shown, frames_of}
 
--- the most requests of a readout: three tries at a reset, a selection and each of 32 parts, and one look more
+-- maximum number of requests of a readout: three tries at a reset, a selection and each of 32
+-- parts, and one more look
 abbrev pub most_requests : ℕ
 most_requests = 103
 
--- What is printed of an answer: a telegram as `decode` prints it, or why the readout failed.
+-- The text printed for an answer: a telegram as `decode` prints it, or why the readout failed.
 abbrev pub printed : Verdict → List ℕ → List ℕ
 printed again answer = []
 printed ready answer = []
 printed (new part telegram) answer = all_shown (frames_of answer)
 printed (failed why) answer = failed_text why
 
--- The session after an answer: a telegram that was printed is settled, so the frame count bit changes.
+-- The session after an answer: a printed telegram is acknowledged, so the frame count bit changes.
 abbrev pub after_verdict : Summary → Verdict → Summary
 after_verdict session again = heard_by session again
 after_verdict session ready = heard_by session ready

@@ -34,12 +34,12 @@ is_none (x ∷ more) = false
 abbrev pub finds_nobody : SearchState → Bool
 finds_nobody search = is_none search.found && is_none search.shared
 
--- somebody was found, or the budget is spent
+-- a meter or a shared number was found, or the budget is spent
 abbrev pub is_enough : ℕ → SearchState → Bool
 is_enough budget search = if finds_nobody search then search.selections == budget else true
 
--- THE SCAN OF A BUS, as it is printed: one search. Where it finds nobody and budget is left, there is a second one
--- with what is left, and the text is that of the second one, with the selections of both.
+-- THE SCAN OF A BUS, as it is printed: one search. If it finds nothing and budget is left, a second
+-- one follows with the rest, and the text is that of the second one, with the selections of both.
 pub data Scanned {B : Type 0} (settles : B → B → Type 0) (ready : B → Bool)
     (asks : B → List ℕ → List ℕ → B → Type 0)
     (meters : B → Option (List Identity)) (budget : ℕ) (old new : B)
@@ -60,7 +60,7 @@ abbrev pub identity_word : Option Identity → List ℕ
 identity_word None = []
 identity_word (Some meter) = codes " " ++ text_of meter
 
--- an address that acknowledged, and whose telegram it was, where that could be read
+-- an address that acknowledged, and the sender of its telegram, if that could be read
 abbrev pub address_line : ℕ → Option Identity → List ℕ
 address_line address meter = codes "ADDRESS"
     ++ (number_word address ++ (identity_word meter ++ codes "\n"))
@@ -81,7 +81,7 @@ resets address answer = record { request = spelling (reset_to address); answer =
 abbrev pub requests : ℕ → List ℕ → Exchange
 requests address answer = record { request = spelling (request_to true address); answer = answer }
 
--- An address is reset. Where that is acknowledged, its telegram is requested, which says whose it is.
+-- An address is reset. If it acknowledges, its telegram is requested, which names the meter.
 pub data Identifies (address : ℕ) : List Exchange → Option Identity → Type 0 where
   is_silent : {answer : List ℕ} → is_ack (frame_of answer) ≡ false
       → Identifies address (resets address answer ∷ []) None

@@ -1,4 +1,5 @@
-//! What an installer does on one bus, without an image: a search for meters, and the readout of one meter.
+//! The commands of an installer on one bus, without an image: a search for meters, and the readout
+//! of one meter.
 //!
 //! Nothing is stored. [`read`] prints each telegram before the meter is asked for the next one. [`scan`] is the
 //! wildcard search, and [`scan_primary`] asks each primary address.

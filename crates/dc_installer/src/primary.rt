@@ -22,8 +22,8 @@ use dc_search::meter_of;
 // The greatest primary address.
 const GREATEST: u8 = 250;
 
-/// Asks each primary address from 1 to 250 (EN 13757-2), and prints each that acknowledges, with the meter whose
-/// telegram it answers where that can be read.
+/// Requests each primary address from 1 to 250 (EN 13757-2), and prints each that acknowledges,
+/// with the meter whose telegram it sends, if that can be read.
 ///
 /// # Errors
 /// A write failed.
@@ -38,8 +38,8 @@ pub fn scan_primary<B: Bus, W: Sink>(bus: &mut B, out: &mut W) -> Result<(), IoF
     scan_last(GREATEST, bus, out)
 }
 
-/// The meter at a primary address: it is reset, and its telegram is requested where it acknowledged. It repeats that
-/// telegram to the next readout.
+/// Identifies the meter at a primary address: resets it, and requests its telegram if it
+/// acknowledged. The meter repeats that telegram to the next readout.
 pub fn identify<B: Bus>(bus: &mut B, address: Primary) -> Option<Identity>
     ensures { (exchanges : List Exchange) × AreExchanged B.asks bus.old exchanges bus.new
         × Identifies address exchanges result }
@@ -85,7 +85,7 @@ fn scan_one<B: Bus, W: Sink>(address: u8, bus: &mut B, out: &mut W) -> Result<()
     put_address(address, meter, out)
 }
 
-// Resets an address, and says whether it was acknowledged.
+// Resets an address, and returns whether it acknowledged.
 fn resets<B: Bus>(bus: &mut B, address: u8) -> bool
     ensures { (answer : List ℕ) × B.asks bus.old (spelling (reset_to address)) answer bus.new
         × (result ≡ is_ack (frame_of answer)) }
@@ -96,7 +96,7 @@ fn resets<B: Bus>(bus: &mut B, address: u8) -> bool
     matches!(parse(answer.as_slice()), Ok(Frame::Ack))
 }
 
-// Requests a telegram, and gives the meter that it comes from.
+// Requests a telegram, and returns the meter that sent it.
 fn requests<B: Bus>(bus: &mut B, address: u8) -> Option<Identity>
     ensures { (answer : List ℕ) × B.asks bus.old (spelling (request_to true address)) answer bus.new
         × (result ≡ answer_of answer) }

@@ -1,4 +1,4 @@
-//! The readout of one meter.
+//! Reads one meter.
 
 ghost use Rattle.std.specs.Prelude.{◌≡◌, ◌≤◌, ℕ, List, None, Some, IfOk, OnOk, OnErr, length};
 ghost use Rattle.std.specs.Prelude.{option_map};
@@ -22,18 +22,18 @@ use dc_readout::{Heard, Session};
 // Three tries at a reset, a selection and each of 32 parts, and one look more.
 const MOST_REQUESTS: u8 = 103;
 
-/// How a readout ended.
+/// The end of a readout.
 #[derive(Clone, Copy, Debug, PartialEq, Eq)]
 pub enum Readout {
     /// Each telegram was printed, up to the last.
     Whole,
-    /// It failed, as the last line says.
+    /// It failed, as the last line states.
     Failed,
 }
 
-/// Reads a meter on a bus, at its primary address or by selection, and prints its telegrams as `decode` does. A
-/// telegram is printed before the next one is requested, as the meter discards it then. Where the readout fails, the
-/// last line says why.
+/// Reads a meter on a bus, by its primary address or by secondary addressing, and prints its
+/// telegrams as `decode` does. A telegram is printed before the next one is requested, since the
+/// meter then discards it. If the readout fails, the last line states why.
 ///
 /// # Errors
 /// A write failed. No further request goes out then, so the meter still has the telegram that wasn't printed.
@@ -54,7 +54,7 @@ pub fn read<B: Bus, W: Sink>(
     read_on(bus, Session::start(*meter, address), MOST_REQUESTS, out)
 }
 
-// Goes on with a session, by this many requests at most.
+// Continues a session, with at most this many requests.
 fn read_on<B: Bus, W: Sink>(
     bus: &mut B,
     session: Session,
@@ -82,7 +82,8 @@ fn read_on<B: Bus, W: Sink>(
     }
 }
 
-// A request and its answer, which is printed; then a telegram is settled. Tells whether the session failed.
+// Sends a request and prints its answer; then the telegram is acknowledged. Returns whether the
+// session failed.
 fn exchange<B: Bus, W: Sink>(
     bus: &mut B,
     session: &mut Session,

@@ -1,4 +1,4 @@
-//! The wildcard search for meters.
+//! Searches for meters by wildcards.
 
 ghost use Rattle.std.specs.Prelude.{◌≡◌, ◌+◌, ◌≤◌, IfOk, OnOk, IsErrOf};
 ghost use Rattle.dc_io.specs.Failures.{HasRisen};
@@ -20,7 +20,7 @@ pub enum ScanFault {
     /// A write failed.
     #[error("a write failed")]
     Write,
-    /// Memory was refused.
+    /// Out of memory.
     #[error("out of memory")]
     NoMemory,
 }
@@ -28,9 +28,9 @@ pub enum ScanFault {
 /// Searches a bus for meters by wildcards (EN 13757-3), with at most `budget` selections, and prints what it found:
 /// each meter, each number that more than one meter has, whether the budget was spent, and the number of selections.
 ///
-/// The bus settles first, so that no late answer is taken for one to the search. Where the search finds nobody and
-/// budget is left, the bus settles again and is searched once more, as an answer that came late hides a meter. Then
-/// the text is that of the second search, with the selections of both.
+/// The bus settles first, so that no late answer is taken for one to the search. If the search
+/// finds no meter and budget is left, the bus settles again and is searched once more, since a late
+/// answer hides a meter. Then the text is that of the second search, with the selections of both.
 ///
 /// # Errors
 /// [`ScanFault::Write`], and [`ScanFault::NoMemory`] with nothing written.
@@ -73,7 +73,7 @@ fn look<A: Allocator + Copy, B: ScriptBus>(
     search_over(alloc, budget, bus)
 }
 
-// Whether somebody was found, or the budget is spent.
+// Whether a meter or a shared number was found, or the budget is spent.
 fn is_enough<A: Allocator + Copy>(search: &Search<A>, budget: u32) -> bool
     ensures { result ≡ is_enough budget search.now }
 {

@@ -13,7 +13,7 @@ use std::io::{ErrorKind, Read};
 pub struct ReadSource<R: Read + Drop> {
     /// The reader.
     pub reader: R,
-    /// How many takes failed.
+    /// Number of takes that failed.
     pub failures: u64,
 }
 

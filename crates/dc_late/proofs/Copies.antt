@@ -182,7 +182,7 @@ no_answer_is_a_copy meters regular different events =
 
 -- ---- where nothing is late
 
--- an answer that isn't a copy is heard, and nothing stays under way
+-- an answer that isn't a copy is received, and nothing stays under way
 heard_whole : (last : Option Last) (request sent : List ℕ) → (sent ≡ []) ⊎ (is_copy last request sent ≡ false)
     → listened true last request (and_sent sent []) ≡ record { heard = sent; left = [] }
 heard_whole last request [] is = refl

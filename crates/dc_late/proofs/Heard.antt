@@ -1,4 +1,4 @@
--- What a session makes of what is heard on a late link.
+-- How a session judges what is received on a late link.
 use Rattle.std.proofs.Common.{◌≡◌, ℕ, zero, suc, ◌+◌, ◌⊎◌, inl, inr, Bool, true, false, not, ◌&&◌, List, ◌∷◌, Option, Some, None, Ok, cond, ◌==◌, bytes_eq, arith, refl, sym, ◌∙◌, ap, subst}
 use Rattle.std.specs.Prelude.{slice_get, unwrap_or, Result, Err}
 use Rattle.std.specs.List.{AllByRecursion}
@@ -47,7 +47,7 @@ requests_differ address k e =
     let same : Some (request_of address (suc k)) ≡ Some (request_of address k) = sym (frame_of-spelling (request_of address (suc k))) ∙ ap frame_of e ∙ frame_of-spelling (request_of address k) in
     bits_differ k (let c : req_ud2 (request_bit (suc k)) ≡ req_ud2 (request_bit k) = cc in sym c)
 
--- so the telegram that was heard last is a copy
+-- so the telegram that was received last is a copy
 own_copy : (address : Option ℕ) (m : Meter) (k : ℕ) (x : List ℕ) → x ≡ answer_no m (suc k) → is_copy (last_at address m (suc k)) (spelling (request_of address (suc k))) x ≡ true
 own_copy address m k x is =
     let a : bytes_eq x (answer_no m (suc k)) ≡ true = (bytes_eq-Decides x (answer_no m (suc k))).1 is in
@@ -58,9 +58,9 @@ own_copy address m k x is =
     go true e = absurd (requests_differ address k ((bytes_eq-Decides _ _).0 e))
     go false e = e
 
--- ---- what may be heard where a telegram is asked for
+-- ---- what may be received when a telegram is requested
 
--- nothing that is a frame, the acknowledgement where no telegram was settled, or the next telegram
+-- no frame, the acknowledgement if no telegram was acknowledged yet, or the next telegram
 pub data Comes (m : Meter) (n : ℕ) (p : Position) (left : List (List ℕ)) : List ℕ → Type 0 where
   nothing : {x : List ℕ} → frame_of x ≡ None → Comes m n p left x
   first_ack : {x : List ℕ} → n ≡ 0 → frame_of x ≡ Some ack → Comes m n p left x
@@ -156,7 +156,7 @@ kept_by identity address m n p left last request x why whom (next is gone all) e
 
 -- ---- by the stage of the session
 
--- what was heard is a failed try
+-- what was received is a failed try
 pub missed_keeps : (stage : Stage) (identity : Identity) (address : Option ℕ) (n i : ℕ) (frame : FrameSeen) (m : Meter) (p : Position) (positions : List Position) (left : List (List ℕ)) (last : Option Last) (x : List ℕ) (why : Why)
     → asked_at stage identity address n ≡ Some frame → m.address ≡ address
     → IsUnderWay stage address n i m p positions (x ∷ left) → (frame_of x ≡ None) ⊎ (is_copy last (spelling frame) x ≡ false)
@@ -170,7 +170,7 @@ missed_keeps Requests identity address n i frame m p positions left last x why a
 missed_keeps (Pending more) identity address n i frame m p positions left last x why asks whom u fresh e is = absurd cc
 missed_keeps Ended identity address n i frame m p positions left last x why asks whom u fresh e is = absurd cc
 
--- the acknowledgement was heard
+-- the acknowledgement was received
 acknowledged_when_heard : (address : Option ℕ) (n i : ℕ) (m : Meter) (p : Position) (positions : List Position) (left : List (List ℕ)) (last : Option Last) (request x : List ℕ)
     → n ≡ 0 → slice_get positions i ≡ Some p → to_command (frame_of x) ≡ acknowledged → IsAcknowledged address n i p positions x → AllByRecursion (IsAcknowledged address n i p positions) left
     → Line Requests address n i m positions left × (last_after (frame_of x) request x last ≡ last_at address m n)
@@ -214,7 +214,7 @@ command_keeps Requests identity address n i frame m p positions left last x asks
 command_keeps (Pending more) identity address n i frame m p positions left last x asks stands step u e = absurd cc
 command_keeps Ended identity address n i frame m p positions left last x asks stands step u e = absurd cc
 
--- the next telegram was heard
+-- the next telegram was received
 pub record Told (address : Option ℕ) (n i : ℕ) (m : Meter) (positions : List Position) (left : List (List ℕ)) (last : Option Last) (t : Parsed) : Type 0 where
   pub line : Line (Pending (continues t.ending)) address n i m positions left
   pub is_next : IsNextBody (Pending (continues t.ending)) n (Some t.body) m.bodies

@@ -29,7 +29,7 @@ use Rattle.dc_late.proofs.UnderWay.{IsUnderWay, IsUnreadable, all_map, all_sent,
 use Rattle.dc_late.proofs.Sent.{Line, sent_on}
 use Rattle.dc_late.proofs.Heard.{missed_keeps, command_keeps, telegram_keeps}
 
--- ---- what is heard
+-- ---- what is received
 
 again_is : (tries n : ℕ) (o : Meaning) → verdict_of_meaning tries n o ≡ again → (why : Why) × (o ≡ missed why)
 again_is tries n acknowledged e = absurd cc
@@ -164,7 +164,7 @@ module _ (W : List (List ℕ) → Type 0) (tail : (x : List ℕ) (xs : List (Lis
 
 -- ---- nothing is left where no answer was missed
 
--- after what is no frame, a frame that is heard is the last one
+-- after bytes that are no frame, a frame that is received is the last one
 alone_under_way : (last : Option Last) (request sent : List ℕ) (way : List (List ℕ)) (x : List ℕ) (more : List (List ℕ)) (f : FrameSeen) → AllByRecursion IsUnreadable way
     → past_copies last request (way ++ sent ∷ []) ≡ x ∷ more → frame_of x ≡ Some f → more ≡ []
 alone_under_way last request sent [] x more f all e is = go (is_copy last request sent) e

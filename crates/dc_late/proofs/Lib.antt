@@ -4,7 +4,7 @@
 pub mod UnderWay
 -- what an exchange puts onto a late link, and where it leaves the meter
 pub mod Sent
--- what a session makes of what is heard on a late link
+-- how a session judges what is received on a late link
 pub mod Heard
 -- every world over a late link is regular: so what is held is whole, and a meter goes on only from what is committed
 pub mod LateWorlds

@@ -48,7 +48,7 @@ IsUnderWay Requests address n i m p positions way = IsOrdered (IsOld m n) (IsNew
 IsUnderWay (Pending more) address n i m p positions way = AllByRecursion (IsOld m (suc n)) way
 IsUnderWay Ended address n i m p positions way = Unit {0}
 
--- ---- what was heard last
+-- ---- what was received last
 
 abbrev pub last_at : Option ℕ → Meter → ℕ → Option Last
 last_at address m zero = None

@@ -1,4 +1,4 @@
--- Answers that are waited for.
+-- Waiting for answers.
 use Rattle.std.proofs.Common.{◌≡◌, ℕ, ◌+◌, ◌<◌, ◌≤◌, Bool, true, false, List, [], ◌∷◌, ◌++◌, Option, Some, None, IfSome, IfNone, is_some, not, refl, sym, subst, arith, if◌then◌else◌, ◌⊎◌, inl, inr}
 use Rattle.dc_line.specs.Bus.{Runs, rests, gave, waited}
 
@@ -9,7 +9,7 @@ module _ {B : Type 0} (gives : B → List ℕ → B → Type 0) (waits : B → B
   runs-append (gave step more) second = gave step (runs-append more second)
   runs-append (waited step more) second = waited step (runs-append more second)
 
-  -- what was heard by now: nothing, or the answer
+  -- what was received so far: nothing, or the answer
   abbrev pub HasHeard : B → Option (List ℕ) → B → Type 0
   HasHeard old None now = Runs gives waits old [] now
   HasHeard old (Some answer) now = Runs gives waits old (answer ∷ []) now
@@ -32,7 +32,7 @@ is_none_of None test is e = refl
 is_none_of (Some x) true is e = absurd cc
 is_none_of (Some x) false is e = absurd cc
 
--- one step more while nothing was heard
+-- one more step while nothing was received
 abbrev pub and_open : {X : Type 0} → Option X → ℕ → ℕ
 and_open None left = left + 1
 and_open (Some x) left = left

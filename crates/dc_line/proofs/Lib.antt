@@ -2,9 +2,9 @@
 
 -- the echo of a request, and what is wanted of an answer
 pub mod Echoes
--- what is heard, piece by piece
+-- what is received, piece by piece
 pub mod Pieces
--- answers that are waited for
+-- waiting for answers
 pub mod Halves
--- what a line hears in several steps
+-- what a line receives in several steps
 pub mod Steps

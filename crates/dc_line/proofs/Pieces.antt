@@ -1,4 +1,4 @@
--- What is heard, piece by piece.
+-- What is received, piece by piece.
 use Rattle.std.proofs.Common.{◌≡◌, ℕ, ◌-◌, ◌+◌, ◌<◌, ◌≤◌, Bool, true, false, not, List, [], ◌∷◌, ◌++◌, length, take, map, get_or, ◌==◌, refl, ap, sym, subst, ◌∙◌, arith, append_assoc, append-nil}
 use Rattle.std.specs.List.{All, concat}
 use Rattle.std.proofs.lemmas.Bool.{ne_eqb}
@@ -35,7 +35,7 @@ stays_bad (a ∷ b ∷ []) further e = grind (arith, nat_tests)
 stays_bad (a ∷ b ∷ c ∷ []) further e = grind (arith, nat_tests)
 stays_bad (a ∷ b ∷ c ∷ d ∷ rest) further e = grind (arith, nat_tests)
 
--- with at most what is missing, every byte is heard
+-- with at most the missing bytes, every byte is received
 pub exact_more : (bytes more : List ℕ) → 0 < missing_of bytes → length more ≤ missing_of bytes → length (bytes ++ more) ≤ most_answer → heard_of (bytes ++ more) ≡ bytes ++ more
 exact_more bytes more some fewer fits = by_need (need_of bytes) refl (need_of (bytes ++ more)) refl
   where

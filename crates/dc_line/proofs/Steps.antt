@@ -1,4 +1,4 @@
--- What a line hears in several steps, and how it depends on the bytes.
+-- What a line receives in several steps, and how it depends on the bytes.
 use Rattle.std.proofs.Common.{◌≡◌, ℕ, ◌-◌, ◌+◌, suc, ◌<◌, ◌≤◌, Bool, true, false, List, [], ◌∷◌, ◌++◌, length, take, drop, get_or, ◌==◌, refl, ap, sym, subst, ◌∙◌, arith, rules, if◌then◌else◌, append_assoc, append-nil, ◌⊎◌, inl, inr}
 use Rattle.std.specs.List.{All, concat}
 use Rattle.std.proofs.lemmas.Bool.{false≢true}
@@ -172,7 +172,7 @@ bursts_then : (bursts : List (List ℕ)) (end : List Sound) → bytes_in end ≡
 bursts_then bursts end none =
     bytes-append (pieces bursts) end ∙ ap (λ (xs : List ℕ). bytes_in (pieces bursts) ++ xs) none ∙ append-nil (bytes_in (pieces bursts)) ∙ bytes_pieces bursts
 
--- what was heard, of these bytes and then of what came
+-- what was received, of these bytes and then of what came
 record Over {W : Type 0} (hears : W → Sound → W → Type 0) (old : W) (before : Hearing) (answer : List ℕ) (new : W) : Type 0 where
   sounds : List Sound
   gave : AreHeard hears old sounds new

@@ -1,4 +1,4 @@
--- A meter that is selected by its identity is in no other's way.
+-- A meter that is read by secondary addressing is in no other's way.
 use Rattle.std.proofs.Common.{◌≡◌, ℕ, Bool, true, false, List, [], ◌∷◌, None, refl, ap, ◌∙◌}
 use Rattle.std.specs.Prelude.{◌==◌, ◌||◌, ◌&&◌}
 use Rattle.std.specs.List.{list_any}

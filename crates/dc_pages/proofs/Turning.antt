@@ -103,7 +103,7 @@ module _ {D : Type 0} (reads : D → Image) (choices : D → Choices) (moment : 
   abbrev is_written : List ℕ → ℕ → Sector → Type 0
   is_written payload i sector = IsPageWritten site session i (piece i payload) sector
 
-  -- what a stop leaves in the write of a page
+  -- what a crash leaves in the write of a page
   page_left : (start mid : D) (index : ℕ) (payload bytes : List ℕ) → site.first + index < site.limit → is_written payload index (Bytes bytes) → on_disk start mid index payload
       → (image : Image) → IsImage (added (choices mid) (site.first + index) bytes) image → is_part start image
   page_left start mid index payload bytes fits page is image in_added =

@@ -16,5 +16,5 @@ pub mod Laws
 pub mod Reading
 -- a group's payload that is put piece by piece, seen with the group's disk
 pub mod Streaming
--- a group that is being written, and what a stop may leave of it
+-- a group that is being written, and what a crash may leave of it
 pub mod Writing

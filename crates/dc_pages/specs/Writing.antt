@@ -1,4 +1,4 @@
--- A group that is being written, and what a stop may leave of it (this product's image format).
+-- A group that is being written, and what a crash may leave of it (this product's image format).
 use Rattle.std.specs.Prelude.{◌≡◌, ◌⊎◌, ◌<◌, ◌≤◌, ℕ, ◌+◌, ◌*◌, List, length, drop, Contains}
 use Rattle.dc_sectors.specs.declared.sector.Sector.{Sector}
 use Rattle.dc_sectors.specs.declared.sector.Sector.TheVariants.{Bytes, Unreadable}

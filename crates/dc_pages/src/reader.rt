@@ -20,7 +20,7 @@ use std::alloc::Allocator;
 pub struct Group<A: Allocator> {
     /// The used bytes of its pages, in order.
     pub payload: Vec<u8, A>,
-    /// How many sectors it has, pages and commit sector.
+    /// Number of sectors, pages and commit sector.
     pub sectors: u32,
 }
 

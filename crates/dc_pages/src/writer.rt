@@ -15,7 +15,7 @@ use std::marker::Model;
 
 /// A group that is being written. It holds one page, and takes no memory.
 ///
-/// Once a call answered `Failed`, nothing more is said of the group: it is given up.
+/// Once a call returned `Failed`, no contract states anything of the group: it is abandoned.
 #[derive(Drop)]
 pub struct GroupWriter {
     site: Site,
@@ -194,8 +194,8 @@ impl GroupWriter {
         Ok(())
     }
 
-    /// Writes the last page and the commit sector, and answers how many sectors the group has. It
-    /// doesn't sync.
+    /// Writes the last page and the commit sector, and returns the number of sectors of the group.
+    /// It doesn't sync.
     pub fn finish<D: Disk>(mut self, disk: &mut D) -> Result<u32, Failed>
         requires some { 0 < length self.buffer }
         requires room { HasRoom self 0 }
@@ -206,7 +206,7 @@ impl GroupWriter {
             → OnOk result (IsClosed D.moment D.images_since start disk.new
             (D.reads start) self.site self.session (self.pages + 1) payload (D.reads disk.new)) }
 
-        // Where a write failed, a stop leaves a part of the group without its commit sector, or the group torn.
+        // Where a write failed, a crash leaves a part of the group without its commit sector, or the group torn.
         ensures any_moment { (start : D) (payload : List ℕ)
             → IsGoing D.reads D.choices D.moment D.images_since start disk.old self payload
             → OnErr result (LeavesOnly D.moment D.images_since start disk.new

@@ -45,7 +45,7 @@ pub fn write_waiting<D: Disk + Drop, A: Allocator + Copy>(
     ensures stops { IsErrOf result Device → store.new.is_stopped ≡ true }
     ensures goes_on { OnOk result (store.new.is_stopped ≡ false) }
 
-    // The register is what the store keeps, after the pending changes. The store keeps that then, and a stop at
+    // The register is what the store keeps, after the pending changes. The store keeps that then, and a crash at
     // any moment leaves an image that stands for what was kept before or for that.
     ensures kept { (was : State) (changes : List Change)
         → Keeps D.sectors D.reads D.choices store.old was → SpellsChanges waiting.now.bytes changes

@@ -1,6 +1,6 @@
 -- lemmas by topic
 
--- what is heard without a telegram leaves the pending changes
+-- an answer without a telegram leaves the pending changes
 pub mod Quiet
 -- a poll, one thing after the other (the theorem of specs/Polled)
 pub mod Polls

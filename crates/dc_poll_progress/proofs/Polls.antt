@@ -153,7 +153,7 @@ module _ (port : Port) (budget moment place : ℕ) (meters : List Meter) (start 
         bus_is = ap (λ (frame : FrameSeen). bus_after meters g.outcome frame bus) same;
       }
 
-  -- ---- its answer is heard
+  -- ---- its answer is received
 
   pub heard_at : (bytes : List ℕ) (bus : Bus) (core : Core) (k : ℕ) (answer : Result LineHeard HearFault) → Hearing bytes bus core k → MayHear (hear_answer budget core port.line moment bytes) answer
       → answer ≢ Err NoMemory → At (behind_first_heard bytes answer) bus (after_hear core port.line moment bytes answer) (k + 0)

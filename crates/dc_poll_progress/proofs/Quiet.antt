@@ -1,4 +1,4 @@
--- What is heard without a telegram leaves the pending changes, and a commit leaves nothing.
+-- An answer without a telegram leaves the pending changes, and a commit leaves none.
 use Rattle.std.proofs.Common.{◌≡◌, ℕ, Bool, true, false, not, Option, Some, None, Result, Ok, Err, List, [], ◌∷◌, length, cond, refl, sym, subst}
 use Rattle.std.specs.Prelude.{is_some, nat_le, if◌then◌else◌}
 use Rattle.dc_records.specs.Body.{continues}

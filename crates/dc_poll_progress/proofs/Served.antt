@@ -163,7 +163,7 @@ module _ (port : Port) (budget moment place : ℕ) (meters : List Meter) (start 
         served = record { outcome = AsSent; frame = h.frame; is_frame = h.is_frame; answer_is = refl; few = omega arith; then_on = rest.served };
       }
 
-  -- ---- its answer is heard
+  -- ---- its answer is received
 
   hears_rest : (fuel : ℕ) → Onward fuel → (bytes : List ℕ) (bus : Bus) (core : Core) (k : ℕ) → Hearing port budget moment place meters start meter row parts may quiet_start bytes bus core k
       → 12 * total + 3 ≤ 4 * k + suc fuel → Rest (to_hear bytes) bus core

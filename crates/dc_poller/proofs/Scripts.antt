@@ -67,7 +67,7 @@ one_on_line line meter other another fits is other_fits is_other same =
     let words = one_word (decimal line) (decimal other) (text_of meter) (text_of another) (line_is_word line fits) (line_is_word other other_fits) same in
     record { lines = one_number line other (omega arith) (omega arith) words.0; meters = one_meter meter another is is_other words.1 }
 
--- ---- what is heard
+-- ---- what is received
 
 no_space_in : (front rest : List ℕ) → IsWord (front ++ 32 ∷ rest) → ⊥
 no_space_in [] rest is = let parts = and_parts (is_inside 32) (list_all is_inside rest) is in absurd cc

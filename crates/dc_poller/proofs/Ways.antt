@@ -131,7 +131,7 @@ pub exchanged_after : {G : Type 0} (asks : G → List ℕ → List ℕ → G →
 exchanged_after asks old mid new one more first then =
     subst (λ (xs : List Exchange). AreExchanged asks old xs new) (sym (exchanges_append one more)) (exchanged-both asks old mid new (happened_exchanges one) (happened_exchanges more) first then)
 
--- silence may be heard from any bus
+-- any bus may be silent
 pub silence_over : (is : Bool) → IsHeardOver (link_by is) []
 silence_over true = refl
 silence_over false = tt

@@ -35,7 +35,8 @@ pub data Due : Type 0 where
   -- this is what came to it
   to_hear : List ℕ → Due
   to_commit : Due
-  -- too much waits for what was heard: it is committed, and then that is heard once more
+  -- the maximum number of changes is pending: they are committed, and then the answer is taken
+  -- again
   to_make_room : List ℕ → Due
   to_hear_again : List ℕ → Due
   is_over : Due
@@ -57,7 +58,8 @@ IsDueEvent port moment meter (to_make_room bytes) event = event ≡ commits
 IsDueEvent port moment meter (to_hear_again bytes) event = event ≡ hears port.line moment bytes
 IsDueEvent port moment meter is_over event = ⊥
 
--- A bus is lost over a request, of which silence is heard; but for a gateway also while it settles before the start.
+-- A bus is lost over a request, whose answer is silence; other buses than a gateway also while they
+-- settle before the start.
 abbrev pub MayBeLost : Port → Due → Type 0
 MayBeLost port to_start = port.is_gateway ≡ false
 MayBeLost port to_ask = ⊥
@@ -86,7 +88,7 @@ behind_heard (Ok (Accepted part more)) = to_commit
 behind_heard (Ok (Failed why)) = is_over
 behind_heard (Err fault) = is_over
 
--- but where too much waits, there is a way to go on
+-- but if the maximum number of changes is pending, the readout can go on
 abbrev pub behind_first_heard : List ℕ → Result LineHeard HearFault → Due
 behind_first_heard bytes (Ok answer) = behind_heard (Ok answer)
 behind_first_heard bytes (Err PendingFull) = to_make_room bytes

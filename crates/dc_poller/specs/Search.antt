@@ -51,7 +51,7 @@ search_text_after before search =
     ++ (flat_map shared_line search.shared
     ++ (budget_line (step_of search) ++ selections_line (before + search.selections)))
 
--- that answers came late while it searched, where some did
+-- the number of late answers during the search, if any
 abbrev pub late_text : Port → ℕ → List ℕ
 late_text port zero = []
 late_text port (suc n) = codes "LATE" ++ number_word port.line ++ number_word (suc n) ++ codes "\n"
@@ -90,7 +90,7 @@ IsLeft lost left = left ≡ lost
 abbrev pub refused_turns : CommitFault → List Turn
 refused_turns fault = (commits, committed (Err fault)) ∷ []
 
--- it isn't, and so it is looked whether a request of the line waits
+-- it isn't, and so the line is checked for a pending request
 abbrev pub looked_turns : ℕ → ℕ → Option (List ℕ) → List Turn
 looked_turns line count request = (commits, committed (Ok count)) ∷ (asks line, asked request) ∷ []
 
@@ -102,7 +102,7 @@ pub record IsRefused (link left : Link) (turns : List Turn) (exchanges : List Ex
   pub unasked : exchanges ≡ []
   pub left_is : left ≡ link
 
--- a readout of the line waits, which a selection would begin anew
+-- a readout of the line is pending, which a selection would restart
 pub record IsBusy (line : ℕ) (link left : Link) (turns : List Turn) (exchanges : List Exchange)
     (text : List ℕ) : Type 0 where
   pub count : ℕ

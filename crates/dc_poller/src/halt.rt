@@ -14,7 +14,7 @@ pub enum Halt {
     NoMemory,
 }
 
-/// What was written, where a failed write ends the script.
+/// The result of a write; a failed one ends the script.
 pub fn written(put: Result<(), IoFault>) -> Result<(), Halt>
     ensures { result ≡ halted_by put }
 {

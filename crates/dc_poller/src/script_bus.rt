@@ -28,7 +28,7 @@ pub trait ScriptBus: Bus {
     fn late(&self) -> u64
         ensures { result ≡ late self.now };
 
-    // Where the bus is lost over a request, nothing is heard of it.
+    // If the bus is lost over a request, the answer is silence.
     ghost silent: { (old new : Self) (request answer : List ℕ)
         → Self.asks old request answer new → Self.lost new ≡ true → answer ≡ [] };
 }

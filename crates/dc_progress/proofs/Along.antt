@@ -122,7 +122,7 @@ module _ (budget line : ℕ) (meters : List Meter) (start : Scene) (place : ℕ)
   quiet_none (Pending more) = tt
   quiet_none Ended = tt
 
-  -- ---- what is answered
+  -- ---- the answers
 
   module _ (done lost tries : ℕ) (scene : Scene) (x : Runs done lost tries scene) where
     abbrev s : Summary

@@ -23,7 +23,7 @@ use Rattle.dc_progress.proofs.Register.{bodies_of, IsOpen, joined_bodies}
 use Rattle.dc_progress.proofs.Others.{one_of}
 
 module _ (first : State) (meter : Meter) (row : MeterRow) (parts : List (List ℕ)) where
-  -- the settled bodies are open at the meter, and it has no reading more
+  -- the acknowledged bodies are open at the meter, and it has no new reading
   pub record Open (past : List (List ℕ)) (state : State) : Type 0 where
     pub opened : List PartRow
     pub found : row_of meter.identity state ≡ Some (record row { parts = opened })

@@ -26,11 +26,12 @@ use Rattle.dc_progress.specs.Progress.{with_reading}
 abbrev pub bodies_of : List PartRow → List (List ℕ)
 bodies_of parts = map (λ (part : PartRow). part.body) parts
 
--- what is open is what is settled; before the first telegram anything may be open
+-- what is open is what is acknowledged; before the first telegram anything may be open
 abbrev pub IsOpen : List (List ℕ) → List PartRow → Type 0
 IsOpen past opened = (past ≡ []) ⊎ (bodies_of opened ≡ past)
 
--- The register is the first one with the settled bodies open at the meter, and has room for what is left.
+-- The register is the first one with the acknowledged bodies open at the meter, and has room for
+-- the rest.
 pub record Holds (budget : ℕ) (meter : Identity) (row : MeterRow) (first : State) (past left : List (List ℕ)) (state : State) : Type 0 where
   pub opened : List PartRow
   pub state_is : state ≡ with_row meter (record row { parts = opened }) first

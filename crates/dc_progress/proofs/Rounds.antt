@@ -27,7 +27,7 @@ use Rattle.dc_progress.specs.Beside.{IsTakenUnlessFull}
 
 -- ---- a commit
 
--- what waited is committed, and this session is on the line
+-- the pending changes are committed, and this session is on the line
 pub record Settled (old : Core) (line : ℕ) (session : Option Summary) (now : Core) : Type 0 where
   pub on : session_of now line ≡ session
   pub register : now.committed ≡ present old
@@ -141,7 +141,7 @@ module _ (budget line : ℕ) (core : Core) (s : Summary) (is : is_line line ≡ 
       let some : is_some (asked_by s) ≡ true = ap is_some asks in
       rw (is, runs, on, some, verdict) refl
 
-  -- what is answered by the verdict
+  -- the answer by the verdict
   pub hear_is : (moment : ℕ) (bytes : List ℕ) (frame : FrameSeen) → asked_by s ≡ Some frame → hear_answer budget core line moment bytes ≡ verdict_answer budget core moment (verdict_by s bytes)
   hear_is moment bytes frame asks =
       let some : is_some (asked_by s) ≡ true = ap is_some asks in
@@ -164,7 +164,7 @@ module _ (budget line : ℕ) (core : Core) (s : Summary) (is : is_line line ≡ 
       let below : line - 1 < 8 = grind (arith, nat_tests) in
       omega (arith, eight, below)
 
-  -- the answer is heard, and the pending changes are committed
+  -- the answer is received, and the pending changes are committed
   abbrev pub behind : ℕ → List ℕ → Result LineHeard HearFault → Core
   behind moment bytes answer = settled_core (after_hear core line moment bytes answer) (after_hear core line moment bytes answer).pending
 

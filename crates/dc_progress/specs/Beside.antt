@@ -105,7 +105,7 @@ pub record HasRead (meter : Identity) (row : MeterRow) (parts : List (List ℕ))
       ++ record { serial = serial; meter = meter; flat = row.flat; parts = read } ∷ []
   pub none_open : row_of meter now ≡ Some (record row { parts = [] })
 
--- an answer is heard on this line
+-- an answer is received on this line
 abbrev pub IsHeardOn : ℕ → Event → Type 0
 IsHeardOn line (starts other meter) = ⊥
 IsHeardOn line (asks other) = ⊥

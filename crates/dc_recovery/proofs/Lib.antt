@@ -24,7 +24,8 @@ pub mod NextRoot
 pub mod Opened
 -- what calls that only read may leave at any moment: an image of the disk as it was
 pub mod ReadMoments
--- the refusals of an image exclude each other, and an image that reads as a state is refused only as worn
+-- the refusals of an image exclude each other, and a state's image is refused only for an exhausted
+-- counter
 pub mod Refusals
 -- what a write of a root to a disk that is settled may leave
 pub mod RootWrite
@@ -36,5 +37,5 @@ pub mod Spared
 pub mod Spellings
 -- one step of reading an image, and why it stops
 pub mod Steps
--- what a stop may leave while a disk without a valid root is formatted
+-- what a crash may leave while a disk without a valid root is formatted
 pub mod Wiped

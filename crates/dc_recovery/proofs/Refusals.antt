@@ -1,4 +1,5 @@
--- The refusals of an image exclude each other, and an image that reads as a state is refused only as worn.
+-- The refusals of an image exclude each other, and an image that reads as a state is refused only
+-- for an exhausted counter.
 use Rattle.std.proofs.Common.{◌≡◌, ◌⊎◌, inl, inr, ⊎_elim, ℕ, zero, suc, ◌<◌, ◌≤◌, ◌+◌, ◌-◌, List, None, arith, ap, sym, subst, ◌∙◌, refl}
 use Rattle.std.proofs.lemmas.Bool.{cases_lt}
 use Rattle.dc_sectors.specs.Disk.{Image}
@@ -173,7 +174,7 @@ module _ (half_len : ℕ) (most : half_len ≤ 65536) (image : Image) where
       (λ (has : (root : Root) × (IsChosen root image × IsKnown root.version)). other_version has.0 has.1.0 has.1.1 other)
       (root_of_damage n damage)
 
-  -- an image that reads as a state is refused only as worn
+  -- an image that reads as a state is refused only for an exhausted counter
   pub read_or_refused : (state : State) (f : OpenFault) → TellsOfImage f → IsRefused half_len image f → Reads half_len state image → f ≡ Worn
   read_or_refused state NotImage tells why reads = absurd (why.none reads.root reads.by.chosen.here)
   read_or_refused state (Damaged n) tells why reads = absurd (stops_before_the_end n reads.root reads.m reads.place state why reads.by)

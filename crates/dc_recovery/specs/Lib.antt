@@ -18,5 +18,5 @@ pub mod Sites
 pub mod Stands
 -- what a store keeps beside its disk
 pub mod Store
--- what a stop may leave while one group is written to a disk that was settled
+-- what a crash may leave while one group is written to a disk that was settled
 pub mod Writing

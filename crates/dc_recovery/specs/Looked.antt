@@ -1,8 +1,8 @@
--- A call that only looked at a disk: this product's disk rule.
+-- A call that only looked at a disk: this product's disk model.
 use Rattle.std.specs.Prelude.{◌≡◌, ◌≤◌, ℕ}
 use Rattle.dc_sectors.specs.Disk.{Image, Choices, IsImage, LeavesOnly}
 
--- The disk reads as before, and a stop at any moment leaves an image of before. Nothing changed but, after a failure,
+-- The disk reads as before, and a crash at any moment leaves an image of before. Nothing changed but, after a failure,
 -- the count of failures.
 pub record OnlyLooked {D : Type 0} (keeps : D → Type 0) (reads : D → Image) (choices : D → Choices)
     (moment : D → ℕ) (images_since : D → ℕ → Image → Type 0) (sectors failures : D → ℕ)

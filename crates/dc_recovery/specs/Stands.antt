@@ -190,7 +190,8 @@ IsUnformatted image = (root : Root) → HasRoot root image → ⊥
 abbrev pub IsBlankOrEmpty : ℕ → Image → Type 0
 IsBlankOrEmpty half_len image = IsUnformatted image ⊎ Stands half_len empty_state image
 
--- while a disk with such choices is formatted: one of its images, or one without a root or of the empty register
+-- while a disk with such possible contents is formatted: one of its images, or one without a root
+-- or of the empty register
 abbrev pub IsFormatting : ℕ → Choices → Image → Type 0
 IsFormatting half_len choices image = IsImage choices image ⊎ IsBlankOrEmpty half_len image
 

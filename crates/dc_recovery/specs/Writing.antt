@@ -1,4 +1,4 @@
--- What a stop may leave while one group is written to a disk that was settled: this product's image format.
+-- What a crash may leave while one group is written to a disk that was settled: this product's image format.
 use Rattle.std.specs.Prelude.{◌≡◌, ◌⊎◌, ◌<◌, ◌≤◌, ℕ, ◌+◌, List}
 use Rattle.dc_sectors.specs.Disk.{Image}
 use Rattle.dc_pages.specs.declared.site.Site.{Site}

@@ -14,7 +14,7 @@ use dc_pages::Site;
 use dc_roots::Root;
 use dc_sectors::{Disk, Failed};
 
-/// Writes a group of changes and syncs, and answers how many sectors it has.
+/// Writes a group of changes and syncs, and returns its number of sectors.
 pub(crate) fn append_group<D: Disk>(
     disk: &mut D,
     root: &Root,

@@ -61,7 +61,8 @@ fn current_root<D: Disk>(disk: &mut D, half_len: u32) -> Result<Root, OpenFault>
     }
 }
 
-/// What was read so far: the root in force, the state, the place of the next group, and the sequence of the last one.
+/// The content read so far: the root in force, the state, the place of the next group, and the
+/// sequence of the last one.
 #[derive(Drop)]
 pub struct Found<A: Allocator + Copy> {
     pub root: Root,
@@ -113,7 +114,7 @@ fn read_base<A: Allocator + Copy, D: Disk>(
     }
 }
 
-/// Reads the next group of changes, where one is complete, and answers whether one was.
+/// Reads the next group of changes, if one is complete, and returns whether one was.
 fn read_next<A: Allocator + Copy, D: Disk>(
     alloc: A,
     disk: &mut D,

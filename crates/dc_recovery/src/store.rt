@@ -179,7 +179,7 @@ impl<D: Disk + Drop> Store<D> {
             (λ e. D.keeps e.1 → LeavesOnly D.moment D.images_since disk e.1
             (StandsForOne (half_len_of (D.sectors disk)) (D.choices disk))) }
 
-        // And such an image is refused only as worn.
+        // And such an image is refused only for an exhausted counter.
         ensures premise { fewest_sectors ≤ D.sectors disk
             → EachStands (half_len_of (D.sectors disk)) (D.choices disk)
             → IfErr result (λ e. D.keeps e.1 → TellsOfImage e.0 → e.0 ≡ OpenWorn) }

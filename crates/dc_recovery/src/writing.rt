@@ -15,7 +15,7 @@ use dc_pages::{GroupSink, GroupWriter, Site};
 use dc_sectors::{Disk, Failed};
 use std::alloc::Allocator;
 
-/// Writes a group with these bytes, and answers how many sectors it has.
+/// Writes a group with these bytes, and returns its number of sectors.
 pub(crate) fn write_group<D: Disk>(
     disk: &mut D,
     site: Site,
@@ -63,7 +63,7 @@ fn encode_into<A: Allocator + Copy, D: Disk>(
     }
 }
 
-/// Writes a group with the bytes that spell a house's state, and answers how many sectors it has.
+/// Writes a group with the bytes that spell a house's state, and returns its number of sectors.
 pub(crate) fn write_state<A: Allocator + Copy, D: Disk>(
     disk: &mut D,
     site: Site,

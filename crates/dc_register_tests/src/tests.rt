@@ -1,4 +1,4 @@
-//! What is tried on the register, by topic.
+//! Tests of the register, by topic.
 
 mod asked;
 mod bytes;

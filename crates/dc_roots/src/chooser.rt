@@ -11,7 +11,7 @@ use crate::format::root_of;
 use crate::{Root, RootFault};
 use dc_sectors::{Disk, Failed, ReadFault};
 
-/// What a slot holds.
+/// The contents of a root slot.
 #[derive(Clone, Copy)]
 pub enum Held {
     /// A valid root of that slot.
@@ -22,7 +22,7 @@ pub enum Held {
     Lost,
 }
 
-/// What these bytes are in that slot.
+/// The contents of a slot with these bytes.
 fn held_by(bytes: &[u8; 512], slot: u32) -> Held
     ensures held { IsHeld slot (Bytes bytes.now) result }
     ensures half { NamesHalf result }
@@ -94,7 +94,7 @@ fn newer(first: Held, second: Held) -> Result<Root, RootFault>
     }
 }
 
-/// Reads both slots and answers the valid root of greater generation.
+/// Reads both slots and returns the valid root of the greater generation.
 ///
 /// # Errors
 ///

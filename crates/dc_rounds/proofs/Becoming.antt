@@ -47,7 +47,7 @@ pub first_of : (xs : List Identity) (x : Identity) → slice_get xs 0 ≡ Some x
 first_of [] x e = absurd cc
 first_of (y ∷ ys) x e = let same : y ≡ x = cc in ap (λ (m : Identity). m ∷ ys) same
 
--- what is heard of one with an answer
+-- what is received of one with an answer
 pub taken_is : (request : Request) → is_answered request ≡ true → request ≡ Answered (taken_of request)
 taken_is Quiet is = absurd cc
 taken_is Sent is = absurd cc
@@ -287,7 +287,7 @@ module _ {B : Type 0} (g : Bus B) where
   waited_count tries count used waits waits' settles settles' ready ready' (Pending n) less sound = absurd (let not = sound.4 in cc)
   waited_count tries count used waits waits' settles settles' ready ready' (Over end) less sound = absurd (let not = sound.2 in cc)
 
-  -- it listens, and where nothing was heard, no more happens
+  -- it listens, and if nothing was received, nothing more happens
   pub fewer_listens : (tries : ℕ) (old new : Station B) → old.request ≡ Sent → Listens g old new → IsSound g tries old → rounds_of g (if is_answered new.request then 0 else 1) 0 0 tries new ≤ rounds_of g 0 0 0 tries old
   fewer_listens tries old new is listens sound = by_listens listens
     where

@@ -6,7 +6,7 @@ pub mod Happenings
 pub mod Running
 -- how the queue of a line goes on, and the talk on its bus
 pub mod Queues
--- what becomes of a line, by what is answered
+-- the next state of a line, by the answers
 pub mod Becoming
 -- all lines, one after the other
 pub mod Rounds

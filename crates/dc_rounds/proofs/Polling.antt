@@ -136,7 +136,7 @@ module _ {B T S : Type 0} (g : Bus B) (told : T → ℕ → T → Type 0) (passe
 
   -- ---- where it ends
 
-  -- the first commit answers a fault
+  -- the first commit returns a fault
   pub polled_none : (tries : ℕ) (fault : CommitFault) (olds news : List (Station B)) (first : T) (out : S) (was : Outcome) (core : Core) (happened : List Happening) → AllSteps g tries (IsStoredAs (Err fault)) olds news happened
       → Polled g told passes tries olds news first first (Puts (written out) (written out)) was was core happened
   polled_none tries fault olds news first out was core happened a = record { store = unkept; polls = polls_first tries (Err fault) olds news first out was core happened a; ended = inl refl }

@@ -38,7 +38,7 @@ abbrev pub store_behind : Store → List Turn → Store
 store_behind store [] = store
 store_behind store (turn ∷ turns) = store_behind (behind_answer store turn.1) turns
 
--- nothing is pending, unless a commit answered a fault
+-- nothing is pending, unless a commit returned a fault
 abbrev pub IsSettled : Store → Type 0
 IsSettled all_kept = Unit {0}
 IsSettled some_wait = ⊥
@@ -55,7 +55,8 @@ IsAskingBy event answer = ⊥
 abbrev pub IsAsking : Turn → Type 0
 IsAsking turn = IsAskingBy turn.0 turn.1
 
--- its second half: answers are heard, at one moment, and where too many telegrams are pending, they are committed
+-- its second half: answers are received, at one time, and if the maximum number of telegrams is
+-- pending, they are committed
 abbrev pub IsHearingBy : ℕ → Event → Answer → Type 0
 IsHearingBy moment (hears line at bytes) (heard answer) = at ≡ moment
 IsHearingBy moment commits (committed (Ok count)) = Unit {0}
@@ -68,7 +69,8 @@ IsHearing moment turn = IsHearingBy moment turn.0 turn.1
 abbrev pub IsCommit : List Turn → Type 0
 IsCommit turns = (stored : Result ℕ CommitFault) × (turns ≡ (commits, committed stored) ∷ [])
 
--- A ROUND: first its lines begin and are asked, then they are heard, and then all that was accepted is committed.
+-- A ROUND: first its lines begin and send requests, then answers are taken, and then all that was
+-- accepted is committed.
 pub record IsRound (moment : ℕ) (turns : List Turn) : Type 0 where
   pub asking : List Turn
   pub hearing : List Turn

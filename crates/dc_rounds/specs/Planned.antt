@@ -27,7 +27,7 @@ is_queued line only row = row.1.line == line && is_wanted only row.0
 abbrev pub wanted_on : State → List Identity → ℕ → List Identity
 wanted_on state only line = map (λ row. row.0) (filter (is_queued line only) state.meters)
 
--- the queue of a line: none where its bus is lost
+-- the queue of a line: empty if its bus is lost
 abbrev pub queue_on : State → List Identity → ℕ → Bool → List Identity
 queue_on state only line true = []
 queue_on state only line false = wanted_on state only line

@@ -51,7 +51,7 @@ pub record PollsTo {B T : Type 0} (g : Bus B) (told : T → ℕ → T → Type 0
   pub read : now.read ≡ was.read + reads_in happened
   pub failed : now.failed ≡ was.failed + failures_in happened
 
--- A POLL: it goes on until no meter is left and no request is out, or until a commit answers a fault. That is known
+-- A POLL: it goes on until no meter is left and no request is out, or until a commit returns a fault. That is known
 -- where no meter was started before it, and a queue has no more meters than 65,535.
 pub record Polled {B T : Type 0} (g : Bus B) (told : T → ℕ → T → Type 0) (passes : T → T → Type 0)
     (tries : ℕ) (olds news : List (Station B)) (first last : T) (wrote : List ℕ → Type 0)

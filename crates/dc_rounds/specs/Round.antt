@@ -90,12 +90,12 @@ pub record AllSteps {B : Type 0} (g : Bus B) (tries : ℕ) (such : List Turn →
   pub are_such : such (happened_turns happened)
   pub are_turns : AreTurns happened
 
--- a commit that answered so
+-- a commit with this result
 abbrev pub IsStoredAs : Result (Unit {0}) CommitFault → List Turn → Type 0
 IsStoredAs (Ok done) turns = (count : ℕ) × (turns ≡ (commits, committed (Ok count)) ∷ [])
 IsStoredAs (Err fault) turns = turns ≡ (commits, committed (Err fault)) ∷ []
 
--- a commit's answer without its count
+-- a commit's result without its count
 abbrev pub uncounted : Result ℕ CommitFault → Result (Unit {0}) CommitFault
 uncounted (Ok count) = Ok tt
 uncounted (Err fault) = Err fault
@@ -109,13 +109,13 @@ abbrev pub IsRoom : Result ℕ CommitFault → List Turn → Type 0
 IsRoom (Ok pending) turns = (turns ≡ []) ⊎ IsStoredAs (Ok tt) turns
 IsRoom (Err fault) turns = IsStoredAs (Err fault) turns
 
--- answers are heard; where a commit among them answered a fault, that is the last turn
+-- answers are received; if a commit among them returned a fault, that is the last turn
 abbrev pub AreHeardAs : ℕ → Result (Unit {0}) CommitFault → List Turn → Type 0
 AreHeardAs moment (Ok done) turns = All (IsHearing moment) turns
 AreHeardAs moment (Err fault) turns = (front last : List Turn) × (turns ≡ front ++ last)
     × All (IsHearing moment) front × IsStoredAs (Err fault) last
 
--- answers are heard, and the last turn is the commit that answered so
+-- answers are received, and the last turn is the commit with this result
 abbrev pub EndsInCommit : ℕ → Result (Unit {0}) CommitFault → List Turn → Type 0
 EndsInCommit moment stored turns = (front last : List Turn) × (turns ≡ front ++ last)
     × All (IsHearing moment) front × IsStoredAs stored last
@@ -149,7 +149,7 @@ HasFew station = length station.left.now ≤ 65535
 abbrev pub IsOver : {B : Type 0} → Station B → Type 0
 IsOver station = (station.left.now ≡ []) × (station.phase ≡ Free)
 
--- no request is out that isn't heard
+-- no request is out without an answer
 abbrev pub IsSilent : {B : Type 0} → Station B → Type 0
 IsSilent station = station.request ≡ Quiet
 

@@ -27,13 +27,13 @@ part_of station = part station.left.now station.used station.phase
 abbrev pub talk_of : {B : Type 0} → Station B → Talk B
 talk_of station = record { bus = station.bus; request = station.request; said = station.said }
 
--- what was heard, if anything was
+-- the bytes received, if any
 abbrev pub taken_of : Request → List ℕ
 taken_of Quiet = []
 taken_of Sent = []
 taken_of (Answered bytes) = bytes
 
--- an answer was heard, and isn't judged
+-- an answer was received, and isn't judged
 abbrev pub is_answered : Request → Bool
 is_answered Quiet = false
 is_answered Sent = false
@@ -91,7 +91,7 @@ pub record IsAfter {B : Type 0} (next : Next) (at : B) (asked : Request) (writte
   pub request : station.request ≡ asked
   pub said : station.said ≡ written
 
--- what was heard of a request is taken, or isn't complete yet
+-- the answer to a request is taken, or isn't complete yet
 abbrev pub Listens : {B : Type 0} → Bus B → Station B → Station B → Type 0
 Listens g old new =
     ((bytes : List ℕ) × g.gives old.bus bytes new.bus

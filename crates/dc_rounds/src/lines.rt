@@ -121,7 +121,7 @@ fn make_room<D: Disk + Drop, A: Allocator + Copy, B: QuietBus + Drop>(
     }
 }
 
-// Every line on which a request is out is heard, where its answer is complete.
+// Every line with a request out takes its answer, if it is complete.
 pub fn hear_all<D: Disk + Drop, A: Allocator + Copy, B: QuietBus + Drop>(
     concentrator: &mut Concentrator<D, A>,
     stations: &mut [Station<'_, B>],

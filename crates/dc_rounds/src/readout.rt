@@ -71,7 +71,7 @@ fn is_over<B: QuietBus + Drop>(stations: &[Station<'_, B>]) -> bool
     stations.iter().all(|station| station.left.is_empty() && matches!(station.phase, Phase::Free))
 }
 
-// Round after round, until no meter is left, or a commit answered a fault.
+// Round after round, until no meter is left, or a commit returned a fault.
 fn read_rounds<D: Disk + Drop, A: Allocator + Copy, B: QuietBus + Drop, T: Timer<B>, W: Sink>(
     concentrator: &mut Concentrator<D, A>,
     stations: &mut [Station<'_, B>],
@@ -183,7 +183,7 @@ fn put_finish<B: QuietBus + Drop, W: Sink>(
 /// at most so often, until a readout of it doesn't fail. It ends whatever the lines give. On each line the requests
 /// that are asked go out, and nothing else, and what the bus gave is heard. Each round commits what it heard, and then
 /// writes how readouts ended: `READ`, `FAILED` or `REFUSED`, and `LINE n LOST` once for each line that became lost.
-/// Where a commit answers a fault, the poll ends. At the end `LATE line n` is written for each line on which n late
+/// Where a commit returns a fault, the poll ends. At the end `LATE line n` is written for each line on which n late
 /// answers were dropped, and `END read failed`.
 ///
 /// # Errors

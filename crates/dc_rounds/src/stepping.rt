@@ -1,4 +1,4 @@
-//! One step of a line: it settles, begins its next meter and asks, or is heard.
+//! One step of a line: it settles, begins its next meter and sends its request, or takes an answer.
 
 ghost use Rattle.std.specs.Prelude.{◌≡◌, ◌⊎◌, ◌<◌, ◌≤◌, ◌-◌, ◌∷◌, ℕ, length, drop, true, false};
 ghost use Rattle.dc_rounds.specs.Keeping.{IsAsking, IsHearing};
@@ -134,7 +134,8 @@ fn ask<D: Disk + Drop, A: Allocator + Copy, B: QuietBus + Drop>(
     station.asked(meter, asks - 1, request);
 }
 
-/// Where a request is out and its answer complete, that is heard. Whether a telegram was accepted.
+/// Takes the answer to a request that is out, if it is complete; returns whether a telegram was
+/// accepted.
 pub fn hear<D: Disk + Drop, A: Allocator + Copy, B: QuietBus + Drop>(
     concentrator: &mut Concentrator<D, A>,
     station: &mut Station<'_, B>,
@@ -158,7 +159,7 @@ pub fn hear<D: Disk + Drop, A: Allocator + Copy, B: QuietBus + Drop>(
     judge(concentrator, station, line, tries, moment)
 }
 
-// What was heard of a request is judged.
+// Judges the answer to a request.
 fn judge<D: Disk + Drop, A: Allocator + Copy, B: QuietBus + Drop>(
     concentrator: &mut Concentrator<D, A>,
     station: &mut Station<'_, B>,

@@ -83,7 +83,7 @@ module _ (line : ℕ) (meters : List Meter) where
 
   -- ---- the talk
 
-  -- an answer that was given and isn't heard yet
+  -- an answer that was given and isn't received yet
   record Given (bytes : List ℕ) (now start : Line) : Type 0 where
     outcome : Outcome
     frame : FrameSeen

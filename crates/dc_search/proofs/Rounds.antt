@@ -1,4 +1,4 @@
--- A search ends: each answer that is heard leaves fewer.
+-- A search ends: each expected answer leaves fewer.
 use Rattle.std.specs.Prelude.{◌≡◌, ℕ, ◌+◌, ◌-◌, ◌*◌, ◌<◌, ◌≤◌, refl, Bool, true, false, List, [], ◌∷◌, Option, Some, None, length, nat_lt, ◌==◌, if◌then◌else◌}
 use Rattle.std.proofs.Common.{ap, arith, subst, sym, ◌∙◌}
 use Rattle.std.proofs.lemmas.Bool.{ltb-true}
@@ -8,7 +8,7 @@ use Rattle.dc_search.specs.Answer.{answer_of}
 use Rattle.dc_search.specs.Prefix.{mask_of_digits}
 use Rattle.dc_search.specs.State.{SearchState, after, after_collision, after_meter, after_one, after_selection, after_shared, after_split, after_step, first_of, is_idle, rounds_left, step_by, step_of}
 
--- a meter's answer settles the first mask
+-- a meter's answer finishes the first mask
 record IsSettled (before now : SearchState) : Type 0 where
   answered : now.answered ≡ false
   selections : now.selections ≡ before.selections
@@ -54,6 +54,6 @@ rounds_by bytes s (digits ∷ rest) false false is room busy = cc
 rounds_by [] s (digits ∷ rest) false true is room busy = one_made (after_selection [] s) s refl refl (ltb-true _ _ room)
 rounds_by (byte ∷ bytes) s (digits ∷ rest) false true is room busy = one_made (after_selection (byte ∷ bytes) s) s refl refl (ltb-true _ _ room)
 
--- whatever is heard, fewer answers are left
+-- whatever is received, fewer answers are left
 pub rounds_left-after : (bytes : List ℕ) (s : SearchState) → is_idle (step_of s) ≡ false → rounds_left (after bytes s) < rounds_left s
 rounds_left-after bytes s busy = rounds_by bytes s s.due s.answered (nat_lt s.selections s.budget) refl refl busy

@@ -263,7 +263,7 @@ out_by bus budget s (digits ∷ rest) true due is ended so =
 pub swept_out : (bus : List Identity) (budget : ℕ) (s : SearchState) → ((mask : MaskParts) → step_of s ≡ Select mask → ⊥) → Swept bus budget s → SweptOut bus budget s
 swept_out bus budget s ended so = out_by bus budget s s.due (nat_lt s.selections s.budget) refl refl ended so
 
--- ---- what is heard on a bus
+-- ---- what is received on a bus
 
 pub heard_byte : (s : SearchState) (mask : MaskParts) (byte : ℕ) → step_of s ≡ Select mask → after (byte ∷ []) s ≡ counted s
 heard_byte s mask byte is = ap (λ step. after_step step (byte ∷ []) s) is

@@ -143,7 +143,7 @@ module _ (start : Image) (old new : FileState) where
   sync_time (Err e) (inl made) = time_rest start old new (IsImage (choices_in start old)) (ap events_of made.1)
   sync_time (Err e) (inr made) = time_rest start old new (IsImage (choices_in start old)) (ap events_of made.1)
 
--- The hypothesis can be met: a file that answers as the rule says keeps to it, whatever it held.
+-- The hypothesis can be met: a file that answers as the model states keeps to it, whatever it held.
 
 pub keeps_at_start : (start : Image) → KeepsRule start []
 keeps_at_start start = tt

@@ -14,5 +14,5 @@ mod Kept
 mod Pending
 -- a record read event by event
 mod Scanning
--- what a stop leaves
+-- what a crash leaves
 mod Stops

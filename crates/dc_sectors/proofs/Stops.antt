@@ -1,4 +1,4 @@
--- What a stop leaves.
+-- What a crash leaves.
 use Rattle.std.proofs.Common.{◌≡◌, ◌<◌, ◌≤◌, ◌⊎◌, ◌==◌, ℕ, suc, true, false, inl, inr, ◌+◌, ◌*◌, ◌^◌, ◌++◌, ◌∷◌, [], List, length, get_or, set, take, drop, replicate, if◌then◌else◌, refl, sym, ◌∙◌, ap, subst, arith, length-append}
 use Rattle.std.specs.Prelude.{Contains}
 use Rattle.std.specs.List.{AllZip}
@@ -45,7 +45,7 @@ held_from : (image : Image) (choices : Choices) (writes : ℕ → ℕ) (events :
 held_from image choices writes [] n held = held
 held_from image choices writes (e ∷ events) n held = held_from (reads_next image e) (choices_next image choices e) (writes_next writes e) events n (held_next image choices writes e n held)
 
--- what is picked of a pending sector is one of its choices
+-- what is picked of a pending sector is one of its possible contents
 picked_choice : (choices : List Sector) (writes : ℕ) (pick : Pick) → Held choices writes → 0 < writes → Contains choices (picked choices pick)
 picked_choice choices writes Old held some = Contains-get_or choices 0 Unreadable held.some
 picked_choice choices writes (Written k) held some = within (cases_lt (2 * k + 1) (length choices))
@@ -116,7 +116,7 @@ picked_all was reads start writes events picks kept below above m = elim (cases_
       above m past ∙ ap (λ (image : Image). image m) kept.reading ∙ sym (picked_idle (image_of start) events picks m none)
 ]
 
--- after a stop the record begins anew
+-- after a crash the record begins anew
 pub kept_stopped : (start reads : List Sector) (none : List ℕ) (events : List Event) → start ≡ reads → none ≡ replicate (length start) 0 → events ≡ [] → length start < 2 ^ 32 → IsKept start reads none events
 kept_stopped start reads none events same zeros nothing small = record {
   reading = ap image_of (sym same) ∙ ap (reads_after (image_of start)) (sym nothing);

@@ -1,5 +1,5 @@
 -- A disk over a file, as contracts see it: its counts, and the calls of its file so far. No contract of the library
--- says which bytes a file returns. So the disk rule is a hypothesis on these calls: each whole read returned what the
+-- says which bytes a file returns. So the disk model is a hypothesis on these calls: each whole read returned what the
 -- rule says of its sector after the writes before it.
 use Rattle.std.specs.Prelude.{◌≡◌, ◌⊎◌, ◌==◌, ◌<◌, ℕ, Bool, true, false, ◌+◌, ◌-◌, ◌*◌, ◌/◌, ◌^◌}
 use Rattle.std.specs.Prelude.{min, List, [], ◌∷◌, ◌++◌, length, Option, Some, None, Result, Ok, Err}

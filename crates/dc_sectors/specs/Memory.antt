@@ -103,7 +103,7 @@ IsPickFor (n, writes) Old = Unit {0}
 IsPickFor (n, writes) (Written k) = k < writes
 IsPickFor (n, writes) Lost = Unit {0}
 
--- what a pick says of a sector with these choices: what it read at the sync, and then for each write
+-- what a pick says of a sector with these possible contents: what it read at the sync, and then for each write
 -- its bytes and Unreadable
 abbrev pub picked : List Sector → Pick → Sector
 picked choices Old = slice_index_or choices 0 Unreadable

@@ -12,10 +12,10 @@ use crate::{Failed, ReadFault};
 
 /// A disk of sectors of 512 bytes, numbered from 0.
 ///
-/// What a read returns is said under a premise, `keeps`: all that the disk has returned until then is what the rule
-/// says. All else holds of every disk.
+/// What a read returns is stated under a premise, `keeps`: all that the disk has returned so far is
+/// what the model states. Everything else holds of every disk.
 pub trait Disk {
-    /// What this disk's reads have returned until now is what the disk rule says.
+    /// Whether all that this disk's reads have returned so far is what the disk model states.
     ghost keeps: { Self → Type 0 };
 
     /// Number of sectors.
@@ -57,7 +57,7 @@ pub trait Disk {
         ensures failed { IsErrOf result ReadFailed
             → HasRisen (failures self.old) (failures self.new) };
 
-    /// Writes a sector, which stays one of the sector's choices until a sync. A write that failed may
+    /// Writes a sector, which stays one of the sector's possible contents until a sync. A write that failed may
     /// have been made, in part too.
     fn write(&mut self, n: u32, bytes: &[u8; 512]) -> Result<(), Failed>
         requires { n < sectors self.old }
@@ -75,7 +75,7 @@ pub trait Disk {
         ensures passed { OnOk result (failures self.new ≡ failures self.old) }
         ensures failed { OnErr result (HasRisen (failures self.old) (failures self.new)) };
 
-    /// Leaves what each sector reads as its only choice. One that failed changes nothing, but for the
+    /// Leaves what each sector reads as its only possible contents. One that failed changes nothing, but for the
     /// count of failures.
     fn sync(&mut self) -> Result<(), Failed>
         ensures before { keeps self.new → keeps self.old }

@@ -26,7 +26,8 @@ use std::rt::Files;
 /// A read, a write or a sync is one call of the file. Each fault of the file is a counted failure, also a short read
 /// and a short write. A sector of a file is never `Unreadable`. After a sync that failed every call fails.
 ///
-/// That the file keeps the disk rule is a hypothesis on its calls so far: `KeepsRule` of specs/File.
+/// That the file keeps the disk model is a hypothesis on its calls so far: `KeepsRule` of
+/// specs/File.
 #[derive(Drop)]
 pub struct DiskOver<C: FileCalls + Drop> {
     file: C,

@@ -20,8 +20,8 @@ use dc_io::NoMemory;
 use std::alloc::Allocator;
 use std::marker::Model;
 
-/// A disk in memory, for tests and demonstrations. It keeps the disk rule, records each write and each sync, fails
-/// where a test says so, and can be stopped.
+/// A disk in memory, for tests and demonstrations. It keeps the disk model, records each write and
+/// each sync, fails where a test says so, and can crash.
 #[derive(Drop)]
 pub struct MemoryDisk<A: Allocator + Copy> {
     start: Vec<Sector, A>,
@@ -65,7 +65,7 @@ impl<A: Allocator + Copy> MemoryDisk<A> {
         })
     }
 
-    /// After this many calls more every call fails, until a stop.
+    /// After this many more calls every call fails, until a crash.
     pub fn fuse(&mut self, passes: u64)
         ensures { self.new ≡ record self.old {
           calls = record self.old.calls { fuse = Some passes };
@@ -83,7 +83,7 @@ impl<A: Allocator + Copy> MemoryDisk<A> {
         self.calls.fails_at = Some(passes);
     }
 
-    /// How many reads, writes and syncs there were so far; at `u64::MAX` it stays.
+    /// Number of reads, writes and syncs so far; it saturates at `u64::MAX`.
     pub fn calls(&self) -> u64
         ensures { result ≡ self.now.calls.made }
     {

@@ -40,7 +40,7 @@ silence_no_copy (Some l) request is = by_answer l.answer is
     by_answer [] some = absurd (some refl)
     by_answer (byte ∷ bytes) some = refl
 
--- ---- what is heard over a link
+-- ---- what is received over a link
 
 -- in time, or not, and then this many copies are dropped
 abbrev pub IsHeardLate : Option Last → List ℕ → List (List ℕ) → List (List ℕ) → List ℕ → Type 0

@@ -20,7 +20,7 @@ use Rattle.dc_steady.proofs.Events.{HasText, past_copy, silence_no_copy, text_lo
 abbrev pub at : World → Option Last → Bool → LateWorld
 at world last clear = record { world = world; under_way = []; last = last; clear = clear }
 
--- what is heard of what is under way, all of which comes in time
+-- what is received of the answers under way, all of which come in time
 record InTime (last : Option Last) (request : List ℕ) (way : List (List ℕ)) : Type 0 where
   heard : List ℕ
   copies : ℕ

@@ -1,4 +1,4 @@
-//! What is tried on disks and on the store, by topic.
+//! Tests of disks and of the store, by topic.
 
 mod bytes;
 mod disks;

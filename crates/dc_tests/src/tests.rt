@@ -30,7 +30,7 @@ use writes::breaks_everywhere;
 /// Both ways in which a life is done.
 const WAYS: [Way; 2] = [Way::Call, Way::Run];
 
-/// A stop at each call of the disk, and each call failing once.
+/// A crash at each call of the disk, and each call failing once.
 fn tries_stops(
     rt: &(impl Abort + AllocGlobal + Print),
     life: &Life<'_>,
@@ -66,7 +66,7 @@ fn tries_faults(rt: &(impl Abort + AllocGlobal + Print), life: &Life<'_>) -> Res
     Ok(())
 }
 
-/// Faults within the opening after a stop; what was tried is printed.
+/// Faults within the opening after a crash; what was tried is printed.
 fn tries_openings(rt: &(impl Abort + AllocGlobal + Print), life: &Life<'_>) -> Result<(), Fail> {
     for way in WAYS {
         let images = faults_in_the_opening(rt, rt.alloc(), life, way)?;

@@ -1,4 +1,4 @@
-//! What is tried below the register, by crate.
+//! Tests of the crates below the register, by crate.
 
 mod address;
 mod base;

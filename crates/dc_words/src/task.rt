@@ -18,9 +18,9 @@ pub enum Form {
 /// An engine over lines.
 #[derive(Clone, Copy, Debug, PartialEq, Eq)]
 pub enum Engine {
-    /// What each frame says.
+    /// Print each frame.
     Decode(Form),
-    /// An answer to each telegram and command, and the register after them.
+    /// Answer each telegram and command, and print the register after them.
     Fold,
 }
 
@@ -51,9 +51,9 @@ pub struct RunTask<'a> {
     pub script: &'a str,
     /// Where the gateway is, as `HOST:PORT`.
     pub gateway: Option<&'a str>,
-    /// The links of the bus lines; none where only a gateway is named.
+    /// The links of the bus lines; empty if only a gateway is named.
     pub links: Links<'a>,
-    /// How many milliseconds of silence end an answer.
+    /// The time-out of an answer in milliseconds.
     pub patience: u16,
 }
 
@@ -64,31 +64,31 @@ pub struct PollTask<'a> {
     pub image: &'a str,
     /// The links of the bus lines.
     pub links: Links<'a>,
-    /// The meters that are read; all of the connected lines where it is empty.
+    /// The meters to read; if empty, all of the connected lines.
     pub only: Vec<Identity>,
-    /// How often a readout is begun at most.
+    /// Maximum number of times that a readout is begun.
     pub tries: u8,
     /// Whether its events are printed as JSON Lines.
     pub is_json: bool,
-    /// How many milliseconds of silence end an answer.
+    /// The time-out of an answer in milliseconds.
     pub patience: u16,
 }
 
 /// A call of the program: what it is asked to do, and how much it says.
 #[derive(Drop)]
 pub struct Call<'a> {
-    /// What is to be done.
+    /// The task.
     pub task: Task<'a>,
-    /// Whether it says on standard error why it failed.
+    /// Whether it prints on standard error why it failed.
     pub is_verbose: bool,
 }
 
-/// What the words ask for.
+/// The task that the words name.
 #[derive(Drop)]
 pub enum Task<'a> {
     /// An engine over a file, or over standard input.
     Lines {
-        /// What is done.
+        /// The engine.
         engine: Engine,
         /// The file's name.
         file: Option<&'a str>,
@@ -97,7 +97,7 @@ pub enum Task<'a> {
     Format {
         /// The file's name.
         image: &'a str,
-        /// How many sectors it has.
+        /// Number of sectors.
         sectors: u32,
     },
     /// A script over an image, in files.
@@ -124,7 +124,7 @@ pub enum Task<'a> {
         link: LinkName<'a>,
         /// How they are searched for.
         scan: Scan,
-        /// How many milliseconds of silence end an answer.
+        /// The time-out of an answer in milliseconds.
         patience: u16,
     },
     /// The readout of one meter on one bus, without an image.
@@ -133,7 +133,7 @@ pub enum Task<'a> {
         link: LinkName<'a>,
         /// The meter.
         meter: MeterName,
-        /// How many milliseconds of silence end an answer.
+        /// The time-out of an answer in milliseconds.
         patience: u16,
     },
     /// A house of one simulated meter, in memory.

@@ -89,7 +89,7 @@ asks_at meters positions place frame a = (
 pub asks_fit : (meters : List Meter) (positions : List Position) (place : ℕ) (frame : FrameSeen) (m : Meter) → Asks meters positions place frame → slice_get meters place ≡ Some m → Fits m.bodies
 asks_fit meters positions place frame m a at = λ j body stands. a.regular.fit place j m body at stands
 
--- what is heard as sent is the answer of the meter that is asked
+-- what is received as sent is the answer of the meter that is asked
 pub asks_heard : (meters : List Meter) (positions : List Position) (place : ℕ) (frame : FrameSeen) (m : Meter) (q : Position) → Asks meters positions place frame
     → slice_get meters place ≡ Some m → slice_get (all_moved frame meters positions) place ≡ Some q
     → bytes_of (answer_to frame m q) ≡ heard_in AsSent frame meters positions

@@ -57,7 +57,7 @@ put_in_turn w w1 w2 w3 answer front back n m blocks first second last n_is m_is 
       counted = omega (arith, n_is, m_is, length-append a b, length-append (a ++ b) (0 ∷ []), ap (λ (xs : List ℕ). length (xs ++ 0 ∷ [])) parts);
     }
 
--- a request is taken, heard and answered
+-- a request is taken and answered
 pub served : (left l1 l2 written written_after : Option (List ℕ)) (before after : List Standing) (heard request answer : List ℕ) (count put : ℕ) → Takes left l1 (count ∷ [])
     → IsContent l1 l2 count [] request → count ≤ most_block → heard ≡ request → Hears heard before after answer → PutsAnswer written written_after answer put
     → Serves left l2 written written_after before after put

@@ -42,7 +42,7 @@ new_is tries n part t (missed why) e = absurd (go (nat_lt tries 2) e)
     go false e = cc
 new_is tries n part t (broken why) e = absurd cc
 
--- nothing waits where something is asked for
+-- no body is uncommitted where something is requested
 pub waits_none : (stage : Stage) (identity : Identity) (address : Option ℕ) (n : ℕ) (frame : FrameSeen) (waiting : Option (List ℕ)) (bodies : List (List ℕ))
     → asked_at stage identity address n ≡ Some frame → IsNextBody stage n waiting bodies → waiting ≡ None
 waits_none Resets identity address n frame waiting bodies asks waits = waits

@@ -26,7 +26,7 @@ use Rattle.dc_world.specs.InStep.{HasGoneOn, HasNotGoneOn, IsInStep, IsAlone, Is
 use Rattle.dc_world.proofs.Masks.{masks_are_read}
 use Rattle.dc_world.proofs.Moves.{moved_at, stood_at, heard_from, moved_by-request, answer_to-request, selected_kept, has_gone_on}
 
--- ---- who hears a request
+-- ---- which meters receive a request
 
 or_cases : (a b : Bool) → (a || b) ≡ true → (a ≡ true) ⊎ (b ≡ true)
 or_cases true b e = inl refl
@@ -260,7 +260,7 @@ body_at_next n place bodies is =
     let back : place - 1 ≡ n = omega (arith, is) in
     rw (more, back) refl
 
--- what the session hears as its next telegram is the body that its meter went on to
+-- what the session receives as its next telegram is the body that its meter advanced to
 pub next_body : (meters : List Meter) (regular : AreRegular meters) (outcome : Outcome) (identity : Identity) (address : Option ℕ) (n i : ℕ) (one : Meter) (p : Position) (positions : List Position) (t : Parsed)
     → slice_get meters i ≡ Some one → one.address ≡ address → slice_get positions i ≡ Some p
     → HasNotGoneOn n p ⊎ HasGoneOn n p → IsAlone Requests address i positions

@@ -12,7 +12,8 @@ pub mod Events
 pub mod Commits
 -- every world is regular: so what is held is whole, and a meter goes on only from what is committed
 pub mod Worlds
--- in a regular world only the session's meter replies: so what is heard as sent is its reply, or silence
+-- in a regular world only the session's meter replies: so what is received as sent is its reply, or
+-- silence
 pub mod Replies
 -- a loop over the meters of a line that moves each in turn
 pub mod Turns

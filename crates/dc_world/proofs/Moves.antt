@@ -89,7 +89,7 @@ only_one (r ∷ []) g e =
     ap (λ x. x ∷ []) same
 only_one (r ∷ other ∷ more) g e = absurd (let n = no_frame_of_zero in cc)
 
--- what is heard as a frame is the reply of one meter that the request reached
+-- what is received as a frame is the reply of one meter that the request reached
 pub heard_from : (outcome : Outcome) (frame : FrameSeen) (meters : List Meter) (positions : List Position) (g : FrameSeen)
     → frame_of (heard_in outcome frame meters positions) ≡ Some g
     → (outcome ≡ AsSent) × Answers frame meters (all_moved frame meters positions) g

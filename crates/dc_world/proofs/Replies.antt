@@ -1,4 +1,5 @@
--- In a regular world only the session's meter replies: so what is heard as sent is its reply, or silence.
+-- In a regular world only the session's meter replies: so what is received as sent is its reply, or
+-- silence.
 use Rattle.std.proofs.Common.{◌≡◌, ℕ, zero, suc, ◌+◌, ◌≤◌, ◌⊎◌, inl, inr, Bool, true, false, List, [], ◌∷◌, Option, Some, None, cond, arith, refl, sym, ◌∙◌, ap, subst}
 use Rattle.std.specs.Prelude.{slice_get}
 use Rattle.std.specs.List.{cons_option}

@@ -82,7 +82,7 @@ moved_by (long control address ci body) meter p =
     if is_selection control address ci then at_selection (matches (mask_at body) meter.identity) p
     else p
 
--- ---- what it answers
+-- ---- its answers
 
 -- the body at its position; after the last it is silent
 abbrev pub body_at : ℕ → List (List ℕ) → Option (List ℕ)

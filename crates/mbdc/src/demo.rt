@@ -19,7 +19,7 @@ const LOOPBACK: &str = "127.0.0.1:0";
 // The sectors of the disk in memory: the fewest.
 const SECTORS: u32 = 131;
 
-// The meter is fitted, read out, and its value at the due date reported.
+// The meter is registered, read out, and its value at the due date reported.
 const SCRIPT: &[u8] = b"AT 1735689600
 OFFICE 1 FIT 12345678.PAD.01.07 1 1 A1
 POLL 1 12345678.PAD.01.07

@@ -37,7 +37,7 @@ where
     }
 }
 
-// Writes what the disk's image holds to standard output, and answers why it doesn't open.
+// Writes what the disk's image holds to standard output, and returns why it doesn't open.
 fn look<D: FileExt + OpenFile + Drop, R: Print + AllocGlobal>(
     host: &Host<'_, R>,
     disk: &mut FileDisk<D>,

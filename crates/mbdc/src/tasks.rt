@@ -1,4 +1,4 @@
-//! What each command does: an engine of a library between the ends that the words name.
+//! The commands: an engine of a library between the files and links that the words name.
 
 use crate::bench::{read_on_bus, scan_bus};
 use crate::demo;
@@ -21,7 +21,7 @@ use std::net::{Net, TcpListener, TcpStream};
 use std::rt::{Clock, Files};
 use std::{fs, io};
 
-/// How many bytes go to standard output at once.
+/// Number of bytes that go to standard output at once.
 pub const ROOM: usize = 65_536;
 
 /// Does what the words ask for.

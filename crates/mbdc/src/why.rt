@@ -7,12 +7,12 @@ use std::io;
 use std::io::{ErrorKind, Read, Write};
 use std::os::unix::fs::FileExt;
 
-/// What the system said of a call that failed, and of which bus line's link.
+/// The system's message for a call that failed, and the bus line of its link.
 #[derive(Clone, Copy)]
 pub struct Reason {
     /// The bus line, where the call was of its link.
     pub line: Option<u8>,
-    /// What the system said.
+    /// The system's message.
     pub error: io::Error,
 }
 

@@ -39,7 +39,7 @@ impl<D: Disk + Drop, A: Allocator + Copy> Concentrator<D, A> {
             → IsAt (D.keeps origin) D.sectors D.reads D.choices self.new
             (next core commits (committed result)) }
 
-        // A stop within it leaves what is committed and a prefix of the pending changes.
+        // A crash within it leaves what is committed and a prefix of the pending changes.
         ensures any_moment { (origin : D) → D.keeps origin → (core : Core)
             → IsAt (D.keeps origin) D.sectors D.reads D.choices self.old core
             → LeavesOnly D.moment D.images_since self.old.store.disk self.new.store.disk

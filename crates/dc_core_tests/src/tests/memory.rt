@@ -1,4 +1,4 @@
-//! Which calls take no memory of the register's.
+//! Which calls use none of the register's memory.
 
 use super::steps::{
     ACK, Deed, FIRST, FIT, LAST, METER, OnDisk, Step, Way, fitted, go, opened, turn,

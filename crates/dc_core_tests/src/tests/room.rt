@@ -15,7 +15,7 @@ fn long_telegram() -> FrameBuf {
     frame
 }
 
-/// A readout up to the telegram, which answers this text.
+/// A readout up to the telegram, whose answer has this text.
 fn reads<'a>(
     rt: &impl Abort,
     heap: Global,

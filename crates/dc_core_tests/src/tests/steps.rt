@@ -17,7 +17,7 @@ pub const METER: &[u8] = b"12345678.PAD.01.07";
 
 pub const FIT: &[u8] = b"1 FIT 12345678.PAD.01.07 1 1 A1";
 
-/// The second at which everything is heard.
+/// The time stamp of every answer.
 pub const MOMENT: u64 = 1_735_689_600;
 
 pub const ACK: &[u8] = b"\xE5";
@@ -29,7 +29,7 @@ pub const FIRST: &[u8] = b"\x68\x16\x16\x68\x08\x01\x72\x78\x56\x34\x12\x24\x40\
 pub const LAST: &[u8] = b"\x68\x19\x19\x68\x08\x01\x72\x78\x56\x34\x12\x24\x40\x01\x07\x02\
     \x00\x00\x00\x42\x6C\x1F\x3C\x4C\x13\x00\x50\x34\x12\xFB\x16";
 
-/// What is done in a step: on a line, by a meter, or for the office.
+/// A step: on a line, by a meter, or for the office.
 #[derive(Clone, Copy)]
 pub enum Deed<'a> {
     Start(u8, &'a [u8]),
@@ -67,7 +67,7 @@ pub fn event_of<'a>(deed: &Deed<'a>) -> Result<Event<'a>, Fail> {
     })
 }
 
-/// The event by its call, and the text of what it answers.
+/// Calls the event, and returns the text of its answer.
 fn call<A: Allocator + Copy>(
     core: &mut OnDisk<A>,
     event: &Event<'_>,
@@ -89,7 +89,7 @@ fn call<A: Allocator + Copy>(
     }
 }
 
-/// Does a step, which answers its text.
+/// Does a step, and checks the text of its answer.
 pub fn turn<A: Allocator + Copy>(
     rt: &impl Abort,
     heap: Global,
@@ -156,7 +156,8 @@ pub fn fitted(rt: &impl Abort, heap: Global) -> Result<MemoryDisk<Global>, Fail>
     image(rt, heap, &[Step(Deed::Office(FIT), b"OK 1\n")])
 }
 
-/// What the image is opened as: how many parts of the meter are open, how many readings there are, and the size.
+/// The contents of the opened image: the numbers of open parts of the meter and of readings, and
+/// the size.
 pub fn found(heap: Global, disk: MemoryDisk<Global>) -> Result<(usize, usize, u32), Fail> {
     let meter = Identity::parse_text(METER)?;
     match Store::open(heap, disk) {

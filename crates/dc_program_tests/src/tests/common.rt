@@ -19,5 +19,5 @@ pub fn blank(heap: Global) -> Result<MemoryDisk<Global>, Fail> {
     }
 }
 
-/// A meter is fitted, and later answers are received at that moment.
+/// A meter is registered, and later answers get that time stamp.
 pub const FIT: &[u8] = b"AT 1735689600\nOFFICE 1 FIT 12345678.PAD.01.07 1 1 A1\n";

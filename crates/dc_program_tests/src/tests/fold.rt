@@ -9,7 +9,7 @@ use std::alloc::{AllocError, Allocator, Global};
 use std::process::Abort;
 use std::test::Fail;
 
-// A meter is fitted, and read in two parts; the second part alone is refused.
+// A meter is registered, and read in two parts; the second part alone is refused.
 const READOUT: &[u8] = b"1 FIT 12345678.PAD.01.07 1 1 A1
 1 FIT 12345678.PAD.01.07 1 1 A1
 TELEGRAM 2 100 785634122440010702000000426C1F3C4C1300503412

@@ -33,7 +33,7 @@ SEND 1040014116
 FAILED 1 NoAnswer
 ";
 
-/// What a poll of the one meter writes.
+/// The text of a poll of the one meter.
 fn polled<R: Source + Drop, W: Sink + Drop>(
     rt: &(impl Abort + AllocGlobal),
     gateway: (R, W),

@@ -23,7 +23,7 @@ fn read_out(heap: Global) -> Result<MemoryDisk<Global>, Fail> {
     }
 }
 
-// What is answered, and how many bytes are written.
+// The answer, and the number of bytes written.
 fn told<A: Allocator + Copy>(
     alloc: A,
     disk: MemoryDisk<Global>,

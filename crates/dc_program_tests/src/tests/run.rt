@@ -9,7 +9,7 @@ use refusing_alloc::Refusing;
 use std::alloc::{Allocator, Global};
 use std::test::Fail;
 
-// The first telegram of a readout is heard and committed; then the last.
+// The first telegram of a readout is received and committed; then the last.
 pub const FIRST: &[u8] = b"AT 1735689600
 OFFICE 1 FIT 12345678.PAD.01.07 1 1 A1
 START 1 12345678.PAD.01.07

@@ -62,12 +62,12 @@ impl FailingSink {
         }
     }
 
-    /// How many bytes were put.
+    /// Number of bytes put.
     pub fn bytes(&self) -> usize {
         self.bytes
     }
 
-    /// How many puts failed.
+    /// Number of puts that failed.
     pub fn failures(&self) -> u64 {
         self.failures
     }

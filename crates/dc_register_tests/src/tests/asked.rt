@@ -189,7 +189,7 @@ fn all_agree<A: Allocator + Copy>(rt: &impl Abort, house: &House<A>) -> Result<(
     addresses_agree(rt, house)
 }
 
-/// Tells the change, with each request of it refused in turn, until it is done or refused.
+/// Applies the change, with each request of it refused in turn, until it is done or refused.
 fn tells(
     rt: &impl Abort,
     heap: &Refusing<Global>,

@@ -7,7 +7,7 @@ use std::alloc::Global;
 use std::process::Abort;
 use std::test::Fail;
 
-/// Tells these changes one after the other.
+/// Applies these changes one after the other.
 fn follows(
     rt: &impl Abort,
     house: &mut House<Global>,

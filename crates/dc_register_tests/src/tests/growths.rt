@@ -14,7 +14,7 @@ use std::test::Fail;
 
 type OverRefusing<'a> = House<&'a Refusing<Global>>;
 
-/// Tells the change, of which that request is refused, and again where it was: whether it was.
+/// Applies the change with that request refused, and again if it was refused: whether it was.
 fn refused_at(
     rt: &impl Abort,
     alloc: Global,

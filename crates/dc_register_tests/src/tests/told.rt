@@ -19,7 +19,7 @@ pub const FIRST: &[u8] = b"TELEGRAM 1 100 7856341224400107010000000C13785634121F
 
 pub const LAST: &[u8] = b"TELEGRAM 2 100 785634122440010702000000426C1F3C4C1300503412";
 
-/// What becomes of a change.
+/// The result of a change.
 #[derive(Clone, Copy, Debug, PartialEq, Eq)]
 pub enum Told {
     Done,

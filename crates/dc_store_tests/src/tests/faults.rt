@@ -54,7 +54,7 @@ fn goes_on(rt: &impl Abort, heap: Global, disk: MemoryDisk<Global>) -> Result<()
     Ok(())
 }
 
-/// Why the disk isn't formatted, and whether a call of it was made or a sector waits for a sync.
+/// Why the disk isn't formatted, and whether a call of it was made or a write is unsynced.
 fn fault_of_format(disk: MemoryDisk<Global>) -> Result<(FormatFault, bool, bool), Fail> {
     let before = disk.calls();
     match Store::format(disk) {

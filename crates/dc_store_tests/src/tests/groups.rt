@@ -1,4 +1,4 @@
-//! The bytes of a group's sectors, groups read back, and what a stop or a failure leaves.
+//! The bytes of a group's sectors, groups read back, and what a crash or a failure leaves.
 
 ghost use Rattle.std.specs.Prelude.{◌≡◌, ◌<◌, ◌≤◌, ◌+◌, ◌*◌, [], ◌∷◌, length};
 

@@ -1,4 +1,4 @@
-//! The images that a stop may leave, by their numbers.
+//! The images that a crash may leave, by their numbers.
 ghost use Rattle.std.specs.Prelude.{ℕ, IfOk};
 ghost use Rattle.std.specs.List.{AllZip};
 ghost use Rattle.dc_sectors.specs.Memory.{IsPickFor};
@@ -7,14 +7,15 @@ use dc_io::NoMemory;
 use dc_sectors::{MemoryDisk, Pick};
 use std::alloc::Global;
 
-/// What becomes of a sector: it is as before, unreadable, or as its first write left it; further ways are its further writes.
+/// The contents of a sector after a crash: as before, unreadable, or as its first write left it;
+/// further variants are its further writes.
 pub const OLD: usize = 0;
 
 pub const UNREADABLE: usize = 1;
 
 pub const WRITTEN: usize = 2;
 
-/// What becomes of a sector that was written so often.
+/// The contents of a sector that was written this often.
 fn pick_of(way: usize, writes: usize) -> Pick
     ensures { (n : ℕ) → IsPickFor (n, writes) result }
 {

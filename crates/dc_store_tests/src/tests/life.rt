@@ -20,7 +20,8 @@ pub struct Life {
     pub house: House<Global>,
 }
 
-/// What an image is opened as: the number of the last command, and how many meters and readings there are.
+/// The contents of an opened image: the number of the last command, and the numbers of meters and
+/// readings.
 #[derive(Clone, Copy, Debug, PartialEq, Eq)]
 pub struct Found {
     pub number: u64,
@@ -52,7 +53,7 @@ pub fn reopened(heap: Global, disk: MemoryDisk<Global>) -> Result<MemoryDisk<Glo
     Ok(closed(opened(heap, disk)?))
 }
 
-/// What the image is opened as.
+/// The contents of the image when opened.
 pub fn read_as(heap: Global, disk: MemoryDisk<Global>) -> Result<Found, OpenFault> {
     Ok(shown(&opened(heap, disk)?.house))
 }
@@ -76,7 +77,7 @@ pub fn encoded(heap: Global, house: &House<Global>) -> Result<Bytes<Global>, Fai
     Ok(bytes)
 }
 
-/// How many calls of the disk an open of this image makes.
+/// Number of calls of the disk that opening this image makes.
 pub fn calls_of_open(heap: Global, disk: &MemoryDisk<Global>) -> Result<u64, Fail> {
     let before = disk.calls();
     let after = reopened(heap, disk.copy()?)?.calls();

@@ -1,4 +1,4 @@
-//! The bytes of a root sector, and the choice after a stop or a failure within a root's write.
+//! The bytes of a root sector, and the choice after a crash or a failure within a root's write.
 
 ghost use Rattle.std.specs.Prelude.{◌<◌};
 

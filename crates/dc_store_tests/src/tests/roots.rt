@@ -45,7 +45,8 @@ fn refusal(
     }
 }
 
-/// Whether the image is refused as worn; no sector reads otherwise then, and nothing waits for a sync.
+/// Whether the image is refused for an exhausted counter; all sectors read as before then, and no
+/// write is unsynced.
 pub fn is_worn(rt: &impl Abort, heap: Global, disk: MemoryDisk<Global>) -> Result<bool, Fail> {
     let mut before = disk.copy()?;
     let (fault, mut after) = refusal(heap, disk)?;
@@ -72,7 +73,8 @@ fn the_last_session_is_opened_once(rt: HostRuntime) -> Result<(), Fail> {
     Ok(())
 }
 
-/// Whether a compaction of what is opened is refused as worn, and no call of the disk was made for it.
+/// Whether a compaction of what is opened is refused for an exhausted counter, without a call of
+/// the disk.
 pub fn compacts_no_more(
     rt: &impl Abort,
     heap: Global,
@@ -115,7 +117,7 @@ fn at_the_last_sequence(rt: &impl Abort, heap: Global) -> Result<MemoryDisk<Glob
     Ok(disk)
 }
 
-/// Whether a change is refused as worn, and no call of the disk was made for it.
+/// Whether a change is refused for an exhausted counter, without a call of the disk.
 fn appends_no_more(rt: &impl Abort, heap: Global, disk: MemoryDisk<Global>) -> Result<bool, Fail> {
     let calls = reopened(heap, disk.copy()?)?.calls();
     let mut life = opened(heap, disk)?;

@@ -12,12 +12,12 @@ const A: [u8; 512] = [0xA; 512];
 
 const B: [u8; 512] = [0xB; 512];
 
-/// What the next call of the file does.
+/// The effect of the next call of the file.
 #[derive(Clone, Copy)]
 enum Step {
-    /// What the file does.
+    /// The call succeeds.
     Plain,
-    /// It takes or gives at most that many bytes.
+    /// It transfers at most that many bytes.
     Part(usize),
     /// It fails.
     Fails,

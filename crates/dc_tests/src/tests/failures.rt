@@ -125,8 +125,8 @@ fn each_opens_as(
     Ok(images.len() as u64)
 }
 
-/// Opens the image so that this many calls pass, and the later ones fail, or the next one alone. Returns how many images
-/// were opened after it; none where no call failed.
+/// Opens the image so that this many calls pass, and the later ones fail, or the next one alone.
+/// Returns how many images were opened after it; `None` if no call failed.
 fn opens_in_the_end(
     rt: &impl Abort,
     heap: Global,
@@ -172,7 +172,7 @@ fn faults_in_the_open(
     Err(Fail::from("a call fails in each open"))
 }
 
-/// Faults at each call of the opening of each image of a stop.
+/// Faults at each call of the opening of each image of a crash.
 fn faults_after(rt: &impl Abort, heap: Global, disk: &MemoryDisk<Global>) -> Result<u64, Fail> {
     let mut images = 0u64;
     for left in &images_of(heap, disk)? {
@@ -182,8 +182,8 @@ fn faults_after(rt: &impl Abort, heap: Global, disk: &MemoryDisk<Global>) -> Res
     Ok(images)
 }
 
-/// A stop at each call of a life, and faults at each call of the opening that follows: how many images were opened. Stops
-/// with nothing pending that follow one another leave one image, which is tried once.
+/// A crash at each call of a life, and faults at each call of the opening that follows: how many
+/// images were opened. Crashes in a row with nothing pending leave one image, which is tried once.
 pub fn faults_in_the_opening(
     rt: &impl Abort,
     heap: Global,

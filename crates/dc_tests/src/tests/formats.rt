@@ -1,5 +1,5 @@
-//! A stop at each call of `format`: each image of it is no image, is damaged in a root slot, or is empty; and where it isn't
-//! one already, it can be formatted again.
+//! A crash at each call of `format`: each image of it is no image, is damaged in a root slot, or is
+//! empty; and if it isn't one already, it can be formatted again.
 
 use super::images::{images_of, rested, stopped};
 use super::life::{blank, state_of};
@@ -29,7 +29,7 @@ fn is_opened(
     }
 }
 
-/// An image of a stop, opened and formatted again: whether it was one already.
+/// An image of a crash, opened and formatted again: whether it was one already.
 fn is_image(
     rt: &impl Abort,
     heap: Global,
@@ -95,8 +95,8 @@ pub fn stale(
     Ok(rested(heap, &disk)?)
 }
 
-/// Stops a format at each of these calls, as far as it has them: what was tried, and how many of the images are those of a
-/// store.
+/// Lets a format crash at each of these calls, as far as it has them: what was tried, and how many
+/// of the images are those of a store.
 pub fn formats_stopped(
     rt: &impl Abort,
     heap: Global,

@@ -1,4 +1,4 @@
-//! The images that a stop may leave.
+//! The images that a crash may leave.
 
 ghost use Rattle.std.specs.Prelude.{ℕ, IfOk};
 ghost use Rattle.std.specs.List.{AllZip};
@@ -11,11 +11,11 @@ use std::alloc::{Allocator, Global};
 /// With at most that many pending sectors, each choice of them is an image.
 const FEW: usize = 7;
 
-/// What becomes of a sector: as at the last sync, as last written, unreadable, or as one of its earlier writes left it,
-/// the last but one first.
+/// The contents of a sector after a crash: as at the last sync, as last written, unreadable, or as
+/// one of its earlier writes left it, the last but one first.
 const OLD: usize = 0;
 
-/// An image of a stop.
+/// An image of a crash.
 #[derive(Clone, Copy)]
 pub enum Left {
     /// By its number, whose digits are what becomes of the sectors.
@@ -24,7 +24,7 @@ pub enum Left {
     But { all: usize, at: usize, one: usize },
 }
 
-/// What becomes of a sector that was written so often.
+/// The contents of a sector that was written this often.
 fn pick_of(way: usize, writes: usize) -> Pick
     ensures { (n : ℕ) → IsPickFor (n, writes) result }
 {
@@ -43,7 +43,7 @@ fn pick_of(way: usize, writes: usize) -> Pick
     Pick::Old
 }
 
-/// The images of a stop of this disk: each choice where few sectors are pending, else all old, all last written, all
+/// The images of a crash of this disk: each choice where few sectors are pending, else all old, all last written, all
 /// unreadable, and each of these with one sector otherwise.
 pub fn images_of<A: Allocator + Copy>(
     heap: Global,
@@ -61,7 +61,7 @@ pub fn images_of<A: Allocator + Copy>(
     Ok(images)
 }
 
-// How many choices there are. An earlier write is one more.
+// Number of possible contents. Each earlier write adds one.
 fn count_of(sectors: &[(u32, usize)]) -> usize {
     let mut count = 1usize;
     for &(_, writes) in sectors {
@@ -99,7 +99,7 @@ fn add_nearly_alike(
     Ok(())
 }
 
-/// What is picked for each pending sector.
+/// The pick for each pending sector.
 fn picks_of(
     heap: Global,
     pending: &[(u32, usize)],

@@ -11,10 +11,10 @@ use dc_sectors::{Disk, MemoryDisk};
 use std::alloc::{Allocator, Global};
 use std::test::Fail;
 
-/// The second at which everything is heard.
+/// The time stamp of every answer.
 pub const MOMENT: u64 = 1_735_689_600;
 
-/// What is done in a step. Everything is heard on bus line 1, from the one meter.
+/// A step. Everything is received on bus line 1, from the one meter.
 #[derive(Clone, Copy)]
 pub enum Deed<'a> {
     Start,

@@ -90,7 +90,7 @@ pub const COMMANDS: [Step<'static>; 8] = [
 
 pub const COMMANDS_DONE: [&[u8]; 1] = [FIT];
 
-/// A meter is fitted and read, its reading is shown, and confirmed.
+/// A meter is registered and read, its reading is shown, and confirmed.
 pub const READOUT: [Step<'static>; 10] = [
     Step(Deed::Office(FIT), b"OK 1\n", 1, 1),
     Step(Deed::Start, b"STARTED\n", 1, 1),
@@ -106,7 +106,7 @@ pub const READOUT: [Step<'static>; 10] = [
 
 pub const READOUT_DONE: [&[u8]; 4] = [FIT, FIRST_PART, LAST_PART, b"2 CONFIRM 1"];
 
-/// The meter moves between its two telegrams, of which the first waits.
+/// The meter is assigned to another flat between its two telegrams, of which the first is pending.
 pub const MOVED: [Step<'static>; 8] = [
     Step(Deed::Office(FIT), b"OK 1\n", 1, 1),
     Step(Deed::Start, b"STARTED\n", 1, 1),
@@ -125,7 +125,7 @@ pub const MOVED: [Step<'static>; 8] = [
 
 pub const MOVED_DONE: [&[u8]; 4] = [FIT, FIRST_PART, MOVE, LAST_PART];
 
-/// The meter goes between its two telegrams, of which the first waits.
+/// The meter is removed between its two telegrams, of which the first is pending.
 pub const REMOVED: [Step<'static>; 6] = [
     Step(Deed::Office(FIT), b"OK 1\n", 1, 1),
     Step(Deed::Start, b"STARTED\n", 1, 1),

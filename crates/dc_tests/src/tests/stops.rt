@@ -1,4 +1,5 @@
-//! A stop at each call of the disk: each image of it is opened as a state from the promised one to all that was accepted.
+//! A crash at each call of the disk: each image of it opens as a state from the promised one to all
+//! that was accepted.
 
 use super::images::{images_of, stopped};
 use super::life::{Life, Step, state_of, states_of};
@@ -11,21 +12,21 @@ use std::alloc::Global;
 use std::process::Abort;
 use std::test::Fail;
 
-/// What was tried.
+/// A test case.
 #[derive(Clone, Copy)]
 pub struct Tried {
     pub stops: u64,
     pub images: u64,
 }
 
-/// The first and the last of the states that a stop may leave, by the number of changes before them.
+/// The first and the last of the states that a crash may leave, by the number of changes before them.
 #[derive(Clone, Copy)]
 pub struct Span {
     pub promised: usize,
     pub accepted: usize,
 }
 
-/// What may be left of a life that ends within the step at a place.
+/// What may be left of a life that ends within the step at this place.
 pub fn span_at(steps: &[Step<'_>], at: usize) -> Span {
     let accepted = match steps.get(at) {
         Some(&Step(_, _, accepted, _)) => accepted,
@@ -38,8 +39,8 @@ pub fn span_at(steps: &[Step<'_>], at: usize) -> Span {
     Span { promised, accepted }
 }
 
-/// A life in which this many calls of the disk pass and no later one: the disk as it stopped, and its possible contents;
-/// none where no call failed.
+/// A life in which this many calls of the disk pass and no later one: the disk after the crash, and
+/// its possible contents; `None` if no call failed.
 pub fn stopped_life(
     heap: Global,
     life: &Life<'_>,
@@ -76,7 +77,7 @@ pub fn is_in(states: &[Bytes<Global>], span: Span, state: &[u8]) -> bool {
     false
 }
 
-/// Opens each image of the stop.
+/// Opens each image of the crash.
 fn opens_each(
     rt: &impl Abort,
     heap: Global,

@@ -14,10 +14,10 @@ pub enum Way {
     Run,
 }
 
-/// What a step answered.
+/// The answer of a step.
 #[derive(Clone, Copy, Debug, PartialEq, Eq)]
 pub enum Told {
-    /// What it answers where nothing fails.
+    /// Its answer if nothing fails.
     Done,
     /// The disk failed in a commit.
     Device,
@@ -29,7 +29,7 @@ pub enum Told {
     NoMemory,
 }
 
-/// Does a step, and says what it answered; another answer is a failed test.
+/// Does a step, and returns its answer; another answer is a failed test.
 pub fn turn<D: Disk + Drop, A: Allocator + Copy>(
     heap: Global,
     core: &mut Concentrator<D, A>,
@@ -54,7 +54,7 @@ pub fn turn<D: Disk + Drop, A: Allocator + Copy>(
     }
 }
 
-/// Does the steps up to the first that isn't done: its place, and what it answered.
+/// Does the steps up to the first that isn't done: its place, and its answer.
 pub fn go<D: Disk + Drop, A: Allocator + Copy>(
     heap: Global,
     core: &mut Concentrator<D, A>,

@@ -1,4 +1,4 @@
-//! What is heard on a line: frames in pieces, noise, echoes, and a wire that fails.
+//! What a line receives: frames in pieces, noise, echoes, and a wire that fails.
 
 ghost use Rattle.std.specs.Prelude.{◌≤◌, length};
 ghost use Rattle.dc_gateway.specs.Blocks.{most_block};
@@ -186,7 +186,7 @@ fn a_wire_that_fails_is_lost(rt: HostRuntime) {
     is_lost_at(&rt, &[Event::Nothing, Event::Bytes(4), Event::Loss], 1);
 }
 
-// Counts how often it is waited.
+// Counts how often it waits.
 #[derive(Drop)]
 struct Count(u32);
 

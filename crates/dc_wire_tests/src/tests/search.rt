@@ -46,7 +46,7 @@ fn hear<A: Allocator + Copy>(
     }
 }
 
-// Runs a search in which each refused growth is heard again, and says how many were refused.
+// Runs a search in which each refused growth is repeated, and returns how many were refused.
 fn run<A: Allocator + Copy>(rt: &impl Abort, search: &mut Search<A>, bus: &[Identity]) -> u64 {
     let mut selected = Mask::all();
     let mut refused = 0;

@@ -1,4 +1,4 @@
--- The bytes that are heard lead where a selection on the bus does.
+-- The received bytes lead where a selection on the bus does.
 use Rattle.std.proofs.Common.{Result, Ok, Err, [], ◌∷◌, filter, ap, ◌∙◌}
 use Rattle.std.specs.Result.{OnOk}
 use Rattle.dc_search.specs.Answer.{answer_of}
