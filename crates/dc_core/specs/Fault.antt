@@ -52,7 +52,7 @@ commit_name Device = codes "Device"
 commit_name Worn = codes "Worn"
 commit_name CommitStopped = codes "Stopped"
 
--- a telegram that wasn't taken, as the line is answered
+-- the answer of a line to a telegram that wasn't taken
 abbrev pub hear_fault : TakeFault → HearFault
 hear_fault TakePendingFull = PendingFull
 hear_fault TakeFull = Full

@@ -19,7 +19,7 @@ pub record StandsForPromised (half_len : ℕ) (state : State) (promised : ℕ) (
   pub front : StandsForFront half_len state changes image
   pub all_promised : promised ≤ front.count
 
--- what a concentrator consists of
+-- the parts of a concentrator
 pub record Machine (D : Type 0) : Type 0 where
   pub store : Kept D
   pub house : Held

@@ -13,7 +13,7 @@ use Rattle.dc_core.specs.Core.{Core, present, session_of, opened}
 use Rattle.dc_core.specs.Step.{hear_answer}
 use Rattle.dc_core.specs.Transcript.{Turn, leads, IsChain}
 
--- this answer is the telegram that is asked for on the line
+-- this answer is the telegram that is requested on the line
 pub record IsTelegramFor (core : Core) (line : ℕ) (answer : List ℕ) (part : ℕ)
     (telegram : Parsed) : Type 0 where
   pub session : Summary
@@ -44,7 +44,8 @@ pub record KnowsItsMeters (budget : ℕ) (core : Core) : Type 0 where
       → hear_answer budget core line moment answer ≡ Err PendingFull
       → length core.pending ≡ most_waiting
 
--- NO TELEGRAM THAT WAS ASKED FOR IS UNKNOWN, in every chain of steps from a concentrator that was just opened.
+-- NO TELEGRAM THAT WAS REQUESTED IS UNKNOWN, in every chain of steps from a newly opened
+-- concentrator.
 abbrev pub NoneIsUnknown : Type 0
 NoneIsUnknown = (budget : ℕ) (state : State) (turns : List Turn)
     → IsChain budget (opened state) turns → KnowsItsMeters budget (leads (opened state) turns)

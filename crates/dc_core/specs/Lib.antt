@@ -5,9 +5,9 @@ pub mod Fault
 -- the state of a concentrator, apart from its disk: what is committed, the pending changes, the
 -- session on each line, and whether a failure of the disk has stopped it
 pub mod Core
--- what can happen to a concentrator, and what it can answer
+-- the events of a concentrator, and their possible answers
 pub mod Event
--- what each event does to a concentrator, and what it answers
+-- the effect of each event on a concentrator, and its answer
 pub mod Step
 -- which state a concentrator is in, and what the images of its disk stand for
 pub mod Images
@@ -27,7 +27,7 @@ pub mod Lives
 pub mod Told
 -- the line of text of each answer
 pub mod Text
--- events in code, and what a run of them leaves
+-- events in code, and the result of a run of them
 pub mod Run
 -- the headline: how a concentrator crashed, and what it holds when it is opened again
 pub mod Headline

@@ -78,7 +78,7 @@ pub record HoldsFront (state : State) (turns : List Turn) (core : Core) : Type 0
   pub pending : accepted_in (opened state) turns ≡ take count (accepted_in (opened state) turns)
       ++ core.pending
 
--- WHAT IS PROMISED IS COMMITTED, in every chain of steps from a concentrator that was just opened.
+-- WHAT IS PROMISED IS COMMITTED, in every chain of steps from a newly opened concentrator.
 abbrev pub PromisedIsCommitted : Type 0
 PromisedIsCommitted = (budget : ℕ) (state : State) (turns : List Turn)
     → IsChain budget (opened state) turns → HoldsFront state turns (leads (opened state) turns)

@@ -1,4 +1,4 @@
-//! A group is read.
+//! Reads a group.
 
 ghost use Rattle.std.specs.Prelude.{◌≡◌, ◌≢◌, ◌⊎◌, ◌<◌, ◌≤◌, ◌↔◌, ◌+◌, ◌-◌, ◌^◌, ◌++◌};
 ghost use Rattle.std.specs.Prelude.{if◌then◌else◌, ℕ, IfOk, OnOk, IsErrOf, IsTrue, length, take};
@@ -25,7 +25,7 @@ pub struct Group<A: Allocator> {
 }
 
 impl Site {
-    // The head is that of a page of the group, at that index.
+    // Whether the head is that of a page of the group, at that index.
     fn is_page(&self, head: &Head, index: u32) -> bool
         ensures { IsTrue result ↔ ((head.now.kind ≡ self.now.kind)
             × (head.now.version ≡ self.now.version) × (head.now.sequence ≡ self.now.sequence)
@@ -39,7 +39,7 @@ impl Site {
             && usize::from(head.used) <= PAYLOAD
     }
 
-    // The head is that of the group's commit sector, after this many pages of that session.
+    // Whether the head is that of the group's commit sector, after this many pages of that session.
     fn is_commit(&self, head: &Head, session: u64, pages: u32) -> bool
         ensures { IsTrue result ↔ ((head.now.kind ≡ commit_kind)
             × (head.now.version ≡ self.now.version) × (head.now.sequence ≡ self.now.sequence)
@@ -53,7 +53,7 @@ impl Site {
             && head.used == 0
     }
 
-    // How a sector fits after this many pages of that session.
+    // Whether a sector continues the group after this many pages of that session.
     fn judge(&self, bytes: &[u8; 512], session: u64, pages: u32) -> Fit
         requires { self.now.kind ≢ commit_kind }
         ensures { Judged self.now session pages bytes.now result }
@@ -72,13 +72,13 @@ impl Site {
     }
 }
 
-/// How a sector fits after the pages that were read.
+/// How a sector continues the pages that were read.
 pub(crate) enum Fit {
-    /// As a page with this many used bytes, of that session.
+    /// A page with this many used bytes, of that session.
     Page(u16, u64),
-    /// As the commit sector.
+    /// The commit sector.
     Commit,
-    /// Not at all.
+    /// It doesn't.
     Neither,
 }
 
@@ -92,7 +92,7 @@ struct Reading<A: Allocator> {
 }
 
 impl<A: Allocator> Reading<A> {
-    /// Adds what a page holds.
+    /// Appends the bytes of a page.
     fn take(&mut self, bytes: &[u8; 512], used: u16, session: u64) -> Result<(), NoMemory>
         requires used { used ≤ page_payload }
         requires more { self.old.pages < 2 ^ 32 - 1 }
@@ -110,7 +110,7 @@ impl<A: Allocator> Reading<A> {
         Ok(())
     }
 
-    /// Reads the sector after the pages, and says whether it completes the group.
+    /// Reads the sector after the pages, and returns whether it completes the group.
     fn read_next<D: Disk>(&mut self, disk: &mut D, at: u32) -> Result<bool, GroupFault>
         requires kind { self.old.site.kind ≢ commit_kind }
         requires more { self.old.pages < 2 ^ 32 - 1 }
@@ -161,8 +161,8 @@ impl<A: Allocator> Reading<A> {
 ///
 /// # Errors
 ///
-/// `Incomplete` where that group isn't complete, with the first sector that doesn't fit; `Device`
-/// where a read failed; `NoMemory`.
+/// `Incomplete` if that group isn't complete, with the first sector that doesn't fit; `Device` if a
+/// read failed; `NoMemory`.
 pub fn read_group<A: Allocator, D: Disk>(
     alloc: A,
     disk: &mut D,

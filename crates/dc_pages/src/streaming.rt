@@ -9,18 +9,18 @@ use crate::GroupWriter;
 use dc_io::{IoFault, Sink, one_failure_more};
 use dc_sectors::{Disk, Failed};
 
-/// A group writer and its disk, as one writer of bytes: what is put goes into the group. It takes no
+/// A group writer and its disk, as one sink: bytes that are put go into the group. It uses no
 /// memory and doesn't sync.
 ///
-/// A put fails where the disk failed, and where the group has no room for all of its bytes.
+/// A put fails if the disk failed, or if the group has no room for all of its bytes.
 #[derive(Drop)]
 pub struct GroupSink<'a, D: Disk> {
     /// The disk that the group is written to.
     pub disk: &'a mut D,
     /// The group so far.
     pub writer: GroupWriter,
-    /// How many puts the group had no room for. At `u64::MAX` it stays. A call of the disk that failed is counted by
-    /// the disk alone.
+    /// Number of puts for which the group had no room; it saturates at `u64::MAX`. A failed call of
+    /// the disk is counted only by the disk.
     pub refused: u64,
 }
 

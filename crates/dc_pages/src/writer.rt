@@ -1,4 +1,4 @@
-//! A group is written, page by page.
+//! Writes a group, page by page.
 
 ghost use Rattle.std.specs.Prelude.{◌≡◌, ◌⊎◌, ◌<◌, ◌≤◌, ◌+◌, ◌-◌, ◌*◌, ◌++◌, [], List, ℕ, take};
 ghost use Rattle.std.specs.Prelude.{length, min, OnOk, OnErr, IfOk, IsTrue, ◌↔◌};
@@ -13,7 +13,7 @@ use crate::head::{COMMIT, HEAD, Head, PAYLOAD, write_head};
 use dc_sectors::{Disk, Failed};
 use std::marker::Model;
 
-/// A group that is being written. It holds one page, and takes no memory.
+/// A group that is being written. It holds one page, and uses no memory.
 ///
 /// Once a call returned `Failed`, no contract states anything of the group: it is abandoned.
 #[derive(Drop)]
@@ -45,7 +45,7 @@ impl Model for GroupWriter {
 }
 
 impl GroupWriter {
-    /// The group of that site in that session, without payload so far.
+    /// Begins the group of that site in that session, with no payload yet.
     pub fn begin(site: Site, session: u64) -> GroupWriter
         ensures { result ≡ record { site = site; session = session; pages = 0; buffer = [] } }
     {
@@ -65,7 +65,7 @@ impl GroupWriter {
         self.site.limit
     }
 
-    /// Whether this many bytes more and the commit sector fit.
+    /// Whether this many more bytes and the commit sector fit.
     pub fn has_room(&self, more: usize) -> bool
         ensures { IsTrue result ↔ HasRoom self.now more }
     {
@@ -76,7 +76,7 @@ impl GroupWriter {
             && more as u64 <= room.saturating_sub(written) - PAYLOAD as u64
     }
 
-    // Takes as many of the bytes as the page has room for, and answers how many.
+    // Takes as many bytes as the page has room for, and returns how many.
     fn fill(&mut self, bytes: &[u8]) -> usize
         ensures count { result ≡ min (page_payload - length self.old.buffer) (length bytes.now) }
         ensures filled { self.new ≡ record self.old {
@@ -132,7 +132,7 @@ impl GroupWriter {
         Ok(())
     }
 
-    // Writes the page in the buffer where it is full.
+    // Writes the page in the buffer if it is full.
     fn make_room<D: Disk>(&mut self, disk: &mut D) -> Result<(), Failed>
         requires room { HasRoom self.old 1 }
         requires limit { self.old.site.limit ≤ D.sectors disk.old }
@@ -162,7 +162,7 @@ impl GroupWriter {
         Ok(())
     }
 
-    /// Adds bytes to the payload.
+    /// Appends bytes to the payload.
     pub fn put<D: Disk>(&mut self, disk: &mut D, bytes: &[u8]) -> Result<(), Failed>
         requires room { HasRoom self.old (length bytes.now) }
         requires limit { self.old.site.limit ≤ D.sectors disk.old }

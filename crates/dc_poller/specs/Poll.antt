@@ -1,4 +1,5 @@
--- The readout of a meter over a bus line (this product): each thing that happens is due by the one before it.
+-- The readout of a meter over a bus line (this product): each happening follows from the one before
+-- it.
 use Rattle.std.specs.Prelude.{◌≡◌, ◌⊎◌, ℕ, Bool, true, false, ◌+◌, ◌≤◌, None, Some, Result, Ok, Err}
 use Rattle.std.specs.Prelude.{List, [], ◌∷◌, length, flat_map}
 use Rattle.dc_address.specs.declared.identity.Identity.{Identity}
@@ -32,7 +33,7 @@ pub data Due : Type 0 where
   to_ask : Due
   -- this request goes over the bus
   to_send : List ℕ → Due
-  -- this is what came to it
+  -- this is the answer to it
   to_hear : List ℕ → Due
   to_commit : Due
   -- the maximum number of changes is pending: they are committed, and then the answer is taken
@@ -46,7 +47,7 @@ pub record Phase : Type 0 where
   pub due : Due
   pub link : Link
 
--- ---- which event is due
+-- ---- which event is next
 
 abbrev pub IsDueEvent : Port → ℕ → Identity → Due → Event → Type 0
 IsDueEvent port moment meter to_start event = event ≡ starts port.line meter
@@ -70,7 +71,7 @@ MayBeLost port (to_make_room bytes) = ⊥
 MayBeLost port (to_hear_again bytes) = ⊥
 MayBeLost port is_over = ⊥
 
--- The request that was asked for is sent. A lost bus answers with silence, and it is lost at most once.
+-- The request is sent. A lost bus answers with silence, and a bus is lost at most once.
 abbrev pub IsDue : Port → ℕ → Identity → Phase → Happening → Type 0
 IsDue port moment meter phase (does turn) = IsDueEvent port moment meter phase.due turn.0
 IsDue port moment meter phase (talks exchange) =
@@ -78,7 +79,7 @@ IsDue port moment meter phase (talks exchange) =
     × IsHeardOver phase.link exchange.answer
 IsDue port moment meter phase loses = (phase.link ≡ linked) × MayBeLost port phase.due
 
--- ---- what is due after it
+-- ---- what is next after it
 
 -- a part is committed, and then comes the next request; a failure or a refusal is the end
 abbrev pub behind_heard : Result LineHeard HearFault → Due
@@ -110,7 +111,7 @@ behind phase loses = record { due = phase.due; link = lost }
 
 -- ---- all that happens
 
--- each thing is due after those before it, and this is the phase after all
+-- each happening follows those before it, and this is the phase after all
 abbrev pub IsWay : Port → ℕ → Identity → Phase → List Happening → Phase → Type 0
 IsWay port moment meter phase [] last = last ≡ phase
 IsWay port moment meter phase (happening ∷ more) last =
@@ -150,7 +151,7 @@ happening_text port loses = loss_line port
 abbrev pub happened_text : Port → List Happening → List ℕ
 happened_text port happened = flat_map (happening_text port) happened
 
--- how often a request was asked for
+-- number of requests asked for
 abbrev pub asks_by : Event → ℕ
 asks_by (asks line) = 1
 asks_by event = 0
@@ -164,7 +165,7 @@ abbrev pub rounds_in : List Happening → ℕ
 rounds_in [] = 0
 rounds_in (happening ∷ more) = count_of happening + rounds_in more
 
--- it is over, or has gone on for as many rounds as no readout has
+-- the readout is over, or has reached the maximum number of requests
 abbrev pub IsEnd : List Happening → Due → Type 0
 IsEnd happened due = (due ≡ is_over) ⊎ (rounds_in happened ≡ most_rounds)
 
@@ -180,7 +181,7 @@ pub record Polls (port : Port) (moment : ℕ) (meter : Identity) (link left : Li
   pub exchanges_are : exchanges ≡ happened_exchanges happened
   pub text_is : text ≡ happened_text port happened
 
--- some first turns of a poll, and its exchanges until then
+-- the first turns of a poll, and its exchanges until then
 pub record PollsPart (port : Port) (moment : ℕ) (meter : Identity) (link : Link) (turns : List Turn)
     (exchanges : List Exchange) : Type 0 where
   pub happened : List Happening

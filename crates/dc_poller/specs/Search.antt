@@ -1,5 +1,5 @@
--- A search for meters over a bus line (this product): the pending changes are committed first, and nothing is
--- selected while a readout of that line waits.
+-- A search for meters over a bus line (this product): the pending changes are committed first, and
+-- nothing is selected while a readout of that line is pending.
 use Rattle.std.specs.Prelude.{◌≡◌, ◌⊎◌, ℕ, zero, suc, Bool, true, false, ◌+◌, ◌-◌, ◌≤◌, IsTrue}
 use Rattle.std.specs.Prelude.{Option, None, Some, IfSome, Result, Ok, Err, List, [], ◌∷◌, ◌++◌}
 use Rattle.std.specs.Prelude.{codes, flat_map, map}
@@ -44,7 +44,7 @@ abbrev pub search_text : SearchState → List ℕ
 search_text search = flat_map found_line search.found ++ (flat_map shared_line search.shared
     ++ (budget_line (step_of search) ++ selections_line search.selections))
 
--- the text of a search that comes after another, by which this many selections were made: they count too
+-- the text of a search that follows another of this many selections, which are counted too
 abbrev pub search_text_after : ℕ → SearchState → List ℕ
 search_text_after before search =
     flat_map found_line search.found
@@ -56,15 +56,16 @@ abbrev pub late_text : Port → ℕ → List ℕ
 late_text port zero = []
 late_text port (suc n) = codes "LATE" ++ number_word port.line ++ number_word (suc n) ++ codes "\n"
 
--- how many did, by the counts of the bus before and after it; over a gateway none does
+-- that number, by the counts of the bus before and after it; 0 over a gateway
 abbrev pub late_by : Bool → ℕ → ℕ → ℕ
 late_by true before after = 0
 late_by false before after = after - before
 
 -- ---- what was searched
 
--- A search that is over, within its budget: the exchanges are those of its steps, and it is what their answers lead
--- to. Where the bus states its meters, it follows their walk, and over a lost one that of none.
+-- A search that is over, within its budget: the exchanges are those of its steps, and it is what
+-- their answers lead to. If the meters of the bus are known, it follows their walk, and over a lost
+-- bus the walk of no meters.
 pub record IsOver (meters : Option (List Identity)) (budget : ℕ) (link : Link)
     (exchanges : List Exchange) (search : SearchState) : Type 0 where
   pub ended : IsTrue (is_idle (step_of search))
@@ -73,12 +74,12 @@ pub record IsOver (meters : Option (List Identity)) (budget : ℕ) (link : Link)
   pub walk : IfSome meters (λ told. IsSearched told budget search)
   pub nobody : link ≡ lost → IsSearched [] budget search
 
--- the exchanges are some first ones of a search
+-- the exchanges are the first ones of a search
 abbrev pub AreOfSearch : ℕ → List Exchange → Type 0
 AreOfSearch budget exchanges = (search : SearchState)
     × AreAskedBy (new_search budget) exchanges search
 
--- what may become of the bus meanwhile
+-- the state of the bus after it
 abbrev pub IsLeft : Link → Link → Type 0
 IsLeft absent left = left ≡ absent
 IsLeft linked left = (left ≡ linked) ⊎ (left ≡ lost)
@@ -112,7 +113,7 @@ pub record IsBusy (line : ℕ) (link left : Link) (turns : List Turn) (exchanges
   pub unasked : exchanges ≡ []
   pub left_is : left ≡ link
 
--- none does: the loss of the bus is printed first, and the number of late answers last
+-- it isn't: the loss of the bus is printed first, and the number of late answers last
 pub record Finds (meters : Option (List Identity)) (port : Port) (budget late : ℕ)
     (link left : Link) (turns : List Turn) (exchanges : List Exchange)
     (text : List ℕ) : Type 0 where
@@ -131,7 +132,7 @@ Searches meters port budget late link left turns exchanges text =
     ⊎ (IsBusy port.line link left turns exchanges text
     ⊎ Finds meters port budget late link left turns exchanges text)
 
--- One over a line of a script: none comes late over a gateway.
+-- A search over a line of a script: no answer of a gateway is late.
 pub record SearchesOn (port : Port) (budget : ℕ) (link left : Link) (turns : List Turn)
     (exchanges : List Exchange) (text : List ℕ) : Type 0 where
   pub late : ℕ
@@ -140,7 +141,8 @@ pub record SearchesOn (port : Port) (budget : ℕ) (link left : Link) (turns : L
 
 -- ---- where it ends the script
 
--- A write failed: all its turns are done, as it writes after them, and where it searched, the search is done.
+-- A write failed: all turns are done, since the search writes after them, and the search is done if
+-- it began.
 abbrev pub SearchesPart : ℕ → ℕ → List Turn → List Exchange → Type 0
 SearchesPart line budget turns exchanges =
     ((fault : CommitFault) × (turns ≡ refused_turns fault) × (exchanges ≡ []))
@@ -157,9 +159,9 @@ pub record Starves (port : Port) (budget : ℕ) (link left : Link) (turns : List
   pub text_is : text ≡ loss_text port link left
   pub left_is : IsLeft link left
 
--- ---- what a call of it comes to
+-- ---- the result of a call
 
--- Over the bus, which is left like that: `talked` holds of the exchanges that happened to it.
+-- Over the bus, which is left like that: `talked` holds of the exchanges on it.
 abbrev pub Talked : Option (List Identity) → Port → ℕ → ℕ → Link → Link → (List Exchange → Type 0)
     → (List ℕ → Type 0) → Result (Unit {0}) Halt → Type 0
 Talked meters port budget late link left talked wrote (Ok done) =

@@ -1,4 +1,4 @@
-//! Appending a group of changes.
+//! Appends a group of changes.
 
 ghost use Rattle.std.specs.Prelude.{◌≡◌, ◌<◌, ◌≤◌, ◌+◌, ◌*◌, List, ℕ, suc, length, IfOk, OnOk};
 ghost use Rattle.std.specs.Prelude.{OnErr};

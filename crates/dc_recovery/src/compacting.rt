@@ -1,4 +1,4 @@
-//! Writing the whole state into the other half.
+//! Writes the whole state into the other half.
 
 ghost use Rattle.std.specs.Prelude.{◌≡◌, ◌<◌, ◌≤◌, ◌+◌, ◌-◌, ◌*◌, ◌^◌, ℕ, zero, suc, IfOk, OnOk};
 ghost use Rattle.std.specs.Prelude.{OnErr};
@@ -19,8 +19,8 @@ use dc_roots::Root;
 use dc_sectors::{Disk, Failed};
 use std::alloc::Allocator;
 
-/// Writes a base group of this version with the house's state into the other half and syncs, and then puts the
-/// root in force that names it. Answers that root, and the place of the next group.
+/// Writes a base group of this version with the house's state into the other half and syncs, and
+/// then puts the root in force that names it. Returns that root, and the place of the next group.
 pub(crate) fn compact_into_other_half<A: Allocator + Copy, D: Disk>(
     disk: &mut D,
     root: &Root,

@@ -1,4 +1,4 @@
-//! Formatting a disk.
+//! Formats a disk.
 
 ghost use Rattle.std.specs.Prelude.{◌≡◌, ◌⊎◌, ◌<◌, ◌≤◌, ◌+◌, ◌*◌, ◌^◌, ◌↔◌, ℕ, OnOk, OnErr};
 ghost use Rattle.std.specs.Prelude.{IsErrOf};
@@ -28,13 +28,13 @@ use dc_sectors::{Disk, Failed};
 /// The session of the first groups and of the first root.
 const FIRST_SESSION: u64 = 1;
 
-/// The bytes that spell the empty register: the next serial is 1, and all else is nothing.
+/// The encoding of the empty register: the next serial is 1, and all else is zero or empty.
 const EMPTY: [u8; 33] = [
     1, 0, 0, 0, 0, 0, 0, 0, 0, 0, 0, 0, 0, 0, 0, 0, 0, 0, 0, 0, 0, 0, 0, 0, 0, 0, 0, 0, 0, 0, 0, 0,
     0,
 ];
 
-/// Writes zeros to the sectors from 1 on, up to that one.
+/// Writes zeros to the sectors from 1 up to that one.
 fn blank_sectors<D: Disk>(disk: &mut D, end: u32) -> Result<(), Failed>
     requires { end ≤ D.sectors disk.old }
     ensures blank { OnOk result ((k : ℕ) → 1 ≤ k → k < end → D.reads disk.new k ≡ blank) }
@@ -88,7 +88,7 @@ fn lay_out<D: Disk>(disk: &mut D, half_len: u32) -> Result<(), Failed>
     }
 }
 
-/// Formats a lent disk.
+/// Formats a borrowed disk.
 pub(crate) fn format_on<D: Disk>(disk: &mut D) -> Result<(), FormatFault>
     ensures too_small { IsErrOf result TooSmall ↔ (D.sectors disk.old < fewest_sectors) }
     ensures untouched { IsErrOf result TooSmall → disk.new ≡ disk.old }

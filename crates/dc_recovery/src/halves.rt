@@ -32,7 +32,7 @@ pub fn half_start(half_len: u32, half: u8) -> u32
     if half == 0 { 3 } else { 3 + half_len }
 }
 
-/// The number after a half's last sector.
+/// The number after the last sector of a half.
 pub fn half_end(half_len: u32, half: u8) -> u32
     requires small { half ≤ 1 }
     requires most { half_len ≤ longest_half }

@@ -1,4 +1,4 @@
-//! Opening an image.
+//! Opens an image.
 
 ghost use Rattle.std.specs.Prelude.{◌≡◌, ◌≢◌, ◌⊎◌, ◌<◌, ◌≤◌, ◌+◌, ◌-◌, ◌*◌, ◌^◌, ◌↔◌, ℕ, IsTrue};
 ghost use Rattle.std.specs.Prelude.{IfOk, IfErr, OnOk, IsErrOf};
@@ -23,7 +23,7 @@ use dc_roots::Root;
 use dc_sectors::{Disk, Failed};
 use std::alloc::Allocator;
 
-/// Begins a session: the next root is the same, with the next session.
+/// Begins a session: writes the next root, which differs only in generation and session.
 fn begin_session<D: Disk>(disk: &mut D, root: &Root) -> Result<Root, OpenFault>
     requires slots { 2 < D.sectors disk.old }
     requires half { root.now.half ≤ 1 }
@@ -57,7 +57,7 @@ fn begin_session<D: Disk>(disk: &mut D, root: &Root) -> Result<Root, OpenFault>
     }
 }
 
-/// No session can begin on an image with that root, after a group of that sequence.
+/// Whether no session can begin on an image with that root, after a group of that sequence.
 pub fn is_spent(root: &Root, last: u64) -> bool
     ensures { IsTrue result ↔ IsSpent root.now last }
 {

@@ -1,4 +1,4 @@
-//! Reading an image: from the root in force to the state.
+//! Reads an image: from the root in force to the state.
 
 ghost use Rattle.std.specs.Prelude.{true, false, ◌≡◌, ◌≢◌, ◌⊎◌, ◌<◌, ◌≤◌, ◌+◌, ◌-◌, ◌*◌, ◌^◌, List};
 ghost use Rattle.std.specs.Prelude.{ℕ, zero, suc, IfOk, IfErr, OnOk, OnErr, IsErrOf};
@@ -28,10 +28,10 @@ use std::alloc::Allocator;
 /// The version of the sectors that are written.
 pub(crate) const VERSION: u8 = 2;
 
-/// The version of images that are read too, and that opening makes into images of this one.
+/// The older version, which is read too, and which opening converts to this one.
 const FIRST_VERSION: u8 = 1;
 
-/// Chooses the root in force, which has to be of a known version and for halves of this length.
+/// Chooses the root in force, which must have a known version and halves of this length.
 fn current_root<D: Disk>(disk: &mut D, half_len: u32) -> Result<Root, OpenFault>
     requires { 2 < D.sectors disk.old }
     ensures current { D.keeps disk.new

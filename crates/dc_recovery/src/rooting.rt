@@ -1,4 +1,4 @@
-//! Putting the next root in force.
+//! Puts the next root in force.
 
 ghost use Rattle.std.specs.Prelude.{◌≡◌, ◌≢◌, ◌<◌, ◌≤◌, ◌-◌, ◌^◌, ◌↔◌, ℕ, Option, IfOk, OnOk};
 ghost use Rattle.std.specs.Prelude.{IsErrOf};
@@ -11,8 +11,8 @@ ghost use Rattle.dc_recovery.specs.Roots.{IsRootDone};
 use dc_roots::{Root, RootFault, write_next};
 use dc_sectors::{Disk, Failed};
 
-/// Writes that root with its generation + 1 into the other slot, and syncs. Until then the old root or the
-/// next one is in force.
+/// Writes that root with its generation + 1 into the other slot, and syncs. Until then the old root
+/// or the next one is in force.
 pub(crate) fn put_root<D: Disk>(disk: &mut D, root: &Root) -> Result<Root, RootFault>
     requires slots { 2 < D.sectors disk.old }
     requires half { root.now.half ≤ 1 }

@@ -1,4 +1,4 @@
-//! Where the groups of an image lie.
+//! The place of the groups of an image.
 
 ghost use Rattle.std.specs.Prelude.{◌≡◌, ◌≤◌, ◌+◌, ◌*◌};
 ghost use Rattle.dc_recovery.specs.Halves.{longest_half};
@@ -24,7 +24,7 @@ pub(crate) fn base_site(half_len: u32, root: &Root) -> Site
     }
 }
 
-/// The site of a group of changes of that sequence, from a place in the root's half on.
+/// The site of a group of changes of that sequence, at a place in the root's half.
 pub(crate) fn change_site(half_len: u32, root: &Root, sequence: u64, place: u32) -> Site
     requires half { root.now.half ≤ 1 }
     requires most { half_len ≤ longest_half }

@@ -1,4 +1,4 @@
-//! Writing a group, without the sync that makes it durable.
+//! Writes a group, without the sync that makes it durable.
 
 ghost use Rattle.std.specs.Prelude.{◌≡◌, ◌<◌, ◌≤◌, ◌+◌, ◌*◌, length, IfOk, OnOk, OnErr};
 ghost use Rattle.dc_io.specs.Failures.{HasRisen};
@@ -44,7 +44,7 @@ pub(crate) fn write_group<D: Disk>(
     Ok(count)
 }
 
-// The house's bytes go into the group, piece by piece.
+// Writes the house's encoding into the group, piece by piece.
 fn encode_into<A: Allocator + Copy, D: Disk>(
     sink: &mut GroupSink<'_, D>,
     house: &House<A>,

@@ -1,4 +1,4 @@
-//! The root that is in force.
+//! Chooses the root in force.
 
 ghost use Rattle.std.specs.Prelude.{◌≡◌, ◌<◌, ◌≤◌, IfOk, OnOk, OnErr, IsErrOf};
 ghost use Rattle.dc_io.specs.Failures.{HasRisen};
@@ -14,11 +14,11 @@ use dc_sectors::{Disk, Failed, ReadFault};
 /// The contents of a root slot.
 #[derive(Clone, Copy)]
 pub enum Held {
-    /// A valid root of that slot.
+    /// A valid root that belongs to the slot.
     Valid(Root),
-    /// Something else.
+    /// Readable, without a valid root.
     Other,
-    /// It is unreadable.
+    /// Unreadable.
     Lost,
 }
 
@@ -39,7 +39,7 @@ fn held_by(bytes: &[u8; 512], slot: u32) -> Held
     }
 }
 
-/// Reads a slot: sector 1 or 2 of the disk. An unreadable one is no failure.
+/// Reads a slot: sector 1 or 2 of the disk. An unreadable sector is no failure.
 pub fn read_slot<D: Disk>(disk: &mut D, slot: u32) -> Result<Held, Failed>
     requires { slot < D.sectors disk.old }
     ensures held { D.keeps disk.new → IfOk result (IsHeld slot (D.reads disk.old slot)) }
@@ -61,7 +61,7 @@ pub fn read_slot<D: Disk>(disk: &mut D, slot: u32) -> Result<Held, Failed>
     }
 }
 
-/// The choice between what the two slots hold.
+/// Chooses between the contents of the two slots.
 fn newer(first: Held, second: Held) -> Result<Root, RootFault>
     ensures choice { (image : Image) → IsHeld 1 (image 1) first → IsHeld 2 (image 2) second
         → IsChoice image result }
@@ -98,8 +98,8 @@ fn newer(first: Held, second: Held) -> Result<Root, RootFault>
 ///
 /// # Errors
 ///
-/// `NoRoot` where neither slot has a valid root, with the first that is unreadable, if one is; `Device`
-/// where a read failed.
+/// `NoRoot` if neither slot has a valid root, with the first unreadable one, if any; `Device` if a
+/// read failed.
 pub fn choose<D: Disk>(disk: &mut D) -> Result<Root, RootFault>
     requires { 2 < D.sectors disk.old }
     ensures choice { D.keeps disk.new → IsChoice (D.reads disk.old) result }

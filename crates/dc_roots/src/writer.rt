@@ -1,4 +1,4 @@
-//! The next root is written.
+//! Writes the next root.
 
 ghost use Rattle.std.specs.Prelude.{◌≡◌, ◌≢◌, ◌<◌, ◌≤◌, ◌-◌, ◌^◌, ◌↔◌, ℕ, Option, IfOk, OnOk};
 ghost use Rattle.std.specs.Prelude.{IsErrOf};
@@ -11,12 +11,12 @@ use crate::format::sector_of;
 use crate::{Root, RootFault};
 use dc_sectors::{Disk, Failed};
 
-/// Writes that root with its generation + 1 into the slot of that generation, and answers it. It
+/// Writes that root with its generation + 1 into the slot of that generation, and returns it. It
 /// doesn't sync, and no other sector is written.
 ///
 /// # Errors
 ///
-/// `Worn` where the generation is `u64::MAX`, with the disk as it was; `Device` where the write failed.
+/// `Worn` if the generation is `u64::MAX`, with the disk unchanged; `Device` if the write failed.
 pub fn write_next<D: Disk>(disk: &mut D, root: &Root) -> Result<Root, RootFault>
     requires slots { 2 < D.sectors disk.old }
     requires half { root.now.half ≤ 1 }

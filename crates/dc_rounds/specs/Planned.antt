@@ -16,7 +16,7 @@ use Rattle.dc_rounds.specs.declared.station.Station.{Station}
 
 -- ---- the meters of a line
 
--- where none is named, all are wanted
+-- if none is named, all are wanted
 abbrev pub is_wanted : List Identity → Identity → Bool
 is_wanted only meter = length only == 0 || list_any (λ named. is_eq (identity_cmp named meter)) only
 
@@ -58,12 +58,12 @@ abbrev pub refusal_line : Identity → Option StartFault → List ℕ
 refusal_line meter None = []
 refusal_line meter (Some fault) = told_line 0 (was_refused meter (Start fault))
 
--- a line of text for each naming of such a meter, in order
+-- a line of text each time such a meter is named, in order
 abbrev pub refused_text : (ℕ → Bool) → State → List Identity → List ℕ
 refused_text connected state only =
     flat_map (λ meter. refusal_line meter (refusal_of connected state meter)) only
 
--- how many lines these are
+-- number of these lines
 abbrev pub refused_count : (ℕ → Bool) → State → List Identity → ℕ
 refused_count connected state only =
     length (filter (λ meter. is_some (refusal_of connected state meter)) only)

@@ -100,7 +100,7 @@ abbrev pub uncounted : Result ℕ CommitFault → Result (Unit {0}) CommitFault
 uncounted (Ok count) = Ok tt
 uncounted (Err fault) = Err fault
 
--- as many telegrams may be pending
+-- maximum number of pending telegrams
 abbrev pub most_pending : ℕ
 most_pending = 4
 
@@ -131,7 +131,7 @@ pub record AreStored {B : Type 0} (stored : Result ℕ CommitFault)
   pub each : (k : ℕ) (d : Station B) → k < length olds
       → IsStored stored (slice_index_or olds k d) (slice_index_or news k d)
 
--- there are eight lines
+-- number of lines
 abbrev pub most_lines : ℕ
 most_lines = 8
 
@@ -198,7 +198,7 @@ pub record AllTells {B : Type 0} (g : Bus B) (olds news : List (Station B))
   pub rounds : (tries : ℕ) → Rounds g tries olds news happened
   pub written : AreWritten wrote was now core happened
 
--- how many late answers were dropped on a line, where there were any
+-- the number of late answers that were dropped on a line, if any
 abbrev pub late_line : ℕ → ℕ → List ℕ
 late_line line zero = []
 late_line line (suc n) = codes "LATE" ++ number_word line ++ number_word (suc n) ++ codes "\n"

@@ -1,4 +1,4 @@
--- What goes over the bus of a line (this product).
+-- The exchanges over the bus of a line (this product).
 use Rattle.std.specs.Prelude.{◌≡◌, ◌≢◌, ℕ, Bool, true, false, List, [], ◌∷◌, None, Some, Result}
 use Rattle.std.specs.Prelude.{Err}
 use Rattle.dc_address.specs.declared.identity.Identity.{Identity}
@@ -12,15 +12,16 @@ use Rattle.dc_rounds.specs.Happening.{Told, is_lost, Happening, does, tells}
 use Rattle.dc_rounds.specs.declared.phase.Request.{Request}
 use Rattle.dc_rounds.specs.declared.phase.Request.TheVariants.{Quiet, Sent, Answered}
 
--- how a line is found: its bus, its request, and whether it was written that it is lost
+-- the state of a line: its bus, its request, and whether its loss was written
 pub record Talk (B : Type 0) : Type 0 where
   pub bus : B
   pub request : Request
   pub said : Bool
 
--- THE TALK ON A BUS, by what happens on its line. Each request that is asked is sent, and no other. What the bus
--- gives of it is heard, once, and only then the next one is sent. A readout begins only where the bus is ready, and
--- one that isn't settles before. By nothing else the bus is touched. That it is lost is written once, where it is.
+-- THE TALK ON A BUS, by what happens on its line. The requests of the readouts are sent, and no
+-- others. The answer is taken once, and only then the next request is sent. A readout begins only
+-- if the bus is ready; a bus that isn't settles first. Nothing else touches the bus. The loss of
+-- the line is written once.
 pub data Talks {B : Type 0} (g : Bus B) (line : ℕ)
     : Talk B → List Happening → Talk B → Type 0 where
   rests : {last : Talk B} → Talks g line last [] last

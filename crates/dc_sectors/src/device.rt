@@ -41,7 +41,7 @@ pub trait Disk {
     fn count(&self) -> u32
         ensures { result ≡ sectors self.now };
 
-    /// Reads a sector. A failure leaves everything as it was, but for the count of failures.
+    /// Reads a sector. A failure changes nothing but the count of failures.
     fn read(&mut self, n: u32) -> Result<[u8; 512], ReadFault>
         requires { n < sectors self.old }
         ensures answer { keeps self.new → Answers (reads self.old n) result }
@@ -57,8 +57,8 @@ pub trait Disk {
         ensures failed { IsErrOf result ReadFailed
             → HasRisen (failures self.old) (failures self.new) };
 
-    /// Writes a sector, which stays one of the sector's possible contents until a sync. A write that failed may
-    /// have been made, in part too.
+    /// Writes a sector. The bytes are one of the sector's possible contents until a sync. A write
+    /// that failed may have been made, wholly or in part.
     fn write(&mut self, n: u32, bytes: &[u8; 512]) -> Result<(), Failed>
         requires { n < sectors self.old }
         ensures before { keeps self.new → keeps self.old }
@@ -75,8 +75,8 @@ pub trait Disk {
         ensures passed { OnOk result (failures self.new ≡ failures self.old) }
         ensures failed { OnErr result (HasRisen (failures self.old) (failures self.new)) };
 
-    /// Leaves what each sector reads as its only possible contents. One that failed changes nothing, but for the
-    /// count of failures.
+    /// Makes what each sector reads its only possible contents. A sync that failed changes nothing
+    /// but the count of failures.
     fn sync(&mut self) -> Result<(), Failed>
         ensures before { keeps self.new → keeps self.old }
         ensures reads { reads self.new ≡ reads self.old }

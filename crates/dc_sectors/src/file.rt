@@ -23,8 +23,9 @@ use std::rt::Files;
 
 /// A disk over a file: sector n is the 512 bytes from byte 512 n on.
 ///
-/// A read, a write or a sync is one call of the file. Each fault of the file is a counted failure, also a short read
-/// and a short write. A sector of a file is never `Unreadable`. After a sync that failed every call fails.
+/// A read, a write or a sync is one call of the file. Each fault of the file is a counted failure,
+/// including a short read or a short write. A sector of a file is never `Unreadable`. After a sync
+/// that failed every call fails.
 ///
 /// That the file keeps the disk model is a hypothesis on its calls so far: `KeepsRule` of
 /// specs/File.
@@ -56,7 +57,7 @@ impl<C: FileCalls + Drop> Model for DiskOver<C> {
 }
 
 impl<F: FileExt + OpenFile + Drop, S: Start> DiskOver<Logged<F, S>> {
-    /// A disk over the file at that path, which has to be there and to be open to reading and writing.
+    /// Opens the file at that path, which must exist and be readable and writable, as a disk.
     pub fn open<R: Files<File = F>, P: AsPath>(
         rt: &R,
         path: P,
@@ -66,8 +67,8 @@ impl<F: FileExt + OpenFile + Drop, S: Start> DiskOver<Logged<F, S>> {
         Self::new(OpenOptions::new().read(true).write(true).open(rt, path)?)
     }
 
-    /// A disk over an open file, which has a sector for each 512 bytes of the file's length now, and at
-    /// most `u32::MAX`. Bytes past the last whole sector are left alone.
+    /// Returns a disk over an open file, with a sector for each 512 bytes of the file's current
+    /// length, and at most `u32::MAX`. Bytes after the last whole sector are left alone.
     pub fn new(file: F) -> io::Result<DiskOver<Logged<F, S>>>
         ensures { IfOk result (λ disk. IsOpened [] disk) }
     {
@@ -76,7 +77,8 @@ impl<F: FileExt + OpenFile + Drop, S: Start> DiskOver<Logged<F, S>> {
 }
 
 impl<C: FileCalls + Drop> DiskOver<C> {
-    /// A disk over a file, which has a sector for each 512 bytes of the file's length now, and at most `u32::MAX`.
+    /// Returns a disk over a file, with a sector for each 512 bytes of the file's current length,
+    /// and at most `u32::MAX`.
     pub fn over(mut file: C) -> io::Result<DiskOver<C>>
         ensures { IfOk result (λ disk. IsOpened (C.history file) disk) }
     {
@@ -185,7 +187,7 @@ fn position(n: u32) -> u64
     512 * u64::from(n)
 }
 
-// A call of the file took or gave all 512 bytes.
+// Whether a call of the file transferred all 512 bytes.
 fn is_whole(answer: &io::Result<usize>) -> bool
     ensures { result ≡ is_all (value_of answer.now) }
 {
@@ -278,9 +280,9 @@ impl<C: FileCalls + Drop> Disk for DiskOver<C> {
         self.write_sector(n, bytes)
     }
 
-    /// `sync_data` is enough: it makes all durable that a later read of the sectors needs, and leaves out
-    /// the file's times alone, as the file keeps its length. After a sync that failed every call fails,
-    /// since the system may then have dropped what was written, and say so only once.
+    /// `sync_data` is enough: it makes durable all that a later read of the sectors needs, and
+    /// omits only the file's times, since the file keeps its length. After a sync that failed every
+    /// call fails, since the system may have dropped the written bytes, and reports it only once.
     fn sync(&mut self) -> Result<(), Failed>
         ensures made { IsSyncOf self.old result self.new.calls }
         ensures ok { OnOk result (self.new ≡ record self.old { calls = self.new.calls }) }
