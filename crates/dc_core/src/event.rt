@@ -11,7 +11,7 @@ pub enum Event<'a> {
         line: u8,
         meter: Identity,
     },
-    /// A line's request is asked for.
+    /// The request of a line is asked for.
     Ask {
         line: u8,
     },
@@ -23,7 +23,7 @@ pub enum Event<'a> {
     },
     /// The pending changes are written.
     Commit,
-    /// A line of the office comes, without its line end.
+    /// A line of the billing office, without its line end.
     Office {
         text: &'a [u8],
     },

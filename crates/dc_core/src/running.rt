@@ -19,8 +19,8 @@ impl<D: Disk + Drop, A: Allocator + Copy> Concentrator<D, A> {
     /// Does the events in order, and writes the text of each answer.
     ///
     /// # Errors
-    /// `WriteFault` where the writer failed. The event at which it did is done, and none after it; how much of the
-    /// text was written isn't known.
+    /// `WriteFault` if the writer failed. The event at which it did is done, and none after it; how
+    /// much of the text was written isn't known.
     pub fn run<W: Sink>(&mut self, events: &[Event<'_>], out: &mut W) -> Result<(), WriteFault>
         // After whatever went before in this life, the events make a chain of steps, and what is written is its text.
         ensures ran { (origin : D) (state : State) (before : List Turn)

@@ -1,4 +1,4 @@
-//! The line of text of each answer.
+//! Writes the line of text of each answer.
 
 ghost use Rattle.std.specs.Prelude.{◌≡◌, ◌++◌, codes};
 ghost use Rattle.dc_io.specs.Written.{Wrote};
@@ -18,7 +18,7 @@ fn put_refused<W: Sink>(out: &mut W, number: u8, name: &str) -> Result<(), IoFau
     put_fault_line(out, b"REFUSED", number, name)
 }
 
-/// The text of the answer to [`Concentrator::start`](crate::Concentrator::start): a line.
+/// Writes the line of the answer to [`Concentrator::start`](crate::Concentrator::start).
 pub fn put_started<W: Sink>(out: &mut W, answer: Result<(), StartFault>) -> Result<(), IoFault>
     ensures { Wrote W.Sink result out.old out.new (started_text answer) }
 {
@@ -28,7 +28,7 @@ pub fn put_started<W: Sink>(out: &mut W, answer: Result<(), StartFault>) -> Resu
     }
 }
 
-/// The text of the answer to [`Concentrator::ask`](crate::Concentrator::ask): a line.
+/// Writes the line of the answer to [`Concentrator::ask`](crate::Concentrator::ask).
 #[tactic(auto, using(dc_io::proofs::Pieces::written))]
 pub fn put_asked<W: Sink>(out: &mut W, answer: Option<FrameBuf>) -> Result<(), IoFault>
     ensures { Wrote W.Sink result out.old out.new (asked_text answer) }
@@ -75,7 +75,7 @@ fn put_part<W: Sink>(out: &mut W, part: u8, more: bool) -> Result<(), IoFault>
     }
 }
 
-/// The text of the answer to [`Concentrator::hear`](crate::Concentrator::hear): a line.
+/// Writes the line of the answer to [`Concentrator::hear`](crate::Concentrator::hear).
 pub fn put_heard<W: Sink>(out: &mut W, answer: Result<LineHeard, HearFault>) -> Result<(), IoFault>
     ensures { Wrote W.Sink result out.old out.new (heard_text answer) }
 {
@@ -88,7 +88,7 @@ pub fn put_heard<W: Sink>(out: &mut W, answer: Result<LineHeard, HearFault>) -> 
     }
 }
 
-/// The text of the answer to [`Concentrator::commit`](crate::Concentrator::commit): a line.
+/// Writes the line of the answer to [`Concentrator::commit`](crate::Concentrator::commit).
 #[tactic(auto, using(dc_io::proofs::Pieces::written))]
 pub fn put_committed<W: Sink>(
     out: &mut W,

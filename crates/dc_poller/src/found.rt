@@ -44,7 +44,7 @@ pub fn put_search_after<A: Allocator + Copy, W: Sink>(
     put_rest(search, before + search.selections(), out)
 }
 
-// What comes after the meters found.
+// Writes what follows the meters found.
 #[tactic(auto, using(dc_io::proofs::Pieces::written))]
 fn put_rest<A: Allocator + Copy, W: Sink>(
     search: &Search<A>,

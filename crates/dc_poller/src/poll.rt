@@ -31,8 +31,8 @@ use std::alloc::Allocator;
 // parts, and one more look.
 const MOST_ROUNDS: usize = 103;
 
-/// Reads a meter over a bus line, at a moment. The bus settles first, so that the readout begins where no answer is
-/// under way.
+/// Reads a meter over a bus line, with this time stamp. The bus settles first, so that no answer is
+/// under way when the readout begins.
 pub fn poll<D: Disk + Drop, A: Allocator + Copy, B: ScriptBus, W: Sink>(
     port: Port,
     concentrator: &mut Concentrator<D, A>,
@@ -61,7 +61,8 @@ pub fn poll<D: Disk + Drop, A: Allocator + Copy, B: ScriptBus, W: Sink>(
     }
 }
 
-// No answer of a gateway is under way, as each is ended. Where another bus is lost over it, that is printed.
+// Blocks mark the end of a gateway's answer, so none is under way. If another bus is lost, that is
+// printed.
 fn settle_bus<B: ScriptBus, W: Sink>(port: Port, bus: &mut B, out: &mut W) -> Result<(), IoFault>
     ensures gateway { port.is_gateway ≡ true → bus.new ≡ bus.old }
     ensures settled { port.is_gateway ≡ false
@@ -84,7 +85,7 @@ fn settle_bus<B: ScriptBus, W: Sink>(port: Port, bus: &mut B, out: &mut W) -> Re
     put_lost(port, out)
 }
 
-// The readout of a meter, over a bus that has settled.
+// Reads a meter, over a bus that has settled.
 fn start_and_read<D: Disk + Drop, A: Allocator + Copy, B: ScriptBus, W: Sink>(
     port: Port,
     concentrator: &mut Concentrator<D, A>,
@@ -116,7 +117,7 @@ fn start_and_read<D: Disk + Drop, A: Allocator + Copy, B: ScriptBus, W: Sink>(
     }
 }
 
-// Round after round.
+// Goes from round to round.
 fn read_parts<D: Disk + Drop, A: Allocator + Copy, B: ScriptBus, W: Sink>(
     port: Port,
     concentrator: &mut Concentrator<D, A>,
@@ -151,7 +152,8 @@ fn read_parts<D: Disk + Drop, A: Allocator + Copy, B: ScriptBus, W: Sink>(
     Ok(())
 }
 
-// One round: a request and its answer, which is committed where it is a part. Tells whether the poll goes on.
+// One round: a request and its answer, which is committed if it is a part. Returns whether the poll
+// goes on.
 fn ask_and_hear<D: Disk + Drop, A: Allocator + Copy, B: ScriptBus, W: Sink>(
     port: Port,
     concentrator: &mut Concentrator<D, A>,
@@ -182,7 +184,7 @@ fn ask_and_hear<D: Disk + Drop, A: Allocator + Copy, B: ScriptBus, W: Sink>(
     }
 }
 
-// A request's way over the bus, and the answer's way back.
+// Sends a request over the bus, and takes the answer.
 fn exchange<D: Disk + Drop, A: Allocator + Copy, B: ScriptBus, W: Sink>(
     port: Port,
     concentrator: &mut Concentrator<D, A>,
@@ -212,7 +214,7 @@ fn exchange<D: Disk + Drop, A: Allocator + Copy, B: ScriptBus, W: Sink>(
     }
 }
 
-// The answer of the bus. Where the bus is lost over it, that is printed.
+// Sends the request, and returns the bus's answer. If the bus is lost, that is printed.
 fn ask_bus<B: ScriptBus, W: Sink>(
     port: Port,
     bus: &mut B,
@@ -242,7 +244,8 @@ fn ask_bus<B: ScriptBus, W: Sink>(
     }
 }
 
-// Hears an answer. Where too much waits, that is committed, and the answer is heard once more.
+// Takes an answer. If the maximum number of changes is pending, they are committed, and the answer
+// is taken again.
 fn hear<D: Disk + Drop, A: Allocator + Copy, W: Sink>(
     port: Port,
     concentrator: &mut Concentrator<D, A>,
@@ -274,7 +277,7 @@ fn hear<D: Disk + Drop, A: Allocator + Copy, W: Sink>(
     }
 }
 
-// Makes room, and hears the answer again.
+// Makes room, and takes the answer again.
 fn hear_again<D: Disk + Drop, A: Allocator + Copy, W: Sink>(
     port: Port,
     concentrator: &mut Concentrator<D, A>,
@@ -303,7 +306,7 @@ fn hear_again<D: Disk + Drop, A: Allocator + Copy, W: Sink>(
     }
 }
 
-// The answer that there is room for now.
+// Takes the answer for which room was made.
 fn hear_once_more<D: Disk + Drop, A: Allocator + Copy, W: Sink>(
     port: Port,
     concentrator: &mut Concentrator<D, A>,
@@ -329,7 +332,7 @@ fn hear_once_more<D: Disk + Drop, A: Allocator + Copy, W: Sink>(
     }
 }
 
-// Commits a part that was accepted. Tells whether the poll goes on.
+// Commits a part that was accepted. Returns whether the poll goes on.
 fn after_heard<D: Disk + Drop, A: Allocator + Copy, W: Sink>(
     concentrator: &mut Concentrator<D, A>,
     answer: Result<LineHeard, HearFault>,

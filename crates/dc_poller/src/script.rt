@@ -152,7 +152,7 @@ fn run_plain<D: Disk + Drop, A: Allocator + Copy, B: ScriptBus + Drop, W: Sink>(
 
 // ---- over the bus of a line
 
-// A poll.
+// Executes a `POLL`.
 fn poll_line<D: Disk + Drop, A: Allocator + Copy, B: ScriptBus + Drop, W: Sink>(
     concentrator: &mut Concentrator<D, A>,
     slots: &mut [Option<Slot<B>>],
@@ -178,7 +178,7 @@ fn poll_line<D: Disk + Drop, A: Allocator + Copy, B: ScriptBus + Drop, W: Sink>(
     }
 }
 
-// A poll over a line that may have a bus.
+// Executes a `POLL` over a line that may have a bus.
 fn poll_slot<D: Disk + Drop, A: Allocator + Copy, B: ScriptBus + Drop, W: Sink>(
     concentrator: &mut Concentrator<D, A>,
     slot: &mut Option<Slot<B>>,
@@ -210,7 +210,7 @@ fn poll_slot<D: Disk + Drop, A: Allocator + Copy, B: ScriptBus + Drop, W: Sink>(
     }
 }
 
-// A search.
+// Executes a `SEARCH`.
 fn search_line<D: Disk + Drop, A: Allocator + Copy, B: ScriptBus + Drop, W: Sink>(
     alloc: A,
     concentrator: &mut Concentrator<D, A>,
@@ -239,7 +239,7 @@ fn search_line<D: Disk + Drop, A: Allocator + Copy, B: ScriptBus + Drop, W: Sink
     }
 }
 
-// A search over a line that may have a bus.
+// Executes a `SEARCH` over a line that may have a bus.
 fn search_slot<D: Disk + Drop, A: Allocator + Copy, B: ScriptBus + Drop, W: Sink>(
     alloc: A,
     concentrator: &mut Concentrator<D, A>,
@@ -276,14 +276,14 @@ fn search_slot<D: Disk + Drop, A: Allocator + Copy, B: ScriptBus + Drop, W: Sink
     }
 }
 
-// A line has no bus.
+// Writes that a line has no bus.
 fn put_no_bus<W: Sink>(out: &mut W) -> Result<(), IoFault>
     ensures { Wrote W.Sink result out.old out.new no_gateway }
 {
     out.put(b"NO GATEWAY\n")
 }
 
-// Where the slot of a line lies among this many. They are numbered from 1.
+// The index of a line's slot among this many. Lines are numbered from 1.
 fn index_of(line: u8, count: usize) -> Option<usize>
     ensures found { IfSome result (λ at. (at < count) × (line ≡ suc at)) }
     ensures none { IfNone result ((line ≡ 0) ⊎ (count < line)) }
@@ -296,7 +296,7 @@ fn index_of(line: u8, count: usize) -> Option<usize>
 
 // ---- events
 
-// One event, and the text of its answer.
+// Executes one event, and writes the text of its answer.
 fn run_event<D: Disk + Drop, A: Allocator + Copy, W: Sink>(
     concentrator: &mut Concentrator<D, A>,
     event: &Event<'_>,
@@ -317,7 +317,7 @@ fn run_event<D: Disk + Drop, A: Allocator + Copy, W: Sink>(
     }
 }
 
-// The moment after a line.
+// The script's time after a line.
 fn moment_behind(asked: &ScriptLine<'_>, moment: Moment) -> Moment
     ensures { result.seconds ≡ moment_behind moment.seconds (seen asked.now) }
 {

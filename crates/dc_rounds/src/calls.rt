@@ -40,7 +40,7 @@ pub fn ask<D: Disk + Drop, A: Allocator + Copy>(
     concentrator.ask(line)
 }
 
-/// Hears an answer on a line.
+/// Takes an answer on a line.
 pub fn hear<D: Disk + Drop, A: Allocator + Copy>(
     concentrator: &mut Concentrator<D, A>,
     line: u8,
@@ -55,7 +55,7 @@ pub fn hear<D: Disk + Drop, A: Allocator + Copy>(
     concentrator.hear(line, moment, bytes)
 }
 
-/// Commits what is pending.
+/// Commits the pending changes.
 pub fn commit<D: Disk + Drop, A: Allocator + Copy>(
     concentrator: &mut Concentrator<D, A>,
 ) -> Result<usize, CommitFault>

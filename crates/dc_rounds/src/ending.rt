@@ -13,7 +13,7 @@ use dc_address::Identity;
 use dc_io::{IoFault, Sink, put_fault, put_number_word};
 use dc_readout::Why;
 
-/// `READ ident serial parts`.
+/// Writes `READ ident serial parts`.
 #[tactic(auto, using(dc_io::proofs::Pieces::written))]
 pub fn put_read<W: Sink>(
     out: &mut W,
@@ -31,7 +31,7 @@ pub fn put_read<W: Sink>(
     out.put(b"\n")
 }
 
-/// `FAILED ident n Name`.
+/// Writes `FAILED ident n Name`.
 #[tactic(auto, using(dc_io::proofs::Pieces::written))]
 pub fn put_failed<W: Sink>(out: &mut W, meter: &Identity, why: Why) -> Result<(), IoFault>
     ensures { Wrote W.Sink result out.old out.new
@@ -73,7 +73,7 @@ fn put_why<W: Sink>(out: &mut W, why: Why) -> Result<(), IoFault>
     put_fault(out, fault.number(), fault.name())
 }
 
-/// `REFUSED ident n Name`.
+/// Writes `REFUSED ident n Name`.
 #[tactic(auto, using(dc_io::proofs::Pieces::written))]
 pub fn put_refused<W: Sink>(out: &mut W, meter: &Identity, refusal: Refusal) -> Result<(), IoFault>
     ensures { Wrote W.Sink result out.old out.new
@@ -118,7 +118,7 @@ fn put_refusal<W: Sink>(out: &mut W, refusal: Refusal) -> Result<(), IoFault>
     }
 }
 
-/// `LINE n LOST`.
+/// Writes `LINE n LOST`.
 #[tactic(auto, using(dc_io::proofs::Pieces::written))]
 pub fn put_lost<W: Sink>(out: &mut W, line: u8) -> Result<(), IoFault>
     ensures { Wrote W.Sink result out.old out.new (told_line line is_lost) }
@@ -128,7 +128,7 @@ pub fn put_lost<W: Sink>(out: &mut W, line: u8) -> Result<(), IoFault>
     out.put(b" LOST\n")
 }
 
-/// `LATE line n`, where n isn't 0.
+/// Writes `LATE line n`, unless n is 0.
 #[tactic(auto, using(dc_io::proofs::Pieces::written))]
 pub fn put_late<W: Sink>(out: &mut W, line: u8, count: u64) -> Result<(), IoFault>
     ensures { Wrote W.Sink result out.old out.new (late_line line count) }
@@ -142,7 +142,7 @@ pub fn put_late<W: Sink>(out: &mut W, line: u8, count: u64) -> Result<(), IoFaul
     out.put(b"\n")
 }
 
-/// `END read failed`.
+/// Writes `END read failed`.
 #[tactic(auto, using(dc_io::proofs::Pieces::written))]
 pub fn put_end<W: Sink>(out: &mut W, read: u64, failed: u64) -> Result<(), IoFault>
     ensures { Wrote W.Sink result out.old out.new (end_line read failed) }

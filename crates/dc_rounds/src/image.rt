@@ -35,14 +35,15 @@ use std::alloc::Allocator;
 // There are eight lines.
 const MOST_LINES: usize = 8;
 
-/// Which meters are to be read, and over which buses.
+/// The meters to read, and the buses.
 #[derive(Drop)]
 pub struct Plan<'a, A: Allocator, B: QuietBus + Drop> {
-    /// The buses of lines 1, 2 and so on, of which eight are taken. One that is lost from the start stands for no bus.
+    /// The buses of lines 1, 2 and so on, of which eight are used. A bus that is lost from the
+    /// start counts as none.
     pub buses: Vec<B, A>,
-    /// The meters that are to be read; where none is named, all of the lines that have a bus.
+    /// The meters to read; if empty, all meters of the lines that have a bus.
     pub only: &'a [Identity],
-    /// How often each is started at most, from 1.
+    /// Maximum number of starts of each meter, at least 1.
     pub tries: u8,
 }
 

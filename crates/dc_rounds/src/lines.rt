@@ -17,7 +17,7 @@ use dc_line::QuietBus;
 use dc_sectors::Disk;
 use std::alloc::Allocator;
 
-// This many telegrams may be pending at once.
+// Maximum number of pending telegrams.
 const MOST_PENDING: u8 = 4;
 
 // The line of the station at this place.
@@ -62,7 +62,7 @@ fn store_all<B: QuietBus + Drop>(
     }
 }
 
-/// Commits what is pending.
+/// Commits the pending changes.
 pub fn commit_all<D: Disk + Drop, A: Allocator + Copy, B: QuietBus + Drop>(
     concentrator: &mut Concentrator<D, A>,
     stations: &mut [Station<'_, B>],

@@ -1,4 +1,4 @@
-//! How readouts ended is written, and that a line is lost.
+//! Writes the ends of readouts, and the loss of a line.
 
 ghost use Rattle.std.specs.Prelude.{◌≡◌, ◌<◌, ◌≤◌, ◌-◌, ◌+◌, ◌^◌, ℕ, OnOk, OnErr, length, true};
 ghost use Rattle.std.specs.List.{All};
@@ -109,7 +109,8 @@ fn tell_loss<D: Disk + Drop, A: Allocator + Copy, B: QuietBus + Drop, W: Sink>(
     put_lost(out, line)
 }
 
-/// What is to be written of a line after a commit: how the readout of a meter ended, and that the line is lost.
+/// Writes the text of a line after a commit: the end of a meter's readout, and the loss of the
+/// line.
 fn tell<D: Disk + Drop, A: Allocator + Copy, B: QuietBus + Drop, W: Sink>(
     concentrator: &Concentrator<D, A>,
     station: &mut Station<'_, B>,
@@ -137,7 +138,7 @@ fn tell<D: Disk + Drop, A: Allocator + Copy, B: QuietBus + Drop, W: Sink>(
     }
 }
 
-/// The same of all lines.
+/// Writes the text of all lines after a commit.
 pub fn tell_all<D: Disk + Drop, A: Allocator + Copy, B: QuietBus + Drop, W: Sink>(
     concentrator: &Concentrator<D, A>,
     stations: &mut [Station<'_, B>],

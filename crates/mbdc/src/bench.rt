@@ -15,7 +15,7 @@ use std::io::{LineWriter, Write};
 use std::net::{Net, TcpStream};
 use std::rt::{Clock, Files};
 
-// A bus that is asked alone.
+// A bus that is used alone.
 type OneBus<'a, C> = ScriptLink<SystemBus<'a, C>, Waiter>;
 
 /// Searches a bus for meters, and prints those that it finds.
@@ -82,7 +82,7 @@ where
     }
 }
 
-// The bus of a link, once nothing is under way on it.
+// Returns the bus of a link, once no answer is under way on it.
 fn quiet_bus<'b, C: Clock + Copy>(
     clock: &C,
     peer: &'b Peer<C>,
@@ -96,7 +96,7 @@ fn quiet_bus<'b, C: Clock + Copy>(
     Ok(ScriptLink { both })
 }
 
-// A meter without an identity is asked for it.
+// Identifies a meter that is named by its primary address.
 fn read_named<B: Bus, W: Sink>(
     bus: &mut B,
     meter: MeterName,
@@ -114,7 +114,7 @@ fn read_named<B: Bus, W: Sink>(
     }
 }
 
-// How it ends: what is held back goes out, late answers are counted, and a lost link is named.
+// Ends the command: flushes the output, prints the number of late answers, and names a lost link.
 fn end_of<'a, C: Clock + Copy, W: Write + Drop>(
     why: &Why,
     bus: &OneBus<'_, C>,

@@ -14,7 +14,7 @@ use std::os::unix::fs::FileExt;
 use std::rt::Files;
 use std::{fs, io};
 
-/// The fewest and the most sectors that an image has.
+/// Minimum and maximum number of sectors of an image.
 pub const SECTORS: (i64, i64) = (131, 131_075);
 
 /// Formats an image of that many sectors in the file of that name.
@@ -48,7 +48,7 @@ fn format_in_place<'a, R: Files<File = File>>(
     formatted_as(host.why, name, formatted)
 }
 
-// How it ends.
+// The ending of `format`.
 fn formatted_as<'a>(
     why: &Why,
     name: &'a str,
@@ -61,7 +61,8 @@ fn formatted_as<'a>(
     }
 }
 
-// Formats a file that holds zeros alone. An image is named, and whatever else a file holds is kept.
+// Formats a file that holds only zeros. If it holds an image, that is reported, and any other
+// content is kept.
 fn format_blank(why: &Why, file: File, length: u64) -> io::Result<Option<FormatFault>> {
     if is_blank(&file, length)? {
         return format_file(why, file, length);
@@ -85,7 +86,7 @@ fn other_length() -> io::Error {
     io::Error::new(ErrorKind::InvalidInput, "it has another length")
 }
 
-// Whether a file of that length holds zeros alone, as `truncate` makes it.
+// Whether a file of that length holds only zeros, as `truncate` makes it.
 fn is_blank(file: &File, length: u64) -> io::Result<bool> {
     if file.metadata()?.len() != length {
         return Err(other_length());
@@ -100,7 +101,7 @@ fn is_blank(file: &File, length: u64) -> io::Result<bool> {
     Ok(true)
 }
 
-// The regular file that was seen under the name. Another one may have come there since.
+// Opens the regular file that was found under the name. Another one may have replaced it since.
 fn open_seen<R: Files<File = File>>(rt: &R, name: &str, seen: &Metadata) -> io::Result<File> {
     if !seen.is_file() {
         return Err(io::Error::new(ErrorKind::InvalidInput, "it is no regular file"));
@@ -132,7 +133,7 @@ fn make_image<'a, R: Files<File = File> + AllocGlobal>(
     formatted_as(host.why, name, formatted)
 }
 
-// The file is locked, so that nobody runs the image before `format` has ended.
+// The file is locked, so that no program runs the image before `format` has ended.
 fn put_in_place<R: Files<File = File>>(
     host: &Host<'_, R>,
     half_made: &HalfMade,

@@ -1,4 +1,4 @@
-//! The file in which `format` makes an image, until it is whole.
+//! The file in which `format` builds an image, until it is whole.
 
 use std::alloc::{AllocError, Global};
 use std::fs::{File, Metadata, OpenOptions};
@@ -7,13 +7,15 @@ use std::os::unix::fs::{MetadataExt, OpenOptionsExt};
 use std::rt::Files;
 use std::{fs, io};
 
-// Read and written by its owner alone: readings are personal data.
+// Readable and writable only by its owner: readings are personal data.
 const MODE: u32 = 0o600;
 
-// How many names are tried. One that is taken was left by a power cut, or is being made by another `format`.
+// Number of names that are tried. A name that is taken was left by a power cut, or belongs to
+// another `format`.
 const NAMES: u32 = 100;
 
-// The most bytes of the image's name in the name of its half-made file: the file systems of Linux take names of 255.
+// Maximum length of the image's name within the name of its half-made file: file systems of Linux
+// take names of 255 bytes.
 const LONGEST: usize = 230;
 
 /// A file that this run created, and holds open.
@@ -74,7 +76,7 @@ impl HalfMade {
     }
 }
 
-/// Whether both are of one file: its device and its number on it.
+/// Whether both are the same file, by device and inode number.
 pub fn is_same_file(one: &Metadata, other: &Metadata) -> bool {
     one.dev() == other.dev() && one.ino() == other.ino()
 }

@@ -2,12 +2,12 @@
 
 use crate::why::Why;
 
-/// The system, and what is noted of its calls.
+/// The system, and the record of its failed calls.
 #[derive(Clone, Copy)]
 pub struct Host<'h, R> {
     /// The system.
     pub rt: &'h R,
-    /// Where a call that failed is noted.
+    /// The record of the calls that failed.
     pub why: &'h Why,
     /// Whether standard error is a terminal.
     pub is_watched: bool,

@@ -1,4 +1,4 @@
-//! The file of an image: one program at a time has it open.
+//! Opens the file of an image, which one program at a time may have open.
 
 use std::fs::{File, OpenOptions, TryLockError};
 use std::io;
@@ -6,7 +6,8 @@ use std::io::ErrorKind;
 use std::os::fd::AsRawFd;
 use std::rt::Files;
 
-/// Opens the file to read and write, and locks it as long as it is open. Its first read is one of the drive.
+/// Opens the file to read and write, and locks it while it is open. Its first read goes to the
+/// drive.
 ///
 /// # Errors
 /// The file can't be opened or synced, or another program holds its lock. Nothing was changed then.
@@ -18,8 +19,8 @@ pub fn open_image<R: Files<File = File>>(rt: &R, name: &str) -> io::Result<File>
     Ok(file)
 }
 
-// Syncs the file, and drops its pages from the system's cache. After a sync of an earlier program failed, the cache may
-// have what the drive hasn't, and no call says so.
+// Syncs the file, and drops its pages from the system's cache. If a sync of an earlier program
+// failed, the cache may hold data that the drive lacks, and no call reports it.
 fn drop_cached(file: &File) -> io::Result<()> {
     file.sync_data()?;
     match libc::posix_fadvise(file.as_raw_fd(), 0, 0, libc::POSIX_FADV_DONTNEED) {
@@ -28,8 +29,8 @@ fn drop_cached(file: &File) -> io::Result<()> {
     }
 }
 
-/// Opens the file as the options say, and locks it as long as it is open: an exclusive advisory lock on the whole file
-/// (`flock` of Linux), which ends with the program, however that ends.
+/// Opens the file as the options state, and locks it while it is open: an exclusive advisory lock
+/// on the whole file (`flock` of Linux), which ends with the program, however that ends.
 pub fn open_locked<R: Files<File = File>>(
     rt: &R,
     options: &OpenOptions,

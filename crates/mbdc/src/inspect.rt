@@ -1,4 +1,4 @@
-//! The command `inspect`: what an image in a file holds.
+//! The command `inspect`: the contents of an image in a file.
 
 use crate::host::Host;
 use crate::image::open_locked;
@@ -14,8 +14,8 @@ use std::io;
 use std::os::unix::fs::FileExt;
 use std::rt::Files;
 
-/// Prints what the image in that file holds, or why it doesn't open. The file is opened to read alone, and locked as
-/// long as it is open.
+/// Prints the contents of the image in that file, or why it doesn't open. The file is opened
+/// read-only, and locked while it is open.
 pub fn inspect_image<'a, R>(host: &Host<'_, R>, image: &'a str) -> Ending<'a>
 where
     R: Files<File = File> + Print + AllocGlobal,

@@ -1,5 +1,5 @@
-//! `mbdc`, the data concentrator of an apartment house's wired M-Bus submeters: files, links, statuses and the one
-//! line on standard error. What a command does is a call of a library.
+//! `mbdc`, the data concentrator of an apartment house's wired M-Bus submeters: files, links, exit
+//! statuses and the one line on standard error. The commands' work is done by libraries.
 #![tactic(auto)]
 
 mod bench;
@@ -53,7 +53,7 @@ fn main(rt: HostRuntime) -> ExitCode {
     }
 }
 
-// Does what the words ask for, and says how that ended.
+// Runs the task that the words name, and reports how it ended.
 fn answer(rt: &HostRuntime, call: &Call<'_>) -> ExitCode {
     let why = Why::new();
     let host = Host {

@@ -29,7 +29,7 @@ use std::time::{SystemTime, UNIX_EPOCH};
 #[derive(Drop)]
 struct SystemTimer<'p, 'h, C: Clock + Copy> {
     clock: C,
-    // The last moment that the clock gave; it stays where the clock fails.
+    // The last time that the clock returned; it stays if the clock fails.
     last: Moment,
     progress: &'p Progress<'h, C>,
 }
@@ -63,8 +63,8 @@ impl<C: Clock + Copy + Eprint> Timer<SystemBus<'_, C>> for SystemTimer<'_, '_, C
     }
 }
 
-/// Reads the registered meters of the image in that file over the links of their lines, or those meters alone that
-/// are named.
+/// Reads the registered meters of the image in that file over the links of their lines, or only
+/// those that are named.
 pub fn poll_on_image<'a, R>(host: &Host<'_, R>, task: &PollTask<'a>) -> Ending<'a>
 where
     R: Files<File = File> + Net<Stream = TcpStream> + Clock + Copy + Print + Eprint + AllocGlobal,

@@ -1,4 +1,4 @@
-//! The command `report`: a table of what an image in a file holds.
+//! The command `report`: a table of the contents of an image in a file.
 
 use crate::host::Host;
 use crate::image::open_image;
@@ -13,11 +13,11 @@ use std::io;
 use std::os::unix::fs::FileExt;
 use std::rt::Files;
 
-// What is wrong with a word that names no table.
+// The mistake of a word that names no table.
 const NO_TABLE: &str =
     "TABLE is neither 'register' nor a date that exists, as 2024-12-31; try mbdc --help";
 
-/// Prints the table that the word asks for, of the image in that file.
+/// Prints the table that the word names, of the image in that file.
 pub fn report_on_image<'a, R>(
     host: &Host<'_, R>,
     image: &'a str,

@@ -21,7 +21,8 @@ use std::{fs, io};
 // A bus line that has a link.
 type LineSlot<'a, C> = Slot<ScriptLink<SystemBus<'a, C>, Waiter>>;
 
-/// Runs the script over the image, from file to file, with the links of the bus lines, or the gateway of bus line 1.
+/// Runs the script over the image, from file to file, over the links of the bus lines, or the
+/// gateway of bus line 1.
 pub fn run_on_image<'a, R>(host: &Host<'_, R>, task: &RunTask<'a>) -> Ending<'a>
 where
     R: Files<File = File> + Net<Stream = TcpStream> + Clock + Copy + Print + AllocGlobal,

@@ -24,7 +24,7 @@ use std::{fs, io};
 /// Number of bytes that go to standard output at once.
 pub const ROOM: usize = 65_536;
 
-/// Does what the words ask for.
+/// Runs the task that the words name.
 pub fn run<'a, R>(host: &Host<'_, R>, task: &Task<'a>) -> Ending<'a>
 where
     R: Files<File = File>
@@ -86,7 +86,7 @@ fn work_on<'a, R: Print + AllocGlobal, F: Read + Drop>(
     ended(host.why, work(host, engine, &mut reader), name)
 }
 
-/// How a run over this input ended. An input that is too long is no fault of the system.
+/// The ending of a run over this input. An input that is too long is no fault of the system.
 pub fn ended<'a>(why: &Why, outcome: Result<bool, ProgramFault>, input: &'a str) -> Ending<'a> {
     if let Err(ProgramFault::TooLong) = outcome {
         why.say("it has more than 1 MiB");
@@ -113,7 +113,7 @@ fn work<R: Print + AllocGlobal, S: Source>(
     Ok(found)
 }
 
-/// Writes what the writer holds back.
+/// Flushes the writer.
 pub fn flushed<A: Allocator, W: Write + Drop>(
     writer: Buffered<WriteSink<W>, A>,
 ) -> Result<(), ProgramFault> {

@@ -1,4 +1,4 @@
-//! Why a run failed: what the system said of the call by which it did.
+//! Why a run failed: the system's message for the failed call.
 
 use dc_poller::Ending;
 use std::cell::Cell;
@@ -10,20 +10,20 @@ use std::os::unix::fs::FileExt;
 /// The system's message for a call that failed, and the bus line of its link.
 #[derive(Clone, Copy)]
 pub struct Reason {
-    /// The bus line, where the call was of its link.
+    /// The bus line, if the call was of its link.
     pub line: Option<u8>,
     /// The system's message.
     pub error: io::Error,
 }
 
-/// The last call that failed in a way that may end the run.
+/// The last failed call that may end the run.
 #[derive(Drop)]
 pub struct Why {
     last: Cell<Option<Reason>>,
 }
 
 impl Why {
-    /// No call failed.
+    /// Begins with no failed call.
     pub fn new() -> Self {
         Why {
             last: Cell::new(None),
@@ -35,25 +35,25 @@ impl Why {
         self.last.get()
     }
 
-    /// A call failed. One that a signal broke off is made again.
+    /// Notes a failed call. A call that a signal interrupted is repeated, and not noted.
     pub fn note(&self, error: io::Error) {
         if error.kind() != ErrorKind::Interrupted {
             self.last.set(Some(Reason { line: None, error }));
         }
     }
 
-    /// Something was refused that no call of the system refuses.
+    /// Notes a refusal that isn't the system's.
     pub fn say(&self, words: &str) {
         self.note(io::Error::new(ErrorKind::InvalidInput, words));
     }
 
-    /// How a run ends by a fault of a file.
+    /// The ending of a run by a fault of a file.
     pub fn file<'a>(&self, name: &'a str, error: io::Error) -> Ending<'a> {
         self.note(error);
         Ending::File(name)
     }
 
-    /// How a run ends by a fault of a link, of that bus line.
+    /// The ending of a run by a fault of a link, of that bus line.
     pub fn link<'a>(&self, line: Option<u8>, error: io::Error) -> Ending<'a> {
         self.last.set(Some(Reason { line, error }));
         Ending::Gateway
@@ -68,7 +68,7 @@ pub struct Noted<'w, T: Drop> {
 }
 
 impl<'w, T: Drop> Noted<'w, T> {
-    /// Notes its failed calls there.
+    /// Wraps the file or stream; its failed calls are noted in `why`.
     pub fn new(inner: T, why: &'w Why) -> Self {
         Noted { inner, why }
     }

@@ -1,4 +1,4 @@
-//! The commit of the pending changes.
+//! Commits the pending changes.
 
 ghost use Rattle.std.specs.Prelude.{◌≡◌, ◌≤◌, length, IsErrOf, OnOk};
 ghost use Rattle.dc_io.specs.Failures.{HasRisen};
@@ -51,7 +51,7 @@ impl<D: Disk + Drop, A: Allocator + Copy> Concentrator<D, A> {
             → IsWornFor (D.sectors self.old.store.disk) self.old.store
             (length self.old.waiting.bytes) }
 
-        // What fits in the half is one group more, under the same root.
+        // A group that fits in the half is appended, under the same root.
         ensures one_group { Fits (D.sectors self.old.store.disk) self.old.store
             (length self.old.waiting.bytes)
             → self.new.store.root ≡ self.old.store.root }

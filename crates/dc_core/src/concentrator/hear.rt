@@ -1,4 +1,4 @@
-//! The answers on a line.
+//! Takes the answers on a line.
 
 ghost use Rattle.std.specs.Prelude.{◌≡◌};
 ghost use Rattle.dc_core.specs.Core.{Core};

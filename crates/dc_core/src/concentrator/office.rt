@@ -1,4 +1,4 @@
-//! A line of the billing office.
+//! Answers a line of the billing office.
 
 ghost use Rattle.std.specs.Prelude.{◌≡◌, ◌⊎◌, ◌≤◌, [], false, Some, Err, OnOk, OnErr, IfErr};
 ghost use Rattle.dc_io.specs.Failures.{HasRisen};
