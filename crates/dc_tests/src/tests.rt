@@ -1,4 +1,4 @@
-//! The lives that are tried, and what is tried on them.
+//! The lives, and the faults that are tested on them.
 
 mod failures;
 mod files;
@@ -57,7 +57,7 @@ fn tries_refusals(
     Ok(())
 }
 
-/// Faults within the life; what was tried is printed.
+/// Tests faults within the life, and prints the test cases.
 fn tries_faults(rt: &(impl Abort + AllocGlobal + Print), life: &Life<'_>) -> Result<(), Fail> {
     for way in WAYS {
         tries_stops(rt, life, way)?;
@@ -66,7 +66,7 @@ fn tries_faults(rt: &(impl Abort + AllocGlobal + Print), life: &Life<'_>) -> Res
     Ok(())
 }
 
-/// Faults within the opening after a crash; what was tried is printed.
+/// Tests faults within the opening after a crash, and prints the test cases.
 fn tries_openings(rt: &(impl Abort + AllocGlobal + Print), life: &Life<'_>) -> Result<(), Fail> {
     for way in WAYS {
         let images = faults_in_the_opening(rt, rt.alloc(), life, way)?;
@@ -128,7 +128,7 @@ fn faults_in_an_image_of_version_1(rt: HostRuntime) -> Result<(), Fail> {
     tries_all(&rt, &Life::of(disk, &UPGRADED, &UPGRADED_DONE))
 }
 
-/// Each growth of the disk refused; what was tried is printed.
+/// Tests each growth of the disk refused, and prints the test cases.
 fn tries_a_full_disk(rt: &(impl Abort + AllocGlobal + Print), life: &Life<'_>) -> Result<(), Fail> {
     for way in WAYS {
         let growths = disk_refuses_everywhere(rt, rt.alloc(), life, way)?;
@@ -143,7 +143,8 @@ fn refused_growths_of_the_disk(rt: HostRuntime) -> Result<(), Fail> {
     tries_a_full_disk(&rt, &Life::of(disk, &READOUT, &READOUT_DONE))
 }
 
-/// Stops a format at these calls, of a blank disk or of one that was an image once; what was tried is printed.
+/// Lets a format crash at these calls, of a blank disk or of one that was an image once, and prints
+/// the test cases.
 fn tries_formats(rt: &(impl Abort + AllocGlobal + Print), calls: Range<u64>) -> Result<(), Fail> {
     let disk = stale(rt, rt.alloc(), &full(rt.alloc())?)?;
     let (tried, ones) = formats_stopped(rt, rt.alloc(), &disk, calls)?;

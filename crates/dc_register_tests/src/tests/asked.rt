@@ -1,4 +1,4 @@
-//! What is asked of a house agrees with what its meters and readings show, after each of many changes.
+//! The queries of a house agree with its meters and readings, after each of many changes.
 
 use super::told::{BUDGET, FIRST, FIT, LAST, Told, all_done, behind, tell};
 use dc_address::{Identity, Primary};
@@ -70,7 +70,7 @@ fn nothing_is_beyond<A: Allocator + Copy>(rt: &impl Abort, house: &House<A>) {
     assert!(rt; house.reading(house.confirmed()).is_none());
 }
 
-// Each call by a serial says what the readings do.
+// Each query by a serial agrees with the readings.
 fn serials_agree<A: Allocator + Copy>(rt: &impl Abort, house: &House<A>) {
     let mut left = house.readings().len();
     for reading in house.readings() {
@@ -80,7 +80,7 @@ fn serials_agree<A: Allocator + Copy>(rt: &impl Abort, house: &House<A>) {
     nothing_is_beyond(rt, house);
 }
 
-// So does the order by meter.
+// So does the index by meter.
 fn meters_agree<A: Allocator + Copy>(rt: &impl Abort, house: &House<A>) -> Result<(), Fail> {
     for n in 0..METERS {
         let meter = meter(n)?;
@@ -118,7 +118,7 @@ fn day_agrees<A: Allocator + Copy>(
     assert_eq!(rt; serials.next(), None);
 }
 
-// So does the order by due date.
+// So does the index by due date.
 fn days_agree<A: Allocator + Copy>(rt: &impl Abort, house: &House<A>) -> Result<(), Fail> {
     for day in 30..32u8 {
         let date = Date::new(2024, 12, day).ok_or("date")?;

@@ -32,7 +32,7 @@ fn pick_of(way: usize, writes: usize) -> Pick
     }
 }
 
-/// The picks of the image of that number, whose digits are what becomes of the sectors.
+/// The picks of the image of that number, whose digits are the contents of the sectors.
 fn picks_of(
     heap: Global,
     pending: &[(u32, usize)],

@@ -1,4 +1,4 @@
-//! What two lives leave in the halves is no group.
+//! The remains of two lives in the halves are no group.
 
 use super::images::stop_at;
 use super::life::{

@@ -13,7 +13,7 @@ use std::test::Fail;
 
 pub const FIT: &[u8] = b"1 FIT 12345678.PAD.01.07 1 1 A1";
 
-/// A store that is open, and the house beside it.
+/// An open store, and the house beside it.
 #[derive(Drop)]
 pub struct Life {
     pub store: Store<MemoryDisk<Global>>,

@@ -53,7 +53,7 @@ fn comes_again(
     }
 }
 
-/// So many calls pass and the next one fails, and no other: whether one failed.
+/// This many calls pass and only the next one fails: whether one failed.
 fn fails_at(
     rt: &impl Abort,
     heap: Global,

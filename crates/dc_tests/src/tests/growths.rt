@@ -54,7 +54,7 @@ fn goes_on(
     Ok(refused)
 }
 
-/// The growth of that number is refused: whether there is one.
+/// The growth of that number is refused: whether it exists.
 fn refuses_at(
     rt: &impl Abort,
     alloc: Global,
@@ -93,7 +93,8 @@ pub fn refuses_everywhere(
     Err(Fail::from("a growth is refused in each life"))
 }
 
-/// The growth of the disk of that number is refused, in a life that begins with a blank image: whether there is one.
+/// The growth of the disk of that number is refused, in a life that begins with a blank image:
+/// whether it exists.
 fn disk_refuses_at(
     rt: &impl Abort,
     alloc: Global,

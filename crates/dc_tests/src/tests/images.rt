@@ -18,7 +18,7 @@ const OLD: usize = 0;
 /// An image of a crash.
 #[derive(Clone, Copy)]
 pub enum Left {
-    /// By its number, whose digits are what becomes of the sectors.
+    /// The image by its number, whose digits are the contents of the sectors.
     Number(usize),
     /// All sectors alike, but for the one at a place among them.
     But { all: usize, at: usize, one: usize },
@@ -138,7 +138,7 @@ pub fn stopped<A: Allocator + Copy>(
     Ok(image)
 }
 
-/// The disk as it is, with no record of what came before: unsynced writes are given up.
+/// The current contents of the disk, without its record: unsynced writes are dropped.
 pub fn rested<A: Allocator + Copy>(
     heap: Global,
     disk: &MemoryDisk<A>,

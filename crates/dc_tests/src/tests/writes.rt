@@ -78,7 +78,7 @@ fn goes_on<D: Disk + Drop, A: Allocator + Copy>(
     Ok(is_broken)
 }
 
-/// The write of that number fails: whether there is one.
+/// The write of that number fails: whether it exists.
 fn breaks_at(
     rt: &impl Abort,
     heap: Global,
