@@ -1,8 +1,8 @@
 //! The readout of many meters on up to eight lines at once, round after round.
 //!
-//! In a round each line takes one step: it settles, begins its next meter and sends its request, or
-//! sends the next request. Then time passes, complete answers are taken, one commit writes all that
-//! was accepted, and the ends of readouts are written, one line of text each ([`read_all`]).
+//! In a round each line takes one step: it settles, begins its next meter and asks, or asks. Then time passes, what is
+//! complete of the answers is heard, one commit writes all that was accepted, and how readouts ended is written, a line
+//! of text each ([`read_all`]).
 #![tactic(auto)]
 
 mod calls;
