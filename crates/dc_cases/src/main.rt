@@ -1,6 +1,7 @@
-//! Runs files of test cases: each command calls the product, and what it prints is compared with what the file expects. A
-//! difference is printed on standard error with file, line, expected and got. Standard output counts the commands of each file.
-//! The words of the command line name the files; a file `*.txt` of the working folder that they don't name is an error.
+//! Runs files of test cases: each command calls the product, and what it prints is compared with
+//! what the file expects. A difference is printed on standard error with file, line, expected and
+//! got. Standard output counts the commands of each file. The words of the command line name the
+//! files; a file `*.txt` of the working folder that they don't name is an error.
 #![tactic(auto)]
 
 mod block;

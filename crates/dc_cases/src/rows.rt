@@ -1,5 +1,5 @@
-//! Commands that make one call for each line of the input: frames, bodies, records, identities, dates, commands of the office,
-//! changes and states.
+//! Commands that make one call for each line of the input: frames, bodies, records, identities,
+//! dates, commands of the office, changes and states.
 
 use crate::fault::CaseFault;
 use crate::houses::decode_state;

@@ -10,8 +10,9 @@ use dc_linkframe::control::write_reset;
 use std::alloc::Global;
 use std::str;
 
-/// Sends SND_NKE for address 1 to a gateway that gives the bytes of a line, and puts the answer or that the gateway is lost,
-/// what was sent, and how many bytes weren't read; for each line of the input.
+/// Sends SND_NKE for address 1 to a gateway that gives the bytes of a line, and puts the answer or
+/// that the gateway is lost, what was sent, and how many bytes weren't read; for each line of the
+/// input.
 pub fn put_talks(
     heap: Global,
     input: &[u8],

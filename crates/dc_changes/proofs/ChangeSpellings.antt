@@ -240,3 +240,9 @@ spells_push bytes changes change spells is = record {
   spelled = ap (λ (l : List ℕ). l ++ change_bytes change) spells.spelled ∙ flat_map_more change_bytes [] changes change;
   are_changes = All-push IsChange changes change spells.are_changes is;
 }
+
+-- how long a change is spelled
+pub ruleset change_sized = (change_some, change_len)
+
+-- changes are spelled one way
+pub ruleset spelled_apart = (changes_spelled_once, one_change)

@@ -24,3 +24,6 @@ accepts_all_parts budget s (change ∷ first) then a =
 
 pub accepts_all_of_push : (budget : ℕ) (s : State) (changes : List Change) (change : Change) → AcceptsAll budget s changes → Accepts budget change (after s changes) → AcceptsAll budget s (changes ++ change ∷ [])
 accepts_all_of_push budget s changes change so_far accepts = accepts_all_of_append budget s changes (change ∷ []) so_far (accepts, tt)
+
+-- what a list of changes is accepted by, part by part
+pub ruleset accepted = (accepts_all_of_append, accepts_all_parts, accepts_all_of_push)

@@ -115,3 +115,6 @@ state_fits {budget} {s} is = omega (arith, state_len s, is.size_fits, is.line_fi
 -- the shortest is that of the empty state
 pub state_some : (s : State) → 33 ≤ length (state_bytes s)
 state_some s = omega (arith, state_len s)
+
+-- how long a state is spelled
+pub ruleset state_sized = (state_len, state_fits, state_some)

@@ -283,3 +283,6 @@ one_line m n a b is_m is_a names_a is_n is_b names_b same =
       decimal_injective m n (omega (arith, is_m.high)) (omega (arith, is_n.high)) number.0,
       one_command a b (record { command_is = is_a; other_is = is_b; command_names = names_a; other_names = names_b; verbs = verb.0; arguments = verb.1 }),
     )
+
+-- the line of a command is read back
+pub ruleset line_read = (number_is_word, line_fits)

@@ -249,3 +249,9 @@ body_by_none text (Some body) same none = let t = body_takes text body same in a
 -- bytes that are no body
 pub body_none : (text : List ℕ) → ((body : BodyRow) → IsBody body → body.bytes ≡ text → ⊥) → body_row text ≡ None
 body_none text none = body_by_none text (body_row text) refl none
+
+-- an identity is read where it is spelled, and only there
+pub ruleset identity_read = (identity_again, identity_none)
+
+-- a body is read where it is spelled, and only there
+pub ruleset body_read = (body_again, body_none)

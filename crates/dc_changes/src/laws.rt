@@ -25,7 +25,7 @@ pub fn after_goes_by_parts()
 
 /// A list of changes is accepted if its first part is, and its second part in the state after the
 /// first; an appended change is accepted if it is in the state after the others.
-#[tactic(auto, using(crate::proofs::History::accepts_all_of_append, crate::proofs::History::accepts_all_parts, crate::proofs::History::accepts_all_of_push))]
+#[tactic(auto, using(crate::proofs::History::accepted))]
 pub fn acceptance_goes_by_parts()
     ensures append { (budget : ℕ) (s : State) (first then : List Change) → AcceptsAll budget s first
         → AcceptsAll budget (after s first) then → AcceptsAll budget s (first ++ then) }
@@ -39,7 +39,7 @@ pub fn acceptance_goes_by_parts()
 
 /// The encoding of a state has the state's size, less the unused bytes of its last line: it is
 /// within the budget, and at least 33 bytes. The encoding of a change has 1 to 263 bytes.
-#[tactic(auto, using(crate::proofs::ChangeSpellings::change_some, crate::proofs::ChangeSpellings::change_len, crate::proofs::Lengths::state_len, crate::proofs::Lengths::state_fits, crate::proofs::Lengths::state_some))]
+#[tactic(auto, using(crate::proofs::ChangeSpellings::change_sized, crate::proofs::Lengths::state_sized))]
 pub fn length_of_spelling()
     ensures size { (s : State) → length (state_bytes s) + longest_line ≡ size_of s
         + length s.last_line }
@@ -52,7 +52,7 @@ pub fn length_of_spelling()
 /// No two states have the same encoding, and no two lists of changes; no change's encoding is a
 /// prefix of another's. An empty list is encoded as no bytes, and an appended change by its own
 /// bytes after the others'.
-#[tactic(auto, using(crate::proofs::StateSpellings::spelled_once, crate::proofs::ChangeSpellings::changes_spelled_once, crate::proofs::ChangeSpellings::one_change))]
+#[tactic(auto, using(crate::proofs::StateSpellings::spelled_once, crate::proofs::ChangeSpellings::spelled_apart))]
 pub fn one_spelling()
     ensures states { (budget other : ℕ) (bytes : List ℕ) (s t : State) → budget < 2 ^ 32
         → other < 2 ^ 32 → SpellsState budget bytes s → SpellsState other bytes t → s ≡ t }

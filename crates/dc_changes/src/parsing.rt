@@ -18,7 +18,7 @@ use dc_address::{Identity, Primary};
 impl Command {
     /// Parses the command that a line spells, and its number; `None` if the line spells no command.
     /// Each command has exactly one line, of at most 120 bytes.
-    #[tactic(auto, using(crate::proofs::LineSpellings::number_is_word, crate::proofs::LineSpellings::line_fits), unfolding(crate::specs::Line::line_of))]
+    #[tactic(auto, using(crate::proofs::LineSpellings::line_read), unfolding(crate::specs::Line::line_of))]
     pub fn parse_line(line: &[u8]) -> Option<Numbered>
         ensures found { IfSome result (λ found.
             IsNumber found.number × IsCommand found.command × NamesMeters found.command

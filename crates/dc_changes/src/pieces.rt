@@ -59,7 +59,7 @@ pub fn counted_at(bytes: &[u8]) -> Result<(&[u8], &[u8]), DecodeFault>
 }
 
 /// Decodes an identity, as it is sent.
-#[tactic(auto, unfolding(crate::specs::Reading::identity_at), using(crate::proofs::PieceSpellings::identity_again, crate::proofs::PieceSpellings::identity_none))]
+#[tactic(auto, unfolding(crate::specs::Reading::identity_at), using(crate::proofs::PieceSpellings::identity_read))]
 pub fn identity_at(bytes: &[u8]) -> Result<(Identity, &[u8]), DecodeFault>
     ensures { Reads (λ x. (x.0, x.1.now)) result (identity_at bytes.now) }
 {
@@ -153,7 +153,7 @@ pub fn flat_of(name: &[u8]) -> Result<Flat, DecodeFault>
 }
 
 /// Decodes a telegram's body, after its length.
-#[tactic(auto, unfolding(crate::specs::Reading::body_at), using(crate::proofs::PieceSpellings::body_again, crate::proofs::PieceSpellings::body_none))]
+#[tactic(auto, unfolding(crate::specs::Reading::body_at), using(crate::proofs::PieceSpellings::body_read))]
 pub fn body_at(bytes: &[u8]) -> Result<(Body<'_>, &[u8]), DecodeFault>
     ensures read { Reads (λ x. (x.0, x.1.now)) result (body_at bytes.now) }
     ensures is_body { IfOk result (λ x. IsBody x.0) }

@@ -31,8 +31,8 @@ fn reads<'a>(
     go(rt, heap, core, Way::Run, &steps)
 }
 
-/// 54 readings, which are all that the register has room for. On the way groups don't fit any more, and the whole state goes
-/// into the other half.
+/// 54 readings, which are all that the register has room for. On the way groups don't fit any more,
+/// and the whole state goes into the other half.
 fn fills(
     rt: &impl Abort,
     heap: Global,

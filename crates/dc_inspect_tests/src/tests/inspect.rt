@@ -11,8 +11,8 @@ use std::alloc::Global;
 use std::process::Abort;
 use std::test::Fail;
 
-// The first root, of generation 1, is in slot 2. The base group of the empty register is a page and its commit sector, and
-// half of the 64 sectors of a half may hold 488 bytes of it each.
+// The first root, of generation 1, is in slot 2. The base group of the empty register is a page and
+// its commit sector, and half of the 64 sectors of a half may hold 488 bytes of it each.
 const EMPTY: &[u8] = b"DISK 131
 ROOT 1 NONE
 ROOT 2 2 1 1 0

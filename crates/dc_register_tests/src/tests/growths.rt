@@ -48,8 +48,9 @@ fn requests_of(rt: &impl Abort, alloc: Global, before: &[&[u8]], line: &[u8]) ->
     Err(Fail::from("too many requests"))
 }
 
-// A fitted meter takes room in the map and in its two orders; a first part its body and room for parts; the last part its
-// body, the day of its storage number, its due days, and room for the reading and in its two orders.
+// A fitted meter takes room in the map and in its two orders; a first part its body and room for
+// parts; the last part its body, the day of its storage number, its due days, and room for the
+// reading and in its two orders.
 #[test]
 fn each_growth_of_a_change(rt: HostRuntime) -> Result<(), Fail> {
     let alloc = rt.alloc();
@@ -164,9 +165,9 @@ fn requests_of_replay(rt: &impl Abort, alloc: Global, changes: &[u8]) -> Result<
     Err(Fail::from("too many requests"))
 }
 
-// The meter and its two places; a body and a list of parts; a body, the day of a storage number, the due days, a list of
-// readings and the orders by meter and by due date. The parts go on in the room that there is, and so does the meter that
-// is swapped in.
+// The meter and its two places; a body and a list of parts; a body, the day of a storage number,
+// the due days, a list of readings and the orders by meter and by due date. The parts go on in the
+// room that there is, and so does the meter that is swapped in.
 #[test]
 fn each_growth_of_a_replay(rt: HostRuntime) -> Result<(), Fail> {
     let changes = spelled(rt.alloc(), &EACH)?;

@@ -1,4 +1,5 @@
-//! Reads and failures of the disk in memory, and disks over files: that calls succeed where there is memory, and what a real file does.
+//! Reads and failures of the disk in memory, and disks over files: that calls succeed where there
+//! is memory, and what a real file does.
 
 use dc_sectors::{Disk, Failed, FileDisk, MemoryDisk, ReadFault};
 use refusing_alloc::Refusing;

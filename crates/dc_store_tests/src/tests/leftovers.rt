@@ -59,8 +59,9 @@ fn left_behind(
     Ok(closed(life))
 }
 
-/// Each of two lives leaves a part of a group of the same sequence at the same place. Neither is read, nor what they would
-/// make together: sector 9 is as before, 10 and 11 as written; then 9 as written, 10 and 11 as before.
+/// Each of two lives leaves a part of a group of the same sequence at the same place. Neither is
+/// read, nor what they would make together: sector 9 is as before, 10 and 11 as written; then 9 as
+/// written, 10 and 11 as before.
 #[test]
 fn leftovers_of_two_lives_are_no_group(rt: HostRuntime) -> Result<(), Fail> {
     let heap = rt.alloc();

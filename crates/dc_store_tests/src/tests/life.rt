@@ -84,8 +84,8 @@ pub fn calls_of_open(heap: Global, disk: &MemoryDisk<Global>) -> Result<u64, Fai
     Ok(after.saturating_sub(before))
 }
 
-/// Does the change that the line spells in the house, and writes it: as a group, or with the whole state where it doesn't
-/// fit.
+/// Does the change that the line spells in the house, and writes it: as a group, or with the whole
+/// state where it doesn't fit.
 pub fn accept(
     rt: &impl Abort,
     heap: Global,

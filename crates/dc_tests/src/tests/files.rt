@@ -1,5 +1,5 @@
-//! A life on a file. A copy of the file from before each step is opened as a state from the promised one to all that was
-//! accepted.
+//! A life on a file. A copy of the file from before each step is opened as a state from the
+//! promised one to all that was accepted.
 
 use super::life::{Life, blank, state_of, states_of};
 use super::lives::{READOUT, READOUT_DONE};

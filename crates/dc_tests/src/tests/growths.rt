@@ -1,5 +1,5 @@
-//! Each growth is refused in turn: that of the register is answered as out of memory and the same call then succeeds, that of
-//! the disk or of a writer is its failure.
+//! Each growth is refused in turn: that of the register is answered as out of memory and the same
+//! call then succeeds, that of the disk or of a writer is its failure.
 
 use super::life::{Life, blank_on, state_of, states_of};
 use super::stops::{Span, is_in, span_at};

@@ -23,8 +23,8 @@ pub enum Deed<'a> {
     Office(&'a [u8]),
 }
 
-/// One step of a life: what is done, the text that a run writes for it, and then how many changes are accepted after it,
-/// and how many of them are promised.
+/// One step of a life: what is done, the text that a run writes for it, and then how many changes
+/// are accepted after it, and how many of them are promised.
 #[derive(Clone, Copy)]
 pub struct Step<'a>(pub Deed<'a>, pub &'a [u8], pub usize, pub usize);
 

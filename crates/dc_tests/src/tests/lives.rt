@@ -1,5 +1,5 @@
-//! The lives: commands, a readout of two telegrams, a meter that moves or goes within its readout, and a command that moves
-//! the register into the other half.
+//! The lives: commands, a readout of two telegrams, a meter that moves or goes within its readout,
+//! and a command that moves the register into the other half.
 
 use super::images::rested;
 use super::life::{Deed, Life, Step, blank};
@@ -177,8 +177,8 @@ pub const UPGRADED: [Step<'static>; 3] = [
 
 pub const UPGRADED_DONE: [&[u8]; 1] = [MOVE];
 
-/// An image of version 1 with the one meter. Its roots, pages and commit sectors differ from those of version 2 in the byte
-/// of the version alone.
+/// An image of version 1 with the one meter. Its roots, pages and commit sectors differ from those
+/// of version 2 in the byte of the version alone.
 pub fn of_version_1(rt: &impl Abort, heap: Global) -> Result<MemoryDisk<Global>, Fail> {
     let mut core = match Concentrator::open(heap, blank(heap)?) {
         Ok(core) => core,

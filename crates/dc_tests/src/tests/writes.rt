@@ -1,5 +1,5 @@
-//! Each write of the office's replies and of a run fails in turn. What the step did remains, and a line of the office that
-//! comes again is answered as it was to be.
+//! Each write of the office's replies and of a run fails in turn. What the step did remains, and a
+//! line of the office that comes again is answered as it was to be.
 
 ghost use Rattle.std.specs.Prelude.{◌≡◌, ◌+◌, ◌-◌, ◌^◌, min, None};
 

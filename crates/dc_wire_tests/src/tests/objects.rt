@@ -7,8 +7,9 @@ use std::alloc::{Allocator, Global};
 use std::process::Abort;
 use std::test::Fail;
 
-// A water meter's answer with a volume, and a duration and a counter that the due-date table leaves as other, by hand from
-// EN 13757-3: on time in hours (VIF 22), and reset counter (FD 60) at the time of an error.
+// A water meter's answer with a volume, and a duration and a counter that the due-date table leaves
+// as other, by hand from EN 13757-3: on time in hours (VIF 22), and reset counter (FD 60) at the
+// time of an error.
 const ANSWER: &[u8] =
     b"68 1E 1E 68 08 02 72 78 56 34 12 24 40 01 07 55 04 00 00 03 13 15 31 00 02 22 10 27 31 FD 60 05 1F AB 69 16";
 
