@@ -112,6 +112,10 @@ module _ {B : Type 0} (g : Bus B) where
       → IsAfter (next_pass old.left.now old.due old.pass old.phase) old.bus old.request old.said new → LineGoes g tries line old new []
   line_passed tries line old new free some sound after = by_due old.due refl
     where
+      by_left : (xs : List Identity) → 0 < length xs → old.pass < tries → Goes tries line (part [] xs old.pass Free) [] (part xs [] (old.pass + 1) Free)
+      by_left [] none less = absurd (omega (arith, none))
+      by_left (x ∷ xs) is less = passes_on less stays
+
       by_due : (d : ℕ) → old.due ≡ d → LineGoes g tries line old new []
       by_due zero none =
           let pass = free_pass tries old free sound in
@@ -125,10 +129,6 @@ module _ {B : Type 0} (g : Bus B) where
           line_by tries line old new (part_of old) (part_of old) (talk_of old) (talk_of old) []
           refl (part_is new old.left.now old.due old.pass old.phase is.left (is.due ∙ sym more) is.pass is.phase)
           refl (talk_is new old.bus old.request old.said is.bus is.request is.said) stays rests
-
-      by_left : (xs : List Identity) → 0 < length xs → old.pass < tries → Goes tries line (part [] xs old.pass Free) [] (part xs [] (old.pass + 1) Free)
-      by_left [] none less = absurd (omega (arith, none))
-      by_left (x ∷ xs) is less = passes_on less stays
 
   pub sound_passed : (tries : ℕ) (old new : Station B) → old.phase ≡ Free → 0 < length old.left.now → IsSound g tries old
       → IsAfter (next_pass old.left.now old.due old.pass old.phase) old.bus old.request old.said new → IsSound g tries new × (0 < new.due)
@@ -172,9 +172,9 @@ module _ {B : Type 0} (g : Bus B) where
       by_due zero none =
           let is = subst (λ (d : ℕ). IsAfter (next_pass old.left.now d old.pass old.phase) old.bus old.request old.said new) none after in
           let less : old.pass < tries = (free_pass tries old free sound).3 (omega (arith, none, some)) in
-          here (next_pass old.left.now 0 old.pass old.phase) is refl refl
-          ∙ ap (λ (n : ℕ). n * rounds_a_start + rounds_by_phase out pending over (settling (length old.left.now) (g.ready old.bus) (g.settles_left old.bus)) Free old.request (g.waits_left old.bus)) (pass_count tries (length old.left.now) old.pass less)
-          ∙ ap (λ (n : ℕ). rounds n old.pass Free) (sym none) ∙ sym there
+          let anew : rounds (length old.left.now) (old.pass + 1) Free ≡ rounds 0 old.pass Free =
+          ap (λ (n : ℕ). n * rounds_a_start + rounds_by_phase out pending over (settling (length old.left.now) (g.ready old.bus) (g.settles_left old.bus)) Free old.request (g.waits_left old.bus)) (pass_count tries (length old.left.now) old.pass less) in
+          here (next_pass old.left.now 0 old.pass old.phase) is refl refl ∙ anew ∙ ap (λ (n : ℕ). rounds n old.pass Free) (sym none) ∙ sym there
       by_due (suc n) more =
           let is = subst (λ (d : ℕ). IsAfter (next_pass old.left.now d old.pass old.phase) old.bus old.request old.said new) more after in
           here (next_pass old.left.now (suc n) old.pass old.phase) is refl refl ∙ ap (λ (d : ℕ). rounds d old.pass Free) (sym more) ∙ sym there

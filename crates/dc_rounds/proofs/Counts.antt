@@ -85,8 +85,8 @@ module _ (left : List Identity) (tries : ℕ) (some : 0 < length left) where
       by_rest m n few = omega (arith, few)
 
 -- the next pass takes what is left
-pub pass_count : (tries count pass : ℕ) → pass < tries → starts_left tries count count (pass + 1) ≡ starts_left tries count 0 pass
+pub pass_count : (tries count pass : ℕ) → pass < tries → starts_left tries count (count - 0) (pass + 1) ≡ starts_left tries count (0 - 0) pass
 pass_count tries count pass less = by_rest (tries - (pass + 1)) (tries - pass) (omega (arith, less))
   where
-    by_rest : (q p : ℕ) → p ≡ suc q → count + count * q ≡ 0 + count * p
+    by_rest : (q p : ℕ) → p ≡ suc q → (count - 0) + count * q ≡ (0 - 0) + count * p
     by_rest q p is = let there : count * p ≡ count * suc q = ap (λ (x : ℕ). count * x) is in omega (arith, there)

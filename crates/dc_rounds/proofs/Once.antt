@@ -90,43 +90,43 @@ not_lost (Refused x r) a = cc
 -- the happenings after a front that ends in this line of text
 pub not_again : {tries line : ℕ} {old last : Part} {happened : List Happening} (front back : List Happening) (end : End) (told : Told) → Goes tries line old happened last
     → happened ≡ front ++ tells line told ∷ back → IsToldAs end told → IsApart old → Lacks (meter_of end) (starts_in back)
-not_again [] back end told stays e as a = absurd cc
-not_again (h ∷ front) back end told stays e as a = absurd cc
-not_again front back end told (passes_on {meter = x} {failed = xs} less goes) e as a = not_again front back end told goes e as (subst AreApart (sym (append-nil (x ∷ xs))) a)
-not_again [] back end told (starts_it few goes) e as a = absurd cc
-not_again (h ∷ front) back end told (starts_it few goes) e as a = not_again front back end told goes cc as a
-not_again [] back end told (is_refused few goes) e as a = absurd cc
-not_again (h ∷ front) back end told (is_refused few goes) e as a = not_again front back end told goes cc as (a.1, a.0)
-not_again [] back end told (asks_it goes) e as a = absurd cc
-not_again (h ∷ front) back end told (asks_it goes) e as a = not_again front back end told goes cc as a
-not_again [] back end told (has_no_request goes) e as a = absurd cc
-not_again (h ∷ front) back end told (has_no_request goes) e as a = not_again front back end told goes cc as (a.1, a.0)
-not_again front back end told (is_given_up goes) e as a = not_again front back end told goes e as (a.1, a.0)
-not_again [] back end told (goes_on on goes) e as a = absurd cc
-not_again (h ∷ front) back end told (goes_on on goes) e as a = not_again front back end told goes cc as a
-not_again [] back end told (is_accepted goes) e as a = absurd cc
-not_again (h ∷ front) back end told (is_accepted goes) e as a = not_again front back end told goes cc as a
-not_again [] back end told (is_put_off less goes) e as a = absurd cc
-not_again (h ∷ front) back end told (is_put_off {meter = x} {left = xs} {failed = ys} less goes) e as a = not_again front back end told goes cc as (apart_moved x xs ys a)
-not_again [] back end told (fails_at_last most goes) e as a = absurd cc
-not_again (h ∷ front) back end told (fails_at_last most goes) e as a = not_again front back end told goes cc as (a.1, a.0)
-not_again [] back end told (is_faulty goes) e as a = absurd cc
-not_again (h ∷ front) back end told (is_faulty goes) e as a = not_again front back end told goes cc as (a.1, a.0)
-not_again [] back end told (is_stored goes) e as a = absurd cc
-not_again (h ∷ front) back end told (is_stored goes) e as a = not_again front back end told goes cc as a
-not_again [] back end told (is_unstored goes) e as a = absurd cc
-not_again (h ∷ front) back end told (is_unstored goes) e as a = not_again front back end told goes cc as (a.1, a.0)
-not_again [] back end told (stands_by not goes) e as a = absurd cc
-not_again (h ∷ front) back end told (stands_by not goes) e as a = not_again front back end told goes cc as a
-not_again [] back end told (is_told {left = xs} {failed = ys} {end = other} {told = said} as_end goes) e as a =
+not_again [] back end told stays e says a = absurd cc
+not_again (h ∷ front) back end told stays e says a = absurd cc
+not_again front back end told (passes_on {meter = x} {failed = xs} less goes) e says a = not_again front back end told goes e says (subst AreApart (sym (append-nil (x ∷ xs))) a)
+not_again [] back end told (starts_it few goes) e says a = absurd cc
+not_again (h ∷ front) back end told (starts_it few goes) e says a = not_again front back end told goes (cc) says a
+not_again [] back end told (is_refused few goes) e says a = absurd cc
+not_again (h ∷ front) back end told (is_refused few goes) e says a = not_again front back end told goes (cc) says (a.1, a.0)
+not_again [] back end told (asks_it goes) e says a = absurd cc
+not_again (h ∷ front) back end told (asks_it goes) e says a = not_again front back end told goes (cc) says a
+not_again [] back end told (has_no_request goes) e says a = absurd cc
+not_again (h ∷ front) back end told (has_no_request goes) e says a = not_again front back end told goes (cc) says (a.1, a.0)
+not_again front back end told (is_given_up goes) e says a = not_again front back end told goes e says (a.1, a.0)
+not_again [] back end told (goes_on on goes) e says a = absurd cc
+not_again (h ∷ front) back end told (goes_on on goes) e says a = not_again front back end told goes (cc) says a
+not_again [] back end told (is_accepted goes) e says a = absurd cc
+not_again (h ∷ front) back end told (is_accepted goes) e says a = not_again front back end told goes (cc) says a
+not_again [] back end told (is_put_off less goes) e says a = absurd cc
+not_again (h ∷ front) back end told (is_put_off {meter = x} {left = xs} {failed = ys} less goes) e says a = not_again front back end told goes (cc) says (apart_moved x xs ys a)
+not_again [] back end told (fails_at_last most goes) e says a = absurd cc
+not_again (h ∷ front) back end told (fails_at_last most goes) e says a = not_again front back end told goes (cc) says (a.1, a.0)
+not_again [] back end told (is_faulty goes) e says a = absurd cc
+not_again (h ∷ front) back end told (is_faulty goes) e says a = not_again front back end told goes (cc) says (a.1, a.0)
+not_again [] back end told (is_stored goes) e says a = absurd cc
+not_again (h ∷ front) back end told (is_stored goes) e says a = not_again front back end told goes (cc) says a
+not_again [] back end told (is_unstored goes) e says a = absurd cc
+not_again (h ∷ front) back end told (is_unstored goes) e says a = not_again front back end told goes (cc) says (a.1, a.0)
+not_again [] back end told (stands_by not goes) e says a = absurd cc
+not_again (h ∷ front) back end told (stands_by not goes) e says a = not_again front back end told goes (cc) says a
+not_again [] back end told (is_told {left = xs} {failed = ys} {end = other} {told = said} {more = hs} as_end goes) e says a =
     let same : said ≡ told = cc in
-    let rest = cc in
-    subst (λ (hs : List Happening). Lacks (meter_of end) (starts_in hs)) rest
-    (not_started (meter_of end) goes (subst (λ (m : Identity). Lacks m (xs ++ ys)) (same_told other end told (subst (IsToldAs other) same as_end) as) a.1))
-not_again (h ∷ front) back end told (is_told as_end goes) e as a = not_again front back end told goes cc as a.0
-not_again [] back end told (loses_it goes) e as a = absurd (not_lost end (subst (IsToldAs end) cc as))
-not_again (h ∷ front) back end told (loses_it goes) e as a = not_again front back end told goes cc as a
+    let rest : hs ≡ back = cc in
+    subst (λ (ts : List Happening). Lacks (meter_of end) (starts_in ts)) rest
+    (not_started (meter_of end) goes (subst (λ (m : Identity). Lacks m (xs ++ ys)) (same_told other end told (subst (IsToldAs other) same as_end) says) a.1))
+not_again (h ∷ front) back end told (is_told as_end goes) e says a = not_again front back end told goes (cc) says a.0
+not_again [] back end told (loses_it goes) e says a = absurd (not_lost end (subst (IsToldAs end) (cc) says))
+not_again (h ∷ front) back end told (loses_it goes) e says a = not_again front back end told goes (cc) says a
 
 pub none_again : (tries line : ℕ) (meters : List Identity) (front back : List Happening) (end : End) (told : Told) (last : Part) → AreApart meters → IsToldAs end told
     → Goes tries line (part meters [] 1 Free) (front ++ tells line told ∷ back) last → Lacks (meter_of end) (starts_in back)
-none_again tries line meters front back end told last apart as goes = not_again front back end told goes refl as (subst AreApart (sym (append-nil meters)) apart)
+none_again tries line meters front back end told last apart says goes = not_again front back end told goes refl says (subst AreApart (sym (append-nil meters)) apart)

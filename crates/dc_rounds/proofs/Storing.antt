@@ -16,6 +16,8 @@ use Rattle.std.specs.Prelude.{OnOk}
 use Rattle.dc_line.specs.Bus.{most_settles}
 use Rattle.dc_rounds.specs.Station.{IsSoundIn, IsSound, IsAfter, Next, part_of, talk_of, rounds_a_start, rounds_a_request, rounds_to_settle, rounds_in, rounds_of, stored_by}
 use Rattle.dc_rounds.specs.declared.end.End.{End}
+use Rattle.dc_rounds.specs.declared.end.End.TheVariants.{Refused}
+use Rattle.dc_rounds.specs.declared.end.Refusal.TheVariants.{Commit}
 use Rattle.dc_rounds.specs.declared.phase.Phase.{Phase}
 use Rattle.dc_rounds.specs.declared.phase.Phase.TheVariants.{Free, Busy, Pending, Over}
 use Rattle.dc_rounds.specs.declared.phase.Request.{Request}
@@ -36,7 +38,9 @@ goes_stored tries line left due pass (Over end) request waits stored sound = sta
 goes_stored tries line [] due pass (Pending n) request waits stored sound = absurd (let some = sound.1 in let few = sound.0.2 in omega (arith, some, few))
 goes_stored tries line (m ∷ ms) zero pass (Pending n) request waits stored sound = absurd (let some = sound.1 in omega (arith, some))
 goes_stored tries line (m ∷ ms) (suc d) pass (Pending n) request waits (Ok count) sound = is_stored stays
-goes_stored tries line (m ∷ ms) (suc d) pass (Pending n) request waits (Err fault) sound = is_unstored stays
+goes_stored tries line (m ∷ ms) (suc d) pass (Pending n) request waits (Err fault) sound =
+    subst (λ (k : ℕ). Goes tries line (part (m ∷ take d ms) (drop d ms) pass (Pending n)) (does (commits, committed (Err fault)) ∷ []) (part (take k ms) (drop k ms) pass (Over (Refused m (Commit fault)))))
+    (omega arith) (is_unstored stays)
 
 sound_by : (tries : ℕ) (left : List Identity) (due pass : ℕ) (phase : Phase) (request : Request) (waits : ℕ) (stored : Result ℕ CommitFault) → IsSoundIn tries (length left) due pass phase request waits
     → IsSoundIn tries (length (stored_by left due pass phase stored).left) (stored_by left due pass phase stored).due (stored_by left due pass phase stored).pass (stored_by left due pass phase stored).phase request waits

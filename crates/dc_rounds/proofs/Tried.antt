@@ -6,13 +6,13 @@ use Rattle.dc_rounds.specs.declared.phase.Phase.{Phase}
 use Rattle.dc_rounds.specs.declared.phase.Phase.TheVariants.{Free, Busy, Pending, Over}
 use Rattle.dc_rounds.specs.Queue.{Part, part, Goes, AreSomeOf, none_of, without, with_it, IsTried, starts_in, stays, passes_on, starts_it, is_refused, asks_it, has_no_request, is_given_up, goes_on, is_accepted, is_put_off, fails_at_last, is_faulty, is_stored, is_unstored, stands_by, is_told, loses_it}
 
-pub left_of : Part → List Identity
+abbrev left_of : Part → List Identity
 left_of (part left failed pass phase) = left
 
-pub failed_of : Part → List Identity
+abbrev failed_of : Part → List Identity
 failed_of (part left failed pass phase) = failed
 
-pub pass_of : Part → ℕ
+abbrev pass_of : Part → ℕ
 pass_of (part left failed pass phase) = pass
 
 -- no meter is left, and none failed
@@ -35,7 +35,7 @@ record RestIn (passes : ℕ) (left failed : List Identity) (phase : Phase) (begu
   begun_are : begun ≡ to_start left phase ++ more
   tried : IsTried passes (failed ++ again) more
 
-Rest : ℕ → Part → List Identity → Type 0
+abbrev Rest : ℕ → Part → List Identity → Type 0
 Rest tries (part left failed pass phase) begun = RestIn (tries - pass) left failed phase begun
 
 tried_none : (passes : ℕ) → IsTried passes [] []
@@ -59,11 +59,11 @@ at_end tries (part left failed pass phase) end = rest_none (tries - pass) left f
 -- the present meter left the pass
 gone : {passes : ℕ} {meter : Identity} {left failed : List Identity} {phase : Phase} {begun : List Identity} (was : Phase) → to_start (meter ∷ left) was ≡ left → to_start left phase ≡ left
     → RestIn passes left failed phase begun → RestIn passes (meter ∷ left) failed was begun
-gone was at stays rest = record {
+gone was at kept rest = record {
   again = rest.again;
   more = rest.more;
   some = without rest.some;
-  begun_are = rest.begun_are ∙ ap (λ (xs : List Identity). xs ++ rest.more) (stays ∙ sym at);
+  begun_are = rest.begun_are ∙ ap (λ (xs : List Identity). xs ++ rest.more) (kept ∙ sym at);
   tried = rest.tried;
 }
 
@@ -90,7 +90,7 @@ started_in : {passes : ℕ} {meter : Identity} {left failed : List Identity} {n 
 started_in {meter = m} rest = record { again = rest.again; more = rest.more; some = rest.some; begun_are = ap (λ (xs : List Identity). m ∷ xs) rest.begun_are; tried = rest.tried }
 
 refused_in : {passes : ℕ} {meter : Identity} {left failed : List Identity} {phase : Phase} {begun : List Identity} → to_start left phase ≡ left → RestIn passes left failed phase begun → RestIn passes (meter ∷ left) failed Free (meter ∷ begun)
-refused_in {meter = m} stays rest = record { again = rest.again; more = rest.more; some = without rest.some; begun_are = ap (λ (xs : List Identity). m ∷ xs) (rest.begun_are ∙ ap (λ (xs : List Identity). xs ++ rest.more) stays); tried = rest.tried }
+refused_in {meter = m} kept rest = record { again = rest.again; more = rest.more; some = without rest.some; begun_are = ap (λ (xs : List Identity). m ∷ xs) (rest.begun_are ∙ ap (λ (xs : List Identity). xs ++ rest.more) kept); tried = rest.tried }
 
 -- the phase in which a pass goes on is of no account
 as_phase : {passes : ℕ} {left failed : List Identity} {phase : Phase} {begun : List Identity} (was : Phase) → to_start left phase ≡ to_start left was → RestIn passes left failed phase begun → RestIn passes left failed was begun
