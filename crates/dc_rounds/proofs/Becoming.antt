@@ -76,6 +76,15 @@ put_off_count : (xs : List Identity) → 0 < length xs → length (drop 1 xs ++ 
 put_off_count [] some = absurd (omega (arith, some))
 put_off_count (x ∷ xs) some = let count = length-append xs (x ∷ []) in omega (arith, count)
 
+-- the next pass has the same meters, and goes on likewise
+pub passed_left : (left : List Identity) (due pass : ℕ) (phase : Phase) → (next_pass left due pass phase).left ≡ left
+passed_left left zero pass phase = refl
+passed_left left (suc n) pass phase = refl
+
+pub passed_phase : (left : List Identity) (due pass : ℕ) (phase : Phase) → (next_pass left due pass phase).phase ≡ phase
+passed_phase left zero pass phase = refl
+passed_phase left (suc n) pass phase = refl
+
 module _ {B : Type 0} (g : Bus B) where
   -- what is sound of one that is free, and of one that is busy
   free_sound : (tries : ℕ) (s : Station B) → s.phase ≡ Free → IsSound g tries s → IsPass tries (length s.left.now) s.due s.pass × (s.request ≡ Quiet)

@@ -18,6 +18,8 @@ pub mod Tried
 pub mod Once
 -- how often the meters of a queue are started and asked at most
 pub mod Bounded
+-- where nothing fails, every meter of a queue is read
+pub mod Reading
 -- where the turns of a run say that all is committed, nothing is pending
 pub mod Meanings
 -- in rounds, all is committed where a line has no request any more

@@ -4,7 +4,7 @@ use Rattle.std.specs.Prelude.{Bool, None, Some, Result, Ok, Err}
 use Rattle.std.specs.List.{AllByRecursion}
 use Rattle.dc_address.specs.declared.identity.Identity.{Identity}
 use Rattle.dc_core.specs.Event.{Event, Answer, starts, asks, hears, commits, started, asked}
-use Rattle.dc_core.specs.Event.{heard, committed}
+use Rattle.dc_core.specs.Event.{heard, committed, replied}
 use Rattle.dc_core.specs.Transcript.{Turn}
 use Rattle.dc_core.specs.declared.fault.CommitFault.{CommitFault}
 use Rattle.dc_core.specs.declared.fault.HearFault.{HearFault}
@@ -202,3 +202,41 @@ requests_of (tells line told) = 0
 abbrev pub requests_in : List Happening → ℕ
 requests_in [] = 0
 requests_in (happening ∷ more) = requests_of happening + requests_in more
+
+-- ---- where nothing fails
+
+-- no readout fails, and none is refused
+abbrev pub IsWell : Answer → Type 0
+IsWell (started (Ok done)) = Unit {0}
+IsWell (started (Err fault)) = ⊥
+IsWell (asked request) = Unit {0}
+IsWell (heard (Ok (HasFailed why))) = ⊥
+IsWell (heard (Ok answer)) = Unit {0}
+IsWell (heard (Err fault)) = ⊥
+IsWell (committed (Ok count)) = Unit {0}
+IsWell (committed (Err fault)) = ⊥
+IsWell (replied reply) = Unit {0}
+
+abbrev pub IsWellTold : Told → Type 0
+IsWellTold (was_read meter serial parts) = Unit {0}
+IsWellTold (has_failed meter why) = ⊥
+IsWellTold (was_refused meter refusal) = ⊥
+IsWellTold is_lost = Unit {0}
+
+abbrev pub GoesWell : Happening → Type 0
+GoesWell (does turn) = IsWell turn.1
+GoesWell (tells line told) = IsWellTold told
+
+-- the meters of which it is written that they were read
+abbrev pub read_by : Told → List Identity
+read_by (was_read meter serial parts) = meter ∷ []
+read_by (has_failed meter why) = []
+read_by (was_refused meter refusal) = []
+read_by is_lost = []
+
+abbrev pub read_of : Happening → List Identity
+read_of (does turn) = []
+read_of (tells line told) = read_by told
+
+abbrev pub read_in : List Happening → List Identity
+read_in happened = flat_map read_of happened

@@ -1,6 +1,7 @@
 //! What holds of the definitions alone.
 
 ghost use Rattle.std.specs.Prelude.{◌≡◌, ◌<◌, ◌≤◌, ◌*◌, ◌++◌, ◌∷◌, ℕ, List, None, [], length};
+ghost use Rattle.std.specs.List.{AllByRecursion};
 ghost use Rattle.dc_address.specs.declared.identity.Identity.{Identity};
 ghost use Rattle.dc_core.specs.Core.{Core};
 ghost use Rattle.dc_core.specs.Event.{asks, asked};
@@ -8,8 +9,9 @@ ghost use Rattle.dc_core.specs.Transcript.{Turn, IsChain, leads};
 ghost use Rattle.dc_rounds.specs.Happening.{Happening, Told, happened_turns, tells};
 ghost use Rattle.dc_rounds.specs.Keeping.{AreTrue, InRounds, IsSettled, Store, all_kept, some_wait};
 ghost use Rattle.dc_rounds.specs.Keeping.{store_behind};
-ghost use Rattle.dc_rounds.specs.Queue.{Part, part, AreApart, Goes, IsToldAs, IsTried, Lacks};
-ghost use Rattle.dc_rounds.specs.Queue.{meter_of, most_asks, requests_in, starts_in};
+ghost use Rattle.dc_rounds.specs.Queue.{Part, part, AreApart, Goes, GoesWell, IsToldAs, IsTried};
+ghost use Rattle.dc_rounds.specs.Queue.{Lacks, meter_of, most_asks, read_in, requests_in};
+ghost use Rattle.dc_rounds.specs.Queue.{starts_in};
 ghost use Rattle.dc_rounds.specs.declared.end.End.{End};
 ghost use Rattle.dc_rounds.specs.declared.phase.Phase.{Phase};
 ghost use Rattle.dc_rounds.specs.declared.phase.Phase.TheVariants.{Free};
@@ -41,6 +43,15 @@ pub fn what_is_read_is_not_begun_again()
         AreApart meters → IsToldAs end told →
         Goes tries line (part meters [] 1 Free) (front ++ tells line told ∷ back) last →
         Lacks (meter_of end) (starts_in back) }
+{}
+
+/// Where no start, answer or commit of a line is refused and no readout of it fails, every meter of its queue is started
+/// once and read, in order.
+pub fn where_nothing_fails_every_meter_is_read()
+    ensures { (tries line : ℕ) (meters : List Identity) (happened : List Happening) (pass : ℕ) →
+        AllByRecursion GoesWell happened →
+        Goes tries line (part meters [] 1 Free) happened (part [] [] pass Free) →
+        (starts_in happened ≡ meters) × (read_in happened ≡ meters) }
 {}
 
 /// Where the turns of a run say that all is committed, nothing is pending in the concentrator.
