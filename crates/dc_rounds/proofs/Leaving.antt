@@ -69,7 +69,7 @@ round_reads moment store turns settled one =
 
 rounds_read : {T : Type 0} {told : T → ℕ → T → Type 0} {passes : T → T → Type 0} {first last : T} {turns : List Turn} → InRounds told passes first turns last → Reads some_wait turns
 rounds_read (at_first {turns = turns} one) = commit_reads some_wait turns one
-rounds_read (and_round {moment = moment} {turns = turns} {more = more} a kept waits tells one) =
+rounds_read (and_round {moment = moment} {turns = turns} {more = more} a kept waits moment_is one) =
     reads_both some_wait turns more (rounds_read a) (subst (λ (s : Store). Reads s more) (sym kept) (round_reads moment all_kept more tt one))
 
 reads_at : (store : Store) (front back : List Turn) (line : ℕ) → Reads store (front ++ (asks line, asked None) ∷ back) → IsSettled (store_behind store front)
