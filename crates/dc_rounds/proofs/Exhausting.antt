@@ -3,9 +3,10 @@ use Rattle.std.proofs.Common.{◌≡◌, ℕ, zero, suc, ◌+◌, ◌-◌, ◌*�
 use Rattle.std.specs.List.{All}
 use Rattle.std.proofs.Math.Nat.{mul-le-mul_left}
 use Rattle.std.proofs.lemmas.List.{nil_from_length}
+use Rattle.dc_line.specs.Bus.{most_settles}
 use Rattle.dc_rounds.specs.Bus.{Bus}
 use Rattle.dc_rounds.specs.Round.{HasFew, IsFresh, IsOver, IsSilent}
-use Rattle.dc_rounds.specs.Station.{IsSoundIn, IsSound, rounds_a_start, rounds_in, rounds_of}
+use Rattle.dc_rounds.specs.Station.{IsSoundIn, IsSound, rounds_a_start, rounds_in, rounds_of, settling, starts_left}
 use Rattle.dc_rounds.specs.declared.phase.Phase.{Phase}
 use Rattle.dc_rounds.specs.declared.phase.Phase.TheVariants.{Free, Busy, Pending, Over}
 use Rattle.dc_rounds.specs.declared.phase.Request.{Request}
@@ -13,72 +14,88 @@ use Rattle.dc_rounds.specs.declared.phase.Request.TheVariants.{Quiet}
 use Rattle.dc_rounds.specs.declared.station.Station.{Station}
 use Rattle.dc_rounds.proofs.Counts.{settling_few}
 
-over_by : (tries count used waits settles : ℕ) (ready : Bool) (phase : Phase) (request : Request) → IsSoundIn tries count used phase request waits → rounds_in 1 1 1 tries count used phase request waits ready settles ≤ 0 → (count ≡ 0) × (phase ≡ Free)
-over_by tries zero used waits settles ready Free request sound none = (refl, refl)
-over_by tries (suc n) used waits settles ready Free request sound none = absurd (let few = sound.0 in omega (arith, few, none))
-over_by tries count used waits settles ready (Busy n) request sound none = absurd (omega (arith, none))
-over_by tries count used waits settles ready (Pending n) request sound none = absurd (omega (arith, none))
-over_by tries count used waits settles ready (Over end) request sound none = absurd (omega (arith, none))
+over_by : (tries count due pass waits settles : ℕ) (ready : Bool) (phase : Phase) (request : Request) → IsSoundIn tries count due pass phase request waits → rounds_in 1 1 1 tries count due pass phase request waits ready settles ≤ 0 → (count ≡ 0) × (phase ≡ Free)
+over_by tries zero due pass waits settles ready Free request sound none = (refl, refl)
+over_by tries (suc n) zero pass waits settles ready Free request sound none =
+    absurd (let less = sound.0.3 (omega arith) in some_pass (tries - pass) (omega (arith, less)) none)
+  where
+    some_pass : (q : ℕ) → 0 < q → (0 - 0 + suc n * q) * rounds_a_start + settling (suc n) ready settles ≤ 0 → ⊥
+    some_pass zero more few = omega (arith, more)
+    some_pass (suc q) more few = omega (arith, few)
+over_by tries (suc n) (suc m) pass waits settles ready Free request sound none = absurd (omega (arith, none))
+over_by tries count due pass waits settles ready (Busy n) request sound none = absurd (omega (arith, none))
+over_by tries count due pass waits settles ready (Pending n) request sound none = absurd (omega (arith, none))
+over_by tries count due pass waits settles ready (Over end) request sound none = absurd (omega (arith, none))
 
-few_by : (tries count used waits settles : ℕ) (ready : Bool) (phase : Phase) (request : Request) → tries < 256 → count ≤ 65535 → phase ≡ Free → rounds_in 1 1 1 tries count used phase request waits ready settles + 1 ≤ 65535 * (255 * rounds_a_start) + rounds_a_start
-few_by tries count used waits settles ready Free request small few free =
-    let each : tries * rounds_a_start ≤ 255 * rounds_a_start = omega (arith, small) in
-    let all = mul-le-mul_left count each in
+few_starts : (tries count due pass : ℕ) → due ≡ count → pass ≡ 1 → starts_left tries count due pass ≡ count + count * (tries - 1)
+few_starts tries count due pass all first = ap (λ (p : ℕ). due + count * (tries - p)) first ∙ ap (λ (n : ℕ). n + count * (tries - 1)) all
+
+few_by : (tries count due pass waits settles : ℕ) (ready : Bool) (phase : Phase) (request : Request) → tries < 256 → count ≤ 65535 → due ≡ count → pass ≡ 1 → phase ≡ Free
+    → rounds_in 1 1 1 tries count due pass phase request waits ready settles + 1 ≤ 65535 * (255 * rounds_a_start) + rounds_a_start
+few_by tries count due pass waits settles ready Free request small few all first free =
     let late = settling_few count ready settles in
-    omega (arith, all, few, late)
-few_by tries count used waits settles ready (Busy n) request small few free = absurd cc
-few_by tries count used waits settles ready (Pending n) request small few free = absurd cc
-few_by tries count used waits settles ready (Over end) request small few free = absurd cc
+    let later : tries - 1 ≤ 254 = omega (arith, small) in
+    let most : count * (tries - 1) ≤ count * 254 = mul-le-mul_left count later in
+    let starts = few_starts tries count (due - 0) pass (omega (arith, all)) first in
+    subst (λ (n : ℕ). n * rounds_a_start + settling count ready settles + 1 ≤ 65535 * (255 * rounds_a_start) + rounds_a_start) (sym starts)
+    (most_of (count * (tries - 1)) most late)
+  where
+    most_of : (n : ℕ) → n ≤ count * 254 → settling count ready settles ≤ most_settles + 1 → (count + n) * rounds_a_start + settling count ready settles + 1 ≤ 65535 * (255 * rounds_a_start) + rounds_a_start
+    most_of n less late = omega (arith, less, late, few)
+few_by tries count due pass waits settles ready (Busy n) request small few all first free = absurd cc
+few_by tries count due pass waits settles ready (Pending n) request small few all first free = absurd cc
+few_by tries count due pass waits settles ready (Over end) request small few all first free = absurd cc
 
-silent_by : (tries count used waits : ℕ) (phase : Phase) (request : Request) → IsSoundIn tries count used phase request waits → phase ≡ Free → request ≡ Quiet
-silent_by tries count used waits Free request sound free = sound.1
-silent_by tries count used waits (Busy n) request sound free = absurd cc
-silent_by tries count used waits (Pending n) request sound free = absurd cc
-silent_by tries count used waits (Over end) request sound free = absurd cc
+silent_by : (tries count due pass waits : ℕ) (phase : Phase) (request : Request) → IsSoundIn tries count due pass phase request waits → phase ≡ Free → request ≡ Quiet
+silent_by tries count due pass waits Free request sound free = sound.1
+silent_by tries count due pass waits (Busy n) request sound free = absurd cc
+silent_by tries count due pass waits (Pending n) request sound free = absurd cc
+silent_by tries count due pass waits (Over end) request sound free = absurd cc
 
-fresh_by : (tries count used waits : ℕ) (phase : Phase) (request : Request) → 0 < tries → used ≡ 0 → phase ≡ Free → request ≡ Quiet → IsSoundIn tries count used phase request waits
-fresh_by tries count used waits Free request some unused free quiet = (omega (arith, some, unused), quiet)
-fresh_by tries count used waits (Busy n) request some unused free quiet = absurd cc
-fresh_by tries count used waits (Pending n) request some unused free quiet = absurd cc
-fresh_by tries count used waits (Over end) request some unused free quiet = absurd cc
+fresh_by : (tries count due pass waits : ℕ) (phase : Phase) (request : Request) → 0 < tries → due ≡ count → pass ≡ 1 → phase ≡ Free → request ≡ Quiet → IsSoundIn tries count due pass phase request waits
+fresh_by tries count due pass waits Free request some all first free quiet =
+    ((omega (arith, first), omega (arith, some, first), omega (arith, all), λ less. absurd (omega (arith, less, all))), quiet)
+fresh_by tries count due pass waits (Busy n) request some all first free quiet = absurd cc
+fresh_by tries count due pass waits (Pending n) request some all first free quiet = absurd cc
+fresh_by tries count due pass waits (Over end) request some all first free quiet = absurd cc
 
-over_count : (tries count used waits settles : ℕ) (ready : Bool) (phase : Phase) (request : Request) → rounds_in 1 1 1 tries count used phase request waits ready settles ≤ rounds_in 1 1 0 tries count used phase request waits ready settles + 1
-over_count tries count used waits settles ready Free request = omega arith
-over_count tries count used waits settles ready (Busy n) request = omega arith
-over_count tries count used waits settles ready (Pending n) request = omega arith
-over_count tries count used waits settles ready (Over end) request = omega arith
+over_count : (tries count due pass waits settles : ℕ) (ready : Bool) (phase : Phase) (request : Request) → rounds_in 1 1 1 tries count due pass phase request waits ready settles ≤ rounds_in 1 1 0 tries count due pass phase request waits ready settles + 1
+over_count tries count due pass waits settles ready Free request = omega arith
+over_count tries count due pass waits settles ready (Busy n) request = omega arith
+over_count tries count due pass waits settles ready (Pending n) request = omega arith
+over_count tries count due pass waits settles ready (Over end) request = omega arith
 
-less_count : (tries count used waits settles : ℕ) (ready : Bool) (phase : Phase) (request : Request) → rounds_in 1 0 0 tries count used phase request waits ready settles ≤ rounds_in 1 1 1 tries count used phase request waits ready settles
-less_count tries count used waits settles ready Free request = omega arith
-less_count tries count used waits settles ready (Busy n) request = omega arith
-less_count tries count used waits settles ready (Pending n) request = omega arith
-less_count tries count used waits settles ready (Over end) request = omega arith
+less_count : (tries count due pass waits settles : ℕ) (ready : Bool) (phase : Phase) (request : Request) → rounds_in 1 0 0 tries count due pass phase request waits ready settles ≤ rounds_in 1 1 1 tries count due pass phase request waits ready settles
+less_count tries count due pass waits settles ready Free request = omega arith
+less_count tries count due pass waits settles ready (Busy n) request = omega arith
+less_count tries count due pass waits settles ready (Pending n) request = omega arith
+less_count tries count due pass waits settles ready (Over end) request = omega arith
 
 module _ {B : Type 0} (g : Bus B) where
   pub over_one : (tries : ℕ) (s : Station B) → rounds_of g 1 1 1 tries s ≤ rounds_of g 1 1 0 tries s + 1
-  over_one tries s = over_count tries (length s.left.now) s.used (g.waits_left s.bus) (g.settles_left s.bus) (g.ready s.bus) s.phase s.request
+  over_one tries s = over_count tries (length s.left.now) s.due s.pass (g.waits_left s.bus) (g.settles_left s.bus) (g.ready s.bus) s.phase s.request
 
   pub all_less : (tries : ℕ) (s : Station B) → rounds_of g 1 0 0 tries s ≤ rounds_of g 1 1 1 tries s
-  all_less tries s = less_count tries (length s.left.now) s.used (g.waits_left s.bus) (g.settles_left s.bus) (g.ready s.bus) s.phase s.request
+  all_less tries s = less_count tries (length s.left.now) s.due s.pass (g.waits_left s.bus) (g.settles_left s.bus) (g.ready s.bus) s.phase s.request
 
   pub all_over : (tries : ℕ) (stations : List (Station B)) → All (IsSound g tries) stations → ((k : ℕ) (d : Station B) → k < length stations → rounds_of g 1 1 1 tries (get_or stations k d) ≤ 0) → All IsOver stations
   all_over tries stations sound none k d below =
       let s : Station B = get_or stations k d in
-      let is = over_by tries (length s.left.now) s.used (g.waits_left s.bus) (g.settles_left s.bus) (g.ready s.bus) s.phase s.request (sound k d below) (none k d below) in
+      let is = over_by tries (length s.left.now) s.due s.pass (g.waits_left s.bus) (g.settles_left s.bus) (g.ready s.bus) s.phase s.request (sound k d below) (none k d below) in
       (nil_from_length s.left.now is.0, is.1)
 
   -- and no request is out
   pub all_silent : (tries : ℕ) (stations : List (Station B)) → All (IsSound g tries) stations → All IsOver stations → All IsSilent stations
   all_silent tries stations sound over k d below =
       let s : Station B = get_or stations k d in
-      silent_by tries (length s.left.now) s.used (g.waits_left s.bus) s.phase s.request (sound k d below) (over k d below).1
+      silent_by tries (length s.left.now) s.due s.pass (g.waits_left s.bus) s.phase s.request (sound k d below) (over k d below).1
 
   -- a queue of which no meter was started takes no more rounds than these
   pub most_rounds : (tries : ℕ) (s : Station B) → tries < 256 → IsFresh s → HasFew s → rounds_of g 1 1 1 tries s + 1 ≤ 65535 * (255 * rounds_a_start) + rounds_a_start
-  most_rounds tries s small fresh few = few_by tries (length s.left.now) s.used (g.waits_left s.bus) (g.settles_left s.bus) (g.ready s.bus) s.phase s.request small few fresh.free
+  most_rounds tries s small fresh few = few_by tries (length s.left.now) s.due s.pass (g.waits_left s.bus) (g.settles_left s.bus) (g.ready s.bus) s.phase s.request small few fresh.all fresh.first fresh.free
 
   pub all_fresh : (tries : ℕ) (stations : List (Station B)) → 0 < tries → All IsFresh stations → All (IsSound g tries) stations
   all_fresh tries stations some fresh k d below =
       let s : Station B = get_or stations k d in
       let is = fresh k d below in
-      fresh_by tries (length s.left.now) s.used (g.waits_left s.bus) s.phase s.request some is.unused is.free is.quiet
+      fresh_by tries (length s.left.now) s.due s.pass (g.waits_left s.bus) s.phase s.request some is.all is.first is.free is.quiet

@@ -12,8 +12,18 @@ pub mod Becoming
 pub mod Rounds
 -- what becomes of a line by a commit
 pub mod Storing
--- a queue that is at its end went through all its meters
+-- a queue that is at its end went through all its meters, in passes
 pub mod Tried
+-- a meter that is done with isn't started again
+pub mod Once
+-- how often the meters of a queue are started and asked at most
+pub mod Bounded
+-- where nothing fails, every meter of a queue is read
+pub mod Reading
+-- where the turns of a run say that all is committed, nothing is pending
+pub mod Meanings
+-- in rounds, all is committed where a line has no request any more
+pub mod Leaving
 -- what is written of a line after a commit
 pub mod Writing
 -- how many rounds a line takes at most that takes no step

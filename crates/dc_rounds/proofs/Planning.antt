@@ -1,5 +1,5 @@
 -- Which meters are read on which line.
-use Rattle.std.proofs.Common.{◌≡◌, ℕ, zero, suc, ◌+◌, ◌-◌, ◌<◌, ◌≤◌, Bool, true, false, List, [], ◌∷◌, ◌++◌, Option, None, Some, length, get_or, map, take, refl, ap, sym, subst, ◌∙◌, append_assoc, arith}
+use Rattle.std.proofs.Common.{◌≡◌, ℕ, zero, suc, ◌+◌, ◌-◌, ◌<◌, ◌≤◌, Bool, true, false, List, [], ◌∷◌, ◌++◌, Option, None, Some, length, get_or, map, take, drop, refl, ap, sym, subst, ◌∙◌, append_assoc, arith}
 use Rattle.std.proofs.lemmas.List.{get_or-map, length-map, map-append}
 use Rattle.dc_changes.specs.State.{State}
 use Rattle.dc_address.specs.declared.identity.Identity.{Identity}
@@ -14,6 +14,19 @@ each_more P [] x each is zero d below = is
 each_more P [] x each is (suc k) d below = absurd (omega (arith, below))
 each_more P (y ∷ xs) x each is zero d below = each zero d (omega arith)
 each_more P (y ∷ xs) x each is (suc k) d below = each_more (λ n. P (suc n)) xs x (λ j e less. each (suc j) e (omega (arith, less))) is k d (omega (arith, below))
+
+-- what comes first after so many, and what after it
+pub first_after : {X : Type 0} (n : ℕ) (xs : List X) (x : X) (rest : List X) (d : X) → drop n xs ≡ x ∷ rest → get_or xs n d ≡ x
+first_after zero [] x rest d is = absurd cc
+first_after (suc n) [] x rest d is = absurd cc
+first_after zero (y ∷ xs) x rest d is = cc
+first_after (suc n) (y ∷ xs) x rest d is = first_after n xs x rest d is
+
+pub rest_after : {X : Type 0} (n : ℕ) (xs : List X) (x : X) (rest : List X) → drop n xs ≡ x ∷ rest → drop (suc n) xs ≡ rest
+rest_after zero [] x rest is = absurd cc
+rest_after (suc n) [] x rest is = absurd cc
+rest_after zero (y ∷ xs) x rest is = cc
+rest_after (suc n) (y ∷ xs) x rest is = rest_after n xs x rest is
 
 module _ {B Q : Type 0} (items : Q → List Identity) (lost : B → Bool) (state : State) (only : List Identity) where
   pub queues_none : (buses : List B) (queues : List Q) → length queues ≡ 0 → AreQueues items lost state only buses queues

@@ -1,5 +1,5 @@
 -- How the queue of a line goes on, and the talk on its bus.
-use Rattle.std.proofs.Common.{◌≡◌, ◌≢◌, ◌==◌, ℕ, zero, suc, ◌+◌, ◌<◌, ◌≤◌, Bool, true, false, List, [], ◌∷◌, ◌++◌, length, drop, refl, ap, sym, subst, ◌∙◌, arith, append-nil, if◌then◌else◌}
+use Rattle.std.proofs.Common.{◌≡◌, ◌≢◌, ◌==◌, ℕ, zero, suc, ◌+◌, ◌-◌, ◌<◌, ◌≤◌, Bool, true, false, List, [], ◌∷◌, ◌++◌, length, take, drop, refl, ap, sym, subst, ◌∙◌, arith, append-nil, if◌then◌else◌}
 use Rattle.std.specs.List.{All}
 use Rattle.std.proofs.lemmas.Bool.{eq-eqb, ne_eqb}
 use Rattle.std.proofs.lemmas.List.Elements.{All-nil, All-cons, All-append}
@@ -8,7 +8,7 @@ use Rattle.dc_core.specs.Event.{Event, Answer}
 use Rattle.dc_core.specs.Transcript.{Turn}
 use Rattle.dc_rounds.specs.Bus.{Bus}
 use Rattle.dc_rounds.specs.Happening.{Told, Happening, does, tells, is_on, kept_on, happened_on, happened_turns, turns_of}
-use Rattle.dc_rounds.specs.Queue.{Part, part, Goes, stays, starts_it, is_refused, asks_it, has_no_request, is_given_up, goes_on, is_accepted, fails, fails_at_last, is_faulty, is_stored, is_unstored, stands_by, is_told, loses_it}
+use Rattle.dc_rounds.specs.Queue.{Part, part, Goes, stays, passes_on, starts_it, is_refused, asks_it, has_no_request, is_given_up, goes_on, is_accepted, is_put_off, fails_at_last, is_faulty, is_stored, is_unstored, stands_by, is_told, loses_it}
 use Rattle.dc_rounds.specs.Talking.{Talk, Talks, rests, settles_it, begins, has_none, sends_it, waits_it, takes_it, hears_it, stands_by as talk_stands_by, tells_it, loses_it as talk_loses_it}
 use Rattle.dc_rounds.specs.Round.{LineGoes, Moves, Steps, AreTurns}
 use Rattle.dc_rounds.specs.Station.{part_of, talk_of, Next, IsAfter}
@@ -21,18 +21,19 @@ use Rattle.dc_rounds.proofs.Happenings.{on_append, turns_append}
 
 pub goes_both : {tries line : ℕ} {old between last : Part} {front back : List Happening} → Goes tries line old front between → Goes tries line between back last → Goes tries line old (front ++ back) last
 goes_both stays b = b
+goes_both (passes_on less a) b = passes_on less (goes_both a b)
 goes_both (starts_it few a) b = starts_it few (goes_both a b)
 goes_both (is_refused few a) b = is_refused few (goes_both a b)
 goes_both (asks_it a) b = asks_it (goes_both a b)
-goes_both (has_no_request was a) b = has_no_request was (goes_both a b)
-goes_both (is_given_up was a) b = is_given_up was (goes_both a b)
+goes_both (has_no_request a) b = has_no_request (goes_both a b)
+goes_both (is_given_up a) b = is_given_up (goes_both a b)
 goes_both (goes_on on a) b = goes_on on (goes_both a b)
 goes_both (is_accepted a) b = is_accepted (goes_both a b)
-goes_both (fails few a) b = fails few (goes_both a b)
-goes_both (fails_at_last was most a) b = fails_at_last was most (goes_both a b)
-goes_both (is_faulty was a) b = is_faulty was (goes_both a b)
+goes_both (is_put_off few a) b = is_put_off few (goes_both a b)
+goes_both (fails_at_last most a) b = fails_at_last most (goes_both a b)
+goes_both (is_faulty a) b = is_faulty (goes_both a b)
 goes_both (is_stored a) b = is_stored (goes_both a b)
-goes_both (is_unstored was a) b = is_unstored was (goes_both a b)
+goes_both (is_unstored a) b = is_unstored (goes_both a b)
 goes_both (stands_by not a) b = stands_by not (goes_both a b)
 goes_both (is_told as_end a) b = is_told as_end (goes_both a b)
 goes_both (loses_it a) b = loses_it (goes_both a b)
@@ -129,28 +130,37 @@ module _ {B : Type 0} {g : Bus B} where
 module _ {B : Type 0} where
   -- ---- by its parts
 
-  pub part_is : (s : Station B) (left : List Identity) (used : ℕ) (phase : Phase) → s.left.now ≡ left → s.used ≡ used → s.phase ≡ phase → part_of s ≡ part left used phase
-  part_is s left used phase l u p = ap (λ (xs : List Identity). part xs s.used s.phase) l ∙ ap (λ (n : ℕ). part left n s.phase) u ∙ ap (λ (q : Phase). part left used q) p
+  -- of the meters so many are left in this pass
+  pub part_is : (s : Station B) (left : List Identity) (due pass : ℕ) (phase : Phase) → s.left.now ≡ left → s.due ≡ due → s.pass ≡ pass → s.phase ≡ phase → part_of s ≡ part (take due left) (drop due left) pass phase
+  part_is s left due pass phase l d n p =
+      ap (λ (xs : List Identity). part (take s.due xs) (drop s.due xs) s.pass s.phase) l ∙ ap (λ (k : ℕ). part (take k left) (drop k left) s.pass s.phase) d
+      ∙ ap (λ (k : ℕ). part (take due left) (drop due left) k s.phase) n ∙ ap (λ (q : Phase). part (take due left) (drop due left) pass q) p
+
+  -- one whose present meter is known
+  pub part_first : (s : Station B) (meter : Identity) (phase : Phase) → s.left.now ≡ meter ∷ drop 1 s.left.now → 0 < s.due → s.phase ≡ phase
+      → part_of s ≡ part (meter ∷ take (s.due - 1) (drop 1 s.left.now)) (drop (s.due - 1) (drop 1 s.left.now)) s.pass phase
+  part_first s meter phase first some is = part_is s (meter ∷ drop 1 s.left.now) (suc (s.due - 1)) s.pass phase first (omega (arith, some)) refl is
 
   pub talk_is : (s : Station B) (bus : B) (request : Request) (said : Bool) → s.bus ≡ bus → s.request ≡ request → s.said ≡ said → talk_of s ≡ record { bus = bus; request = request; said = said }
   talk_is s bus request said b r w =
       let one : Talk B → Talk B = λ t. t in
       ap (λ (x : B). one (record { bus = x; request = s.request; said = s.said })) b ∙ ap (λ (x : Request). one (record { bus = bus; request = x; said = s.said })) r ∙ ap (λ (x : Bool). one (record { bus = bus; request = request; said = x })) w
 
-  pub part_after : (n : Next) (bus : B) (request : Request) (said : Bool) (s : Station B) → IsAfter n bus request said s → part_of s ≡ part n.left n.used n.phase
-  part_after n bus request said s is = part_is s n.left n.used n.phase is.left is.used is.phase
+  pub part_after : (n : Next) (bus : B) (request : Request) (said : Bool) (s : Station B) → IsAfter n bus request said s → part_of s ≡ part (take n.due n.left) (drop n.due n.left) n.pass n.phase
+  part_after n bus request said s is = part_is s n.left n.due n.pass n.phase is.left is.due is.pass is.phase
 
   pub talk_after : (n : Next) (bus : B) (request : Request) (said : Bool) (s : Station B) → IsAfter n bus request said s → talk_of s ≡ record { bus = bus; request = request; said = said }
   talk_after n bus request said s is = talk_is s bus request said is.bus is.request is.said
 
   -- what holds of the parts holds of the station, and back
-  pub of_after : (P : List Identity → ℕ → Phase → Request → B → Type 0) (n : Next) (bus : B) (request : Request) (said : Bool) (s : Station B) → IsAfter n bus request said s → P n.left n.used n.phase request bus → P s.left.now s.used s.phase s.request s.bus
+  pub of_after : (P : List Identity → ℕ → ℕ → Phase → Request → B → Type 0) (n : Next) (bus : B) (request : Request) (said : Bool) (s : Station B) → IsAfter n bus request said s → P n.left n.due n.pass n.phase request bus → P s.left.now s.due s.pass s.phase s.request s.bus
   of_after P n bus request said s is has =
-      subst (λ (x : List Identity). P x s.used s.phase s.request s.bus) (sym is.left)
-      (subst (λ (x : ℕ). P n.left x s.phase s.request s.bus) (sym is.used)
-      (subst (λ (x : Phase). P n.left n.used x s.request s.bus) (sym is.phase)
-      (subst (λ (x : Request). P n.left n.used n.phase x s.bus) (sym is.request)
-      (subst (λ (x : B). P n.left n.used n.phase request x) (sym is.bus) has))))
+      subst (λ (x : List Identity). P x s.due s.pass s.phase s.request s.bus) (sym is.left)
+      (subst (λ (x : ℕ). P n.left x s.pass s.phase s.request s.bus) (sym is.due)
+      (subst (λ (x : ℕ). P n.left n.due x s.phase s.request s.bus) (sym is.pass)
+      (subst (λ (x : Phase). P n.left n.due n.pass x s.request s.bus) (sym is.phase)
+      (subst (λ (x : Request). P n.left n.due n.pass n.phase x s.bus) (sym is.request)
+      (subst (λ (x : B). P n.left n.due n.pass n.phase request x) (sym is.bus) has)))))
 
   pub to_phase : (P : Phase → Request → Type 0) (s : Station B) (phase : Phase) (request : Request) → s.phase ≡ phase → s.request ≡ request → P s.phase s.request → P phase request
   to_phase P s phase request p r has = subst (λ (x : Request). P phase x) r (subst (λ (x : Phase). P x s.request) p has)

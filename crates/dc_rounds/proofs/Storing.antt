@@ -1,5 +1,5 @@
 -- What becomes of a line's part by a commit.
-use Rattle.std.proofs.Common.{◌≡◌, ℕ, zero, suc, ◌+◌, ◌-◌, ◌<◌, ◌≤◌, Bool, true, false, inl, inr, List, [], ◌∷◌, ◌++◌, Result, Ok, Err, length, drop, get_or, refl, ap, sym, subst, ◌∙◌, arith}
+use Rattle.std.proofs.Common.{◌≡◌, ℕ, zero, suc, ◌+◌, ◌-◌, ◌<◌, ◌≤◌, Bool, true, false, inl, inr, List, [], ◌∷◌, ◌++◌, ◌*◌, Result, Ok, Err, length, take, drop, get_or, refl, ap, sym, subst, ◌∙◌, arith}
 use Rattle.std.specs.List.{All}
 use Rattle.std.proofs.lemmas.List.Elements.{All-nil, All-cons}
 use Rattle.dc_core.specs.Transcript.{Turn}
@@ -13,62 +13,76 @@ use Rattle.dc_rounds.specs.Talking.{Talk, Talks, rests, stands_by as talk_stands
 use Rattle.dc_rounds.specs.Round.{LineGoes, Rounds, AllSteps, IsStored, AreStored, EachFewer, IsCommitTurn, IsRoom, IsStoredAs, uncounted}
 use Rattle.dc_rounds.specs.Keeping.{IsHearing}
 use Rattle.std.specs.Prelude.{OnOk}
-use Rattle.dc_rounds.specs.Station.{IsSoundIn, IsSound, IsAfter, Next, part_of, talk_of, rounds_in, rounds_of, ended, lost_by, stored_by}
+use Rattle.dc_line.specs.Bus.{most_settles}
+use Rattle.dc_rounds.specs.Station.{IsSoundIn, IsSound, IsAfter, Next, part_of, talk_of, rounds_a_start, rounds_a_request, rounds_to_settle, rounds_in, rounds_of, stored_by}
 use Rattle.dc_rounds.specs.declared.end.End.{End}
+use Rattle.dc_rounds.specs.declared.end.End.TheVariants.{Refused}
+use Rattle.dc_rounds.specs.declared.end.Refusal.TheVariants.{Commit}
 use Rattle.dc_rounds.specs.declared.phase.Phase.{Phase}
 use Rattle.dc_rounds.specs.declared.phase.Phase.TheVariants.{Free, Busy, Pending, Over}
 use Rattle.dc_rounds.specs.declared.phase.Request.{Request}
 use Rattle.dc_rounds.specs.declared.phase.Request.TheVariants.{Quiet}
 use Rattle.dc_rounds.specs.declared.station.Station.{Station}
-use Rattle.dc_rounds.proofs.Counts.{left_count}
+use Rattle.dc_rounds.proofs.Counts.{left_count, pass_less}
 use Rattle.dc_rounds.proofs.Queues.{part_after, talk_is, of_after}
 
-goes_stored : (tries line : ℕ) (left : List Identity) (used : ℕ) (phase : Phase) (request : Request) (waits : ℕ) (stored : Result ℕ CommitFault) → IsSoundIn tries (length left) used phase request waits
-    → Goes tries line (part left used phase) (does (commits, committed stored) ∷ []) (part (stored_by left used phase stored).left (stored_by left used phase stored).used (stored_by left used phase stored).phase)
-goes_stored tries line left used Free request waits stored sound = stands_by tt stays
-goes_stored tries line left used (Busy n) request waits stored sound = stands_by tt stays
-goes_stored tries line left used (Over end) request waits stored sound = stands_by tt stays
-goes_stored tries line [] used (Pending n) request waits stored sound = absurd (let some = sound.0 in omega (arith, some))
-goes_stored tries line (m ∷ ms) used (Pending n) request waits (Ok count) sound = is_stored stays
-goes_stored tries line (m ∷ ms) used (Pending n) request waits (Err fault) sound = is_unstored sound.1 stays
+-- the part that such a next is
+abbrev part_by : Next → Part
+part_by n = part (take n.due n.left) (drop n.due n.left) n.pass n.phase
 
-sound_by : (tries : ℕ) (left : List Identity) (used : ℕ) (phase : Phase) (request : Request) (waits : ℕ) (stored : Result ℕ CommitFault) → IsSoundIn tries (length left) used phase request waits
-    → IsSoundIn tries (length (stored_by left used phase stored).left) (stored_by left used phase stored).used (stored_by left used phase stored).phase request waits
-sound_by tries left used Free request waits stored sound = sound
-sound_by tries left used (Busy n) request waits stored sound = sound
-sound_by tries left used (Over end) request waits stored sound = sound
-sound_by tries [] used (Pending n) request waits stored sound = absurd (let some = sound.0 in omega (arith, some))
-sound_by tries (m ∷ ms) used (Pending n) request waits (Ok count) sound = (sound.0, sound.1, sound.2, sound.3, λ e. absurd (let quiet = sound.4 in let both = sym quiet ∙ e in cc))
-sound_by tries (m ∷ ms) used (Pending n) request waits (Err fault) sound = let was = sound.1 in let few = sound.2 in (refl, omega (arith, was, few), sound.4)
+goes_stored : (tries line : ℕ) (left : List Identity) (due pass : ℕ) (phase : Phase) (request : Request) (waits : ℕ) (stored : Result ℕ CommitFault) → IsSoundIn tries (length left) due pass phase request waits
+    → Goes tries line (part (take due left) (drop due left) pass phase) (does (commits, committed stored) ∷ []) (part_by (stored_by left due pass phase stored))
+goes_stored tries line left due pass Free request waits stored sound = stands_by tt stays
+goes_stored tries line left due pass (Busy n) request waits stored sound = stands_by tt stays
+goes_stored tries line left due pass (Over end) request waits stored sound = stands_by tt stays
+goes_stored tries line [] due pass (Pending n) request waits stored sound = absurd (let some = sound.1 in let few = sound.0.2 in omega (arith, some, few))
+goes_stored tries line (m ∷ ms) zero pass (Pending n) request waits stored sound = absurd (let some = sound.1 in omega (arith, some))
+goes_stored tries line (m ∷ ms) (suc d) pass (Pending n) request waits (Ok count) sound = is_stored stays
+goes_stored tries line (m ∷ ms) (suc d) pass (Pending n) request waits (Err fault) sound =
+    subst (λ (k : ℕ). Goes tries line (part (m ∷ take d ms) (drop d ms) pass (Pending n)) (does (commits, committed (Err fault)) ∷ []) (part (take k ms) (drop k ms) pass (Over (Refused m (Commit fault)))))
+    (omega arith) (is_unstored stays)
 
-fewer_by : (tries out pending : ℕ) (left : List Identity) (used : ℕ) (phase : Phase) (request : Request) (waits : ℕ) (ready : Bool) (settles : ℕ) (stored : Result ℕ CommitFault) → IsSoundIn tries (length left) used phase request waits
-    → rounds_in out pending 0 tries (length (stored_by left used phase stored).left) (stored_by left used phase stored).used (stored_by left used phase stored).phase request waits ready settles
-    ≤ rounds_in out 0 0 tries (length left) used phase request waits ready settles - 0
-fewer_by tries out pending left used Free request waits ready settles stored sound = omega arith
-fewer_by tries out pending left used (Busy n) request waits ready settles stored sound = omega arith
-fewer_by tries out pending left used (Over end) request waits ready settles stored sound = omega arith
-fewer_by tries out pending [] used (Pending n) request waits ready settles stored sound = absurd (let some = sound.0 in omega (arith, some))
-fewer_by tries out pending (m ∷ ms) used (Pending n) request waits ready settles (Ok count) sound = by_request request sound.4
+sound_by : (tries : ℕ) (left : List Identity) (due pass : ℕ) (phase : Phase) (request : Request) (waits : ℕ) (stored : Result ℕ CommitFault) → IsSoundIn tries (length left) due pass phase request waits
+    → IsSoundIn tries (length (stored_by left due pass phase stored).left) (stored_by left due pass phase stored).due (stored_by left due pass phase stored).pass (stored_by left due pass phase stored).phase request waits
+sound_by tries left due pass Free request waits stored sound = sound
+sound_by tries left due pass (Busy n) request waits stored sound = sound
+sound_by tries left due pass (Over end) request waits stored sound = sound
+sound_by tries [] due pass (Pending n) request waits stored sound = absurd (let some = sound.1 in let few = sound.0.2 in omega (arith, some, few))
+sound_by tries (m ∷ ms) due pass (Pending n) request waits (Ok count) sound = (sound.0, sound.1, sound.2, λ e. absurd (let quiet = sound.3 in let both = sym quiet ∙ e in cc))
+sound_by tries (m ∷ ms) due pass (Pending n) request waits (Err fault) sound = (pass_less tries (m ∷ ms) due pass sound.1 sound.0, sound.3)
+
+fewer_by : (tries out pending : ℕ) (left : List Identity) (due pass : ℕ) (phase : Phase) (request : Request) (waits : ℕ) (ready : Bool) (settles : ℕ) (stored : Result ℕ CommitFault) → IsSoundIn tries (length left) due pass phase request waits
+    → rounds_in out pending 0 tries (length (stored_by left due pass phase stored).left) (stored_by left due pass phase stored).due (stored_by left due pass phase stored).pass (stored_by left due pass phase stored).phase request waits ready settles
+    ≤ rounds_in out 0 0 tries (length left) due pass phase request waits ready settles - 0
+fewer_by tries out pending left due pass Free request waits ready settles stored sound = omega arith
+fewer_by tries out pending left due pass (Busy n) request waits ready settles stored sound = omega arith
+fewer_by tries out pending left due pass (Over end) request waits ready settles stored sound = omega arith
+fewer_by tries out pending [] due pass (Pending n) request waits ready settles stored sound = absurd (let some = sound.1 in let few = sound.0.2 in omega (arith, some, few))
+fewer_by tries out pending (m ∷ ms) due pass (Pending n) request waits ready settles (Ok count) sound = by_request request sound.3
   where
-    by_request : (rq : Request) → rq ≡ Quiet → rounds_in out pending 0 tries (suc (length ms)) used (Busy n) rq waits ready settles ≤ rounds_in out 0 0 tries (suc (length ms)) used (Pending n) rq waits ready settles - 0
-    by_request rq e = subst (λ (x : Request). rounds_in out pending 0 tries (suc (length ms)) used (Busy n) x waits ready settles ≤ rounds_in out 0 0 tries (suc (length ms)) used (Pending n) x waits ready settles - 0) (sym e) (omega arith)
-fewer_by tries out pending (m ∷ ms) used (Pending n) request waits ready settles (Err fault) sound = let less = left_count (m ∷ ms) used tries sound.0 sound.2 in omega (arith, less)
+    by_request : (rq : Request) → rq ≡ Quiet → rounds_in out pending 0 tries (suc (length ms)) due pass (Busy n) rq waits ready settles ≤ rounds_in out 0 0 tries (suc (length ms)) due pass (Pending n) rq waits ready settles - 0
+    by_request rq e = subst (λ (x : Request). rounds_in out pending 0 tries (suc (length ms)) due pass (Busy n) x waits ready settles ≤ rounds_in out 0 0 tries (suc (length ms)) due pass (Pending n) x waits ready settles - 0) (sym e) (omega arith)
+fewer_by tries out pending (m ∷ ms) due pass (Pending n) request waits ready settles (Err fault) sound =
+    by_rest (suc (length ms) * (tries - pass)) (length ms * (tries - pass)) (left_count (m ∷ ms) due (tries - pass))
+  where
+    by_rest : (all rest : ℕ) → (due - 1) + rest ≤ (due - 1) + all → (due - 1 - 0 + rest) * rounds_a_start + (most_settles + 1 + 0) ≤ (due - 1 + all) * rounds_a_start + (rounds_to_settle + n * rounds_a_request + 0) - 0
+    by_rest all rest less = omega (arith, less)
 
 module _ {B : Type 0} (g : Bus B) where
   pub line_stored : (tries line : ℕ) (stored : Result ℕ CommitFault) (old new : Station B) → IsSound g tries old → IsStored stored old new → LineGoes g tries line old new (does (commits, committed stored) ∷ [])
   line_stored tries line stored old new sound is = record {
-    queue = subst (λ (x : Part). Goes tries line (part_of old) (does (commits, committed stored) ∷ []) x) (sym (part_after _ old.bus old.request old.said new is)) (goes_stored tries line old.left.now old.used old.phase old.request (g.waits_left old.bus) stored sound);
+    queue = subst (λ (x : Part). Goes tries line (part_of old) (does (commits, committed stored) ∷ []) x) (sym (part_after _ old.bus old.request old.said new is)) (goes_stored tries line old.left.now old.due old.pass old.phase old.request (g.waits_left old.bus) stored sound);
     talk = subst (λ (x : Talk B). Talks g line (talk_of old) (does (commits, committed stored) ∷ []) x) (sym (talk_is new old.bus old.request old.said is.bus is.request is.said)) (talk_stands_by rests);
   }
 
   pub sound_stored : (tries : ℕ) (stored : Result ℕ CommitFault) (old new : Station B) → IsSound g tries old → IsStored stored old new → IsSound g tries new
   sound_stored tries stored old new sound is =
-      of_after (λ left used phase request bus. IsSoundIn tries (length left) used phase request (g.waits_left bus)) _ _ _ _ new is (sound_by tries old.left.now old.used old.phase old.request (g.waits_left old.bus) stored sound)
+      of_after (λ left due pass phase request bus. IsSoundIn tries (length left) due pass phase request (g.waits_left bus)) _ _ _ _ new is (sound_by tries old.left.now old.due old.pass old.phase old.request (g.waits_left old.bus) stored sound)
 
   pub fewer_stored : (tries out pending : ℕ) (stored : Result ℕ CommitFault) (old new : Station B) → IsSound g tries old → IsStored stored old new → rounds_of g out pending 0 tries new ≤ rounds_of g out 0 0 tries old - 0
   fewer_stored tries out pending stored old new sound is =
-      of_after (λ left used phase request bus. rounds_in out pending 0 tries (length left) used phase request (g.waits_left bus) (g.ready bus) (g.settles_left bus) ≤ rounds_of g out 0 0 tries old - 0) _ _ _ _ new is
-      (fewer_by tries out pending old.left.now old.used old.phase old.request (g.waits_left old.bus) (g.ready old.bus) (g.settles_left old.bus) stored sound)
+      of_after (λ left due pass phase request bus. rounds_in out pending 0 tries (length left) due pass phase request (g.waits_left bus) (g.ready bus) (g.settles_left bus) ≤ rounds_of g out 0 0 tries old - 0) _ _ _ _ new is
+      (fewer_by tries out pending old.left.now old.due old.pass old.phase old.request (g.waits_left old.bus) (g.ready old.bus) (g.settles_left old.bus) stored sound)
 
   -- ---- all lines
 

@@ -1,5 +1,5 @@
 -- What is written of a line after a commit.
-use Rattle.std.proofs.Common.{◌≡◌, ◌≢◌, ℕ, zero, suc, ◌+◌, ◌-◌, ◌<◌, ◌≤◌, Bool, true, false, List, [], ◌∷◌, ◌++◌, Option, Result, Ok, Err, length, refl, ap, sym, subst, ◌∙◌, arith, append-nil}
+use Rattle.std.proofs.Common.{◌≡◌, ◌≢◌, ℕ, zero, suc, ◌+◌, ◌-◌, ◌<◌, ◌≤◌, Bool, true, false, List, [], ◌∷◌, ◌++◌, Option, Result, Ok, Err, length, take, drop, refl, ap, sym, subst, ◌∙◌, arith, append-nil}
 use Rattle.std.specs.Prelude.{OnOk}
 use Rattle.dc_changes.specs.State.{State}
 use Rattle.dc_core.specs.Core.{Core, present}
@@ -116,7 +116,7 @@ module _ {B : Type 0} (g : Bus B) where
   moves_end tries line state end old new over kept =
       subst (λ (s : Station B). Moves g tries line old s (tells line (told_of state end) ∷ [])) (sym kept)
       (moves_told tries line (told_of state end) old (record old { phase = Free }) (record {
-        queue = subst (λ (p : Phase). Goes tries line (part old.left.now old.used p) (tells line (told_of state end) ∷ []) (part old.left.now old.used Free)) (sym over) (is_told (told_as state end) stays);
+        queue = subst (λ (p : Phase). Goes tries line (part (take old.due old.left.now) (drop old.due old.left.now) old.pass p) (tells line (told_of state end) ∷ []) (part (take old.due old.left.now) (drop old.due old.left.now) old.pass Free)) (sym over) (is_told (told_as state end) stays);
         talk = tells_it (no_loss state end) rests;
       }))
 
@@ -130,29 +130,27 @@ module _ {B : Type 0} (g : Bus B) where
 
   pub sound_told : (tries : ℕ) (end : End) (old new : Station B) → old.phase ≡ Over end → new ≡ record old { phase = Free } → IsSound g tries old → IsSound g tries new
   sound_told tries end old new over kept sound =
-      let was = subst (λ (p : Phase). IsSoundIn tries (length old.left.now) old.used p old.request (g.waits_left old.bus)) over sound in
-      let unused = was.0 in
-      let some = was.1 in
-      subst (λ (s : Station B). IsSound g tries s) (sym kept) (omega (arith, unused, some), was.2)
+      let was = subst (λ (p : Phase). IsSoundIn tries (length old.left.now) old.due old.pass p old.request (g.waits_left old.bus)) over sound in
+      subst (λ (s : Station B). IsSound g tries s) (sym kept) was
 
   pub fewer_told : (tries : ℕ) (end : End) (old new : Station B) → old.phase ≡ Over end → new ≡ record old { phase = Free } → rounds_of g 1 1 1 tries new ≤ rounds_of g 1 1 0 tries old
   fewer_told tries end old new over kept =
       let few = settling_few (length old.left.now) (g.ready old.bus) (g.settles_left old.bus) in
       subst (λ (s : Station B). rounds_of g 1 1 1 tries s ≤ rounds_of g 1 1 0 tries old) (sym kept)
-      (subst (λ (p : Phase). rounds_in 1 1 1 tries (length old.left.now) old.used Free old.request (g.waits_left old.bus) (g.ready old.bus) (g.settles_left old.bus) ≤ rounds_in 1 1 0 tries (length old.left.now) old.used p old.request (g.waits_left old.bus) (g.ready old.bus) (g.settles_left old.bus)) (sym over) (omega (arith, few)))
+      (subst (λ (p : Phase). rounds_in 1 1 1 tries (length old.left.now) old.due old.pass Free old.request (g.waits_left old.bus) (g.ready old.bus) (g.settles_left old.bus) ≤ rounds_in 1 1 0 tries (length old.left.now) old.due old.pass p old.request (g.waits_left old.bus) (g.ready old.bus) (g.settles_left old.bus)) (sym over) (omega (arith, few)))
 
 pub on_ok : {X E : Type 0} (result : Result X E) (P Q : Type 0) → (P → Q) → OnOk result P → OnOk result Q
 on_ok (Ok x) P Q goes p = goes p
 on_ok (Err e) P Q goes p = tt
 
-over_count : (tries count used waits settles : ℕ) (ready : Bool) (phase : Phase) (request : Request) → ((end : End) → phase ≡ Over end → ⊥) → rounds_in 1 1 1 tries count used phase request waits ready settles ≤ rounds_in 1 1 0 tries count used phase request waits ready settles
-over_count tries count used waits settles ready Free request not = omega arith
-over_count tries count used waits settles ready (Busy n) request not = omega arith
-over_count tries count used waits settles ready (Pending n) request not = omega arith
-over_count tries count used waits settles ready (Over end) request not = absurd (not end refl)
+over_count : (tries count due pass waits settles : ℕ) (ready : Bool) (phase : Phase) (request : Request) → ((end : End) → phase ≡ Over end → ⊥) → rounds_in 1 1 1 tries count due pass phase request waits ready settles ≤ rounds_in 1 1 0 tries count due pass phase request waits ready settles
+over_count tries count due pass waits settles ready Free request not = omega arith
+over_count tries count due pass waits settles ready (Busy n) request not = omega arith
+over_count tries count due pass waits settles ready (Pending n) request not = omega arith
+over_count tries count due pass waits settles ready (Over end) request not = absurd (not end refl)
 
 pub fewer_silent : {B : Type 0} (g : Bus B) (tries : ℕ) (s : Station B) → ((end : End) → s.phase ≡ Over end → ⊥) → rounds_of g 1 1 1 tries s ≤ rounds_of g 1 1 0 tries s
-fewer_silent g tries s not = over_count tries (length s.left.now) s.used (g.waits_left s.bus) (g.settles_left s.bus) (g.ready s.bus) s.phase s.request not
+fewer_silent g tries s not = over_count tries (length s.left.now) s.due s.pass (g.waits_left s.bus) (g.settles_left s.bus) (g.ready s.bus) s.phase s.request not
 
 pub on_any : {X E : Type 0} (result : Result X E) (P : Type 0) → P → OnOk result P
 on_any (Ok x) P p = p

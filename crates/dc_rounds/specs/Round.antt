@@ -122,7 +122,8 @@ EndsInCommit moment stored turns = (front last : List Turn) × (turns ≡ front 
 
 abbrev pub IsStored : {B : Type 0} → Result ℕ CommitFault → Station B → Station B → Type 0
 IsStored stored old new =
-    IsAfter (stored_by old.left.now old.used old.phase stored) old.bus old.request old.said new
+    IsAfter (stored_by old.left.now old.due old.pass old.phase stored) old.bus old.request old.said
+    new
 
 -- what becomes of each line by a commit
 pub record AreStored {B : Type 0} (stored : Result ℕ CommitFault)
@@ -155,7 +156,8 @@ IsSilent station = station.request ≡ Quiet
 
 -- no meter was started
 pub record IsFresh {B : Type 0} (station : Station B) : Type 0 where
-  pub unused : station.used ≡ 0
+  pub first : station.pass ≡ 1
+  pub all : station.due ≡ length station.left.now
   pub free : station.phase ≡ Free
   pub quiet : station.request ≡ Quiet
 

@@ -136,11 +136,11 @@ fn poll<D: Disk + Drop, A: Allocator + Copy, B: QuietBus + Drop, T: Timer<B>, W:
         tries,
     } = plan;
     buses.truncate(MOST_LINES);
-    let queues = match queues_of(alloc, concentrator.house(), buses.as_slice(), only) {
+    let mut queues = match queues_of(alloc, concentrator.house(), buses.as_slice(), only) {
         Ok(queues) => queues,
         Err(_) => return Err(ProgramFault::NoMemory),
     };
-    let mut stations = match stations_of(alloc, buses, queues.as_slice()) {
+    let mut stations = match stations_of(alloc, buses, queues.as_mut_slice()) {
         Ok(stations) => stations,
         Err(_) => return Err(ProgramFault::NoMemory),
     };
@@ -227,17 +227,22 @@ fn is_wanted(meter: &Identity, only: &[Identity]) -> bool
 fn stations_of<'a, A: Allocator + Copy, B: QuietBus + Drop>(
     alloc: A,
     buses: Vec<B, A>,
-    queues: &'a [Vec<Identity, A>],
+    queues: &'a mut [Vec<Identity, A>],
 ) -> Result<Vec<Station<'a, B>, A>, NoMemory>
-    requires { length queues.now ≡ length buses.items }
+    requires { length queues.old ≡ length buses.items }
     ensures buses { IfOk result (λ stations. map (λ s. s.bus) stations.items ≡ buses.items) }
     ensures each { IfOk result (λ stations.
-        AreStations (λ v. v.items) B.lost queues.now stations.items) }
+        AreStations (λ v. v.items) B.lost queues.old stations.items) }
 {
     let mut stations = Vec::new(alloc);
+    let mut others = queues;
     'lines: for bus in buses {
+        let Some((queue, more)) = others.split_first_mut() else {
+            return Ok(stations);
+        };
+        others = more;
         let said = bus.is_lost();
-        let mut station = Station::new(bus, queues[stations.len()].as_slice());
+        let mut station = Station::new(bus, queue.as_mut_slice());
         station.said = said;
         stations.push(station)?;
     }

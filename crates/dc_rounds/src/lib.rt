@@ -1,6 +1,8 @@
 //! The readout of many meters on up to eight lines at once, round after round.
 //!
-//! In a round each line takes one step: it settles, begins its next meter and asks, or asks. Then time passes, what is
+//! The meters of a line are read in passes: the first goes through all, in order, each later one through those that
+//! failed in the one before it. In a round each line takes one step: it settles, begins its next meter and asks, or
+//! asks. Then time passes, what is
 //! complete of the answers is heard, one commit writes all that was accepted, and how readouts ended is written, a line
 //! of text each ([`read_all`]).
 #![tactic(auto)]
@@ -22,7 +24,11 @@ mod timer;
 
 pub use end::{End, Refusal};
 pub use image::{Plan, poll_image};
-pub use laws::every_meter_of_a_queue_is_started;
+pub use laws::{
+    a_queue_comes_to_its_end, every_meter_of_a_queue_is_started, what_is_committed_waits_no_more,
+    what_is_read_is_committed, what_is_read_is_not_begun_again,
+    where_nothing_fails_every_meter_is_read,
+};
 pub use outcome::Outcome;
 pub use phase::{Phase, Request};
 pub use readout::read_all;

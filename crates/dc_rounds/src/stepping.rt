@@ -39,17 +39,40 @@ pub fn step<D: Disk + Drop, A: Allocator + Copy, B: QuietBus + Drop>(
     let Request::Quiet = &station.request else {
         return;
     };
-    let Some(meter) = station.left.first() else {
+    let Some(meter) = station.present() else {
         return;
     };
     match station.phase {
-        Phase::Free => prepare(concentrator, station, line, *meter, tries),
-        Phase::Busy(asks) => ask(concentrator, station, line, *meter, asks),
+        Phase::Free => go_on(concentrator, station, line, meter, tries),
+        Phase::Busy(asks) => ask(concentrator, station, line, meter, asks),
         _ => {}
     }
 }
 
-// A line that is free settles, or begins its next meter.
+// A line that is free goes on in its pass, or in the next one.
+fn go_on<D: Disk + Drop, A: Allocator + Copy, B: QuietBus + Drop>(
+    concentrator: &mut Concentrator<D, A>,
+    station: &mut Station<'_, B>,
+    line: u8,
+    meter: Identity,
+    tries: u8,
+)
+    requires sound { IsSound B.QuietBus tries station.old }
+    requires free { station.old.phase ≡ Free }
+    requires first { station.old.left.now ≡ meter ∷ drop 1 station.old.left.now }
+    ensures went { Runs D.Disk (λ core happened.
+        Steps B.QuietBus tries line IsAsking station.old station.new happened)
+        concentrator.old concentrator.new }
+    ensures sound { IsSound B.QuietBus tries station.new }
+    ensures fewer { rounds_of B.QuietBus 0 0 0 tries station.new
+        ≤ rounds_of B.QuietBus 1 1 1 tries station.old - 1 }
+    ensures budget { concentrator.new.house.budget ≡ concentrator.old.house.budget }
+{
+    station.pass_on();
+    prepare(concentrator, station, line, meter, tries);
+}
+
+// It settles, or begins its next meter.
 fn prepare<D: Disk + Drop, A: Allocator + Copy, B: QuietBus + Drop>(
     concentrator: &mut Concentrator<D, A>,
     station: &mut Station<'_, B>,
@@ -59,6 +82,7 @@ fn prepare<D: Disk + Drop, A: Allocator + Copy, B: QuietBus + Drop>(
 )
     requires sound { IsSound B.QuietBus tries station.old }
     requires free { station.old.phase ≡ Free }
+    requires due { 0 < station.old.due }
     requires first { station.old.left.now ≡ meter ∷ drop 1 station.old.left.now }
     ensures went { Runs D.Disk (λ core happened.
         Steps B.QuietBus tries line IsAsking station.old station.new happened)
@@ -88,6 +112,7 @@ fn start<D: Disk + Drop, A: Allocator + Copy, B: QuietBus + Drop>(
     requires sound { IsSound B.QuietBus tries station.old }
     requires free { station.old.phase ≡ Free }
     requires ready { B.ready station.old.bus ≡ true }
+    requires due { 0 < station.old.due }
     requires first { station.old.left.now ≡ meter ∷ drop 1 station.old.left.now }
     ensures went { Runs D.Disk (λ core happened.
         Steps B.QuietBus tries line IsAsking station.old station.new happened)
@@ -180,11 +205,11 @@ fn judge<D: Disk + Drop, A: Allocator + Copy, B: QuietBus + Drop>(
     let Phase::Busy(asks) = station.phase else {
         return false;
     };
-    let Some(meter) = station.left.first() else {
+    let Some(meter) = station.present() else {
         return false;
     };
     let answer = calls::hear(concentrator, line, moment, station.taken());
-    station.judged(*meter, asks, tries, answer);
+    station.judged(meter, asks, tries, answer);
     is_accepted(&answer)
 }
 

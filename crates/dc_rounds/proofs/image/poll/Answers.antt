@@ -41,15 +41,15 @@ returns-in-Ok-read_on-clause-went g c =
     let only : List Identity = c.args.plan.only.now in
     let all : List g.row.B.Denot = c.args.plan.buses.items in
     let stations : List (Station g.row.B.Denot) = c.in-Ok-stations_of.stations.items in
-    let slice : c.as_mut_slice.result.now ≡ stations = c.as_mut_slice.ensures.value in
+    let slice : c.as_mut_slice-2.result.now ≡ stations = c.as_mut_slice-2.ensures.value in
     let cut : c.truncate.new.self.items ≡ take most_lines all = c.truncate.ensures.items in
     let buses : map bus_of stations ≡ c.truncate.new.self.items = c.in-Ok-stations_of.ensures.buses in
-    let seen : map bus_of c.as_slice-3.result.now ≡ take most_lines all = ap (λ (xs : List (Station g.row.B.Denot)). map bus_of xs) c.as_slice-3.ensures.value ∙ buses ∙ cut in
+    let seen : map bus_of c.as_slice-2.result.now ≡ take most_lines all = ap (λ (xs : List (Station g.row.B.Denot)). map bus_of xs) c.as_slice-2.ensures.value ∙ buses ∙ cut in
     let given : c.as_slice.result.now ≡ c.truncate.new.self.items = c.as_slice.ensures.value in
     let queues : AreQueues (λ v. v.items) lost c.house.result.now.state only c.truncate.new.self.items c.in-Ok.queues.items =
     subst (λ (bs : List g.row.B.Denot). AreQueues (λ v. v.items) lost c.house.result.now.state only bs c.in-Ok.queues.items) given c.in-Ok.ensures.queues in
     let count : length c.in-Ok.queues.items ≡ length c.truncate.new.self.items = c.in-Ok.ensures.count ∙ ap length given in
-    let lent : c.as_slice-2.result.now ≡ c.in-Ok.queues.items = c.as_slice-2.ensures.value in
+    let lent : c.as_mut_slice.result.now ≡ c.in-Ok.queues.items = c.as_mut_slice.ensures.value in
     let each : AreStations (λ v. v.items) lost c.in-Ok.queues.items stations = subst (λ qs. AreStations (λ v. v.items) lost qs stations) lent c.in-Ok-stations_of.ensures.each in
     let planned : ArePlanned lost c.house.result.now.state only all stations =
     planned_by (λ v. v.items) lost c.house.result.now.state only all c.truncate.new.self.items c.in-Ok.queues.items stations cut queues count buses each in
@@ -60,13 +60,13 @@ returns-in-Ok-read_on-clause-went g c =
     let state : c.house.result.now.state ≡ present core = ap (λ h. h.state) c.house.ensures ∙ is in
     let state' : c.house-2.result.now.state ≡ present core = ap (λ h. h.state) c.house-2.ensures ∙ is in
     record {
-      olds = c.as_mut_slice.result.now;
+      olds = c.as_mut_slice-2.result.now;
       news = c.read_on.new.stations;
       between = between;
       planned = subst (λ (xs : List (Station g.row.B.Denot)). ArePlanned lost (present core) only all xs) (sym slice) (subst (λ (s : State). ArePlanned lost s only all stations) state planned);
       refuses = subst (λ (s : State). Puts old between (refused_text (has_bus lost (take most_lines all)) s only)) state'
           (subst (λ (bs : List g.row.B.Denot). Puts old between (refused_text (has_bus lost bs) c.house-2.result.now.state only)) seen c.in-Ok-refuse_others.ensures.text);
-      polls = subst (λ (n : ℕ). PollsAll (whole g.B.HalfBus g.B.QuietBus) g.T.Timer.tells g.T.Timer.passes c.args.plan.tries c.as_mut_slice.result.now c.read_on.new.stations c.args.timer.now c.read_on.new.timer (Puts between (g.W.Sink.written c.read_on.new.out)) (record { read = 0; failed = n }) c.in-Ok-read_on.outcome core happened)
+      polls = subst (λ (n : ℕ). PollsAll (whole g.B.HalfBus g.B.QuietBus) g.T.Timer.tells g.T.Timer.passes c.args.plan.tries c.as_mut_slice-2.result.now c.read_on.new.stations c.args.timer.now c.read_on.new.timer (Puts between (g.W.Sink.written c.read_on.new.out)) (record { read = 0; failed = n }) c.in-Ok-read_on.outcome core happened)
           (c.in-Ok-refuse_others.ensures.count
           ∙ ap (λ (bs : List g.row.B.Denot). min 4294967295 (refused_count (has_bus lost bs) c.house-2.result.now.state only)) seen
           ∙ ap (λ (s : State). min 4294967295 (refused_count (has_bus lost (take most_lines all)) s only)) state') p;
@@ -79,15 +79,15 @@ read_on-requires-clause-sound g c =
     let only : List Identity = c.args.plan.only.now in
     let all : List g.row.B.Denot = c.args.plan.buses.items in
     let stations : List (Station g.row.B.Denot) = c.in-Ok-stations_of.stations.items in
-    let slice : c.as_mut_slice.result.now ≡ stations = c.as_mut_slice.ensures.value in
+    let slice : c.as_mut_slice-2.result.now ≡ stations = c.as_mut_slice-2.ensures.value in
     let cut : c.truncate.new.self.items ≡ take most_lines all = c.truncate.ensures.items in
     let buses : map bus_of stations ≡ c.truncate.new.self.items = c.in-Ok-stations_of.ensures.buses in
     let given : c.as_slice.result.now ≡ c.truncate.new.self.items = c.as_slice.ensures.value in
     let queues : AreQueues (λ v. v.items) lost c.house.result.now.state only c.truncate.new.self.items c.in-Ok.queues.items =
     subst (λ (bs : List g.row.B.Denot). AreQueues (λ v. v.items) lost c.house.result.now.state only bs c.in-Ok.queues.items) given c.in-Ok.ensures.queues in
     let count : length c.in-Ok.queues.items ≡ length c.truncate.new.self.items = c.in-Ok.ensures.count ∙ ap length given in
-    let lent : c.as_slice-2.result.now ≡ c.in-Ok.queues.items = c.as_slice-2.ensures.value in
+    let lent : c.as_mut_slice.result.now ≡ c.in-Ok.queues.items = c.as_mut_slice.ensures.value in
     let each : AreStations (λ v. v.items) lost c.in-Ok.queues.items stations = subst (λ qs. AreStations (λ v. v.items) lost qs stations) lent c.in-Ok-stations_of.ensures.each in
     let planned : ArePlanned lost c.house.result.now.state only all stations =
     planned_by (λ v. v.items) lost c.house.result.now.state only all c.truncate.new.self.items c.in-Ok.queues.items stations cut queues count buses each in
-    all_fresh (whole g.B.HalfBus g.B.QuietBus) c.args.plan.tries c.as_mut_slice.result.now c.requires (subst (λ (xs : List (Station g.row.B.Denot)). All IsFresh xs) (sym slice) (λ k d below. (planned.each k d below).fresh))
+    all_fresh (whole g.B.HalfBus g.B.QuietBus) c.args.plan.tries c.as_mut_slice-2.result.now c.requires (subst (λ (xs : List (Station g.row.B.Denot)). All IsFresh xs) (sym slice) (λ k d below. (planned.each k d below).fresh))

@@ -2,7 +2,7 @@ use Rattle.std.proofs.Common.{◌≡◌, ◌∷◌, drop, refl, ap, sym, ◌∙�
 use Rattle.dc_core.specs.Event.{hears, heard}
 use Rattle.dc_rounds.specs.Keeping.{IsHearing}
 use Rattle.dc_rounds.specs.declared.phase.Request.TheVariants.{Answered}
-use Rattle.dc_rounds.proofs.Becoming.{first_of, taken_is, line_judged}
+use Rattle.dc_rounds.proofs.Becoming.{busy_due, first_of, taken_is, line_judged}
 use Rattle.dc_rounds.proofs.Queues.{on_line, off_line, steps_one}
 use Rattle.dc_rounds.proofs.Running.{runs_as}
 use Rattle.dc_rounds.proofs.Whole.{whole}
@@ -13,8 +13,11 @@ returns-clause-went g c =
     let b = whole g.B.HalfBus g.B.QuietBus in
     let old = c.args.station.now in
     let bytes = c.taken.result.now in
-    let first : old.left.now ≡ c.in-Some.meter.now ∷ drop 1 old.left.now = first_of old.left.now c.in-Some.meter.now (sym c.in-Some.ensures.value) in
+    let first : old.left.now ≡ c.in-Some.meter ∷ drop 1 old.left.now = first_of old.left.now c.in-Some.meter (sym c.present.ensures ∙ c.in-Some.is) in
     let took : old.request ≡ Answered bytes = taken_is old.request c.requires.answered ∙ ap Answered (sym c.taken.ensures) in
     runs_as g.D.Disk _ _ c.args.concentrator.now c.hear-answer.new.concentrator c.hear-answer.ensures.went
     (λ core happened is. steps_one c.args.tries c.args.line (IsHearing c.args.moment.seconds) old c.judged.new.self (hears c.args.line c.args.moment.seconds bytes) (heard c.hear-answer.result) happened is (on_line c.args.line) (λ other not. off_line c.args.line other not) refl
-    (line_judged b c.args.tries c.args.line c.args.moment.seconds c.in-Busy.asks c.in-Some.meter.now bytes c.hear-answer.result old c.judged.new.self c.in-Busy.is took first c.requires.sound c.judged.ensures))
+    (line_judged b c.args.tries c.args.line c.args.moment.seconds c.in-Busy.asks c.in-Some.meter bytes c.hear-answer.result old c.judged.new.self c.in-Busy.is took first c.requires.sound c.judged.ensures))
+
+pub judged-requires-clause-due : goal.judged-requires-clause-due
+judged-requires-clause-due g c = busy_due (whole g.B.HalfBus g.B.QuietBus) c.args.tries c.in-Busy.asks c.args.station.now c.in-Busy.is c.requires.sound
