@@ -6,6 +6,7 @@
 #![tactic(auto)]
 
 mod calls;
+mod clock;
 mod end;
 mod ending;
 mod image;

@@ -41,6 +41,8 @@ impl<C: Clock + Copy + Eprint> Timer<SystemBus<'_, C>> for SystemTimer<'_, '_, C
 
     ghost passes = { λ _ _. ⊤ };
 
+    ghost warns = { λ _ _. ⊤ };
+
     fn now(&mut self) -> Moment {
         if let Ok(now) = SystemTime::now(&self.clock)
             && let Ok(since) = now.duration_since(UNIX_EPOCH)
@@ -60,6 +62,10 @@ impl<C: Clock + Copy + Eprint> Timer<SystemBus<'_, C>> for SystemTimer<'_, '_, C
             }
         }
         watch.wait();
+    }
+
+    fn warn(&mut self) {
+        let _ = self.clock.eprint("mbdc: clock: behind the newest reading\n");
     }
 }
 
