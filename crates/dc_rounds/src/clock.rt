@@ -35,7 +35,10 @@ fn has_later_reading<A: Allocator + Copy>(house: &House<A>, moment: Moment) -> b
     ensures { result ≡ list_any (λ row. has_later moment.seconds row.parts)
         house.now.state.readings }
 {
-    house.readings().iter().any(|reading| has_later(reading.parts(), moment))
+    house
+        .readings()
+        .iter()
+        .any(|reading| has_later(reading.parts(), moment))
 }
 
 // Whether a telegram of a readout that isn't finished has one.
@@ -43,7 +46,9 @@ fn has_later_readout<A: Allocator + Copy>(house: &House<A>, moment: Moment) -> b
     ensures { result ≡ list_any (λ row. has_later moment.seconds row.1.parts)
         house.now.state.meters }
 {
-    house.meters().any(|(_, row)| has_later(row.parts(), moment))
+    house
+        .meters()
+        .any(|(_, row)| has_later(row.parts(), moment))
 }
 
 // Whether one of these telegrams has one.

@@ -65,7 +65,9 @@ impl<C: Clock + Copy + Eprint> Timer<SystemBus<'_, C>> for SystemTimer<'_, '_, C
     }
 
     fn warn(&mut self) {
-        let _ = self.clock.eprint("mbdc: clock: behind the newest reading\n");
+        let _ = self
+            .clock
+            .eprint("mbdc: clock: behind the newest reading\n");
     }
 }
 

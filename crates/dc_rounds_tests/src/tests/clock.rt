@@ -8,13 +8,7 @@ use std::alloc::Global;
 use std::process::Abort;
 use std::test::Fail;
 
-const TWO_PARTS: [Row; 1] = [Row(
-    "00000011.PAD.01.07",
-    1,
-    Some(1),
-    Kind::Sends(2),
-    SHORT,
-)];
+const TWO_PARTS: [Row; 1] = [Row("00000011.PAD.01.07", 1, Some(1), Kind::Sends(2), SHORT)];
 
 // Polls over one line at that moment.
 fn poll_over(

@@ -133,6 +133,10 @@ fn a_failed_write_ends_the_poll(rt: HostRuntime) -> Result<(), Fail> {
     let disk = registered(heap, &SMALL)?;
     let (disk, outcome) = poll_image(heap, disk, plan, &mut clock, &mut writer);
     assert_eq!(rt; outcome, Err(ProgramFault::Write));
-    assert!(rt; writer.as_slice().starts_with(b"READ 00000021.PAD.01.07 1 1\n"));
+    assert!(rt;
+        writer
+            .as_slice()
+            .starts_with(b"READ 00000021.PAD.01.07 1 1\n")
+    );
     goes_on(&rt, heap, disk, "READ 00000021.PAD.01.07 1 1\n")
 }

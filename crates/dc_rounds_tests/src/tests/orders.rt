@@ -68,7 +68,10 @@ fn answers_come_in_every_order(rt: HostRuntime) -> Result<(), Fail> {
         assert_eq!(rt; polled.outcome, Ok(ENDED));
         tells_all(&rt, heap, &HOUSE, text_of(&polled)?)?;
         let text = text_of(&polled)?;
-        assert_eq!(rt; holds_readings(&rt, heap, polled.disk.copy()?, &HOUSE, text)?, 15);
+        assert_eq!(rt;
+            holds_readings(&rt, heap, polled.disk.copy()?, &HOUSE, text)?,
+            15
+        );
     }
     Ok(())
 }

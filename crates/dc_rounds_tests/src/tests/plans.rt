@@ -74,7 +74,10 @@ fn what_is_no_image_is_refused(rt: HostRuntime) -> Result<(), Fail> {
     let heap = rt.alloc();
     let disk = MemoryDisk::new(heap, 131)?;
     let polled = poll(heap, disk, lines_of(heap, heap, &ROWS)?)?;
-    assert_eq!(rt; polled.outcome, Err(ProgramFault::Open(OpenFault::NotImage)));
+    assert_eq!(rt;
+        polled.outcome,
+        Err(ProgramFault::Open(OpenFault::NotImage))
+    );
     assert_eq!(rt; text_of(&polled)?, "");
     Ok(())
 }

@@ -32,11 +32,7 @@ fn is_reading_of<A: Allocator>(
 }
 
 // Whether a reading is that of some row.
-fn is_sent<A: Allocator>(
-    heap: Global,
-    reading: &Reading<A>,
-    rows: &[Row],
-) -> Result<bool, Fail> {
+fn is_sent<A: Allocator>(heap: Global, reading: &Reading<A>, rows: &[Row]) -> Result<bool, Fail> {
     for row in rows {
         if reading.meter().text().as_slice() == row.0.as_bytes() {
             return is_reading_of(heap, reading, row);
