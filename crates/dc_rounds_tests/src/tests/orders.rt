@@ -2,7 +2,7 @@
 
 use super::house::{Kind, LONGEST, Row, SHORT, line_of, lines_of, registered};
 use super::line::Numbers;
-use super::polling::{is_failing, poll, tells_all, text_of};
+use super::polling::{poll, tells_all, text_of};
 use super::promises::holds_readings;
 use dc_inspect::inspect;
 use dc_io::Bytes;
@@ -168,10 +168,4 @@ fn a_full_register_refuses_and_the_poll_goes_on(rt: HostRuntime) -> Result<(), F
     let readings = holds_readings(&rt, heap, polled.disk.copy()?, &FILLING, FILLED)?;
     assert_eq!(rt; readings, 6);
     Ok(())
-}
-
-// How many rows of a house fail, as its constant says.
-#[test]
-fn the_house_is_as_counted(rt: HostRuntime) {
-    assert_eq!(rt; HOUSE.iter().filter(|row| is_failing(row)).count(), 9);
 }

@@ -101,13 +101,13 @@ pub fn text_of(polled: &Polled) -> Result<&str, Fail> {
     }
 }
 
-/// Whether the meter of a row isn't read.
-pub fn is_failing(row: &Row) -> bool {
+// Whether the meter of a row isn't read.
+fn is_failing(row: &Row) -> bool {
     !matches!(row.3, Kind::Sends(_))
 }
 
-/// The line of text of a row, where a reading has this serial.
-pub fn line_for(heap: Global, row: &Row, serial: u64) -> Result<String, AllocError> {
+// The line of text of a row, where a reading has this serial.
+fn line_for(heap: Global, row: &Row, serial: u64) -> Result<String, AllocError> {
     let Row(text, _, _, kind, _) = *row;
     match kind {
         Kind::Sends(parts) => format!(in heap; "READ {text} {serial} {parts}"),
