@@ -8,6 +8,7 @@ use Rattle.dc_poller.specs.ImageRun.{IsOpenedOn}
 use Rattle.dc_sectors.specs.declared.device.Disk.{Ghosts}
 use Rattle.dc_io.specs.Stream.{Puts}
 use Rattle.dc_rounds.specs.Bus.{Bus}
+use Rattle.dc_rounds.specs.Clock.{ComparesClock}
 use Rattle.dc_rounds.specs.Happening.{Happening}
 use Rattle.dc_rounds.specs.Planned.{ArePlanned, has_bus, refused_count, refused_text}
 use Rattle.dc_rounds.specs.Polls.{PollsAll}
@@ -30,19 +31,21 @@ pub record ImageTurned {D : Type 0} (g : Ghosts D) (such : Core → List Happeni
 -- THE METERS OF A PLAN ARE READ. The lines are those of the first eight buses; on each whose bus isn't lost the
 -- meters of the register that hang there are read, or those of them that are named, in order of identity. Before it,
 -- a line of text is written for each naming of a meter that can't be read; these count as failed (up to 2^32 - 1 of
--- them).
+-- them). Before anything is asked the clock is compared with the time stamps of the register.
 pub record PlanPolled {B T : Type 0} (g : Bus B) (told : T → ℕ → T → Type 0)
-    (passes : T → T → Type 0)
+    (passes warned : T → T → Type 0)
     (buses : List B) (only : List Identity) (tries : ℕ) (first last : T) (old new : Option (List ℕ))
     (now : Outcome)
     (core : Core) (happened : List Happening) : Type 0 where
   pub olds : List (Station B)
   pub news : List (Station B)
   pub between : Option (List ℕ)
+  pub begun : T
   pub planned : ArePlanned g.lost (present core) only buses olds
+  pub compares : ComparesClock told warned (present core) first begun
   pub refuses : Puts old between (refused_text (has_bus g.lost (take most_lines buses))
       (present core) only)
-  pub polls : PollsAll g told passes tries olds news first last (Puts between new)
+  pub polls : PollsAll g told passes tries olds news begun last (Puts between new)
       (record {
         read = 0;
         failed = min (2 ^ 32 - 1)

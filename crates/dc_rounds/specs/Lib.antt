@@ -16,6 +16,8 @@ pub mod Station
 pub mod Round
 -- what a poll does, round after round
 pub mod Polls
+-- the clock of a poll and the time stamps of the register
+pub mod Clock
 -- which meters are read on which line, and which are refused before
 pub mod Planned
 -- what a poll does to an image

@@ -16,6 +16,7 @@ ghost use Rattle.dc_rounds.specs.Round.{Runs, most_lines};
 ghost use Rattle.dc_sectors.specs.Disk.{LeavesOnly};
 ghost use Rattle.dc_io.specs.Written.{PutsInto, Wrote};
 
+use crate::clock::compare_clock;
 use crate::end::Refusal;
 use crate::ending::put_refused;
 use crate::lines::line_at;
@@ -50,7 +51,8 @@ pub struct Plan<'a, A: Allocator, B: QuietBus + Drop> {
 /// Opens the image, reads its registered meters over the buses of their lines, each line's in order of identity, and
 /// closes it. The text is that of [`read_all`](crate::read_all). Before it, for each meter that is named and can't be
 /// read, `REFUSED ident 2 Unknown` is written where it isn't registered, and `REFUSED ident 1 NoLine` where its line
-/// has no bus; these count as failed. A line without a bus is never written to be lost. The disk comes back whatever
+/// has no bus; these count as failed. A line without a bus is never written to be lost. Before anything is asked the
+/// timer is warned where its moment lies before the newest time stamp of the register. The disk comes back whatever
 /// happens.
 ///
 /// # Errors
@@ -68,8 +70,8 @@ pub fn poll_image<D: Disk + Drop, A: Allocator + Copy, B: QuietBus + Drop, T: Ti
     // opened, and the image is left as that run leaves it.
     ensures polled { (D.keeps disk → EachStands (half_len_of (D.sectors disk)) (D.choices disk))
         → IfOk result.1 (λ outcome. ImageTurned D.Disk (λ core happened.
-        PlanPolled B.QuietBus T.tells T.passes plan.entry.buses.items plan.entry.only.now plan.entry.tries
-        timer.old timer.new (W.written out.old) (W.written out.new) outcome core happened) disk result.0) }
+        PlanPolled B.QuietBus T.tells T.passes T.warns plan.entry.buses.items plan.entry.only.now
+        plan.entry.tries timer.old timer.new (W.written out.old) (W.written out.new) outcome core happened) disk result.0) }
     ensures cut { (D.keeps disk → EachStands (half_len_of (D.sectors disk)) (D.choices disk))
         → IsErrOf result.1 ProgramFault.Write
         → ImageTurned D.Disk (λ core happened. Unit {0}) disk result.0 }
@@ -121,8 +123,8 @@ fn poll<D: Disk + Drop, A: Allocator + Copy, B: QuietBus + Drop, T: Timer<B>, W:
 ) -> Result<Outcome, ProgramFault>
     requires { 0 < plan.tries }
     ensures went { Runs D.Disk (λ core happened. IfOk result (λ outcome.
-        PlanPolled B.QuietBus T.tells T.passes plan.entry.buses.items plan.entry.only.now plan.entry.tries
-        timer.old timer.new (W.written out.old) (W.written out.new) outcome core happened))
+        PlanPolled B.QuietBus T.tells T.passes T.warns plan.entry.buses.items plan.entry.only.now
+        plan.entry.tries timer.old timer.new (W.written out.old) (W.written out.new) outcome core happened))
         concentrator.old concentrator.new }
     ensures starved { IsErrOf result ProgramFault.NoMemory → (out.new ≡ out.old)
         × Runs D.Disk (λ core happened. happened ≡ []) concentrator.old concentrator.new }
@@ -148,6 +150,7 @@ fn poll<D: Disk + Drop, A: Allocator + Copy, B: QuietBus + Drop, T: Timer<B>, W:
         Ok(failed) => failed,
         Err(_) => return Err(ProgramFault::Write),
     };
+    compare_clock(concentrator.house(), timer);
     let before = Outcome { read: 0, failed };
     match read_on(
         concentrator,

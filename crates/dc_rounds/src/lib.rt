@@ -8,6 +8,7 @@
 #![tactic(auto)]
 
 mod calls;
+mod clock;
 mod end;
 mod ending;
 mod image;

@@ -13,7 +13,7 @@ use dc_io::WriteSink;
 use dc_line::QuietBus;
 use dc_links::{LinkBus, Peer, SystemBus, Watch};
 use dc_poller::{Ending, ProgramFault, ending_of};
-use dc_rounds::{Outcome, Plan, Station, Timer, poll_image};
+use dc_rounds::{Outcome, Phase, Plan, Station, Timer, poll_image};
 use dc_sectors::FileDisk;
 use dc_words::PollTask;
 use std::alloc::Global;
@@ -41,6 +41,8 @@ impl<C: Clock + Copy + Eprint> Timer<SystemBus<'_, C>> for SystemTimer<'_, '_, C
 
     ghost passes = { λ _ _. ⊤ };
 
+    ghost warns = { λ _ _. ⊤ };
+
     fn now(&mut self) -> Moment {
         if let Ok(now) = SystemTime::now(&self.clock)
             && let Ok(since) = now.duration_since(UNIX_EPOCH)
@@ -57,10 +59,24 @@ impl<C: Clock + Copy + Eprint> Timer<SystemBus<'_, C>> for SystemTimer<'_, '_, C
         for station in stations {
             if station.is_waiting() || !station.bus.is_ready() {
                 watch.add(&station.bus);
+            } else if goes_on(station) {
+                return;
             }
         }
         watch.wait();
     }
+
+    fn warn(&mut self) {
+        let _ = self
+            .clock
+            .eprint("mbdc: clock: behind the newest reading\n");
+    }
+}
+
+// Whether a line that waits for nothing goes on in the next round: the end of a readout is printed, or the next one is
+// begun.
+fn goes_on<B: QuietBus + Drop>(station: &Station<'_, B>) -> bool {
+    !station.left.is_empty() || matches!(station.phase, Phase::Over(_))
 }
 
 /// Reads the registered meters of the image in that file over the links of their lines, or only

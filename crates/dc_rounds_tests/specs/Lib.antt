@@ -1,0 +1,1 @@
+-- no definitions: the tests use those of the crates below

@@ -1,0 +1,11 @@
+//! What is tried on polls, by topic.
+
+mod clock;
+mod faults;
+mod house;
+mod line;
+mod orders;
+mod plans;
+mod polling;
+mod promises;
+mod stops;
