@@ -45,8 +45,8 @@ pub fn what_is_read_is_not_begun_again()
         Lacks (meter_of end) (starts_in back) }
 {}
 
-/// Where no start, answer or commit of a line is refused and no readout of it fails, every meter of its queue is started
-/// once and read, in order.
+/// Where no start, answer or commit of a line is refused and no readout of it fails, every meter of its queue is
+/// started once and read, in order.
 pub fn where_nothing_fails_every_meter_is_read()
     ensures { (tries line : ℕ) (meters : List Identity) (happened : List Happening) (pass : ℕ) →
         AllByRecursion GoesWell happened →

@@ -179,12 +179,12 @@ fn put_finish<B: QuietBus + Drop, W: Sink>(
     put_end(out, read, failed)
 }
 
-/// Reads the meters of up to eight lines, of which line k + 1 is that of the station at k. Each meter is started
-/// at most so often, until a readout of it doesn't fail, and again only after the line's other meters. It ends whatever the lines give. On each line the requests
-/// that are asked go out, and nothing else, and what the bus gave is heard. Each round commits what it heard, and then
-/// writes how readouts ended: `READ`, `FAILED` or `REFUSED`, and `LINE n LOST` once for each line that became lost.
-/// Where a commit answers a fault, the poll ends. At the end `LATE line n` is written for each line on which n late
-/// answers were dropped, and `END read failed`.
+/// Reads the meters of up to eight lines, of which line k + 1 is that of the station at k. A line's meters are read in
+/// passes: a meter whose readout failed is started again after the line's other meters, and so at most so often. It
+/// ends whatever the lines give. On each line the requests that are asked go out, and nothing else, and what the bus
+/// gave is heard. Each round commits what it heard, and then writes how readouts ended: `READ`, `FAILED` or `REFUSED`,
+/// and `LINE n LOST` once for each line that became lost. Where a commit answers a fault, the poll ends. At the end
+/// `LATE line n` is written for each line on which n late answers were dropped, and `END read failed`.
 ///
 /// # Errors
 /// A write failed.
