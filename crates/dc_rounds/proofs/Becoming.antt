@@ -152,15 +152,19 @@ module _ {B : Type 0} (g : Bus B) where
       by_due : (d : ℕ) → old.due ≡ d → IsSound g tries new × (0 < new.due)
       by_due zero none =
           let is = subst (λ (d : ℕ). IsAfter (next_pass old.left.now d old.pass old.phase) old.bus old.request old.said new) none after in
-          let less : old.pass < tries = was.3 (omega (arith, none, some)) in
-          (of_after (λ left due pass phase request bus. IsSoundIn tries (length left) due pass phase request (g.waits_left bus)) _ _ _ _ new is
-          (subst (λ (p : Phase). IsSoundIn tries (length old.left.now) (length old.left.now) (old.pass + 1) p old.request (g.waits_left old.bus)) (sym free)
-          ((omega arith, omega (arith, less), omega arith, λ fewer. absurd (omega (arith, fewer))), quiet)), let due = is.due in omega (arith, due, some))
+          let less : old.pass < tries = was.3 (omega (arith, none, some)) in (
+            of_after (λ left due pass phase request bus. IsSoundIn tries (length left) due pass phase request (g.waits_left bus)) _ _ _ _ new is
+                (subst (λ (p : Phase). IsSoundIn tries (length old.left.now) (length old.left.now) (old.pass + 1) p old.request (g.waits_left old.bus)) (sym free)
+                ((omega arith, omega (arith, less), omega arith, λ fewer. absurd (omega (arith, fewer))), quiet)),
+            let due = is.due in omega (arith, due, some),
+          )
       by_due (suc n) more =
           let is = subst (λ (d : ℕ). IsAfter (next_pass old.left.now d old.pass old.phase) old.bus old.request old.said new) more after in
-          let was' : IsPass tries (length old.left.now) (suc n) old.pass = subst (λ (d : ℕ). IsPass tries (length old.left.now) d old.pass) more was in
-          (of_after (λ left due pass phase request bus. IsSoundIn tries (length left) due pass phase request (g.waits_left bus)) _ _ _ _ new is
-          (subst (λ (p : Phase). IsSoundIn tries (length old.left.now) (suc n) old.pass p old.request (g.waits_left old.bus)) (sym free) (was', quiet)), let due = is.due in omega (arith, due))
+          let was' : IsPass tries (length old.left.now) (suc n) old.pass = subst (λ (d : ℕ). IsPass tries (length old.left.now) d old.pass) more was in (
+            of_after (λ left due pass phase request bus. IsSoundIn tries (length left) due pass phase request (g.waits_left bus)) _ _ _ _ new is
+                (subst (λ (p : Phase). IsSoundIn tries (length old.left.now) (suc n) old.pass p old.request (g.waits_left old.bus)) (sym free) (was', quiet)),
+            let due = is.due in omega (arith, due),
+          )
 
   pub rounds_passed : (out pending over tries : ℕ) (old new : Station B) → old.phase ≡ Free → 0 < length old.left.now → IsSound g tries old
       → IsAfter (next_pass old.left.now old.due old.pass old.phase) old.bus old.request old.said new → rounds_of g out pending over tries new ≡ rounds_of g out pending over tries old

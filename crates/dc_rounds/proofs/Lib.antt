@@ -16,6 +16,8 @@ pub mod Storing
 pub mod Tried
 -- a meter that is done with isn't started again
 pub mod Once
+-- the meters of a line's queue are apart
+pub mod Apart
 -- how often the meters of a queue are started and asked at most
 pub mod Bounded
 -- where nothing fails, every meter of a queue is read

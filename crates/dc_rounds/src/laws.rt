@@ -1,14 +1,20 @@
 //! What holds of the definitions alone.
 
-ghost use Rattle.std.specs.Prelude.{◌≡◌, ◌<◌, ◌≤◌, ◌*◌, ◌++◌, ◌∷◌, ℕ, List, None, [], length};
+ghost use Rattle.std.specs.Prelude.{◌≡◌, ◌<◌, ◌≤◌, ◌*◌, ◌++◌, ◌∷◌, ℕ, Bool, List, None, []};
+ghost use Rattle.std.specs.Prelude.{length};
 ghost use Rattle.std.specs.List.{AllByRecursion};
+ghost use Rattle.std.specs.List.Sorted.{IsStrictlySortedBy};
+ghost use Rattle.std.specs.Map.{keys_of};
+ghost use Rattle.dc_address.specs.Identity.{identity_cmp};
 ghost use Rattle.dc_address.specs.declared.identity.Identity.{Identity};
+ghost use Rattle.dc_changes.specs.State.{State};
 ghost use Rattle.dc_core.specs.Core.{Core};
 ghost use Rattle.dc_core.specs.Event.{asks, asked};
 ghost use Rattle.dc_core.specs.Transcript.{Turn, IsChain, leads};
 ghost use Rattle.dc_rounds.specs.Happening.{Happening, Told, happened_turns, tells};
 ghost use Rattle.dc_rounds.specs.Keeping.{AreTrue, InRounds, IsSettled, Store, all_kept, some_wait};
 ghost use Rattle.dc_rounds.specs.Keeping.{store_behind};
+ghost use Rattle.dc_rounds.specs.Planned.{queue_on};
 ghost use Rattle.dc_rounds.specs.Queue.{Part, part, AreApart, Goes, GoesWell, IsToldAs, IsTried};
 ghost use Rattle.dc_rounds.specs.Queue.{Lacks, meter_of, most_asks, read_in, requests_in};
 ghost use Rattle.dc_rounds.specs.Queue.{starts_in};
@@ -45,8 +51,15 @@ pub fn what_is_read_is_not_begun_again()
         Lacks (meter_of end) (starts_in back) }
 {}
 
-/// Where no start, answer or commit of a line is refused and no readout of it fails, every meter of its queue is started
-/// once and read, in order.
+/// The queues of a plan have each meter once, where those of the register ascend.
+pub fn the_meters_of_a_queue_are_apart()
+    ensures { (state : State) (only : List Identity) (line : ℕ) (lost : Bool) →
+        IsStrictlySortedBy identity_cmp (keys_of state.meters) →
+        AreApart (queue_on state only line lost) }
+{}
+
+/// Where no start, answer or commit of a line is refused and no readout of it fails, every meter of its queue is
+/// started once and read, in order.
 pub fn where_nothing_fails_every_meter_is_read()
     ensures { (tries line : ℕ) (meters : List Identity) (happened : List Happening) (pass : ℕ) →
         AllByRecursion GoesWell happened →

@@ -26,8 +26,8 @@ mod timer;
 pub use end::{End, Refusal};
 pub use image::{Plan, poll_image};
 pub use laws::{
-    a_queue_comes_to_its_end, every_meter_of_a_queue_is_started, what_is_committed_waits_no_more,
-    what_is_read_is_committed, what_is_read_is_not_begun_again,
+    a_queue_comes_to_its_end, every_meter_of_a_queue_is_started, the_meters_of_a_queue_are_apart,
+    what_is_committed_waits_no_more, what_is_read_is_committed, what_is_read_is_not_begun_again,
     where_nothing_fails_every_meter_is_read,
 };
 pub use outcome::Outcome;

@@ -179,12 +179,15 @@ fn put_finish<B: QuietBus + Drop, W: Sink>(
     put_end(out, read, failed)
 }
 
-/// Reads the meters of up to eight lines, of which line k + 1 is that of the station at k. Each meter is started
-/// at most so often, until a readout of it doesn't fail, and again only after the line's other meters. It ends whatever the lines give. On each line the requests
-/// that are asked go out, and nothing else, and what the bus gave is heard. Each round commits what it heard, and then
-/// writes how readouts ended: `READ`, `FAILED` or `REFUSED`, and `LINE n LOST` once for each line that became lost.
-/// Where a commit returns a fault, the poll ends. At the end `LATE line n` is written for each line on which n late
-/// answers were dropped, and `END read failed`.
+/// Reads the meters of up to eight lines, of which line k + 1 is that of the station at k.
+///
+/// A line's meters are read in passes, at most `tries` of them: a meter whose readout failed is
+/// started again after the line's other meters. The poll ends whatever the lines give. On each line
+/// the requests of the concentrator go out, and nothing else, and it hears what the bus gave. Each
+/// round commits its telegrams, and then writes how readouts ended: `READ`, `FAILED` or `REFUSED`,
+/// and `LINE n LOST` once for each line that became lost. If a commit returns a fault, the poll
+/// ends. At the end `LATE line n` is written for each line on which n late answers were dropped,
+/// and `END read failed`.
 ///
 /// # Errors
 /// A write failed.

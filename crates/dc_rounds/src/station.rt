@@ -115,11 +115,11 @@ impl<'a, B: QuietBus + Drop> Station<'a, B> {
         ensures sent { IfSome request (λ bytes. B.sends self.old.bus bytes self.new.bus
             × (B.waits_left self.new.bus ≤ most_waits)
             × IsAfter (record {
-          left = self.old.left.now;
-          due = self.old.due;
-          pass = self.old.pass;
-          phase = Busy asks;
-        }) self.new.bus Sent self.old.said self.new) }
+              left = self.old.left.now;
+              due = self.old.due;
+              pass = self.old.pass;
+              phase = Busy asks;
+            }) self.new.bus Sent self.old.said self.new) }
         ensures over { IfNone request (IsAfter
             (ended self.old.left.now self.old.due self.old.pass (Read meter))
             self.old.bus self.old.request self.old.said self.new) }
