@@ -45,8 +45,8 @@ const ENDED: Outcome = Outcome {
     failed: 9,
 };
 
-// A number of waits that makes up to four answers complete at once, or none.
-const SLOWEST: u16 = 4;
+// Each answer is complete at the first to the fourth look.
+const SLOWEST: u8 = 3;
 
 const SEEDS: u64 = 40;
 
