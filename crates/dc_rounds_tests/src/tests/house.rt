@@ -153,7 +153,7 @@ pub fn line_of(heap: Global, rows: &[Row], line: u8) -> Result<SlowLine, Fail> {
         answer: AnswerBuf::new(),
         waits: 0,
         numbers: Numbers(u64::from(line)),
-        slowest: 1,
+        slowest: 0,
         deaf: 0,
         loud: 0,
         carries: u32::MAX,

@@ -12,13 +12,13 @@ use std::mem;
 pub struct Numbers(pub u64);
 
 impl Numbers {
-    /// The next one, below 2^16.
-    fn next(&mut self) -> u16 {
+    /// The next one.
+    fn next(&mut self) -> u8 {
         self.0 = self
             .0
             .wrapping_mul(6_364_136_223_846_793_005)
             .wrapping_add(1_442_695_040_888_963_407);
-        (self.0 >> 48) as u16
+        self.0.to_be_bytes()[0]
     }
 }
 
@@ -30,11 +30,11 @@ pub struct SlowLine {
     /// The answer to the request that was sent last.
     pub answer: AnswerBuf,
     /// How often `hear` finds no complete answer yet.
-    pub waits: u16,
-    /// What picks the waits of the next answer, from 0 to below `slowest`.
+    pub waits: u8,
+    /// What picks the waits of the next answer.
     pub numbers: Numbers,
-    /// The waits of each answer are fewer.
-    pub slowest: u16,
+    /// Which bits of that number count.
+    pub slowest: u8,
     /// How many requests more get no answer.
     pub deaf: u32,
     /// How many steps of settling it takes until a readout may begin.
@@ -85,7 +85,7 @@ impl HalfBus for SlowLine {
             return;
         }
         self.carries -= 1;
-        self.waits = self.numbers.next() % self.slowest.max(1);
+        self.waits = self.numbers.next() & self.slowest;
         self.answer = self.answer_to(request);
     }
 

@@ -4,8 +4,6 @@ use super::house::{Kind, LONGEST, Row, SHORT, line_of, lines_of, registered};
 use super::line::Numbers;
 use super::polling::{poll, tells_all, text_of};
 use super::promises::holds_readings;
-use dc_inspect::inspect;
-use dc_io::Bytes;
 use dc_rounds::Outcome;
 use std::test::Fail;
 
@@ -47,8 +45,8 @@ const ENDED: Outcome = Outcome {
     failed: 9,
 };
 
-// A number of waits that makes up to four answers complete at once, or none.
-const SLOWEST: u16 = 4;
+// Each answer is complete at the first to the fourth look.
+const SLOWEST: u8 = 3;
 
 const SEEDS: u64 = 40;
 
@@ -102,8 +100,7 @@ fn a_failed_meter_is_begun_again_after_the_others(rt: HostRuntime) -> Result<(),
     Ok(())
 }
 
-// Five lines whose telegrams wait at once: four changes are one group, and the fifth one is another. The five commands
-// of the office were a group each.
+// Five lines whose telegrams wait at once: four changes are one group, and the fifth one is another.
 const FIVE: [Row; 5] = [
     Row("00000011.PAD.01.07", 1, Some(1), ONE, SHORT),
     Row("00000021.PAD.01.07", 2, Some(1), ONE, SHORT),
@@ -112,25 +109,20 @@ const FIVE: [Row; 5] = [
     Row("00000051.PAD.01.07", 5, Some(1), ONE, SHORT),
 ];
 
+// A group of short telegrams is two sectors and one sync (docs/IMAGE.md).
+const CALLS_OF_TWO_GROUPS: u64 = 6;
+
 #[test]
 fn telegrams_that_wait_at_once_are_one_group(rt: HostRuntime) -> Result<(), Fail> {
     let heap = rt.alloc();
-    let lines = lines_of(heap, heap, &FIVE)?;
-    let mut polled = poll(heap, registered(heap, &FIVE)?, lines)?;
+    let disk = registered(heap, &FIVE)?;
+    let polled = poll(heap, disk.copy()?, lines_of(heap, heap, &FIVE)?)?;
     tells_all(&rt, heap, &FIVE, text_of(&polled)?)?;
-    let mut told = Bytes::new(heap);
-    inspect(heap, &mut polled.disk, &mut told)?;
-    assert!(rt; has_line(told.as_slice(), b"GROUPS 7"));
+    let idle = poll(heap, disk, Vec::new(heap))?;
+    assert_eq!(rt; text_of(&idle)?, "END 0 0\n");
+    let calls = polled.disk.calls().saturating_sub(idle.disk.calls());
+    assert_eq!(rt; calls, CALLS_OF_TWO_GROUPS);
     Ok(())
-}
-
-fn has_line(text: &[u8], line: &[u8]) -> bool {
-    for one in text.split(|byte| *byte == b'\n') {
-        if one == line {
-            return true;
-        }
-    }
-    false
 }
 
 // Each of the first five meters of line 1 takes 10 * (9 + 252) bytes for its parts and 18 + 2 for the reading: 2,630;
