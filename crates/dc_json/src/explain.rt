@@ -13,8 +13,8 @@ use dc_io::{
     Bytes, CHUNK, IoFault, LONGEST, MOST, Sink, Source, TextFault, first_line, put_byte, put_fault,
     put_number, read_input, room,
 };
+use dc_linkframe::Frame;
 use dc_linkframe::control::VARIABLE_DATA;
-use dc_linkframe::{Frame, FrameFault};
 use dc_names::{ci_name, control_name};
 use dc_records::Telegram;
 use std::alloc::Allocator;
@@ -57,37 +57,6 @@ fn put_body<W: Sink>(out: &mut W, start: usize, body: &[u8]) -> Result<bool, IoF
     }
 }
 
-// Writes a short frame in words.
-fn put_short<W: Sink>(out: &mut W, control: u8, address: u8) -> Result<(), IoFault> {
-    out.put(b"short frame, ")?;
-    put_link(out, control, address)?;
-    out.put(b"\n")
-}
-
-// Writes a long frame in words, without its body.
-fn put_long<W: Sink>(out: &mut W, control: u8, address: u8, ci: u8) -> Result<(), IoFault> {
-    out.put(b"long frame, ")?;
-    put_link(out, control, address)?;
-    out.put(b", ")?;
-    out.put(ci_name(ci).as_bytes())?;
-    out.put(b" (")?;
-    put_byte(out, ci)?;
-    out.put(b")\n")
-}
-
-// Writes why a text that begins at a place of a line is no frame.
-fn put_no_frame<W: Sink>(
-    out: &mut W,
-    start: usize,
-    text: &[u8],
-    fault: FrameFault,
-) -> Result<(), IoFault> {
-    let (place, expected) = frame_place(text, fault);
-    out.put(b"frame fault ")?;
-    put_fault(out, fault.number(), fault.name())?;
-    put_expected(out, start.saturating_add(place), expected)
-}
-
 // Writes what stands for a text that begins at a place of a line, and says whether a fault is in it.
 fn put_text_table<W: Sink>(out: &mut W, start: usize, text: &[u8]) -> Result<bool, IoFault> {
     match read_frame(text) {
@@ -96,7 +65,9 @@ fn put_text_table<W: Sink>(out: &mut W, start: usize, text: &[u8]) -> Result<boo
             Ok(false)
         }
         Ok(Frame::Short { control, address }) => {
-            put_short(out, control, address)?;
+            out.put(b"short frame, ")?;
+            put_link(out, control, address)?;
+            out.put(b"\n")?;
             Ok(false)
         }
         Ok(
@@ -107,14 +78,23 @@ fn put_text_table<W: Sink>(out: &mut W, start: usize, text: &[u8]) -> Result<boo
                 body,
             },
         ) => {
-            put_long(out, control, address, ci)?;
+            out.put(b"long frame, ")?;
+            put_link(out, control, address)?;
+            out.put(b", ")?;
+            out.put(ci_name(ci).as_bytes())?;
+            out.put(b" (")?;
+            put_byte(out, ci)?;
+            out.put(b")\n")?;
             if ci != VARIABLE_DATA {
                 return Ok(false);
             }
             put_body(out, start.saturating_add(BODY), body)
         }
         Err(fault) => {
-            put_no_frame(out, start, text, fault)?;
+            let (place, expected) = frame_place(text, fault);
+            out.put(b"frame fault ")?;
+            put_fault(out, fault.number(), fault.name())?;
+            put_expected(out, start.saturating_add(place), expected)?;
             Ok(true)
         }
     }

@@ -120,8 +120,12 @@ fn put_qualifiers<W: Sink>(out: &mut W, vib: &[u8]) -> Result<(), IoFault> {
     Ok(())
 }
 
-// Writes the names of the columns.
-fn put_columns<W: Sink>(out: &mut W) -> Result<(), IoFault> {
+/// Writes a telegram: its meter, its status, and a row for each record.
+pub(crate) fn put_telegram_table<W: Sink>(
+    out: &mut W,
+    telegram: &Telegram<'_>,
+) -> Result<(), IoFault> {
+    put_header(out, &telegram.header())?;
     out.put(b"  ")?;
     put_cell(out, b"quantity", QUANTITY)?;
     put_cell(out, b"value", VALUE)?;
@@ -129,16 +133,7 @@ fn put_columns<W: Sink>(out: &mut W) -> Result<(), IoFault> {
     put_cell(out, b"storage", NUMBER)?;
     put_cell(out, b"tariff", NUMBER)?;
     put_cell(out, b"subunit", NUMBER)?;
-    out.put(b"function\n")
-}
-
-/// Writes a telegram: its meter, its status, and a row for each record.
-pub(crate) fn put_telegram_table<W: Sink>(
-    out: &mut W,
-    telegram: &Telegram<'_>,
-) -> Result<(), IoFault> {
-    put_header(out, &telegram.header())?;
-    put_columns(out)?;
+    out.put(b"function\n")?;
     'records: for found in telegram.records() {
         put_row(out, &found)?;
     }
