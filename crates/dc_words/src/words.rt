@@ -15,221 +15,246 @@ const SECTORS: (i64, i64) = (131, 131_075);
 // The place in help of an option that each command has: after its own.
 const LAST: usize = 90;
 
-fn decode_command<'a>(alloc: Global) -> Result<Command<'a>, AllocError> {
-    let file = Arg::new(alloc, "FILE").help("Lines of hex digits [default: standard input]");
-    let json = Arg::new(alloc, "JSON")
-        .long("json")
+// An argument that has to be there.
+fn required_arg<'a>(alloc: Global, id: &'a str, help: &'a str) -> Arg<'a> {
+    Arg::new(alloc, id).required(true).help(help)
+}
+
+// `--LONG`, which is there or not.
+fn flag_arg<'a>(alloc: Global, id: &'a str, long: &'a str, help: &'a str) -> Arg<'a> {
+    Arg::new(alloc, id)
+        .long(long)
         .action(ArgAction::SetTrue)
-        .help("Prints JSON Lines, an object a frame or fault");
-    let table = Arg::new(alloc, "EXPLAIN")
-        .long("explain")
-        .action(ArgAction::SetTrue)
-        .conflicts_with("JSON")?
-        .help("Prints a table in words");
-    Command::new(alloc, "decode")
-        .about("Prints what each M-Bus frame says: link fields, meter, records, end")
-        .after_help(help::DECODE)
-        .arg(json)?
-        .arg(table)?
-        .arg(file)
+        .help(help)
 }
 
-fn fold_command<'a>(alloc: Global) -> Result<Command<'a>, AllocError> {
-    let file = Arg::new(alloc, "FILE")
-        .required(true)
-        .help("Lines of telegrams and commands");
-    Command::new(alloc, "fold")
-        .about("Applies telegrams and commands to an empty register, and prints it")
-        .after_help(help::FOLD)
-        .arg(file)
+// `--LONG VALUE`.
+fn option_arg<'a>(alloc: Global, id: &'a str, long: &'a str, value: &'a str) -> Arg<'a> {
+    Arg::new(alloc, id).long(long).value_name(value)
 }
 
-fn format_command<'a>(alloc: Global) -> Result<Command<'a>, AllocError> {
-    let image = Arg::new(alloc, "IMAGE")
-        .required(true)
-        .help("The image's file; it is made where it isn't there");
-    let sectors = Arg::new(alloc, "SECTORS")
-        .required(true)
-        .value_parser(value_parser!(u32).range(SECTORS.0..=SECTORS.1))
-        .help("How many sectors of 512 bytes it has, from 131 to 131075");
-    Command::new(alloc, "format")
-        .about("Makes an image that holds an empty register")
-        .after_help(help::FORMAT)
-        .arg(image)?
-        .arg(sectors)
+fn image_arg<'a>(alloc: Global) -> Arg<'a> {
+    required_arg(alloc, "IMAGE", "The image's file")
 }
 
-fn run_command<'a>(alloc: Global) -> Result<Command<'a>, AllocError> {
-    let image = Arg::new(alloc, "IMAGE")
-        .required(true)
-        .help("The image's file");
-    let script = Arg::new(alloc, "SCRIPT").required(true).help(
-        "Lines: AT, START, ASK, HEAR, COMMIT, OFFICE, POLL, SEARCH",
-    );
-    let gateway = Arg::new(alloc, "GATEWAY")
-        .long("gateway")
-        .value_name("HOST:PORT")
-        .help("The gateway of bus line 1, a TCP stream of blocks");
-    Command::new(alloc, "run")
-        .about("Opens the image, does what the script's lines ask for, and prints the answers")
-        .after_help(help::RUN)
-        .arg(image)?
-        .arg(script)?
-        .arg(line_arg(alloc))?
-        .arg(patience_arg(alloc))?
-        .arg(gateway)
+fn sectors_arg<'a>(alloc: Global) -> Arg<'a> {
+    required_arg(
+        alloc,
+        "SECTORS",
+        "How many sectors of 512 bytes it has, from 131 to 131075",
+    )
+    .value_parser(value_parser!(u32).range(SECTORS.0..=SECTORS.1))
 }
 
 // `--line N=LINK`, as often as there are lines.
 fn line_arg<'a>(alloc: Global) -> Arg<'a> {
-    Arg::new(alloc, "LINE")
-        .long("line")
-        .value_name("N=LINK")
+    option_arg(alloc, "LINE", "line", "N=LINK")
         .action(ArgAction::Append)
         .help("The link of bus line N: tcp://HOST:PORT, serial:PATH or blocks://HOST:PORT")
 }
 
 fn patience_arg<'a>(alloc: Global) -> Arg<'a> {
-    Arg::new(alloc, "PATIENCE")
-        .long("patience")
-        .value_name("MS")
+    option_arg(alloc, "PATIENCE", "patience", "MS")
         .value_parser(value_parser!(u16).range(1..=60_000))
         .default_value("2000")
         .help("Milliseconds without a first byte that are silence, from 1 to 60000")
 }
 
-fn image_arg<'a>(alloc: Global) -> Arg<'a> {
-    Arg::new(alloc, "IMAGE")
-        .required(true)
-        .help("The image's file")
+fn only_arg<'a>(alloc: Global) -> Arg<'a> {
+    option_arg(alloc, "ONLY", "only", "IDENT")
+        .action(ArgAction::Append)
+        .help("Reads this meter alone; may be given several times")
 }
 
-fn poll_command<'a>(alloc: Global) -> Result<Command<'a>, AllocError> {
-    let only = Arg::new(alloc, "ONLY")
-        .long("only")
-        .value_name("IDENT")
-        .action(ArgAction::Append)
-        .help("Reads this meter alone; may be given several times");
-    let tries = Arg::new(alloc, "TRIES")
-        .long("tries")
-        .value_name("T")
+fn tries_arg<'a>(alloc: Global) -> Arg<'a> {
+    option_arg(alloc, "TRIES", "tries", "T")
         .value_parser(value_parser!(u8).range(1..=9))
         .default_value("2")
-        .help("How often a readout is begun at most, from 1 to 9");
-    let json = Arg::new(alloc, "JSON")
-        .long("json")
-        .action(ArgAction::SetTrue)
-        .help("Prints JSON Lines, an object an event");
-    Command::new(alloc, "poll")
-        .about("Reads every registered meter on the connected lines, all lines at once")
-        .after_help(help::POLL)
-        .arg(image_arg(alloc))?
-        .arg(line_arg(alloc).required(true))?
-        .arg(only)?
-        .arg(tries)?
-        .arg(json)?
-        .arg(patience_arg(alloc))
+        .help("How often a readout is begun at most, from 1 to 9")
 }
 
 fn link_arg<'a>(alloc: Global) -> Arg<'a> {
-    Arg::new(alloc, "LINK").required(true).help(
+    required_arg(
+        alloc,
+        "LINK",
         "The bus: tcp://HOST:PORT, serial:PATH or blocks://HOST:PORT",
     )
 }
 
-fn scan_command<'a>(alloc: Global) -> Result<Command<'a>, AllocError> {
-    let budget = Arg::new(alloc, "BUDGET")
-        .long("budget")
-        .value_name("N")
+fn budget_arg<'a>(alloc: Global) -> Arg<'a> {
+    option_arg(alloc, "BUDGET", "budget", "N")
         .value_parser(value_parser!(u32).range(0..=4_294_967_295))
         .default_value("1000")
-        .help("The most selections");
-    let primary = Arg::new(alloc, "PRIMARY")
-        .long("primary")
-        .action(ArgAction::SetTrue)
-        .conflicts_with("BUDGET")?
-        .help("Asks each primary address from 1 to 250 in place of the wildcard search");
-    Command::new(alloc, "scan")
-        .about("Searches one bus for meters, without an image")
-        .after_help(help::SCAN)
-        .arg(link_arg(alloc))?
-        .arg(budget)?
-        .arg(primary)?
-        .arg(patience_arg(alloc))
-}
-
-fn read_command<'a>(alloc: Global) -> Result<Command<'a>, AllocError> {
-    let meter = Arg::new(alloc, "METER").required(true).help(
-        "Its identity, as 12345678.PAD.01.07, or its primary address, 1 to 250",
-    );
-    Command::new(alloc, "read")
-        .about("Reads one meter on one bus and prints its telegrams, without an image")
-        .after_help(help::READ)
-        .arg(link_arg(alloc))?
-        .arg(meter)?
-        .arg(patience_arg(alloc))
-}
-
-fn report_command<'a>(alloc: Global) -> Result<Command<'a>, AllocError> {
-    let image = Arg::new(alloc, "IMAGE")
-        .required(true)
-        .help("The image's file");
-    let table = Arg::new(alloc, "TABLE")
-        .required(true)
-        .help("register, or a date, as 2024-12-31");
-    let json = Arg::new(alloc, "JSON")
-        .long("json")
-        .action(ArgAction::SetTrue)
-        .help("Prints JSON Lines, an object a row");
-    Command::new(alloc, "report")
-        .about(
-            "Prints a table of what an image holds: its register, or the due-date values for a date",
-        )
-        .after_help(help::REPORT)
-        .arg(image)?
-        .arg(json)?
-        .arg(table)
-}
-
-fn inspect_command<'a>(alloc: Global) -> Result<Command<'a>, AllocError> {
-    Command::new(alloc, "inspect")
-        .about("Prints what an image holds, and changes nothing")
-        .after_help(help::INSPECT)
-        .arg(image_arg(alloc))
-}
-
-fn demo_command<'a>(alloc: Global) -> Result<Command<'a>, AllocError> {
-    let command = Command::new(alloc, "demo")
-        .about("Reads a simulated meter through a gateway in this process, and reports its value")
-        .after_help(help::DEMO);
-    Ok(command)
+        .help("The most selections")
 }
 
 // It may stand before a command and after it.
 fn verbose_arg<'a>(alloc: Global) -> Arg<'a> {
-    Arg::new(alloc, "VERBOSE")
-        .long("verbose")
-        .action(ArgAction::SetTrue)
-        .global(true)
-        .display_order(LAST)
-        .help("Prints a second line on standard error that says why the command failed")
+    flag_arg(
+        alloc,
+        "VERBOSE",
+        "verbose",
+        "Prints a second line on standard error that says why the command failed",
+    )
+    .global(true)
+    .display_order(LAST)
+}
+
+fn command_of<'a>(
+    alloc: Global,
+    name: &'a str,
+    about: &'a str,
+    after: &'a str,
+    args: Vec<Arg<'a>>,
+) -> Result<Command<'a>, AllocError> {
+    Command::new(alloc, name)
+        .about(about)
+        .after_help(after)
+        .args(args)
+}
+
+fn decode_command<'a>(alloc: Global) -> Result<Command<'a>, AllocError> {
+    let table = flag_arg(alloc, "EXPLAIN", "explain", "Prints a table in words").conflicts_with(
+        "JSON",
+    )?;
+    let args = vec![in alloc;
+        flag_arg(
+            alloc,
+            "JSON",
+            "json",
+            "Prints JSON Lines, an object a frame or fault"
+        ),
+        table,
+        Arg::new(alloc, "FILE").help("Lines of hex digits [default: standard input]"),
+    ]?;
+    let about = "Prints what each M-Bus frame says: link fields, meter, records, end";
+    command_of(alloc, "decode", about, help::DECODE, args)
+}
+
+fn fold_command<'a>(alloc: Global) -> Result<Command<'a>, AllocError> {
+    let file = required_arg(alloc, "FILE", "Lines of telegrams and commands");
+    let about = "Applies telegrams and commands to an empty register, and prints it";
+    command_of(alloc, "fold", about, help::FOLD, vec![in alloc; file]?)
+}
+
+fn format_command<'a>(alloc: Global) -> Result<Command<'a>, AllocError> {
+    let image = "The image's file; it is made where it isn't there";
+    let args = vec![in alloc; required_arg(alloc, "IMAGE", image), sectors_arg(alloc)]?;
+    let about = "Makes an image that holds an empty register";
+    command_of(alloc, "format", about, help::FORMAT, args)
+}
+
+fn poll_command<'a>(alloc: Global) -> Result<Command<'a>, AllocError> {
+    let args = vec![in alloc;
+        image_arg(alloc),
+        line_arg(alloc).required(true),
+        only_arg(alloc),
+        tries_arg(alloc),
+        flag_arg(
+            alloc,
+            "JSON",
+            "json",
+            "Prints JSON Lines, an object an event"
+        ),
+        patience_arg(alloc),
+    ]?;
+    let about = "Reads every registered meter on the connected lines, all lines at once";
+    command_of(alloc, "poll", about, help::POLL, args)
+}
+
+fn run_command<'a>(alloc: Global) -> Result<Command<'a>, AllocError> {
+    let script = "Lines: AT, START, ASK, HEAR, COMMIT, OFFICE, POLL, SEARCH";
+    let gateway = option_arg(alloc, "GATEWAY", "gateway", "HOST:PORT").help(
+        "The gateway of bus line 1, a TCP stream of blocks",
+    );
+    let args = vec![in alloc;
+        image_arg(alloc),
+        required_arg(alloc, "SCRIPT", script),
+        line_arg(alloc),
+        patience_arg(alloc),
+        gateway,
+    ]?;
+    let about = "Opens the image, does what the script's lines ask for, and prints the answers";
+    command_of(alloc, "run", about, help::RUN, args)
+}
+
+fn report_command<'a>(alloc: Global) -> Result<Command<'a>, AllocError> {
+    let args = vec![in alloc;
+        image_arg(alloc),
+        flag_arg(alloc, "JSON", "json", "Prints JSON Lines, an object a row"),
+        required_arg(alloc, "TABLE", "register, or a date, as 2024-12-31"),
+    ]?;
+    let about =
+        "Prints a table of what an image holds: its register, or the due-date values for a date";
+    command_of(alloc, "report", about, help::REPORT, args)
+}
+
+fn inspect_command<'a>(alloc: Global) -> Result<Command<'a>, AllocError> {
+    let about = "Prints what an image holds, and changes nothing";
+    command_of(
+        alloc,
+        "inspect",
+        about,
+        help::INSPECT,
+        vec![in alloc; image_arg(alloc)]?,
+    )
+}
+
+fn scan_command<'a>(alloc: Global) -> Result<Command<'a>, AllocError> {
+    let primary = "Asks each primary address from 1 to 250 in place of the wildcard search";
+    let primary = flag_arg(alloc, "PRIMARY", "primary", primary).conflicts_with("BUDGET")?;
+    let args = vec![in alloc;
+        link_arg(alloc),
+        budget_arg(alloc),
+        primary,
+        patience_arg(alloc),
+    ]?;
+    let about = "Searches one bus for meters, without an image";
+    command_of(alloc, "scan", about, help::SCAN, args)
+}
+
+fn read_command<'a>(alloc: Global) -> Result<Command<'a>, AllocError> {
+    let meter = "Its identity, as 12345678.PAD.01.07, or its primary address, 1 to 250";
+    let args = vec![in alloc;
+        link_arg(alloc),
+        required_arg(alloc, "METER", meter),
+        patience_arg(alloc),
+    ]?;
+    let about = "Reads one meter on one bus and prints its telegrams, without an image";
+    command_of(alloc, "read", about, help::READ, args)
+}
+
+fn demo_command<'a>(alloc: Global) -> Result<Command<'a>, AllocError> {
+    let about = "Reads a simulated meter through a gateway in this process, and reports its value";
+    command_of(alloc, "demo", about, help::DEMO, Vec::new(alloc))
 }
 
 fn program<'a>(alloc: Global) -> Result<Command<'a>, AllocError> {
+    let program = with_command(bare_program(alloc), decode_command(alloc));
+    let program = with_command(program, fold_command(alloc));
+    let program = with_command(program, format_command(alloc));
+    let program = with_command(program, poll_command(alloc));
+    let program = with_command(program, run_command(alloc));
+    let program = with_command(program, report_command(alloc));
+    let program = with_command(program, inspect_command(alloc));
+    let program = with_command(program, scan_command(alloc));
+    let program = with_command(program, read_command(alloc));
+    with_command(program, demo_command(alloc))
+}
+
+fn bare_program<'a>(alloc: Global) -> Result<Command<'a>, AllocError> {
     Command::new(alloc, "mbdc")
         .version(help::VERSION)
         .override_help(help::PROGRAM)
-        .arg(verbose_arg(alloc))?
-        .subcommand(decode_command(alloc)?)?
-        .subcommand(fold_command(alloc)?)?
-        .subcommand(format_command(alloc)?)?
-        .subcommand(poll_command(alloc)?)?
-        .subcommand(run_command(alloc)?)?
-        .subcommand(report_command(alloc)?)?
-        .subcommand(inspect_command(alloc)?)?
-        .subcommand(scan_command(alloc)?)?
-        .subcommand(read_command(alloc)?)?
-        .subcommand(demo_command(alloc)?)
+        .arg(verbose_arg(alloc))
+}
+
+// Adds a command, where both were made.
+fn with_command<'a>(
+    program: Result<Command<'a>, AllocError>,
+    command: Result<Command<'a>, AllocError>,
+) -> Result<Command<'a>, AllocError> {
+    program?.subcommand(command?)
 }
 
 /// What the words ask for. The first word is the program's name.
