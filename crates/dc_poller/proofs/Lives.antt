@@ -20,7 +20,7 @@ module _ {D : Type 0} (g : Ghosts D) where
       (rest.0, (did.0, did.1, rest.1), rest.2)
 
   pub one_life : (state : State) (turns : List Turn) (first last : Machine D) → IsOpened g state first → g.keeps first.store.disk
-      → Went (g.keeps first.store.disk) g.sectors g.failures g.reads g.choices g.moment g.images_since first.house.budget state [] turns first last
+      → Went g first.store.disk first.house.budget state [] turns first last
       → IsOneLife g state turns last
   one_life state turns first last opens keeps went done more parts =
       let origin = first.store.disk in

@@ -41,9 +41,9 @@ pub fn poll<D: Disk + Drop, A: Allocator + Copy, B: ScriptBus, W: Sink>(
     moment: Moment,
     out: &mut W,
 ) -> Result<(), IoFault>
-    ensures went { BehindAnyRun D.keeps D.sectors D.reads D.choices concentrator.old
-        (λ origin state before.
-        Way (D.keeps origin) D.sectors D.failures D.reads D.choices D.moment D.images_since concentrator.old.house.budget state before port moment.seconds meter.now (record { due = to_start; link = link_by (B.lost bus.old) })
+    ensures went { BehindAnyRun D.Disk concentrator.old (λ origin state before.
+        Way D.Disk origin concentrator.old.house.budget state before port moment.seconds meter.now
+        (record { due = to_start; link = link_by (B.lost bus.old) })
         (λ happened last. OnOk result (IsEnd happened last.due
         × (last.link ≡ link_by (B.lost bus.new)))
         × OnErr result (FailsInLast W.Sink port out.old out.new happened)
@@ -93,9 +93,9 @@ fn start_and_read<D: Disk + Drop, A: Allocator + Copy, B: ScriptBus, W: Sink>(
     moment: Moment,
     out: &mut W,
 ) -> Result<(), IoFault>
-    ensures went { BehindAnyRun D.keeps D.sectors D.reads D.choices concentrator.old
-        (λ origin state before.
-        Way (D.keeps origin) D.sectors D.failures D.reads D.choices D.moment D.images_since concentrator.old.house.budget state before port moment.seconds meter.now (record { due = to_start; link = link_by (B.lost bus.old) })
+    ensures went { BehindAnyRun D.Disk concentrator.old (λ origin state before.
+        Way D.Disk origin concentrator.old.house.budget state before port moment.seconds meter.now
+        (record { due = to_start; link = link_by (B.lost bus.old) })
         (λ happened last. OnOk result (IsEnd happened last.due
         × (last.link ≡ link_by (B.lost bus.new)))
         × OnErr result (FailsInLast W.Sink port out.old out.new happened)
@@ -124,9 +124,9 @@ fn read_parts<D: Disk + Drop, A: Allocator + Copy, B: ScriptBus, W: Sink>(
     moment: Moment,
     out: &mut W,
 ) -> Result<(), IoFault>
-    ensures went { (meter : Meter) → BehindAnyRun D.keeps D.sectors D.reads D.choices
-        concentrator.old (λ origin state before.
-        Way (D.keeps origin) D.sectors D.failures D.reads D.choices D.moment D.images_since concentrator.old.house.budget state before port moment.seconds meter (record { due = to_ask; link = link_by (B.lost bus.old) })
+    ensures went { (meter : Meter) → BehindAnyRun D.Disk concentrator.old (λ origin state before.
+        Way D.Disk origin concentrator.old.house.budget state before port moment.seconds meter
+        (record { due = to_ask; link = link_by (B.lost bus.old) })
         (λ happened last. OnOk result (IsEnd happened last.due
         × (last.link ≡ link_by (B.lost bus.new)))
         × OnErr result (FailsInLast W.Sink port out.old out.new happened)
@@ -159,9 +159,9 @@ fn ask_and_hear<D: Disk + Drop, A: Allocator + Copy, B: ScriptBus, W: Sink>(
     moment: Moment,
     out: &mut W,
 ) -> Result<bool, IoFault>
-    ensures went { (meter : Meter) → BehindAnyRun D.keeps D.sectors D.reads D.choices
-        concentrator.old (λ origin state before.
-        Way (D.keeps origin) D.sectors D.failures D.reads D.choices D.moment D.images_since concentrator.old.house.budget state before port moment.seconds meter (record { due = to_ask; link = link_by (B.lost bus.old) })
+    ensures went { (meter : Meter) → BehindAnyRun D.Disk concentrator.old (λ origin state before.
+        Way D.Disk origin concentrator.old.house.budget state before port moment.seconds meter
+        (record { due = to_ask; link = link_by (B.lost bus.old) })
         (λ happened last. IfOk result (λ more.
         IsRound more (link_by (B.lost bus.new)) 1 happened last)
         × OnErr result (FailsInLast W.Sink port out.old out.new happened)
@@ -192,9 +192,9 @@ fn exchange<D: Disk + Drop, A: Allocator + Copy, B: ScriptBus, W: Sink>(
     out: &mut W,
 ) -> Result<bool, IoFault>
     requires { length request.now ≤ longest_request }
-    ensures went { (meter : Meter) → BehindAnyRun D.keeps D.sectors D.reads D.choices
-        concentrator.old (λ origin state before.
-        Way (D.keeps origin) D.sectors D.failures D.reads D.choices D.moment D.images_since concentrator.old.house.budget state before port moment.seconds meter (record { due = to_send request.now; link = link_by (B.lost bus.old) })
+    ensures went { (meter : Meter) → BehindAnyRun D.Disk concentrator.old (λ origin state before.
+        Way D.Disk origin concentrator.old.house.budget state before port moment.seconds meter
+        (record { due = to_send request.now; link = link_by (B.lost bus.old) })
         (λ happened last. IfOk result (λ more.
         IsRound more (link_by (B.lost bus.new)) 0 happened last)
         × OnErr result (FailsInLast W.Sink port out.old out.new happened)
@@ -251,8 +251,9 @@ fn hear<D: Disk + Drop, A: Allocator + Copy, W: Sink>(
     out: &mut W,
 ) -> Result<bool, IoFault>
     ensures went { (meter : Meter) (link : Link)
-        → BehindAnyRun D.keeps D.sectors D.reads D.choices concentrator.old (λ origin state before.
-        Way (D.keeps origin) D.sectors D.failures D.reads D.choices D.moment D.images_since concentrator.old.house.budget state before port moment.seconds meter (record { due = to_hear bytes.now; link = link })
+        → BehindAnyRun D.Disk concentrator.old (λ origin state before.
+        Way D.Disk origin concentrator.old.house.budget state before port moment.seconds meter
+        (record { due = to_hear bytes.now; link = link })
         (λ happened last. IfOk result (λ more. IsRound more link 0 happened last)
         × OnErr result (FailsInLast W.Sink port out.old out.new happened)
         × (happened_exchanges happened ≡ []))
@@ -283,8 +284,9 @@ fn hear_again<D: Disk + Drop, A: Allocator + Copy, W: Sink>(
     out: &mut W,
 ) -> Result<bool, IoFault>
     ensures went { (meter : Meter) (link : Link)
-        → BehindAnyRun D.keeps D.sectors D.reads D.choices concentrator.old (λ origin state before.
-        Way (D.keeps origin) D.sectors D.failures D.reads D.choices D.moment D.images_since concentrator.old.house.budget state before port moment.seconds meter (record { due = to_make_room bytes.now; link = link })
+        → BehindAnyRun D.Disk concentrator.old (λ origin state before.
+        Way D.Disk origin concentrator.old.house.budget state before port moment.seconds meter
+        (record { due = to_make_room bytes.now; link = link })
         (λ happened last. IfOk result (λ more. IsRound more link 0 happened last)
         × OnErr result (FailsInLast W.Sink port out.old out.new happened)
         × (happened_exchanges happened ≡ []))
@@ -312,8 +314,9 @@ fn hear_once_more<D: Disk + Drop, A: Allocator + Copy, W: Sink>(
     out: &mut W,
 ) -> Result<bool, IoFault>
     ensures went { (meter : Meter) (link : Link)
-        → BehindAnyRun D.keeps D.sectors D.reads D.choices concentrator.old (λ origin state before.
-        Way (D.keeps origin) D.sectors D.failures D.reads D.choices D.moment D.images_since concentrator.old.house.budget state before port moment.seconds meter (record { due = to_hear_again bytes.now; link = link })
+        → BehindAnyRun D.Disk concentrator.old (λ origin state before.
+        Way D.Disk origin concentrator.old.house.budget state before port moment.seconds meter
+        (record { due = to_hear_again bytes.now; link = link })
         (λ happened last. IfOk result (λ more. IsRound more link 0 happened last)
         × OnErr result (FailsInLast W.Sink port out.old out.new happened)
         × (happened_exchanges happened ≡ []))
@@ -336,8 +339,9 @@ fn after_heard<D: Disk + Drop, A: Allocator + Copy, W: Sink>(
     out: &mut W,
 ) -> Result<bool, IoFault>
     ensures went { (port : Port) (moment : ℕ) (meter : Meter) (link : Link)
-        → BehindAnyRun D.keeps D.sectors D.reads D.choices concentrator.old (λ origin state before.
-        Way (D.keeps origin) D.sectors D.failures D.reads D.choices D.moment D.images_since concentrator.old.house.budget state before port moment meter (record { due = behind_heard answer; link = link })
+        → BehindAnyRun D.Disk concentrator.old (λ origin state before.
+        Way D.Disk origin concentrator.old.house.budget state before port moment meter
+        (record { due = behind_heard answer; link = link })
         (λ happened last. IfOk result (λ more. IsRound more link 0 happened last)
         × OnErr result (FailsInLast W.Sink port out.old out.new happened)
         × (happened_exchanges happened ≡ []))
@@ -363,8 +367,9 @@ fn commit_part<D: Disk + Drop, A: Allocator + Copy, W: Sink>(
     out: &mut W,
 ) -> Result<bool, IoFault>
     ensures went { (port : Port) (moment : ℕ) (meter : Meter) (link : Link)
-        → BehindAnyRun D.keeps D.sectors D.reads D.choices concentrator.old (λ origin state before.
-        Way (D.keeps origin) D.sectors D.failures D.reads D.choices D.moment D.images_since concentrator.old.house.budget state before port moment meter (record { due = to_commit; link = link })
+        → BehindAnyRun D.Disk concentrator.old (λ origin state before.
+        Way D.Disk origin concentrator.old.house.budget state before port moment meter
+        (record { due = to_commit; link = link })
         (λ happened last. IfOk result (λ more. IsRound more link 0 happened last)
         × OnErr result (FailsInLast W.Sink port out.old out.new happened)
         × (happened_exchanges happened ≡ []))
