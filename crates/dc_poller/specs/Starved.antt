@@ -30,7 +30,8 @@ StarvesAt links (line ∷ rest) starving deed =
 
 -- The lines before it are done, what was written is their text and what it told, and what went over the buses their
 -- traffic and its own.
-pub record ScriptStarved {D : Type 0} (g : Ghosts D) (origin : D) (budget : ℕ) (state : State) (before : List Turn)
+pub record ScriptStarved {D : Type 0} (g : Ghosts D) (origin : D) (budget : ℕ) (state : State)
+    (before : List Turn)
     (links : List LineLink) (lines : List (List ℕ)) (wrote : List ℕ → Type 0)
     (carries : List Traffic → Type 0) (first new : Machine D) : Type 0 where
   pub asked : List LineSeen

@@ -30,8 +30,7 @@ Fits sectors store len = FitsAt store.place (half_end (half_len_of sectors) stor
 
 -- THE STORE KEEPS THE STATE: it isn't stopped, its image has the version that is written, its disk is settled, and
 -- its one image stands for the state and is ready for the next group.
-pub record Keeps {D : Type 0} (g : Ghosts D)
-    (store : Kept D) (state : State) : Type 0 where
+pub record Keeps {D : Type 0} (g : Ghosts D) (store : Kept D) (state : State) : Type 0 where
   pub running : store.is_stopped ≡ false
   pub version : store.root.version ≡ image_version
   pub is_settled : IsSettled g store.disk
