@@ -28,7 +28,8 @@ use Rattle.dc_core.specs.Promised.{Seen, nothing_seen, latest_on, and_seen, seen
 use Rattle.dc_core.specs.Images.{Machine, IsAt, StandsForPromised}
 use Rattle.dc_core.specs.Lives.{IsFront, MayFollow}
 use Rattle.dc_core.specs.Told.{Tells}
-use Rattle.dc_core.specs.Headline.{IsOpened, Does, WasLeft, IsOpening, WasStopped, in_a_run, in_an_opening, accepted, IsPrefix, IsPromised, HasTold, IsKept}
+use Rattle.dc_core.specs.Run.{DidAll}
+use Rattle.dc_core.specs.Headline.{IsOpened, WasLeft, IsOpening, WasStopped, in_a_run, in_an_opening, accepted, IsPrefix, IsPromised, HasTold, IsKept}
 use Rattle.dc_core.proofs.Fronts.{promised_is_committed, accepted_counted, latest_within, heard_on_line}
 use Rattle.dc_core.proofs.Going.{leads_push, chain_push, accepted_push, seen_push, promised_push, grown, fewer, from_first, now_first}
 use Rattle.dc_core.proofs.Following.{stands_reads, lives_follow}
@@ -204,18 +205,18 @@ is_kept budget state done more held chain front =
 -- ---- a run, machine to machine
 
 module _ {D : Type 0} (g : Ghosts D) (only : (disk : D) (image : Image) → g.images_since disk (g.moment disk) image → IsImage (g.choices disk) image) where
-  does_chain : (origin : D) (budget : ℕ) (core : Core) (turns : List Turn) (old new : Machine D) → Does g origin budget core turns old new → IsChain budget core turns
+  does_chain : (origin : D) (budget : ℕ) (core : Core) (turns : List Turn) (old new : Machine D) → DidAll g origin budget core turns old new → IsChain budget core turns
   does_chain origin budget core [] old new did = tt
   does_chain origin budget core (t ∷ turns) old new did = (did.1.may, does_chain origin budget (next core t.0 t.1) turns did.0 new did.2)
 
-  does_at : (origin : D) (budget : ℕ) (core : Core) (turns : List Turn) (old new : Machine D) → IsAt g origin old core → Does g origin budget core turns old new
+  does_at : (origin : D) (budget : ℕ) (core : Core) (turns : List Turn) (old new : Machine D) → IsAt g origin old core → DidAll g origin budget core turns old new
       → IsAt g origin new (leads core turns)
   does_at origin budget core [] old new at did = subst (λ (m : Machine D). IsAt g origin m core) (sym did) at
   does_at origin budget core (t ∷ turns) old new at did = does_at origin budget (next core t.0 t.1) turns did.0 new did.1.at did.2
 
   -- what a stop at any moment of it leaves has all that was promised before
   does_leaves : (origin : D) (h : g.keeps origin) (budget : ℕ) (state : State) (done more : List Turn) (now last : Machine D) → IsChain budget (opened state) done → IsAt g origin now (leads (opened state) done)
-      → Does g origin budget (leads (opened state) done) more now last
+      → DidAll g origin budget (leads (opened state) done) more now last
       → LeavesOnly g now.store.disk last.store.disk (StandsForPromised (half_of g now.store.disk) state (promised_in done) (accepted state (done ++ more)))
   does_leaves origin h budget state done [] now last chain at did =
       let H = half_of g now.store.disk in
@@ -235,7 +236,7 @@ module _ {D : Type 0} (g : Ghosts D) (only : (disk : D) (image : Image) → g.im
       let here = leads_push (opened state) done t in
       let chain_past = chain_push budget (opened state) done t chain one.may in
       let at_past = subst (λ (c : Core). IsAt g origin mid c) (sym here) one.at in
-      let rest = subst (λ (c : Core). Does g origin budget c more mid last) (sym here) did.2 in
+      let rest = subst (λ (c : Core). DidAll g origin budget c more mid last) (sym here) did.2 in
       let tail = does_leaves origin h budget state past more mid last chain_past at_past rest in
       let all = accepted state (past ++ more) in
       let kept = promised_push budget state done t chain in
@@ -260,7 +261,7 @@ module _ {D : Type 0} (g : Ghosts D) (only : (disk : D) (image : Image) → g.im
     pub kept : (held : State) → Reads (half_of g disk) held (g.reads disk) → IsKept state done more held
 
   run_reads : (state : State) (done more : List Turn) (first now last : Machine D) (disk : D) → IsOpened g state first → g.keeps first.store.disk
-      → Does g first.store.disk first.house.budget (opened state) done first now → Does g first.store.disk first.house.budget (leads (opened state) done) more now last → WasLeft g now.store.disk last.store.disk disk → OpensAsKept state done more disk
+      → DidAll g first.store.disk first.house.budget (opened state) done first now → DidAll g first.store.disk first.house.budget (leads (opened state) done) more now last → WasLeft g now.store.disk last.store.disk disk → OpensAsKept state done more disk
   run_reads state done more first now last disk opens h did does left =
       let budget = first.house.budget in
       let origin = first.store.disk in

@@ -24,11 +24,6 @@ use Rattle.dc_core.specs.Told.{Tells}
 abbrev pub IsOpened : {D : Type 0} → Ghosts D → State → Machine D → Type 0
 IsOpened g state machine = IsAt g machine.store.disk machine (opened state)
 
--- It did these turns, from the one machine to the other, after an opening that left the disk as `origin`.
-abbrev pub Does : {D : Type 0} → Ghosts D → D → ℕ → Core → List Turn → Machine D → Machine D
-    → Type 0
-Does g origin = DidAll g origin
-
 -- The power went between these two states of a disk, before or within a call or after it. This disk has what was
 -- left, and nothing else.
 pub record WasLeft {D : Type 0} (g : Ghosts D) (from to disk : D) : Type 0 where
@@ -48,8 +43,8 @@ pub data WasStopped {D : Type 0} (g : Ghosts D) (state : State) (done more : Lis
     → Type 0 where
   in_a_run : (first now last : Machine D) (disk : D) → IsOpened g state first
       → g.keeps first.store.disk
-      → Does g first.store.disk first.house.budget (opened state) done first now
-      → Does g first.store.disk first.house.budget (leads (opened state) done) more now last
+      → DidAll g first.store.disk first.house.budget (opened state) done first now
+      → DidAll g first.store.disk first.house.budget (leads (opened state) done) more now last
       → WasLeft g now.store.disk last.store.disk disk → WasStopped g state done more disk
   in_an_opening : (from to disk : D) → WasStopped g state done more from
       → IsOpening g from to → WasLeft g from to disk → WasStopped g state done more disk

@@ -31,11 +31,12 @@ pub record Machine (D : Type 0) : Type 0 where
 abbrev pub IsWithin : {D : Type 0} → ℕ → Machine D → Type 0
 IsWithin sectors machine = machine.house.budget ≡ budget_of (half_len_of sectors)
 
--- THE CONCENTRATOR IS IN THIS STATE. In memory: its register is what is present, the waiting bytes spell what is
--- pending and is accepted after what is committed, and its lines are those. Where what the disk held is known: each
--- image that a stop may leave stands for what is committed and a prefix of what is pending, and where the store isn't
--- stopped, for what is committed.
-pub record IsAt {D : Type 0} (g : Ghosts D) (origin : D) (machine : Machine D) (core : Core) : Type 0 where
+-- THE CONCENTRATOR IS IN THIS STATE, after an opening that left the disk as `origin`. In memory: its register is what
+-- is present, the waiting bytes spell what is pending and is accepted after what is committed, and its lines are
+-- those. Where the disk's answers until `origin` kept the disk model: each image that a stop may leave stands for what
+-- is committed and a prefix of what is pending, and where the store isn't stopped, for what is committed.
+pub record IsAt {D : Type 0} (g : Ghosts D) (origin : D) (machine : Machine D)
+    (core : Core) : Type 0 where
   pub house_is : machine.house.state ≡ present core
   pub spells : SpellsChanges machine.waiting.bytes core.pending
   pub count_is : machine.waiting.count ≡ length core.pending

@@ -88,7 +88,7 @@ pub record Did {D : Type 0} (g : Ghosts D) (origin : D) (budget : ℕ)
       (StandsForFront (half_of g old.store.disk) core.committed
       (core.pending ++ accepted_by core turn.0 turn.1))
 
--- THESE TURNS, machine to machine, one after the other
+-- THESE TURNS, machine to machine, one after the other, after an opening that left the disk as `origin`
 abbrev pub DidAll : {D : Type 0} → Ghosts D → D → ℕ → Core → List Turn → Machine D → Machine D
     → Type 0
 DidAll g origin budget core [] old new = new ≡ old
