@@ -49,7 +49,8 @@ pub record Elapses (before now : ℕ) (past since : ℕ → Image → Type 0)
 
 -- What each call keeps: the number of sectors, and the count of failures, which rises where the device failed and else
 -- stays.
-pub record Counted {D : Type 0} (sectors failures : D → ℕ) (old new : D) (Failed : Type 0) : Type 0 where
+pub record Counted {D : Type 0} (sectors failures : D → ℕ) (old new : D)
+    (Failed : Type 0) : Type 0 where
   pub count : sectors new ≡ sectors old
   pub later : failures old ≤ failures new
   pub passed : (Failed → ⊥) → failures new ≡ failures old
