@@ -1,7 +1,7 @@
 use Rattle.std.proofs.Common.{◌≡◌, ℕ, inl, inr, ap, sym, subst, ◌∙◌}
 use Rattle.dc_sectors.specs.Disk.{IsImage, settled}
 use Rattle.dc_sectors.specs.Runs.{LeavesOnly, IsSettled}
-use Rattle.dc_sectors.proofs.Moments.{started, weakened, followed}
+use Rattle.dc_sectors.proofs.Moments.{started, weakened, followed, counted_on}
 use Rattle.dc_recovery.specs.Halves.{half_of, half_len_of, SparesRest}
 use Rattle.dc_recovery.specs.Stands.{IsUnformatted, IsBlankOrEmpty, IsFormatting}
 use Rattle.dc_recovery.proofs.ReadMoments.{synced, synced_read}
@@ -109,3 +109,11 @@ pub returns-in-Err-lay_out-clause-elsewhere : goal.returns-in-Err-lay_out-clause
 returns-in-Err-lay_out-clause-elsewhere g c =
     let at = goal.at.returns-in-Err-lay_out-clause-elsewhere g c in
     layout_spares g at.After-lay_out (look_spares g at.After-choose)
+
+pub returns-in-Ok-lay_out-clause-counts : goal.returns-in-Ok-lay_out-clause-counts
+returns-in-Ok-lay_out-clause-counts g c =
+    let disk = c.args.disk.now in
+    let chosen = c.in-Err-NoRoot in
+    counted_on g.D.Disk disk c.choose.new.disk c.lay_out.new.disk ⊥ _ _
+    (counted_on g.D.Disk disk c.sync.new.self c.choose.new.disk _ _ ⊥ c.in-Ok.ensures.counts (λ is. cc is) chosen.ensures.counts (λ is. cc (is, chosen.field-0-is)) (λ is. absurd is)) (λ is. is)
+    c.in-Ok-lay_out.ensures.counts (λ is. absurd (cc is)) (λ is. absurd (cc is))

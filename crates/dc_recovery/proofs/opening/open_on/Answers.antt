@@ -1,4 +1,4 @@
-use Rattle.std.proofs.Common.{◌≡◌, ◌+◌, ℕ, ap, refl, subst, sym, ◌∙◌}
+use Rattle.std.proofs.Common.{◌≡◌, ◌+◌, ℕ, Err, ap, refl, subst, sym, ◌∙◌}
 use Rattle.dc_sectors.specs.Disk.{Image, IsImage, settled}
 use Rattle.dc_sectors.specs.Runs.{LeavesOnly, IsSettled}
 use Rattle.dc_recovery.specs.Halves.{SparesRest}
