@@ -1,5 +1,5 @@
 -- The replies to the office's lines (this product): words with single spaces, each line ended by LF.
-use Rattle.std.specs.Prelude.{◌≡◌, ℕ, List, [], ◌++◌, codes, length, flat_map, Option}
+use Rattle.std.specs.Prelude.{◌≡◌, ℕ, List, [], ◌++◌, codes, length, flat_map}
 use Rattle.dc_io.specs.Failures.{HasRisen}
 use Rattle.dc_io.specs.Stream.{PutsFront}
 use Rattle.dc_units.specs.Date.{Day}
@@ -10,6 +10,7 @@ use Rattle.dc_upload.specs.Register.{meter_lines}
 use Rattle.dc_upload.specs.Verdict.{verdict_of}
 use Rattle.dc_upload.specs.Window.{reading_lines, window}
 use Rattle.dc_io.specs.Words.{number_word}
+use Rattle.dc_io.specs.declared.stream.Sink.{Ghosts}
 use Rattle.dc_upload.specs.declared.code.Code.{Code}
 use Rattle.dc_upload.specs.declared.code.Code.TheVariants.{Syntax, Store, Order, Known, Unknown}
 use Rattle.dc_upload.specs.declared.code.Code.TheVariants.{Address, Beyond, Gone, Full, Memory}
@@ -85,8 +86,7 @@ TakesMemory Register = ⊥
 TakesMemory (Report date) = Unit {0}
 
 -- Where memory was refused, the writer is as it was; else a write failed, and a prefix of the reply is written.
-abbrev pub Tells : {W : Type 0} → (W → Option (List ℕ)) → (W → ℕ) → OfficeLine → List ℕ → W → W
-    → ReplyFault → Type 0
-Tells written failures line text old new NoMemory = TakesMemory line × (new ≡ old)
-Tells written failures line text old new Write =
-    PutsFront (written old) (written new) text × HasRisen (failures old) (failures new)
+abbrev pub Tells : {W : Type 0} → Ghosts W → OfficeLine → List ℕ → W → W → ReplyFault → Type 0
+Tells g line text old new NoMemory = TakesMemory line × (new ≡ old)
+Tells g line text old new Write = PutsFront (g.written old) (g.written new) text
+    × HasRisen (g.put_failures old) (g.put_failures new)
