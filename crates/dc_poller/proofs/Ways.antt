@@ -4,7 +4,7 @@ use Rattle.std.specs.Prelude.{Bool, true, false, Result, Ok, Err, IfOk, OnErr, O
 use Rattle.dc_address.specs.declared.identity.Identity.{Identity}
 use Rattle.dc_io.specs.Failures.{HasRisen}
 use Rattle.dc_io.specs.Stream.{Puts}
-use Rattle.dc_io.specs.declared.stream.Sink.{Ghosts}
+use Rattle.dc_io.specs.declared.stream.Sink.{Ghosts as SinkGhosts}
 use Rattle.dc_io.proofs.Pieces.{puts-both, puts-none}
 use Rattle.dc_sectors.specs.declared.device.Disk.{Ghosts}
 use Rattle.dc_changes.specs.State.{State}
@@ -138,7 +138,7 @@ silence_over false = tt
 
 -- ---- where a write fails
 
-module _ {W : Type 0} (sink : Ghosts W) (port : Port) where
+module _ {W : Type 0} (sink : SinkGhosts W) (port : Port) where
   -- over the one thing that happened
   pub fails_in_one : (old new : W) (h : Happening) → HasRisen (sink.put_failures old) (sink.put_failures new) → FailsInLast sink port old new (h ∷ [])
   fails_in_one old new h failed = record { front = []; last = h; parts = refl; between = old; text = puts-none (sink.written old); well = refl; failed = failed }

@@ -6,7 +6,7 @@ use Rattle.dc_core.specs.Images.{Machine}
 use Rattle.dc_core.specs.Transcript.{Turn}
 use Rattle.dc_io.specs.Failures.{HasRisen}
 use Rattle.dc_io.specs.Stream.{Puts}
-use Rattle.dc_io.specs.declared.stream.Sink.{Ghosts}
+use Rattle.dc_io.specs.declared.stream.Sink.{Ghosts as SinkGhosts}
 use Rattle.dc_sectors.specs.declared.device.Disk.{Ghosts}
 use Rattle.dc_poller.specs.Poll.{Phase, Due, Happening, IsWay, happened_turns, happened_text}
 use Rattle.dc_poller.specs.Poll.{rounds_in, to_ask, is_over}
@@ -38,7 +38,7 @@ pub record IsRound (more : Bool) (link : Link) (rounds : ℕ) (happened : List H
   pub rounds_are : rounds_in happened ≡ rounds
 
 -- A write failed over the last of these: until then the text of those before it was written, and no write failed.
-pub record FailsInLast {W : Type 0} (sink : Ghosts W) (port : Port) (old new : W)
+pub record FailsInLast {W : Type 0} (sink : SinkGhosts W) (port : Port) (old new : W)
     (happened : List Happening) : Type 0 where
   pub front : List Happening
   pub last : Happening
