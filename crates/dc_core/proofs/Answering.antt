@@ -2,13 +2,15 @@
 use Rattle.std.proofs.Common.{◌≡◌, ◌⊎◌, ⊎_elim, inl, inr, ◌≤◌, ◌+◌, ◌-◌, ◌^◌, ℕ, false, Some, Result, Ok, Err, List, [], ◌∷◌, ◌++◌, refl, ap, sym, subst, ◌∙◌}
 use Rattle.std.specs.Prelude.{IsErrOf}
 use Rattle.dc_io.specs.Failures.{HasRisen, has_risen-after}
-use Rattle.dc_sectors.specs.Disk.{Image, Choices, IsImage, LeavesOnly}
+use Rattle.dc_sectors.specs.Disk.{Image, IsImage}
+use Rattle.dc_sectors.specs.declared.device.Disk.{Ghosts}
+use Rattle.dc_sectors.specs.Runs.{LeavesOnly}
 use Rattle.dc_sectors.proofs.Moments.{started as begun, weakened, followed}
 use Rattle.dc_changes.specs.State.{State, Held}
 use Rattle.dc_changes.specs.Apply.{applied}
 use Rattle.dc_changes.specs.declared.change.Change.{Change}
 use Rattle.dc_changes.specs.History.{after}
-use Rattle.dc_recovery.specs.Halves.{half_len_of}
+use Rattle.dc_recovery.specs.Halves.{half_of, half_len_of}
 use Rattle.dc_recovery.specs.Stands.{StandsForFront}
 use Rattle.dc_recovery.specs.Store.{Kept}
 use Rattle.dc_recovery.proofs.Fronts.{longer_front, front_behind}
@@ -48,46 +50,46 @@ worn_out : {D : Type 0} {P : Type 0} (store : Kept D) → (2 ^ 64 - 1 ≤ store.
 worn_out store worn = ⊎_elim (λ last. inl last) (λ more. inr more.1) worn
 
 -- a commit's fault shows
-pub commit_shown : {D : Type 0} (failures : D → ℕ) {P : Type 0} (old new : Machine D) (result : Result ℕ CommitFault) → (IsErrOf result Device → HasRisen (failures old.store.disk) (failures new.store.disk))
+pub commit_shown : {D : Type 0} (g : Ghosts D) {P : Type 0} (old new : Machine D) (result : Result ℕ CommitFault) → (IsErrOf result Device → HasRisen (g.failures old.store.disk) (g.failures new.store.disk))
     → (IsErrOf result Worn → (2 ^ 64 - 1 ≤ old.store.last + 1) ⊎ (P × (old.store.root.generation ≡ 2 ^ 64 - 1))) → (IsErrOf result Worn → new ≡ old)
-    → IsShown failures old new (fault_in (committed result))
-commit_shown failures old new (Ok count) device worn unchanged = tt
-commit_shown failures old new (Err Device) device worn unchanged = device refl
-commit_shown {D} failures old new (Err Worn) device worn unchanged = subst (λ (m : Machine D). IsWornOut m.store) (sym (unchanged refl)) (worn_out old.store (worn refl))
-commit_shown failures old new (Err Stopped) device worn unchanged = tt
+    → IsShown g old new (fault_in (committed result))
+commit_shown g old new (Ok count) device worn unchanged = tt
+commit_shown g old new (Err Device) device worn unchanged = device refl
+commit_shown {D} g old new (Err Worn) device worn unchanged = subst (λ (m : Machine D). IsWornOut m.store) (sym (unchanged refl)) (worn_out old.store (worn refl))
+commit_shown g old new (Err Stopped) device worn unchanged = tt
 
 -- a commit that is done stops nothing
 pub still_running : (core : Core) (pending : List Change) → (settled_core core pending).stopped ≡ core.stopped
 still_running core [] = refl
 still_running core (change ∷ changes) = refl
 
-module _ {D : Type 0} (known : Type 0) (sectors failures : D → ℕ) (reads : D → Image) (choices : D → Choices) (moment : D → ℕ) (images_since : D → ℕ → Image → Type 0) where
+module _ {D : Type 0} (g : Ghosts D) (origin : D) where
   abbrev OnlyNow : Machine D → Type 0
-  OnlyNow machine = known → (image : Image) → images_since machine.store.disk (moment machine.store.disk) image → IsImage (choices machine.store.disk) image
+  OnlyNow machine = g.keeps origin → (image : Image) → g.images_since machine.store.disk (g.moment machine.store.disk) image → IsImage (g.choices machine.store.disk) image
 
-  none_waits : (machine : Machine D) (core : Core) → IsAt known sectors reads choices machine core → machine.waiting.count ≡ 0 → core.pending ≡ []
+  none_waits : (machine : Machine D) (core : Core) → IsAt g origin machine core → machine.waiting.count ≡ 0 → core.pending ≡ []
   none_waits machine core at empty = nothing_waits core.pending (sym at.count_is ∙ empty)
 
   -- the register is what is committed
-  house_is_held : (machine : Machine D) (core : Core) → IsAt known sectors reads choices machine core → machine.waiting.count ≡ 0 → machine.house ≡ held machine.house.budget core
+  house_is_held : (machine : Machine D) (core : Core) → IsAt g origin machine core → machine.waiting.count ≡ 0 → machine.house ≡ held machine.house.budget core
   house_is_held machine core at empty =
       let state : machine.house.state ≡ core.committed = at.house_is ∙ ap (after core.committed) (none_waits machine core at empty) in
       λ i. record { state = state i; budget = machine.house.budget }
 
-  verdict_is : (machine : Machine D) (core : Core) (line : OfficeLine) (v : Verdict) → IsAt known sectors reads choices machine core → machine.waiting.count ≡ 0 → verdict_of machine.house line ≡ v → verdict_of (held machine.house.budget core) line ≡ v
+  verdict_is : (machine : Machine D) (core : Core) (line : OfficeLine) (v : Verdict) → IsAt g origin machine core → machine.waiting.count ≡ 0 → verdict_of machine.house line ≡ v → verdict_of (held machine.house.budget core) line ≡ v
   verdict_is machine core line v at empty is = subst (λ (h : Held). verdict_of h line ≡ v) (house_is_held machine core at empty) is
 
   -- nothing is written
-  still : (machine : Machine D) (core : Core) → IsAt known sectors reads choices machine core → machine.waiting.count ≡ 0 → OnlyNow machine
-      → known → LeavesOnly moment images_since machine.store.disk machine.store.disk (StandsForFront (half_len_of (sectors machine.store.disk)) core.committed [])
+  still : (machine : Machine D) (core : Core) → IsAt g origin machine core → machine.waiting.count ≡ 0 → OnlyNow machine
+      → g.keeps origin → LeavesOnly g machine.store.disk machine.store.disk (StandsForFront (half_of g machine.store.disk) core.committed [])
   still machine core at empty only h =
-      begun moment images_since machine.store.disk (StandsForFront (half_len_of (sectors machine.store.disk)) core.committed [])
-      (λ image left. subst (λ (p : List Change). StandsForFront (half_len_of (sectors machine.store.disk)) core.committed p image) (none_waits machine core at empty) (at.leaves h image (only h image left)))
+      begun g machine.store.disk (StandsForFront (half_of g machine.store.disk) core.committed [])
+      (λ image left. subst (λ (p : List Change). StandsForFront (half_of g machine.store.disk) core.committed p image) (none_waits machine core at empty) (at.leaves h image (only h image left)))
 
   -- no new command
-  pub answered_told : (machine : Machine D) (core : Core) (line : OfficeLine) (wrote : List ℕ → Type 0) (v : Verdict) → IsAt known sectors reads choices machine core → machine.waiting.count ≡ 0 → OnlyNow machine
+  pub answered_told : (machine : Machine D) (core : Core) (line : OfficeLine) (wrote : List ℕ → Type 0) (v : Verdict) → IsAt g origin machine core → machine.waiting.count ≡ 0 → OnlyNow machine
       → verdict_of machine.house line ≡ v → IfDo v (λ change. ⊥) → wrote (reply_text machine.house line)
-      → Answered known sectors failures reads choices moment images_since machine.house.budget core line wrote machine machine
+      → Answered g origin machine.house.budget core line wrote machine machine
   answered_told machine core line wrote (Do change) at empty only is not_do text = absurd not_do
   answered_told machine core line wrote Repeat at empty only is not_do text = record {
     reply = repeated core.committed.last_number;
@@ -115,9 +117,9 @@ module _ {D : Type 0} (known : Type 0) (sectors failures : D → ℕ) (reads : D
   }
 
   -- memory is refused, and nothing has changed
-  refused_memory : (machine : Machine D) (core : Core) (line : OfficeLine) (wrote : List ℕ → Type 0) → IsAt known sectors reads choices machine core → machine.waiting.count ≡ 0 → OnlyNow machine
+  refused_memory : (machine : Machine D) (core : Core) (line : OfficeLine) (wrote : List ℕ → Type 0) → IsAt g origin machine core → machine.waiting.count ≡ 0 → OnlyNow machine
       → MayAnswer machine.house.budget core line out_of_memory → wrote (refusal_line Memory)
-      → Answered known sectors failures reads choices moment images_since machine.house.budget core line wrote machine machine
+      → Answered g origin machine.house.budget core line wrote machine machine
   refused_memory machine core line wrote at empty only may text = record {
     reply = out_of_memory;
     may = may;
@@ -128,34 +130,34 @@ module _ {D : Type 0} (known : Type 0) (sectors failures : D → ℕ) (reads : D
   }
 
   -- for what is to be shown
-  pub answered_untold : (machine : Machine D) (core : Core) (line : OfficeLine) (wrote : List ℕ → Type 0) → IsAt known sectors reads choices machine core → machine.waiting.count ≡ 0 → OnlyNow machine
+  pub answered_untold : (machine : Machine D) (core : Core) (line : OfficeLine) (wrote : List ℕ → Type 0) → IsAt g origin machine core → machine.waiting.count ≡ 0 → OnlyNow machine
       → TakesMemory line → wrote (refusal_line Memory)
-      → Answered known sectors failures reads choices moment images_since machine.house.budget core line wrote machine machine
+      → Answered g origin machine.house.budget core line wrote machine machine
   answered_untold machine core line wrote at empty only takes text = refused_memory machine core line wrote at empty only (inr takes) text
 
   -- for a new command
-  pub answered_memory : (machine new : Machine D) (core : Core) (line : OfficeLine) (change : Change) (wrote : List ℕ → Type 0) → IsAt known sectors reads choices machine core → machine.waiting.count ≡ 0 → OnlyNow machine
+  pub answered_memory : (machine new : Machine D) (core : Core) (line : OfficeLine) (change : Change) (wrote : List ℕ → Type 0) → IsAt g origin machine core → machine.waiting.count ≡ 0 → OnlyNow machine
       → verdict_of machine.house line ≡ Do change → new ≡ machine → wrote (refusal_line Memory)
-      → Answered known sectors failures reads choices moment images_since machine.house.budget core line wrote machine new
+      → Answered g origin machine.house.budget core line wrote machine new
   answered_memory machine new core line change wrote at empty only is same text =
-      let all : Answered known sectors failures reads choices moment images_since machine.house.budget core line wrote machine machine =
+      let all : Answered g origin machine.house.budget core line wrote machine machine =
       refused_memory machine core line wrote at empty only (inl (change, verdict_is machine core line (Do change) at empty is)) text in
-      subst (λ (m : Machine D). Answered known sectors failures reads choices moment images_since machine.house.budget core line wrote machine m) (sym same) all
+      subst (λ (m : Machine D). Answered g origin machine.house.budget core line wrote machine m) (sym same) all
 
   -- what a commit of the new command leaves
   since : (machine mid new : Machine D) (core : Core) (change : Change) → mid.store ≡ machine.store
-      → (known → LeavesOnly moment images_since mid.store.disk new.store.disk (StandsForFront (half_len_of (sectors mid.store.disk)) core.committed (change ∷ [])))
-      → known → LeavesOnly moment images_since machine.store.disk new.store.disk (StandsForFront (half_len_of (sectors machine.store.disk)) core.committed (change ∷ []))
+      → (g.keeps origin → LeavesOnly g mid.store.disk new.store.disk (StandsForFront (half_of g mid.store.disk) core.committed (change ∷ [])))
+      → g.keeps origin → LeavesOnly g machine.store.disk new.store.disk (StandsForFront (half_of g machine.store.disk) core.committed (change ∷ []))
   since machine mid new core change store left h =
-      subst (λ (s : Kept D). LeavesOnly moment images_since s.disk new.store.disk (StandsForFront (half_len_of (sectors s.disk)) core.committed (change ∷ []))) store (left h)
+      subst (λ (s : Kept D). LeavesOnly g s.disk new.store.disk (StandsForFront (half_of g s.disk) core.committed (change ∷ []))) store (left h)
 
   -- a new command is done
-  pub answered_obeyed : (machine mid new : Machine D) (core : Core) (line : OfficeLine) (change : Change) (wrote : List ℕ → Type 0) → IsAt known sectors reads choices machine core → machine.waiting.count ≡ 0
+  pub answered_obeyed : (machine mid new : Machine D) (core : Core) (line : OfficeLine) (change : Change) (wrote : List ℕ → Type 0) → IsAt g origin machine core → machine.waiting.count ≡ 0
       → verdict_of machine.house line ≡ Do change → mid.store ≡ machine.store → new.house ≡ record machine.house { state = applied change machine.house.state }
-      → IsAt known sectors reads choices new (settled (ordered change core))
-      → (known → LeavesOnly moment images_since mid.store.disk new.store.disk (StandsForFront (half_len_of (sectors mid.store.disk)) core.committed (change ∷ [])))
+      → IsAt g origin new (settled (ordered change core))
+      → (g.keeps origin → LeavesOnly g mid.store.disk new.store.disk (StandsForFront (half_of g mid.store.disk) core.committed (change ∷ [])))
       → wrote (reply_text new.house line)
-      → Answered known sectors failures reads choices moment images_since machine.house.budget core line wrote machine new
+      → Answered g origin machine.house.budget core line wrote machine new
   answered_obeyed machine mid new core line change wrote at empty is store house done left text =
       let now : Held = record machine.house { state = applied change machine.house.state } in
       let told = told_text now line Repeat (repeats machine.house line change is) in
@@ -170,13 +172,13 @@ module _ {D : Type 0} (known : Type 0) (sectors failures : D → ℕ) (reads : D
       }
 
   -- its commit fails
-  pub answered_uncommitted : (machine mid new : Machine D) (core : Core) (line : OfficeLine) (change : Change) (fault : CommitFault) (wrote : List ℕ → Type 0) → IsAt known sectors reads choices machine core → machine.waiting.count ≡ 0
+  pub answered_uncommitted : (machine mid new : Machine D) (core : Core) (line : OfficeLine) (change : Change) (fault : CommitFault) (wrote : List ℕ → Type 0) → IsAt g origin machine core → machine.waiting.count ≡ 0
       → verdict_of machine.house line ≡ Do change → mid.store ≡ machine.store
-      → IsUnstored (ordered change core) fault → IsAt known sectors reads choices new (after_commit (ordered change core) (Err fault))
-      → IsShown failures mid new (Some fault)
-      → (known → LeavesOnly moment images_since mid.store.disk new.store.disk (StandsForFront (half_len_of (sectors mid.store.disk)) core.committed (change ∷ [])))
+      → IsUnstored (ordered change core) fault → IsAt g origin new (after_commit (ordered change core) (Err fault))
+      → IsShown g mid new (Some fault)
+      → (g.keeps origin → LeavesOnly g mid.store.disk new.store.disk (StandsForFront (half_of g mid.store.disk) core.committed (change ∷ [])))
       → wrote (refusal_line Store)
-      → Answered known sectors failures reads choices moment images_since machine.house.budget core line wrote machine new
+      → Answered g origin machine.house.budget core line wrote machine new
   answered_uncommitted machine mid new core line change fault wrote at empty is store why failed shows left text = record {
     reply = uncommitted change fault;
     may = (verdict_is machine core line (Do change) at empty is, why);
@@ -186,44 +188,44 @@ module _ {D : Type 0} (known : Type 0) (sectors failures : D → ℕ) (reads : D
     leaves = since machine mid new core change store left;
   }
     where
-      shows_since : (f : CommitFault) → IsShown failures mid new (Some f) → IsShown failures machine new (Some f)
-      shows_since Device s = subst (λ (k : Kept D). HasRisen (failures k.disk) (failures new.store.disk)) store s
+      shows_since : (f : CommitFault) → IsShown g mid new (Some f) → IsShown g machine new (Some f)
+      shows_since Device s = subst (λ (k : Kept D). HasRisen (g.failures k.disk) (g.failures new.store.disk)) store s
       shows_since Worn s = s
       shows_since Stopped s = tt
 
   -- ---- the whole line
 
   -- the text spells no line
-  pub turned_unread : (machine : Machine D) (core : Core) (text : List ℕ) (wrote : List ℕ → Type 0) → IsAt known sectors reads choices machine core → OnlyNow machine
+  pub turned_unread : (machine : Machine D) (core : Core) (text : List ℕ) (wrote : List ℕ → Type 0) → IsAt g origin machine core → OnlyNow machine
       → SpellsNone text → wrote (refusal_line Syntax)
-      → Turned known sectors failures reads choices moment images_since machine.house.budget core (offices text) wrote machine machine
+      → Turned g origin machine.house.budget core (offices text) wrote machine machine
   turned_unread machine core text wrote at only none told =
-      let P : Image → Type 0 = StandsForFront (half_len_of (sectors machine.store.disk)) core.committed (core.pending ++ []) in
+      let P : Image → Type 0 = StandsForFront (half_of g machine.store.disk) core.committed (core.pending ++ []) in
       record {
         answer = replied unread;
         may = none;
         text = told;
         at = at;
         failed = tt;
-        leaves = λ h. begun moment images_since machine.store.disk P
-            (λ image left. longer_front (half_len_of (sectors machine.store.disk)) core.committed core.pending [] image (at.leaves h image (only h image left)));
+        leaves = λ h. begun g machine.store.disk P
+            (λ image left. longer_front (half_of g machine.store.disk) core.committed core.pending [] image (at.leaves h image (only h image left)));
       }
 
   -- the pending changes aren't committed
   pub turned_unstored : (machine new : Machine D) (core : Core) (text : List ℕ) (line : OfficeLine) (fault : CommitFault) (wrote : List ℕ → Type 0) → Spells text line
-      → IsUnstored core fault → IsAt known sectors reads choices new (after_commit core (Err fault)) → IsShown failures machine new (Some fault)
-      → (known → LeavesOnly moment images_since machine.store.disk new.store.disk (StandsForFront (half_len_of (sectors machine.store.disk)) core.committed core.pending))
+      → IsUnstored core fault → IsAt g origin new (after_commit core (Err fault)) → IsShown g machine new (Some fault)
+      → (g.keeps origin → LeavesOnly g machine.store.disk new.store.disk (StandsForFront (half_of g machine.store.disk) core.committed core.pending))
       → wrote (refusal_line Store)
-      → Turned known sectors failures reads choices moment images_since machine.house.budget core (offices text) wrote machine new
+      → Turned g origin machine.house.budget core (offices text) wrote machine new
   turned_unstored machine new core text line fault wrote spells why at shows left told =
-      let H = half_len_of (sectors machine.store.disk) in
+      let H = half_of g machine.store.disk in
       record {
         answer = replied (unstored fault);
         may = ((line, spells), why);
         text = told;
         at = at;
         failed = shows;
-        leaves = λ h. weakened moment images_since machine.store.disk new.store.disk (StandsForFront H core.committed core.pending) (StandsForFront H core.committed (core.pending ++ []))
+        leaves = λ h. weakened g machine.store.disk new.store.disk (StandsForFront H core.committed core.pending) (StandsForFront H core.committed (core.pending ++ []))
             (left h) (longer_front H core.committed core.pending []);
       }
 
@@ -253,8 +255,8 @@ module _ {D : Type 0} (known : Type 0) (sectors failures : D → ℕ) (reads : D
   committed_is core (change ∷ changes) some = refl
 
   shown_since : (budget : ℕ) (line : OfficeLine) (machine mid new : Machine D) (core : Core) (reply : Reply) → MayAnswer budget core line reply
-      → IsShown failures mid new (fault_in (replied reply)) → (HasRisen (failures mid.store.disk) (failures new.store.disk) → HasRisen (failures machine.store.disk) (failures new.store.disk))
-      → IsShown failures machine new (fault_in (replied reply))
+      → IsShown g mid new (fault_in (replied reply)) → (HasRisen (g.failures mid.store.disk) (g.failures new.store.disk) → HasRisen (g.failures machine.store.disk) (g.failures new.store.disk))
+      → IsShown g machine new (fault_in (replied reply))
   shown_since budget line machine mid new core unread may shows risen = absurd may
   shown_since budget line machine mid new core (unstored fault) may shows risen = absurd may
   shown_since budget line machine mid new core (repeated number) may shows risen = tt
@@ -268,33 +270,33 @@ module _ {D : Type 0} (known : Type 0) (sectors failures : D → ℕ) (reads : D
 
   -- the pending changes are committed, and then the line is answered
   pub turned_answered : (machine mid new : Machine D) (core : Core) (text : List ℕ) (line : OfficeLine) (wrote : List ℕ → Type 0) → Spells text line → core.stopped ≡ false
-      → mid.house.budget ≡ machine.house.budget → sectors mid.store.disk ≡ sectors machine.store.disk → failures machine.store.disk ≤ failures mid.store.disk
-      → (known → LeavesOnly moment images_since machine.store.disk mid.store.disk (StandsForFront (half_len_of (sectors machine.store.disk)) core.committed core.pending))
-      → Answered known sectors failures reads choices moment images_since mid.house.budget (settled core) line wrote mid new
-      → Turned known sectors failures reads choices moment images_since machine.house.budget core (offices text) wrote machine new
+      → mid.house.budget ≡ machine.house.budget → g.sectors mid.store.disk ≡ g.sectors machine.store.disk → g.failures machine.store.disk ≤ g.failures mid.store.disk
+      → (g.keeps origin → LeavesOnly g machine.store.disk mid.store.disk (StandsForFront (half_of g machine.store.disk) core.committed core.pending))
+      → Answered g origin mid.house.budget (settled core) line wrote mid new
+      → Turned g origin machine.house.budget core (offices text) wrote machine new
   turned_answered machine mid new core text line wrote spells running budget count kept left answered =
       let reply = answered.reply in
-      let H = half_len_of (sectors machine.store.disk) in
+      let H = half_of g machine.store.disk in
       let more = taken_with reply in
       let all = core.pending ++ more in
       let may = subst (λ (b : ℕ). MayAnswer b (settled core) line reply) budget answered.may in
-      let behind : (image : Image) → StandsForFront (half_len_of (sectors mid.store.disk)) (settled core).committed more image → StandsForFront H core.committed all image =
+      let behind : (image : Image) → StandsForFront (half_of g mid.store.disk) (settled core).committed more image → StandsForFront H core.committed all image =
       λ image stands. front_behind H core.committed core.pending more image
       (subst (λ (s : State). StandsForFront H s more image) (committed_is core core.pending refl) (subst (λ (n : ℕ). StandsForFront (half_len_of n) (settled core).committed more image) count stands)) in
       record {
         answer = replied reply;
         may = may_is machine.house.budget core text line reply spells running may;
         text = answered.text;
-        at = subst (λ (c : Core). IsAt known sectors reads choices new c) (after_is machine.house.budget core line reply may) answered.at;
-        failed = shown_since machine.house.budget line machine mid new (settled core) reply may answered.failed (λ risen. has_risen-after (failures machine.store.disk) (failures mid.store.disk) (failures new.store.disk) kept risen);
-        leaves = λ h. followed moment images_since machine.store.disk mid.store.disk new.store.disk (StandsForFront H core.committed core.pending) (StandsForFront (half_len_of (sectors mid.store.disk)) (settled core).committed more) (StandsForFront H core.committed all)
+        at = subst (λ (c : Core). IsAt g origin new c) (after_is machine.house.budget core line reply may) answered.at;
+        failed = shown_since machine.house.budget line machine mid new (settled core) reply may answered.failed (λ risen. has_risen-after (g.failures machine.store.disk) (g.failures mid.store.disk) (g.failures new.store.disk) kept risen);
+        leaves = λ h. followed g machine.store.disk mid.store.disk new.store.disk (StandsForFront H core.committed core.pending) (StandsForFront (half_of g mid.store.disk) (settled core).committed more) (StandsForFront H core.committed all)
             (left h) (answered.leaves h) (longer_front H core.committed core.pending more) behind;
       }
 
   -- the same text, as another result states it
   pub turned_by : (machine new : Machine D) (core : Core) (event : Event) (wrote other : List ℕ → Type 0) → ((text : List ℕ) → wrote text → other text)
-      → Turned known sectors failures reads choices moment images_since machine.house.budget core event wrote machine new
-      → Turned known sectors failures reads choices moment images_since machine.house.budget core event other machine new
+      → Turned g origin machine.house.budget core event wrote machine new
+      → Turned g origin machine.house.budget core event other machine new
   turned_by machine new core event wrote other same turned = record {
     answer = turned.answer;
     may = turned.may;

@@ -2,7 +2,8 @@
 use Rattle.std.proofs.Common.{◌≡◌, ◌≢◌, true, ◌+◌, ℕ, false, Option, Some, Ok, List, [], ◌∷◌, ◌++◌, length, refl, ap, sym, subst, arith, ◌∙◌, length-append}
 use Rattle.std.proofs.lemmas.List.{flat_map_more}
 use Rattle.std.proofs.lemmas.List.Elements.{All-append, All-push}
-use Rattle.dc_sectors.specs.Disk.{Image, Choices, IsImage}
+use Rattle.dc_sectors.specs.Disk.{Image, IsImage}
+use Rattle.dc_sectors.specs.declared.device.Disk.{Ghosts}
 use Rattle.dc_changes.specs.State.{Held}
 use Rattle.dc_changes.specs.declared.change.Change.{Change}
 use Rattle.dc_changes.specs.Apply.{applied}
@@ -13,7 +14,7 @@ use Rattle.dc_changes.specs.Encoding.{change_bytes}
 use Rattle.dc_changes.specs.Spelled.{SpellsChanges}
 use Rattle.dc_changes.specs.Valid.{IsChange}
 use Rattle.dc_readout.specs.Summary.{Summary, Verdict, verdict_by}
-use Rattle.dc_recovery.specs.Halves.{half_len_of}
+use Rattle.dc_recovery.specs.Halves.{half_of}
 use Rattle.dc_recovery.specs.Stands.{StandsForFront}
 use Rattle.dc_recovery.proofs.Fronts.{longer_front}
 use Rattle.dc_recovery.specs.Store.{Keeps}
@@ -41,15 +42,15 @@ pub nothing_waits : (pending : List Change) → length pending ≡ 0 → pending
 nothing_waits [] none = refl
 nothing_waits (change ∷ changes) none = absurd (omega (arith, none))
 
-module _ {D : Type 0} (known : Type 0) (sectors : D → ℕ) (reads : D → Image) (choices : D → Choices) where
+module _ {D : Type 0} (g : Ghosts D) (origin : D) where
   -- a line changes
-  pub at_line : (machine new : Machine D) (core : Core) (line : ℕ) (session : Option Summary) → IsAt known sectors reads choices machine core
+  pub at_line : (machine new : Machine D) (core : Core) (line : ℕ) (session : Option Summary) → IsAt g origin machine core
       → new.store ≡ machine.store → new.house ≡ machine.house → new.waiting ≡ machine.waiting → new.lines ≡ put_on line session machine.lines
-      → IsAt known sectors reads choices new (with_session line session core)
+      → IsAt g origin new (with_session line session core)
   at_line machine new core line session at store house waiting lines =
       let b : Machine D = record machine { lines = put_on line session machine.lines } in
       let e : new ≡ b = λ i. record { store = store i; house = house i; waiting = waiting i; lines = lines i } in
-      let all : IsAt known sectors reads choices b (with_session line session core) = record {
+      let all : IsAt g origin b (with_session line session core) = record {
         house_is = at.house_is;
         spells = at.spells;
         count_is = at.count_is;
@@ -60,23 +61,23 @@ module _ {D : Type 0} (known : Type 0) (sectors : D → ℕ) (reads : D → Imag
         stands = at.stands;
         leaves = at.leaves;
       } in
-      subst (λ (x : Machine D). IsAt known sectors reads choices x (with_session line session core)) (sym e) all
+      subst (λ (x : Machine D). IsAt g origin x (with_session line session core)) (sym e) all
 
   -- an answer that adds no change
-  pub at_heard : (machine new : Machine D) (core : Core) (line moment : ℕ) (bytes : List ℕ) (s : Summary) (verdict : Verdict) (heard : LineHeard) → IsAt known sectors reads choices machine core
+  pub at_heard : (machine new : Machine D) (core : Core) (line moment : ℕ) (bytes : List ℕ) (s : Summary) (verdict : Verdict) (heard : LineHeard) → IsAt g origin machine core
       → on_line line machine.lines ≡ Some s → verdict_by s bytes ≡ verdict → and_pending moment core.pending verdict ≡ core.pending
       → new.store ≡ machine.store → new.house ≡ machine.house → new.waiting ≡ machine.waiting → new.lines ≡ put_on line (session_after s verdict) machine.lines
-      → IsAt known sectors reads choices new (after_hear core line moment bytes (Ok heard))
+      → IsAt g origin new (after_hear core line moment bytes (Ok heard))
   at_heard machine new core line moment bytes s verdict heard at who is none store house waiting lines =
       let there : on_line line core.lines ≡ Some s = ap (on_line line) (sym at.lines_are) ∙ who in
       let same : judged core line moment s verdict ≡ with_session line (session_after s verdict) core = λ i. record (with_session line (session_after s verdict) core) { pending = none i } in
       rw (there, is, same) (at_line machine new core line (session_after s verdict) at store house waiting lines)
 
   -- a telegram
-  pub at_taken : (machine new : Machine D) (core : Core) (line moment : ℕ) (bytes : List ℕ) (s : Summary) (verdict : Verdict) (change : Change) (heard : LineHeard) → IsAt known sectors reads choices machine core
+  pub at_taken : (machine new : Machine D) (core : Core) (line moment : ℕ) (bytes : List ℕ) (s : Summary) (verdict : Verdict) (change : Change) (heard : LineHeard) → IsAt g origin machine core
       → on_line line machine.lines ≡ Some s → verdict_by s bytes ≡ verdict → and_pending moment core.pending verdict ≡ core.pending ++ change ∷ []
       → new.store ≡ machine.store → IsTaken machine.house new.house machine.waiting new.waiting change → new.lines ≡ put_on line (session_after s verdict) machine.lines
-      → IsAt known sectors reads choices new (after_hear core line moment bytes (Ok heard))
+      → IsAt g origin new (after_hear core line moment bytes (Ok heard))
   at_taken machine new core line moment bytes s verdict change heard at who is one store taken lines =
       let there : on_line line core.lines ≡ Some s = ap (on_line line) (sym at.lines_are) ∙ who in
       let pending = core.pending ++ change ∷ [] in
@@ -86,7 +87,7 @@ module _ {D : Type 0} (known : Type 0) (sectors : D → ℕ) (reads : D → Imag
       let e : new ≡ b = λ i. record { store = store i; house = taken.house_is i; waiting = taken.waits i; lines = lines i } in
       let count = length-append core.pending (change ∷ []) in
       let was = at.count_is in
-      let all : IsAt known sectors reads choices b to = record {
+      let all : IsAt g origin b to = record {
         house_is = ap (applied change) at.house_is ∙ sym (after_of_push core.committed core.pending change);
         spells = spells_push machine.waiting.bytes core.pending change at.spells taken.is_change;
         count_is = omega (arith, count, was);
@@ -95,15 +96,15 @@ module _ {D : Type 0} (known : Type 0) (sectors : D → ℕ) (reads : D → Imag
         stopped_is = at.stopped_is;
         keeps = at.keeps;
         stands = at.stands;
-        leaves = λ h image is_image. longer_front (half_len_of (sectors machine.store.disk)) core.committed core.pending (change ∷ []) image (at.leaves h image is_image);
+        leaves = λ h image is_image. longer_front (half_of g machine.store.disk) core.committed core.pending (change ∷ []) image (at.leaves h image is_image);
       } in
-      rw (there, is, same) (subst (λ (x : Machine D). IsAt known sectors reads choices x to) (sym e) all)
+      rw (there, is, same) (subst (λ (x : Machine D). IsAt g origin x to) (sym e) all)
 
   -- a command, where nothing waited
-  pub at_ordered : (machine new : Machine D) (core : Core) (change : Change) → IsAt known sectors reads choices machine core → machine.waiting.count ≡ 0 → IsChange change → Accepts machine.house.budget change machine.house.state
+  pub at_ordered : (machine new : Machine D) (core : Core) (change : Change) → IsAt g origin machine core → machine.waiting.count ≡ 0 → IsChange change → Accepts machine.house.budget change machine.house.state
       → new.store ≡ machine.store → new.house ≡ record machine.house { state = applied change machine.house.state }
       → new.waiting ≡ record { bytes = machine.waiting.bytes ++ change_bytes change; count = machine.waiting.count + 1 } → new.lines ≡ lines_after (removed_by change) machine.lines
-      → IsAt known sectors reads choices new (ordered change core)
+      → IsAt g origin new (ordered change core)
   at_ordered machine new core change at empty is_change accepted store house waiting lines =
       let pending = core.pending ++ change ∷ [] in
       let none = nothing_waits core.pending (sym at.count_is ∙ empty) in
@@ -113,7 +114,7 @@ module _ {D : Type 0} (known : Type 0) (sectors : D → ℕ) (reads : D → Imag
       let e : new ≡ b = λ i. record { store = store i; house = house i; waiting = waiting i; lines = lines i } in
       let count = length-append core.pending (change ∷ []) in
       let was = at.count_is in
-      let all : IsAt known sectors reads choices b to = record {
+      let all : IsAt g origin b to = record {
         house_is = ap (applied change) at.house_is ∙ sym (after_of_push core.committed core.pending change);
         spells = spells_push machine.waiting.bytes core.pending change at.spells is_change;
         count_is = omega (arith, count, was);
@@ -122,17 +123,17 @@ module _ {D : Type 0} (known : Type 0) (sectors : D → ℕ) (reads : D → Imag
         stopped_is = at.stopped_is;
         keeps = at.keeps;
         stands = at.stands;
-        leaves = λ h image is_image. longer_front (half_len_of (sectors machine.store.disk)) core.committed core.pending (change ∷ []) image (at.leaves h image is_image);
+        leaves = λ h image is_image. longer_front (half_of g machine.store.disk) core.committed core.pending (change ∷ []) image (at.leaves h image is_image);
       } in
-      subst (λ (c : Core). IsAt known sectors reads choices new c) same (subst (λ (x : Machine D). IsAt known sectors reads choices x to) (sym e) all)
+      subst (λ (c : Core). IsAt g origin new c) same (subst (λ (x : Machine D). IsAt g origin x to) (sym e) all)
 
   -- a commit that is done
-  pub at_committed : (machine new : Machine D) (core : Core) → IsAt known sectors reads choices machine core → machine.waiting.count ≢ 0 → machine.store.is_stopped ≡ false
-      → new.store.is_stopped ≡ false → (known → Keeps sectors reads choices new.store (present core)) → new.house ≡ machine.house → new.waiting ≡ record { bytes = []; count = 0 } → new.lines ≡ settled_lines machine.lines
-      → IsAt known sectors reads choices new (settled_core core core.pending)
+  pub at_committed : (machine new : Machine D) (core : Core) → IsAt g origin machine core → machine.waiting.count ≢ 0 → machine.store.is_stopped ≡ false
+      → new.store.is_stopped ≡ false → (g.keeps origin → Keeps g new.store (present core)) → new.house ≡ machine.house → new.waiting ≡ record { bytes = []; count = 0 } → new.lines ≡ settled_lines machine.lines
+      → IsAt g origin new (settled_core core core.pending)
   at_committed machine new core at some runs running kept house waiting lines =
       let to : Core = record core { committed = present core; pending = []; lines = settled_lines core.lines } in
-      let all : IsAt known sectors reads choices new to = record {
+      let all : IsAt g origin new to = record {
         house_is = ap (λ (h : Held). h.state) house ∙ at.house_is;
         spells = record { spelled = ap (λ (w : Waiting). w.bytes) waiting; are_changes = λ k d lt. absurd (omega (arith, lt)) };
         count_is = ap (λ (w : Waiting). w.count) waiting;
@@ -140,15 +141,15 @@ module _ {D : Type 0} (known : Type 0) (sectors : D → ℕ) (reads : D → Imag
         lines_are = lines ∙ ap settled_lines at.lines_are;
         stopped_is = running ∙ sym runs ∙ at.stopped_is;
         keeps = λ h still. kept h;
-        stands = λ h still image is. kept_stands sectors reads choices new.store (present core) image (kept h) is;
-        leaves = λ h image is. record { count = 0; within = omega arith; stands = kept_stands sectors reads choices new.store (present core) image (kept h) is };
+        stands = λ h still image is. kept_stands g new.store (present core) image (kept h) is;
+        leaves = λ h image is. record { count = 0; within = omega arith; stands = kept_stands g new.store (present core) image (kept h) is };
       } in
-      subst (λ (c : Core). IsAt known sectors reads choices new c) (sym (settled_is core core.pending (λ e. some (at.count_is ∙ e)))) all
+      subst (λ (c : Core). IsAt g origin new c) (sym (settled_is core core.pending (λ e. some (at.count_is ∙ e)))) all
 
   -- a commit in which the disk failed
-  pub at_device : (machine new : Machine D) (core : Core) → IsAt known sectors reads choices machine core → new.store.is_stopped ≡ true
-      → (known → (image : Image) → IsImage (choices new.store.disk) image → StandsForFront (half_len_of (sectors new.store.disk)) core.committed core.pending image)
-      → new.house ≡ machine.house → new.waiting ≡ machine.waiting → new.lines ≡ machine.lines → IsAt known sectors reads choices new (record core { stopped = true })
+  pub at_device : (machine new : Machine D) (core : Core) → IsAt g origin machine core → new.store.is_stopped ≡ true
+      → (g.keeps origin → (image : Image) → IsImage (g.choices new.store.disk) image → StandsForFront (half_of g new.store.disk) core.committed core.pending image)
+      → new.house ≡ machine.house → new.waiting ≡ machine.waiting → new.lines ≡ machine.lines → IsAt g origin new (record core { stopped = true })
   at_device machine new core at stopped left house waiting lines = record {
     house_is = ap (λ (h : Held). h.state) house ∙ at.house_is;
     spells = subst (λ (w : Waiting). SpellsChanges w.bytes core.pending) (sym waiting) at.spells;
@@ -162,8 +163,8 @@ module _ {D : Type 0} (known : Type 0) (sectors : D → ℕ) (reads : D → Imag
   }
 
   -- an image that was opened
-  pub at_opened : (new : Machine D) → new.store.is_stopped ≡ false → (known → Keeps sectors reads choices new.store new.house.state) → new.waiting ≡ record { bytes = []; count = 0 } → new.lines ≡ no_sessions
-      → IsAt known sectors reads choices new (opened new.house.state)
+  pub at_opened : (new : Machine D) → new.store.is_stopped ≡ false → (g.keeps origin → Keeps g new.store new.house.state) → new.waiting ≡ record { bytes = []; count = 0 } → new.lines ≡ no_sessions
+      → IsAt g origin new (opened new.house.state)
   at_opened new running kept waiting lines = record {
     house_is = refl;
     spells = record { spelled = ap (λ (w : Waiting). w.bytes) waiting; are_changes = λ k d lt. absurd (omega (arith, lt)) };
@@ -172,6 +173,6 @@ module _ {D : Type 0} (known : Type 0) (sectors : D → ℕ) (reads : D → Imag
     lines_are = lines;
     stopped_is = running;
     keeps = λ h still. kept h;
-    stands = λ h still image is. kept_stands sectors reads choices new.store new.house.state image (kept h) is;
-    leaves = λ h image is. record { count = 0; within = omega arith; stands = kept_stands sectors reads choices new.store new.house.state image (kept h) is };
+    stands = λ h still image is. kept_stands g new.store new.house.state image (kept h) is;
+    leaves = λ h image is. record { count = 0; within = omega arith; stands = kept_stands g new.store new.house.state image (kept h) is };
   }

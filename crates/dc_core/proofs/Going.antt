@@ -2,13 +2,15 @@
 use Rattle.std.proofs.Common.{◌≡◌, ◌≤◌, ◌+◌, ℕ, List, [], ◌∷◌, ◌++◌, None, Some, Ok, Err, length, take, refl, ap, sym, subst, ◌∙◌, arith, append_assoc, length-append}
 use Rattle.std.proofs.lemmas.List.{map-append, append-nil, take-append-le, length-take-le, flat_map_more}
 use Rattle.std.proofs.Math.Seq.{take-append-add}
-use Rattle.dc_sectors.specs.Disk.{Image, Choices, IsImage, LeavesOnly}
+use Rattle.dc_sectors.specs.Disk.{Image, IsImage}
+use Rattle.dc_sectors.specs.declared.device.Disk.{Ghosts}
+use Rattle.dc_sectors.specs.Runs.{LeavesOnly}
 use Rattle.dc_sectors.proofs.Moments.{started as begun, followed}
 use Rattle.dc_changes.specs.State.{State}
 use Rattle.dc_changes.specs.declared.change.Change.{Change}
 use Rattle.dc_changes.specs.History.{after}
 use Rattle.dc_changes.proofs.History.{after_of_append}
-use Rattle.dc_recovery.specs.Halves.{half_len_of}
+use Rattle.dc_recovery.specs.Halves.{half_of, half_len_of}
 use Rattle.dc_recovery.specs.Stands.{Stands, StandsForFront}
 use Rattle.dc_recovery.specs.Store.{Kept}
 use Rattle.dc_recovery.proofs.Fronts.{longer_front}
@@ -137,47 +139,47 @@ now_first half_len state turns core image holds stands =
     subst (λ (x : List Change). StandsForPromised half_len state (promised_in turns) x image) (append-nil (accepted_in (opened state) turns))
     (from_first half_len state turns core [] image holds (subst (λ (x : List Change). StandsForFront half_len core.committed x image) (sym (append-nil core.pending)) stands))
 
-module _ {D : Type 0} (known : Type 0) (sectors failures : D → ℕ) (reads : D → Image) (choices : D → Choices) (moment : D → ℕ) (images_since : D → ℕ → Image → Type 0) where
+module _ {D : Type 0} (g : Ghosts D) (origin : D) where
   -- a call that leaves the store, whatever it accepts
-  pub at_rest : (machine new : Machine D) (core : Core) (more : List Change) → IsAt known sectors reads choices machine core → known → new.store ≡ machine.store
-      → ((image : Image) → images_since machine.store.disk (moment machine.store.disk) image → IsImage (choices machine.store.disk) image)
-      → LeavesOnly moment images_since machine.store.disk new.store.disk (StandsForFront (half_len_of (sectors machine.store.disk)) core.committed (core.pending ++ more))
+  pub at_rest : (machine new : Machine D) (core : Core) (more : List Change) → IsAt g origin machine core → g.keeps origin → new.store ≡ machine.store
+      → ((image : Image) → g.images_since machine.store.disk (g.moment machine.store.disk) image → IsImage (g.choices machine.store.disk) image)
+      → LeavesOnly g machine.store.disk new.store.disk (StandsForFront (half_of g machine.store.disk) core.committed (core.pending ++ more))
   at_rest machine new core more at h same only =
-      let H = half_len_of (sectors machine.store.disk) in
+      let H = half_of g machine.store.disk in
       let P : Image → Type 0 = StandsForFront H core.committed (core.pending ++ more) in
-      subst (λ (s : Kept D). LeavesOnly moment images_since machine.store.disk s.disk P) (sym same)
-      (begun moment images_since machine.store.disk P (λ image left. longer_front H core.committed core.pending more image (at.leaves h image (only image left))))
+      subst (λ (s : Kept D). LeavesOnly g machine.store.disk s.disk P) (sym same)
+      (begun g machine.store.disk P (λ image left. longer_front H core.committed core.pending more image (at.leaves h image (only image left))))
 
   -- AN EVENT THAT LEAVES THE STORE as it was
   pub turned_at_rest : (budget : ℕ) (machine new : Machine D) (core : Core) (event : Event) (answer : Answer) (wrote : List ℕ → Type 0) → fault_in answer ≡ None
-      → May budget core event answer → wrote (answer_text answer) → IsAt known sectors reads choices machine core → IsAt known sectors reads choices new (next core event answer) → new.store ≡ machine.store
-      → (known → (image : Image) → images_since machine.store.disk (moment machine.store.disk) image → IsImage (choices machine.store.disk) image)
-      → Turned known sectors failures reads choices moment images_since budget core event wrote machine new
+      → May budget core event answer → wrote (answer_text answer) → IsAt g origin machine core → IsAt g origin new (next core event answer) → new.store ≡ machine.store
+      → (g.keeps origin → (image : Image) → g.images_since machine.store.disk (g.moment machine.store.disk) image → IsImage (g.choices machine.store.disk) image)
+      → Turned g origin budget core event wrote machine new
   turned_at_rest budget machine new core event answer wrote none may text at after same only = record {
     answer = answer;
     may = may;
     text = text;
     at = after;
-    failed = subst (IsShown failures machine new) (sym none) tt;
+    failed = subst (IsShown g machine new) (sym none) tt;
     leaves = λ h. at_rest machine new core (accepted_by core event answer) at h same (only h);
   }
 
   -- some turns, and then others
-  pub did_both : (budget : ℕ) (core : Core) (turns more : List Turn) (first mid new : Machine D) → DidAll known sectors failures reads choices moment images_since budget core turns first mid
-      → DidAll known sectors failures reads choices moment images_since budget (leads core turns) more mid new → DidAll known sectors failures reads choices moment images_since budget core (turns ++ more) first new
-  did_both budget core [] more first mid new same rest = subst (λ (m : Machine D). DidAll known sectors failures reads choices moment images_since budget core more m new) same rest
+  pub did_both : (budget : ℕ) (core : Core) (turns more : List Turn) (first mid new : Machine D) → DidAll g origin budget core turns first mid
+      → DidAll g origin budget (leads core turns) more mid new → DidAll g origin budget core (turns ++ more) first new
+  did_both budget core [] more first mid new same rest = subst (λ (m : Machine D). DidAll g origin budget core more m new) same rest
   did_both budget core (t ∷ turns) more first mid new past rest = (past.0, past.1, did_both budget (next core t.0 t.1) turns more past.0 mid new past.2 rest)
 
   -- no event yet
-  pub ran_none : (budget : ℕ) (state : State) (before : List Turn) (wrote : List ℕ → Type 0) (machine : Machine D) → IsChain budget (opened state) before → IsAt known sectors reads choices machine (leads (opened state) before)
-      → (known → (image : Image) → images_since machine.store.disk (moment machine.store.disk) image → IsImage (choices machine.store.disk) image) → wrote []
-      → Ran known sectors failures reads choices moment images_since budget state before [] wrote machine machine
+  pub ran_none : (budget : ℕ) (state : State) (before : List Turn) (wrote : List ℕ → Type 0) (machine : Machine D) → IsChain budget (opened state) before → IsAt g origin machine (leads (opened state) before)
+      → (g.keeps origin → (image : Image) → g.images_since machine.store.disk (g.moment machine.store.disk) image → IsImage (g.choices machine.store.disk) image) → wrote []
+      → Ran g origin budget state before [] wrote machine machine
   ran_none budget state before wrote machine chain at only text =
       let e = sym (append-nil before) in
-      let H = half_len_of (sectors machine.store.disk) in
+      let H = half_of g machine.store.disk in
       let all = accepted_in (opened state) before in
       let core = leads (opened state) before in
-      let stands : known → (image : Image) → IsImage (choices machine.store.disk) image → StandsForPromised H state (promised_in before) all image =
+      let stands : g.keeps origin → (image : Image) → IsImage (g.choices machine.store.disk) image → StandsForPromised H state (promised_in before) all image =
       λ h image is. now_first H state before core image (promised_is_committed budget state before chain) (at.leaves h image is) in
       record {
         turns = [];
@@ -185,41 +187,41 @@ module _ {D : Type 0} (known : Type 0) (sectors failures : D → ℕ) (reads : D
         steps = refl;
         chain = subst (IsChain budget (opened state)) e chain;
         text = text;
-        at = subst (λ (ts : List Turn). IsAt known sectors reads choices machine (leads (opened state) ts)) e at;
+        at = subst (λ (ts : List Turn). IsAt g origin machine (leads (opened state) ts)) e at;
         holds = promised_is_committed budget state (before ++ []) (subst (IsChain budget (opened state)) e chain);
         knows = none_is_unknown budget state (before ++ []) (subst (IsChain budget (opened state)) e chain);
         count = refl;
         kept = subst (λ (ts : List Turn). promised_in before ≤ promised_in ts) e (omega arith);
-        leaves = λ h. subst (λ (ts : List Turn). LeavesOnly moment images_since machine.store.disk machine.store.disk (StandsForPromised H state (promised_in before) (accepted_in (opened state) ts))) e
-            (begun moment images_since machine.store.disk (StandsForPromised H state (promised_in before) all) (λ image left. stands h image (only h image left)));
+        leaves = λ h. subst (λ (ts : List Turn). LeavesOnly g machine.store.disk machine.store.disk (StandsForPromised H state (promised_in before) (accepted_in (opened state) ts))) e
+            (begun g machine.store.disk (StandsForPromised H state (promised_in before) all) (λ image left. stands h image (only h image left)));
         behind = λ h image is. subst (λ (ts : List Turn). StandsForPromised H state (promised_in ts) (accepted_in (opened state) ts) image) e (stands h image is);
       }
 
   -- one event more
   unfoldable pub ran_more : (budget : ℕ) (state : State) (before : List Turn) (events : List Event) (event : Event) (wrote piece all_wrote : List ℕ → Type 0) (first old new : Machine D)
-      → (ran : Ran known sectors failures reads choices moment images_since budget state before events wrote first old)
-      → (turned : Turned known sectors failures reads choices moment images_since budget (leads (opened state) (before ++ ran.turns)) event piece old new) → sectors new.store.disk ≡ sectors old.store.disk
+      → (ran : Ran g origin budget state before events wrote first old)
+      → (turned : Turned g origin budget (leads (opened state) (before ++ ran.turns)) event piece old new) → g.sectors new.store.disk ≡ g.sectors old.store.disk
       → ((text more : List ℕ) → wrote text → piece more → all_wrote (text ++ more))
-      → Ran known sectors failures reads choices moment images_since budget state before (events ++ event ∷ []) all_wrote first new
+      → Ran g origin budget state before (events ++ event ∷ []) all_wrote first new
   ran_more budget state before events event wrote piece all_wrote first old new ran turned count joins =
       let t : Turn = (event, turned.answer) in
       let past = before ++ ran.turns in
       let e : past ++ t ∷ [] ≡ before ++ (ran.turns ++ t ∷ []) = append_assoc before ran.turns (t ∷ []) in
       let core = leads (opened state) past in
-      let H = half_len_of (sectors first.store.disk) in
+      let H = half_of g first.store.disk in
       let all = accepted_in (opened state) past in
       let more = accepted_by core event turned.answer in
       let chain : IsChain budget (opened state) (past ++ t ∷ []) = chain_push budget (opened state) past t ran.chain turned.may in
-      let at : IsAt known sectors reads choices new (leads (opened state) (past ++ t ∷ [])) = subst (λ (c : Core). IsAt known sectors reads choices new c) (sym (leads_push (opened state) past t)) turned.at in
-      let did : Did known sectors failures reads choices moment images_since budget (leads (leads (opened state) before) ran.turns) t old new =
-      subst (λ (c : Core). Did known sectors failures reads choices moment images_since budget c t old new) (leads_append (opened state) before ran.turns) (record { may = turned.may; at = turned.at; count = count; failed = turned.failed; leaves = turned.leaves }) in
+      let at : IsAt g origin new (leads (opened state) (past ++ t ∷ [])) = subst (λ (c : Core). IsAt g origin new c) (sym (leads_push (opened state) past t)) turned.at in
+      let did : Did g origin budget (leads (leads (opened state) before) ran.turns) t old new =
+      subst (λ (c : Core). Did g origin budget c t old new) (leads_append (opened state) before ran.turns) (record { may = turned.may; at = turned.at; count = count; failed = turned.failed; leaves = turned.leaves }) in
       let chain' = subst (IsChain budget (opened state)) e chain in
       let kept = ran.kept in
       let now = promised_push budget state past t ran.chain in
-      let same_size : sectors new.store.disk ≡ sectors first.store.disk = count ∙ ran.count in
+      let same_size : g.sectors new.store.disk ≡ g.sectors first.store.disk = count ∙ ran.count in
       let longer : (image : Image) → StandsForPromised H state (promised_in before) all image → StandsForPromised H state (promised_in before) (accepted_in (opened state) (past ++ t ∷ [])) image =
       λ image stands. subst (λ (x : List Change). StandsForPromised H state (promised_in before) x image) (sym (accepted_push (opened state) past t)) (grown H state (promised_in before) all more image stands) in
-      let within : (image : Image) → StandsForFront (half_len_of (sectors old.store.disk)) core.committed (core.pending ++ more) image → StandsForPromised H state (promised_in before) (accepted_in (opened state) (past ++ t ∷ [])) image =
+      let within : (image : Image) → StandsForFront (half_of g old.store.disk) core.committed (core.pending ++ more) image → StandsForPromised H state (promised_in before) (accepted_in (opened state) (past ++ t ∷ [])) image =
       λ image stands. subst (λ (x : List Change). StandsForPromised H state (promised_in before) x image) (sym (accepted_push (opened state) past t))
       (fewer H state (promised_in before) (promised_in past) (all ++ more) image kept
       (from_first H state past core more image ran.holds (subst (λ (n : ℕ). StandsForFront (half_len_of n) core.committed (core.pending ++ more) image) ran.count stands))) in
@@ -229,14 +231,14 @@ module _ {D : Type 0} (known : Type 0) (sectors failures : D → ℕ) (reads : D
         steps = did_both budget (leads (opened state) before) ran.turns (t ∷ []) first old new ran.steps (new, did, refl);
         chain = chain';
         text = subst all_wrote (flat_map_more (λ (turn : Turn). answer_text turn.1) [] ran.turns t) (joins (run_text ran.turns) (answer_text turned.answer) ran.text turned.text);
-        at = subst (λ (ts : List Turn). IsAt known sectors reads choices new (leads (opened state) ts)) e at;
+        at = subst (λ (ts : List Turn). IsAt g origin new (leads (opened state) ts)) e at;
         holds = promised_is_committed budget state (before ++ (ran.turns ++ t ∷ [])) chain';
         knows = none_is_unknown budget state (before ++ (ran.turns ++ t ∷ [])) chain';
         count = same_size;
         kept = subst (λ (ts : List Turn). promised_in before ≤ promised_in ts) e (omega (arith, kept, now));
-        leaves = λ h. subst (λ (ts : List Turn). LeavesOnly moment images_since first.store.disk new.store.disk (StandsForPromised H state (promised_in before) (accepted_in (opened state) ts))) e
-            (followed moment images_since first.store.disk old.store.disk new.store.disk
-            (StandsForPromised H state (promised_in before) all) (StandsForFront (half_len_of (sectors old.store.disk)) core.committed (core.pending ++ more)) (StandsForPromised H state (promised_in before) (accepted_in (opened state) (past ++ t ∷ [])))
+        leaves = λ h. subst (λ (ts : List Turn). LeavesOnly g first.store.disk new.store.disk (StandsForPromised H state (promised_in before) (accepted_in (opened state) ts))) e
+            (followed g first.store.disk old.store.disk new.store.disk
+            (StandsForPromised H state (promised_in before) all) (StandsForFront (half_of g old.store.disk) core.committed (core.pending ++ more)) (StandsForPromised H state (promised_in before) (accepted_in (opened state) (past ++ t ∷ [])))
             (ran.leaves h) (turned.leaves h) longer within);
         behind = λ h image is. subst (λ (ts : List Turn). StandsForPromised H state (promised_in ts) (accepted_in (opened state) ts) image) e
             (now_first H state (past ++ t ∷ []) (leads (opened state) (past ++ t ∷ [])) image (promised_is_committed budget state (past ++ t ∷ []) chain)
@@ -245,21 +247,21 @@ module _ {D : Type 0} (known : Type 0) (sectors failures : D → ℕ) (reads : D
 
   -- a run of one event, and which turn it is
   pub one_turn : (budget : ℕ) (state : State) (before : List Turn) (event : Event) (piece : List ℕ → Type 0) (old new : Machine D)
-      → IsChain budget (opened state) before → IsAt known sectors reads choices old (leads (opened state) before)
-      → (known → (image : Image) → images_since old.store.disk (moment old.store.disk) image → IsImage (choices old.store.disk) image)
-      → (turned : Turned known sectors failures reads choices moment images_since budget (leads (opened state) before) event piece old new) → sectors new.store.disk ≡ sectors old.store.disk
-      → (ran : Ran known sectors failures reads choices moment images_since budget state before (event ∷ []) (λ text. Unit {0}) old new) × (ran.turns ≡ (event, turned.answer) ∷ [])
+      → IsChain budget (opened state) before → IsAt g origin old (leads (opened state) before)
+      → (g.keeps origin → (image : Image) → g.images_since old.store.disk (g.moment old.store.disk) image → IsImage (g.choices old.store.disk) image)
+      → (turned : Turned g origin budget (leads (opened state) before) event piece old new) → g.sectors new.store.disk ≡ g.sectors old.store.disk
+      → (ran : Ran g origin budget state before (event ∷ []) (λ text. Unit {0}) old new) × (ran.turns ≡ (event, turned.answer) ∷ [])
   unfolding ran_none ran_more
   one_turn budget state before event piece old new chain at only turned count =
       let e = sym (append-nil before) in
       let answer = turned.answer in
       let none = ran_none budget state before (λ text. Unit {0}) old chain at only tt in
-      let behind : Turned known sectors failures reads choices moment images_since budget (leads (opened state) (before ++ [])) event piece old new = record {
+      let behind : Turned g origin budget (leads (opened state) (before ++ [])) event piece old new = record {
         answer = answer;
         may = subst (λ (ts : List Turn). May budget (leads (opened state) ts) event answer) e turned.may;
         text = turned.text;
-        at = subst (λ (ts : List Turn). IsAt known sectors reads choices new (next (leads (opened state) ts) event answer)) e turned.at;
+        at = subst (λ (ts : List Turn). IsAt g origin new (next (leads (opened state) ts) event answer)) e turned.at;
         failed = turned.failed;
-        leaves = λ h. subst (λ (ts : List Turn). LeavesOnly moment images_since old.store.disk new.store.disk (StandsForFront (half_len_of (sectors old.store.disk)) (leads (opened state) ts).committed ((leads (opened state) ts).pending ++ accepted_by (leads (opened state) ts) event answer))) e (turned.leaves h);
+        leaves = λ h. subst (λ (ts : List Turn). LeavesOnly g old.store.disk new.store.disk (StandsForFront (half_of g old.store.disk) (leads (opened state) ts).committed ((leads (opened state) ts).pending ++ accepted_by (leads (opened state) ts) event answer))) e (turned.leaves h);
       } in
       (ran_more budget state before [] event (λ text. Unit {0}) piece (λ text. Unit {0}) old old new none behind count (λ text more wrote put. tt), refl)

@@ -6,14 +6,15 @@ use Rattle.std.proofs.Math.Seq.{take-append-add}
 use Rattle.std.proofs.lemmas.List.{append-nil, take-append-drop, length-set}
 use Rattle.std.proofs.lemmas.List.Elements.{Contains-append_cases, Contains-push_cases}
 use Rattle.std.proofs.lemmas.Bool.Decides.{nat_tests}
-use Rattle.dc_sectors.specs.declared.device.Disk.{Ghosts}
-use Rattle.dc_sectors.specs.Disk.{Image, Choices, IsImage, LeavesOnly, settled}
+use Rattle.dc_sectors.specs.Disk.{Image, Choices, IsImage, settled}
 use Rattle.dc_sectors.specs.Images.{settled_image}
+use Rattle.dc_sectors.specs.declared.device.Disk.{Ghosts}
+use Rattle.dc_sectors.specs.Runs.{LeavesOnly, IsSettled}
 use Rattle.dc_sectors.proofs.Moments.{started as begun, followed}
 use Rattle.dc_changes.specs.State.{State}
 use Rattle.dc_changes.specs.declared.change.Change.{Change}
 use Rattle.dc_changes.specs.History.{after}
-use Rattle.dc_recovery.specs.Halves.{half_len_of}
+use Rattle.dc_recovery.specs.Halves.{half_of, half_len_of}
 use Rattle.dc_recovery.specs.Stands.{Reads, Stands, EachStands, StandsForFront, StandsForOne}
 use Rattle.dc_recovery.proofs.Once.{reads_once}
 use Rattle.dc_pending.specs.Lines.{is_line}
@@ -27,7 +28,8 @@ use Rattle.dc_core.specs.Promised.{Seen, nothing_seen, latest_on, and_seen, seen
 use Rattle.dc_core.specs.Images.{Machine, IsAt, StandsForPromised}
 use Rattle.dc_core.specs.Lives.{IsFront, MayFollow}
 use Rattle.dc_core.specs.Told.{Tells}
-use Rattle.dc_core.specs.Headline.{IsOpened, Does, WasLeft, IsOpening, WasStopped, in_a_run, in_an_opening, accepted, IsPrefix, IsPromised, HasTold, IsKept}
+use Rattle.dc_core.specs.Run.{DidAll}
+use Rattle.dc_core.specs.Headline.{IsOpened, WasLeft, IsOpening, WasStopped, in_a_run, in_an_opening, accepted, IsPrefix, IsPromised, HasTold, IsKept}
 use Rattle.dc_core.proofs.Fronts.{promised_is_committed, accepted_counted, latest_within, heard_on_line}
 use Rattle.dc_core.proofs.Going.{leads_push, chain_push, accepted_push, seen_push, promised_push, grown, fewer, from_first, now_first}
 use Rattle.dc_core.proofs.Following.{stands_reads, lives_follow}
@@ -203,70 +205,70 @@ is_kept budget state done more held chain front =
 -- ---- a run, machine to machine
 
 module _ {D : Type 0} (g : Ghosts D) (only : (disk : D) (image : Image) → g.images_since disk (g.moment disk) image → IsImage (g.choices disk) image) where
-  does_chain : (origin : D) (budget : ℕ) (core : Core) (turns : List Turn) (old new : Machine D) → Does g origin budget core turns old new → IsChain budget core turns
+  does_chain : (origin : D) (budget : ℕ) (core : Core) (turns : List Turn) (old new : Machine D) → DidAll g origin budget core turns old new → IsChain budget core turns
   does_chain origin budget core [] old new did = tt
   does_chain origin budget core (t ∷ turns) old new did = (did.1.may, does_chain origin budget (next core t.0 t.1) turns did.0 new did.2)
 
-  does_at : (origin : D) (budget : ℕ) (core : Core) (turns : List Turn) (old new : Machine D) → IsAt (g.keeps origin) g.sectors g.reads g.choices old core → Does g origin budget core turns old new
-      → IsAt (g.keeps origin) g.sectors g.reads g.choices new (leads core turns)
-  does_at origin budget core [] old new at did = subst (λ (m : Machine D). IsAt (g.keeps origin) g.sectors g.reads g.choices m core) (sym did) at
+  does_at : (origin : D) (budget : ℕ) (core : Core) (turns : List Turn) (old new : Machine D) → IsAt g origin old core → DidAll g origin budget core turns old new
+      → IsAt g origin new (leads core turns)
+  does_at origin budget core [] old new at did = subst (λ (m : Machine D). IsAt g origin m core) (sym did) at
   does_at origin budget core (t ∷ turns) old new at did = does_at origin budget (next core t.0 t.1) turns did.0 new did.1.at did.2
 
   -- what a stop at any moment of it leaves has all that was promised before
-  does_leaves : (origin : D) (h : g.keeps origin) (budget : ℕ) (state : State) (done more : List Turn) (now last : Machine D) → IsChain budget (opened state) done → IsAt (g.keeps origin) g.sectors g.reads g.choices now (leads (opened state) done)
-      → Does g origin budget (leads (opened state) done) more now last
-      → LeavesOnly g.moment g.images_since now.store.disk last.store.disk (StandsForPromised (half_len_of (g.sectors now.store.disk)) state (promised_in done) (accepted state (done ++ more)))
+  does_leaves : (origin : D) (h : g.keeps origin) (budget : ℕ) (state : State) (done more : List Turn) (now last : Machine D) → IsChain budget (opened state) done → IsAt g origin now (leads (opened state) done)
+      → DidAll g origin budget (leads (opened state) done) more now last
+      → LeavesOnly g now.store.disk last.store.disk (StandsForPromised (half_of g now.store.disk) state (promised_in done) (accepted state (done ++ more)))
   does_leaves origin h budget state done [] now last chain at did =
-      let H = half_len_of (g.sectors now.store.disk) in
+      let H = half_of g now.store.disk in
       let P : Image → Type 0 = StandsForPromised H state (promised_in done) (accepted state done) in
-      let here : LeavesOnly g.moment g.images_since now.store.disk now.store.disk P =
-      begun g.moment g.images_since now.store.disk P (λ image left.
+      let here : LeavesOnly g now.store.disk now.store.disk P =
+      begun g now.store.disk P (λ image left.
       now_first H state done (leads (opened state) done) image (promised_is_committed budget state done chain) (at.leaves h image (only now.store.disk image left))) in
-      subst (λ (ts : List Turn). LeavesOnly g.moment g.images_since now.store.disk last.store.disk (StandsForPromised H state (promised_in done) (accepted state ts))) (sym (append-nil done))
-      (subst (λ (m : Machine D). LeavesOnly g.moment g.images_since now.store.disk m.store.disk P) (sym did) here)
+      subst (λ (ts : List Turn). LeavesOnly g now.store.disk last.store.disk (StandsForPromised H state (promised_in done) (accepted state ts))) (sym (append-nil done))
+      (subst (λ (m : Machine D). LeavesOnly g now.store.disk m.store.disk P) (sym did) here)
   does_leaves origin h budget state done (t ∷ more) now last chain at did =
       let mid = did.0 in
       let one = did.1 in
       let core = leads (opened state) done in
-      let H = half_len_of (g.sectors now.store.disk) in
+      let H = half_of g now.store.disk in
       let past = done ++ t ∷ [] in
       let e : past ++ more ≡ done ++ t ∷ more = append_assoc done (t ∷ []) more in
       let here = leads_push (opened state) done t in
       let chain_past = chain_push budget (opened state) done t chain one.may in
-      let at_past = subst (λ (c : Core). IsAt (g.keeps origin) g.sectors g.reads g.choices mid c) (sym here) one.at in
-      let rest = subst (λ (c : Core). Does g origin budget c more mid last) (sym here) did.2 in
+      let at_past = subst (λ (c : Core). IsAt g origin mid c) (sym here) one.at in
+      let rest = subst (λ (c : Core). DidAll g origin budget c more mid last) (sym here) did.2 in
       let tail = does_leaves origin h budget state past more mid last chain_past at_past rest in
       let all = accepted state (past ++ more) in
       let kept = promised_push budget state done t chain in
       let parts : accepted state done ++ accepted_by core t.0 t.1 ++ accepted_in (leads (opened state) past) more ≡ all =
       ap (λ (x : List Change). x ++ accepted_in (leads (opened state) past) more) (sym (accepted_push (opened state) done t)) ∙ sym (accepted_parts (opened state) past more) in
       let R : Image → Type 0 = StandsForPromised H state (promised_in done) all in
-      let leaves : LeavesOnly g.moment g.images_since now.store.disk last.store.disk R =
-      followed g.moment g.images_since now.store.disk mid.store.disk last.store.disk
-      (StandsForFront H core.committed (core.pending ++ accepted_by core t.0 t.1)) (StandsForPromised (half_len_of (g.sectors mid.store.disk)) state (promised_in past) all) R
+      let leaves : LeavesOnly g now.store.disk last.store.disk R =
+      followed g now.store.disk mid.store.disk last.store.disk
+      (StandsForFront H core.committed (core.pending ++ accepted_by core t.0 t.1)) (StandsForPromised (half_of g mid.store.disk) state (promised_in past) all) R
       (one.leaves h) tail
       (λ image stands. subst (λ (x : List Change). StandsForPromised H state (promised_in done) x image) parts
       (grown H state (promised_in done) (accepted state done ++ accepted_by core t.0 t.1) (accepted_in (leads (opened state) past) more) image
       (from_first H state done core (accepted_by core t.0 t.1) image (promised_is_committed budget state done chain) stands)))
       (λ image stands. fewer H state (promised_in done) (promised_in past) all image kept
       (subst (λ (n : ℕ). StandsForPromised (half_len_of n) state (promised_in past) all image) one.count stands)) in
-      subst (λ (ts : List Turn). LeavesOnly g.moment g.images_since now.store.disk last.store.disk (StandsForPromised H state (promised_in done) (accepted state ts))) e leaves
+      subst (λ (ts : List Turn). LeavesOnly g now.store.disk last.store.disk (StandsForPromised H state (promised_in done) (accepted state ts))) e leaves
 
   -- What a disk has may be opened, and whatever state it reads as is kept.
   pub record OpensAsKept (state : State) (done more : List Turn) (disk : D) : Type 0 where
-    pub is_settled : g.choices disk ≡ settled (g.reads disk)
-    pub each : EachStands (half_len_of (g.sectors disk)) (settled (g.reads disk))
-    pub kept : (held : State) → Reads (half_len_of (g.sectors disk)) held (g.reads disk) → IsKept state done more held
+    pub is_settled : IsSettled g disk
+    pub each : EachStands (half_of g disk) (settled (g.reads disk))
+    pub kept : (held : State) → Reads (half_of g disk) held (g.reads disk) → IsKept state done more held
 
   run_reads : (state : State) (done more : List Turn) (first now last : Machine D) (disk : D) → IsOpened g state first → g.keeps first.store.disk
-      → Does g first.store.disk first.house.budget (opened state) done first now → Does g first.store.disk first.house.budget (leads (opened state) done) more now last → WasLeft g now.store.disk last.store.disk disk → OpensAsKept state done more disk
+      → DidAll g first.store.disk first.house.budget (opened state) done first now → DidAll g first.store.disk first.house.budget (leads (opened state) done) more now last → WasLeft g now.store.disk last.store.disk disk → OpensAsKept state done more disk
   run_reads state done more first now last disk opens h did does left =
       let budget = first.house.budget in
       let origin = first.store.disk in
       let chain = does_chain origin budget (opened state) done first now did in
       let at = does_at origin budget (opened state) done first now opens did in
       let leaves = does_leaves origin h budget state done more now last chain at does in
-      let follows : MayFollow (half_len_of (g.sectors disk)) state (promised_in done) (accepted state (done ++ more)) (g.reads disk) =
+      let follows : MayFollow (half_of g disk) state (promised_in done) (accepted state (done ++ more)) (g.reads disk) =
       subst (λ (n : ℕ). MayFollow (half_len_of n) state (promised_in done) (accepted state (done ++ more)) (g.reads disk)) (sym left.same_size)
       (lives_follow (g.sectors now.store.disk) state (promised_in done) (accepted state (done ++ more)) (g.reads disk) (leaves.each (g.reads disk) left.image)) in
       record {
@@ -278,7 +280,7 @@ module _ {D : Type 0} (g : Ghosts D) (only : (disk : D) (image : Image) → g.im
   -- an opening leaves what was there
   opening_reads : (state : State) (done more : List Turn) (from to disk : D) → OpensAsKept state done more from → IsOpening g from to → WasLeft g from to disk → OpensAsKept state done more disk
   opening_reads state done more from to disk opens opening left =
-      let H = half_len_of (g.sectors from) in
+      let H = half_of g from in
       let one : StandsForOne H (g.choices from) (g.reads disk) = opening.each (g.reads disk) left.image in
       let was : one.was ≡ g.reads from = settled_image (g.reads from) one.was (subst (λ (c : Choices). IsImage c one.was) opens.is_settled one.was_image) in
       let stood : Stands H one.state (g.reads from) = subst (Stands H one.state) was one.stood in

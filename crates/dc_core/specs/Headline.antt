@@ -2,11 +2,11 @@
 -- again (this product). The theorem is the clause `the_headline` of `Concentrator::open`.
 use Rattle.std.specs.Prelude.{◌≡◌, ℕ, Some, Ok, List, [], ◌∷◌, ◌++◌, Contains}
 use Rattle.dc_sectors.specs.declared.device.Disk.{Ghosts}
-use Rattle.dc_sectors.specs.Disk.{LeavesOnly, settled}
+use Rattle.dc_sectors.specs.Runs.{LeavesOnly, IsSettled}
 use Rattle.dc_changes.specs.State.{State}
 use Rattle.dc_changes.specs.declared.change.Change.{Change}
 use Rattle.dc_changes.specs.History.{after}
-use Rattle.dc_recovery.specs.Halves.{half_len_of}
+use Rattle.dc_recovery.specs.Halves.{half_of}
 use Rattle.dc_recovery.specs.Stands.{StandsForOne}
 use Rattle.dc_core.specs.declared.line_heard.LineHeard.TheVariants.{Accepted}
 use Rattle.dc_core.specs.Core.{Core, opened}
@@ -22,27 +22,18 @@ use Rattle.dc_core.specs.Told.{Tells}
 -- The machine was just opened with this state: what its memory holds, and, where the answers of its disk until now kept
 -- the disk model, what its disk holds.
 abbrev pub IsOpened : {D : Type 0} → Ghosts D → State → Machine D → Type 0
-IsOpened g state machine = IsAt (g.keeps machine.store.disk) g.sectors g.reads g.choices machine
-    (opened state)
-
--- It did these turns, from the one machine to the other, after an opening that left the disk as `origin`.
-abbrev pub Does : {D : Type 0} → Ghosts D → D → ℕ → Core → List Turn → Machine D → Machine D
-    → Type 0
-Does g origin = DidAll (g.keeps origin) g.sectors g.failures g.reads g.choices g.moment
-    g.images_since
+IsOpened g state machine = IsAt g machine.store.disk machine (opened state)
 
 -- A power cut came between these two states of a disk, before, within or after a call. This disk
 -- has what was left, and nothing else.
 pub record WasLeft {D : Type 0} (g : Ghosts D) (from to disk : D) : Type 0 where
   pub image : g.images_since to (g.moment from) (g.reads disk)
-  pub is_settled : g.choices disk ≡ settled (g.reads disk)
+  pub is_settled : IsSettled g disk
   pub same_size : g.sectors disk ≡ g.sectors from
 
 -- an opening of the disk, as far as it came (`Concentrator::open`: `any_moment`)
 abbrev pub IsOpening : {D : Type 0} → Ghosts D → D → D → Type 0
-IsOpening g from to =
-    LeavesOnly g.moment g.images_since from to
-    (StandsForOne (half_len_of (g.sectors from)) (g.choices from))
+IsOpening g from to = LeavesOnly g from to (StandsForOne (half_of g from) (g.choices from))
 
 -- CRASHED before or within any disk call of any run of line answers, office lines and commits: a
 -- concentrator was opened with the state from a disk whose answers until then kept the disk model,
@@ -52,8 +43,8 @@ pub data WasStopped {D : Type 0} (g : Ghosts D) (state : State) (done more : Lis
     → Type 0 where
   in_a_run : (first now last : Machine D) (disk : D) → IsOpened g state first
       → g.keeps first.store.disk
-      → Does g first.store.disk first.house.budget (opened state) done first now
-      → Does g first.store.disk first.house.budget (leads (opened state) done) more now last
+      → DidAll g first.store.disk first.house.budget (opened state) done first now
+      → DidAll g first.store.disk first.house.budget (leads (opened state) done) more now last
       → WasLeft g now.store.disk last.store.disk disk → WasStopped g state done more disk
   in_an_opening : (from to disk : D) → WasStopped g state done more from
       → IsOpening g from to → WasLeft g from to disk → WasStopped g state done more disk

@@ -266,26 +266,7 @@ May budget core (hears line moment bytes) (heard answer) =
     MayHear (hear_answer budget core line moment bytes) answer
 May budget core commits (committed answer) = MayCommit core answer
 May budget core (offices text) (replied reply) = MayReply budget core text reply
-May budget core (starts line meter) (asked answer) = ⊥
-May budget core (starts line meter) (heard answer) = ⊥
-May budget core (starts line meter) (committed answer) = ⊥
-May budget core (starts line meter) (replied reply) = ⊥
-May budget core (asks line) (started answer) = ⊥
-May budget core (asks line) (heard answer) = ⊥
-May budget core (asks line) (committed answer) = ⊥
-May budget core (asks line) (replied reply) = ⊥
-May budget core (hears line moment bytes) (started answer) = ⊥
-May budget core (hears line moment bytes) (asked answer) = ⊥
-May budget core (hears line moment bytes) (committed answer) = ⊥
-May budget core (hears line moment bytes) (replied reply) = ⊥
-May budget core commits (started answer) = ⊥
-May budget core commits (asked answer) = ⊥
-May budget core commits (heard answer) = ⊥
-May budget core commits (replied reply) = ⊥
-May budget core (offices text) (started answer) = ⊥
-May budget core (offices text) (asked answer) = ⊥
-May budget core (offices text) (heard answer) = ⊥
-May budget core (offices text) (committed answer) = ⊥
+May budget core event answer = ⊥
 
 -- the one state after it
 abbrev pub next : Core → Event → Answer → Core

@@ -2,10 +2,10 @@
 
 ghost use Rattle.std.specs.Prelude.{◌≡◌, ◌≢◌, ◌≤◌, ◌<◌, ℕ, List, Err, OnOk, IfOk, IfErr, IfSome};
 ghost use Rattle.std.specs.Prelude.{MatchResult, false, length};
-ghost use Rattle.dc_io.specs.Failures.{HasRisen};
-ghost use Rattle.dc_sectors.specs.Disk.{Image, IsImage, LeavesOnly, settled};
+ghost use Rattle.dc_sectors.specs.Disk.{Image, IsImage};
+ghost use Rattle.dc_sectors.specs.Runs.{LeavesOnly, Counts, IsSettled};
 ghost use Rattle.dc_changes.specs.State.{State};
-ghost use Rattle.dc_recovery.specs.Halves.{budget_of, half_len_of, fewest_sectors};
+ghost use Rattle.dc_recovery.specs.Halves.{budget_of, half_of, fewest_sectors};
 ghost use Rattle.dc_recovery.specs.Stands.{EachStands, Reads, Stands, StandsForOne};
 ghost use Rattle.dc_recovery.specs.Refusal.{IsRefused, IsWorn, TellsOfImage};
 ghost use Rattle.dc_recovery.specs.declared.fault.OpenFault.TheVariants.{NotImage, Worn, Device};
@@ -73,7 +73,7 @@ impl<D: Disk + Drop, A: Allocator + Copy> Concentrator<D, A> {
         // image is refused only for an exhausted counter, where the device failed, or out of memory.
         ensures the_headline { (state : State) (done more : List Turn)
             → WasStopped D.Disk state done more disk
-            → EachStands (half_len_of (D.sectors disk)) (D.choices disk)
+            → EachStands (half_of D.Disk disk) (D.choices disk)
             × IfOk result (λ c. D.keeps c.store.disk
             → IsKept state done more c.house.state × IsOpened D.Disk c.house.state c)
             × (fewest_sectors ≤ D.sectors disk
@@ -83,50 +83,41 @@ impl<D: Disk + Drop, A: Allocator + Copy> Concentrator<D, A> {
 
         // Ok gives exactly the state that the image reads as, and a refusal is a fact of the image.
         ensures reads { IfOk result (λ c.
-            D.keeps c.store.disk → Reads (half_len_of (D.sectors disk)) c.house.state
-            (D.reads disk)) }
+            D.keeps c.store.disk → Reads (half_of D.Disk disk) c.house.state (D.reads disk)) }
         ensures refused { fewest_sectors ≤ D.sectors disk
-            → IfErr result (λ e. D.keeps e.1
-            → IsRefused (half_len_of (D.sectors disk)) (D.reads disk) e.0) }
+            → IfErr result (λ e. D.keeps e.1 → IsRefused (half_of D.Disk disk) (D.reads disk) e.0) }
 
         // Unless the device failed, a refusal wrote nothing: the disk reads as before, and so does each image of
         // every moment.
         ensures unwritten { IfErr result (λ e. e.0 ≢ Device → D.reads e.1 ≡ D.reads disk) }
         ensures spares_images { IfErr result (λ e.
-            e.0 ≢ Device → LeavesOnly D.moment D.images_since disk e.1 (IsImage (D.choices disk))) }
+            e.0 ≢ Device → LeavesOnly D.Disk disk e.1 (IsImage (D.choices disk))) }
         ensures not_worn { IfOk result (λ c.
-            D.keeps c.store.disk → IsWorn (half_len_of (D.sectors disk)) (D.reads disk) → ⊥) }
-        ensures device { IfErr result (λ e.
-            e.0 ≡ Device → HasRisen (D.failures disk) (D.failures e.1)) }
-        ensures passed { IfErr result (λ e. e.0 ≢ Device → D.failures e.1 ≡ D.failures disk) }
-        ensures failures { MatchResult result (λ c. D.failures disk ≤ D.failures c.store.disk)
-            (λ e. D.failures disk ≤ D.failures e.1) }
-        ensures durable { IfOk result (λ c.
-            D.choices c.store.disk ≡ settled (D.reads c.store.disk)) }
+            D.keeps c.store.disk → IsWorn (half_of D.Disk disk) (D.reads disk) → ⊥) }
+        ensures durable { IfOk result (λ c. IsSettled D.Disk c.store.disk) }
 
         // Where each image stands for some state, the concentrator is in the opened state, and a crash leaves an image
         // that stands for a state that one of them stood for.
         ensures at { IfOk result (λ c.
-            (D.keeps c.store.disk → EachStands (half_len_of (D.sectors disk)) (D.choices disk))
-            → IsAt (D.keeps c.store.disk) D.sectors D.reads D.choices c (opened c.house.state)) }
-        ensures any_moment { EachStands (half_len_of (D.sectors disk)) (D.choices disk)
+            (D.keeps c.store.disk → EachStands (half_of D.Disk disk) (D.choices disk))
+            → IsAt D.Disk c.store.disk c (opened c.house.state)) }
+        ensures any_moment { EachStands (half_of D.Disk disk) (D.choices disk)
             → MatchResult result (λ c. D.keeps c.store.disk
-            → LeavesOnly D.moment D.images_since disk c.store.disk
-            (StandsForOne (half_len_of (D.sectors disk)) (D.choices disk)))
-            (λ e. D.keeps e.1 → LeavesOnly D.moment D.images_since disk e.1
-            (StandsForOne (half_len_of (D.sectors disk)) (D.choices disk))) }
+            → LeavesOnly D.Disk disk c.store.disk
+            (StandsForOne (half_of D.Disk disk) (D.choices disk)))
+            (λ e. D.keeps e.1 → LeavesOnly D.Disk disk e.1
+            (StandsForOne (half_of D.Disk disk) (D.choices disk))) }
         ensures premise { fewest_sectors ≤ D.sectors disk
-            → EachStands (half_len_of (D.sectors disk)) (D.choices disk)
+            → EachStands (half_of D.Disk disk) (D.choices disk)
             → IfErr result (λ e. D.keeps e.1 → TellsOfImage e.0 → e.0 ≡ Worn) }
         ensures before { MatchResult result (λ c. D.keeps c.store.disk → D.keeps disk)
             (λ e. D.keeps e.1 → D.keeps disk) }
-        ensures count { MatchResult result (λ c. D.sectors c.store.disk ≡ D.sectors disk)
-            (λ e. D.sectors e.1 ≡ D.sectors disk) }
+        ensures counts { MatchResult result (λ c. Counts D.Disk disk c.store.disk ⊥)
+            (λ e. Counts D.Disk disk e.1 (e.0 ≡ Device)) }
         ensures running { IfOk result (λ c. c.store.is_stopped ≡ false) }
         ensures empty { IfOk result (λ c. c.waiting.count ≡ 0) }
         ensures idle { IfOk result (λ c. c.lines ≡ no_sessions) }
-        ensures budget { IfOk result (λ c.
-            c.house.budget ≡ budget_of (half_len_of (D.sectors disk))) }
+        ensures budget { IfOk result (λ c. c.house.budget ≡ budget_of (half_of D.Disk disk)) }
     {
         let (store, house) = Store::open(alloc, disk)?;
         Ok(Concentrator {
@@ -143,13 +134,10 @@ impl<D: Disk + Drop, A: Allocator + Copy> Concentrator<D, A> {
     /// # Errors
     /// The first of `NoLine`, `Stopped`, `Unknown`, `Busy` that applies; nothing has changed.
     pub fn start(&mut self, line: u8, meter: &Identity) -> Result<(), StartFault>
-        ensures may { (origin : D) (core : Core)
-            → IsAt (D.keeps origin) D.sectors D.reads D.choices self.old core
+        ensures may { (origin : D) (core : Core) → IsAt D.Disk origin self.old core
             → May self.old.house.budget core (starts line meter.now) (started result) }
-        ensures at { (origin : D) (core : Core)
-            → IsAt (D.keeps origin) D.sectors D.reads D.choices self.old core
-            → IsAt (D.keeps origin) D.sectors D.reads D.choices self.new
-            (next core (starts line meter.now) (started result)) }
+        ensures at { (origin : D) (core : Core) → IsAt D.Disk origin self.old core
+            → IsAt D.Disk origin self.new (next core (starts line meter.now) (started result)) }
         ensures store { self.new.store ≡ self.old.store }
         ensures house { self.new.house ≡ self.old.house }
     {
@@ -174,8 +162,7 @@ impl<D: Disk + Drop, A: Allocator + Copy> Concentrator<D, A> {
     /// telegram that is pending, or if the disk has stopped the concentrator. A selection is the
     /// longest request, of 17 bytes.
     pub fn ask(&self, line: u8) -> Option<FrameBuf>
-        ensures may { (origin : D) (core : Core)
-            → IsAt (D.keeps origin) D.sectors D.reads D.choices self.now core
+        ensures may { (origin : D) (core : Core) → IsAt D.Disk origin self.now core
             → May self.now.house.budget core (asks line) (asked result) }
         ensures short { IfSome result (λ request. length request ≤ longest_request) }
     {
@@ -199,12 +186,12 @@ impl<D: Disk + Drop, A: Allocator + Copy> Concentrator<D, A> {
     pub fn close(self) -> D
         ensures disk { result ≡ self.store.disk }
         ensures holds { (origin : D) → D.keeps origin → (core : Core)
-            → IsAt (D.keeps origin) D.sectors D.reads D.choices self core → core.stopped ≡ false
+            → IsAt D.Disk origin self core → core.stopped ≡ false
             → (image : Image) → IsImage (D.choices result) image
-            → Stands (half_len_of (D.sectors result)) core.committed image }
+            → Stands (half_of D.Disk result) core.committed image }
         ensures reads { (origin : D) → D.keeps origin → (core : Core)
-            → IsAt (D.keeps origin) D.sectors D.reads D.choices self core → core.stopped ≡ false
-            → (state : State) → Reads (half_len_of (D.sectors result)) state (D.reads result)
+            → IsAt D.Disk origin self core → core.stopped ≡ false
+            → (state : State) → Reads (half_of D.Disk result) state (D.reads result)
             → state ≡ core.committed }
     {
         let Concentrator { store, .. } = self;

@@ -25,19 +25,16 @@ impl<D: Disk + Drop, A: Allocator + Copy> Concentrator<D, A> {
         // After whatever went before in this life, the events make a chain of steps, and what is written is its text.
         ensures ran { (origin : D) (state : State) (before : List Turn)
             → IsChain self.old.house.budget (opened state) before
-            → IsAt (D.keeps origin) D.sectors D.reads D.choices self.old
-            (leads (opened state) before)
-            → OnOk result (Ran (D.keeps origin) D.sectors D.failures D.reads D.choices D.moment
-            D.images_since self.old.house.budget state before (map event_of events.now)
+            → IsAt D.Disk origin self.old (leads (opened state) before)
+            → OnOk result (Ran D.Disk origin self.old.house.budget state before
+            (map event_of events.now)
             (PutsInto W.Sink out.old out.new) self.old self.new) }
         // With a fault, so do those up to one of them, in whose text the first put failed.
         ensures ended { (origin : D) (state : State) (before : List Turn)
             → IsChain self.old.house.budget (opened state) before
-            → IsAt (D.keeps origin) D.sectors D.reads D.choices self.old
-            (leads (opened state) before)
+            → IsAt D.Disk origin self.old (leads (opened state) before)
             → OnErr result ((last : ℕ) × (last < length events.now)
-            × (ran : Ran (D.keeps origin) D.sectors D.failures D.reads D.choices D.moment
-            D.images_since self.old.house.budget state before
+            × (ran : Ran D.Disk origin self.old.house.budget state before
             (map event_of (take (last + 1) events.now)) (λ text. Unit {0}) self.old self.new)
             × FailedInLast W.Sink ran.turns out.old out.new) }
         ensures fault { OnErr result (HasRisen (W.put_failures out.old) (W.put_failures out.new)) }
@@ -55,10 +52,8 @@ impl<D: Disk + Drop, A: Allocator + Copy> Concentrator<D, A> {
 
     // One event, and the text of its answer.
     fn turn<W: Sink>(&mut self, event: &Event<'_>, out: &mut W) -> Result<(), IoFault>
-        ensures turned { (origin : D) (core : Core)
-            → IsAt (D.keeps origin) D.sectors D.reads D.choices self.old core
-            → Turned (D.keeps origin) D.sectors D.failures D.reads D.choices D.moment D.images_since
-            self.old.house.budget core (event_of event.now)
+        ensures turned { (origin : D) (core : Core) → IsAt D.Disk origin self.old core
+            → Turned D.Disk origin self.old.house.budget core (event_of event.now)
             (Wrote W.Sink result out.old out.new) self.old self.new }
         ensures count { D.sectors self.new.store.disk ≡ D.sectors self.old.store.disk }
         ensures budget { self.new.house.budget ≡ self.old.house.budget }

@@ -1,18 +1,18 @@
 //! The engine of `inspect`.
 
 ghost use Rattle.std.specs.Prelude.{◌≡◌, ◌≢◌, ◌<◌, ◌≤◌, ◌++◌, Some, IfOk, IfErr, IfSome, OnOk};
-ghost use Rattle.std.specs.Prelude.{option_map};
+ghost use Rattle.std.specs.Prelude.{IsErrOf, option_map};
 ghost use Rattle.dc_io.specs.Failures.{HasRisen};
 ghost use Rattle.dc_io.specs.Stream.{Puts};
 ghost use Rattle.dc_io.specs.Written.{PutsInto, Wrote};
+ghost use Rattle.dc_sectors.specs.Runs.{OnlyLooked, Counts};
 ghost use Rattle.dc_recovery.specs.Halves.{budget_of, fewest_sectors, half_start, half_end};
 ghost use Rattle.dc_recovery.specs.Halves.{longest_half};
-ghost use Rattle.dc_recovery.specs.Looked.{OnlyLooked};
 ghost use Rattle.dc_inspect.specs.Look.{seen_of};
 ghost use Rattle.dc_inspect.specs.Text.{refused_line};
 ghost use Rattle.dc_inspect.specs.Told.{IsOfLook, Tells, TellsImage, TellsSmall, disk_line};
 ghost use Rattle.dc_inspect.specs.Told.{image_text, seen_text};
-ghost use Rattle.dc_recovery.specs.declared.fault.OpenFault.TheVariants.{NotImage};
+ghost use Rattle.dc_recovery.specs.declared.fault.OpenFault.TheVariants.{NotImage, Device};
 
 use crate::look::{Look, Slots, look_at, read_slots};
 use crate::summary::summary_of;
@@ -120,9 +120,8 @@ fn tell_image<A: Allocator + Copy, D: Disk>(
     ensures told { D.keeps disk.new → IfOk result (λ refusal.
         TellsImage sectors (D.reads disk.old) refusal
         (Puts (Some text.old.bytes) (Some text.new.bytes))) }
-    ensures looked { OnlyLooked D.keeps D.reads D.choices D.moment D.images_since D.sectors
-        D.failures disk.old disk.new }
-    ensures passed { OnOk result (D.failures disk.new ≡ D.failures disk.old) }
+    ensures looked { OnlyLooked D.Disk disk.old disk.new }
+    ensures counts { Counts D.Disk disk.old disk.new (IsErrOf result (ProgramFault.Open Device)) }
     ensures faults { IfErr result (IsOfLook
         (HasRisen (D.failures disk.old) (D.failures disk.new)) ⊥) }
 {
@@ -163,9 +162,8 @@ fn tell_disk<A: Allocator + Copy, D: Disk>(
     ensures told { D.keeps disk.new → IfOk result (λ refusal.
         Tells (D.sectors disk.old) (D.reads disk.old) refusal
         (Puts (Some text.old.bytes) (Some text.new.bytes))) }
-    ensures looked { OnlyLooked D.keeps D.reads D.choices D.moment D.images_since D.sectors
-        D.failures disk.old disk.new }
-    ensures passed { OnOk result (D.failures disk.new ≡ D.failures disk.old) }
+    ensures looked { OnlyLooked D.Disk disk.old disk.new }
+    ensures counts { Counts D.Disk disk.old disk.new (IsErrOf result (ProgramFault.Open Device)) }
     ensures faults { IfErr result (IsOfLook
         (HasRisen (D.failures disk.old) (D.failures disk.new)) ⊥) }
 {
@@ -195,12 +193,11 @@ pub fn inspect<D: Disk, A: Allocator + Copy, W: Sink>(
     ensures told { D.keeps disk.new → IfOk result (λ refusal.
         Tells (D.sectors disk.old) (D.reads disk.old) refusal
         (PutsInto W.Sink writer.old writer.new)) }
-    ensures well { OnOk result ((D.failures disk.new ≡ D.failures disk.old)
-        × (W.put_failures writer.new ≡ W.put_failures writer.old)) }
+    ensures well { OnOk result (W.put_failures writer.new ≡ W.put_failures writer.old) }
 
     // The disk reads as before, and so does what a stop at any moment leaves.
-    ensures looked { OnlyLooked D.keeps D.reads D.choices D.moment D.images_since D.sectors
-        D.failures disk.old disk.new }
+    ensures looked { OnlyLooked D.Disk disk.old disk.new }
+    ensures counts { Counts D.Disk disk.old disk.new (IsErrOf result (ProgramFault.Open Device)) }
 
     // A fault of an end is returned only if that end counted a failure, and only a failed write
     // touches the writer.

@@ -1,9 +1,10 @@
 //! The contents of an image that is only read.
 
-ghost use Rattle.std.specs.Prelude.{◌≡◌, ◌<◌, ◌≤◌, ◌+◌, ◌*◌, IfOk, IfErr, IfSome, OnOk, OnErr};
+ghost use Rattle.std.specs.Prelude.{◌≡◌, ◌<◌, ◌≤◌, ◌+◌, ◌*◌, IfOk, IfErr, IfSome, IsErr, IsErrOf};
 ghost use Rattle.dc_io.specs.Failures.{HasRisen};
+ghost use Rattle.dc_sectors.specs.Runs.{OnlyLooked, Counts};
+ghost use Rattle.dc_recovery.specs.declared.fault.OpenFault.TheVariants.{Device};
 ghost use Rattle.dc_recovery.specs.Halves.{budget_of, half_start, half_end, longest_half};
-ghost use Rattle.dc_recovery.specs.Looked.{OnlyLooked};
 ghost use Rattle.dc_recovery.specs.Refusal.{TellsOfImage};
 ghost use Rattle.dc_inspect.specs.Look.{AreHeld, IsSeen, IsStop};
 ghost use Rattle.dc_inspect.specs.Told.{IsOfLook, IsWearOf};
@@ -36,10 +37,8 @@ pub(crate) struct Look<A: Allocator + Copy> {
 pub(crate) fn read_slots<D: Disk>(disk: &mut D) -> Result<Slots, Failed>
     requires { 2 < D.sectors disk.old }
     ensures held { D.keeps disk.new → IfOk result (λ slots. AreHeld (D.reads disk.old) slots) }
-    ensures looked { OnlyLooked D.keeps D.reads D.choices D.moment D.images_since D.sectors
-        D.failures disk.old disk.new }
-    ensures passed { OnOk result (D.failures disk.new ≡ D.failures disk.old) }
-    ensures failed { OnErr result (HasRisen (D.failures disk.old) (D.failures disk.new)) }
+    ensures looked { OnlyLooked D.Disk disk.old disk.new }
+    ensures counts { Counts D.Disk disk.old disk.new (IsErr result) }
 {
     let first = read_slot(disk, 1)?;
     let second = read_slot(disk, 2)?;
@@ -82,8 +81,7 @@ pub(crate) fn look_at<A: Allocator + Copy, D: Disk>(
     requires fits { 3 + 2 * half_len ≤ D.sectors disk.old }
     ensures seen { D.keeps disk.new → IfOk result (λ look.
         IsSeen half_len (D.reads disk.old) look.found look.refusal) }
-    ensures looked { OnlyLooked D.keeps D.reads D.choices D.moment D.images_since D.sectors
-        D.failures disk.old disk.new }
+    ensures looked { OnlyLooked D.Disk disk.old disk.new }
     ensures budget { IfOk result (λ look.
         IfSome look.found (λ found. found.house.budget ≡ budget_of half_len)) }
     ensures half { IfOk result (λ look. IfSome look.found (λ found. found.root.half ≤ 1)) }
@@ -91,7 +89,7 @@ pub(crate) fn look_at<A: Allocator + Copy, D: Disk>(
         IfSome look.found (λ found. half_start half_len found.root.half ≤ found.place)) }
     ensures within { IfOk result (λ look.
         IfSome look.found (λ found. found.place ≤ half_end half_len found.root.half)) }
-    ensures passed { OnOk result (D.failures disk.new ≡ D.failures disk.old) }
+    ensures counts { Counts D.Disk disk.old disk.new (IsErrOf result (ProgramFault.Open Device)) }
     ensures faults { IfErr result (IsOfLook
         (HasRisen (D.failures disk.old) (D.failures disk.new)) ⊥) }
 {

@@ -3,7 +3,9 @@ use Rattle.std.proofs.Common.{⊎_elim, ◌≡◌, ◌≢◌, ℕ, ◌<◌, ◌�
 use Rattle.std.proofs.lemmas.List.{length-drop, length-take-le}
 use Rattle.dc_sectors.specs.declared.sector.Sector.{Sector}
 use Rattle.dc_sectors.specs.declared.sector.Sector.TheVariants.{Bytes}
-use Rattle.dc_sectors.specs.Disk.{Image, Choices, IsImage, Elapses, LeavesOnly, put, added}
+use Rattle.dc_sectors.specs.Disk.{Image, IsImage, put, added}
+use Rattle.dc_sectors.specs.declared.device.Disk.{Ghosts}
+use Rattle.dc_sectors.specs.Runs.{Passes, LeavesOnly}
 use Rattle.dc_pages.specs.Buffer.{IsBuffer}
 use Rattle.dc_pages.specs.Draft.{Draft}
 use Rattle.dc_pages.specs.Group.{IsPage, piece, head_bytes, page_bytes}
@@ -35,29 +37,29 @@ page_written site session index used page sector content is e index_fits session
     } in
     subst (λ (l : List ℕ). IsPageWritten site session index l (Bytes sector)) content_is written
 
-module _ {D : Type 0} (reads : D → Image) (choices : D → Choices) (moment : D → ℕ) (images_since : D → ℕ → Image → Type 0) (disk new : D) where
+module _ {D : Type 0} (g : Ghosts D) (disk new : D) where
   -- what the page's write leaves, whatever it answers
   abbrev pub LeavesPart : Draft → Type 0
   LeavesPart draft = (start : D) (payload : List ℕ) → draft.buffer ≡ piece draft.pages payload
-      → IsOnDisk reads choices moment images_since start disk draft.site draft.session draft.pages payload
-      → LeavesOnly moment images_since start new (IsPartOf draft.site draft.session (reads start))
+      → IsOnDisk g start disk draft.site draft.session draft.pages payload
+      → LeavesOnly g start new (IsPartOf draft.site draft.session (g.reads start))
 
   -- one page more is on the disk
   abbrev pub Flushes : Draft → Type 0
   Flushes draft = (start : D) (payload : List ℕ) → draft.buffer ≡ piece draft.pages payload
-      → IsOnDisk reads choices moment images_since start disk draft.site draft.session draft.pages payload
-      → IsOnDisk reads choices moment images_since start new draft.site draft.session (draft.pages + 1) payload
+      → IsOnDisk g start disk draft.site draft.session draft.pages payload
+      → IsOnDisk g start new draft.site draft.session (draft.pages + 1) payload
 
   module _ (draft : Draft) (sector : List ℕ) (fits : draft.site.first + draft.pages < draft.site.limit)
       (written : IsPageWritten draft.site draft.session draft.pages draft.buffer (Bytes sector))
-      (time : Elapses (moment disk) (moment new) (images_since disk) (images_since new) (IsImage (added (choices disk) (draft.site.first + draft.pages) sector))) where
+      (time : Passes g disk new (IsImage (added (g.choices disk) (draft.site.first + draft.pages) sector))) where
     at_piece : (payload : List ℕ) → draft.buffer ≡ piece draft.pages payload → IsPageWritten draft.site draft.session draft.pages (piece draft.pages payload) (Bytes sector)
     at_piece payload e = subst (λ (l : List ℕ). IsPageWritten draft.site draft.session draft.pages l (Bytes sector)) e written
 
     pub leaves_part : LeavesPart draft
     leaves_part start payload e is =
-        flush_left reads choices moment images_since draft.site draft.session start disk new draft.pages payload sector fits (at_piece payload e) is time
+        flush_left g draft.site draft.session start disk new draft.pages payload sector fits (at_piece payload e) is time
 
-    pub flushes : reads new ≡ put (reads disk) (draft.site.first + draft.pages) sector → choices new ≡ added (choices disk) (draft.site.first + draft.pages) sector → Flushes draft
+    pub flushes : g.reads new ≡ put (g.reads disk) (draft.site.first + draft.pages) sector → g.choices new ≡ added (g.choices disk) (draft.site.first + draft.pages) sector → Flushes draft
     flushes reads_new choices_new start payload e is =
-        flushed reads choices moment images_since draft.site draft.session start disk new draft.pages payload sector fits (at_piece payload e) is time reads_new choices_new
+        flushed g draft.site draft.session start disk new draft.pages payload sector fits (at_piece payload e) is time reads_new choices_new

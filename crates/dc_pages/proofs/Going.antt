@@ -1,7 +1,7 @@
 -- A group on the way, from one call to the next.
 use Rattle.std.proofs.Common.{◌≡◌, ℕ, ◌≤◌, ◌+◌, ◌*◌, List, [], ◌++◌, length, drop, Result, Ok, Err, OnErr, subst, sym, arith, ap, ◌∙◌, refl}
 use Rattle.std.proofs.lemmas.List.{length-append, length-drop, drop-append-le, drop_all, take_all}
-use Rattle.dc_sectors.specs.Disk.{Image, Choices}
+use Rattle.dc_sectors.specs.declared.device.Disk.{Ghosts}
 use Rattle.dc_pages.specs.Draft.{Draft}
 use Rattle.dc_pages.specs.Group.{piece}
 use Rattle.dc_pages.specs.Writing.{IsOnDisk, IsGoing}
@@ -11,9 +11,9 @@ pub on_err_always : {T E P : Type 0} (r : Result T E) → P → OnErr r P
 on_err_always (Ok x) p = tt
 on_err_always (Err e) p = p
 
-module _ {D : Type 0} (reads : D → Image) (choices : D → Choices) (moment : D → ℕ) (images_since : D → ℕ → Image → Type 0) where
+module _ {D : Type 0} (g : Ghosts D) where
   abbrev going : D → D → Draft → List ℕ → Type 0
-  going = IsGoing reads choices moment images_since
+  going = IsGoing g
 
   -- what the buffer holds is the next piece
   pub next_piece : (start disk : D) (draft : Draft) (payload : List ℕ) → length draft.buffer ≤ 488 → going start disk draft payload → draft.buffer ≡ piece draft.pages payload
@@ -23,7 +23,7 @@ module _ {D : Type 0} (reads : D → Image) (choices : D → Choices) (moment : 
 
   -- the page in the buffer was full, and was written
   pub going_flushed : (start disk new : D) (draft : Draft) (payload : List ℕ) → 488 ≤ length draft.buffer → length draft.buffer ≤ 488 → going start disk draft payload
-      → IsOnDisk reads choices moment images_since start new draft.site draft.session (draft.pages + 1) payload
+      → IsOnDisk g start new draft.site draft.session (draft.pages + 1) payload
       → going start new (record draft { pages = draft.pages + 1; buffer = [] }) payload
   going_flushed start disk new draft payload full small is on_disk =
       let count = is.count in
@@ -36,7 +36,7 @@ module _ {D : Type 0} (reads : D → Image) (choices : D → Choices) (moment : 
       record {
         count = omega (arith, length-append payload bytes, length-append draft.buffer bytes);
         buffered = ap (λ (l : List ℕ). l ++ bytes) is.buffered ∙ sym (drop-append-le (488 * draft.pages) payload bytes (omega arith));
-        on_disk = more_buffered reads choices moment images_since draft.site draft.session start disk draft.pages payload bytes (omega arith) is.on_disk;
+        on_disk = more_buffered g draft.site draft.session start disk draft.pages payload bytes (omega arith) is.on_disk;
       }
 
 -- what a step leaves of a draft: its site and its session

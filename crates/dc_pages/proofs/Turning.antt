@@ -5,8 +5,10 @@ use Rattle.std.proofs.lemmas.List.{take-append-le, drop-append-le, length-drop}
 use Rattle.std.proofs.lemmas.List.Elements.{Contains-append_cases, Contains-push_cases}
 use Rattle.dc_sectors.specs.declared.sector.Sector.{Sector}
 use Rattle.dc_sectors.specs.declared.sector.Sector.TheVariants.{Bytes, Unreadable}
-use Rattle.dc_sectors.specs.Disk.{Image, Choices, IsImage, Elapses, LeavesOnly, put, added}
+use Rattle.dc_sectors.specs.Disk.{Image, Choices, IsImage, put, added}
 use Rattle.dc_sectors.specs.Images.{put_elsewhere, put_here, added_here, added_elsewhere}
+use Rattle.dc_sectors.specs.declared.device.Disk.{Ghosts}
+use Rattle.dc_sectors.specs.Runs.{Passes, LeavesOnly}
 use Rattle.dc_sectors.proofs.Moments.{goes_on, weakened}
 use Rattle.dc_pages.specs.Group.{IsPage, IsCommit, piece, commit_bytes}
 use Rattle.dc_pages.specs.Writing.{IsPageWritten, IsPartOf, IsTorn, IsOnDisk, IsClosed, TornAt, PartOrTorn}
@@ -83,18 +85,18 @@ not_here place index k out e = ⊎_elim (λ below. omega (arith, below, e)) (λ 
 further : (place index k : ℕ) → (k < place) ⊎ (place + (index + 1) ≤ k) → (k < place) ⊎ (place + index ≤ k)
 further place index k out = ⊎_elim (λ below. inl below) (λ above. inr (omega (arith, above))) out
 
-module _ {D : Type 0} (reads : D → Image) (choices : D → Choices) (moment : D → ℕ) (images_since : D → ℕ → Image → Type 0)
+module _ {D : Type 0} (g : Ghosts D)
     (site : Site) (session : ℕ) where
   abbrev on_disk : D → D → ℕ → List ℕ → Type 0
-  on_disk start disk index payload = IsOnDisk reads choices moment images_since start disk site session index payload
+  on_disk start disk index payload = IsOnDisk g start disk site session index payload
 
   abbrev is_part : D → Image → Type 0
-  is_part start = IsPartOf site session (reads start)
+  is_part start = IsPartOf site session (g.reads start)
 
   -- more of the payload in the buffer
   pub more_buffered : (start disk : D) (index : ℕ) (payload more : List ℕ) → 488 * index ≤ length payload → on_disk start disk index payload → on_disk start disk index (payload ++ more)
   more_buffered start disk index payload more le is = record {
-    pages = λ i lt. subst (λ (c : List ℕ). IsPageWritten site session i c (reads disk (site.first + i))) (sym (piece_same i payload more (omega arith))) (is.pages i lt);
+    pages = λ i lt. subst (λ (c : List ℕ). IsPageWritten site session i c (g.reads disk (site.first + i))) (sym (piece_same i payload more (omega arith))) (is.pages i lt);
     outside = is.outside;
     choices_are = is.choices_are;
     any_moment = is.any_moment;
@@ -105,55 +107,55 @@ module _ {D : Type 0} (reads : D → Image) (choices : D → Choices) (moment : 
 
   -- what a crash leaves in the write of a page
   page_left : (start mid : D) (index : ℕ) (payload bytes : List ℕ) → site.first + index < site.limit → is_written payload index (Bytes bytes) → on_disk start mid index payload
-      → (image : Image) → IsImage (added (choices mid) (site.first + index) bytes) image → is_part start image
+      → (image : Image) → IsImage (added (g.choices mid) (site.first + index) bytes) image → is_part start image
   page_left start mid index payload bytes fits page is image in_added =
-      part_of_points site session (index + 1) (reads start) (put (reads mid) (site.first + index) bytes) image (omega arith)
-      (λ i lt. (piece i payload, (more_pages (is_written payload) site.first index (reads mid) bytes is.pages page i lt).page))
-      (λ k. torn_more site.first index (reads start) (reads mid) (choices mid) bytes is.choices_are k (image k) (in_added k))
+      part_of_points site session (index + 1) (g.reads start) (put (g.reads mid) (site.first + index) bytes) image (omega arith)
+      (λ i lt. (piece i payload, (more_pages (is_written payload) site.first index (g.reads mid) bytes is.pages page i lt).page))
+      (λ k. torn_more site.first index (g.reads start) (g.reads mid) (g.choices mid) bytes is.choices_are k (image k) (in_added k))
 
   pub flush_left : (start mid new : D) (index : ℕ) (payload bytes : List ℕ) → site.first + index < site.limit → is_written payload index (Bytes bytes) → on_disk start mid index payload
-      → Elapses (moment mid) (moment new) (images_since mid) (images_since new) (IsImage (added (choices mid) (site.first + index) bytes))
-      → LeavesOnly moment images_since start new (is_part start)
+      → Passes g mid new (IsImage (added (g.choices mid) (site.first + index) bytes))
+      → LeavesOnly g start new (is_part start)
   flush_left start mid new index payload bytes fits page is time =
-      goes_on moment images_since start mid new (is_part start) (IsImage (added (choices mid) (site.first + index) bytes)) is.any_moment time (page_left start mid index payload bytes fits page is)
+      goes_on g start mid new (is_part start) (IsImage (added (g.choices mid) (site.first + index) bytes)) is.any_moment time (page_left start mid index payload bytes fits page is)
 
   pub flushed : (start mid new : D) (index : ℕ) (payload bytes : List ℕ) → site.first + index < site.limit → is_written payload index (Bytes bytes) → on_disk start mid index payload
-      → Elapses (moment mid) (moment new) (images_since mid) (images_since new) (IsImage (added (choices mid) (site.first + index) bytes))
-      → reads new ≡ put (reads mid) (site.first + index) bytes → choices new ≡ added (choices mid) (site.first + index) bytes
+      → Passes g mid new (IsImage (added (g.choices mid) (site.first + index) bytes))
+      → g.reads new ≡ put (g.reads mid) (site.first + index) bytes → g.choices new ≡ added (g.choices mid) (site.first + index) bytes
       → on_disk start new (index + 1) payload
   flushed start mid new index payload bytes fits page is time reads_new choices_new = record {
-    pages = λ i lt. subst (λ (image : Image). is_written payload i (image (site.first + i))) (sym reads_new) (more_pages (is_written payload) site.first index (reads mid) bytes is.pages page i lt);
-    outside = λ k out. ap (λ (image : Image). image k) reads_new ∙ put_elsewhere (reads mid) (site.first + index) bytes k (not_here site.first index k out) ∙ is.outside k (further site.first index k out);
-    choices_are = λ k s in_new. subst (λ (image : Image). TornAt site.first (index + 1) (reads start) image k s) (sym reads_new)
-        (torn_more site.first index (reads start) (reads mid) (choices mid) bytes is.choices_are k s (subst (λ (c : Choices). Contains (c k) s) choices_new in_new));
+    pages = λ i lt. subst (λ (image : Image). is_written payload i (image (site.first + i))) (sym reads_new) (more_pages (is_written payload) site.first index (g.reads mid) bytes is.pages page i lt);
+    outside = λ k out. ap (λ (image : Image). image k) reads_new ∙ put_elsewhere (g.reads mid) (site.first + index) bytes k (not_here site.first index k out) ∙ is.outside k (further site.first index k out);
+    choices_are = λ k s in_new. subst (λ (image : Image). TornAt site.first (index + 1) (g.reads start) image k s) (sym reads_new)
+        (torn_more site.first index (g.reads start) (g.reads mid) (g.choices mid) bytes is.choices_are k s (subst (λ (c : Choices). Contains (c k) s) choices_new in_new));
     any_moment = flush_left start mid new index payload bytes fits page is time;
   }
 
   -- the commit sector after all pages
   module _ (start mid new : D) (pages : ℕ) (payload : List ℕ) (some : 488 * (pages - 1) < length payload) (all : length payload ≤ 488 * pages) (fits : site.first + pages < site.limit)
       (commit : IsCommit site session pages (Bytes (commit_bytes site session pages))) (is : on_disk start mid pages payload)
-      (time : Elapses (moment mid) (moment new) (images_since mid) (images_since new) (IsImage (added (choices mid) (site.first + pages) (commit_bytes site session pages)))) where
+      (time : Passes g mid new (IsImage (added (g.choices mid) (site.first + pages) (commit_bytes site session pages)))) where
     abbrev bytes : List ℕ
     bytes = commit_bytes site session pages
 
     abbrev after : Image
-    after = put (reads mid) (site.first + pages) bytes
+    after = put (g.reads mid) (site.first + pages) bytes
 
-    earlier : (i : ℕ) → i < pages → after (site.first + i) ≡ reads mid (site.first + i)
-    earlier i lt = put_elsewhere (reads mid) (site.first + pages) bytes (site.first + i) (λ e. omega (arith, e))
+    earlier : (i : ℕ) → i < pages → after (site.first + i) ≡ g.reads mid (site.first + i)
+    earlier i lt = put_elsewhere (g.reads mid) (site.first + pages) bytes (site.first + i) (λ e. omega (arith, e))
 
     last : after (site.first + pages) ≡ Bytes bytes
-    last = put_here (reads mid) (site.first + pages) bytes (site.first + pages) refl
+    last = put_here (g.reads mid) (site.first + pages) bytes (site.first + pages) refl
 
-    closed_left : LeavesOnly moment images_since start new (PartOrTorn site session pages (reads start) after)
+    closed_left : LeavesOnly g start new (PartOrTorn site session pages (g.reads start) after)
     closed_left =
-        let P = PartOrTorn site session pages (reads start) after in
-        goes_on moment images_since start mid new P (IsImage (added (choices mid) (site.first + pages) bytes))
-        (weakened moment images_since start mid (is_part start) P is.any_moment (λ image part. inl part)) time
-        (λ image in_added. inr (torn_of_points site.first (pages + 1) (reads start) after image
-        (λ k. torn_more site.first pages (reads start) (reads mid) (choices mid) bytes is.choices_are k (image k) (in_added k))))
+        let P = PartOrTorn site session pages (g.reads start) after in
+        goes_on g start mid new P (IsImage (added (g.choices mid) (site.first + pages) bytes))
+        (weakened g start mid (is_part start) P is.any_moment (λ image part. inl part)) time
+        (λ image in_added. inr (torn_of_points site.first (pages + 1) (g.reads start) after image
+        (λ k. torn_more site.first pages (g.reads start) (g.reads mid) (g.choices mid) bytes is.choices_are k (image k) (in_added k))))
 
-    pub closed : IsClosed moment images_since start new (reads start) site session pages payload after
+    pub closed : IsClosed g start new (g.reads start) site session pages payload after
     closed = record {
       group = record {
         some = some;
@@ -166,6 +168,6 @@ module _ {D : Type 0} (reads : D → Image) (choices : D → Choices) (moment : 
         page = λ i lt. earlier i lt ∙ (is.pages i lt).bytes_are;
         commit = last;
       };
-      outside = λ k out. put_elsewhere (reads mid) (site.first + pages) bytes k (not_here site.first pages k out) ∙ is.outside k (further site.first pages k out);
+      outside = λ k out. put_elsewhere (g.reads mid) (site.first + pages) bytes k (not_here site.first pages k out) ∙ is.outside k (further site.first pages k out);
       any_moment = closed_left;
     }

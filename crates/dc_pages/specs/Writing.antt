@@ -2,7 +2,9 @@
 use Rattle.std.specs.Prelude.{◌≡◌, ◌⊎◌, ◌<◌, ◌≤◌, ℕ, ◌+◌, ◌*◌, List, length, drop, Contains}
 use Rattle.dc_sectors.specs.declared.sector.Sector.{Sector}
 use Rattle.dc_sectors.specs.declared.sector.Sector.TheVariants.{Bytes, Unreadable}
-use Rattle.dc_sectors.specs.Disk.{Image, Choices, LeavesOnly}
+use Rattle.dc_sectors.specs.Disk.{Image}
+use Rattle.dc_sectors.specs.declared.device.Disk.{Ghosts}
+use Rattle.dc_sectors.specs.Runs.{LeavesOnly}
 use Rattle.dc_pages.specs.Draft.{Draft, draft_len}
 use Rattle.dc_pages.specs.Group.{IsPage, IsGroup, piece, page_bytes, commit_bytes, page_payload}
 use Rattle.dc_pages.specs.declared.site.Site.{Site}
@@ -42,24 +44,22 @@ TornAt first count old written k s =
     (s ≡ old k) ⊎ ((first ≤ k) × (k < first + count) × ((s ≡ Unreadable) ⊎ (s ≡ written k)))
 
 -- the first pages of the payload are written, since `start`, and no more
-pub record IsOnDisk {D : Type 0} (reads : D → Image) (choices : D → Choices) (moment : D → ℕ)
-    (images_since : D → ℕ → Image → Type 0)
+pub record IsOnDisk {D : Type 0} (g : Ghosts D)
     (start disk : D) (site : Site) (session index : ℕ) (payload : List ℕ) : Type 0 where
   pub pages : (i : ℕ) → i < index → IsPageWritten site session i (piece i payload)
-      (reads disk (site.first + i))
-  pub outside : (k : ℕ) → (k < site.first) ⊎ (site.first + index ≤ k) → reads disk k ≡ reads start k
-  pub choices_are : (k : ℕ) (s : Sector) → Contains (choices disk k) s
-      → TornAt site.first index (reads start) (reads disk) k s
-  pub any_moment : LeavesOnly moment images_since start disk (IsPartOf site session (reads start))
+      (g.reads disk (site.first + i))
+  pub outside : (k : ℕ) → (k < site.first) ⊎ (site.first + index ≤ k)
+      → g.reads disk k ≡ g.reads start k
+  pub choices_are : (k : ℕ) (s : Sector) → Contains (g.choices disk k) s
+      → TornAt site.first index (g.reads start) (g.reads disk) k s
+  pub any_moment : LeavesOnly g start disk (IsPartOf site session (g.reads start))
 
 -- THE PAYLOAD SO FAR is in the pages that were written since `start`, and in the buffer.
-pub record IsGoing {D : Type 0} (reads : D → Image) (choices : D → Choices) (moment : D → ℕ)
-    (images_since : D → ℕ → Image → Type 0)
+pub record IsGoing {D : Type 0} (g : Ghosts D)
     (start disk : D) (draft : Draft) (payload : List ℕ) : Type 0 where
   pub count : length payload ≡ draft_len draft
   pub buffered : draft.buffer ≡ drop (page_payload * draft.pages) payload
-  pub on_disk : IsOnDisk reads choices moment images_since start disk draft.site draft.session
-      draft.pages payload
+  pub on_disk : IsOnDisk g start disk draft.site draft.session draft.pages payload
 
 -- each sector of the group has the bytes that are written for it
 pub record IsLaid (site : Site) (session : ℕ) (payload : List ℕ) (pages : ℕ)
@@ -70,11 +70,10 @@ pub record IsLaid (site : Site) (session : ℕ) (payload : List ℕ) (pages : �
 
 -- THE COMMIT SECTOR WAS WRITTEN TOO: an image with all written has the group, and each image since
 -- `start` has a part of it or is torn.
-pub record IsClosed {D : Type 0} (moment : D → ℕ) (images_since : D → ℕ → Image → Type 0)
+pub record IsClosed {D : Type 0} (g : Ghosts D)
     (start disk : D) (old : Image) (site : Site) (session pages : ℕ) (payload : List ℕ)
     (written : Image) : Type 0 where
   pub group : IsGroup site session payload pages written
   pub laid : IsLaid site session payload pages written
   pub outside : (k : ℕ) → (k < site.first) ⊎ (site.first + (pages + 1) ≤ k) → written k ≡ old k
-  pub any_moment : LeavesOnly moment images_since start disk
-      (PartOrTorn site session pages old written)
+  pub any_moment : LeavesOnly g start disk (PartOrTorn site session pages old written)

@@ -3,8 +3,8 @@
 ghost use Rattle.std.specs.Prelude.{◌≡◌, ◌≢◌, ◌⊎◌, ◌<◌, ◌≤◌, ◌↔◌, ◌+◌, ◌-◌, ◌^◌, ◌++◌};
 ghost use Rattle.std.specs.Prelude.{if◌then◌else◌, ℕ, IfOk, OnOk, IsErrOf, IsTrue, length, take};
 ghost use Rattle.std.specs.Prelude.{drop};
-ghost use Rattle.dc_io.specs.Failures.{HasRisen};
-ghost use Rattle.dc_sectors.specs.Disk.{IsImage, Elapses, LeavesOnly};
+ghost use Rattle.dc_sectors.specs.Disk.{IsImage};
+ghost use Rattle.dc_sectors.specs.Runs.{Passes, LeavesOnly, Counts};
 ghost use Rattle.dc_pages.specs.Group.{IsGroup, commit_kind, page_payload, head_len};
 ghost use Rattle.dc_pages.specs.Judging.{Judged, IsStep};
 ghost use Rattle.dc_pages.specs.Reading.{IsBegun, IsCutAt};
@@ -124,17 +124,11 @@ impl<A: Allocator> Reading<A> {
         ensures site { self.new.site ≡ self.old.site }
         ensures pages { IfOk result (λ done.
             self.new.pages ≡ (if done then self.old.pages else self.old.pages + 1)) }
-        ensures device { IsErrOf result GroupFault.Device
-            → HasRisen (D.failures disk.old) (D.failures disk.new) }
-        ensures passed { (IsErrOf result GroupFault.Device → ⊥)
-            → D.failures disk.new ≡ D.failures disk.old }
         ensures reads { D.reads disk.new ≡ D.reads disk.old }
         ensures choices { D.choices disk.new ≡ D.choices disk.old }
-        ensures time { Elapses (D.moment disk.old) (D.moment disk.new) (D.images_since disk.old)
-            (D.images_since disk.new) (IsImage (D.choices disk.old)) }
+        ensures time { Passes D.Disk disk.old disk.new (IsImage (D.choices disk.old)) }
         ensures before { D.keeps disk.new → D.keeps disk.old }
-        ensures count { D.sectors disk.new ≡ D.sectors disk.old }
-        ensures failures { D.failures disk.old ≤ D.failures disk.new }
+        ensures counts { Counts D.Disk disk.old disk.new (IsErrOf result GroupFault.Device) }
     {
         let bytes = match disk.read(at) {
             Ok(bytes) => bytes,
@@ -179,17 +173,11 @@ pub fn read_group<A: Allocator, D: Disk>(
         → IsCutAt site n (D.reads disk.old) }
     ensures within { IfOk result (λ group.
         (1 ≤ group.sectors) × (site.first + group.sectors ≤ site.limit)) }
-    ensures device { IsErrOf result GroupFault.Device
-        → HasRisen (D.failures disk.old) (D.failures disk.new) }
-    ensures passed { (IsErrOf result GroupFault.Device → ⊥)
-        → D.failures disk.new ≡ D.failures disk.old }
     ensures reads { D.reads disk.new ≡ D.reads disk.old }
     ensures choices { D.choices disk.new ≡ D.choices disk.old }
-    ensures any_moment { LeavesOnly D.moment D.images_since disk.old disk.new
-        (IsImage (D.choices disk.old)) }
+    ensures any_moment { LeavesOnly D.Disk disk.old disk.new (IsImage (D.choices disk.old)) }
     ensures before { D.keeps disk.new → D.keeps disk.old }
-    ensures count { D.sectors disk.new ≡ D.sectors disk.old }
-    ensures failures { D.failures disk.old ≤ D.failures disk.new }
+    ensures counts { Counts D.Disk disk.old disk.new (IsErrOf result GroupFault.Device) }
 {
     let mut reading = Reading {
         site,

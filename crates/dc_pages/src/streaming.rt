@@ -29,13 +29,13 @@ impl<D: Disk> Sink for GroupSink<'_, D> {
 
     ghost put_failures = { λ sink. D.failures sink.disk.now + sink.refused };
 
-    ghost puts = { λ old bytes new. GoesInto D.keeps D.reads D.choices D.moment D.images_since
-        D.sectors D.failures old.disk.now new.disk.now old.writer new.writer bytes
+    ghost puts = { λ old bytes new.
+        GoesInto D.Disk old.disk.now new.disk.now old.writer new.writer bytes
         × (new.disk.ghost_name ≡ old.disk.ghost_name) };
 
     ghost breaks = { λ old bytes new.
-        BreaksOff D.keeps D.reads D.choices D.moment D.images_since D.sectors D.failures
-        old.disk.now new.disk.now old.writer bytes × (new.disk.ghost_name ≡ old.disk.ghost_name) };
+        BreaksOff D.Disk old.disk.now new.disk.now old.writer bytes
+        × (new.disk.ghost_name ≡ old.disk.ghost_name) };
 
     #[tactic(auto, using(dc_io::proofs::Pieces::told))]
     fn put(&mut self, bytes: &[u8]) -> Result<(), IoFault> {

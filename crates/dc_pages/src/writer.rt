@@ -1,9 +1,9 @@
 //! Writes a group, page by page.
 
-ghost use Rattle.std.specs.Prelude.{◌≡◌, ◌⊎◌, ◌<◌, ◌≤◌, ◌+◌, ◌-◌, ◌*◌, ◌++◌, [], List, ℕ, take};
+ghost use Rattle.std.specs.Prelude.{◌≡◌, ◌⊎◌, ◌<◌, ◌≤◌, ◌+◌, ◌-◌, ◌*◌, ◌++◌, [], List, ℕ, take, IsErr};
 ghost use Rattle.std.specs.Prelude.{length, min, OnOk, OnErr, IfOk, IsTrue, ◌↔◌};
-ghost use Rattle.dc_io.specs.Failures.{HasRisen};
-ghost use Rattle.dc_sectors.specs.Disk.{Image, LeavesOnly};
+ghost use Rattle.dc_sectors.specs.Disk.{Image};
+ghost use Rattle.dc_sectors.specs.Runs.{LeavesOnly, Counts};
 ghost use Rattle.dc_pages.specs.Draft.{draft_len, HasRoom};
 ghost use Rattle.dc_pages.specs.Group.{piece, page_payload};
 ghost use Rattle.dc_pages.specs.Writing.{SameOutside, IsPartOf, IsOnDisk, IsGoing, IsClosed};
@@ -98,22 +98,17 @@ impl GroupWriter {
             ≡ record self.old { pages = self.old.pages + 1; buffer = [] }) }
         ensures on_disk { (start : D) (payload : List ℕ)
             → self.old.buffer ≡ piece self.old.pages payload
-            → IsOnDisk D.reads D.choices D.moment D.images_since start disk.old self.old.site
-            self.old.session self.old.pages payload
-            → OnOk result (IsOnDisk D.reads D.choices D.moment D.images_since start disk.new
+            → IsOnDisk D.Disk start disk.old self.old.site self.old.session self.old.pages payload
+            → OnOk result (IsOnDisk D.Disk start disk.new
             self.old.site self.old.session (self.old.pages + 1) payload) }
         ensures any_moment { (start : D) (payload : List ℕ)
             → self.old.buffer ≡ piece self.old.pages payload
-            → IsOnDisk D.reads D.choices D.moment D.images_since start disk.old self.old.site
-            self.old.session self.old.pages payload
-            → LeavesOnly D.moment D.images_since start disk.new
+            → IsOnDisk D.Disk start disk.old self.old.site self.old.session self.old.pages payload
+            → LeavesOnly D.Disk start disk.new
             (IsPartOf self.old.site self.old.session (D.reads start)) }
         ensures elsewhere { SameOutside self.old.site (D.reads disk.old) (D.reads disk.new) }
         ensures before { D.keeps disk.new → D.keeps disk.old }
-        ensures count { D.sectors disk.new ≡ D.sectors disk.old }
-        ensures failures { D.failures disk.old ≤ D.failures disk.new }
-        ensures passed { OnOk result (D.failures disk.new ≡ D.failures disk.old) }
-        ensures failed { OnErr result (HasRisen (D.failures disk.old) (D.failures disk.new)) }
+        ensures counts { Counts D.Disk disk.old disk.new (IsErr result) }
     {
         let at = self.site.first + self.index;
         let head = Head {
@@ -141,19 +136,15 @@ impl GroupWriter {
         ensures same { OnOk result (self.new
             ≡ record self.old { pages = self.new.pages; buffer = self.new.buffer }) }
         ensures going { (start : D) (payload : List ℕ)
-            → IsGoing D.reads D.choices D.moment D.images_since start disk.old self.old payload
-            → OnOk result (IsGoing D.reads D.choices D.moment D.images_since start disk.new self.new
-            payload) }
+            → IsGoing D.Disk start disk.old self.old payload
+            → OnOk result (IsGoing D.Disk start disk.new self.new payload) }
         ensures any_moment { (start : D) (payload : List ℕ)
-            → IsGoing D.reads D.choices D.moment D.images_since start disk.old self.old payload
-            → LeavesOnly D.moment D.images_since start disk.new
+            → IsGoing D.Disk start disk.old self.old payload
+            → LeavesOnly D.Disk start disk.new
             (IsPartOf self.old.site self.old.session (D.reads start)) }
         ensures elsewhere { SameOutside self.old.site (D.reads disk.old) (D.reads disk.new) }
         ensures before { D.keeps disk.new → D.keeps disk.old }
-        ensures count { D.sectors disk.new ≡ D.sectors disk.old }
-        ensures failures { D.failures disk.old ≤ D.failures disk.new }
-        ensures passed { OnOk result (D.failures disk.new ≡ D.failures disk.old) }
-        ensures failed { OnErr result (HasRisen (D.failures disk.old) (D.failures disk.new)) }
+        ensures counts { Counts D.Disk disk.old disk.new (IsErr result) }
     {
         if (self.used as usize) < PAYLOAD {
             return Ok(());
@@ -172,19 +163,15 @@ impl GroupWriter {
         ensures same { OnOk result (self.new
             ≡ record self.old { pages = self.new.pages; buffer = self.new.buffer }) }
         ensures going { (start : D) (payload : List ℕ)
-            → IsGoing D.reads D.choices D.moment D.images_since start disk.old self.old payload
-            → OnOk result (IsGoing D.reads D.choices D.moment D.images_since start disk.new self.new
-            (payload ++ bytes.now)) }
+            → IsGoing D.Disk start disk.old self.old payload
+            → OnOk result (IsGoing D.Disk start disk.new self.new (payload ++ bytes.now)) }
         ensures any_moment { (start : D) (payload : List ℕ)
-            → IsGoing D.reads D.choices D.moment D.images_since start disk.old self.old payload
-            → LeavesOnly D.moment D.images_since start disk.new
+            → IsGoing D.Disk start disk.old self.old payload
+            → LeavesOnly D.Disk start disk.new
             (IsPartOf self.old.site self.old.session (D.reads start)) }
         ensures elsewhere { SameOutside self.old.site (D.reads disk.old) (D.reads disk.new) }
         ensures before { D.keeps disk.new → D.keeps disk.old }
-        ensures count { D.sectors disk.new ≡ D.sectors disk.old }
-        ensures failures { D.failures disk.old ≤ D.failures disk.new }
-        ensures passed { OnOk result (D.failures disk.new ≡ D.failures disk.old) }
-        ensures failed { OnErr result (HasRisen (D.failures disk.old) (D.failures disk.new)) }
+        ensures counts { Counts D.Disk disk.old disk.new (IsErr result) }
     {
         let mut at = 0;
         while at < bytes.len() {
@@ -201,24 +188,20 @@ impl GroupWriter {
         requires room { HasRoom self 0 }
         requires limit { self.site.limit ≤ D.sectors disk.old }
         ensures sectors { IfOk result (λ n. n ≡ self.pages + 2) }
-        ensures closed { (start : D) (payload : List ℕ)
-            → IsGoing D.reads D.choices D.moment D.images_since start disk.old self payload
-            → OnOk result (IsClosed D.moment D.images_since start disk.new
+        ensures closed { (start : D) (payload : List ℕ) → IsGoing D.Disk start disk.old self payload
+            → OnOk result (IsClosed D.Disk start disk.new
             (D.reads start) self.site self.session (self.pages + 1) payload (D.reads disk.new)) }
 
         // Where a write failed, a crash leaves a part of the group without its commit sector, or the group torn.
         ensures any_moment { (start : D) (payload : List ℕ)
-            → IsGoing D.reads D.choices D.moment D.images_since start disk.old self payload
-            → OnErr result (LeavesOnly D.moment D.images_since start disk.new
+            → IsGoing D.Disk start disk.old self payload
+            → OnErr result (LeavesOnly D.Disk start disk.new
             (IsPartOf self.site self.session (D.reads start))
-            ⊎ ((written : Image) × IsClosed D.moment D.images_since start disk.new
+            ⊎ ((written : Image) × IsClosed D.Disk start disk.new
             (D.reads start) self.site self.session (self.pages + 1) payload written)) }
         ensures elsewhere { SameOutside self.site (D.reads disk.old) (D.reads disk.new) }
         ensures before { D.keeps disk.new → D.keeps disk.old }
-        ensures count { D.sectors disk.new ≡ D.sectors disk.old }
-        ensures failures { D.failures disk.old ≤ D.failures disk.new }
-        ensures passed { OnOk result (D.failures disk.new ≡ D.failures disk.old) }
-        ensures failed { OnErr result (HasRisen (D.failures disk.old) (D.failures disk.new)) }
+        ensures counts { Counts D.Disk disk.old disk.new (IsErr result) }
     {
         let pages = self.index + 1;
         let at = self.site.first + pages;

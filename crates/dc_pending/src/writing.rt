@@ -1,13 +1,12 @@
 //! Writes the pending changes.
 
-ghost use Rattle.std.specs.Prelude.{◌≡◌, ◌⊎◌, ◌≤◌, ◌<◌, List, true, false, length, IsErrOf, OnOk};
-ghost use Rattle.dc_io.specs.Failures.{HasRisen};
-ghost use Rattle.dc_sectors.specs.Disk.{LeavesOnly};
+ghost use Rattle.std.specs.Prelude.{◌≡◌, ◌⊎◌, ◌<◌, List, true, false, length, IsErrOf, OnOk};
+ghost use Rattle.dc_sectors.specs.Runs.{LeavesOnly, Counts};
 ghost use Rattle.dc_changes.specs.declared.change.Change.{Change};
 ghost use Rattle.dc_changes.specs.State.{State};
 ghost use Rattle.dc_changes.specs.History.{after, AcceptsAll};
 ghost use Rattle.dc_changes.specs.Spelled.{SpellsChanges};
-ghost use Rattle.dc_recovery.specs.Halves.{half_len_of, budget_of};
+ghost use Rattle.dc_recovery.specs.Halves.{half_of, budget_of};
 ghost use Rattle.dc_recovery.specs.Stands.{StandsForEither};
 ghost use Rattle.dc_recovery.specs.Store.{Fits, Keeps};
 ghost use Rattle.dc_recovery.specs.declared.fault.StoreFault.TheVariants.{Device, Worn, Stopped};
@@ -30,7 +29,7 @@ pub fn write_waiting<D: Disk + Drop, A: Allocator + Copy>(
     house: &House<A>,
 ) -> Result<(), StoreFault>
     requires some { 0 < length waiting.now.bytes }
-    requires budget { house.now.budget ≡ budget_of (half_len_of (D.sectors store.old.disk)) }
+    requires budget { house.now.budget ≡ budget_of (half_of D.Disk store.old.disk) }
     ensures stopped { IsErrOf result Stopped → store.old.is_stopped ≡ true }
     ensures running { IsErrOf result Stopped ⊎ (store.old.is_stopped ≡ false) }
     ensures worn { IsErrOf result Worn
@@ -40,27 +39,24 @@ pub fn write_waiting<D: Disk + Drop, A: Allocator + Copy>(
     ensures one_group { Fits (D.sectors store.old.disk) store.old (length waiting.now.bytes)
         → store.new.root ≡ store.old.root }
     ensures unchanged { IsErrOf result Stopped ⊎ IsErrOf result Worn → store.new ≡ store.old }
-    ensures device { IsErrOf result Device
-        → HasRisen (D.failures store.old.disk) (D.failures store.new.disk) }
     ensures stops { IsErrOf result Device → store.new.is_stopped ≡ true }
     ensures goes_on { OnOk result (store.new.is_stopped ≡ false) }
 
     // The register is what the store keeps, after the pending changes. The store keeps that then, and a crash at
     // any moment leaves an image that stands for what was kept before or for that.
     ensures kept { (was : State) (changes : List Change)
-        → Keeps D.sectors D.reads D.choices store.old was → SpellsChanges waiting.now.bytes changes
-        → AcceptsAll (budget_of (half_len_of (D.sectors store.old.disk))) was changes
+        → Keeps D.Disk store.old was → SpellsChanges waiting.now.bytes changes
+        → AcceptsAll (budget_of (half_of D.Disk store.old.disk)) was changes
         → house.now.state ≡ after was changes
-        → OnOk result (Keeps D.sectors D.reads D.choices store.new (after was changes)) }
+        → OnOk result (Keeps D.Disk store.new (after was changes)) }
     ensures any_moment { (was : State) (changes : List Change)
-        → Keeps D.sectors D.reads D.choices store.old was → SpellsChanges waiting.now.bytes changes
-        → AcceptsAll (budget_of (half_len_of (D.sectors store.old.disk))) was changes
+        → Keeps D.Disk store.old was → SpellsChanges waiting.now.bytes changes
+        → AcceptsAll (budget_of (half_of D.Disk store.old.disk)) was changes
         → house.now.state ≡ after was changes
-        → LeavesOnly D.moment D.images_since store.old.disk store.new.disk
-        (StandsForEither (half_len_of (D.sectors store.old.disk)) was (after was changes)) }
+        → LeavesOnly D.Disk store.old.disk store.new.disk
+        (StandsForEither (half_of D.Disk store.old.disk) was (after was changes)) }
     ensures before { D.keeps store.new.disk → D.keeps store.old.disk }
-    ensures count { D.sectors store.new.disk ≡ D.sectors store.old.disk }
-    ensures failures { D.failures store.old.disk ≤ D.failures store.new.disk }
+    ensures counts { Counts D.Disk store.old.disk store.new.disk (IsErrOf result Device) }
 {
     let bytes = waiting.as_slice();
     if store.fits(bytes.len()) {

@@ -1,7 +1,7 @@
 -- Lines of a script, done one after the other.
 use Rattle.std.proofs.Common.{◌≡◌, ◌+◌, ℕ, List, [], ◌∷◌, ◌++◌, length, refl, ap, sym, subst, ◌∙◌, arith, append_assoc, append-nil, length-append, inl}
 use Rattle.std.specs.Prelude.{Result, Ok, Err, OnOk, OnErr}
-use Rattle.dc_sectors.specs.Disk.{Image, Choices}
+use Rattle.dc_sectors.specs.declared.device.Disk.{Ghosts}
 use Rattle.dc_changes.specs.State.{State}
 use Rattle.dc_core.specs.Core.{opened}
 use Rattle.dc_core.specs.Event.{Event, Answer}
@@ -64,15 +64,15 @@ pub on_err : {X E : Type 0} (result : Result X E) (B : Type 0) → B → OnErr r
 on_err (Ok x) B b = tt
 on_err (Err e) B b = b
 
-module _ {D : Type 0} (known : Type 0) (sectors failures : D → ℕ) (reads : D → Image) (choices : D → Choices) (moment_of : D → ℕ) (images_since : D → ℕ → Image → Type 0) where
+module _ {D : Type 0} (g : Ghosts D) (origin : D) where
   -- the lines so far, and how the bus lines are after them
   pub record LinesSoFar (budget : ℕ) (state : State) (before : List Turn) (link now : List LineLink) (done : List LineSeen) (wrote : List ℕ → Type 0) (carries : List Traffic → Type 0) (first new : Machine D) : Type 0 where
-    pub lines : LinesRan known sectors failures reads choices moment_of images_since budget state before link done wrote carries first new
+    pub lines : LinesRan g origin budget state before link done wrote carries first new
     pub link_is : links_after link lines.deeds ≡ now
 
   -- no line yet
   pub lines_none : (budget : ℕ) (state : State) (before : List Turn) (link : List LineLink) (wrote : List ℕ → Type 0) (carries : List Traffic → Type 0) (machine : Machine D)
-      → Went known sectors failures reads choices moment_of images_since budget state before [] machine machine → wrote [] → carries []
+      → Went g origin budget state before [] machine machine → wrote [] → carries []
       → LinesSoFar budget state before link link [] wrote carries machine machine
   lines_none budget state before link wrote carries machine went text carried = record {
     lines = record { deeds = []; done = tt; went = went; text = text; carried = carried };
@@ -83,7 +83,7 @@ module _ {D : Type 0} (known : Type 0) (sectors failures : D → ℕ) (reads : D
   pub lines_more : (budget : ℕ) (state : State) (before : List Turn) (link now left : List LineLink) (done : List LineSeen) (asked : LineSeen) (moment : ℕ) (wrote piece all : List ℕ → Type 0) (carries both : List Traffic → Type 0) (talked : List Exchange → Type 0) (first old new : Machine D)
       → moment ≡ moment_after 0 done
       → (so_far : LinesSoFar budget state before link now done wrote carries first old)
-      → LineRan known sectors failures reads choices moment_of images_since budget state (before ++ deeds_turns so_far.lines.deeds) moment asked now left piece talked old new
+      → LineRan g origin budget state (before ++ deeds_turns so_far.lines.deeds) moment asked now left piece talked old new
       → ((text more : List ℕ) → wrote text → piece more → all (text ++ more))
       → ((traffic : List Traffic) (exchanges : List Exchange) → carries traffic → talked exchanges → both (traffic ++ record { asked = asked; exchanges = exchanges } ∷ []))
       → LinesSoFar budget state before link left (done ++ asked ∷ []) all both first new
@@ -95,8 +95,8 @@ module _ {D : Type 0} (known : Type 0) (sectors failures : D → ℕ) (reads : D
           deeds = deeds ++ deed ∷ [];
           done = done_push 0 link done deeds asked deed so_far.lines.done
               (subst (λ (l : List LineLink). Does (moment_after 0 done) asked l left one.turns one.exchanges one.line) (sym so_far.link_is) (subst (λ (m : ℕ). Does m asked now left one.turns one.exchanges one.line) is one.does));
-          went = subst (λ (ts : List Turn). Went known sectors failures reads choices moment_of images_since budget state before ts first new) (sym (turns_push deeds deed))
-              (went_both known sectors failures reads choices moment_of images_since budget state before (deeds_turns deeds) one.turns first old new so_far.lines.went one.went);
+          went = subst (λ (ts : List Turn). Went g origin budget state before ts first new) (sym (turns_push deeds deed))
+              (went_both g origin budget state before (deeds_turns deeds) one.turns first old new so_far.lines.went one.went);
           text = subst all (sym (text_push deeds deed)) (joins (deeds_text deeds) one.line so_far.lines.text one.text);
           carried = subst both (sym (traffic_push 0 link done deeds asked deed so_far.lines.done)) (adds (traffic_of done deeds) one.exchanges so_far.lines.carried one.over);
         };
@@ -109,13 +109,13 @@ module _ {D : Type 0} (known : Type 0) (sectors failures : D → ℕ) (reads : D
     pub are_read : AskFor input done rest
     pub moment_is : moment ≡ moment_after 0 done
     pub count_is : count ≡ length done
-    pub ran : (state : State) (before : List Turn) → IsChain budget (opened state) before → IsAt known sectors reads choices first (leads (opened state) before)
+    pub ran : (state : State) (before : List Turn) → IsChain budget (opened state) before → IsAt g origin first (leads (opened state) before)
         → LinesSoFar budget state before link now done wrote carries first new
 
   pub one_more : (budget : ℕ) (link now left : List LineLink) (input : List (List ℕ)) (line : List ℕ) (rest : List (List ℕ)) (asked : LineSeen) (moment count : ℕ) (wrote piece all : List ℕ → Type 0) (carries both : List Traffic → Type 0) (talked : List Exchange → Type 0) (first old new : Machine D)
       → SoFar budget link now input (line ∷ rest) moment count wrote carries first old → IsLineOf line asked
-      → ((state : State) (before : List Turn) → IsChain budget (opened state) before → IsAt known sectors reads choices old (leads (opened state) before)
-      → LineRan known sectors failures reads choices moment_of images_since budget state before moment asked now left piece talked old new)
+      → ((state : State) (before : List Turn) → IsChain budget (opened state) before → IsAt g origin old (leads (opened state) before)
+      → LineRan g origin budget state before moment asked now left piece talked old new)
       → ((text more : List ℕ) → wrote text → piece more → all (text ++ more))
       → ((traffic : List Traffic) (exchanges : List Exchange) → carries traffic → talked exchanges → both (traffic ++ record { asked = asked; exchanges = exchanges } ∷ []))
       → SoFar budget link left input rest (moment_behind moment asked) (count + 1) all both first new
@@ -130,17 +130,17 @@ module _ {D : Type 0} (known : Type 0) (sectors failures : D → ℕ) (reads : D
             let ran = so_far.ran state before chain at in
             let turns = deeds_turns ran.lines.deeds in
             lines_more budget state before link now left so_far.done asked moment wrote piece all carries both talked first old new so_far.moment_is ran
-            (one state (before ++ turns) (went_chain known sectors failures reads choices moment_of images_since budget state before turns first old ran.lines.went) (went_at known sectors failures reads choices moment_of images_since budget state before turns first old ran.lines.went)) joins adds;
+            (one state (before ++ turns) (went_chain g origin budget state before turns first old ran.lines.went) (went_at g origin budget state before turns first old ran.lines.went)) joins adds;
       }
 
   -- a write failed at the next line
   pub cut_here : (budget : ℕ) (link now : List LineLink) (input : List (List ℕ)) (line : List ℕ) (rest : List (List ℕ)) (moment count : ℕ) (wrote : List ℕ → Type 0) (carries both : List Traffic → Type 0) (part : List Turn) (part_traffic : List Traffic) (first old new : Machine D)
       → (so_far : SoFar budget link now input (line ∷ rest) moment count wrote carries first old)
-      → (state : State) (before : List Turn) (chain : IsChain budget (opened state) before) (is_at : IsAt known sectors reads choices first (leads (opened state) before))
+      → (state : State) (before : List Turn) (chain : IsChain budget (opened state) before) (is_at : IsAt g origin first (leads (opened state) before))
       → FailsAt moment now (line ∷ rest) part part_traffic
       → ((traffic : List Traffic) → carries traffic → both (traffic ++ part_traffic))
-      → Went known sectors failures reads choices moment_of images_since budget state (before ++ deeds_turns (so_far.ran state before chain is_at).lines.deeds) part old new
-      → ScriptCut known sectors failures reads choices moment_of images_since budget state before link input both first new
+      → Went g origin budget state (before ++ deeds_turns (so_far.ran state before chain is_at).lines.deeds) part old new
+      → ScriptCut g origin budget state before link input both first new
   cut_here budget link now input line rest moment count wrote carries both part part_traffic first old new so_far state before chain is_at fails adds went =
       let ran = so_far.ran state before chain is_at in
       record {
@@ -152,7 +152,7 @@ module _ {D : Type 0} (known : Type 0) (sectors failures : D → ℕ) (reads : D
         part = part;
         part_traffic = part_traffic;
         fails = subst (λ (l : List LineLink). FailsAt (moment_after 0 so_far.done) l (line ∷ rest) part part_traffic) (sym ran.link_is) (subst (λ (m : ℕ). FailsAt m now (line ∷ rest) part part_traffic) so_far.moment_is fails);
-        went = went_both known sectors failures reads choices moment_of images_since budget state before (deeds_turns ran.lines.deeds) part first old new ran.lines.went went;
+        went = went_both g origin budget state before (deeds_turns ran.lines.deeds) part first old new ran.lines.went went;
         carried = adds (traffic_of so_far.done ran.lines.deeds) ran.lines.carried;
       }
 
@@ -160,12 +160,12 @@ module _ {D : Type 0} (known : Type 0) (sectors failures : D → ℕ) (reads : D
 
   -- a line that is one event
   pub event_ran : {X E : Type 0} (budget : ℕ) (state : State) (before : List Turn) (event : Event) (moment : ℕ) (asked : LineSeen) (link : List LineLink) (wrote : List ℕ → Type 0) (talked : List Exchange → Type 0) (first new : Machine D) (result : Result X E)
-      → TurnWent known sectors failures reads choices moment_of images_since budget state before event (λ answer. OnOk result (wrote (answer_text answer))) first new
+      → TurnWent g origin budget state before event (λ answer. OnOk result (wrote (answer_text answer))) first new
       → ((turns : List Turn) (text : List ℕ) → IsOneTurn event turns text → Does moment asked link link turns [] text)
       → talked []
-      → OnOk result (LineRan known sectors failures reads choices moment_of images_since budget state before moment asked link link wrote talked first new)
+      → OnOk result (LineRan g origin budget state before moment asked link link wrote talked first new)
   event_ran budget state before event moment asked link wrote talked first new result one does still =
-      on_ok result (wrote (answer_text one.answer)) (LineRan known sectors failures reads choices moment_of images_since budget state before moment asked link link wrote talked first new)
+      on_ok result (wrote (answer_text one.answer)) (LineRan g origin budget state before moment asked link link wrote talked first new)
       (λ text. record {
         turns = (event, one.answer) ∷ [];
         exchanges = [];
@@ -177,37 +177,37 @@ module _ {D : Type 0} (known : Type 0) (sectors failures : D → ℕ) (reads : D
       }) one.is_such
 
   pub event_cut : {X E : Type 0} (budget : ℕ) (state : State) (before : List Turn) (event : Event) (moment : ℕ) (asked : LineSeen) (link : List LineLink) (such : Answer → Type 0) (talked : List Exchange → Type 0) (first new : Machine D) (result : Result X E)
-      → TurnWent known sectors failures reads choices moment_of images_since budget state before event such first new
+      → TurnWent g origin budget state before event such first new
       → ((turns : List Turn) → IsTurnOf event turns → DoesPart moment asked link turns [])
       → talked []
-      → OnErr result (LineCut known sectors failures reads choices moment_of images_since budget state before moment asked link talked first new)
+      → OnErr result (LineCut g origin budget state before moment asked link talked first new)
   event_cut budget state before event moment asked link such talked first new result one does still =
-      on_err result (LineCut known sectors failures reads choices moment_of images_since budget state before moment asked link talked first new)
+      on_err result (LineCut g origin budget state before moment asked link talked first new)
       (record { turns = (event, one.answer) ∷ []; exchanges = []; does = does ((event, one.answer) ∷ []) (one.answer, refl); went = one.went; over = still })
 
   -- a line that is no event, and what it writes
   pub said_ran : {X E : Type 0} (budget : ℕ) (state : State) (before : List Turn) (moment : ℕ) (asked : LineSeen) (link left : List LineLink) (said : List ℕ) (wrote : List ℕ → Type 0) (talked : List Exchange → Type 0) (machine : Machine D) (result : Result X E)
-      → Does moment asked link left [] [] said → talked [] → Went known sectors failures reads choices moment_of images_since budget state before [] machine machine → OnOk result (wrote said)
-      → OnOk result (LineRan known sectors failures reads choices moment_of images_since budget state before moment asked link left wrote talked machine machine)
+      → Does moment asked link left [] [] said → talked [] → Went g origin budget state before [] machine machine → OnOk result (wrote said)
+      → OnOk result (LineRan g origin budget state before moment asked link left wrote talked machine machine)
   said_ran budget state before moment asked link left said wrote talked machine result does still went text =
-      on_ok result (wrote said) (LineRan known sectors failures reads choices moment_of images_since budget state before moment asked link left wrote talked machine machine)
+      on_ok result (wrote said) (LineRan g origin budget state before moment asked link left wrote talked machine machine)
       (λ text. record { turns = []; exchanges = []; line = said; does = does; went = went; text = text; over = still }) text
 
   pub said_cut : {X E : Type 0} (budget : ℕ) (state : State) (before : List Turn) (moment : ℕ) (asked : LineSeen) (link : List LineLink) (talked : List Exchange → Type 0) (machine : Machine D) (result : Result X E)
-      → DoesPart moment asked link [] [] → talked [] → Went known sectors failures reads choices moment_of images_since budget state before [] machine machine
-      → OnErr result (LineCut known sectors failures reads choices moment_of images_since budget state before moment asked link talked machine machine)
+      → DoesPart moment asked link [] [] → talked [] → Went g origin budget state before [] machine machine
+      → OnErr result (LineCut g origin budget state before moment asked link talked machine machine)
   said_cut budget state before moment asked link talked machine result does still went =
-      on_err result (LineCut known sectors failures reads choices moment_of images_since budget state before moment asked link talked machine machine)
+      on_err result (LineCut g origin budget state before moment asked link talked machine machine)
       (record { turns = []; exchanges = []; does = does; went = went; over = still })
 
   -- a poll over a line that is found so, and has a bus
   pub polled_ran : {X E : Type 0} (budget : ℕ) (state : State) (before : List Turn) (moment line : ℕ) (meter : Identity) (links : List LineLink) (found : LineLink) (after : Link) (ends : List Happening → Phase → Type 0) (wrote : List ℕ → Type 0) (talked : List Exchange → Type 0) (first new : Machine D) (result : Result X E) → line_in links line ≡ found → HasBus found.link
-      → Way known sectors failures reads choices moment_of images_since budget state before (record { line = line; is_gateway = found.is_gateway }) moment meter (record { due = to_start; link = found.link }) ends (λ text. OnOk result (wrote text)) first new
+      → Way g origin budget state before (record { line = line; is_gateway = found.is_gateway }) moment meter (record { due = to_start; link = found.link }) ends (λ text. OnOk result (wrote text)) first new
       → ((happened : List Happening) (last : Phase) → ends happened last → OnOk result (IsEnd happened last.due × (last.link ≡ after)))
       → ((happened : List Happening) (last : Phase) → ends happened last → talked (happened_exchanges happened))
-      → OnOk result (LineRan known sectors failures reads choices moment_of images_since budget state before moment (poll line meter) links (with_link links line after) wrote talked first new)
+      → OnOk result (LineRan g origin budget state before moment (poll line meter) links (with_link links line after) wrote talked first new)
   polled_ran budget state before moment line meter links found after ends wrote talked first new (Ok x) is has_bus found_way ends_so talks_so =
-      let way = subst (λ (f : LineLink). Way known sectors failures reads choices moment_of images_since budget state before (record { line = line; is_gateway = f.is_gateway }) moment meter (record { due = to_start; link = f.link }) ends wrote first new) (sym is) found_way in
+      let way = subst (λ (f : LineLink). Way g origin budget state before (record { line = line; is_gateway = f.is_gateway }) moment meter (record { due = to_start; link = f.link }) ends wrote first new) (sym is) found_way in
       record {
         turns = happened_turns way.happened;
         exchanges = happened_exchanges way.happened;
@@ -225,12 +225,12 @@ module _ {D : Type 0} (known : Type 0) (sectors failures : D → ℕ) (reads : D
   polled_ran budget state before moment line meter links found after ends wrote talked first new (Err e) is has_bus found_way ends_so talks_so = tt
 
   pub polled_cut : {X E : Type 0} (budget : ℕ) (state : State) (before : List Turn) (moment line : ℕ) (meter : Identity) (links : List LineLink) (found : LineLink) (ends : List Happening → Phase → Type 0) (wrote : List ℕ → Type 0) (talked : List Exchange → Type 0) (first new : Machine D) (result : Result X E) → line_in links line ≡ found → HasBus found.link
-      → Way known sectors failures reads choices moment_of images_since budget state before (record { line = line; is_gateway = found.is_gateway }) moment meter (record { due = to_start; link = found.link }) ends wrote first new
+      → Way g origin budget state before (record { line = line; is_gateway = found.is_gateway }) moment meter (record { due = to_start; link = found.link }) ends wrote first new
       → ((happened : List Happening) (last : Phase) → ends happened last → talked (happened_exchanges happened))
-      → OnErr result (LineCut known sectors failures reads choices moment_of images_since budget state before moment (poll line meter) links talked first new)
+      → OnErr result (LineCut g origin budget state before moment (poll line meter) links talked first new)
   polled_cut budget state before moment line meter links found ends wrote talked first new result is has_bus found_way talks_so =
-      let way = subst (λ (f : LineLink). Way known sectors failures reads choices moment_of images_since budget state before (record { line = line; is_gateway = f.is_gateway }) moment meter (record { due = to_start; link = f.link }) ends wrote first new) (sym is) found_way in
-      on_err result (LineCut known sectors failures reads choices moment_of images_since budget state before moment (poll line meter) links talked first new)
+      let way = subst (λ (f : LineLink). Way g origin budget state before (record { line = line; is_gateway = f.is_gateway }) moment meter (record { due = to_start; link = f.link }) ends wrote first new) (sym is) found_way in
+      on_err result (LineCut g origin budget state before moment (poll line meter) links talked first new)
       (record {
         turns = happened_turns way.happened;
         exchanges = happened_exchanges way.happened;
@@ -243,8 +243,8 @@ module _ {D : Type 0} (known : Type 0) (sectors failures : D → ℕ) (reads : D
 
   ran_so : (budget : ℕ) (state : State) (before : List Turn) (moment : ℕ) (asked : LineSeen) (links left : List LineLink) (wrote : List ℕ → Type 0) (talked also : List Exchange → Type 0) (first new : Machine D)
       → ((exchanges : List Exchange) → talked exchanges → also exchanges)
-      → LineRan known sectors failures reads choices moment_of images_since budget state before moment asked links left wrote talked first new
-      → LineRan known sectors failures reads choices moment_of images_since budget state before moment asked links left wrote also first new
+      → LineRan g origin budget state before moment asked links left wrote talked first new
+      → LineRan g origin budget state before moment asked links left wrote also first new
   ran_so budget state before moment asked links left wrote talked also first new so line = record {
     turns = line.turns;
     exchanges = line.exchanges;
@@ -257,8 +257,8 @@ module _ {D : Type 0} (known : Type 0) (sectors failures : D → ℕ) (reads : D
 
   cut_so : (budget : ℕ) (state : State) (before : List Turn) (moment : ℕ) (asked : LineSeen) (links : List LineLink) (talked also : List Exchange → Type 0) (first new : Machine D)
       → ((exchanges : List Exchange) → talked exchanges → also exchanges)
-      → LineCut known sectors failures reads choices moment_of images_since budget state before moment asked links talked first new
-      → LineCut known sectors failures reads choices moment_of images_since budget state before moment asked links also first new
+      → LineCut g origin budget state before moment asked links talked first new
+      → LineCut g origin budget state before moment asked links also first new
   cut_so budget state before moment asked links talked also first new so line = record {
     turns = line.turns;
     exchanges = line.exchanges;
@@ -269,8 +269,8 @@ module _ {D : Type 0} (known : Type 0) (sectors failures : D → ℕ) (reads : D
 
   starved_so : (budget : ℕ) (state : State) (before : List Turn) (asked : LineSeen) (links : List LineLink) (wrote : List ℕ → Type 0) (talked also : List Exchange → Type 0) (first new : Machine D)
       → ((exchanges : List Exchange) → talked exchanges → also exchanges)
-      → LineStarved known sectors failures reads choices moment_of images_since budget state before asked links wrote talked first new
-      → LineStarved known sectors failures reads choices moment_of images_since budget state before asked links wrote also first new
+      → LineStarved g origin budget state before asked links wrote talked first new
+      → LineStarved g origin budget state before asked links wrote also first new
   starved_so budget state before asked links wrote talked also first new so line = record {
     last = line.last;
     starves = line.starves;
@@ -281,23 +281,23 @@ module _ {D : Type 0} (known : Type 0) (sectors failures : D → ℕ) (reads : D
 
   pub ran_as : {X E : Type 0} (result : Result X E) (budget : ℕ) (state : State) (before : List Turn) (moment : ℕ) (asked : LineSeen) (links left : List LineLink) (wrote : List ℕ → Type 0) (talked also : List Exchange → Type 0) (first new : Machine D)
       → ((exchanges : List Exchange) → talked exchanges → also exchanges)
-      → OnOk result (LineRan known sectors failures reads choices moment_of images_since budget state before moment asked links left wrote talked first new)
-      → OnOk result (LineRan known sectors failures reads choices moment_of images_since budget state before moment asked links left wrote also first new)
+      → OnOk result (LineRan g origin budget state before moment asked links left wrote talked first new)
+      → OnOk result (LineRan g origin budget state before moment asked links left wrote also first new)
   ran_as (Ok x) budget state before moment asked links left wrote talked also first new so line = ran_so budget state before moment asked links left wrote talked also first new so line
   ran_as (Err e) budget state before moment asked links left wrote talked also first new so line = tt
 
   -- where a write failed
   pub cut_as : {X E : Type 0} (result : Result X E) (budget : ℕ) (state : State) (before : List Turn) (moment : ℕ) (asked : LineSeen) (links : List LineLink) (talked also : List Exchange → Type 0) (first new : Machine D)
       → ((exchanges : List Exchange) → talked exchanges → also exchanges)
-      → OnErr result (LineCut known sectors failures reads choices moment_of images_since budget state before moment asked links talked first new)
-      → OnErr result (LineCut known sectors failures reads choices moment_of images_since budget state before moment asked links also first new)
+      → OnErr result (LineCut g origin budget state before moment asked links talked first new)
+      → OnErr result (LineCut g origin budget state before moment asked links also first new)
   cut_as (Ok x) budget state before moment asked links talked also first new so line = tt
   cut_as (Err e) budget state before moment asked links talked also first new so line = cut_so budget state before moment asked links talked also first new so line
 
   pub halted_as : {X : Type 0} (result : Result X Halt) (budget : ℕ) (state : State) (before : List Turn) (moment : ℕ) (asked : LineSeen) (links : List LineLink) (talked also : List Exchange → Type 0) (first new : Machine D)
       → ((exchanges : List Exchange) → talked exchanges → also exchanges)
-      → OnWrite result (LineCut known sectors failures reads choices moment_of images_since budget state before moment asked links talked first new)
-      → OnWrite result (LineCut known sectors failures reads choices moment_of images_since budget state before moment asked links also first new)
+      → OnWrite result (LineCut g origin budget state before moment asked links talked first new)
+      → OnWrite result (LineCut g origin budget state before moment asked links also first new)
   halted_as (Ok x) budget state before moment asked links talked also first new so line = tt
   halted_as (Err Write) budget state before moment asked links talked also first new so line = cut_so budget state before moment asked links talked also first new so line
   halted_as (Err NoMemory) budget state before moment asked links talked also first new so line = tt
@@ -305,8 +305,8 @@ module _ {D : Type 0} (known : Type 0) (sectors failures : D → ℕ) (reads : D
   -- if memory runs out
   pub starved_as : {X : Type 0} (result : Result X Halt) (budget : ℕ) (state : State) (before : List Turn) (asked : LineSeen) (links : List LineLink) (wrote : List ℕ → Type 0) (talked also : List Exchange → Type 0) (first new : Machine D)
       → ((exchanges : List Exchange) → talked exchanges → also exchanges)
-      → OnNoMemory result (LineStarved known sectors failures reads choices moment_of images_since budget state before asked links wrote talked first new)
-      → OnNoMemory result (LineStarved known sectors failures reads choices moment_of images_since budget state before asked links wrote also first new)
+      → OnNoMemory result (LineStarved g origin budget state before asked links wrote talked first new)
+      → OnNoMemory result (LineStarved g origin budget state before asked links wrote also first new)
   starved_as (Ok x) budget state before asked links wrote talked also first new so line = tt
   starved_as (Err Write) budget state before asked links wrote talked also first new so line = tt
   starved_as (Err NoMemory) budget state before asked links wrote talked also first new so line = starved_so budget state before asked links wrote talked also first new so line

@@ -12,8 +12,8 @@ use Rattle.dc_core.specs.declared.fault.CommitFault.{CommitFault}
 use Rattle.dc_core.specs.declared.fault.StartFault.TheVariants.{Busy}
 use Rattle.dc_gateway.specs.Bus.{AreAskedBy, Exchange}
 use Rattle.dc_search.specs.State.{SearchState, new_search}
-use Rattle.dc_sectors.specs.Disk.{Image, Choices}
 use Rattle.dc_io.specs.declared.stream.IoFault.{IoFault}
+use Rattle.dc_sectors.specs.declared.device.Disk.{Ghosts}
 use Rattle.dc_poller.specs.Halt.{OnNoMemory, OnWrite, halted_by}
 use Rattle.dc_poller.specs.Link.{HasBus, LineLink, Link, line_in, link_by, link_in, loss_text, lost, port_in, with_link}
 use Rattle.dc_poller.specs.Script.{LineRan, LineCut}
@@ -109,37 +109,37 @@ left_by true false stays = absurd_bool (stays refl)
 left_by false true stays = inr refl
 left_by false false stays = inl refl
 
-module _ {D : Type 0} (known : Type 0) (sectors failures : D → ℕ) (reads : D → Image) (choices : D → Choices) (moment_of : D → ℕ) (images_since : D → ℕ → Image → Type 0) where
+module _ {D : Type 0} (g : Ghosts D) (origin : D) where
   -- a commit, and then a look at a line
   pub commit_and_look : (budget : ℕ) (state : State) (before : List Turn) (line : ℕ) (answer : Result ℕ CommitFault) (count : ℕ) (request : Option (List ℕ)) (such : List Turn → Type 0) (first new : Machine D)
-      → TurnWent known sectors failures reads choices moment_of images_since budget state before commits (λ told. told ≡ committed answer) first new → answer ≡ Ok count → new.house.budget ≡ budget
-      → ((behind : List Turn) → IsChain new.house.budget (opened state) behind → IsAt known sectors reads choices new (leads (opened state) behind)
-      → TurnWent known sectors failures reads choices moment_of images_since new.house.budget state behind (asks line) (λ told. told ≡ asked request) new new)
+      → TurnWent g origin budget state before commits (λ told. told ≡ committed answer) first new → answer ≡ Ok count → new.house.budget ≡ budget
+      → ((behind : List Turn) → IsChain new.house.budget (opened state) behind → IsAt g origin new (leads (opened state) behind)
+      → TurnWent g origin new.house.budget state behind (asks line) (λ told. told ≡ asked request) new new)
       → such (looked_turns line count request)
-      → TurnsWent known sectors failures reads choices moment_of images_since budget state before such first new
+      → TurnsWent g origin budget state before such first new
   commit_and_look budget state before line answer count request such first new one is same look so =
       let done : List Turn = (commits, committed (Ok count)) ∷ [] in
-      let went = subst (λ (a : Answer). Went known sectors failures reads choices moment_of images_since budget state before ((commits, a) ∷ []) first new) (one.is_such ∙ ap committed is) one.went in
-      let two = look (before ++ done) (subst (λ (b : ℕ). IsChain b (opened state) (before ++ done)) (sym same) (went_chain known sectors failures reads choices moment_of images_since budget state before done first new went))
-      (went_at known sectors failures reads choices moment_of images_since budget state before done first new went) in
-      let asked_so = subst (λ (a : Answer). Went known sectors failures reads choices moment_of images_since new.house.budget state (before ++ done) ((asks line, a) ∷ []) new new) two.is_such two.went in
+      let went = subst (λ (a : Answer). Went g origin budget state before ((commits, a) ∷ []) first new) (one.is_such ∙ ap committed is) one.went in
+      let two = look (before ++ done) (subst (λ (b : ℕ). IsChain b (opened state) (before ++ done)) (sym same) (went_chain g origin budget state before done first new went))
+      (went_at g origin budget state before done first new went) in
+      let asked_so = subst (λ (a : Answer). Went g origin new.house.budget state (before ++ done) ((asks line, a) ∷ []) new new) two.is_such two.went in
       record {
         turns = looked_turns line count request;
         are_such = so;
-        went = went_both known sectors failures reads choices moment_of images_since budget state before done ((asks line, asked request) ∷ []) first new new went
-            (subst (λ (b : ℕ). Went known sectors failures reads choices moment_of images_since b state (before ++ done) ((asks line, asked request) ∷ []) new new) same asked_so);
+        went = went_both g origin budget state before done ((asks line, asked request) ∷ []) first new new went
+            (subst (λ (b : ℕ). Went g origin b state (before ++ done) ((asks line, asked request) ∷ []) new new) same asked_so);
       }
 
   -- ---- as a line of a script
 
   pub searched_ran : (budget : ℕ) (state : State) (before : List Turn) (moment most line late : ℕ) (meters : Option (List Identity)) (links : List LineLink) (found : LineLink) (after : Link) (talked : List Exchange → Type 0) (wrote : List ℕ → Type 0) (first new : Machine D) (result : Result (Unit {0}) Halt) → line_in links line ≡ found → HasBus found.link
       → (found.is_gateway ≡ true → late ≡ 0)
-      → TurnsWent known sectors failures reads choices moment_of images_since budget state before (Comes meters (record { line = line; is_gateway = found.is_gateway }) most late found.link after talked wrote result) first new
-      → OnOk result (LineRan known sectors failures reads choices moment_of images_since budget state before moment (search most line) links (with_link links line after) wrote talked first new)
+      → TurnsWent g origin budget state before (Comes meters (record { line = line; is_gateway = found.is_gateway }) most late found.link after talked wrote result) first new
+      → OnOk result (LineRan g origin budget state before moment (search most line) links (with_link links line after) wrote talked first new)
   searched_ran budget state before moment most line late meters links found after talked wrote first new (Ok done) is has_found prompt_found some_found =
       let has_bus = subst (λ (f : LineLink). HasBus f.link) (sym is) has_found in
       let prompt = subst (λ (f : LineLink). f.is_gateway ≡ true → late ≡ 0) (sym is) prompt_found in
-      let some = subst (λ (f : LineLink). TurnsWent known sectors failures reads choices moment_of images_since budget state before (Comes meters (record { line = line; is_gateway = f.is_gateway }) most late f.link after talked wrote (Ok done)) first new) (sym is) some_found in record {
+      let some = subst (λ (f : LineLink). TurnsWent g origin budget state before (Comes meters (record { line = line; is_gateway = f.is_gateway }) most late f.link after talked wrote (Ok done)) first new) (sym is) some_found in record {
         turns = some.turns;
         exchanges = some.are_such.1;
         line = some.are_such.0;
@@ -151,23 +151,23 @@ module _ {D : Type 0} (known : Type 0) (sectors failures : D → ℕ) (reads : D
   searched_ran budget state before moment most line late meters links found after talked wrote first new (Err halt) is has_found prompt some = tt
 
   pub searched_cut : (budget : ℕ) (state : State) (before : List Turn) (moment most line late : ℕ) (meters : Option (List Identity)) (links : List LineLink) (found : LineLink) (after : Link) (talked : List Exchange → Type 0) (wrote : List ℕ → Type 0) (first new : Machine D) (result : Result (Unit {0}) Halt) → line_in links line ≡ found → HasBus found.link
-      → TurnsWent known sectors failures reads choices moment_of images_since budget state before (Comes meters (record { line = line; is_gateway = found.is_gateway }) most late found.link after talked wrote result) first new
-      → OnWrite result (LineCut known sectors failures reads choices moment_of images_since budget state before moment (search most line) links talked first new)
+      → TurnsWent g origin budget state before (Comes meters (record { line = line; is_gateway = found.is_gateway }) most late found.link after talked wrote result) first new
+      → OnWrite result (LineCut g origin budget state before moment (search most line) links talked first new)
   searched_cut budget state before moment most line late meters links found after talked wrote first new (Ok done) is has_found some = tt
   searched_cut budget state before moment most line late meters links found after talked wrote first new (Err Write) is has_found some_found =
       let has_bus = subst (λ (f : LineLink). HasBus f.link) (sym is) has_found in
-      let some = subst (λ (f : LineLink). TurnsWent known sectors failures reads choices moment_of images_since budget state before (Comes meters (record { line = line; is_gateway = f.is_gateway }) most late f.link after talked wrote (Err Write)) first new) (sym is) some_found in
+      let some = subst (λ (f : LineLink). TurnsWent g origin budget state before (Comes meters (record { line = line; is_gateway = f.is_gateway }) most late f.link after talked wrote (Err Write)) first new) (sym is) some_found in
       record { turns = some.turns; exchanges = some.are_such.0; does = inl (has_bus, some.are_such.1); went = some.went; over = some.are_such.2 }
   searched_cut budget state before moment most line late meters links found after talked wrote first new (Err NoMemory) is has_found some = tt
 
   pub searched_starved : (budget : ℕ) (state : State) (before : List Turn) (most line late : ℕ) (meters : Option (List Identity)) (links : List LineLink) (found : LineLink) (after : Link) (talked : List Exchange → Type 0) (wrote : List ℕ → Type 0) (first new : Machine D) (result : Result (Unit {0}) Halt) → line_in links line ≡ found → HasBus found.link
-      → TurnsWent known sectors failures reads choices moment_of images_since budget state before (Comes meters (record { line = line; is_gateway = found.is_gateway }) most late found.link after talked wrote result) first new
-      → OnNoMemory result (LineStarved known sectors failures reads choices moment_of images_since budget state before (search most line) links wrote talked first new)
+      → TurnsWent g origin budget state before (Comes meters (record { line = line; is_gateway = found.is_gateway }) most late found.link after talked wrote result) first new
+      → OnNoMemory result (LineStarved g origin budget state before (search most line) links wrote talked first new)
   searched_starved budget state before most line late meters links found after talked wrote first new (Ok done) is has_found some = tt
   searched_starved budget state before most line late meters links found after talked wrote first new (Err Write) is has_found some = tt
   searched_starved budget state before most line late meters links found after talked wrote first new (Err NoMemory) is has_found some_found =
       let has_bus = subst (λ (f : LineLink). HasBus f.link) (sym is) has_found in
-      let some = subst (λ (f : LineLink). TurnsWent known sectors failures reads choices moment_of images_since budget state before (Comes meters (record { line = line; is_gateway = f.is_gateway }) most late f.link after talked wrote (Err NoMemory)) first new) (sym is) some_found in record {
+      let some = subst (λ (f : LineLink). TurnsWent g origin budget state before (Comes meters (record { line = line; is_gateway = f.is_gateway }) most late f.link after talked wrote (Err NoMemory)) first new) (sym is) some_found in record {
         last = record { turns = some.turns; exchanges = some.are_such.1; text = some.are_such.0; left = with_link links line after };
         starves = record { budget = most; line = line; asked_is = refl; starves = record { has_bus = has_bus; after = after; does_so = some.are_such.2; left_is = refl } };
         went = some.went;

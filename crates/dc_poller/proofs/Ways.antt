@@ -3,10 +3,10 @@ use Rattle.std.proofs.Common.{◌≡◌, ◌+◌, ◌≤◌, length, ℕ, List, 
 use Rattle.std.specs.Prelude.{Bool, true, false, Result, Ok, Err, IfOk, OnErr, OnOk}
 use Rattle.dc_address.specs.declared.identity.Identity.{Identity}
 use Rattle.dc_io.specs.Failures.{HasRisen}
-use Rattle.dc_sectors.specs.Disk.{Image, Choices}
 use Rattle.dc_io.specs.Stream.{Puts}
-use Rattle.dc_io.specs.declared.stream.Sink.{Ghosts}
+use Rattle.dc_io.specs.declared.stream.Sink.{Ghosts as SinkGhosts}
 use Rattle.dc_io.proofs.Pieces.{puts-both, puts-none}
+use Rattle.dc_sectors.specs.declared.device.Disk.{Ghosts}
 use Rattle.dc_changes.specs.State.{State}
 use Rattle.dc_core.specs.Core.{opened}
 use Rattle.dc_core.specs.Event.{Event, Answer}
@@ -138,7 +138,7 @@ silence_over false = tt
 
 -- ---- where a write fails
 
-module _ {W : Type 0} (sink : Ghosts W) (port : Port) where
+module _ {W : Type 0} (sink : SinkGhosts W) (port : Port) where
   -- over the one thing that happened
   pub fails_in_one : (old new : W) (h : Happening) → HasRisen (sink.put_failures old) (sink.put_failures new) → FailsInLast sink port old new (h ∷ [])
   fails_in_one old new h failed = record { front = []; last = h; parts = refl; between = old; text = puts-none (sink.written old); well = refl; failed = failed }
@@ -209,28 +209,28 @@ pub if_round_after : {E : Type 0} (result : Result Bool E) (link : Link) (rounds
 if_round_after (Ok more) link rounds front happened last is round = let r = round.rounds_are in record { last_is = round.last_is; rounds_are = omega (arith, is, r, rounds_append front happened) }
 if_round_after (Err fault) link rounds front happened last is round = tt
 
-module _ {D : Type 0} (known : Type 0) (sectors failures : D → ℕ) (reads : D → Image) (choices : D → Choices) (moment_of : D → ℕ) (images_since : D → ℕ → Image → Type 0) where
+module _ {D : Type 0} (g : Ghosts D) (origin : D) where
   pub way_chain : (budget : ℕ) (state : State) (before : List Turn) (port : Port) (moment : ℕ) (meter : Identity) (phase : Phase) (ends : List Happening → Phase → Type 0) (wrote : List ℕ → Type 0) (first new : Machine D)
-      → (way : Way known sectors failures reads choices moment_of images_since budget state before port moment meter phase ends wrote first new) → IsChain budget (opened state) (before ++ happened_turns way.happened)
-  way_chain budget state before port moment meter phase ends wrote first new way = went_chain known sectors failures reads choices moment_of images_since budget state before (happened_turns way.happened) first new way.went
+      → (way : Way g origin budget state before port moment meter phase ends wrote first new) → IsChain budget (opened state) (before ++ happened_turns way.happened)
+  way_chain budget state before port moment meter phase ends wrote first new way = went_chain g origin budget state before (happened_turns way.happened) first new way.went
 
   pub way_at : (budget : ℕ) (state : State) (before : List Turn) (port : Port) (moment : ℕ) (meter : Identity) (phase : Phase) (ends : List Happening → Phase → Type 0) (wrote : List ℕ → Type 0) (first new : Machine D)
-      → (way : Way known sectors failures reads choices moment_of images_since budget state before port moment meter phase ends wrote first new) → IsAt known sectors reads choices new (leads (opened state) (before ++ happened_turns way.happened))
-  way_at budget state before port moment meter phase ends wrote first new way = went_at known sectors failures reads choices moment_of images_since budget state before (happened_turns way.happened) first new way.went
+      → (way : Way g origin budget state before port moment meter phase ends wrote first new) → IsAt g origin new (leads (opened state) (before ++ happened_turns way.happened))
+  way_at budget state before port moment meter phase ends wrote first new way = went_at g origin budget state before (happened_turns way.happened) first new way.went
 
   -- nothing happens
   pub way_none : (budget : ℕ) (state : State) (before : List Turn) (port : Port) (moment : ℕ) (meter : Identity) (phase : Phase) (ends : List Happening → Phase → Type 0) (wrote : List ℕ → Type 0) (machine : Machine D)
-      → Went known sectors failures reads choices moment_of images_since budget state before [] machine machine → ends [] phase → wrote []
-      → Way known sectors failures reads choices moment_of images_since budget state before port moment meter phase ends wrote machine machine
+      → Went g origin budget state before [] machine machine → ends [] phase → wrote []
+      → Way g origin budget state before port moment meter phase ends wrote machine machine
   way_none budget state before port moment meter phase ends wrote machine went ends_so text = record { happened = []; last = phase; way = refl; ends_so = ends_so; went = went; text = text }
 
   -- one turn
   pub way_turn : (budget : ℕ) (state : State) (before : List Turn) (port : Port) (moment : ℕ) (meter : Identity) (due : Due) (link : Link) (event : Event) (such : Answer → Type 0) (ends : List Happening → Phase → Type 0) (wrote : List ℕ → Type 0) (first new : Machine D)
       → IsDueEvent port moment meter due event
-      → (one : TurnWent known sectors failures reads choices moment_of images_since budget state before event such first new)
+      → (one : TurnWent g origin budget state before event such first new)
       → ((answer : Answer) → such answer → ends (does (event, answer) ∷ []) (record { due = behind_turn due event answer; link = link }))
       → ((answer : Answer) → such answer → wrote (told_text answer))
-      → Way known sectors failures reads choices moment_of images_since budget state before port moment meter (record { due = due; link = link }) ends wrote first new
+      → Way g origin budget state before port moment meter (record { due = due; link = link }) ends wrote first new
   way_turn budget state before port moment meter due link event such ends wrote first new is_due one ends_so text =
       record {
         happened = does (event, one.answer) ∷ [];
@@ -243,42 +243,42 @@ module _ {D : Type 0} (known : Type 0) (sectors failures : D → ℕ) (reads : D
 
   -- and then more
   pub way_both : (budget : ℕ) (state : State) (before : List Turn) (port : Port) (moment : ℕ) (meter : Identity) (phase : Phase) (mid : Phase) (ends then_ends all_ends : List Happening → Phase → Type 0) (wrote then_wrote all : List ℕ → Type 0) (first old new : Machine D)
-      → (one : Way known sectors failures reads choices moment_of images_since budget state before port moment meter phase ends wrote first old) → one.last ≡ mid
-      → Way known sectors failures reads choices moment_of images_since budget state (before ++ happened_turns one.happened) port moment meter mid then_ends then_wrote old new
+      → (one : Way g origin budget state before port moment meter phase ends wrote first old) → one.last ≡ mid
+      → Way g origin budget state (before ++ happened_turns one.happened) port moment meter mid then_ends then_wrote old new
       → ((more : List Happening) (last : Phase) → then_ends more last → all_ends (one.happened ++ more) last)
       → ((text more : List ℕ) → wrote text → then_wrote more → all (text ++ more))
-      → Way known sectors failures reads choices moment_of images_since budget state before port moment meter phase all_ends all first new
+      → Way g origin budget state before port moment meter phase all_ends all first new
   way_both budget state before port moment meter phase mid ends then_ends all_ends wrote then_wrote all first old new one is more ends_so joins =
       record {
         happened = one.happened ++ more.happened;
         last = more.last;
         way = way_append port moment meter phase one.last more.last one.happened more.happened one.way (subst (λ (p : Phase). IsWay port moment meter p more.happened more.last) (sym is) more.way);
         ends_so = ends_so more.happened more.last more.ends_so;
-        went = subst (λ (ts : List Turn). Went known sectors failures reads choices moment_of images_since budget state before ts first new) (sym (turns_append one.happened more.happened))
-            (went_both known sectors failures reads choices moment_of images_since budget state before (happened_turns one.happened) (happened_turns more.happened) first old new one.went more.went);
+        went = subst (λ (ts : List Turn). Went g origin budget state before ts first new) (sym (turns_append one.happened more.happened))
+            (went_both g origin budget state before (happened_turns one.happened) (happened_turns more.happened) first old new one.went more.went);
         text = subst all (sym (text_append port one.happened more.happened)) (joins (happened_text port one.happened) (happened_text port more.happened) one.text more.text);
       }
 
   -- the same, and less is said of it
   pub way_as : (budget : ℕ) (state : State) (before : List Turn) (port : Port) (moment : ℕ) (meter : Identity) (phase : Phase) (ends other_ends : List Happening → Phase → Type 0) (wrote other : List ℕ → Type 0) (first new : Machine D)
-      → Way known sectors failures reads choices moment_of images_since budget state before port moment meter phase ends wrote first new
+      → Way g origin budget state before port moment meter phase ends wrote first new
       → ((happened : List Happening) (last : Phase) → ends happened last → other_ends happened last)
       → ((text : List ℕ) → wrote text → other text)
-      → Way known sectors failures reads choices moment_of images_since budget state before port moment meter phase other_ends other first new
+      → Way g origin budget state before port moment meter phase other_ends other first new
   way_as budget state before port moment meter phase ends other_ends wrote other first new way ends_so goes =
       record { happened = way.happened; last = way.last; way = way.way; ends_so = ends_so way.happened way.last way.ends_so; went = way.went; text = goes (happened_text port way.happened) way.text }
 
   -- and then what a call does
   pub way_then : (budget : ℕ) (state : State) (before : List Turn) (port : Port) (moment : ℕ) (meter : Identity) (phase mid : Phase) (ends then_ends all_ends : List Happening → Phase → Type 0) (wrote then_wrote all : List ℕ → Type 0) (first old new : Machine D)
-      → (one : Way known sectors failures reads choices moment_of images_since budget state before port moment meter phase ends wrote first old) → one.last ≡ mid → old.house.budget ≡ budget
-      → ((behind : List Turn) → IsChain old.house.budget (opened state) behind → IsAt known sectors reads choices old (leads (opened state) behind) → Way known sectors failures reads choices moment_of images_since old.house.budget state behind port moment meter mid then_ends then_wrote old new)
+      → (one : Way g origin budget state before port moment meter phase ends wrote first old) → one.last ≡ mid → old.house.budget ≡ budget
+      → ((behind : List Turn) → IsChain old.house.budget (opened state) behind → IsAt g origin old (leads (opened state) behind) → Way g origin old.house.budget state behind port moment meter mid then_ends then_wrote old new)
       → ((more : List Happening) (last : Phase) → then_ends more last → all_ends (one.happened ++ more) last)
       → ((text more : List ℕ) → wrote text → then_wrote more → all (text ++ more))
-      → Way known sectors failures reads choices moment_of images_since budget state before port moment meter phase all_ends all first new
+      → Way g origin budget state before port moment meter phase all_ends all first new
   way_then budget state before port moment meter phase mid ends then_ends all_ends wrote then_wrote all first old new one is same next_way ends_so joins =
       let turns = happened_turns one.happened in
       way_both budget state before port moment meter phase mid ends then_ends all_ends wrote then_wrote all first old new one is
-      (subst (λ (b : ℕ). Way known sectors failures reads choices moment_of images_since b state (before ++ turns) port moment meter mid then_ends then_wrote old new) same
+      (subst (λ (b : ℕ). Way g origin b state (before ++ turns) port moment meter mid then_ends then_wrote old new) same
       (next_way (before ++ turns) (subst (λ (b : ℕ). IsChain b (opened state) (before ++ turns)) (sym same) (way_chain budget state before port moment meter phase ends wrote first old one))
       (way_at budget state before port moment meter phase ends wrote first old one)))
       ends_so joins
@@ -286,12 +286,12 @@ module _ {D : Type 0} (known : Type 0) (sectors failures : D → ℕ) (reads : D
   -- a turn, and then what a call does
   pub turn_then : (budget : ℕ) (state : State) (before : List Turn) (port : Port) (moment : ℕ) (meter : Identity) (due : Due) (link : Link) (event : Event) (such : Answer → Type 0) (told : Answer) (then_ends ends : List Happening → Phase → Type 0) (then_wrote wrote : List ℕ → Type 0) (first old new : Machine D)
       → IsDueEvent port moment meter due event
-      → TurnWent known sectors failures reads choices moment_of images_since budget state before event such first old → ((answer : Answer) → such answer → answer ≡ told) → old.house.budget ≡ budget
-      → ((behind : List Turn) → IsChain old.house.budget (opened state) behind → IsAt known sectors reads choices old (leads (opened state) behind)
-      → Way known sectors failures reads choices moment_of images_since old.house.budget state behind port moment meter (record { due = behind_turn due event told; link = link }) then_ends then_wrote old new)
+      → TurnWent g origin budget state before event such first old → ((answer : Answer) → such answer → answer ≡ told) → old.house.budget ≡ budget
+      → ((behind : List Turn) → IsChain old.house.budget (opened state) behind → IsAt g origin old (leads (opened state) behind)
+      → Way g origin old.house.budget state behind port moment meter (record { due = behind_turn due event told; link = link }) then_ends then_wrote old new)
       → ((more : List Happening) (last : Phase) → then_ends more last → ends (does (event, told) ∷ more) last)
       → ((more : List ℕ) → then_wrote more → wrote (told_text told ++ more))
-      → Way known sectors failures reads choices moment_of images_since budget state before port moment meter (record { due = due; link = link }) ends wrote first new
+      → Way g origin budget state before port moment meter (record { due = due; link = link }) ends wrote first new
   turn_then budget state before port moment meter due link event such told then_ends ends then_wrote wrote first old new is_due turn is same next_way ends_so joins =
       let mid : Phase = record { due = behind_turn due event told; link = link } in
       let one = way_turn budget state before port moment meter due link event such (λ happened last. (happened ≡ does (event, told) ∷ []) × (last ≡ mid)) (λ text. text ≡ told_text told) first old is_due turn
@@ -303,8 +303,8 @@ module _ {D : Type 0} (known : Type 0) (sectors failures : D → ℕ) (reads : D
 
   -- An exchange over the bus, which may be lost over it.
   pub way_exchange : (budget : ℕ) (state : State) (before : List Turn) (port : Port) (moment : ℕ) (meter : Identity) (was is : Bool) (request answer : List ℕ) (wrote : List ℕ → Type 0) (machine : Machine D)
-      → Went known sectors failures reads choices moment_of images_since budget state before [] machine machine → (was ≡ true → is ≡ true) → length answer ≤ most_answer → IsHeardOver (link_by is) answer → wrote (loss_text port (link_by was) (link_by is))
-      → Way known sectors failures reads choices moment_of images_since budget state before port moment meter (record { due = to_send request; link = link_by was })
+      → Went g origin budget state before [] machine machine → (was ≡ true → is ≡ true) → length answer ≤ most_answer → IsHeardOver (link_by is) answer → wrote (loss_text port (link_by was) (link_by is))
+      → Way g origin budget state before port moment meter (record { due = to_send request; link = link_by was })
       (λ happened last. (happened ≡ exchange_happening was is (record { request = request; answer = answer })) × (last ≡ record { due = to_hear answer; link = link_by is })) wrote machine machine
   way_exchange budget state before port moment meter false false request answer wrote machine went stays short over text =
       record { happened = talks (record { request = request; answer = answer }) ∷ []; last = record { due = to_hear answer; link = linked }; way = ((refl, short, tt), refl); ends_so = (refl, refl); went = went; text = text }
@@ -323,8 +323,8 @@ module _ {D : Type 0} (known : Type 0) (sectors failures : D → ℕ) (reads : D
 
   -- A bus settles, which may be lost over it; a gateway isn't.
   pub way_settled : (budget : ℕ) (state : State) (before : List Turn) (port : Port) (moment : ℕ) (meter : Identity) (was is : Bool) (wrote : List ℕ → Type 0) (machine : Machine D)
-      → Went known sectors failures reads choices moment_of images_since budget state before [] machine machine → (was ≡ true → is ≡ true) → (was ≡ false → is ≡ true → port.is_gateway ≡ false) → wrote (loss_text port (link_by was) (link_by is))
-      → Way known sectors failures reads choices moment_of images_since budget state before port moment meter (record { due = to_start; link = link_by was })
+      → Went g origin budget state before [] machine machine → (was ≡ true → is ≡ true) → (was ≡ false → is ≡ true → port.is_gateway ≡ false) → wrote (loss_text port (link_by was) (link_by is))
+      → Way g origin budget state before port moment meter (record { due = to_start; link = link_by was })
       (λ happened last. (happened ≡ settle_happening was is) × (last ≡ record { due = to_start; link = link_by is })) wrote machine machine
   way_settled budget state before port moment meter false false wrote machine went stays other text =
       record { happened = []; last = record { due = to_start; link = linked }; way = refl; ends_so = (refl, refl); went = went; text = text }
@@ -344,9 +344,9 @@ module _ {D : Type 0} (known : Type 0) (sectors failures : D → ℕ) (reads : D
   -- a turn, and no more
   pub turn_last : (budget : ℕ) (state : State) (before : List Turn) (port : Port) (moment : ℕ) (meter : Identity) (due : Due) (link : Link) (event : Event) (such : Answer → Type 0) (told : Answer) (ends : List Happening → Phase → Type 0) (wrote : List ℕ → Type 0) (first new : Machine D)
       → IsDueEvent port moment meter due event
-      → TurnWent known sectors failures reads choices moment_of images_since budget state before event such first new → ((answer : Answer) → such answer → answer ≡ told)
+      → TurnWent g origin budget state before event such first new → ((answer : Answer) → such answer → answer ≡ told)
       → ends (does (event, told) ∷ []) (record { due = behind_turn due event told; link = link }) → wrote (told_text told)
-      → Way known sectors failures reads choices moment_of images_since budget state before port moment meter (record { due = due; link = link }) ends wrote first new
+      → Way g origin budget state before port moment meter (record { due = due; link = link }) ends wrote first new
   turn_last budget state before port moment meter due link event such told ends wrote first new is_due turn is ends_so text =
       way_turn budget state before port moment meter due link event such ends wrote first new is_due turn
       (λ answer s. subst (λ (a : Answer). ends (does (event, a) ∷ []) (record { due = behind_turn due event a; link = link })) (sym (is answer s)) ends_so)

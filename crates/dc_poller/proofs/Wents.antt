@@ -2,11 +2,13 @@
 use Rattle.std.proofs.Common.{◌≡◌, ◌≤◌, ℕ, List, [], ◌∷◌, ◌++◌, length, get_or, refl, ap, sym, subst, ◌∙◌, arith, append_assoc, length-append}
 use Rattle.std.specs.Prelude.{map}
 use Rattle.std.proofs.lemmas.List.{take-append-le}
-use Rattle.dc_sectors.specs.Disk.{Image, Choices, IsImage, LeavesOnly}
+use Rattle.dc_sectors.specs.Disk.{Image, IsImage}
+use Rattle.dc_sectors.specs.declared.device.Disk.{Ghosts}
+use Rattle.dc_sectors.specs.Runs.{LeavesOnly}
 use Rattle.dc_sectors.proofs.Moments.{followed}
 use Rattle.dc_changes.specs.State.{State}
 use Rattle.dc_changes.specs.declared.change.Change.{Change}
-use Rattle.dc_recovery.specs.Halves.{half_len_of}
+use Rattle.dc_recovery.specs.Halves.{half_of, half_len_of}
 use Rattle.dc_core.specs.Core.{Core, opened}
 use Rattle.dc_core.specs.Event.{Event, Answer}
 use Rattle.dc_core.specs.Step.{next}
@@ -44,41 +46,41 @@ one_of [] event e = let counted = ap length e in absurd (omega (arith, counted))
 one_of (t ∷ []) event e = (t.1, ap (λ (x : Event). (x, t.1) ∷ []) (ap (λ (es : List Event). get_or es 0 event) e))
 one_of (t ∷ u ∷ more) event e = let counted = ap length e in absurd (omega (arith, counted))
 
-module _ {D : Type 0} (known : Type 0) (sectors failures : D → ℕ) (reads : D → Image) (choices : D → Choices) (moment : D → ℕ) (images_since : D → ℕ → Image → Type 0) where
+module _ {D : Type 0} (g : Ghosts D) (origin : D) where
   -- the concentrator is where they lead
-  pub went_chain : (budget : ℕ) (state : State) (before turns : List Turn) (first new : Machine D) → Went known sectors failures reads choices moment images_since budget state before turns first new → IsChain budget (opened state) (before ++ turns)
+  pub went_chain : (budget : ℕ) (state : State) (before turns : List Turn) (first new : Machine D) → Went g origin budget state before turns first new → IsChain budget (opened state) (before ++ turns)
   went_chain budget state before turns first new went = subst (λ (ts : List Turn). IsChain budget (opened state) (before ++ ts)) went.turns_are went.ran.chain
 
-  pub went_at : (budget : ℕ) (state : State) (before turns : List Turn) (first new : Machine D) → Went known sectors failures reads choices moment images_since budget state before turns first new → IsAt known sectors reads choices new (leads (opened state) (before ++ turns))
-  went_at budget state before turns first new went = subst (λ (ts : List Turn). IsAt known sectors reads choices new (leads (opened state) (before ++ ts))) went.turns_are went.ran.at
+  pub went_at : (budget : ℕ) (state : State) (before turns : List Turn) (first new : Machine D) → Went g origin budget state before turns first new → IsAt g origin new (leads (opened state) (before ++ turns))
+  went_at budget state before turns first new went = subst (λ (ts : List Turn). IsAt g origin new (leads (opened state) (before ++ ts))) went.turns_are went.ran.at
 
   -- no turn
   no_turns_are : (turns : List Turn) → map (λ (t : Turn). t.0) turns ≡ [] → turns ≡ []
   no_turns_are [] e = refl
   no_turns_are (t ∷ turns) e = let counted = ap length e in absurd (omega (arith, counted))
 
-  pub went_none : (budget : ℕ) (state : State) (before : List Turn) (machine : Machine D) → IsChain budget (opened state) before → IsAt known sectors reads choices machine (leads (opened state) before)
-      → (known → (image : Image) → images_since machine.store.disk (moment machine.store.disk) image → IsImage (choices machine.store.disk) image)
-      → Went known sectors failures reads choices moment images_since budget state before [] machine machine
+  pub went_none : (budget : ℕ) (state : State) (before : List Turn) (machine : Machine D) → IsChain budget (opened state) before → IsAt g origin machine (leads (opened state) before)
+      → (g.keeps origin → (image : Image) → g.images_since machine.store.disk (g.moment machine.store.disk) image → IsImage (g.choices machine.store.disk) image)
+      → Went g origin budget state before [] machine machine
   went_none budget state before machine chain at only =
-      let ran = ran_none known sectors failures reads choices moment images_since budget state before (λ text. Unit {0}) machine chain at only tt in
+      let ran = ran_none g origin budget state before (λ text. Unit {0}) machine chain at only tt in
       record { ran = ran; turns_are = no_turns_are ran.turns ran.events_are }
 
   -- one turn
   pub turn_went : (budget : ℕ) (state : State) (before : List Turn) (event : Event) (such : Answer → Type 0) (piece : List ℕ → Type 0) (old new : Machine D)
-      → IsChain budget (opened state) before → IsAt known sectors reads choices old (leads (opened state) before)
-      → (known → (image : Image) → images_since old.store.disk (moment old.store.disk) image → IsImage (choices old.store.disk) image)
-      → (turned : Turned known sectors failures reads choices moment images_since budget (leads (opened state) before) event piece old new) → sectors new.store.disk ≡ sectors old.store.disk
-      → such turned.answer → TurnWent known sectors failures reads choices moment images_since budget state before event such old new
+      → IsChain budget (opened state) before → IsAt g origin old (leads (opened state) before)
+      → (g.keeps origin → (image : Image) → g.images_since old.store.disk (g.moment old.store.disk) image → IsImage (g.choices old.store.disk) image)
+      → (turned : Turned g origin budget (leads (opened state) before) event piece old new) → g.sectors new.store.disk ≡ g.sectors old.store.disk
+      → such turned.answer → TurnWent g origin budget state before event such old new
   turn_went budget state before event such piece old new chain at only turned count is_such =
-      let ran = one_turn known sectors failures reads choices moment images_since budget state before event piece old new chain at only turned count in
+      let ran = one_turn g origin budget state before event piece old new chain at only turned count in
       record { answer = turned.answer; is_such = is_such; went = record { ran = ran.0; turns_are = ran.1 } }
 
   -- a run of one event is its turn
   pub event_went : (budget : ℕ) (state : State) (before : List Turn) (event : Event) (such : Answer → Type 0) (wrote : List ℕ → Type 0) (first new : Machine D)
-      → (ran : Ran known sectors failures reads choices moment images_since budget state before (event ∷ []) wrote first new)
+      → (ran : Ran g origin budget state before (event ∷ []) wrote first new)
       → ((answer : Answer) → wrote (answer_text answer ++ []) → such answer)
-      → TurnWent known sectors failures reads choices moment images_since budget state before event such first new
+      → TurnWent g origin budget state before event such first new
   event_went budget state before event such wrote first new ran goes =
       let one = one_of ran.turns event ran.events_are in
       record {
@@ -104,12 +106,12 @@ module _ {D : Type 0} (known : Type 0) (sectors failures : D → ℕ) (reads : D
       }
 
   both_ran : (budget : ℕ) (state : State) (before : List Turn) (events more : List Event) (first old new : Machine D)
-      → (a : Ran known sectors failures reads choices moment images_since budget state before events (λ text. Unit {0}) first old)
-      → (one : Ran known sectors failures reads choices moment images_since budget state (before ++ a.turns) more (λ text. Unit {0}) old new)
-      → Went known sectors failures reads choices moment images_since budget state before (a.turns ++ one.turns) first new
+      → (a : Ran g origin budget state before events (λ text. Unit {0}) first old)
+      → (one : Ran g origin budget state (before ++ a.turns) more (λ text. Unit {0}) old new)
+      → Went g origin budget state before (a.turns ++ one.turns) first new
   both_ran budget state before events more first old new a one =
       let e : (before ++ a.turns) ++ one.turns ≡ before ++ (a.turns ++ one.turns) = append_assoc before a.turns one.turns in
-      let H = half_len_of (sectors first.store.disk) in
+      let H = half_of g first.store.disk in
       let past = before ++ a.turns in
       let accepted = accepted_in (opened state) (past ++ one.turns) in
       let same_size = a.count in
@@ -119,18 +121,18 @@ module _ {D : Type 0} (known : Type 0) (sectors failures : D → ℕ) (reads : D
         ran = record {
           turns = a.turns ++ one.turns;
           events_are = refl;
-          steps = did_both known sectors failures reads choices moment images_since budget (leads (opened state) before) a.turns one.turns first old new a.steps
-              (subst (λ (c : Core). DidAll known sectors failures reads choices moment images_since budget c one.turns old new) (leads_append (opened state) before a.turns) one.steps);
+          steps = did_both g origin budget (leads (opened state) before) a.turns one.turns first old new a.steps
+              (subst (λ (c : Core). DidAll g origin budget c one.turns old new) (leads_append (opened state) before a.turns) one.steps);
           chain = subst (IsChain budget (opened state)) e one.chain;
           text = tt;
-          at = subst (λ (ts : List Turn). IsAt known sectors reads choices new (leads (opened state) ts)) e one.at;
+          at = subst (λ (ts : List Turn). IsAt g origin new (leads (opened state) ts)) e one.at;
           holds = subst (λ (ts : List Turn). HoldsFront state ts (leads (opened state) ts)) e one.holds;
           knows = subst (λ (ts : List Turn). KnowsItsMeters budget (leads (opened state) ts)) e one.knows;
           count = one.count ∙ a.count;
           kept = subst (λ (ts : List Turn). promised_in before ≤ promised_in ts) e (omega (arith, a_kept, kept));
-          leaves = λ h. subst (λ (ts : List Turn). LeavesOnly moment images_since first.store.disk new.store.disk (StandsForPromised H state (promised_in before) (accepted_in (opened state) ts))) e
-              (followed moment images_since first.store.disk old.store.disk new.store.disk
-              (StandsForPromised H state (promised_in before) (accepted_in (opened state) past)) (StandsForPromised (half_len_of (sectors old.store.disk)) state (promised_in past) accepted) (StandsForPromised H state (promised_in before) accepted)
+          leaves = λ h. subst (λ (ts : List Turn). LeavesOnly g first.store.disk new.store.disk (StandsForPromised H state (promised_in before) (accepted_in (opened state) ts))) e
+              (followed g first.store.disk old.store.disk new.store.disk
+              (StandsForPromised H state (promised_in before) (accepted_in (opened state) past)) (StandsForPromised (half_of g old.store.disk) state (promised_in past) accepted) (StandsForPromised H state (promised_in before) accepted)
               (a.leaves h) (one.leaves h)
               (λ image stands. subst (λ (x : List Change). StandsForPromised H state (promised_in before) x image) (sym (accepted_append (opened state) past one.turns))
               (grown H state (promised_in before) (accepted_in (opened state) past) (accepted_in (leads (opened state) past) one.turns) image stands))
@@ -144,10 +146,10 @@ module _ {D : Type 0} (known : Type 0) (sectors failures : D → ℕ) (reads : D
 
   -- some turns, and then others
   pub went_both : (budget : ℕ) (state : State) (before one more : List Turn) (first old new : Machine D)
-      → Went known sectors failures reads choices moment images_since budget state before one first old → Went known sectors failures reads choices moment images_since budget state (before ++ one) more old new
-      → Went known sectors failures reads choices moment images_since budget state before (one ++ more) first new
+      → Went g origin budget state before one first old → Went g origin budget state (before ++ one) more old new
+      → Went g origin budget state before (one ++ more) first new
   went_both budget state before one more first old new p q =
-      let behind = subst (λ (ts : List Turn). Went known sectors failures reads choices moment images_since budget state (before ++ ts) more old new) (sym p.turns_are) q in
+      let behind = subst (λ (ts : List Turn). Went g origin budget state (before ++ ts) more old new) (sym p.turns_are) q in
       let both = both_ran budget state before (map (λ (t : Turn). t.0) one) (map (λ (t : Turn). t.0) more) first old new p.ran behind.ran in
-      subst (λ (ts : List Turn). Went known sectors failures reads choices moment images_since budget state before ts first new)
+      subst (λ (ts : List Turn). Went g origin budget state before ts first new)
       (ap (λ (ts : List Turn). ts ++ behind.ran.turns) p.turns_are ∙ ap (λ (ts : List Turn). one ++ ts) behind.turns_are) both

@@ -1,14 +1,14 @@
 -- What `run` does to an image (this product): the concentrator is opened, runs the script, and is closed.
 use Rattle.std.specs.Prelude.{◌≡◌, ℕ, Bool, Option, IfSome, List, [], ◌++◌}
-use Rattle.dc_sectors.specs.declared.device.Disk.{Ghosts}
-use Rattle.dc_sectors.specs.Disk.{LeavesOnly}
 use Rattle.dc_changes.specs.State.{State}
-use Rattle.dc_recovery.specs.Halves.{budget_of, half_len_of}
+use Rattle.dc_recovery.specs.Halves.{budget_of, half_of}
 use Rattle.dc_recovery.specs.Stands.{Reads, StandsForOne}
 use Rattle.dc_core.specs.Headline.{IsOpened, WasLeft, WasStopped, IsKept}
 use Rattle.dc_core.specs.Images.{Machine}
 use Rattle.dc_core.specs.Transcript.{Turn}
 use Rattle.dc_io.specs.Lines.{lines_of}
+use Rattle.dc_sectors.specs.declared.device.Disk.{Ghosts}
+use Rattle.dc_sectors.specs.Runs.{LeavesOnly}
 use Rattle.dc_poller.specs.Link.{LineLink}
 use Rattle.dc_poller.specs.Script.{ScriptRan, ScriptCut}
 use Rattle.dc_poller.specs.Traffic.{Traffic}
@@ -19,14 +19,12 @@ use Rattle.dc_poller.specs.Traffic.{Traffic}
 -- that life.
 pub record IsOpenedOn {D : Type 0} (g : Ghosts D) (disk : D) (state : State)
     (first : Machine D) : Type 0 where
-  pub budget_is : first.house.budget ≡ budget_of (half_len_of (g.sectors disk))
+  pub budget_is : first.house.budget ≡ budget_of (half_of g disk)
   pub count : g.sectors first.store.disk ≡ g.sectors disk
   pub at : IsOpened g state first
-  pub reads_as : g.keeps first.store.disk
-      → Reads (half_len_of (g.sectors disk)) state (g.reads disk)
+  pub reads_as : g.keeps first.store.disk → Reads (half_of g disk) state (g.reads disk)
   pub leaves : g.keeps first.store.disk
-      → LeavesOnly g.moment g.images_since disk first.store.disk
-      (StandsForOne (half_len_of (g.sectors disk)) (g.choices disk))
+      → LeavesOnly g disk first.store.disk (StandsForOne (half_of g disk) (g.choices disk))
   pub kept : (was : State) (done more : List Turn) → WasStopped g was done more disk
       → g.keeps first.store.disk → IsKept was done more state
 
@@ -49,16 +47,15 @@ abbrev pub ImageRan : {D : Type 0} → Ghosts D → List LineLink → Option (Li
     → (List ℕ → Type 0) → (List Traffic → Type 0) → D → D → Type 0
 ImageRan g links left faulty wrote carries =
     ImageWent g left (λ lines state first last.
-    ScriptRan (g.keeps first.store.disk) g.sectors g.failures g.reads g.choices g.moment
-    g.images_since first.house.budget state [] links lines faulty wrote carries first last)
+    ScriptRan g first.store.disk first.house.budget state [] links lines faulty wrote carries first
+    last)
 
 -- A failed write ended it.
 abbrev pub ImageCut : {D : Type 0} → Ghosts D → List LineLink → Option (List ℕ)
     → (List Traffic → Type 0) → D → D → Type 0
 ImageCut g links left carries =
     ImageWent g left (λ lines state first last.
-    ScriptCut (g.keeps first.store.disk) g.sectors g.failures g.reads g.choices g.moment
-    g.images_since first.house.budget state [] links lines carries first last)
+    ScriptCut g first.store.disk first.house.budget state [] links lines carries first last)
 
 -- THE TURNS ARE ONE LIFE, which began with the state and ended at the last machine. Wherever the
 -- turns are split, a machine was between the two parts, and a disk with what a power cut left at

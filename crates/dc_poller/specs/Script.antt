@@ -7,8 +7,8 @@ use Rattle.dc_core.specs.Images.{Machine}
 use Rattle.dc_core.specs.Text.{answer_text}
 use Rattle.dc_core.specs.Transcript.{Turn}
 use Rattle.dc_gateway.specs.Bus.{Exchange}
-use Rattle.dc_sectors.specs.Disk.{Image, Choices}
 use Rattle.dc_io.specs.Words.{number_word}
+use Rattle.dc_sectors.specs.declared.device.Disk.{Ghosts}
 use Rattle.dc_poller.specs.Link.{LineLink, HasBus, Through, link_in, port_in}
 use Rattle.dc_poller.specs.Poll.{Polls, PollsPart}
 use Rattle.dc_poller.specs.Search.{SearchesOn, SearchesPart}
@@ -147,21 +147,18 @@ ending true count = codes "LINE" ++ number_word (count + 1) ++ codes " SYNTAX\n"
 
 -- These lines are done one after the other, their turns are run after those that were before, what was written is
 -- their text, and what went over the buses is their traffic.
-pub record LinesRan {D : Type 0} (known : Type 0) (sectors failures : D → ℕ) (reads : D → Image)
-    (choices : D → Choices) (moment : D → ℕ) (images_since : D → ℕ → Image → Type 0) (budget : ℕ)
+pub record LinesRan {D : Type 0} (g : Ghosts D) (origin : D) (budget : ℕ)
     (state : State) (before : List Turn) (links : List LineLink) (asked : List LineSeen)
     (wrote : List ℕ → Type 0) (carries : List Traffic → Type 0)
     (first new : Machine D) : Type 0 where
   pub deeds : List Deed
   pub done : AreDone 0 links asked deeds
-  pub went : Went known sectors failures reads choices moment images_since budget state before
-      (deeds_turns deeds) first new
+  pub went : Went g origin budget state before (deeds_turns deeds) first new
   pub text : wrote (deeds_text deeds)
   pub carried : carries (traffic_of asked deeds)
 
 -- A script of these lines: those up to its end are done.
-pub record ScriptRan {D : Type 0} (known : Type 0) (sectors failures : D → ℕ) (reads : D → Image)
-    (choices : D → Choices) (moment : D → ℕ) (images_since : D → ℕ → Image → Type 0) (budget : ℕ)
+pub record ScriptRan {D : Type 0} (g : Ghosts D) (origin : D) (budget : ℕ)
     (state : State) (before : List Turn) (links : List LineLink) (lines : List (List ℕ))
     (faulty : Bool) (wrote : List ℕ → Type 0) (carries : List Traffic → Type 0)
     (first new : Machine D) : Type 0 where
@@ -169,7 +166,7 @@ pub record ScriptRan {D : Type 0} (known : Type 0) (sectors failures : D → ℕ
   pub rest : List (List ℕ)
   pub are_read : AskFor lines asked rest
   pub ends : EndsAt rest faulty
-  pub done : LinesRan known sectors failures reads choices moment images_since budget state before
+  pub done : LinesRan g origin budget state before
       links asked (λ text. wrote (text ++ ending faulty (length asked))) carries first new
 
 -- ---- a write failed
@@ -206,8 +203,7 @@ FailsAt moment links (line ∷ rest) turns traffic =
     ⊎ (((asked : LineSeen) → ¬ (IsLineOf line asked)) × (turns ≡ []) × (traffic ≡ []))
 
 -- A script that a failed write ended: the lines before the one at which it failed are done, and of that one some turns.
-pub record ScriptCut {D : Type 0} (known : Type 0) (sectors failures : D → ℕ) (reads : D → Image)
-    (choices : D → Choices) (moment : D → ℕ) (images_since : D → ℕ → Image → Type 0) (budget : ℕ)
+pub record ScriptCut {D : Type 0} (g : Ghosts D) (origin : D) (budget : ℕ)
     (state : State) (before : List Turn) (links : List LineLink) (lines : List (List ℕ))
     (carries : List Traffic → Type 0) (first new : Machine D) : Type 0 where
   pub asked : List LineSeen
@@ -218,15 +214,13 @@ pub record ScriptCut {D : Type 0} (known : Type 0) (sectors failures : D → ℕ
   pub part : List Turn
   pub part_traffic : List Traffic
   pub fails : FailsAt (moment_after 0 asked) (links_after links deeds) rest part part_traffic
-  pub went : Went known sectors failures reads choices moment images_since budget state before
-      (deeds_turns deeds ++ part) first new
+  pub went : Went g origin budget state before (deeds_turns deeds ++ part) first new
   pub carried : carries (traffic_of asked deeds ++ part_traffic)
 
 -- ---- one line
 
 -- A line is done, this was written, and these exchanges went over a bus; the bus lines are left like that.
-pub record LineRan {D : Type 0} (known : Type 0) (sectors failures : D → ℕ) (reads : D → Image)
-    (choices : D → Choices) (moment_of : D → ℕ) (images_since : D → ℕ → Image → Type 0) (budget : ℕ)
+pub record LineRan {D : Type 0} (g : Ghosts D) (origin : D) (budget : ℕ)
     (state : State) (before : List Turn) (moment : ℕ) (asked : LineSeen)
     (links left : List LineLink) (wrote : List ℕ → Type 0) (talked : List Exchange → Type 0)
     (first new : Machine D) : Type 0 where
@@ -234,19 +228,16 @@ pub record LineRan {D : Type 0} (known : Type 0) (sectors failures : D → ℕ) 
   pub exchanges : List Exchange
   pub line : List ℕ
   pub does : Does moment asked links left turns exchanges line
-  pub went : Went known sectors failures reads choices moment_of images_since budget state before
-      turns first new
+  pub went : Went g origin budget state before turns first new
   pub text : wrote line
   pub over : talked exchanges
 
 -- A write failed on a line.
-pub record LineCut {D : Type 0} (known : Type 0) (sectors failures : D → ℕ) (reads : D → Image)
-    (choices : D → Choices) (moment_of : D → ℕ) (images_since : D → ℕ → Image → Type 0) (budget : ℕ)
+pub record LineCut {D : Type 0} (g : Ghosts D) (origin : D) (budget : ℕ)
     (state : State) (before : List Turn) (moment : ℕ) (asked : LineSeen) (links : List LineLink)
     (talked : List Exchange → Type 0) (first new : Machine D) : Type 0 where
   pub turns : List Turn
   pub exchanges : List Exchange
   pub does : DoesPart moment asked links turns exchanges
-  pub went : Went known sectors failures reads choices moment_of images_since budget state before
-      turns first new
+  pub went : Went g origin budget state before turns first new
   pub over : talked exchanges

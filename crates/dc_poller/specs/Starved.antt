@@ -1,10 +1,9 @@
 -- A script that ended because a search ran out of memory (this product).
 use Rattle.std.specs.Prelude.{◌≡◌, ℕ, List, [], ◌∷◌, ◌++◌, Option}
+use Rattle.dc_sectors.specs.declared.device.Disk.{Ghosts}
 use Rattle.dc_changes.specs.State.{State}
 use Rattle.dc_core.specs.Images.{Machine}
 use Rattle.dc_core.specs.Transcript.{Turn}
-use Rattle.dc_sectors.specs.declared.device.Disk.{Ghosts}
-use Rattle.dc_sectors.specs.Disk.{Image, Choices}
 use Rattle.dc_poller.specs.ImageRun.{ImageWent}
 use Rattle.dc_poller.specs.Link.{LineLink, Through}
 use Rattle.dc_poller.specs.Script.{AskFor, AreDone, Deed, deeds_text, deeds_turns, links_after}
@@ -31,9 +30,8 @@ StarvesAt links (line ∷ rest) starving deed =
 
 -- The lines before it are done, what was written is their text and what it told, and what went over the buses their
 -- traffic and its own.
-pub record ScriptStarved {D : Type 0} (known : Type 0) (sectors failures : D → ℕ)
-    (reads : D → Image) (choices : D → Choices) (moment : D → ℕ)
-    (images_since : D → ℕ → Image → Type 0) (budget : ℕ) (state : State) (before : List Turn)
+pub record ScriptStarved {D : Type 0} (g : Ghosts D) (origin : D) (budget : ℕ) (state : State)
+    (before : List Turn)
     (links : List LineLink) (lines : List (List ℕ)) (wrote : List ℕ → Type 0)
     (carries : List Traffic → Type 0) (first new : Machine D) : Type 0 where
   pub asked : List LineSeen
@@ -44,22 +42,19 @@ pub record ScriptStarved {D : Type 0} (known : Type 0) (sectors failures : D →
   pub starving : LineSeen
   pub last : Deed
   pub starves : StarvesAt (links_after links deeds) rest starving last
-  pub went : Went known sectors failures reads choices moment images_since budget state before
-      (deeds_turns deeds ++ last.turns) first new
+  pub went : Went g origin budget state before (deeds_turns deeds ++ last.turns) first new
   pub text : wrote (deeds_text deeds ++ last.text)
   pub carried : carries (traffic_of asked deeds
       ++ record { asked = starving; exchanges = last.exchanges } ∷ [])
 
 -- one line, with what it wrote
-pub record LineStarved {D : Type 0} (known : Type 0) (sectors failures : D → ℕ) (reads : D → Image)
-    (choices : D → Choices) (moment : D → ℕ) (images_since : D → ℕ → Image → Type 0) (budget : ℕ)
+pub record LineStarved {D : Type 0} (g : Ghosts D) (origin : D) (budget : ℕ)
     (state : State) (before : List Turn) (asked : LineSeen) (links : List LineLink)
     (wrote : List ℕ → Type 0) (talked : List Exchange → Type 0)
     (first new : Machine D) : Type 0 where
   pub last : Deed
   pub starves : SearchStarves asked links last
-  pub went : Went known sectors failures reads choices moment images_since budget state before
-      last.turns first new
+  pub went : Went g origin budget state before last.turns first new
   pub text : wrote last.text
   pub over : talked last.exchanges
 
@@ -68,5 +63,5 @@ abbrev pub ImageStarved : {D : Type 0} → Ghosts D → List LineLink → Option
     → (List ℕ → Type 0) → (List Traffic → Type 0) → D → D → Type 0
 ImageStarved g links left wrote carries =
     ImageWent g left (λ lines state first last.
-    ScriptStarved (g.keeps first.store.disk) g.sectors g.failures g.reads g.choices g.moment
-    g.images_since first.house.budget state [] links lines wrote carries first last)
+    ScriptStarved g first.store.disk first.house.budget state [] links lines wrote carries first
+    last)

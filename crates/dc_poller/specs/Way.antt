@@ -5,9 +5,9 @@ use Rattle.dc_changes.specs.State.{State}
 use Rattle.dc_core.specs.Images.{Machine}
 use Rattle.dc_core.specs.Transcript.{Turn}
 use Rattle.dc_io.specs.Failures.{HasRisen}
-use Rattle.dc_sectors.specs.Disk.{Image, Choices}
 use Rattle.dc_io.specs.Stream.{Puts}
-use Rattle.dc_io.specs.declared.stream.Sink.{Ghosts}
+use Rattle.dc_io.specs.declared.stream.Sink.{Ghosts as SinkGhosts}
+use Rattle.dc_sectors.specs.declared.device.Disk.{Ghosts}
 use Rattle.dc_poller.specs.Poll.{Phase, Due, Happening, IsWay, happened_turns, happened_text}
 use Rattle.dc_poller.specs.Poll.{rounds_in, to_ask, is_over}
 use Rattle.dc_poller.specs.Link.{Link}
@@ -15,8 +15,7 @@ use Rattle.dc_poller.specs.declared.port.Port.{Port}
 use Rattle.dc_poller.specs.Went.{Went}
 
 -- From this phase of a poll on that happened, and it ended so: its turns are run, and its text was written.
-pub record Way {D : Type 0} (known : Type 0) (sectors failures : D → ℕ) (reads : D → Image)
-    (choices : D → Choices) (moment_of : D → ℕ) (images_since : D → ℕ → Image → Type 0) (budget : ℕ)
+pub record Way {D : Type 0} (g : Ghosts D) (origin : D) (budget : ℕ)
     (state : State) (before : List Turn) (port : Port) (moment : ℕ) (meter : Identity)
     (phase : Phase) (ends : List Happening → Phase → Type 0) (wrote : List ℕ → Type 0)
     (first new : Machine D) : Type 0 where
@@ -24,8 +23,7 @@ pub record Way {D : Type 0} (known : Type 0) (sectors failures : D → ℕ) (rea
   pub last : Phase
   pub way : IsWay port moment meter phase happened last
   pub ends_so : ends happened last
-  pub went : Went known sectors failures reads choices moment_of images_since budget state before
-      (happened_turns happened) first new
+  pub went : Went g origin budget state before (happened_turns happened) first new
   pub text : wrote (happened_text port happened)
 
 -- whether a request is due next
@@ -40,7 +38,7 @@ pub record IsRound (more : Bool) (link : Link) (rounds : ℕ) (happened : List H
   pub rounds_are : rounds_in happened ≡ rounds
 
 -- A write failed over the last of these: until then the text of those before it was written, and no write failed.
-pub record FailsInLast {W : Type 0} (sink : Ghosts W) (port : Port) (old new : W)
+pub record FailsInLast {W : Type 0} (sink : SinkGhosts W) (port : Port) (old new : W)
     (happened : List Happening) : Type 0 where
   pub front : List Happening
   pub last : Happening

@@ -25,11 +25,8 @@ pub fn a_script_line_asks_for_one_thing()
 /// it, the disk was stopped in the sense of the headline (the clause `the_headline` of `Concentrator::open`).
 pub fn a_run_is_one_life<D: Disk + Drop>()
     ensures { (state : State) (turns : List Turn) (first last : Machine D)
-        → IsOpened D.Disk state first → D.keeps first.store.disk
-        → Went (D.keeps first.store.disk) D.sectors D.failures D.reads D.choices D.moment
-        D.images_since
-        first.house.budget state [] turns first last
-        → IsOneLife D.Disk state turns last }
+        → IsOpened D.Disk state first → D.keeps first.store.disk → Went D.Disk first.store.disk
+        first.house.budget state [] turns first last → IsOneLife D.Disk state turns last }
 {}
 
 /// A line is read one way by `fold`, so an input has one text.

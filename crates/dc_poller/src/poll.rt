@@ -41,9 +41,9 @@ pub fn poll<D: Disk + Drop, A: Allocator + Copy, B: ScriptBus, W: Sink>(
     moment: Moment,
     out: &mut W,
 ) -> Result<(), IoFault>
-    ensures went { BehindAnyRun D.keeps D.sectors D.reads D.choices concentrator.old
-        (λ origin state before.
-        Way (D.keeps origin) D.sectors D.failures D.reads D.choices D.moment D.images_since concentrator.old.house.budget state before port moment.seconds meter.now (record { due = to_start; link = link_by (B.lost bus.old) })
+    ensures went { BehindAnyRun D.Disk concentrator.old (λ origin state before.
+        Way D.Disk origin concentrator.old.house.budget state before port moment.seconds meter.now
+        (record { due = to_start; link = link_by (B.lost bus.old) })
         (λ happened last. OnOk result (IsEnd happened last.due
         × (last.link ≡ link_by (B.lost bus.new)))
         × OnErr result (FailsInLast W.Sink port out.old out.new happened)
@@ -94,9 +94,9 @@ fn start_and_read<D: Disk + Drop, A: Allocator + Copy, B: ScriptBus, W: Sink>(
     moment: Moment,
     out: &mut W,
 ) -> Result<(), IoFault>
-    ensures went { BehindAnyRun D.keeps D.sectors D.reads D.choices concentrator.old
-        (λ origin state before.
-        Way (D.keeps origin) D.sectors D.failures D.reads D.choices D.moment D.images_since concentrator.old.house.budget state before port moment.seconds meter.now (record { due = to_start; link = link_by (B.lost bus.old) })
+    ensures went { BehindAnyRun D.Disk concentrator.old (λ origin state before.
+        Way D.Disk origin concentrator.old.house.budget state before port moment.seconds meter.now
+        (record { due = to_start; link = link_by (B.lost bus.old) })
         (λ happened last. OnOk result (IsEnd happened last.due
         × (last.link ≡ link_by (B.lost bus.new)))
         × OnErr result (FailsInLast W.Sink port out.old out.new happened)
@@ -125,9 +125,9 @@ fn read_parts<D: Disk + Drop, A: Allocator + Copy, B: ScriptBus, W: Sink>(
     moment: Moment,
     out: &mut W,
 ) -> Result<(), IoFault>
-    ensures went { (meter : Meter) → BehindAnyRun D.keeps D.sectors D.reads D.choices
-        concentrator.old (λ origin state before.
-        Way (D.keeps origin) D.sectors D.failures D.reads D.choices D.moment D.images_since concentrator.old.house.budget state before port moment.seconds meter (record { due = to_ask; link = link_by (B.lost bus.old) })
+    ensures went { (meter : Meter) → BehindAnyRun D.Disk concentrator.old (λ origin state before.
+        Way D.Disk origin concentrator.old.house.budget state before port moment.seconds meter
+        (record { due = to_ask; link = link_by (B.lost bus.old) })
         (λ happened last. OnOk result (IsEnd happened last.due
         × (last.link ≡ link_by (B.lost bus.new)))
         × OnErr result (FailsInLast W.Sink port out.old out.new happened)
@@ -161,9 +161,9 @@ fn ask_and_hear<D: Disk + Drop, A: Allocator + Copy, B: ScriptBus, W: Sink>(
     moment: Moment,
     out: &mut W,
 ) -> Result<bool, IoFault>
-    ensures went { (meter : Meter) → BehindAnyRun D.keeps D.sectors D.reads D.choices
-        concentrator.old (λ origin state before.
-        Way (D.keeps origin) D.sectors D.failures D.reads D.choices D.moment D.images_since concentrator.old.house.budget state before port moment.seconds meter (record { due = to_ask; link = link_by (B.lost bus.old) })
+    ensures went { (meter : Meter) → BehindAnyRun D.Disk concentrator.old (λ origin state before.
+        Way D.Disk origin concentrator.old.house.budget state before port moment.seconds meter
+        (record { due = to_ask; link = link_by (B.lost bus.old) })
         (λ happened last. IfOk result (λ more.
         IsRound more (link_by (B.lost bus.new)) 1 happened last)
         × OnErr result (FailsInLast W.Sink port out.old out.new happened)
@@ -194,9 +194,9 @@ fn exchange<D: Disk + Drop, A: Allocator + Copy, B: ScriptBus, W: Sink>(
     out: &mut W,
 ) -> Result<bool, IoFault>
     requires { length request.now ≤ longest_request }
-    ensures went { (meter : Meter) → BehindAnyRun D.keeps D.sectors D.reads D.choices
-        concentrator.old (λ origin state before.
-        Way (D.keeps origin) D.sectors D.failures D.reads D.choices D.moment D.images_since concentrator.old.house.budget state before port moment.seconds meter (record { due = to_send request.now; link = link_by (B.lost bus.old) })
+    ensures went { (meter : Meter) → BehindAnyRun D.Disk concentrator.old (λ origin state before.
+        Way D.Disk origin concentrator.old.house.budget state before port moment.seconds meter
+        (record { due = to_send request.now; link = link_by (B.lost bus.old) })
         (λ happened last. IfOk result (λ more.
         IsRound more (link_by (B.lost bus.new)) 0 happened last)
         × OnErr result (FailsInLast W.Sink port out.old out.new happened)
@@ -254,8 +254,9 @@ fn hear<D: Disk + Drop, A: Allocator + Copy, W: Sink>(
     out: &mut W,
 ) -> Result<bool, IoFault>
     ensures went { (meter : Meter) (link : Link)
-        → BehindAnyRun D.keeps D.sectors D.reads D.choices concentrator.old (λ origin state before.
-        Way (D.keeps origin) D.sectors D.failures D.reads D.choices D.moment D.images_since concentrator.old.house.budget state before port moment.seconds meter (record { due = to_hear bytes.now; link = link })
+        → BehindAnyRun D.Disk concentrator.old (λ origin state before.
+        Way D.Disk origin concentrator.old.house.budget state before port moment.seconds meter
+        (record { due = to_hear bytes.now; link = link })
         (λ happened last. IfOk result (λ more. IsRound more link 0 happened last)
         × OnErr result (FailsInLast W.Sink port out.old out.new happened)
         × (happened_exchanges happened ≡ []))
@@ -286,8 +287,9 @@ fn hear_again<D: Disk + Drop, A: Allocator + Copy, W: Sink>(
     out: &mut W,
 ) -> Result<bool, IoFault>
     ensures went { (meter : Meter) (link : Link)
-        → BehindAnyRun D.keeps D.sectors D.reads D.choices concentrator.old (λ origin state before.
-        Way (D.keeps origin) D.sectors D.failures D.reads D.choices D.moment D.images_since concentrator.old.house.budget state before port moment.seconds meter (record { due = to_make_room bytes.now; link = link })
+        → BehindAnyRun D.Disk concentrator.old (λ origin state before.
+        Way D.Disk origin concentrator.old.house.budget state before port moment.seconds meter
+        (record { due = to_make_room bytes.now; link = link })
         (λ happened last. IfOk result (λ more. IsRound more link 0 happened last)
         × OnErr result (FailsInLast W.Sink port out.old out.new happened)
         × (happened_exchanges happened ≡ []))
@@ -315,8 +317,9 @@ fn hear_once_more<D: Disk + Drop, A: Allocator + Copy, W: Sink>(
     out: &mut W,
 ) -> Result<bool, IoFault>
     ensures went { (meter : Meter) (link : Link)
-        → BehindAnyRun D.keeps D.sectors D.reads D.choices concentrator.old (λ origin state before.
-        Way (D.keeps origin) D.sectors D.failures D.reads D.choices D.moment D.images_since concentrator.old.house.budget state before port moment.seconds meter (record { due = to_hear_again bytes.now; link = link })
+        → BehindAnyRun D.Disk concentrator.old (λ origin state before.
+        Way D.Disk origin concentrator.old.house.budget state before port moment.seconds meter
+        (record { due = to_hear_again bytes.now; link = link })
         (λ happened last. IfOk result (λ more. IsRound more link 0 happened last)
         × OnErr result (FailsInLast W.Sink port out.old out.new happened)
         × (happened_exchanges happened ≡ []))
@@ -339,8 +342,9 @@ fn after_heard<D: Disk + Drop, A: Allocator + Copy, W: Sink>(
     out: &mut W,
 ) -> Result<bool, IoFault>
     ensures went { (port : Port) (moment : ℕ) (meter : Meter) (link : Link)
-        → BehindAnyRun D.keeps D.sectors D.reads D.choices concentrator.old (λ origin state before.
-        Way (D.keeps origin) D.sectors D.failures D.reads D.choices D.moment D.images_since concentrator.old.house.budget state before port moment meter (record { due = behind_heard answer; link = link })
+        → BehindAnyRun D.Disk concentrator.old (λ origin state before.
+        Way D.Disk origin concentrator.old.house.budget state before port moment meter
+        (record { due = behind_heard answer; link = link })
         (λ happened last. IfOk result (λ more. IsRound more link 0 happened last)
         × OnErr result (FailsInLast W.Sink port out.old out.new happened)
         × (happened_exchanges happened ≡ []))
@@ -366,8 +370,9 @@ fn commit_part<D: Disk + Drop, A: Allocator + Copy, W: Sink>(
     out: &mut W,
 ) -> Result<bool, IoFault>
     ensures went { (port : Port) (moment : ℕ) (meter : Meter) (link : Link)
-        → BehindAnyRun D.keeps D.sectors D.reads D.choices concentrator.old (λ origin state before.
-        Way (D.keeps origin) D.sectors D.failures D.reads D.choices D.moment D.images_since concentrator.old.house.budget state before port moment meter (record { due = to_commit; link = link })
+        → BehindAnyRun D.Disk concentrator.old (λ origin state before.
+        Way D.Disk origin concentrator.old.house.budget state before port moment meter
+        (record { due = to_commit; link = link })
         (λ happened last. IfOk result (λ more. IsRound more link 0 happened last)
         × OnErr result (FailsInLast W.Sink port out.old out.new happened)
         × (happened_exchanges happened ≡ []))

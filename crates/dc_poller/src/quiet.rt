@@ -13,9 +13,9 @@ use std::alloc::Allocator;
 pub fn quiet_commit<D: Disk + Drop, A: Allocator + Copy>(
     concentrator: &mut Concentrator<D, A>,
 ) -> Result<usize, CommitFault>
-    ensures went { BehindAnyRun D.keeps D.sectors D.reads D.choices concentrator.old
-        (λ origin state before.
-        TurnWent (D.keeps origin) D.sectors D.failures D.reads D.choices D.moment D.images_since concentrator.old.house.budget state before commits (λ answer. answer ≡ committed result) concentrator.old concentrator.new) }
+    ensures went { BehindAnyRun D.Disk concentrator.old (λ origin state before.
+        TurnWent D.Disk origin concentrator.old.house.budget state before commits
+        (λ answer. answer ≡ committed result) concentrator.old concentrator.new) }
     ensures budget { concentrator.new.house.budget ≡ concentrator.old.house.budget }
 {
     concentrator.commit()
@@ -26,9 +26,9 @@ pub fn quiet_ask<D: Disk + Drop, A: Allocator + Copy>(
     concentrator: &Concentrator<D, A>,
     line: u8,
 ) -> Option<FrameBuf>
-    ensures went { BehindAnyRun D.keeps D.sectors D.reads D.choices concentrator.now
-        (λ origin state before.
-        TurnWent (D.keeps origin) D.sectors D.failures D.reads D.choices D.moment D.images_since concentrator.now.house.budget state before (asks line) (λ answer. answer ≡ asked result) concentrator.now concentrator.now) }
+    ensures went { BehindAnyRun D.Disk concentrator.now (λ origin state before.
+        TurnWent D.Disk origin concentrator.now.house.budget state before (asks line)
+        (λ answer. answer ≡ asked result) concentrator.now concentrator.now) }
 {
     concentrator.ask(line)
 }

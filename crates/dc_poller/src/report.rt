@@ -3,12 +3,12 @@
 ghost use Rattle.std.specs.Prelude.{◌≡◌, ◌≢◌, ◌≤◌, ◌<◌, ◌⊎◌, IsTrue, Some, Err, codes, IfSome};
 ghost use Rattle.std.specs.Prelude.{IfOk, IfErr, OnOk, OnErr, IsErrOf};
 ghost use Rattle.dc_io.specs.Failures.{HasRisen};
-ghost use Rattle.dc_recovery.specs.Halves.{fewest_sectors, half_len_of};
+ghost use Rattle.dc_recovery.specs.Halves.{fewest_sectors, half_of};
 ghost use Rattle.dc_recovery.specs.Refusal.{IsRefused, TellsOfImage};
 ghost use Rattle.dc_recovery.specs.Stands.{EachStands, StandsForOne};
 ghost use Rattle.dc_recovery.specs.declared.fault.OpenFault.TheVariants.{NotImage, Worn, Device};
-ghost use Rattle.dc_sectors.specs.Disk.{LeavesOnly};
 ghost use Rattle.dc_io.specs.Written.{PutsInto};
+ghost use Rattle.dc_sectors.specs.Runs.{LeavesOnly};
 ghost use Rattle.dc_units.specs.Date.{Day, exists};
 ghost use Rattle.dc_units.specs.Text.{day_text};
 ghost use Rattle.dc_poller.specs.Fault.{IfOpen, IsOfImage};
@@ -63,7 +63,7 @@ pub fn report_on<D: Disk + Drop, A: Allocator + Copy, W: Sink>(
 ) -> (D, Result<(), ProgramFault>)
     // The table is that of the state which the image reads as.
     ensures told { D.keeps result.0 → OnOk result.1
-        (IsTold (half_len_of (D.sectors disk)) report (D.reads disk)
+        (IsTold (half_of D.Disk disk) report (D.reads disk)
         (PutsInto W.Sink writer.old writer.new)) }
     ensures well { OnOk result.1 (W.put_failures writer.new ≡ W.put_failures writer.old) }
 
@@ -72,18 +72,16 @@ pub fn report_on<D: Disk + Drop, A: Allocator + Copy, W: Sink>(
     ensures small { D.sectors disk < fewest_sectors → result.1 ≡ Err (ProgramFault.Open NotImage) }
     ensures refused { D.keeps result.0 → fewest_sectors ≤ D.sectors disk
         → IfErr result.1 (λ fault. IfOpen fault (λ e.
-        IsRefused (half_len_of (D.sectors disk)) (D.reads disk) e)) }
+        IsRefused (half_of D.Disk disk) (D.reads disk) e)) }
     ensures premise { D.keeps result.0 → fewest_sectors ≤ D.sectors disk
-        → EachStands (half_len_of (D.sectors disk)) (D.choices disk)
+        → EachStands (half_of D.Disk disk) (D.choices disk)
         → IfErr result.1 (λ fault. IfOpen fault (λ e. TellsOfImage e → e ≡ Worn)) }
     ensures device { IfErr result.1 (λ fault.
         IfOpen fault (λ e. e ≡ Device → HasRisen (D.failures disk) (D.failures result.0))) }
 
     // Whatever happens, a stop leaves an image that stands for a state that one of the disk's images stood for.
-    ensures any_moment { D.keeps result.0
-        → EachStands (half_len_of (D.sectors disk)) (D.choices disk)
-        → LeavesOnly D.moment D.images_since disk result.0
-        (StandsForOne (half_len_of (D.sectors disk)) (D.choices disk)) }
+    ensures any_moment { D.keeps result.0 → EachStands (half_of D.Disk disk) (D.choices disk)
+        → LeavesOnly D.Disk disk result.0 (StandsForOne (half_of D.Disk disk) (D.choices disk)) }
 
     // Nothing is read but the image, and only a failed write touches the writer.
     ensures faults { IfErr result.1 IsOfImage }

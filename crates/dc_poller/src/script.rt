@@ -43,15 +43,21 @@ pub fn run_lines<D: Disk + Drop, A: Allocator + Copy, B: ScriptBus + Drop, W: Si
     out: &mut W,
 ) -> Result<bool, Halt>
     requires { longest_input_line ≤ 2 * length bytes.old }
-    ensures ran { BehindAnyRun D.keeps D.sectors D.reads D.choices concentrator.old
-        (λ origin state before.
-        IfOk result (λ faulty. ScriptRan (D.keeps origin) D.sectors D.failures D.reads D.choices D.moment D.images_since concentrator.old.house.budget state before (links_of B.lost slots.old) (lines_of input.now) faulty (PutsInto W.Sink out.old out.new) (AreCarried B.lost B.asks B.settles B.ready slots.old slots.new) concentrator.old concentrator.new)) }
-    ensures cut { BehindAnyRun D.keeps D.sectors D.reads D.choices concentrator.old
-        (λ origin state before.
-        OnWrite result (ScriptCut (D.keeps origin) D.sectors D.failures D.reads D.choices D.moment D.images_since concentrator.old.house.budget state before (links_of B.lost slots.old) (lines_of input.now) (AreCarried B.lost B.asks B.settles B.ready slots.old slots.new) concentrator.old concentrator.new)) }
-    ensures starved { BehindAnyRun D.keeps D.sectors D.reads D.choices concentrator.old
-        (λ origin state before.
-        OnNoMemory result (ScriptStarved (D.keeps origin) D.sectors D.failures D.reads D.choices D.moment D.images_since concentrator.old.house.budget state before (links_of B.lost slots.old) (lines_of input.now) (PutsInto W.Sink out.old out.new) (AreCarried B.lost B.asks B.settles B.ready slots.old slots.new) concentrator.old concentrator.new)) }
+    ensures ran { BehindAnyRun D.Disk concentrator.old (λ origin state before.
+        IfOk result (λ faulty. ScriptRan D.Disk origin concentrator.old.house.budget state before
+        (links_of B.lost slots.old) (lines_of input.now) faulty (PutsInto W.Sink out.old out.new)
+        (AreCarried B.lost B.asks B.settles B.ready slots.old slots.new) concentrator.old
+        concentrator.new)) }
+    ensures cut { BehindAnyRun D.Disk concentrator.old (λ origin state before.
+        OnWrite result (ScriptCut D.Disk origin concentrator.old.house.budget state before
+        (links_of B.lost slots.old) (lines_of input.now)
+        (AreCarried B.lost B.asks B.settles B.ready slots.old slots.new) concentrator.old
+        concentrator.new)) }
+    ensures starved { BehindAnyRun D.Disk concentrator.old (λ origin state before.
+        OnNoMemory result (ScriptStarved D.Disk origin concentrator.old.house.budget state before
+        (links_of B.lost slots.old) (lines_of input.now) (PutsInto W.Sink out.old out.new)
+        (AreCarried B.lost B.asks B.settles B.ready slots.old slots.new) concentrator.old
+        concentrator.new)) }
     // Memory is refused to a search alone, which needs a line that has a bus.
     ensures through { OnNoMemory result (¬ (AreAbsent (links_of B.lost slots.old))) }
     ensures counted { IsCounted result (W.put_failures out.old) (W.put_failures out.new) }
@@ -86,15 +92,22 @@ fn run_line<D: Disk + Drop, A: Allocator + Copy, B: ScriptBus + Drop, W: Sink>(
     moment: Moment,
     out: &mut W,
 ) -> Result<(), Halt>
-    ensures ran { BehindAnyRun D.keeps D.sectors D.reads D.choices concentrator.old
-        (λ origin state before.
-        OnOk result (LineRan (D.keeps origin) D.sectors D.failures D.reads D.choices D.moment D.images_since concentrator.old.house.budget state before moment.seconds (seen asked.now) (links_of B.lost slots.old) (links_of B.lost slots.new) (PutsInto W.Sink out.old out.new) (IsCarried B.lost B.asks B.settles B.ready (seen asked.now) slots.old slots.new) concentrator.old concentrator.new)) }
-    ensures cut { BehindAnyRun D.keeps D.sectors D.reads D.choices concentrator.old
-        (λ origin state before.
-        OnWrite result (LineCut (D.keeps origin) D.sectors D.failures D.reads D.choices D.moment D.images_since concentrator.old.house.budget state before moment.seconds (seen asked.now) (links_of B.lost slots.old) (IsCarried B.lost B.asks B.settles B.ready (seen asked.now) slots.old slots.new) concentrator.old concentrator.new)) }
-    ensures starved { BehindAnyRun D.keeps D.sectors D.reads D.choices concentrator.old
-        (λ origin state before.
-        OnNoMemory result (LineStarved (D.keeps origin) D.sectors D.failures D.reads D.choices D.moment D.images_since concentrator.old.house.budget state before (seen asked.now) (links_of B.lost slots.old) (PutsInto W.Sink out.old out.new) (IsCarried B.lost B.asks B.settles B.ready (seen asked.now) slots.old slots.new) concentrator.old concentrator.new)) }
+    ensures ran { BehindAnyRun D.Disk concentrator.old (λ origin state before.
+        OnOk result (LineRan D.Disk origin concentrator.old.house.budget state before moment.seconds
+        (seen asked.now) (links_of B.lost slots.old) (links_of B.lost slots.new)
+        (PutsInto W.Sink out.old out.new)
+        (IsCarried B.lost B.asks B.settles B.ready (seen asked.now) slots.old slots.new)
+        concentrator.old concentrator.new)) }
+    ensures cut { BehindAnyRun D.Disk concentrator.old (λ origin state before.
+        OnWrite result (LineCut D.Disk origin concentrator.old.house.budget state before
+        moment.seconds (seen asked.now) (links_of B.lost slots.old)
+        (IsCarried B.lost B.asks B.settles B.ready (seen asked.now) slots.old slots.new)
+        concentrator.old concentrator.new)) }
+    ensures starved { BehindAnyRun D.Disk concentrator.old (λ origin state before.
+        OnNoMemory result (LineStarved D.Disk origin concentrator.old.house.budget state before
+        (seen asked.now) (links_of B.lost slots.old) (PutsInto W.Sink out.old out.new)
+        (IsCarried B.lost B.asks B.settles B.ready (seen asked.now) slots.old slots.new)
+        concentrator.old concentrator.new)) }
     ensures through { OnNoMemory result (¬ (AreAbsent (links_of B.lost slots.old))) }
     ensures absent { AreAbsent (links_of B.lost slots.old) → AreAbsent (links_of B.lost slots.new) }
     ensures counted { IsCounted result (W.put_failures out.old) (W.put_failures out.new) }
@@ -117,12 +130,17 @@ fn run_plain<D: Disk + Drop, A: Allocator + Copy, B: ScriptBus + Drop, W: Sink>(
     out: &mut W,
 ) -> Result<(), IoFault>
     requires { IsPlain (seen asked.now) }
-    ensures ran { BehindAnyRun D.keeps D.sectors D.reads D.choices concentrator.old
-        (λ origin state before.
-        OnOk result (LineRan (D.keeps origin) D.sectors D.failures D.reads D.choices D.moment D.images_since concentrator.old.house.budget state before moment.seconds (seen asked.now) (links_of B.lost slots.old) (links_of B.lost slots.new) (PutsInto W.Sink out.old out.new) (IsCarried B.lost B.asks B.settles B.ready (seen asked.now) slots.old slots.new) concentrator.old concentrator.new)) }
-    ensures cut { BehindAnyRun D.keeps D.sectors D.reads D.choices concentrator.old
-        (λ origin state before.
-        OnErr result (LineCut (D.keeps origin) D.sectors D.failures D.reads D.choices D.moment D.images_since concentrator.old.house.budget state before moment.seconds (seen asked.now) (links_of B.lost slots.old) (IsCarried B.lost B.asks B.settles B.ready (seen asked.now) slots.old slots.new) concentrator.old concentrator.new)) }
+    ensures ran { BehindAnyRun D.Disk concentrator.old (λ origin state before.
+        OnOk result (LineRan D.Disk origin concentrator.old.house.budget state before moment.seconds
+        (seen asked.now) (links_of B.lost slots.old) (links_of B.lost slots.new)
+        (PutsInto W.Sink out.old out.new)
+        (IsCarried B.lost B.asks B.settles B.ready (seen asked.now) slots.old slots.new)
+        concentrator.old concentrator.new)) }
+    ensures cut { BehindAnyRun D.Disk concentrator.old (λ origin state before.
+        OnErr result (LineCut D.Disk origin concentrator.old.house.budget state before
+        moment.seconds (seen asked.now) (links_of B.lost slots.old)
+        (IsCarried B.lost B.asks B.settles B.ready (seen asked.now) slots.old slots.new)
+        concentrator.old concentrator.new)) }
     ensures fault { OnErr result (HasRisen (W.put_failures out.old) (W.put_failures out.new)) }
     ensures well { OnOk result (W.put_failures out.new ≡ W.put_failures out.old) }
     ensures absent { AreAbsent (links_of B.lost slots.old) → AreAbsent (links_of B.lost slots.new) }
@@ -161,12 +179,17 @@ fn poll_line<D: Disk + Drop, A: Allocator + Copy, B: ScriptBus + Drop, W: Sink>(
     moment: Moment,
     out: &mut W,
 ) -> Result<(), IoFault>
-    ensures ran { BehindAnyRun D.keeps D.sectors D.reads D.choices concentrator.old
-        (λ origin state before.
-        OnOk result (LineRan (D.keeps origin) D.sectors D.failures D.reads D.choices D.moment D.images_since concentrator.old.house.budget state before moment.seconds (polls line meter.now) (links_of B.lost slots.old) (links_of B.lost slots.new) (PutsInto W.Sink out.old out.new) (IsCarried B.lost B.asks B.settles B.ready (polls line meter.now) slots.old slots.new) concentrator.old concentrator.new)) }
-    ensures cut { BehindAnyRun D.keeps D.sectors D.reads D.choices concentrator.old
-        (λ origin state before.
-        OnErr result (LineCut (D.keeps origin) D.sectors D.failures D.reads D.choices D.moment D.images_since concentrator.old.house.budget state before moment.seconds (polls line meter.now) (links_of B.lost slots.old) (IsCarried B.lost B.asks B.settles B.ready (polls line meter.now) slots.old slots.new) concentrator.old concentrator.new)) }
+    ensures ran { BehindAnyRun D.Disk concentrator.old (λ origin state before.
+        OnOk result (LineRan D.Disk origin concentrator.old.house.budget state before moment.seconds
+        (polls line meter.now) (links_of B.lost slots.old) (links_of B.lost slots.new)
+        (PutsInto W.Sink out.old out.new)
+        (IsCarried B.lost B.asks B.settles B.ready (polls line meter.now) slots.old slots.new)
+        concentrator.old concentrator.new)) }
+    ensures cut { BehindAnyRun D.Disk concentrator.old (λ origin state before.
+        OnErr result (LineCut D.Disk origin concentrator.old.house.budget state before
+        moment.seconds (polls line meter.now) (links_of B.lost slots.old)
+        (IsCarried B.lost B.asks B.settles B.ready (polls line meter.now) slots.old slots.new)
+        concentrator.old concentrator.new)) }
     ensures fault { OnErr result (HasRisen (W.put_failures out.old) (W.put_failures out.new)) }
     ensures well { OnOk result (W.put_failures out.new ≡ W.put_failures out.old) }
     ensures absent { AreAbsent (links_of B.lost slots.old) → AreAbsent (links_of B.lost slots.new) }
@@ -188,11 +211,18 @@ fn poll_slot<D: Disk + Drop, A: Allocator + Copy, B: ScriptBus + Drop, W: Sink>(
     out: &mut W,
 ) -> Result<(), IoFault>
     ensures ran { (links : List LineLink) → line_in links line ≡ line_of B.lost slot.old
-        → BehindAnyRun D.keeps D.sectors D.reads D.choices concentrator.old (λ origin state before.
-        OnOk result (LineRan (D.keeps origin) D.sectors D.failures D.reads D.choices D.moment D.images_since concentrator.old.house.budget state before moment.seconds (polls line meter.now) links (with_link links line (line_of B.lost slot.new).link) (PutsInto W.Sink out.old out.new) (λ exchanges. PollsOver B.lost B.asks B.settles B.ready line exchanges slot.old slot.new) concentrator.old concentrator.new)) }
+        → BehindAnyRun D.Disk concentrator.old (λ origin state before.
+        OnOk result (LineRan D.Disk origin concentrator.old.house.budget state before moment.seconds
+        (polls line meter.now) links (with_link links line (line_of B.lost slot.new).link)
+        (PutsInto W.Sink out.old out.new)
+        (λ exchanges. PollsOver B.lost B.asks B.settles B.ready line exchanges slot.old slot.new)
+        concentrator.old concentrator.new)) }
     ensures cut { (links : List LineLink) → line_in links line ≡ line_of B.lost slot.old
-        → BehindAnyRun D.keeps D.sectors D.reads D.choices concentrator.old (λ origin state before.
-        OnErr result (LineCut (D.keeps origin) D.sectors D.failures D.reads D.choices D.moment D.images_since concentrator.old.house.budget state before moment.seconds (polls line meter.now) links (λ exchanges. PollsOver B.lost B.asks B.settles B.ready line exchanges slot.old slot.new) concentrator.old concentrator.new)) }
+        → BehindAnyRun D.Disk concentrator.old (λ origin state before.
+        OnErr result (LineCut D.Disk origin concentrator.old.house.budget state before
+        moment.seconds (polls line meter.now) links
+        (λ exchanges. PollsOver B.lost B.asks B.settles B.ready line exchanges slot.old slot.new)
+        concentrator.old concentrator.new)) }
     ensures fault { OnErr result (HasRisen (W.put_failures out.old) (W.put_failures out.new)) }
     ensures well { OnOk result (W.put_failures out.new ≡ W.put_failures out.old) }
     ensures kept { IsKept B.lost slot.old slot.new }
@@ -219,15 +249,22 @@ fn search_line<D: Disk + Drop, A: Allocator + Copy, B: ScriptBus + Drop, W: Sink
     line: u8,
     out: &mut W,
 ) -> Result<(), Halt>
-    ensures ran { (moment : ℕ) → BehindAnyRun D.keeps D.sectors D.reads D.choices concentrator.old
-        (λ origin state before.
-        OnOk result (LineRan (D.keeps origin) D.sectors D.failures D.reads D.choices D.moment D.images_since concentrator.old.house.budget state before moment (searches budget line) (links_of B.lost slots.old) (links_of B.lost slots.new) (PutsInto W.Sink out.old out.new) (IsCarried B.lost B.asks B.settles B.ready (searches budget line) slots.old slots.new) concentrator.old concentrator.new)) }
-    ensures cut { (moment : ℕ) → BehindAnyRun D.keeps D.sectors D.reads D.choices concentrator.old
-        (λ origin state before.
-        OnWrite result (LineCut (D.keeps origin) D.sectors D.failures D.reads D.choices D.moment D.images_since concentrator.old.house.budget state before moment (searches budget line) (links_of B.lost slots.old) (IsCarried B.lost B.asks B.settles B.ready (searches budget line) slots.old slots.new) concentrator.old concentrator.new)) }
-    ensures starved { BehindAnyRun D.keeps D.sectors D.reads D.choices concentrator.old
-        (λ origin state before.
-        OnNoMemory result (LineStarved (D.keeps origin) D.sectors D.failures D.reads D.choices D.moment D.images_since concentrator.old.house.budget state before (searches budget line) (links_of B.lost slots.old) (PutsInto W.Sink out.old out.new) (IsCarried B.lost B.asks B.settles B.ready (searches budget line) slots.old slots.new) concentrator.old concentrator.new)) }
+    ensures ran { (moment : ℕ) → BehindAnyRun D.Disk concentrator.old (λ origin state before.
+        OnOk result (LineRan D.Disk origin concentrator.old.house.budget state before moment
+        (searches budget line) (links_of B.lost slots.old) (links_of B.lost slots.new)
+        (PutsInto W.Sink out.old out.new)
+        (IsCarried B.lost B.asks B.settles B.ready (searches budget line) slots.old slots.new)
+        concentrator.old concentrator.new)) }
+    ensures cut { (moment : ℕ) → BehindAnyRun D.Disk concentrator.old (λ origin state before.
+        OnWrite result (LineCut D.Disk origin concentrator.old.house.budget state before moment
+        (searches budget line) (links_of B.lost slots.old)
+        (IsCarried B.lost B.asks B.settles B.ready (searches budget line) slots.old slots.new)
+        concentrator.old concentrator.new)) }
+    ensures starved { BehindAnyRun D.Disk concentrator.old (λ origin state before.
+        OnNoMemory result (LineStarved D.Disk origin concentrator.old.house.budget state before
+        (searches budget line) (links_of B.lost slots.old) (PutsInto W.Sink out.old out.new)
+        (IsCarried B.lost B.asks B.settles B.ready (searches budget line) slots.old slots.new)
+        concentrator.old concentrator.new)) }
     ensures through { OnNoMemory result (¬ (AreAbsent (links_of B.lost slots.old))) }
     ensures absent { AreAbsent (links_of B.lost slots.old) → AreAbsent (links_of B.lost slots.new) }
     ensures counted { IsCounted result (W.put_failures out.old) (W.put_failures out.new) }
@@ -250,15 +287,25 @@ fn search_slot<D: Disk + Drop, A: Allocator + Copy, B: ScriptBus + Drop, W: Sink
 ) -> Result<(), Halt>
     ensures ran { (links : List LineLink) (moment : ℕ)
         → line_in links line ≡ line_of B.lost slot.old
-        → BehindAnyRun D.keeps D.sectors D.reads D.choices concentrator.old (λ origin state before.
-        OnOk result (LineRan (D.keeps origin) D.sectors D.failures D.reads D.choices D.moment D.images_since concentrator.old.house.budget state before moment (searches budget line) links (with_link links line (line_of B.lost slot.new).link) (PutsInto W.Sink out.old out.new) (λ exchanges. SearchesOver B.lost B.asks exchanges slot.old slot.new) concentrator.old concentrator.new)) }
+        → BehindAnyRun D.Disk concentrator.old (λ origin state before.
+        OnOk result (LineRan D.Disk origin concentrator.old.house.budget state before moment
+        (searches budget line) links (with_link links line (line_of B.lost slot.new).link)
+        (PutsInto W.Sink out.old out.new)
+        (λ exchanges. SearchesOver B.lost B.asks exchanges slot.old slot.new) concentrator.old
+        concentrator.new)) }
     ensures cut { (links : List LineLink) (moment : ℕ)
         → line_in links line ≡ line_of B.lost slot.old
-        → BehindAnyRun D.keeps D.sectors D.reads D.choices concentrator.old (λ origin state before.
-        OnWrite result (LineCut (D.keeps origin) D.sectors D.failures D.reads D.choices D.moment D.images_since concentrator.old.house.budget state before moment (searches budget line) links (λ exchanges. SearchesOver B.lost B.asks exchanges slot.old slot.new) concentrator.old concentrator.new)) }
+        → BehindAnyRun D.Disk concentrator.old (λ origin state before.
+        OnWrite result (LineCut D.Disk origin concentrator.old.house.budget state before moment
+        (searches budget line) links (λ exchanges.
+        SearchesOver B.lost B.asks exchanges slot.old slot.new) concentrator.old
+        concentrator.new)) }
     ensures starved { (links : List LineLink) → line_in links line ≡ line_of B.lost slot.old
-        → BehindAnyRun D.keeps D.sectors D.reads D.choices concentrator.old (λ origin state before.
-        OnNoMemory result (LineStarved (D.keeps origin) D.sectors D.failures D.reads D.choices D.moment D.images_since concentrator.old.house.budget state before (searches budget line) links (PutsInto W.Sink out.old out.new) (λ exchanges. SearchesOver B.lost B.asks exchanges slot.old slot.new) concentrator.old concentrator.new)) }
+        → BehindAnyRun D.Disk concentrator.old (λ origin state before.
+        OnNoMemory result (LineStarved D.Disk origin concentrator.old.house.budget state before
+        (searches budget line) links (PutsInto W.Sink out.old out.new)
+        (λ exchanges. SearchesOver B.lost B.asks exchanges slot.old slot.new) concentrator.old
+        concentrator.new)) }
     ensures through { OnNoMemory result (¬ ((line_of B.lost slot.old).link ≡ absent)) }
     ensures kept { IsKept B.lost slot.old slot.new }
     ensures counted { IsCounted result (W.put_failures out.old) (W.put_failures out.new) }
@@ -302,9 +349,8 @@ fn run_event<D: Disk + Drop, A: Allocator + Copy, W: Sink>(
     event: &Event<'_>,
     out: &mut W,
 ) -> Result<(), IoFault>
-    ensures went { BehindAnyRun D.keeps D.sectors D.reads D.choices concentrator.old
-        (λ origin state before.
-        TurnWent (D.keeps origin) D.sectors D.failures D.reads D.choices D.moment D.images_since concentrator.old.house.budget state before (event_of event.now)
+    ensures went { BehindAnyRun D.Disk concentrator.old (λ origin state before.
+        TurnWent D.Disk origin concentrator.old.house.budget state before (event_of event.now)
         (λ answer. OnOk result (PutsInto W.Sink out.old out.new (answer_text answer)))
         concentrator.old concentrator.new) }
     ensures fault { OnErr result (HasRisen (W.put_failures out.old) (W.put_failures out.new)) }

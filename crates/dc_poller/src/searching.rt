@@ -30,10 +30,11 @@ pub fn search<D: Disk + Drop, A: Allocator + Copy, B: ScriptBus, W: Sink>(
     budget: u32,
     out: &mut W,
 ) -> Result<(), Halt>
-    ensures went { BehindAnyRun D.keeps D.sectors D.reads D.choices concentrator.old
-        (λ origin state before.
-        TurnsWent (D.keeps origin) D.sectors D.failures D.reads D.choices D.moment D.images_since concentrator.old.house.budget state before
-        (Comes (B.meters bus.old) gateway_port budget (late_by gateway_port.is_gateway (B.late bus.old) (B.late bus.new)) (link_by (B.lost bus.old)) (link_by (B.lost bus.new))
+    ensures went { BehindAnyRun D.Disk concentrator.old (λ origin state before.
+        TurnsWent D.Disk origin concentrator.old.house.budget state before
+        (Comes (B.meters bus.old) gateway_port budget
+        (late_by gateway_port.is_gateway (B.late bus.old) (B.late bus.new))
+        (link_by (B.lost bus.old)) (link_by (B.lost bus.new))
         (λ exchanges. AreExchanged B.asks bus.old exchanges bus.new)
         (PutsInto W.Sink out.old out.new) result) concentrator.old
         concentrator.new) }
@@ -53,10 +54,11 @@ pub fn search_on<D: Disk + Drop, A: Allocator + Copy, B: ScriptBus, W: Sink>(
     budget: u32,
     out: &mut W,
 ) -> Result<(), Halt>
-    ensures went { BehindAnyRun D.keeps D.sectors D.reads D.choices concentrator.old
-        (λ origin state before.
-        TurnsWent (D.keeps origin) D.sectors D.failures D.reads D.choices D.moment D.images_since concentrator.old.house.budget state before
-        (Comes (B.meters bus.old) port budget (late_by port.is_gateway (B.late bus.old) (B.late bus.new)) (link_by (B.lost bus.old)) (link_by (B.lost bus.new))
+    ensures went { BehindAnyRun D.Disk concentrator.old (λ origin state before.
+        TurnsWent D.Disk origin concentrator.old.house.budget state before
+        (Comes (B.meters bus.old) port budget
+        (late_by port.is_gateway (B.late bus.old) (B.late bus.new)) (link_by (B.lost bus.old))
+        (link_by (B.lost bus.new))
         (λ exchanges. AreExchanged B.asks bus.old exchanges bus.new)
         (PutsInto W.Sink out.old out.new) result) concentrator.old
         concentrator.new) }

@@ -27,9 +27,8 @@ pub fn told_start<D: Disk + Drop, A: Allocator + Copy, W: Sink>(
     meter: &Identity,
     out: &mut W,
 ) -> Result<Result<(), StartFault>, IoFault>
-    ensures went { BehindAnyRun D.keeps D.sectors D.reads D.choices concentrator.old
-        (λ origin state before.
-        TurnWent (D.keeps origin) D.sectors D.failures D.reads D.choices D.moment D.images_since concentrator.old.house.budget state before (starts line meter.now)
+    ensures went { BehindAnyRun D.Disk concentrator.old (λ origin state before.
+        TurnWent D.Disk origin concentrator.old.house.budget state before (starts line meter.now)
         (λ answer. IfOk result (λ told.
         (answer ≡ started told) × PutsInto W.Sink out.old out.new
         (told_text (started told)))) concentrator.old concentrator.new) }
@@ -50,9 +49,8 @@ pub fn told_ask<D: Disk + Drop, A: Allocator + Copy, W: Sink>(
     line: u8,
     out: &mut W,
 ) -> Result<Option<FrameBuf>, IoFault>
-    ensures went { BehindAnyRun D.keeps D.sectors D.reads D.choices concentrator.now
-        (λ origin state before.
-        TurnWent (D.keeps origin) D.sectors D.failures D.reads D.choices D.moment D.images_since concentrator.now.house.budget state before (asks line)
+    ensures went { BehindAnyRun D.Disk concentrator.now (λ origin state before.
+        TurnWent D.Disk origin concentrator.now.house.budget state before (asks line)
         (λ answer. IfOk result (λ told.
         (answer ≡ asked told) × PutsInto W.Sink out.old out.new
         (told_text (asked told)))) concentrator.now concentrator.now) }
@@ -78,9 +76,9 @@ pub fn told_hear<D: Disk + Drop, A: Allocator + Copy, W: Sink>(
     bytes: &[u8],
     out: &mut W,
 ) -> Result<Result<LineHeard, HearFault>, IoFault>
-    ensures went { BehindAnyRun D.keeps D.sectors D.reads D.choices concentrator.old
-        (λ origin state before.
-        TurnWent (D.keeps origin) D.sectors D.failures D.reads D.choices D.moment D.images_since concentrator.old.house.budget state before (hears line moment.seconds bytes.now)
+    ensures went { BehindAnyRun D.Disk concentrator.old (λ origin state before.
+        TurnWent D.Disk origin concentrator.old.house.budget state before
+        (hears line moment.seconds bytes.now)
         (λ answer. IfOk result (λ told.
         (answer ≡ heard told) × PutsInto W.Sink out.old out.new
         (told_text (heard told)))) concentrator.old concentrator.new) }
@@ -100,9 +98,8 @@ pub fn told_commit<D: Disk + Drop, A: Allocator + Copy, W: Sink>(
     concentrator: &mut Concentrator<D, A>,
     out: &mut W,
 ) -> Result<Result<usize, CommitFault>, IoFault>
-    ensures went { BehindAnyRun D.keeps D.sectors D.reads D.choices concentrator.old
-        (λ origin state before.
-        TurnWent (D.keeps origin) D.sectors D.failures D.reads D.choices D.moment D.images_since concentrator.old.house.budget state before commits
+    ensures went { BehindAnyRun D.Disk concentrator.old (λ origin state before.
+        TurnWent D.Disk origin concentrator.old.house.budget state before commits
         (λ answer. IfOk result (λ told.
         (answer ≡ committed told) × PutsInto W.Sink out.old out.new
         (told_text (committed told)))) concentrator.old concentrator.new) }

@@ -1,6 +1,8 @@
 -- What an image stands for while it is compacted, and then.
 use Rattle.std.proofs.Common.{◌≡◌, inl, inr, ⊎_elim, ℕ, zero, suc, ◌≤◌, ◌+◌, ◌-◌, List, arith, sym, subst, refl}
-use Rattle.dc_sectors.specs.Disk.{Image, Choices, IsImage, Elapses, LeavesOnly}
+use Rattle.dc_sectors.specs.Disk.{Image, IsImage}
+use Rattle.dc_sectors.specs.declared.device.Disk.{Ghosts}
+use Rattle.dc_sectors.specs.Runs.{Passes, LeavesOnly}
 use Rattle.dc_sectors.proofs.Moments.{weakened, followed}
 use Rattle.dc_roots.specs.declared.root.Root.{Root}
 use Rattle.dc_roots.specs.Root.{slot}
@@ -95,20 +97,20 @@ module _ {half_len : ℕ} {root : Root} {m place sequence : ℕ} {state : State}
     }
 
 -- THE CALLS OF A COMPACTION, one after another: the base group, a sync, and the root
-module _ {D : Type 0} (moment : D → ℕ) (images_since : D → ℕ → Image → Type 0) (choices : D → Choices) (reads : D → Image)
-    (counts : (disk : D) (t : ℕ) (image : Image) → t ≤ moment disk → IsImage (choices disk) image → images_since disk t image)
-    {half_len : ℕ} {root : Root} {m place sequence : ℕ} {state : State} (start based : D) (may : IsCompactable half_len root m place sequence state (reads start)) (next : State)
-    (basing : LeavesOnly moment images_since start based (IsAttempt (base_site half_len (compacted root sequence)) root.session (state_bytes next) (reads start))) where
-  pub base_written : LeavesOnly moment images_since start based (StandsForEither half_len state next)
-  base_written = weakened moment images_since start based _ (StandsForEither half_len state next) basing (λ image attempt. inl (base_attempt may (state_bytes next) image attempt))
+module _ {D : Type 0} (g : Ghosts D)
+    (counts : (disk : D) (t : ℕ) (image : Image) → t ≤ g.moment disk → IsImage (g.choices disk) image → g.images_since disk t image)
+    {half_len : ℕ} {root : Root} {m place sequence : ℕ} {state : State} (start based : D) (may : IsCompactable half_len root m place sequence state (g.reads start)) (next : State)
+    (basing : LeavesOnly g start based (IsAttempt (base_site half_len (compacted root sequence)) root.session (state_bytes next) (g.reads start))) where
+  pub base_written : LeavesOnly g start based (StandsForEither half_len state next)
+  base_written = weakened g start based _ (StandsForEither half_len state next) basing (λ image attempt. inl (base_attempt may (state_bytes next) image attempt))
 
-  module _ (synced : D) (time : Elapses (moment based) (moment synced) (images_since based) (images_since synced) (IsImage (choices based))) where
-    pub base_synced : LeavesOnly moment images_since start synced (StandsForEither half_len state next)
-    base_synced = synced_behind moment images_since choices start based synced (StandsForEither half_len state next) (counts based) base_written time
+  module _ (synced : D) (time : Passes g based synced (IsImage (g.choices based))) where
+    pub base_synced : LeavesOnly g start synced (StandsForEither half_len state next)
+    base_synced = synced_behind g start based synced (StandsForEither half_len state next) (counts based) base_written time
 
-    pub root_put : (rooted : D) (count : ℕ) → IsWritten (base_site half_len (compacted root sequence)) root.session (state_bytes next) count (reads start) (reads synced)
-        → SpellsState (budget_of half_len) (state_bytes next) next → LeavesOnly moment images_since synced rooted (IsRootWrite (compacted root sequence) (reads synced))
-        → LeavesOnly moment images_since start rooted (StandsForEither half_len state next)
+    pub root_put : (rooted : D) (count : ℕ) → IsWritten (base_site half_len (compacted root sequence)) root.session (state_bytes next) count (g.reads start) (g.reads synced)
+        → SpellsState (budget_of half_len) (state_bytes next) next → LeavesOnly g synced rooted (IsRootWrite (compacted root sequence) (g.reads synced))
+        → LeavesOnly g start rooted (StandsForEither half_len state next)
     root_put rooted count done spells rooting =
-        followed moment images_since start synced rooted (StandsForEither half_len state next) (IsRootWrite (compacted root sequence) (reads synced)) (StandsForEither half_len state next)
-        base_synced rooting (λ image is. is) (compacting_step may next count (reads synced) done spells)
+        followed g start synced rooted (StandsForEither half_len state next) (IsRootWrite (compacted root sequence) (g.reads synced)) (StandsForEither half_len state next)
+        base_synced rooting (λ image is. is) (compacting_step may next count (g.reads synced) done spells)

@@ -1,6 +1,8 @@
 -- What opening may leave at any moment, and on Ok.
 use Rattle.std.proofs.Common.{◌≤◌, ℕ}
-use Rattle.dc_sectors.specs.Disk.{Image, Choices, IsImage, LeavesOnly}
+use Rattle.dc_sectors.specs.Disk.{Image, Choices, IsImage}
+use Rattle.dc_sectors.specs.declared.device.Disk.{Ghosts}
+use Rattle.dc_sectors.specs.Runs.{LeavesOnly}
 use Rattle.dc_sectors.proofs.Moments.{weakened, followed}
 use Rattle.dc_roots.specs.declared.root.Root.{Root}
 use Rattle.dc_recovery.specs.Language.{State}
@@ -17,15 +19,15 @@ pub read_stands : (half_len : ℕ) → half_len ≤ 65536 → (root : Root) (pla
 read_stands half_len most root place last state choices image each is read =
     let one = each image is in stands_as_read half_len most root read.m place state one.0 image read.by one.1
 
-module _ {D : Type 0} (moment : D → ℕ) (images_since : D → ℕ → Image → Type 0) (choices : D → Choices) (half_len : ℕ) (old : D) (each : EachStands half_len (choices old)) where
+module _ {D : Type 0} (g : Ghosts D) (half_len : ℕ) (old : D) (each : EachStands half_len (g.choices old)) where
   -- nothing was written yet
-  pub before_writing : (read : D) → LeavesOnly moment images_since old read (IsImage (choices old)) → LeavesOnly moment images_since old read (StandsForOne half_len (choices old))
-  before_writing read reading = weakened moment images_since old read (IsImage (choices old)) (StandsForOne half_len (choices old)) reading (stood half_len (choices old) each)
+  pub before_writing : (read : D) → LeavesOnly g old read (IsImage (g.choices old)) → LeavesOnly g old read (StandsForOne half_len (g.choices old))
+  before_writing read reading = weakened g old read (IsImage (g.choices old)) (StandsForOne half_len (g.choices old)) reading (stood half_len (g.choices old) each)
 
   -- and then the session is begun, on what was read
-  pub after_session : (read begun : D) (state : State) (was : Image) → IsImage (choices old) was → Stands half_len state was
-      → LeavesOnly moment images_since old read (IsImage (choices old)) → LeavesOnly moment images_since read begun (Stands half_len state)
-      → LeavesOnly moment images_since old begun (StandsForOne half_len (choices old))
+  pub after_session : (read begun : D) (state : State) (was : Image) → IsImage (g.choices old) was → Stands half_len state was
+      → LeavesOnly g old read (IsImage (g.choices old)) → LeavesOnly g read begun (Stands half_len state)
+      → LeavesOnly g old begun (StandsForOne half_len (g.choices old))
   after_session read begun state was is stands reading session =
-      followed moment images_since old read begun (StandsForOne half_len (choices old)) (Stands half_len state) (StandsForOne half_len (choices old))
+      followed g old read begun (StandsForOne half_len (g.choices old)) (Stands half_len state) (StandsForOne half_len (g.choices old))
       (before_writing read reading) session (λ image left. left) (λ image now. record { state = state; stands = now; was = was; was_image = is; stood = stands })

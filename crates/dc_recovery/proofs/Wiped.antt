@@ -5,8 +5,10 @@ use Rattle.std.proofs.lemmas.Bool.{cases_eq}
 use Rattle.std.proofs.lemmas.List.Elements.{Contains-append_cases, Contains-push_cases}
 use Rattle.dc_sectors.specs.declared.sector.Sector.{Sector}
 use Rattle.dc_sectors.specs.declared.sector.Sector.TheVariants.{Bytes, Unreadable}
-use Rattle.dc_sectors.specs.Disk.{Image, Choices, LeavesOnly, added, settled}
+use Rattle.dc_sectors.specs.Disk.{Image, Choices, added, settled}
 use Rattle.dc_sectors.specs.Images.{added_here, added_elsewhere, only_one}
+use Rattle.dc_sectors.specs.declared.device.Disk.{Ghosts}
+use Rattle.dc_sectors.specs.Runs.{LeavesOnly, IsSettled}
 use Rattle.dc_sectors.proofs.Moments.{weakened, followed}
 use Rattle.dc_roots.specs.declared.root.Root.{Root}
 use Rattle.dc_roots.specs.Root.{IsRoot, slot, next_of}
@@ -66,35 +68,35 @@ attempt_unformatted site session payload zeros image from blanks attempt =
     blank_unformatted image (λ k low up. inl (⊎_elim (λ part. part.outside k (inl (omega arith))) (λ torn. torn.torn.outside k (inl (omega arith))) attempt ∙ blanks k low up))
 
 -- ZEROS WERE WRITTEN: the disk is settled, and blank after sector 0.
-pub record IsBlanked {D : Type 0} (reads : D → Image) (choices : D → Choices) (half_len : ℕ) (disk : D) : Type 0 where
-  pub still : choices disk ≡ settled (reads disk)
-  pub blanks : (k : ℕ) → 1 ≤ k → k < 3 + 2 * half_len → reads disk k ≡ blank
+pub record IsBlanked {D : Type 0} (g : Ghosts D) (half_len : ℕ) (disk : D) : Type 0 where
+  pub still : IsSettled g disk
+  pub blanks : (k : ℕ) → 1 ≤ k → k < 3 + 2 * half_len → g.reads disk k ≡ blank
 
 -- THE BASE GROUP WAS WRITTEN, of the state's bytes, to a disk of zeros: it is settled again.
-pub record IsBased {D : Type 0} (reads : D → Image) (choices : D → Choices) (half_len count : ℕ) (payload : List ℕ) (state : State) (zeros disk : D) : Type 0 where
-  pub still : choices disk ≡ settled (reads disk)
-  pub blanks : (k : ℕ) → 1 ≤ k → k < 3 + 2 * half_len → reads zeros k ≡ blank
-  pub written : IsWritten (base_site half_len (first_root half_len)) 1 payload count (reads zeros) (reads disk)
+pub record IsBased {D : Type 0} (g : Ghosts D) (half_len count : ℕ) (payload : List ℕ) (state : State) (zeros disk : D) : Type 0 where
+  pub still : IsSettled g disk
+  pub blanks : (k : ℕ) → 1 ≤ k → k < 3 + 2 * half_len → g.reads zeros k ≡ blank
+  pub written : IsWritten (base_site half_len (first_root half_len)) 1 payload count (g.reads zeros) (g.reads disk)
   pub spells : SpellsState (budget_of half_len) payload state
 
 -- the root before the first one
 abbrev pub zero_root : ℕ → Root
 zero_root half_len = record { version = image_version; half = 0; generation = 0; session = 1; base_sequence = 1; half_len = half_len }
 
-module _ {D : Type 0} {reads : D → Image} {choices : D → Choices} {half_len count : ℕ} {payload : List ℕ} {state : State} {zeros disk : D} (based : IsBased reads choices half_len count payload state zeros disk) where
-  slots_blank : (k : ℕ) → 1 ≤ k → k ≤ 2 → reads disk k ≡ blank
+module _ {D : Type 0} {g : Ghosts D} {half_len count : ℕ} {payload : List ℕ} {state : State} {zeros disk : D} (based : IsBased g half_len count payload state zeros disk) where
+  slots_blank : (k : ℕ) → 1 ≤ k → k ≤ 2 → g.reads disk k ≡ blank
   slots_blank k low up = let fits = based.written.group.fits in based.written.outside k (inl (omega arith)) ∙ based.blanks k low (omega arith)
 
   -- once the first root is in force
-  pub first_root_done : (image : Image) → IsRootDone (next_of (zero_root half_len)) (reads disk) image → IsReady half_len (next_of (zero_root half_len)) zero (half_start half_len 0 + count) state image
-  first_root_done image done = formatted half_len count payload state (reads zeros) (reads disk) image based.blanks based.written based.spells done
+  pub first_root_done : (image : Image) → IsRootDone (next_of (zero_root half_len)) (g.reads disk) image → IsReady half_len (next_of (zero_root half_len)) zero (half_start half_len 0 + count) state image
+  first_root_done image done = formatted half_len count payload state (g.reads zeros) (g.reads disk) image based.blanks based.written based.spells done
 
   -- THE FIRST ROOT, WRITTEN OR NOT
-  pub first_root_step : (image : Image) → IsRootWrite (next_of (zero_root half_len)) (reads disk) image → IsUnformatted image ⊎ Stands half_len state image
+  pub first_root_step : (image : Image) → IsRootWrite (next_of (zero_root half_len)) (g.reads disk) image → IsUnformatted image ⊎ Stands half_len state image
   first_root_step image write = ⊎_elim
       (λ either. inl (blank_unformatted image (λ k low up. ⊎_elim
       (λ (here : k ≡ slot next.generation). ⊎_elim
-      (λ same. inl (subst (λ (j : ℕ). image j ≡ blank) (sym here) (same ∙ ap (reads disk) (sym here) ∙ slots_blank k low up)))
+      (λ same. inl (subst (λ (j : ℕ). image j ≡ blank) (sym here) (same ∙ ap (g.reads disk) (sym here) ∙ slots_blank k low up)))
       (λ lost. inr (subst (λ (j : ℕ). image j ≡ Unreadable) (sym here) lost))
       either)
       (λ not. inl (write.elsewhere k not ∙ slots_blank k low up))
@@ -111,19 +113,19 @@ module _ {D : Type 0} {reads : D → Image} {choices : D → Choices} {half_len 
       next = next_of (zero_root half_len)
 
 -- THE CALLS OF A FORMAT, one after another, with a sync after each: zeros, the base group, and the first root
-module _ {D : Type 0} (moment : D → ℕ) (images_since : D → ℕ → Image → Type 0) (reads : D → Image) (half_len : ℕ) (start : D) where
-  pub zeros_written : (wiped : D) → IsUnformatted (reads start) → LeavesOnly moment images_since start wiped (IsWiped (reads start)) → LeavesOnly moment images_since start wiped (IsBlankOrEmpty half_len)
-  zeros_written wiped none wiping = weakened moment images_since start wiped (IsWiped (reads start)) (IsBlankOrEmpty half_len) wiping (λ image left. inl (wiped_unformatted (reads start) image none left))
+module _ {D : Type 0} (g : Ghosts D) (half_len : ℕ) (start : D) where
+  pub zeros_written : (wiped : D) → IsUnformatted (g.reads start) → LeavesOnly g start wiped (IsWiped (g.reads start)) → LeavesOnly g start wiped (IsBlankOrEmpty half_len)
+  zeros_written wiped none wiping = weakened g start wiped (IsWiped (g.reads start)) (IsBlankOrEmpty half_len) wiping (λ image left. inl (wiped_unformatted (g.reads start) image none left))
 
-  pub group_written : (choices : D → Choices) (blanked grouped : D) (site : Site) (payload : List ℕ) → IsBlanked reads choices half_len blanked → 3 ≤ site.first
-      → LeavesOnly moment images_since start blanked (IsBlankOrEmpty half_len) → LeavesOnly moment images_since blanked grouped (IsAttempt site 1 payload (reads blanked))
-      → LeavesOnly moment images_since start grouped (IsBlankOrEmpty half_len)
-  group_written choices blanked grouped site payload blank from so_far grouping =
-      followed moment images_since start blanked grouped (IsBlankOrEmpty half_len) (IsAttempt site 1 payload (reads blanked)) (IsBlankOrEmpty half_len) so_far grouping
-      (λ image left. left) (λ image attempt. inl (attempt_unformatted site 1 payload (reads blanked) image from (λ k low up. blank.blanks k low (omega arith)) attempt))
+  pub group_written : (blanked grouped : D) (site : Site) (payload : List ℕ) → IsBlanked g half_len blanked → 3 ≤ site.first
+      → LeavesOnly g start blanked (IsBlankOrEmpty half_len) → LeavesOnly g blanked grouped (IsAttempt site 1 payload (g.reads blanked))
+      → LeavesOnly g start grouped (IsBlankOrEmpty half_len)
+  group_written blanked grouped site payload blank from so_far grouping =
+      followed g start blanked grouped (IsBlankOrEmpty half_len) (IsAttempt site 1 payload (g.reads blanked)) (IsBlankOrEmpty half_len) so_far grouping
+      (λ image left. left) (λ image attempt. inl (attempt_unformatted site 1 payload (g.reads blanked) image from (λ k low up. blank.blanks k low (omega arith)) attempt))
 
-  pub root_written : (choices : D → Choices) (count : ℕ) (payload : List ℕ) (zeros based rooted : D) → IsBased reads choices half_len count payload empty_state zeros based
-      → LeavesOnly moment images_since start based (IsBlankOrEmpty half_len) → LeavesOnly moment images_since based rooted (IsRootWrite (next_of (zero_root half_len)) (reads based))
-      → LeavesOnly moment images_since start rooted (IsBlankOrEmpty half_len)
-  root_written choices count payload zeros based rooted is so_far rooting =
-      followed moment images_since start based rooted (IsBlankOrEmpty half_len) (IsRootWrite (next_of (zero_root half_len)) (reads based)) (IsBlankOrEmpty half_len) so_far rooting (λ image left. left) (first_root_step is)
+  pub root_written : (count : ℕ) (payload : List ℕ) (zeros based rooted : D) → IsBased g half_len count payload empty_state zeros based
+      → LeavesOnly g start based (IsBlankOrEmpty half_len) → LeavesOnly g based rooted (IsRootWrite (next_of (zero_root half_len)) (g.reads based))
+      → LeavesOnly g start rooted (IsBlankOrEmpty half_len)
+  root_written count payload zeros based rooted is so_far rooting =
+      followed g start based rooted (IsBlankOrEmpty half_len) (IsRootWrite (next_of (zero_root half_len)) (g.reads based)) (IsBlankOrEmpty half_len) so_far rooting (λ image left. left) (first_root_step is)

@@ -1,5 +1,6 @@
 -- The place of the two halves of an image, and the capacity of a half: this product's image format.
 use Rattle.std.specs.Prelude.{◌≡◌, ◌⊎◌, ◌<◌, ◌≤◌, ℕ, ◌+◌, ◌-◌, ◌*◌, ◌/◌, min}
+use Rattle.dc_sectors.specs.declared.device.Disk.{Ghosts}
 use Rattle.dc_sectors.specs.Disk.{Image}
 use Rattle.dc_pages.specs.Group.{page_payload}
 
@@ -16,6 +17,9 @@ longest_half = 65536
 -- Number of sectors of a half. Sector 0 isn't used, and sectors 1 and 2 are the root slots.
 abbrev pub half_len_of : ℕ → ℕ
 half_len_of sectors = min longest_half ((sectors - 3) / 2)
+
+abbrev pub half_of : {D : Type 0} → Ghosts D → D → ℕ
+half_of g disk = half_len_of (g.sectors disk)
 
 -- the first sector of a half, and the number after its last one
 abbrev pub half_start : ℕ → ℕ → ℕ

@@ -6,8 +6,6 @@ pub mod Fault
 pub mod Halves
 -- what the payloads of an image's groups spell: the register's states and changes
 pub mod Language
--- a call that only looked at a disk
-pub mod Looked
 -- why an image isn't opened, as a fact of the image
 pub mod Refusal
 -- the roots that are written, and when the next one is in force

@@ -1,9 +1,10 @@
 -- What a store keeps beside its disk: this product.
 use Rattle.std.specs.Prelude.{◌≡◌, ◌≤◌, ◌+◌, ℕ, Bool, false}
-use Rattle.dc_sectors.specs.Disk.{Image, Choices, settled}
+use Rattle.dc_sectors.specs.declared.device.Disk.{Ghosts}
+use Rattle.dc_sectors.specs.Runs.{IsSettled}
 use Rattle.dc_roots.specs.declared.root.Root.{Root}
 use Rattle.dc_pages.specs.Draft.{FitsAt}
-use Rattle.dc_recovery.specs.Halves.{half_len_of, half_start, half_end, fewest_sectors}
+use Rattle.dc_recovery.specs.Halves.{half_of, half_len_of, half_start, half_end, fewest_sectors}
 use Rattle.dc_recovery.specs.Language.{State}
 use Rattle.dc_recovery.specs.Stands.{image_version, IsReady}
 
@@ -29,12 +30,10 @@ Fits sectors store len = FitsAt store.place (half_end (half_len_of sectors) stor
 
 -- THE STORE KEEPS THE STATE: it isn't stopped, its image has the version that is written, its disk is settled, and
 -- its one image stands for the state and is ready for the next group.
-pub record Keeps {D : Type 0} (sectors : D → ℕ) (reads : D → Image) (choices : D → Choices)
-    (store : Kept D) (state : State) : Type 0 where
+pub record Keeps {D : Type 0} (g : Ghosts D) (store : Kept D) (state : State) : Type 0 where
   pub running : store.is_stopped ≡ false
   pub version : store.root.version ≡ image_version
-  pub is_settled : choices store.disk ≡ settled (reads store.disk)
+  pub is_settled : IsSettled g store.disk
   pub m : ℕ
-  pub ready : IsReady (half_len_of (sectors store.disk)) store.root m store.place state
-      (reads store.disk)
+  pub ready : IsReady (half_of g store.disk) store.root m store.place state (g.reads store.disk)
   pub last_is : store.last ≡ store.root.base_sequence + m

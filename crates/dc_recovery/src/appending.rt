@@ -1,11 +1,9 @@
 //! Appends a group of changes.
 
-ghost use Rattle.std.specs.Prelude.{◌≡◌, ◌<◌, ◌≤◌, ◌+◌, ◌*◌, List, ℕ, suc, length, IfOk, OnOk};
-ghost use Rattle.std.specs.Prelude.{OnErr};
-ghost use Rattle.dc_io.specs.Failures.{HasRisen};
+ghost use Rattle.std.specs.Prelude.{◌<◌, ◌≤◌, ◌+◌, ◌*◌, List, ℕ, suc, length, IfOk, OnOk, IsErr};
+ghost use Rattle.dc_sectors.specs.Runs.{LeavesOnly, Counts, IsSettled};
 ghost use Rattle.dc_pages.specs.Draft.{FitsAt};
 ghost use Rattle.dc_pages.specs.Writing.{SameOutside};
-ghost use Rattle.dc_sectors.specs.Disk.{LeavesOnly, settled};
 ghost use Rattle.dc_recovery.specs.Language.{State, Change, after};
 ghost use Rattle.dc_recovery.specs.Stands.{IsReady, IsAppendable, StandsForEither};
 
@@ -24,23 +22,20 @@ pub(crate) fn append_group<D: Disk>(
     requires some { 0 < length bytes.now }
     requires room { FitsAt site.first site.limit (length bytes.now) }
     requires limit { site.limit ≤ D.sectors disk.old }
-    ensures any_moment { D.choices disk.old ≡ settled (D.reads disk.old)
+    ensures any_moment { IsSettled D.Disk disk.old
         → (half_len m : ℕ) (was : State) (changes : List Change)
         → IsAppendable half_len root.now m site was bytes.now changes (D.reads disk.old)
-        → LeavesOnly D.moment D.images_since disk.old disk.new
-        (StandsForEither half_len was (after was changes)) }
-    ensures ready { D.choices disk.old ≡ settled (D.reads disk.old)
+        → LeavesOnly D.Disk disk.old disk.new (StandsForEither half_len was (after was changes)) }
+    ensures ready { IsSettled D.Disk disk.old
         → (half_len m : ℕ) (was : State) (changes : List Change)
         → IsAppendable half_len root.now m site was bytes.now changes (D.reads disk.old)
         → IfOk result (λ count. IsReady half_len root.now (suc m) (site.first + count)
         (after was changes) (D.reads disk.new)) }
-    ensures durable { OnOk result (D.choices disk.new ≡ settled (D.reads disk.new)) }
+    ensures durable { OnOk result (IsSettled D.Disk disk.new) }
     ensures within { IfOk result (λ count. site.first + count ≤ site.limit) }
     ensures elsewhere { SameOutside site (D.reads disk.old) (D.reads disk.new) }
     ensures before { D.keeps disk.new → D.keeps disk.old }
-    ensures count { D.sectors disk.new ≡ D.sectors disk.old }
-    ensures failures { D.failures disk.old ≤ D.failures disk.new }
-    ensures failed { OnErr result (HasRisen (D.failures disk.old) (D.failures disk.new)) }
+    ensures counts { Counts D.Disk disk.old disk.new (IsErr result) }
 {
     let count = write_group(disk, site, root.session, bytes)?;
     disk.sync()?;

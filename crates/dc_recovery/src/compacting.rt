@@ -1,9 +1,7 @@
 //! Writes the whole state into the other half.
 
-ghost use Rattle.std.specs.Prelude.{◌≡◌, ◌<◌, ◌≤◌, ◌+◌, ◌-◌, ◌*◌, ◌^◌, ℕ, zero, suc, IfOk, OnOk};
-ghost use Rattle.std.specs.Prelude.{OnErr};
-ghost use Rattle.dc_io.specs.Failures.{HasRisen};
-ghost use Rattle.dc_sectors.specs.Disk.{LeavesOnly, settled};
+ghost use Rattle.std.specs.Prelude.{◌≡◌, ◌<◌, ◌≤◌, ◌+◌, ◌-◌, ◌*◌, ◌^◌, ℕ, zero, suc, IfOk, OnOk, IsErr};
+ghost use Rattle.dc_sectors.specs.Runs.{LeavesOnly, Counts, IsSettled};
 ghost use Rattle.dc_recovery.specs.Halves.{half_start, half_end, budget_of, shortest_half};
 ghost use Rattle.dc_recovery.specs.Halves.{longest_half, SparesRest};
 ghost use Rattle.dc_recovery.specs.Roots.{compacted};
@@ -34,24 +32,21 @@ pub(crate) fn compact_into_other_half<A: Allocator + Copy, D: Disk>(
     requires fits { 3 + 2 * half_len ≤ D.sectors disk.old }
     requires generation { root.now.generation < 2 ^ 64 - 1 }
     requires budget { house.now.budget ≤ budget_of half_len }
-    ensures ready { D.choices disk.old ≡ settled (D.reads disk.old) → (m place : ℕ) (was : State)
+    ensures ready { IsSettled D.Disk disk.old → (m place : ℕ) (was : State)
         → IsReady half_len root.now m place was (D.reads disk.old)
         → sequence ≡ root.now.base_sequence + suc m
         → IfOk result (λ o. IsReady half_len o.0 zero o.1 house.now.state (D.reads disk.new)) }
-    ensures any_moment { D.choices disk.old ≡ settled (D.reads disk.old)
+    ensures any_moment { IsSettled D.Disk disk.old
         → (m place : ℕ) (was : State) → IsReady half_len root.now m place was (D.reads disk.old)
         → sequence ≡ root.now.base_sequence + suc m
-        → LeavesOnly D.moment D.images_since disk.old disk.new
-        (StandsForEither half_len was house.now.state) }
-    ensures durable { OnOk result (D.choices disk.new ≡ settled (D.reads disk.new)) }
+        → LeavesOnly D.Disk disk.old disk.new (StandsForEither half_len was house.now.state) }
+    ensures durable { OnOk result (IsSettled D.Disk disk.new) }
     ensures root { IfOk result (λ o. o.0 ≡ compacted root.now sequence) }
     ensures from { IfOk result (λ o. half_start half_len o.0.half ≤ o.1) }
     ensures within { IfOk result (λ o. o.1 ≤ half_end half_len o.0.half) }
     ensures elsewhere { SparesRest half_len (D.reads disk.old) (D.reads disk.new) }
     ensures before { D.keeps disk.new → D.keeps disk.old }
-    ensures count { D.sectors disk.new ≡ D.sectors disk.old }
-    ensures failures { D.failures disk.old ≤ D.failures disk.new }
-    ensures failed { OnErr result (HasRisen (D.failures disk.old) (D.failures disk.new)) }
+    ensures counts { Counts D.Disk disk.old disk.new (IsErr result) }
 {
     let _size = house.size(); // for what it says: the state is one within its budget
     let based = Root {

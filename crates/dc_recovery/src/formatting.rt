@@ -1,15 +1,15 @@
 //! Formats a disk.
 
-ghost use Rattle.std.specs.Prelude.{◌≡◌, ◌⊎◌, ◌<◌, ◌≤◌, ◌+◌, ◌*◌, ◌^◌, ◌↔◌, ℕ, OnOk, OnErr};
+ghost use Rattle.std.specs.Prelude.{◌≡◌, ◌⊎◌, ◌<◌, ◌≤◌, ◌+◌, ◌*◌, ◌^◌, ◌↔◌, ℕ, OnOk, IsErr};
 ghost use Rattle.std.specs.Prelude.{IsErrOf};
-ghost use Rattle.dc_io.specs.Failures.{HasRisen};
-ghost use Rattle.dc_sectors.specs.Disk.{Image, IsImage, LeavesOnly, settled};
+ghost use Rattle.dc_sectors.specs.Disk.{IsImage};
+ghost use Rattle.dc_sectors.specs.Runs.{LeavesOnly, Counts, IsSettled};
 ghost use Rattle.dc_roots.specs.declared.root.Root.{Root};
 ghost use Rattle.dc_roots.specs.Choice.{HasRoot};
 ghost use Rattle.dc_recovery.specs.declared.fault.FormatFault.TheVariants.{TooSmall};
 ghost use Rattle.dc_recovery.specs.declared.fault.FormatFault.TheVariants.{AlreadyFormatted};
 ghost use Rattle.dc_recovery.specs.declared.fault.FormatFault.TheVariants.{Device};
-ghost use Rattle.dc_recovery.specs.Halves.{half_len_of, shortest_half, longest_half};
+ghost use Rattle.dc_recovery.specs.Halves.{half_of, shortest_half, longest_half};
 ghost use Rattle.dc_recovery.specs.Halves.{fewest_sectors, SparesRest};
 ghost use Rattle.dc_recovery.specs.Language.{empty_state};
 ghost use Rattle.dc_recovery.specs.Roots.{first_root};
@@ -38,13 +38,11 @@ const EMPTY: [u8; 33] = [
 fn blank_sectors<D: Disk>(disk: &mut D, end: u32) -> Result<(), Failed>
     requires { end ≤ D.sectors disk.old }
     ensures blank { OnOk result ((k : ℕ) → 1 ≤ k → k < end → D.reads disk.new k ≡ blank) }
-    ensures any_moment { D.choices disk.old ≡ settled (D.reads disk.old)
-        → LeavesOnly D.moment D.images_since disk.old disk.new (IsWiped (D.reads disk.old)) }
+    ensures any_moment { IsSettled D.Disk disk.old
+        → LeavesOnly D.Disk disk.old disk.new (IsWiped (D.reads disk.old)) }
     ensures elsewhere { (m : ℕ) → (m < 1) ⊎ (end ≤ m) → D.reads disk.new m ≡ D.reads disk.old m }
     ensures before { D.keeps disk.new → D.keeps disk.old }
-    ensures count { D.sectors disk.new ≡ D.sectors disk.old }
-    ensures failures { D.failures disk.old ≤ D.failures disk.new }
-    ensures failed { OnErr result (HasRisen (D.failures disk.old) (D.failures disk.new)) }
+    ensures counts { Counts D.Disk disk.old disk.new (IsErr result) }
 {
     let zeros = [0; 512];
     for n in 1..end {
@@ -60,15 +58,12 @@ fn lay_out<D: Disk>(disk: &mut D, half_len: u32) -> Result<(), Failed>
     requires fits { 3 + 2 * half_len ≤ D.sectors disk.old }
     ensures ready { OnOk result (IsReadyFor half_len (first_root half_len) empty_state
         (D.reads disk.new)) }
-    ensures durable { OnOk result (D.choices disk.new ≡ settled (D.reads disk.new)) }
-    ensures any_moment { D.choices disk.old ≡ settled (D.reads disk.old)
-        → IsUnformatted (D.reads disk.old)
-        → LeavesOnly D.moment D.images_since disk.old disk.new (IsBlankOrEmpty half_len) }
+    ensures durable { OnOk result (IsSettled D.Disk disk.new) }
+    ensures any_moment { IsSettled D.Disk disk.old → IsUnformatted (D.reads disk.old)
+        → LeavesOnly D.Disk disk.old disk.new (IsBlankOrEmpty half_len) }
     ensures elsewhere { SparesRest half_len (D.reads disk.old) (D.reads disk.new) }
     ensures before { D.keeps disk.new → D.keeps disk.old }
-    ensures count { D.sectors disk.new ≡ D.sectors disk.old }
-    ensures failures { D.failures disk.old ≤ D.failures disk.new }
-    ensures failed { OnErr result (HasRisen (D.failures disk.old) (D.failures disk.new)) }
+    ensures counts { Counts D.Disk disk.old disk.new (IsErr result) }
 {
     blank_sectors(disk, half_end(half_len, 1))?;
     disk.sync()?;
@@ -94,25 +89,21 @@ pub(crate) fn format_on<D: Disk>(disk: &mut D) -> Result<(), FormatFault>
     ensures untouched { IsErrOf result TooSmall → disk.new ≡ disk.old }
     ensures already { D.keeps disk.new → IsErrOf result AlreadyFormatted → (root : Root)
         × HasRoot root (D.reads disk.old) }
-    ensures passed { IsErrOf result AlreadyFormatted → D.failures disk.new ≡ D.failures disk.old }
     ensures spared { D.keeps disk.new → (root : Root) → HasRoot root (D.reads disk.old)
         → D.reads disk.new ≡ D.reads disk.old }
     ensures spares_images { D.keeps disk.new → (root : Root) → HasRoot root (D.reads disk.old)
-        → LeavesOnly D.moment D.images_since disk.old disk.new (IsImage (D.choices disk.old)) }
+        → LeavesOnly D.Disk disk.old disk.new (IsImage (D.choices disk.old)) }
     ensures any_moment { D.keeps disk.new
-        → LeavesOnly D.moment D.images_since disk.old disk.new
-        (IsFormatting (half_len_of (D.sectors disk.old)) (D.choices disk.old)) }
+        → LeavesOnly D.Disk disk.old disk.new
+        (IsFormatting (half_of D.Disk disk.old) (D.choices disk.old)) }
     ensures never_over { D.keeps disk.new → (root : Root) → HasRoot root (D.reads disk.old)
         → OnOk result ⊥ }
-    ensures ready { OnOk result (IsReadyFor (half_len_of (D.sectors disk.old))
-        (first_root (half_len_of (D.sectors disk.old))) empty_state (D.reads disk.new)) }
-    ensures durable { OnOk result (D.choices disk.new ≡ settled (D.reads disk.new)) }
-    ensures device { IsErrOf result Device → HasRisen (D.failures disk.old) (D.failures disk.new) }
-    ensures elsewhere { SparesRest (half_len_of (D.sectors disk.old)) (D.reads disk.old)
-        (D.reads disk.new) }
+    ensures ready { OnOk result (IsReadyFor (half_of D.Disk disk.old)
+        (first_root (half_of D.Disk disk.old)) empty_state (D.reads disk.new)) }
+    ensures durable { OnOk result (IsSettled D.Disk disk.new) }
+    ensures elsewhere { SparesRest (half_of D.Disk disk.old) (D.reads disk.old) (D.reads disk.new) }
     ensures before { D.keeps disk.new → D.keeps disk.old }
-    ensures count { D.sectors disk.new ≡ D.sectors disk.old }
-    ensures failures { D.failures disk.old ≤ D.failures disk.new }
+    ensures counts { Counts D.Disk disk.old disk.new (IsErrOf result Device) }
 {
     let count = disk.count();
     if count < FEWEST_SECTORS {

@@ -2,8 +2,8 @@
 
 ghost use Rattle.std.specs.Prelude.{◌≡◌, ◌≢◌, ◌⊎◌, ◌<◌, ◌≤◌, ◌+◌, ◌-◌, ◌*◌, ◌^◌, ◌↔◌, ℕ, IsTrue};
 ghost use Rattle.std.specs.Prelude.{IfOk, IfErr, OnOk, IsErrOf};
-ghost use Rattle.dc_io.specs.Failures.{HasRisen};
-ghost use Rattle.dc_sectors.specs.Disk.{Image, IsImage, LeavesOnly, settled};
+ghost use Rattle.dc_sectors.specs.Disk.{IsImage};
+ghost use Rattle.dc_sectors.specs.Runs.{LeavesOnly, Counts, IsSettled};
 ghost use Rattle.dc_recovery.specs.declared.fault.OpenFault.TheVariants.{Device};
 ghost use Rattle.dc_recovery.specs.Halves.{half_start, half_end, budget_of, shortest_half};
 ghost use Rattle.dc_recovery.specs.Halves.{longest_half, SparesRest};
@@ -31,21 +31,17 @@ fn begin_session<D: Disk>(disk: &mut D, root: &Root) -> Result<Root, OpenFault>
     requires session { root.now.session < 2 ^ 64 - 1 }
     ensures next { IfOk result (λ next. next ≡ opened root.now) }
     ensures only_device { IfErr result (λ fault. fault ≡ Device) }
-    ensures ready { (half_len m place : ℕ) (state : State)
-        → D.choices disk.old ≡ settled (D.reads disk.old)
+    ensures ready { (half_len m place : ℕ) (state : State) → IsSettled D.Disk disk.old
         → StandsBy half_len root.now m place state (D.reads disk.old)
         → OnOk result (IsReady half_len (opened root.now) m place state (D.reads disk.new)) }
-    ensures durable { OnOk result (D.choices disk.new ≡ settled (D.reads disk.new)) }
-    ensures any_moment { (half_len m place : ℕ) (state : State)
-        → D.choices disk.old ≡ settled (D.reads disk.old)
+    ensures durable { OnOk result (IsSettled D.Disk disk.new) }
+    ensures any_moment { (half_len m place : ℕ) (state : State) → IsSettled D.Disk disk.old
         → StandsBy half_len root.now m place state (D.reads disk.old)
-        → LeavesOnly D.moment D.images_since disk.old disk.new (Stands half_len state) }
-    ensures device { IsErrOf result Device → HasRisen (D.failures disk.old) (D.failures disk.new) }
+        → LeavesOnly D.Disk disk.old disk.new (Stands half_len state) }
     ensures elsewhere { (m : ℕ) → m ≢ slot (opened root.now).generation
         → D.reads disk.new m ≡ D.reads disk.old m }
     ensures before { D.keeps disk.new → D.keeps disk.old }
-    ensures count { D.sectors disk.new ≡ D.sectors disk.old }
-    ensures failures { D.failures disk.old ≤ D.failures disk.new }
+    ensures counts { Counts D.Disk disk.old disk.new (IsErrOf result Device) }
 {
     let begun = Root {
         session: root.session + 1,
@@ -84,28 +80,25 @@ fn begin<A: Allocator + Copy, D: Disk>(
     ensures version { OnOk result (found.new.root.version ≡ image_version) }
     ensures house { found.new.house ≡ found.old.house }
     ensures only_device { IfErr result (λ fault. fault ≡ Device) }
-    ensures ready { D.choices disk.old ≡ settled (D.reads disk.old) → (m : ℕ)
+    ensures ready { IsSettled D.Disk disk.old → (m : ℕ)
         → StandsBy half_len found.old.root m found.old.place found.old.house.state
         (D.reads disk.old)
         → found.old.last ≡ found.old.root.base_sequence + m
         → OnOk result (IsBegun half_len found.new.root found.new.place found.new.last
         found.old.house.state (D.reads disk.new)) }
-    ensures durable { OnOk result (D.choices disk.new ≡ settled (D.reads disk.new)) }
-    ensures any_moment { D.choices disk.old ≡ settled (D.reads disk.old) → (m : ℕ)
+    ensures durable { OnOk result (IsSettled D.Disk disk.new) }
+    ensures any_moment { IsSettled D.Disk disk.old → (m : ℕ)
         → StandsBy half_len found.old.root m found.old.place found.old.house.state
         (D.reads disk.old)
         → found.old.last ≡ found.old.root.base_sequence + m
-        → LeavesOnly D.moment D.images_since disk.old disk.new
-        (Stands half_len found.old.house.state) }
+        → LeavesOnly D.Disk disk.old disk.new (Stands half_len found.old.house.state) }
     ensures half { OnOk result (found.new.root.half ≤ 1) }
     ensures from { half_start half_len found.old.root.half ≤ found.old.place
         → OnOk result (half_start half_len found.new.root.half ≤ found.new.place) }
     ensures within { OnOk result (found.new.place ≤ half_end half_len found.new.root.half) }
-    ensures device { IsErrOf result Device → HasRisen (D.failures disk.old) (D.failures disk.new) }
     ensures elsewhere { SparesRest half_len (D.reads disk.old) (D.reads disk.new) }
     ensures before { D.keeps disk.new → D.keeps disk.old }
-    ensures count { D.sectors disk.new ≡ D.sectors disk.old }
-    ensures failures { D.failures disk.old ≤ D.failures disk.new }
+    ensures counts { Counts D.Disk disk.old disk.new (IsErrOf result Device) }
 {
     let begun = begin_session(disk, &found.root)?;
     if begun.version == VERSION {
@@ -140,8 +133,7 @@ pub(crate) fn open_on<A: Allocator + Copy, D: Disk>(
     ensures unwritten { IfErr result (λ fault.
         fault ≢ Device → D.reads disk.new ≡ D.reads disk.old) }
     ensures spares_images { IfErr result (λ fault.
-        fault ≢ Device → LeavesOnly D.moment D.images_since disk.old disk.new
-        (IsImage (D.choices disk.old))) }
+        fault ≢ Device → LeavesOnly D.Disk disk.old disk.new (IsImage (D.choices disk.old))) }
     ensures root { D.keeps disk.new → IfOk result (λ found. (root : Root) × (m : ℕ) × (place : ℕ)
         × ReadsBy half_len root m place found.house.state (D.reads disk.old)
         × IsOpenedRoot root (root.base_sequence + m) found.root) }
@@ -150,21 +142,16 @@ pub(crate) fn open_on<A: Allocator + Copy, D: Disk>(
     ensures ready { D.keeps disk.new → EachStands half_len (D.choices disk.old)
         → IfOk result (λ found. IsBegun half_len found.root found.place found.last found.house.state
         (D.reads disk.new)) }
-    ensures durable { OnOk result (D.choices disk.new ≡ settled (D.reads disk.new)) }
+    ensures durable { OnOk result (IsSettled D.Disk disk.new) }
     ensures any_moment { D.keeps disk.new → EachStands half_len (D.choices disk.old)
-        → LeavesOnly D.moment D.images_since disk.old disk.new
-        (StandsForOne half_len (D.choices disk.old)) }
+        → LeavesOnly D.Disk disk.old disk.new (StandsForOne half_len (D.choices disk.old)) }
     ensures budget { IfOk result (λ found. found.house.budget ≡ budget_of half_len) }
     ensures half { IfOk result (λ found. found.root.half ≤ 1) }
     ensures from { IfOk result (λ found. half_start half_len found.root.half ≤ found.place) }
     ensures within { IfOk result (λ found. found.place ≤ half_end half_len found.root.half) }
-    ensures passed { IfErr result (λ fault.
-        fault ≢ Device → D.failures disk.new ≡ D.failures disk.old) }
-    ensures device { IsErrOf result Device → HasRisen (D.failures disk.old) (D.failures disk.new) }
     ensures elsewhere { SparesRest half_len (D.reads disk.old) (D.reads disk.new) }
     ensures before { D.keeps disk.new → D.keeps disk.old }
-    ensures count { D.sectors disk.new ≡ D.sectors disk.old }
-    ensures failures { D.failures disk.old ≤ D.failures disk.new }
+    ensures counts { Counts D.Disk disk.old disk.new (IsErrOf result Device) }
 {
     match disk.sync() {
         Ok(()) => {}

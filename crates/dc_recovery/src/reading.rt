@@ -2,8 +2,7 @@
 
 ghost use Rattle.std.specs.Prelude.{true, false, ◌≡◌, ◌≢◌, ◌⊎◌, ◌<◌, ◌≤◌, ◌+◌, ◌-◌, ◌*◌, ◌^◌, List};
 ghost use Rattle.std.specs.Prelude.{ℕ, zero, suc, IfOk, IfErr, OnOk, OnErr, IsErrOf};
-ghost use Rattle.dc_io.specs.Failures.{HasRisen};
-ghost use Rattle.dc_recovery.specs.Looked.{OnlyLooked};
+ghost use Rattle.dc_sectors.specs.Runs.{OnlyLooked, Counts};
 ghost use Rattle.dc_roots.specs.declared.root.Root.{Root};
 ghost use Rattle.dc_recovery.specs.declared.fault.OpenFault.{OpenFault};
 ghost use Rattle.dc_recovery.specs.declared.fault.OpenFault.TheVariants.{Device};
@@ -40,10 +39,8 @@ fn current_root<D: Disk>(disk: &mut D, half_len: u32) -> Result<Root, OpenFault>
     ensures known { IfOk result (λ root. IsKnown root.version) }
     ensures refused { D.keeps disk.new
         → IfErr result (λ fault. IsRefused half_len (D.reads disk.old) fault) }
-    ensures device { IsErrOf result Device → HasRisen (D.failures disk.old) (D.failures disk.new) }
-    ensures passed { (IsErrOf result Device → ⊥) → D.failures disk.new ≡ D.failures disk.old }
-    ensures looked { OnlyLooked D.keeps D.reads D.choices D.moment D.images_since D.sectors
-        D.failures disk.old disk.new }
+    ensures looked { OnlyLooked D.Disk disk.old disk.new }
+    ensures counts { Counts D.Disk disk.old disk.new (IsErrOf result Device) }
 {
     match choose(disk) {
         Ok(root) => {
@@ -90,10 +87,8 @@ fn read_base<A: Allocator + Copy, D: Disk>(
     ensures within { IfOk result (λ found. found.place ≤ half_end half_len root.half) }
     ensures refused { D.keeps disk.new → IsCurrent half_len root (D.reads disk.old)
         → IfErr result (λ fault. IsRefused half_len (D.reads disk.old) fault) }
-    ensures device { IsErrOf result Device → HasRisen (D.failures disk.old) (D.failures disk.new) }
-    ensures passed { (IsErrOf result Device → ⊥) → D.failures disk.new ≡ D.failures disk.old }
-    ensures looked { OnlyLooked D.keeps D.reads D.choices D.moment D.images_since D.sectors
-        D.failures disk.old disk.new }
+    ensures looked { OnlyLooked D.Disk disk.old disk.new }
+    ensures counts { Counts D.Disk disk.old disk.new (IsErrOf result Device) }
 {
     let site = base_site(half_len, &root);
     let group = match read_group(alloc, disk, site) {
@@ -143,10 +138,8 @@ fn read_next<A: Allocator + Copy, D: Disk>(
     ensures within { OnOk result (found.new.place ≤ half_end half_len found.new.root.half) }
     ensures kept { (found.new.root ≡ found.old.root)
         × (found.new.house.budget ≡ found.old.house.budget) }
-    ensures device { IsErrOf result Device → HasRisen (D.failures disk.old) (D.failures disk.new) }
-    ensures passed { (IsErrOf result Device → ⊥) → D.failures disk.new ≡ D.failures disk.old }
-    ensures looked { OnlyLooked D.keeps D.reads D.choices D.moment D.images_since D.sectors
-        D.failures disk.old disk.new }
+    ensures looked { OnlyLooked D.Disk disk.old disk.new }
+    ensures counts { Counts D.Disk disk.old disk.new (IsErrOf result Device) }
 {
     if found.last == u64::MAX {
         return Ok(false);
@@ -193,10 +186,8 @@ fn read_groups<A: Allocator + Copy, D: Disk>(
     ensures within { OnOk result (found.new.place ≤ half_end half_len found.new.root.half) }
     ensures root { found.new.root ≡ found.old.root }
     ensures budget { found.new.house.budget ≡ found.old.house.budget }
-    ensures device { IsErrOf result Device → HasRisen (D.failures disk.old) (D.failures disk.new) }
-    ensures passed { (IsErrOf result Device → ⊥) → D.failures disk.new ≡ D.failures disk.old }
-    ensures looked { OnlyLooked D.keeps D.reads D.choices D.moment D.images_since D.sectors
-        D.failures disk.old disk.new }
+    ensures looked { OnlyLooked D.Disk disk.old disk.new }
+    ensures counts { Counts D.Disk disk.old disk.new (IsErrOf result Device) }
 {
     'groups: while read_next(alloc, disk, found, half_len)? {}
     Ok(())
@@ -219,10 +210,8 @@ pub fn read_image<A: Allocator + Copy, D: Disk>(
     ensures known { IfOk result (λ found. IsKnown found.root.version) }
     ensures from { IfOk result (λ found. half_start half_len found.root.half ≤ found.place) }
     ensures within { IfOk result (λ found. found.place ≤ half_end half_len found.root.half) }
-    ensures device { IsErrOf result Device → HasRisen (D.failures disk.old) (D.failures disk.new) }
-    ensures passed { (IsErrOf result Device → ⊥) → D.failures disk.new ≡ D.failures disk.old }
-    ensures looked { OnlyLooked D.keeps D.reads D.choices D.moment D.images_since D.sectors
-        D.failures disk.old disk.new }
+    ensures looked { OnlyLooked D.Disk disk.old disk.new }
+    ensures counts { Counts D.Disk disk.old disk.new (IsErrOf result Device) }
 {
     let root = current_root(disk, half_len)?;
     let mut found = read_base(alloc, disk, root, half_len)?;

@@ -2,8 +2,7 @@
 
 ghost use Rattle.std.specs.Prelude.{◌≡◌, ◌≢◌, ◌<◌, ◌≤◌, ◌-◌, ◌^◌, ◌↔◌, ℕ, Option, IfOk, OnOk};
 ghost use Rattle.std.specs.Prelude.{IsErrOf};
-ghost use Rattle.dc_io.specs.Failures.{HasRisen};
-ghost use Rattle.dc_sectors.specs.Disk.{LeavesOnly, settled};
+ghost use Rattle.dc_sectors.specs.Runs.{LeavesOnly, Counts, IsSettled};
 ghost use Rattle.dc_roots.specs.Root.{next_of, slot};
 ghost use Rattle.dc_roots.specs.Choice.{IsRootWrite};
 ghost use Rattle.dc_recovery.specs.Roots.{IsRootDone};
@@ -21,19 +20,15 @@ pub(crate) fn put_root<D: Disk>(disk: &mut D, root: &Root) -> Result<Root, RootF
     ensures unchanged { IsErrOf result RootFault.Worn → disk.new ≡ disk.old }
     ensures not_rootless { (unreadable : Option ℕ) → IsErrOf result (RootFault.NoRoot unreadable)
         → ⊥ }
-    ensures done { D.choices disk.old ≡ settled (D.reads disk.old)
+    ensures done { IsSettled D.Disk disk.old
         → OnOk result (IsRootDone (next_of root.now) (D.reads disk.old) (D.reads disk.new)) }
-    ensures durable { OnOk result (D.choices disk.new ≡ settled (D.reads disk.new)) }
-    ensures any_moment { D.choices disk.old ≡ settled (D.reads disk.old)
-        → LeavesOnly D.moment D.images_since disk.old disk.new
-        (IsRootWrite (next_of root.now) (D.reads disk.old)) }
-    ensures device { IsErrOf result RootFault.Device
-        → HasRisen (D.failures disk.old) (D.failures disk.new) }
+    ensures durable { OnOk result (IsSettled D.Disk disk.new) }
+    ensures any_moment { IsSettled D.Disk disk.old
+        → LeavesOnly D.Disk disk.old disk.new (IsRootWrite (next_of root.now) (D.reads disk.old)) }
     ensures elsewhere { (m : ℕ) → m ≢ slot (next_of root.now).generation
         → D.reads disk.new m ≡ D.reads disk.old m }
     ensures before { D.keeps disk.new → D.keeps disk.old }
-    ensures count { D.sectors disk.new ≡ D.sectors disk.old }
-    ensures failures { D.failures disk.old ≤ D.failures disk.new }
+    ensures counts { Counts D.Disk disk.old disk.new (IsErrOf result RootFault.Device) }
 {
     if root.generation == u64::MAX {
         return Err(RootFault::Worn);

@@ -3,8 +3,8 @@
 ghost use Rattle.std.specs.Prelude.{◌≡◌, ◌≢◌, ◌⊎◌, ◌<◌, ◌≤◌, ◌+◌, ◌*◌, ◌-◌, ◌^◌, ◌↔◌, List, ℕ};
 ghost use Rattle.std.specs.Prelude.{length, true, false, IsTrue, IfOk, IfErr, OnOk, MatchResult};
 ghost use Rattle.std.specs.Prelude.{IsErrOf, Err};
-ghost use Rattle.dc_io.specs.Failures.{HasRisen};
-ghost use Rattle.dc_sectors.specs.Disk.{Image, IsImage, LeavesOnly, settled};
+ghost use Rattle.dc_sectors.specs.Disk.{Image, IsImage};
+ghost use Rattle.dc_sectors.specs.Runs.{LeavesOnly, Counts, IsSettled};
 ghost use Rattle.dc_roots.specs.declared.root.Root.{Root};
 ghost use Rattle.dc_roots.specs.Choice.{HasRoot, IsChosen};
 ghost use Rattle.dc_recovery.specs.Refusal.{IsRefused, IsWorn, TellsOfImage};
@@ -17,7 +17,7 @@ ghost use Rattle.dc_recovery.specs.declared.fault.FormatFault.TheVariants.{Devic
 ghost use Rattle.dc_recovery.specs.declared.fault.StoreFault.TheVariants.{Device as StoreDevice};
 ghost use Rattle.dc_recovery.specs.declared.fault.StoreFault.TheVariants.{Worn as StoreWorn};
 ghost use Rattle.dc_recovery.specs.declared.fault.StoreFault.TheVariants.{Stopped};
-ghost use Rattle.dc_recovery.specs.Halves.{half_len_of, half_end, budget_of, fewest_sectors};
+ghost use Rattle.dc_recovery.specs.Halves.{half_of, half_end, budget_of, fewest_sectors};
 ghost use Rattle.dc_recovery.specs.Halves.{SparesRest};
 ghost use Rattle.dc_recovery.specs.Roots.{first_root, compacted, IsOpenedRoot};
 ghost use Rattle.dc_recovery.specs.Language.{State, Change, SpellsChanges, AcceptsAll, after};
@@ -53,7 +53,7 @@ pub struct Store<D: Disk + Drop> {
 
 impl<D: Disk + Drop> Model for Store<D> {
     ghost use Rattle.std.specs.Prelude.{◌≤◌, ◌≡◌};
-    ghost use Rattle.dc_recovery.specs.Halves.{half_len_of, half_end};
+    ghost use Rattle.dc_recovery.specs.Halves.{half_of, half_end};
     ghost use Rattle.dc_recovery.specs.Store.{Kept, IsLaidOut};
 
     ghost Value = { Kept D };
@@ -86,10 +86,6 @@ impl<D: Disk + Drop> Store<D> {
             D.keeps e.1 → e.0 ≡ AlreadyFormatted → (root : Root) × HasRoot root (D.reads disk)) }
         ensures never_over { (root : Root) → HasRoot root (D.reads disk)
             → IfOk result (λ d. D.keeps d → ⊥) }
-        ensures device { IfErr result (λ e.
-            e.0 ≡ FormatDevice → HasRisen (D.failures disk) (D.failures e.1)) }
-        ensures passed { IfErr result (λ e.
-            e.0 ≡ AlreadyFormatted → D.failures e.1 ≡ D.failures disk) }
 
         // Where a slot had a valid root, the disk reads as before, and each image of every moment is one of those
         // before.
@@ -97,32 +93,28 @@ impl<D: Disk + Drop> Store<D> {
             → IfErr result (λ e. D.keeps e.1 → D.reads e.1 ≡ D.reads disk) }
         ensures spares_images { (root : Root) → HasRoot root (D.reads disk)
             → IfErr result (λ e. D.keeps e.1
-            → LeavesOnly D.moment D.images_since disk e.1 (IsImage (D.choices disk))) }
+            → LeavesOnly D.Disk disk e.1 (IsImage (D.choices disk))) }
 
         // On the way each image is one of those before, has no valid root, or stands for the empty register.
-        ensures any_moment { MatchResult result (λ d.
-            D.keeps d → LeavesOnly D.moment D.images_since disk d
-            (IsFormatting (half_len_of (D.sectors disk)) (D.choices disk)))
-            (λ e. D.keeps e.1 → LeavesOnly D.moment D.images_since disk e.1
-            (IsFormatting (half_len_of (D.sectors disk)) (D.choices disk))) }
+        ensures any_moment { MatchResult result (λ d. D.keeps d → LeavesOnly D.Disk disk d
+            (IsFormatting (half_of D.Disk disk) (D.choices disk)))
+            (λ e. D.keeps e.1 → LeavesOnly D.Disk disk e.1
+            (IsFormatting (half_of D.Disk disk) (D.choices disk))) }
 
         // Each image of the disk stands for the empty register, by the first root.
         ensures formatted { IfOk result (λ d. (image : Image) → IsImage (D.choices d) image
-            → Stands (half_len_of (D.sectors d)) empty_state image) }
-        ensures root { IfOk result (λ d.
-            IsChosen (first_root (half_len_of (D.sectors d))) (D.reads d)) }
-        ensures durable { IfOk result (λ d. D.choices d ≡ settled (D.reads d)) }
+            → Stands (half_of D.Disk d) empty_state image) }
+        ensures root { IfOk result (λ d. IsChosen (first_root (half_of D.Disk d)) (D.reads d)) }
+        ensures durable { IfOk result (λ d. IsSettled D.Disk d) }
 
         // Sector 0 and the sectors after the second half read as before.
         ensures elsewhere { MatchResult result (λ d.
-            SparesRest (half_len_of (D.sectors disk)) (D.reads disk) (D.reads d))
-            (λ e. SparesRest (half_len_of (D.sectors disk)) (D.reads disk) (D.reads e.1)) }
+            SparesRest (half_of D.Disk disk) (D.reads disk) (D.reads d))
+            (λ e. SparesRest (half_of D.Disk disk) (D.reads disk) (D.reads e.1)) }
         ensures before { MatchResult result (λ d. D.keeps d → D.keeps disk)
             (λ e. D.keeps e.1 → D.keeps disk) }
-        ensures count { MatchResult result (λ d. D.sectors d ≡ D.sectors disk)
-            (λ e. D.sectors e.1 ≡ D.sectors disk) }
-        ensures failures { MatchResult result (λ d. D.failures disk ≤ D.failures d)
-            (λ e. D.failures disk ≤ D.failures e.1) }
+        ensures counts { MatchResult result (λ d. Counts D.Disk disk d ⊥)
+            (λ e. Counts D.Disk disk e.1 (e.0 ≡ FormatDevice)) }
     {
         match format_on(&mut disk) {
             Ok(()) => Ok(disk),
@@ -145,56 +137,47 @@ impl<D: Disk + Drop> Store<D> {
 
         // Ok gives exactly the state that the image reads as, and a refusal is a fact of the image.
         ensures reads { IfOk result (λ o.
-            D.keeps o.0.disk → Reads (half_len_of (D.sectors disk)) o.1.state (D.reads disk)) }
+            D.keeps o.0.disk → Reads (half_of D.Disk disk) o.1.state (D.reads disk)) }
         ensures refused { fewest_sectors ≤ D.sectors disk
-            → IfErr result (λ e. D.keeps e.1
-            → IsRefused (half_len_of (D.sectors disk)) (D.reads disk) e.0) }
+            → IfErr result (λ e. D.keeps e.1 → IsRefused (half_of D.Disk disk) (D.reads disk) e.0) }
         ensures version { IfOk result (λ o. o.0.root.version ≡ image_version) }
         ensures root { IfOk result (λ o. D.keeps o.0.disk → (root : Root) × (m : ℕ) × (place : ℕ)
-            × ReadsBy (half_len_of (D.sectors disk)) root m place o.1.state (D.reads disk)
+            × ReadsBy (half_of D.Disk disk) root m place o.1.state (D.reads disk)
             × IsOpenedRoot root (root.base_sequence + m) o.0.root) }
 
         // Unless the device failed, a refusal wrote nothing: the disk reads as before, and so does each image of
         // every moment.
         ensures unwritten { IfErr result (λ e. e.0 ≢ OpenDevice → D.reads e.1 ≡ D.reads disk) }
-        ensures spares_images { IfErr result (λ e.
-            e.0 ≢ OpenDevice → LeavesOnly D.moment D.images_since disk e.1
+        ensures spares_images { IfErr result (λ e. e.0 ≢ OpenDevice → LeavesOnly D.Disk disk e.1
             (IsImage (D.choices disk))) }
         ensures not_worn { IfOk result (λ o.
-            D.keeps o.0.disk → IsWorn (half_len_of (D.sectors disk)) (D.reads disk) → ⊥) }
-        ensures device { IfErr result (λ e.
-            e.0 ≡ OpenDevice → HasRisen (D.failures disk) (D.failures e.1)) }
-        ensures passed { IfErr result (λ e. e.0 ≢ OpenDevice → D.failures e.1 ≡ D.failures disk) }
-        ensures failures { MatchResult result (λ o. D.failures disk ≤ D.failures o.0.disk)
-            (λ e. D.failures disk ≤ D.failures e.1) }
+            D.keeps o.0.disk → IsWorn (half_of D.Disk disk) (D.reads disk) → ⊥) }
 
         // Where each image stands for some state, a stop leaves one that stands for a state that one of them stood for.
-        ensures kept { EachStands (half_len_of (D.sectors disk)) (D.choices disk)
-            → IfOk result (λ o. D.keeps o.0.disk
-            → Keeps D.sectors D.reads D.choices o.0 o.1.state) }
-        ensures any_moment { EachStands (half_len_of (D.sectors disk)) (D.choices disk)
+        ensures kept { EachStands (half_of D.Disk disk) (D.choices disk)
+            → IfOk result (λ o. D.keeps o.0.disk → Keeps D.Disk o.0 o.1.state) }
+        ensures any_moment { EachStands (half_of D.Disk disk) (D.choices disk)
             → MatchResult result (λ o. D.keeps o.0.disk
-            → LeavesOnly D.moment D.images_since disk o.0.disk
-            (StandsForOne (half_len_of (D.sectors disk)) (D.choices disk)))
-            (λ e. D.keeps e.1 → LeavesOnly D.moment D.images_since disk e.1
-            (StandsForOne (half_len_of (D.sectors disk)) (D.choices disk))) }
+            → LeavesOnly D.Disk disk o.0.disk (StandsForOne (half_of D.Disk disk) (D.choices disk)))
+            (λ e. D.keeps e.1 → LeavesOnly D.Disk disk e.1
+            (StandsForOne (half_of D.Disk disk) (D.choices disk))) }
 
         // And such an image is refused only for an exhausted counter.
         ensures premise { fewest_sectors ≤ D.sectors disk
-            → EachStands (half_len_of (D.sectors disk)) (D.choices disk)
+            → EachStands (half_of D.Disk disk) (D.choices disk)
             → IfErr result (λ e. D.keeps e.1 → TellsOfImage e.0 → e.0 ≡ OpenWorn) }
-        ensures durable { IfOk result (λ o. D.choices o.0.disk ≡ settled (D.reads o.0.disk)) }
+        ensures durable { IfOk result (λ o. IsSettled D.Disk o.0.disk) }
         ensures running { IfOk result (λ o. o.0.is_stopped ≡ false) }
-        ensures budget { IfOk result (λ o. o.1.budget ≡ budget_of (half_len_of (D.sectors disk))) }
+        ensures budget { IfOk result (λ o. o.1.budget ≡ budget_of (half_of D.Disk disk)) }
 
         // Sector 0 and the sectors after the second half read as before.
         ensures elsewhere { MatchResult result (λ o.
-            SparesRest (half_len_of (D.sectors disk)) (D.reads disk) (D.reads o.0.disk))
-            (λ e. SparesRest (half_len_of (D.sectors disk)) (D.reads disk) (D.reads e.1)) }
+            SparesRest (half_of D.Disk disk) (D.reads disk) (D.reads o.0.disk))
+            (λ e. SparesRest (half_of D.Disk disk) (D.reads disk) (D.reads e.1)) }
         ensures before { MatchResult result (λ o. D.keeps o.0.disk → D.keeps disk)
             (λ e. D.keeps e.1 → D.keeps disk) }
-        ensures count { MatchResult result (λ o. D.sectors o.0.disk ≡ D.sectors disk)
-            (λ e. D.sectors e.1 ≡ D.sectors disk) }
+        ensures counts { MatchResult result (λ o. Counts D.Disk disk o.0.disk ⊥)
+            (λ e. Counts D.Disk disk e.1 (e.0 ≡ OpenDevice)) }
     {
         let count = disk.count();
         if count < FEWEST_SECTORS {
@@ -223,7 +206,7 @@ impl<D: Disk + Drop> Store<D> {
 
     /// Maximum size of a state on this image, in bytes.
     pub fn budget(&self) -> u32
-        ensures { result ≡ budget_of (half_len_of (D.sectors self.now.disk)) }
+        ensures { result ≡ budget_of (half_of D.Disk self.now.disk) }
     {
         budget_of(half_len_of(self.disk.count()))
     }
@@ -259,8 +242,6 @@ impl<D: Disk + Drop> Store<D> {
             ((self.old.is_stopped ≡ false) × (2 ^ 64 - 1 ≤ self.old.last + 1)) }
         ensures unchanged { IsErrOf result Stopped ⊎ IsErrOf result StoreWorn
             → self.new ≡ self.old }
-        ensures device { IsErrOf result StoreDevice
-            → HasRisen (D.failures self.old.disk) (D.failures self.new.disk) }
         ensures stops { IsErrOf result StoreDevice → self.new.is_stopped ≡ true }
         ensures running { OnOk result (self.new.is_stopped ≡ false) }
         ensures root { self.new.root ≡ self.old.root }
@@ -268,19 +249,18 @@ impl<D: Disk + Drop> Store<D> {
 
         // The changes are accepted in turn in the state that the store keeps.
         ensures kept { (was : State) (changes : List Change)
-            → Keeps D.sectors D.reads D.choices self.old was → SpellsChanges bytes.now changes
-            → AcceptsAll (budget_of (half_len_of (D.sectors self.old.disk))) was changes
-            → OnOk result (Keeps D.sectors D.reads D.choices self.new (after was changes)) }
+            → Keeps D.Disk self.old was → SpellsChanges bytes.now changes
+            → AcceptsAll (budget_of (half_of D.Disk self.old.disk)) was changes
+            → OnOk result (Keeps D.Disk self.new (after was changes)) }
         ensures any_moment { (was : State) (changes : List Change)
-            → Keeps D.sectors D.reads D.choices self.old was → SpellsChanges bytes.now changes
-            → AcceptsAll (budget_of (half_len_of (D.sectors self.old.disk))) was changes
-            → LeavesOnly D.moment D.images_since self.old.disk self.new.disk
-            (StandsForEither (half_len_of (D.sectors self.old.disk)) was (after was changes)) }
-        ensures elsewhere { SparesRest (half_len_of (D.sectors self.old.disk))
+            → Keeps D.Disk self.old was → SpellsChanges bytes.now changes
+            → AcceptsAll (budget_of (half_of D.Disk self.old.disk)) was changes
+            → LeavesOnly D.Disk self.old.disk self.new.disk
+            (StandsForEither (half_of D.Disk self.old.disk) was (after was changes)) }
+        ensures elsewhere { SparesRest (half_of D.Disk self.old.disk)
             (D.reads self.old.disk) (D.reads self.new.disk) }
         ensures before { D.keeps self.new.disk → D.keeps self.old.disk }
-        ensures count { D.sectors self.new.disk ≡ D.sectors self.old.disk }
-        ensures failures { D.failures self.old.disk ≤ D.failures self.new.disk }
+        ensures counts { Counts D.Disk self.old.disk self.new.disk (IsErrOf result StoreDevice) }
     {
         if self.is_stopped {
             return Err(StoreFault::Stopped);
@@ -313,28 +293,25 @@ impl<D: Disk + Drop> Store<D> {
     /// `Stopped` after a failure; `Worn` if the sequence or the generation is exhausted, and
     /// nothing was written; `Device` if the disk failed, and the store is stopped from then on.
     pub fn compact<A: Allocator + Copy>(&mut self, house: &House<A>) -> Result<(), StoreFault>
-        requires budget { house.now.budget ≤ budget_of (half_len_of (D.sectors self.old.disk)) }
+        requires budget { house.now.budget ≤ budget_of (half_of D.Disk self.old.disk) }
         ensures stopped { IsErrOf result Stopped ↔ (self.old.is_stopped ≡ true) }
         ensures worn { IsErrOf result StoreWorn ↔ ((self.old.is_stopped ≡ false)
             × ((2 ^ 64 - 1 ≤ self.old.last + 1) ⊎ (self.old.root.generation ≡ 2 ^ 64 - 1))) }
         ensures unchanged { IsErrOf result Stopped ⊎ IsErrOf result StoreWorn
             → self.new ≡ self.old }
-        ensures device { IsErrOf result StoreDevice
-            → HasRisen (D.failures self.old.disk) (D.failures self.new.disk) }
         ensures stops { IsErrOf result StoreDevice → self.new.is_stopped ≡ true }
         ensures running { OnOk result (self.new.is_stopped ≡ false) }
         ensures root { OnOk result (self.new.root ≡ compacted self.old.root (self.old.last + 1)) }
         ensures last { OnOk result (self.new.last ≡ self.old.last + 1) }
-        ensures kept { (was : State) → Keeps D.sectors D.reads D.choices self.old was
-            → OnOk result (Keeps D.sectors D.reads D.choices self.new house.now.state) }
-        ensures any_moment { (was : State) → Keeps D.sectors D.reads D.choices self.old was
-            → LeavesOnly D.moment D.images_since self.old.disk self.new.disk
-            (StandsForEither (half_len_of (D.sectors self.old.disk)) was house.now.state) }
-        ensures elsewhere { SparesRest (half_len_of (D.sectors self.old.disk))
+        ensures kept { (was : State) → Keeps D.Disk self.old was
+            → OnOk result (Keeps D.Disk self.new house.now.state) }
+        ensures any_moment { (was : State) → Keeps D.Disk self.old was
+            → LeavesOnly D.Disk self.old.disk self.new.disk
+            (StandsForEither (half_of D.Disk self.old.disk) was house.now.state) }
+        ensures elsewhere { SparesRest (half_of D.Disk self.old.disk)
             (D.reads self.old.disk) (D.reads self.new.disk) }
         ensures before { D.keeps self.new.disk → D.keeps self.old.disk }
-        ensures count { D.sectors self.new.disk ≡ D.sectors self.old.disk }
-        ensures failures { D.failures self.old.disk ≤ D.failures self.new.disk }
+        ensures counts { Counts D.Disk self.old.disk self.new.disk (IsErrOf result StoreDevice) }
     {
         if self.is_stopped {
             return Err(StoreFault::Stopped);

@@ -1,8 +1,7 @@
 //! Writes a group, without the sync that makes it durable.
 
-ghost use Rattle.std.specs.Prelude.{◌≡◌, ◌<◌, ◌≤◌, ◌+◌, ◌*◌, length, IfOk, OnOk, OnErr};
-ghost use Rattle.dc_io.specs.Failures.{HasRisen};
-ghost use Rattle.dc_sectors.specs.Disk.{LeavesOnly, settled};
+ghost use Rattle.std.specs.Prelude.{◌≡◌, ◌<◌, ◌≤◌, ◌+◌, ◌*◌, length, IfOk, OnOk, OnErr, IsErr};
+ghost use Rattle.dc_sectors.specs.Runs.{LeavesOnly, Counts, IsSettled};
 ghost use Rattle.dc_pages.specs.Draft.{FitsAt};
 ghost use Rattle.dc_pages.specs.Writing.{SameOutside};
 ghost use Rattle.dc_pages.specs.Streaming.{GoesInto, BreaksOff};
@@ -25,18 +24,16 @@ pub(crate) fn write_group<D: Disk>(
     requires some { 0 < length bytes.now }
     requires room { FitsAt site.first site.limit (length bytes.now) }
     requires limit { site.limit ≤ D.sectors disk.old }
-    ensures written { D.choices disk.old ≡ settled (D.reads disk.old)
+    ensures written { IsSettled D.Disk disk.old
         → IfOk result (λ count. IsWritten site session bytes.now count (D.reads disk.old)
         (D.reads disk.new)) }
-    ensures any_moment { D.choices disk.old ≡ settled (D.reads disk.old)
-        → LeavesOnly D.moment D.images_since disk.old disk.new
+    ensures any_moment { IsSettled D.Disk disk.old
+        → LeavesOnly D.Disk disk.old disk.new
         (IsAttempt site session bytes.now (D.reads disk.old)) }
     ensures within { IfOk result (λ count. site.first + count ≤ site.limit) }
     ensures elsewhere { SameOutside site (D.reads disk.old) (D.reads disk.new) }
     ensures before { D.keeps disk.new → D.keeps disk.old }
-    ensures count { D.sectors disk.new ≡ D.sectors disk.old }
-    ensures failures { D.failures disk.old ≤ D.failures disk.new }
-    ensures failed { OnErr result (HasRisen (D.failures disk.old) (D.failures disk.new)) }
+    ensures counts { Counts D.Disk disk.old disk.new (IsErr result) }
 {
     let mut writer = GroupWriter::begin(site, session);
     writer.put(disk, bytes)?;
@@ -50,11 +47,10 @@ fn encode_into<A: Allocator + Copy, D: Disk>(
     house: &House<A>,
 ) -> Result<(), Failed>
     ensures same_reference { sink.new.disk.ghost_name ≡ sink.old.disk.ghost_name }
-    ensures goes_into { OnOk result (GoesInto D.keeps D.reads D.choices D.moment D.images_since
-        D.sectors D.failures sink.old.disk.now sink.new.disk.now sink.old.writer sink.new.writer
+    ensures goes_into { OnOk result (GoesInto D.Disk sink.old.disk.now sink.new.disk.now
+        sink.old.writer sink.new.writer
         (state_bytes house.now.state)) }
-    ensures breaks_off { OnErr result
-        (BreaksOff D.keeps D.reads D.choices D.moment D.images_since D.sectors D.failures
+    ensures breaks_off { OnErr result (BreaksOff D.Disk
         sink.old.disk.now sink.new.disk.now sink.old.writer (state_bytes house.now.state)) }
 {
     match house.encode(sink) {
@@ -73,18 +69,16 @@ pub(crate) fn write_state<A: Allocator + Copy, D: Disk>(
     requires some { 0 < length (state_bytes house.now.state) }
     requires room { FitsAt site.first site.limit (length (state_bytes house.now.state)) }
     requires limit { site.limit ≤ D.sectors disk.old }
-    ensures written { D.choices disk.old ≡ settled (D.reads disk.old)
+    ensures written { IsSettled D.Disk disk.old
         → IfOk result (λ count. IsWritten site session (state_bytes house.now.state) count
         (D.reads disk.old) (D.reads disk.new)) }
-    ensures any_moment { D.choices disk.old ≡ settled (D.reads disk.old)
-        → LeavesOnly D.moment D.images_since disk.old disk.new
+    ensures any_moment { IsSettled D.Disk disk.old
+        → LeavesOnly D.Disk disk.old disk.new
         (IsAttempt site session (state_bytes house.now.state) (D.reads disk.old)) }
     ensures within { IfOk result (λ count. site.first + count ≤ site.limit) }
     ensures elsewhere { SameOutside site (D.reads disk.old) (D.reads disk.new) }
     ensures before { D.keeps disk.new → D.keeps disk.old }
-    ensures count { D.sectors disk.new ≡ D.sectors disk.old }
-    ensures failures { D.failures disk.old ≤ D.failures disk.new }
-    ensures failed { OnErr result (HasRisen (D.failures disk.old) (D.failures disk.new)) }
+    ensures counts { Counts D.Disk disk.old disk.new (IsErr result) }
 {
     let mut sink = GroupSink {
         disk,

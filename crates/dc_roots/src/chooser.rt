@@ -1,9 +1,9 @@
 //! Chooses the root in force.
 
-ghost use Rattle.std.specs.Prelude.{◌≡◌, ◌<◌, ◌≤◌, IfOk, OnOk, OnErr, IsErrOf};
-ghost use Rattle.dc_io.specs.Failures.{HasRisen};
+ghost use Rattle.std.specs.Prelude.{◌≡◌, ◌<◌, ◌≤◌, IfOk, IsErrOf, IsErr};
 ghost use Rattle.dc_sectors.specs.declared.sector.Sector.TheVariants.{Bytes};
-ghost use Rattle.dc_sectors.specs.Disk.{Image, IsImage, Elapses, LeavesOnly};
+ghost use Rattle.dc_sectors.specs.Disk.{Image, IsImage};
+ghost use Rattle.dc_sectors.specs.Runs.{Passes, LeavesOnly, Counts};
 ghost use Rattle.dc_roots.specs.Choice.{IsChoice};
 ghost use Rattle.dc_roots.specs.Held.{IsHeld, NamesHalf};
 
@@ -46,13 +46,9 @@ pub fn read_slot<D: Disk>(disk: &mut D, slot: u32) -> Result<Held, Failed>
     ensures half { IfOk result NamesHalf }
     ensures reads { D.reads disk.new ≡ D.reads disk.old }
     ensures choices { D.choices disk.new ≡ D.choices disk.old }
-    ensures time { Elapses (D.moment disk.old) (D.moment disk.new) (D.images_since disk.old)
-        (D.images_since disk.new) (IsImage (D.choices disk.old)) }
+    ensures time { Passes D.Disk disk.old disk.new (IsImage (D.choices disk.old)) }
     ensures before { D.keeps disk.new → D.keeps disk.old }
-    ensures count { D.sectors disk.new ≡ D.sectors disk.old }
-    ensures failures { D.failures disk.old ≤ D.failures disk.new }
-    ensures passed { OnOk result (D.failures disk.new ≡ D.failures disk.old) }
-    ensures failed { OnErr result (HasRisen (D.failures disk.old) (D.failures disk.new)) }
+    ensures counts { Counts D.Disk disk.old disk.new (IsErr result) }
 {
     match disk.read(slot) {
         Ok(bytes) => Ok(held_by(&bytes, slot)),
@@ -104,18 +100,12 @@ pub fn choose<D: Disk>(disk: &mut D) -> Result<Root, RootFault>
     requires { 2 < D.sectors disk.old }
     ensures choice { D.keeps disk.new → IsChoice (D.reads disk.old) result }
     ensures half { IfOk result (λ root. root.half ≤ 1) }
-    ensures device { IsErrOf result RootFault.Device
-        → HasRisen (D.failures disk.old) (D.failures disk.new) }
-    ensures passed { (IsErrOf result RootFault.Device → ⊥)
-        → D.failures disk.new ≡ D.failures disk.old }
     ensures not_worn { IsErrOf result RootFault.Worn → ⊥ }
     ensures reads { D.reads disk.new ≡ D.reads disk.old }
     ensures choices { D.choices disk.new ≡ D.choices disk.old }
-    ensures any_moment { LeavesOnly D.moment D.images_since disk.old disk.new
-        (IsImage (D.choices disk.old)) }
+    ensures any_moment { LeavesOnly D.Disk disk.old disk.new (IsImage (D.choices disk.old)) }
     ensures before { D.keeps disk.new → D.keeps disk.old }
-    ensures count { D.sectors disk.new ≡ D.sectors disk.old }
-    ensures failures { D.failures disk.old ≤ D.failures disk.new }
+    ensures counts { Counts D.Disk disk.old disk.new (IsErrOf result RootFault.Device) }
 {
     let first = match read_slot(disk, 1) {
         Ok(held) => held,

@@ -2,9 +2,9 @@
 
 ghost use Rattle.std.specs.Prelude.{◌≡◌, ◌≢◌, ◌<◌, ◌≤◌, ◌-◌, ◌^◌, ◌↔◌, ℕ, Option, IfOk, OnOk};
 ghost use Rattle.std.specs.Prelude.{IsErrOf};
-ghost use Rattle.dc_io.specs.Failures.{HasRisen};
 ghost use Rattle.dc_sectors.specs.declared.sector.Sector.TheVariants.{Bytes};
-ghost use Rattle.dc_sectors.specs.Disk.{IsImage, LeavesOnly, put, added};
+ghost use Rattle.dc_sectors.specs.Disk.{IsImage, put, added};
+ghost use Rattle.dc_sectors.specs.Runs.{LeavesOnly, Counts};
 ghost use Rattle.dc_roots.specs.Root.{IsRoot, next_of, root_bytes, slot};
 
 use crate::format::sector_of;
@@ -33,16 +33,13 @@ pub fn write_next<D: Disk>(disk: &mut D, root: &Root) -> Result<Root, RootFault>
     ensures choices { OnOk result (D.choices disk.new
         ≡ added (D.choices disk.old) (slot (next_of root.now).generation)
         (root_bytes (next_of root.now))) }
-    ensures any_moment { LeavesOnly D.moment D.images_since disk.old disk.new
+    ensures any_moment { LeavesOnly D.Disk disk.old disk.new
         (IsImage (added (D.choices disk.old) (slot (next_of root.now).generation)
         (root_bytes (next_of root.now)))) }
-    ensures device { IsErrOf result RootFault.Device
-        → HasRisen (D.failures disk.old) (D.failures disk.new) }
     ensures not_rootless { (unreadable : Option ℕ) → IsErrOf result (RootFault.NoRoot unreadable)
         → ⊥ }
     ensures before { D.keeps disk.new → D.keeps disk.old }
-    ensures count { D.sectors disk.new ≡ D.sectors disk.old }
-    ensures failures { D.failures disk.old ≤ D.failures disk.new }
+    ensures counts { Counts D.Disk disk.old disk.new (IsErrOf result RootFault.Device) }
 {
     let Some(generation) = root.generation.checked_add(1) else {
         return Err(RootFault::Worn);

@@ -20,24 +20,24 @@ module _ {D : Type 0} (g : Ghosts D) where
       → ((image : Image) → g.images_since machine.store.disk (g.moment machine.store.disk) image → IsImage (g.choices machine.store.disk) image)
       → ((core : Core) → such core []) → Runs g such machine machine
   runs_none such machine only are origin state before chain at =
-      record { happened = []; are_such = are (leads (opened state) before); went = went_none (g.keeps origin) g.sectors g.failures g.reads g.choices g.moment g.images_since machine.house.budget state before machine chain at (λ known. only) }
+      record { happened = []; are_such = are (leads (opened state) before); went = went_none g origin machine.house.budget state before machine chain at (λ known. only) }
 
   -- the same, where it may be said where the concentrator is
   pub runs_still : (such : Core → List Happening → Type 0) (machine : Machine D)
       → ((image : Image) → g.images_since machine.store.disk (g.moment machine.store.disk) image → IsImage (g.choices machine.store.disk) image)
       → (happened : List Happening) → happened_turns happened ≡ []
-      → ((known : Type 0) (core : Core) → IsAt known g.sectors g.reads g.choices machine core → such core happened) → Runs g such machine machine
+      → ((origin : D) (core : Core) → IsAt g origin machine core → such core happened) → Runs g such machine machine
   runs_still such machine only happened none are origin state before chain at =
       record {
         happened = happened;
-        are_such = are (g.keeps origin) (leads (opened state) before) at;
-        went = subst (λ (ts : List Turn). Went (g.keeps origin) g.sectors g.failures g.reads g.choices g.moment g.images_since machine.house.budget state before ts machine machine) (sym none)
-            (went_none (g.keeps origin) g.sectors g.failures g.reads g.choices g.moment g.images_since machine.house.budget state before machine chain at (λ known. only));
+        are_such = are origin (leads (opened state) before) at;
+        went = subst (λ (ts : List Turn). Went g origin machine.house.budget state before ts machine machine) (sym none)
+            (went_none g origin machine.house.budget state before machine chain at (λ known. only));
       }
 
   -- one turn
   pub turn_happens : (origin : D) (state : State) (before : List Turn) (event : Event) (answer : Answer) (first new : Machine D)
-      → TurnWent (g.keeps origin) g.sectors g.failures g.reads g.choices g.moment g.images_since first.house.budget state before event (λ told. told ≡ answer) first new
+      → TurnWent g origin first.house.budget state before event (λ told. told ≡ answer) first new
       → Happens g origin state before (λ core happened. happened ≡ does (event, answer) ∷ []) first new
   turn_happens origin state before event answer first new turn =
       record { happened = does (event, turn.answer) ∷ []; are_such = ap (λ (a : Answer). does (event, a) ∷ []) turn.is_such; went = turn.went }
@@ -50,15 +50,15 @@ module _ {D : Type 0} (g : Ghosts D) where
   runs_then one then_such such first old new a same b joins origin state before chain at =
       let p = a origin state before chain at in
       let turns : List Turn = happened_turns p.happened in
-      let chain' = went_chain (g.keeps origin) g.sectors g.failures g.reads g.choices g.moment g.images_since first.house.budget state before turns first old p.went in
-      let at' = went_at (g.keeps origin) g.sectors g.failures g.reads g.choices g.moment g.images_since first.house.budget state before turns first old p.went in
+      let chain' = went_chain g origin first.house.budget state before turns first old p.went in
+      let at' = went_at g origin first.house.budget state before turns first old p.went in
       let q = b origin state (before ++ turns) (subst (λ (n : ℕ). IsChain n (opened state) (before ++ turns)) (sym same) chain') at' in
       record {
         happened = p.happened ++ q.happened;
         are_such = joins (leads (opened state) before) p.happened q.happened p.are_such (subst (λ (c : Core). then_such c q.happened) (leads_append (opened state) before turns) q.are_such);
-        went = subst (λ (ts : List Turn). Went (g.keeps origin) g.sectors g.failures g.reads g.choices g.moment g.images_since first.house.budget state before ts first new) (sym (turns_append p.happened q.happened))
-            (went_both (g.keeps origin) g.sectors g.failures g.reads g.choices g.moment g.images_since first.house.budget state before turns (happened_turns q.happened) first old new p.went
-            (subst (λ (n : ℕ). Went (g.keeps origin) g.sectors g.failures g.reads g.choices g.moment g.images_since n state (before ++ turns) (happened_turns q.happened) old new) same q.went));
+        went = subst (λ (ts : List Turn). Went g origin first.house.budget state before ts first new) (sym (turns_append p.happened q.happened))
+            (went_both g origin first.house.budget state before turns (happened_turns q.happened) first old new p.went
+            (subst (λ (n : ℕ). Went g origin n state (before ++ turns) (happened_turns q.happened) old new) same q.went));
       }
 
   -- less is said of them

@@ -10,7 +10,6 @@ use Rattle.dc_core.specs.Images.{Machine}
 use Rattle.dc_core.specs.Transcript.{Turn, leads}
 use Rattle.dc_rounds.specs.Bus.{Bus}
 use Rattle.dc_poller.specs.Went.{BehindAnyRun, Went}
-use Rattle.dc_sectors.specs.declared.device.Disk.{Ghosts}
 use Rattle.dc_rounds.specs.Happening.{Told, was_read, has_failed, was_refused, Happening, does}
 use Rattle.dc_rounds.specs.Happening.{tells, happened_on, happened_text, happened_turns, reads_in}
 use Rattle.dc_rounds.specs.Happening.{failures_in, newest_serial, newest_parts}
@@ -18,6 +17,7 @@ use Rattle.dc_rounds.specs.declared.end.End.{End}
 use Rattle.dc_rounds.specs.declared.end.End.TheVariants.{Read, Failed, Refused}
 use Rattle.dc_rounds.specs.declared.outcome.Outcome.{Outcome}
 use Rattle.dc_io.specs.Words.{number_word}
+use Rattle.dc_sectors.specs.declared.device.Disk.{Ghosts}
 use Rattle.dc_rounds.specs.Keeping.{AreTrue, IsHearing, IsSettled, Store}
 use Rattle.dc_rounds.specs.Queue.{Goes}
 use Rattle.dc_rounds.specs.Talking.{Talks}
@@ -31,13 +31,12 @@ pub record Happens {D : Type 0} (g : Ghosts D) (origin : D) (state : State) (bef
     (such : Core → List Happening → Type 0) (first new : Machine D) : Type 0 where
   pub happened : List Happening
   pub are_such : such (leads (opened state) before) happened
-  pub went : Went (g.keeps origin) g.sectors g.failures g.reads g.choices g.moment g.images_since
-      first.house.budget state before (happened_turns happened) first new
+  pub went : Went g origin first.house.budget state before (happened_turns happened) first new
 
 -- after any run, such things happen
 abbrev pub Runs : {D : Type 0} → Ghosts D → (Core → List Happening → Type 0) → Machine D → Machine D
     → Type 0
-Runs g such first new = BehindAnyRun g.keeps g.sectors g.reads g.choices first
+Runs g such first new = BehindAnyRun g first
     (λ origin state before. Happens g origin state before such first new)
 
 -- ---- one line's part

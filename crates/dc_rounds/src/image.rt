@@ -4,7 +4,7 @@ ghost use Rattle.std.specs.Prelude.{◌≡◌, ◌<◌, ◌≤◌, ◌-◌, ◌^
 ghost use Rattle.std.specs.Prelude.{MatchResult, length, map, min};
 ghost use Rattle.dc_io.specs.Failures.{HasRisen};
 ghost use Rattle.dc_poller.specs.Fault.{IfOpen};
-ghost use Rattle.dc_recovery.specs.Halves.{half_len_of};
+ghost use Rattle.dc_recovery.specs.Halves.{half_of};
 ghost use Rattle.dc_recovery.specs.Refusal.{IsRefused, TellsOfImage};
 ghost use Rattle.dc_recovery.specs.Stands.{EachStands, StandsForOne};
 ghost use Rattle.dc_recovery.specs.declared.fault.OpenFault.TheVariants.{NotImage, Worn, Device};
@@ -13,8 +13,8 @@ ghost use Rattle.dc_rounds.specs.Planned.{AreQueues, AreStations, has_bus, is_wa
 ghost use Rattle.dc_rounds.specs.Planned.{refusal_line, refusal_of, refused_count, refused_text};
 ghost use Rattle.dc_rounds.specs.Planned.{wanted_on};
 ghost use Rattle.dc_rounds.specs.Round.{Runs, most_lines};
-ghost use Rattle.dc_sectors.specs.Disk.{LeavesOnly};
 ghost use Rattle.dc_io.specs.Written.{PutsInto, Wrote};
+ghost use Rattle.dc_sectors.specs.Runs.{LeavesOnly};
 
 use crate::clock::compare_clock;
 use crate::end::Refusal;
@@ -68,14 +68,15 @@ pub fn poll_image<D: Disk + Drop, A: Allocator + Copy, B: QuietBus + Drop, T: Ti
     requires tries { 0 < plan.tries }
     // Where each image of the disk stands for some state, the turns of the poll are a run of the concentrator that was
     // opened, and the image is left as that run leaves it.
-    ensures polled { (D.keeps disk → EachStands (half_len_of (D.sectors disk)) (D.choices disk))
+    ensures polled { (D.keeps disk → EachStands (half_of D.Disk disk) (D.choices disk))
         → IfOk result.1 (λ outcome. ImageTurned D.Disk (λ core happened.
         PlanPolled B.QuietBus T.tells T.passes T.warns plan.entry.buses.items plan.entry.only.now
-        plan.entry.tries timer.old timer.new (W.written out.old) (W.written out.new) outcome core happened) disk result.0) }
-    ensures cut { (D.keeps disk → EachStands (half_len_of (D.sectors disk)) (D.choices disk))
+        plan.entry.tries timer.old timer.new (W.written out.old) (W.written out.new) outcome core
+        happened) disk result.0) }
+    ensures cut { (D.keeps disk → EachStands (half_of D.Disk disk) (D.choices disk))
         → IsErrOf result.1 ProgramFault.Write
         → ImageTurned D.Disk (λ core happened. Unit {0}) disk result.0 }
-    ensures starved { (D.keeps disk → EachStands (half_len_of (D.sectors disk)) (D.choices disk))
+    ensures starved { (D.keeps disk → EachStands (half_of D.Disk disk) (D.choices disk))
         → IsErrOf result.1 ProgramFault.NoMemory
         → (out.new ≡ out.old) × ImageTurned D.Disk (λ core happened. happened ≡ []) disk result.0 }
 
@@ -85,20 +86,17 @@ pub fn poll_image<D: Disk + Drop, A: Allocator + Copy, B: QuietBus + Drop, T: Ti
         → MatchResult result.1 (λ outcome. ⊥)
         (λ fault. IfOpen fault (λ e. (e ≡ NotImage) × (result.0 ≡ disk))) }
     ensures refused { D.keeps result.0 → 131 ≤ D.sectors disk
-        → IfErr result.1 (λ fault. IfOpen fault
-        (IsRefused (half_len_of (D.sectors disk)) (D.reads disk))) }
+        → IfErr result.1 (λ fault. IfOpen fault (IsRefused (half_of D.Disk disk) (D.reads disk))) }
     ensures premise { D.keeps result.0 → 131 ≤ D.sectors disk
-        → EachStands (half_len_of (D.sectors disk)) (D.choices disk)
+        → EachStands (half_of D.Disk disk) (D.choices disk)
         → IfErr result.1 (λ fault. IfOpen fault (λ e. TellsOfImage e → e ≡ Worn)) }
     ensures unwritten { IfErr result.1 (λ fault.
         IfOpen fault (λ e. TellsOfImage e → D.reads result.0 ≡ D.reads disk)) }
     ensures device { IfErr result.1 (λ fault. IfOpen fault (λ e. e ≡ Device
         → HasRisen (D.failures disk) (D.failures result.0))) }
-    ensures any_moment { D.keeps result.0
-        → EachStands (half_len_of (D.sectors disk)) (D.choices disk)
-        → IfErr result.1 (λ fault. IfOpen fault (λ e.
-        LeavesOnly D.moment D.images_since disk result.0
-        (StandsForOne (half_len_of (D.sectors disk)) (D.choices disk)))) }
+    ensures any_moment { D.keeps result.0 → EachStands (half_of D.Disk disk) (D.choices disk)
+        → IfErr result.1 (λ fault. IfOpen fault (λ e. LeavesOnly D.Disk disk result.0
+        (StandsForOne (half_of D.Disk disk) (D.choices disk)))) }
     ensures unopened { IfErr result.1 (λ fault.
         IfOpen fault (λ e. (out.new ≡ out.old) × (timer.new ≡ timer.old))) }
 

@@ -2,6 +2,7 @@
 -- calls change both.
 use Rattle.std.specs.Prelude.{◌≡◌, ◌⊎◌, ◌==◌, ℕ, ◌≤◌, List, [], ◌∷◌, ◌++◌, if◌then◌else◌, Contains}
 use Rattle.std.specs.Prelude.{Result, Ok, Err}
+use Rattle.dc_io.specs.Failures.{HasRisen}
 use Rattle.dc_sectors.specs.declared.sector.Sector.{Sector}
 use Rattle.dc_sectors.specs.declared.sector.Sector.TheVariants.{Bytes, Unreadable}
 use Rattle.dc_sectors.specs.declared.sector.ReadFault.{ReadFault}
@@ -47,11 +48,11 @@ pub record Elapses (before now : ℕ) (past since : ℕ → Image → Type 0)
       ⊎ images image
   pub keeps : (t : ℕ) (image : Image) → t ≤ before → past t image → since t image
 
--- A stop at any moment from the old state to the new leaves an image that has P, whatever the calls answered.
-pub record LeavesOnly {D : Type 0} (moment : D → ℕ) (images_since : D → ℕ → Image → Type 0)
-    (old new : D) (P : Image → Type 0) : Type 0 where
-  pub later : moment old ≤ moment new
-  pub each : (image : Image) → images_since new (moment old) image → P image
-  -- for a run of calls that began earlier
-  pub before : (t : ℕ) (image : Image) → t ≤ moment old → images_since new t image
-      → images_since old t image ⊎ P image
+-- What each call keeps: the number of sectors, and the count of failures, which rises where the device failed and else
+-- stays.
+pub record Counted {D : Type 0} (sectors failures : D → ℕ) (old new : D)
+    (Failed : Type 0) : Type 0 where
+  pub count : sectors new ≡ sectors old
+  pub later : failures old ≤ failures new
+  pub passed : (Failed → ⊥) → failures new ≡ failures old
+  pub failed : Failed → HasRisen (failures old) (failures new)

@@ -10,7 +10,7 @@ use Rattle.dc_sectors.specs.declared.sector.ReadFault.TheVariants.{Failed as Rea
 use Rattle.dc_sectors.specs.declared.sector.Failed.{Failed}
 use Rattle.dc_sectors.specs.declared.event.Event.{Event}
 use Rattle.dc_sectors.specs.declared.event.Event.TheVariants.{Write, Sync}
-use Rattle.dc_sectors.specs.Disk.{Image, Choices}
+use Rattle.dc_sectors.specs.Disk.{Image, Choices, Counted}
 use Rattle.dc_sectors.specs.Record.{reads_after, choices_after, ImageSince}
 use Rattle.dc_sectors.specs.FileCalls.{Call, Measured, Got, Put, Synced}
 
@@ -26,6 +26,10 @@ pub record FileState : Type 0 where
 -- after one more failure
 abbrev pub failed_once_more : FileState → FileState
 failed_once_more disk = record disk { failures = min (disk.failures + 1) (2 ^ 64 - 1) }
+
+-- A call keeps the number of sectors, and counts its failure.
+abbrev pub FileCounts : FileState → FileState → Type 0 → Type 0
+FileCounts = Counted (λ disk. disk.sectors) (λ disk. disk.failures)
 
 -- The calls of a file that a call of the disk makes.
 

@@ -2,6 +2,8 @@
 
 -- the disk model of this product
 pub mod Disk
+-- what one or more calls make of a disk, at a bound `D: Disk`
+pub mod Runs
 -- lemmas on the images that choices allow, for callers
 pub mod Images
 -- the calls of a disk in memory, and those that a test makes fail

@@ -15,7 +15,7 @@ use Rattle.dc_sectors.specs.declared.event.Event.TheVariants.{Write, Sync}
 use Rattle.dc_sectors.specs.declared.pick.Pick.{Pick}
 use Rattle.dc_sectors.specs.declared.pick.Pick.TheVariants.{Old, Written, Unreadable as Lost}
 use Rattle.dc_sectors.specs.Calls.{passes, counted, failed_once_more}
-use Rattle.dc_sectors.specs.Disk.{Image, Choices}
+use Rattle.dc_sectors.specs.Disk.{Image, Choices, Counted}
 use Rattle.dc_sectors.specs.Record.{image_of, reads_after, choices_after, writes_after}
 
 pub record Memory : Type 0 where
@@ -67,6 +67,10 @@ recorded disk event new = record disk {
 -- the record has no memory for another event
 abbrev pub IsFull : Memory → Type 0
 IsFull disk = disk.capacity ≤ length disk.events
+
+-- a call keeps the number of sectors, and counts its failure
+abbrev pub MemoryCounts : Memory → Memory → Type 0 → Type 0
+MemoryCounts = Counted (λ disk. length disk.start) (λ disk. disk.calls.failed)
 
 -- a read takes no memory
 abbrev pub IsRead : Memory → ℕ → Result (List ℕ) ReadFault → Memory → Type 0

@@ -1,12 +1,10 @@
 //! The disk model: the effect of each call of a disk, and its possible contents after a crash.
 
-ghost use Rattle.std.specs.Prelude.{◌≡◌, ◌≢◌, ◌⊎◌, ◌<◌, ◌≤◌, List, ℕ, OnOk, OnErr, IsErrOf};
-ghost use Rattle.std.specs.Prelude.{Contains};
-ghost use Rattle.dc_io.specs.Failures.{HasRisen};
+ghost use Rattle.std.specs.Prelude.{◌≡◌, ◌≢◌, ◌⊎◌, ◌<◌, ◌≤◌, List, ℕ, OnOk, OnErr, IsErr};
+ghost use Rattle.std.specs.Prelude.{IsErrOf, Contains};
 ghost use Rattle.dc_sectors.specs.declared.sector.Sector.{Sector};
-ghost use Rattle.dc_sectors.specs.declared.sector.ReadFault.TheVariants.{Unreadable as CannotRead};
 ghost use Rattle.dc_sectors.specs.declared.sector.ReadFault.TheVariants.{Failed as ReadFailed};
-ghost use Rattle.dc_sectors.specs.Disk.{IsImage, Answers, put, added, settled, Elapses};
+ghost use Rattle.dc_sectors.specs.Disk.{IsImage, Answers, Counted, put, added, settled, Elapses};
 
 use crate::{Failed, ReadFault};
 
@@ -50,12 +48,7 @@ pub trait Disk {
         ensures choices { choices self.new ≡ choices self.old }
         ensures time { Elapses (moment self.old) (moment self.new) (images_since self.old)
             (images_since self.new) (IsImage (choices self.old)) }
-        ensures count { sectors self.new ≡ sectors self.old }
-        ensures failures { failures self.old ≤ failures self.new }
-        ensures passed { OnOk result (failures self.new ≡ failures self.old) }
-        ensures unreadable { IsErrOf result CannotRead → failures self.new ≡ failures self.old }
-        ensures failed { IsErrOf result ReadFailed
-            → HasRisen (failures self.old) (failures self.new) };
+        ensures counts { Counted sectors failures self.old self.new (IsErrOf result ReadFailed) };
 
     /// Writes a sector. The bytes are one of the sector's possible contents until a sync. A write
     /// that failed may have been made, wholly or in part.
@@ -70,10 +63,7 @@ pub trait Disk {
             ⊎ (choices self.new ≡ choices self.old)) }
         ensures time { Elapses (moment self.old) (moment self.new) (images_since self.old)
             (images_since self.new) (IsImage (added (choices self.old) n bytes.now)) }
-        ensures count { sectors self.new ≡ sectors self.old }
-        ensures failures { failures self.old ≤ failures self.new }
-        ensures passed { OnOk result (failures self.new ≡ failures self.old) }
-        ensures failed { OnErr result (HasRisen (failures self.old) (failures self.new)) };
+        ensures counts { Counted sectors failures self.old self.new (IsErr result) };
 
     /// Makes what each sector reads its only possible contents. A sync that failed changes nothing
     /// but the count of failures.
@@ -84,10 +74,7 @@ pub trait Disk {
         ensures choices_err { OnErr result (choices self.new ≡ choices self.old) }
         ensures time { Elapses (moment self.old) (moment self.new) (images_since self.old)
             (images_since self.new) (IsImage (choices self.old)) }
-        ensures count { sectors self.new ≡ sectors self.old }
-        ensures failures { failures self.old ≤ failures self.new }
-        ensures passed { OnOk result (failures self.new ≡ failures self.old) }
-        ensures failed { OnErr result (HasRisen (failures self.old) (failures self.new)) };
+        ensures counts { Counted sectors failures self.old self.new (IsErr result) };
 
     /// What a sector reads is one of its possible contents.
     ghost reads_a_choice: { (disk : Self) (n : ℕ) → Contains (choices disk n) (reads disk n) };

@@ -1,8 +1,7 @@
 //! A disk over a file.
 
-ghost use Rattle.std.specs.Prelude.{◌≡◌, ◌≢◌, ◌⊎◌, ◌<◌, ◌≤◌, ◌*◌, ◌/◌, ◌-◌, ◌^◌, ◌==◌, ℕ, List, []};
+ghost use Rattle.std.specs.Prelude.{◌≡◌, ◌≢◌, ◌⊎◌, ◌<◌, ◌≤◌, ◌*◌, ◌/◌, ◌-◌, ◌^◌, ◌==◌, ℕ, []};
 ghost use Rattle.std.specs.Prelude.{min, true, false, IfOk, OnOk, OnErr, IsErr, IsErrOf, length};
-ghost use Rattle.dc_io.specs.Failures.{HasRisen};
 ghost use Rattle.dc_sectors.specs.declared.sector.Sector.{Sector};
 ghost use Rattle.dc_sectors.specs.declared.sector.ReadFault.TheVariants.{Unreadable as CannotRead};
 ghost use Rattle.dc_sectors.specs.declared.sector.ReadFault.TheVariants.{Failed as ReadFailed};
@@ -10,7 +9,7 @@ ghost use Rattle.dc_sectors.specs.FileCalls.{value_of};
 ghost use Rattle.dc_sectors.specs.Disk.{Answers, Elapses, IsImage, put, added, settled};
 ghost use Rattle.dc_sectors.specs.File.{failed_once_more, IsOpened, is_all, IsReadOf, IsWriteOf};
 ghost use Rattle.dc_sectors.specs.File.{IsSyncOf, reads_in, choices_in, moment_in, images_in};
-ghost use Rattle.dc_sectors.specs.File.{KeepsRule};
+ghost use Rattle.dc_sectors.specs.File.{KeepsRule, FileCounts};
 
 use crate::{Disk, Failed, FileCalls, Logged, ReadFault, Start, Unknown};
 use dc_io::one_failure_more;
@@ -115,10 +114,7 @@ impl<C: FileCalls + Drop> DiskOver<C> {
             ≡ record (failed_once_more self.old) { calls = self.new.calls }) }
         ensures readable { IsErrOf result CannotRead → ⊥ }
         ensures lost { self.old.lost ≡ true → IsErr result }
-        ensures count { self.new.sectors ≡ self.old.sectors }
-        ensures failures { self.old.failures ≤ self.new.failures }
-        ensures passed { OnOk result (self.new.failures ≡ self.old.failures) }
-        ensures failed { IsErrOf result ReadFailed → HasRisen self.old.failures self.new.failures }
+        ensures counts { FileCounts self.old self.new (IsErrOf result ReadFailed) }
     {
         if self.lost {
             return Err(self.unread());
@@ -137,10 +133,7 @@ impl<C: FileCalls + Drop> DiskOver<C> {
         ensures err { OnErr result (self.new
             ≡ record (failed_once_more self.old) { calls = self.new.calls }) }
         ensures lost { self.old.lost ≡ true → IsErr result }
-        ensures count { self.new.sectors ≡ self.old.sectors }
-        ensures failures { self.old.failures ≤ self.new.failures }
-        ensures passed { OnOk result (self.new.failures ≡ self.old.failures) }
-        ensures failed { OnErr result (HasRisen self.old.failures self.new.failures) }
+        ensures counts { FileCounts self.old self.new (IsErr result) }
     {
         let is_lost = self.lost;
         if is_lost {
@@ -159,10 +152,7 @@ impl<C: FileCalls + Drop> DiskOver<C> {
         ensures err { OnErr result (self.new
             ≡ record (failed_once_more self.old) { lost = true; calls = self.new.calls }) }
         ensures lost { self.old.lost ≡ true → IsErr result }
-        ensures count { self.new.sectors ≡ self.old.sectors }
-        ensures failures { self.old.failures ≤ self.new.failures }
-        ensures passed { OnOk result (self.new.failures ≡ self.old.failures) }
-        ensures failed { OnErr result (HasRisen self.old.failures self.new.failures) }
+        ensures counts { FileCounts self.old self.new (IsErr result) }
     {
         if self.lost {
             return Err(self.fail());
@@ -243,11 +233,7 @@ impl<C: FileCalls + Drop> Disk for DiskOver<C> {
         ensures time { Elapses (moment_in self.old) (moment_in self.new)
             (images_in C.start self.old) (images_in C.start self.new)
             (IsImage (choices_in C.start self.old)) }
-        ensures count { self.new.sectors ≡ self.old.sectors }
-        ensures failures { self.old.failures ≤ self.new.failures }
-        ensures passed { OnOk result (self.new.failures ≡ self.old.failures) }
-        ensures unreadable { IsErrOf result CannotRead → self.new.failures ≡ self.old.failures }
-        ensures failed { IsErrOf result ReadFailed → HasRisen self.old.failures self.new.failures }
+        ensures counts { FileCounts self.old self.new (IsErrOf result ReadFailed) }
     {
         self.read_sector(n)
     }
@@ -272,10 +258,7 @@ impl<C: FileCalls + Drop> Disk for DiskOver<C> {
         ensures time { Elapses (moment_in self.old) (moment_in self.new)
             (images_in C.start self.old) (images_in C.start self.new)
             (IsImage (added (choices_in C.start self.old) n bytes.now)) }
-        ensures count { self.new.sectors ≡ self.old.sectors }
-        ensures failures { self.old.failures ≤ self.new.failures }
-        ensures passed { OnOk result (self.new.failures ≡ self.old.failures) }
-        ensures failed { OnErr result (HasRisen self.old.failures self.new.failures) }
+        ensures counts { FileCounts self.old self.new (IsErr result) }
     {
         self.write_sector(n, bytes)
     }
@@ -298,10 +281,7 @@ impl<C: FileCalls + Drop> Disk for DiskOver<C> {
         ensures time { Elapses (moment_in self.old) (moment_in self.new)
             (images_in C.start self.old) (images_in C.start self.new)
             (IsImage (choices_in C.start self.old)) }
-        ensures count { self.new.sectors ≡ self.old.sectors }
-        ensures failures { self.old.failures ≤ self.new.failures }
-        ensures passed { OnOk result (self.new.failures ≡ self.old.failures) }
-        ensures failed { OnErr result (HasRisen self.old.failures self.new.failures) }
+        ensures counts { FileCounts self.old self.new (IsErr result) }
     {
         self.sync_sectors()
     }

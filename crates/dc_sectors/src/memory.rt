@@ -1,15 +1,13 @@
 //! A disk in memory, which can be stopped.
 
-ghost use Rattle.std.specs.Prelude.{◌≡◌, ◌≢◌, ◌⊎◌, ◌<◌, ◌≤◌, ℕ, Some, None, IfOk, OnOk, OnErr};
-ghost use Rattle.std.specs.Prelude.{IsErrOf, [], length};
+ghost use Rattle.std.specs.Prelude.{◌≡◌, ◌≢◌, ◌⊎◌, ◌<◌, ℕ, Some, None, IfOk, OnOk, OnErr};
+ghost use Rattle.std.specs.Prelude.{IsErr, IsErrOf, [], length};
 ghost use Rattle.std.specs.List.{AllZip};
-ghost use Rattle.dc_io.specs.Failures.{HasRisen};
-ghost use Rattle.dc_sectors.specs.declared.sector.ReadFault.TheVariants.{Unreadable as CannotRead};
 ghost use Rattle.dc_sectors.specs.declared.sector.ReadFault.TheVariants.{Failed as ReadFailed};
 ghost use Rattle.dc_sectors.specs.Disk.{Answers, Elapses, IsImage, put, added, settled};
 ghost use Rattle.dc_sectors.specs.Memory.{blank, pending_of, pending_below, reads_of, choices_of};
 ghost use Rattle.dc_sectors.specs.Memory.{IsPickFor, image_picked, picked_from, IsKept, IsRead};
-ghost use Rattle.dc_sectors.specs.Memory.{IsWrite, IsSync, answer_of};
+ghost use Rattle.dc_sectors.specs.Memory.{IsWrite, IsSync, MemoryCounts, answer_of};
 ghost use Rattle.dc_sectors.specs.Record.{image_of, writes_after, ImageSince};
 
 use crate::calls::Calls;
@@ -208,13 +206,7 @@ impl<A: Allocator + Copy> Disk for MemoryDisk<A> {
         ensures time { Elapses (length self.old.events) (length self.new.events)
             (ImageSince (image_of self.old.start) self.old.events)
             (ImageSince (image_of self.new.start) self.new.events) (IsImage (choices_of self.old)) }
-        ensures count { length self.new.start ≡ length self.old.start }
-        ensures failures { self.old.calls.failed ≤ self.new.calls.failed }
-        ensures passed { OnOk result (self.new.calls.failed ≡ self.old.calls.failed) }
-        ensures unreadable { IsErrOf result CannotRead
-            → self.new.calls.failed ≡ self.old.calls.failed }
-        ensures failed { IsErrOf result ReadFailed
-            → HasRisen self.old.calls.failed self.new.calls.failed }
+        ensures counts { MemoryCounts self.old self.new (IsErrOf result ReadFailed) }
     {
         if !self.calls.begin() {
             let _ = self.calls.fail();
@@ -237,10 +229,7 @@ impl<A: Allocator + Copy> Disk for MemoryDisk<A> {
             (ImageSince (image_of self.old.start) self.old.events)
             (ImageSince (image_of self.new.start) self.new.events)
             (IsImage (added (choices_of self.old) n bytes.now)) }
-        ensures count { length self.new.start ≡ length self.old.start }
-        ensures failures { self.old.calls.failed ≤ self.new.calls.failed }
-        ensures passed { OnOk result (self.new.calls.failed ≡ self.old.calls.failed) }
-        ensures failed { OnErr result (HasRisen self.old.calls.failed self.new.calls.failed) }
+        ensures counts { MemoryCounts self.old self.new (IsErr result) }
     {
         let done = self.calls.begin();
         let event = Event::Write {
@@ -267,10 +256,7 @@ impl<A: Allocator + Copy> Disk for MemoryDisk<A> {
         ensures time { Elapses (length self.old.events) (length self.new.events)
             (ImageSince (image_of self.old.start) self.old.events)
             (ImageSince (image_of self.new.start) self.new.events) (IsImage (choices_of self.old)) }
-        ensures count { length self.new.start ≡ length self.old.start }
-        ensures failures { self.old.calls.failed ≤ self.new.calls.failed }
-        ensures passed { OnOk result (self.new.calls.failed ≡ self.old.calls.failed) }
-        ensures failed { OnErr result (HasRisen self.old.calls.failed self.new.calls.failed) }
+        ensures counts { MemoryCounts self.old self.new (IsErr result) }
     {
         if !self.calls.begin() {
             return Err(self.calls.fail());

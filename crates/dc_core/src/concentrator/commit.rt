@@ -1,9 +1,8 @@
 //! Commits the pending changes.
 
-ghost use Rattle.std.specs.Prelude.{◌≡◌, ◌≤◌, length, IsErrOf, OnOk};
-ghost use Rattle.dc_io.specs.Failures.{HasRisen};
-ghost use Rattle.dc_sectors.specs.Disk.{LeavesOnly};
-ghost use Rattle.dc_recovery.specs.Halves.{half_len_of};
+ghost use Rattle.std.specs.Prelude.{◌≡◌, length, IsErrOf, OnOk};
+ghost use Rattle.dc_sectors.specs.Runs.{LeavesOnly, Counts};
+ghost use Rattle.dc_recovery.specs.Halves.{half_of};
 ghost use Rattle.dc_core.specs.declared.fault.CommitFault.TheVariants.{Device, Worn};
 ghost use Rattle.dc_core.specs.Core.{Core};
 ghost use Rattle.dc_core.specs.Event.{commits, committed};
@@ -31,22 +30,16 @@ impl<D: Disk + Drop, A: Allocator + Copy> Concentrator<D, A> {
     /// nothing has changed; `Device` if the disk failed: the pending changes may be on the disk or
     /// not, and nothing more is requested or written.
     pub fn commit(&mut self) -> Result<usize, CommitFault>
-        ensures may { (origin : D) (core : Core)
-            → IsAt (D.keeps origin) D.sectors D.reads D.choices self.old core
+        ensures may { (origin : D) (core : Core) → IsAt D.Disk origin self.old core
             → May self.old.house.budget core commits (committed result) }
-        ensures at { (origin : D) (core : Core)
-            → IsAt (D.keeps origin) D.sectors D.reads D.choices self.old core
-            → IsAt (D.keeps origin) D.sectors D.reads D.choices self.new
-            (next core commits (committed result)) }
+        ensures at { (origin : D) (core : Core) → IsAt D.Disk origin self.old core
+            → IsAt D.Disk origin self.new (next core commits (committed result)) }
 
         // A crash within it leaves what is committed and a prefix of the pending changes.
         ensures any_moment { (origin : D) → D.keeps origin → (core : Core)
-            → IsAt (D.keeps origin) D.sectors D.reads D.choices self.old core
-            → LeavesOnly D.moment D.images_since self.old.store.disk self.new.store.disk
-            (StandsForFront (half_len_of (D.sectors self.old.store.disk)) core.committed
-            core.pending) }
-        ensures device { IsErrOf result Device
-            → HasRisen (D.failures self.old.store.disk) (D.failures self.new.store.disk) }
+            → IsAt D.Disk origin self.old core
+            → LeavesOnly D.Disk self.old.store.disk self.new.store.disk
+            (StandsForFront (half_of D.Disk self.old.store.disk) core.committed core.pending) }
         ensures worn { IsErrOf result Worn
             → IsWornFor (D.sectors self.old.store.disk) self.old.store
             (length self.old.waiting.bytes) }
@@ -59,8 +52,8 @@ impl<D: Disk + Drop, A: Allocator + Copy> Concentrator<D, A> {
         ensures empty { OnOk result (self.new.waiting.count ≡ 0) }
         ensures nothing { self.old.waiting.count ≡ 0 → self.new ≡ self.old }
         ensures house { self.new.house ≡ self.old.house }
-        ensures count { D.sectors self.new.store.disk ≡ D.sectors self.old.store.disk }
-        ensures failures { D.failures self.old.store.disk ≤ D.failures self.new.store.disk }
+        ensures counts { Counts D.Disk self.old.store.disk self.new.store.disk
+            (IsErrOf result Device) }
     {
         let count = self.waiting.count();
         if count == 0 {

@@ -23,12 +23,10 @@ impl<D: Disk + Drop, A: Allocator + Copy> Concentrator<D, A> {
     /// The first of `NoLine`, `Stopped`, `Idle`, and for a telegram `PendingFull`, `Full`,
     /// `NoMemory` that applies; nothing has changed, and the request can be answered again.
     pub fn hear(&mut self, line: u8, moment: Moment, answer: &[u8]) -> Result<LineHeard, HearFault>
-        ensures may { (origin : D) (core : Core)
-            → IsAt (D.keeps origin) D.sectors D.reads D.choices self.old core
+        ensures may { (origin : D) (core : Core) → IsAt D.Disk origin self.old core
             → May self.old.house.budget core (hears line moment.seconds answer.now) (heard result) }
-        ensures at { (origin : D) (core : Core)
-            → IsAt (D.keeps origin) D.sectors D.reads D.choices self.old core
-            → IsAt (D.keeps origin) D.sectors D.reads D.choices self.new
+        ensures at { (origin : D) (core : Core) → IsAt D.Disk origin self.old core
+            → IsAt D.Disk origin self.new
             (next core (hears line moment.seconds answer.now) (heard result)) }
         ensures store { self.new.store ≡ self.old.store }
         ensures budget { self.new.house.budget ≡ self.old.house.budget }

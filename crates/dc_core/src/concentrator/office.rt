@@ -1,19 +1,20 @@
 //! Answers a line of the billing office.
 
-ghost use Rattle.std.specs.Prelude.{◌≡◌, ◌⊎◌, ◌≤◌, [], false, Some, Err, OnOk, OnErr, IfErr};
+ghost use Rattle.std.specs.Prelude.{◌≡◌, ◌⊎◌, [], false, Some, Err, OnOk, OnErr, IfErr, IsErrOf};
 ghost use Rattle.dc_io.specs.Failures.{HasRisen};
-ghost use Rattle.dc_sectors.specs.Disk.{LeavesOnly};
 ghost use Rattle.dc_io.specs.Written.{Wrote};
+ghost use Rattle.dc_sectors.specs.Runs.{LeavesOnly, Counts};
 ghost use Rattle.dc_changes.specs.Accepts.{Accepts};
 ghost use Rattle.dc_changes.specs.Apply.{applied};
 ghost use Rattle.dc_changes.specs.Valid.{IsChange};
-ghost use Rattle.dc_recovery.specs.Halves.{half_len_of};
+ghost use Rattle.dc_recovery.specs.Halves.{half_of};
 ghost use Rattle.dc_recovery.specs.Stands.{StandsForFront};
 ghost use Rattle.dc_upload.specs.Line.{IsOfficeLine};
 ghost use Rattle.dc_upload.specs.Reply.{refusal_line, reply_text, TakesMemory};
 ghost use Rattle.dc_upload.specs.Verdict.{verdict_of, IfDo};
 ghost use Rattle.dc_upload.specs.declared.code.Code.TheVariants.{Memory};
 ghost use Rattle.dc_upload.specs.declared.verdict.Verdict.TheVariants.{Do};
+ghost use Rattle.dc_core.specs.declared.fault.CommitFault.TheVariants.{Device};
 ghost use Rattle.dc_core.specs.Core.{Core};
 ghost use Rattle.dc_core.specs.Event.{offices};
 ghost use Rattle.dc_core.specs.Step.{settled, removed_by, lines_after, ordered, after_commit};
@@ -44,10 +45,8 @@ impl<D: Disk + Drop, A: Allocator + Copy> Concentrator<D, A> {
     /// `WriteFault` if the writer failed. The line's effect remains, and a repeat of the command
     /// answers `OK`; a prefix of the reply is written.
     pub fn office<W: Sink>(&mut self, line: &[u8], out: &mut W) -> Result<(), WriteFault>
-        ensures turned { (origin : D) (core : Core)
-            → IsAt (D.keeps origin) D.sectors D.reads D.choices self.old core
-            → Turned (D.keeps origin) D.sectors D.failures D.reads D.choices D.moment D.images_since
-            self.old.house.budget core (offices line.now)
+        ensures turned { (origin : D) (core : Core) → IsAt D.Disk origin self.old core
+            → Turned D.Disk origin self.old.house.budget core (offices line.now)
             (Wrote W.Sink result out.old out.new) self.old self.new }
         ensures count { D.sectors self.new.store.disk ≡ D.sectors self.old.store.disk }
         ensures budget { self.new.house.budget ≡ self.old.house.budget }
@@ -62,10 +61,8 @@ impl<D: Disk + Drop, A: Allocator + Copy> Concentrator<D, A> {
 
     // Reads a line and answers it.
     fn reply<W: Sink>(&mut self, text: &[u8], out: &mut W) -> Result<(), IoFault>
-        ensures turned { (origin : D) (core : Core)
-            → IsAt (D.keeps origin) D.sectors D.reads D.choices self.old core
-            → Turned (D.keeps origin) D.sectors D.failures D.reads D.choices D.moment D.images_since
-            self.old.house.budget core (offices text.now)
+        ensures turned { (origin : D) (core : Core) → IsAt D.Disk origin self.old core
+            → Turned D.Disk origin self.old.house.budget core (offices text.now)
             (Wrote W.Sink result out.old out.new) self.old self.new }
         ensures count { D.sectors self.new.store.disk ≡ D.sectors self.old.store.disk }
         ensures budget { self.new.house.budget ≡ self.old.house.budget }
@@ -84,25 +81,20 @@ impl<D: Disk + Drop, A: Allocator + Copy> Concentrator<D, A> {
 
     // Commits the pending changes; a stopped store takes no line.
     fn settle(&mut self) -> Result<(), CommitFault>
-        ensures ok { (origin : D) (core : Core)
-            → IsAt (D.keeps origin) D.sectors D.reads D.choices self.old core
-            → OnOk result ((core.stopped ≡ false)
-            × IsAt (D.keeps origin) D.sectors D.reads D.choices self.new (settled core)) }
-        ensures err { (origin : D) (core : Core)
-            → IsAt (D.keeps origin) D.sectors D.reads D.choices self.old core
-            → IfErr result (λ fault. IsUnstored core fault
-            × IsAt (D.keeps origin) D.sectors D.reads D.choices self.new
+        ensures ok { (origin : D) (core : Core) → IsAt D.Disk origin self.old core
+            → OnOk result ((core.stopped ≡ false) × IsAt D.Disk origin self.new (settled core)) }
+        ensures err { (origin : D) (core : Core) → IsAt D.Disk origin self.old core
+            → IfErr result (λ fault. IsUnstored core fault × IsAt D.Disk origin self.new
             (after_commit core (Err fault))) }
         ensures any_moment { (origin : D) → D.keeps origin → (core : Core)
-            → IsAt (D.keeps origin) D.sectors D.reads D.choices self.old core
-            → LeavesOnly D.moment D.images_since self.old.store.disk self.new.store.disk
-            (StandsForFront (half_len_of (D.sectors self.old.store.disk)) core.committed
-            core.pending) }
-        ensures failed { IfErr result (λ fault. IsShown D.failures self.old self.new (Some fault)) }
+            → IsAt D.Disk origin self.old core
+            → LeavesOnly D.Disk self.old.store.disk self.new.store.disk
+            (StandsForFront (half_of D.Disk self.old.store.disk) core.committed core.pending) }
+        ensures failed { IfErr result (λ fault. IsShown D.Disk self.old self.new (Some fault)) }
         ensures empty { OnOk result (self.new.waiting.count ≡ 0) }
         ensures house { self.new.house ≡ self.old.house }
-        ensures count { D.sectors self.new.store.disk ≡ D.sectors self.old.store.disk }
-        ensures failures { D.failures self.old.store.disk ≤ D.failures self.new.store.disk }
+        ensures counts { Counts D.Disk self.old.store.disk self.new.store.disk
+            (IsErrOf result Device) }
     {
         if self.store.is_stopped() {
             return Err(CommitFault::Stopped);
@@ -118,9 +110,8 @@ impl<D: Disk + Drop, A: Allocator + Copy> Concentrator<D, A> {
         requires line { IsOfficeLine line.now }
         requires empty { self.old.waiting.count ≡ 0 }
         ensures answered { (origin : D) (core : Core)
-            → IsAt (D.keeps origin) D.sectors D.reads D.choices self.old core → core.stopped ≡ false
-            → Answered (D.keeps origin) D.sectors D.failures D.reads D.choices D.moment
-            D.images_since self.old.house.budget core line.now
+            → IsAt D.Disk origin self.old core → core.stopped ≡ false
+            → Answered D.Disk origin self.old.house.budget core line.now
             (Wrote W.Sink result out.old out.new) self.old self.new }
         ensures count { D.sectors self.new.store.disk ≡ D.sectors self.old.store.disk }
         ensures budget { self.new.house.budget ≡ self.old.house.budget }
@@ -148,9 +139,8 @@ impl<D: Disk + Drop, A: Allocator + Copy> Concentrator<D, A> {
         requires accepted { Accepts self.old.house.budget change.now self.old.house.state }
         requires verdict { verdict_of self.old.house line.now ≡ Do change.now }
         ensures answered { (origin : D) (core : Core)
-            → IsAt (D.keeps origin) D.sectors D.reads D.choices self.old core → core.stopped ≡ false
-            → Answered (D.keeps origin) D.sectors D.failures D.reads D.choices D.moment
-            D.images_since self.old.house.budget core line.now
+            → IsAt D.Disk origin self.old core → core.stopped ≡ false
+            → Answered D.Disk origin self.old.house.budget core line.now
             (Wrote W.Sink result out.old out.new) self.old self.new }
         ensures count { D.sectors self.new.store.disk ≡ D.sectors self.old.store.disk }
         ensures budget { self.new.house.budget ≡ self.old.house.budget }
@@ -175,10 +165,8 @@ impl<D: Disk + Drop, A: Allocator + Copy> Concentrator<D, A> {
         requires empty { self.old.waiting.count ≡ 0 }
         requires is_change { IsChange change.now }
         requires accepted { Accepts self.old.house.budget change.now self.old.house.state }
-        ensures at { (origin : D) (core : Core)
-            → IsAt (D.keeps origin) D.sectors D.reads D.choices self.old core
-            → OnOk result (IsAt (D.keeps origin) D.sectors D.reads D.choices self.new
-            (ordered change.now core)) }
+        ensures at { (origin : D) (core : Core) → IsAt D.Disk origin self.old core
+            → OnOk result (IsAt D.Disk origin self.new (ordered change.now core)) }
         ensures house { OnOk result (self.new.house
             ≡ record self.old.house { state = applied change.now self.old.house.state }) }
         ensures err { OnErr result (self.new ≡ self.old) }

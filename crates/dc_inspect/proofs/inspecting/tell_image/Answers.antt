@@ -9,12 +9,12 @@ use Rattle.dc_inspect.proofs.inspecting.tell_image.Goals as goal
 
 pub returns-in-Ok-put_disk-clause-looked : goal.returns-in-Ok-put_disk-clause-looked
 returns-in-Ok-put_disk-clause-looked g c =
-    looked_on g.D.Disk.keeps g.D.Disk.reads g.D.Disk.choices g.D.Disk.moment g.D.Disk.images_since g.D.Disk.sectors g.D.Disk.failures c.args.disk.now c.read_slots.new.disk c.look_at.new.disk
+    looked_on g.D.Disk c.args.disk.now c.read_slots.new.disk c.look_at.new.disk
     c.read_slots.ensures.looked c.look_at.ensures.looked
 
 pub returns-clause-looked : goal.returns-clause-looked
 returns-clause-looked g c =
-    looked_on g.D.Disk.keeps g.D.Disk.reads g.D.Disk.choices g.D.Disk.moment g.D.Disk.images_since g.D.Disk.sectors g.D.Disk.failures c.args.disk.now c.read_slots.new.disk c.look_at.new.disk
+    looked_on g.D.Disk c.args.disk.now c.read_slots.new.disk c.look_at.new.disk
     c.read_slots.ensures.looked c.look_at.ensures.looked
 
 pub returns-in-Ok-put_disk-clause-told : goal.returns-in-Ok-put_disk-clause-told

@@ -35,7 +35,7 @@ returns-then-branch-clause-group g c h =
 pub returns-then-branch-clause-any_moment : goal.returns-then-branch-clause-any_moment
 returns-then-branch-clause-any_moment g c =
     let so_far = c.loop-at.invariant in
-    goes_on g.D.Disk.moment g.D.Disk.images_since c.args.disk.now c.loop-at.disk c.read_next.new.disk (IsImage (g.D.Disk.choices c.args.disk.now)) _ so_far.any_moment c.in_ok-read_next.ensures.time
+    goes_on g.D.Disk c.args.disk.now c.loop-at.disk c.read_next.new.disk (IsImage (g.D.Disk.choices c.args.disk.now)) _ so_far.any_moment c.in_ok-read_next.ensures.time
     (λ image is. subst (λ (d : Choices). IsImage d image) so_far.choices is)
 
 pub loop-at-preserved : goal.loop-at-preserved
@@ -56,9 +56,9 @@ loop-at-preserved g c =
           subst (λ (b : Bool). IsStep c.args.site (g.D.Disk.reads c.args.disk.now) after.session after.pages after.payload.items (Ok b)) not_done step;
       reads = next.reads ∙ so_far.reads;
       choices = next.choices ∙ so_far.choices;
-      any_moment = goes_on g.D.Disk.moment g.D.Disk.images_since c.args.disk.now c.loop-at.disk c.read_next.new.disk (IsImage (g.D.Disk.choices c.args.disk.now)) _ so_far.any_moment next.time
+      any_moment = goes_on g.D.Disk c.args.disk.now c.loop-at.disk c.read_next.new.disk (IsImage (g.D.Disk.choices c.args.disk.now)) _ so_far.any_moment next.time
           (λ image is. subst (λ (d : Choices). IsImage d image) so_far.choices is);
       before = λ h. so_far.before (next.before h);
-      count = next.count ∙ so_far.count;
-      failures = next.passed (λ is. absurd (cc is)) ∙ so_far.failures;
+      count = next.counts.count ∙ so_far.count;
+      failures = next.counts.passed (λ is. absurd (cc is)) ∙ so_far.failures;
     }

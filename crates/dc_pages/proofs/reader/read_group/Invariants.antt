@@ -1,5 +1,6 @@
 use Rattle.std.proofs.Common.{◌≡◌, ◌+◌}
-use Rattle.dc_sectors.specs.Disk.{IsImage, LeavesOnly}
+use Rattle.dc_sectors.specs.Disk.{IsImage}
+use Rattle.dc_sectors.specs.Runs.{LeavesOnly}
 use Rattle.dc_pages.specs.Reading.{IsBegun}
 use Rattle.dc_pages.proofs.reader.read_group.Given as goal
 
@@ -10,7 +11,7 @@ invariant-loop-at g l = record {
   begun : g.D.Disk.keeps l.disk → IsBegun l.site l.reading.session l.reading.payload.items l.reading.pages (g.D.Disk.reads l.fn.disk);
   reads : g.D.Disk.reads l.disk ≡ g.D.Disk.reads l.fn.disk;
   choices : g.D.Disk.choices l.disk ≡ g.D.Disk.choices l.fn.disk;
-  any_moment : LeavesOnly g.D.Disk.moment g.D.Disk.images_since l.fn.disk l.disk (IsImage (g.D.Disk.choices l.fn.disk));
+  any_moment : LeavesOnly g.D.Disk l.fn.disk l.disk (IsImage (g.D.Disk.choices l.fn.disk));
   before : g.D.Disk.keeps l.disk → g.D.Disk.keeps l.fn.disk;
   count : g.D.Disk.sectors l.disk ≡ g.D.Disk.sectors l.fn.disk;
   failures : g.D.Disk.failures l.disk ≡ g.D.Disk.failures l.fn.disk;

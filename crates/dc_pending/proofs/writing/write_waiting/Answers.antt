@@ -1,7 +1,7 @@
 use Rattle.std.proofs.Common.{subst, OnOk, ⊎_elim, inl, inr, length, rules}
-use Rattle.dc_sectors.specs.Disk.{LeavesOnly}
+use Rattle.dc_sectors.specs.Runs.{LeavesOnly}
 use Rattle.dc_changes.specs.State.{State}
-use Rattle.dc_recovery.specs.Halves.{half_len_of}
+use Rattle.dc_recovery.specs.Halves.{half_of}
 use Rattle.dc_recovery.specs.Stands.{StandsForEither}
 use Rattle.dc_recovery.specs.Store.{Fits, Keeps}
 use Rattle.dc_pending.proofs.writing.write_waiting.Goals as goal
@@ -14,11 +14,11 @@ returns-clause-goes_on g c = c.compact.ensures.running
 
 pub returns-clause-kept : goal.returns-clause-kept
 returns-clause-kept g c was changes kept spells accepted same =
-    subst (λ (s : State). OnOk c.compact.result (Keeps g.D.Disk.sectors g.D.Disk.reads g.D.Disk.choices c.compact.new.self s)) same (c.compact.ensures.kept was kept)
+    subst (λ (s : State). OnOk c.compact.result (Keeps g.D.Disk c.compact.new.self s)) same (c.compact.ensures.kept was kept)
 
 pub returns-clause-any_moment : goal.returns-clause-any_moment
 returns-clause-any_moment g c was changes kept spells accepted same =
-    subst (λ (s : State). LeavesOnly g.D.Disk.moment g.D.Disk.images_since c.args.store.now.disk c.compact.new.self.disk (StandsForEither (half_len_of (g.D.Disk.sectors c.args.store.now.disk)) was s)) same
+    subst (λ (s : State). LeavesOnly g.D.Disk c.args.store.now.disk c.compact.new.self.disk (StandsForEither (half_of g.D.Disk c.args.store.now.disk) was s)) same
     (c.compact.ensures.any_moment was kept)
 
 pub returns-then-fits-clause-worn : goal.returns-then-fits-clause-worn

@@ -14,12 +14,12 @@ at_rest link more due is = record { last_is = ap (λ (d : Due). record { due = d
 
 pub returns-in-Again-clause-went : goal.returns-in-Again-clause-went
 returns-in-Again-clause-went g c port moment meter link origin state before chain at =
-    way_none (g.D.Disk.keeps origin) g.D.Disk.sectors g.D.Disk.failures g.D.Disk.reads g.D.Disk.choices g.D.Disk.moment g.D.Disk.images_since c.args.concentrator.now.house.budget state before port moment meter (record { due = behind_heard c.args.answer; link = link }) _ (Puts (g.W.Sink.written c.args.out.now) (g.W.Sink.written c.args.out.now)) c.args.concentrator.now (went_none (g.D.Disk.keeps origin) g.D.Disk.sectors g.D.Disk.failures g.D.Disk.reads g.D.Disk.choices g.D.Disk.moment g.D.Disk.images_since c.args.concentrator.now.house.budget state before c.args.concentrator.now chain at (λ h image left. g.met.D.Disk.only_now c.args.concentrator.now.store.disk image left))
+    way_none g.D.Disk origin c.args.concentrator.now.house.budget state before port moment meter (record { due = behind_heard c.args.answer; link = link }) _ (Puts (g.W.Sink.written c.args.out.now) (g.W.Sink.written c.args.out.now)) c.args.concentrator.now (went_none g.D.Disk origin c.args.concentrator.now.house.budget state before c.args.concentrator.now chain at (λ h image left. g.met.D.Disk.only_now c.args.concentrator.now.store.disk image left))
     (at_rest link true (behind_heard c.args.answer) (ap behind_heard c.in-Ok.is ∙ ap (λ (a : LineHeard). behind_heard (Ok a)) c.in-Again.is), tt, refl) (puts-none (g.W.Sink.written c.args.out.now))
 
 pub returns-in-Ready-clause-went : goal.returns-in-Ready-clause-went
 returns-in-Ready-clause-went g c port moment meter link origin state before chain at =
-    way_none (g.D.Disk.keeps origin) g.D.Disk.sectors g.D.Disk.failures g.D.Disk.reads g.D.Disk.choices g.D.Disk.moment g.D.Disk.images_since c.args.concentrator.now.house.budget state before port moment meter (record { due = behind_heard c.args.answer; link = link }) _ (Puts (g.W.Sink.written c.args.out.now) (g.W.Sink.written c.args.out.now)) c.args.concentrator.now (went_none (g.D.Disk.keeps origin) g.D.Disk.sectors g.D.Disk.failures g.D.Disk.reads g.D.Disk.choices g.D.Disk.moment g.D.Disk.images_since c.args.concentrator.now.house.budget state before c.args.concentrator.now chain at (λ h image left. g.met.D.Disk.only_now c.args.concentrator.now.store.disk image left))
+    way_none g.D.Disk origin c.args.concentrator.now.house.budget state before port moment meter (record { due = behind_heard c.args.answer; link = link }) _ (Puts (g.W.Sink.written c.args.out.now) (g.W.Sink.written c.args.out.now)) c.args.concentrator.now (went_none g.D.Disk origin c.args.concentrator.now.house.budget state before c.args.concentrator.now chain at (λ h image left. g.met.D.Disk.only_now c.args.concentrator.now.store.disk image left))
     (at_rest link true (behind_heard c.args.answer) (ap behind_heard c.in-Ok.is ∙ ap (λ (a : LineHeard). behind_heard (Ok a)) c.in-Ready.is), tt, refl) (puts-none (g.W.Sink.written c.args.out.now))
 
 pub returns-in-Accepted-clause-went : goal.returns-in-Accepted-clause-went
@@ -28,10 +28,10 @@ returns-in-Accepted-clause-went g c port moment meter link origin state before c
 
 pub returns-in-Failed-clause-went : goal.returns-in-Failed-clause-went
 returns-in-Failed-clause-went g c port moment meter link origin state before chain at =
-    way_none (g.D.Disk.keeps origin) g.D.Disk.sectors g.D.Disk.failures g.D.Disk.reads g.D.Disk.choices g.D.Disk.moment g.D.Disk.images_since c.args.concentrator.now.house.budget state before port moment meter (record { due = behind_heard c.args.answer; link = link }) _ (Puts (g.W.Sink.written c.args.out.now) (g.W.Sink.written c.args.out.now)) c.args.concentrator.now (went_none (g.D.Disk.keeps origin) g.D.Disk.sectors g.D.Disk.failures g.D.Disk.reads g.D.Disk.choices g.D.Disk.moment g.D.Disk.images_since c.args.concentrator.now.house.budget state before c.args.concentrator.now chain at (λ h image left. g.met.D.Disk.only_now c.args.concentrator.now.store.disk image left))
+    way_none g.D.Disk origin c.args.concentrator.now.house.budget state before port moment meter (record { due = behind_heard c.args.answer; link = link }) _ (Puts (g.W.Sink.written c.args.out.now) (g.W.Sink.written c.args.out.now)) c.args.concentrator.now (went_none g.D.Disk origin c.args.concentrator.now.house.budget state before c.args.concentrator.now chain at (λ h image left. g.met.D.Disk.only_now c.args.concentrator.now.store.disk image left))
     (at_rest link false (behind_heard c.args.answer) (ap behind_heard c.in-Ok.is ∙ ap (λ (a : LineHeard). behind_heard (Ok a)) c.in-Failed.is), tt, refl) (puts-none (g.W.Sink.written c.args.out.now))
 
 pub returns-in-Err-clause-went : goal.returns-in-Err-clause-went
 returns-in-Err-clause-went g c port moment meter link origin state before chain at =
-    way_none (g.D.Disk.keeps origin) g.D.Disk.sectors g.D.Disk.failures g.D.Disk.reads g.D.Disk.choices g.D.Disk.moment g.D.Disk.images_since c.args.concentrator.now.house.budget state before port moment meter (record { due = behind_heard c.args.answer; link = link }) _ (Puts (g.W.Sink.written c.args.out.now) (g.W.Sink.written c.args.out.now)) c.args.concentrator.now (went_none (g.D.Disk.keeps origin) g.D.Disk.sectors g.D.Disk.failures g.D.Disk.reads g.D.Disk.choices g.D.Disk.moment g.D.Disk.images_since c.args.concentrator.now.house.budget state before c.args.concentrator.now chain at (λ h image left. g.met.D.Disk.only_now c.args.concentrator.now.store.disk image left))
+    way_none g.D.Disk origin c.args.concentrator.now.house.budget state before port moment meter (record { due = behind_heard c.args.answer; link = link }) _ (Puts (g.W.Sink.written c.args.out.now) (g.W.Sink.written c.args.out.now)) c.args.concentrator.now (went_none g.D.Disk origin c.args.concentrator.now.house.budget state before c.args.concentrator.now chain at (λ h image left. g.met.D.Disk.only_now c.args.concentrator.now.store.disk image left))
     (at_rest link false (behind_heard c.args.answer) (ap behind_heard c.in-Err.is), tt, refl) (puts-none (g.W.Sink.written c.args.out.now))

@@ -15,7 +15,7 @@ round link (Err fault) = record { last_is = refl; rounds_are = refl }
 
 pub returns-in-Ok-clause-went : goal.returns-in-Ok-clause-went
 returns-in-Ok-clause-went g c port moment meter link origin state before chain at =
-    way_turn (g.D.Disk.keeps origin) g.D.Disk.sectors g.D.Disk.failures g.D.Disk.reads g.D.Disk.choices g.D.Disk.moment g.D.Disk.images_since c.args.concentrator.now.house.budget state before port moment meter to_commit link commits _ _ _ c.args.concentrator.now c.told_commit.new.concentrator
+    way_turn g.D.Disk origin c.args.concentrator.now.house.budget state before port moment meter to_commit link commits _ _ _ c.args.concentrator.now c.told_commit.new.concentrator
     refl (c.in-Ok.ensures.went origin state before chain at)
     (λ answer is. (
       subst (λ (a : Answer). IsRound c.is_ok.result link 0 (does (commits, a) ∷ []) (record { due = behind_turn to_commit commits a; link = link })) (sym is.0)
@@ -27,5 +27,5 @@ returns-in-Ok-clause-went g c port moment meter link origin state before chain a
 
 pub returns-in-Err-clause-went : goal.returns-in-Err-clause-went
 returns-in-Err-clause-went g c port moment meter link origin state before chain at =
-    way_turn (g.D.Disk.keeps origin) g.D.Disk.sectors g.D.Disk.failures g.D.Disk.reads g.D.Disk.choices g.D.Disk.moment g.D.Disk.images_since c.args.concentrator.now.house.budget state before port moment meter to_commit link commits _ _ _ c.args.concentrator.now c.told_commit.new.concentrator
+    way_turn g.D.Disk origin c.args.concentrator.now.house.budget state before port moment meter to_commit link commits _ _ _ c.args.concentrator.now c.told_commit.new.concentrator
     refl (c.told_commit.ensures.went origin state before chain at) (λ answer is. (tt, fails_in_one g.W.Sink port c.args.out.now c.told_commit.new.out (does (commits, answer)) c.in-Err.ensures.fault, refl)) (λ answer is. tt)

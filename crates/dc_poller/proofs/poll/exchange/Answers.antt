@@ -23,8 +23,8 @@ returns-in-Ok-clause-went g c meter origin state before chain at =
     let short = subst (λ (xs : List ℕ). length xs ≤ most_answer) same c.in-Ok.ensures.heard.0 in
     let over = subst (IsHeardOver (link_by is)) same c.in-Ok.ensures.heard.1 in
     let asked = subst (λ (xs : List ℕ). g.B.Bus.asks c.args.bus.now request xs c.ask_bus.new.bus) same c.in-Ok.ensures.asked in
-    let one = way_exchange (g.D.Disk.keeps origin) g.D.Disk.sectors g.D.Disk.failures g.D.Disk.reads g.D.Disk.choices g.D.Disk.moment g.D.Disk.images_since c.args.concentrator.now.house.budget state before c.args.port c.args.moment.seconds meter was is request answer (Puts w0 w1) c.args.concentrator.now (went_none (g.D.Disk.keeps origin) g.D.Disk.sectors g.D.Disk.failures g.D.Disk.reads g.D.Disk.choices g.D.Disk.moment g.D.Disk.images_since c.args.concentrator.now.house.budget state before c.args.concentrator.now chain at (λ h image left. g.met.D.Disk.only_now c.args.concentrator.now.store.disk image left)) c.ask_bus.ensures.lost short over c.in-Ok.ensures.told.0 in
-    way_then (g.D.Disk.keeps origin) g.D.Disk.sectors g.D.Disk.failures g.D.Disk.reads g.D.Disk.choices g.D.Disk.moment g.D.Disk.images_since c.args.concentrator.now.house.budget state before c.args.port c.args.moment.seconds meter _ (record { due = to_hear answer; link = link_by is }) _ _ _ _ _ _ c.args.concentrator.now c.args.concentrator.now c.hear.new.concentrator
+    let one = way_exchange g.D.Disk origin c.args.concentrator.now.house.budget state before c.args.port c.args.moment.seconds meter was is request answer (Puts w0 w1) c.args.concentrator.now (went_none g.D.Disk origin c.args.concentrator.now.house.budget state before c.args.concentrator.now chain at (λ h image left. g.met.D.Disk.only_now c.args.concentrator.now.store.disk image left)) c.ask_bus.ensures.lost short over c.in-Ok.ensures.told.0 in
+    way_then g.D.Disk origin c.args.concentrator.now.house.budget state before c.args.port c.args.moment.seconds meter _ (record { due = to_hear answer; link = link_by is }) _ _ _ _ _ _ c.args.concentrator.now c.args.concentrator.now c.hear.new.concentrator
     one one.ends_so.1 refl (λ behind ch a. c.hear.ensures.went meter (link_by is) origin state behind ch a)
     (λ more last e. (
       if_round_after c.hear.result (link_by is) 0 one.happened more last (ap rounds_in one.ends_so.0 ∙ no_round was is (record { request = request; answer = answer })) e.0,
@@ -39,8 +39,8 @@ returns-in-Err-clause-went g c meter origin state before chain at =
     let is = (g.B.Bus.lost c.ask_bus.new.bus) in
     let request = c.args.request.now in
     let lost_so = c.in-Err.ensures.unwritten in
-    let one = way_exchange (g.D.Disk.keeps origin) g.D.Disk.sectors g.D.Disk.failures g.D.Disk.reads g.D.Disk.choices g.D.Disk.moment g.D.Disk.images_since c.args.concentrator.now.house.budget state before c.args.port c.args.moment.seconds meter was is request [] (λ text. Unit {0}) c.args.concentrator.now (went_none (g.D.Disk.keeps origin) g.D.Disk.sectors g.D.Disk.failures g.D.Disk.reads g.D.Disk.choices g.D.Disk.moment g.D.Disk.images_since c.args.concentrator.now.house.budget state before c.args.concentrator.now chain at (λ h image left. g.met.D.Disk.only_now c.args.concentrator.now.store.disk image left)) c.ask_bus.ensures.lost (omega arith) (silence_over is) tt in
-    way_as (g.D.Disk.keeps origin) g.D.Disk.sectors g.D.Disk.failures g.D.Disk.reads g.D.Disk.choices g.D.Disk.moment g.D.Disk.images_since c.args.concentrator.now.house.budget state before c.args.port c.args.moment.seconds meter _ _ _ _ _ c.args.concentrator.now c.args.concentrator.now one
+    let one = way_exchange g.D.Disk origin c.args.concentrator.now.house.budget state before c.args.port c.args.moment.seconds meter was is request [] (λ text. Unit {0}) c.args.concentrator.now (went_none g.D.Disk origin c.args.concentrator.now.house.budget state before c.args.concentrator.now chain at (λ h image left. g.met.D.Disk.only_now c.args.concentrator.now.store.disk image left)) c.ask_bus.ensures.lost (omega arith) (silence_over is) tt in
+    way_as g.D.Disk origin c.args.concentrator.now.house.budget state before c.args.port c.args.moment.seconds meter _ _ _ _ _ c.args.concentrator.now c.args.concentrator.now one
     (λ happened last e. (
       tt,
       loss_fails g.W.Sink c.args.port c.args.out.now c.ask_bus.new.out was is (record { request = request; answer = [] }) happened lost_so.0 lost_so.1 e.0 c.in-Err.ensures.told.3,

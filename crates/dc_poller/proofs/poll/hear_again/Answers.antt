@@ -16,7 +16,7 @@ returns-in-Ok-committed-clause-went g c meter link origin state before chain at 
     let w2 = w c.hear_once_more.new.out in
     let one = c.in-Ok.ensures.went origin state before chain at in
     let told = subst (λ (a : Result ℕ CommitFault). Puts w0 w1 (told_text (committed a))) c.in-Ok-committed.is one.is_such.1 in
-    turn_then (g.D.Disk.keeps origin) g.D.Disk.sectors g.D.Disk.failures g.D.Disk.reads g.D.Disk.choices g.D.Disk.moment g.D.Disk.images_since c.args.concentrator.now.house.budget state before c.args.port c.args.moment.seconds meter (to_make_room c.args.bytes.now) link (commits) _ (committed (Ok c.in-Ok-committed.field-0)) _ _ _ _ c.args.concentrator.now c.told_commit.new.concentrator c.hear_once_more.new.concentrator
+    turn_then g.D.Disk origin c.args.concentrator.now.house.budget state before c.args.port c.args.moment.seconds meter (to_make_room c.args.bytes.now) link (commits) _ (committed (Ok c.in-Ok-committed.field-0)) _ _ _ _ c.args.concentrator.now c.told_commit.new.concentrator c.hear_once_more.new.concentrator
     refl one (λ answer s. s.0 ∙ ap committed c.in-Ok-committed.is) c.told_commit.ensures.budget (λ behind ch a. c.hear_once_more.ensures.went meter link origin state behind ch a)
     (λ more last e. (
       if_round_grows c.hear_once_more.result link 0 0 (does (commits, committed (Ok c.in-Ok-committed.field-0))) more last refl e.0,
@@ -30,10 +30,10 @@ returns-in-Err-committed-clause-went g c meter link origin state before chain at
     let w0 = g.W.Sink.written c.args.out.now in
     let w1 = g.W.Sink.written c.told_commit.new.out in
     let one = c.in-Ok.ensures.went origin state before chain at in
-    turn_last (g.D.Disk.keeps origin) g.D.Disk.sectors g.D.Disk.failures g.D.Disk.reads g.D.Disk.choices g.D.Disk.moment g.D.Disk.images_since c.args.concentrator.now.house.budget state before c.args.port c.args.moment.seconds meter (to_make_room c.args.bytes.now) link (commits) _ (committed (Err c.in-Err-committed.field-0)) _ _ c.args.concentrator.now c.told_commit.new.concentrator
+    turn_last g.D.Disk origin c.args.concentrator.now.house.budget state before c.args.port c.args.moment.seconds meter (to_make_room c.args.bytes.now) link (commits) _ (committed (Err c.in-Err-committed.field-0)) _ _ c.args.concentrator.now c.told_commit.new.concentrator
     refl one (λ answer s. s.0 ∙ ap committed c.in-Err-committed.is) (record { last_is = refl; rounds_are = refl }, tt, refl) (subst (λ (a : Result ℕ CommitFault). Puts w0 w1 (told_text (committed a))) c.in-Err-committed.is one.is_such.1)
 
 pub returns-in-Err-clause-went : goal.returns-in-Err-clause-went
 returns-in-Err-clause-went g c meter link origin state before chain at =
-    way_turn (g.D.Disk.keeps origin) g.D.Disk.sectors g.D.Disk.failures g.D.Disk.reads g.D.Disk.choices g.D.Disk.moment g.D.Disk.images_since c.args.concentrator.now.house.budget state before c.args.port c.args.moment.seconds meter (to_make_room c.args.bytes.now) link (commits) _ _ _ c.args.concentrator.now c.told_commit.new.concentrator
+    way_turn g.D.Disk origin c.args.concentrator.now.house.budget state before c.args.port c.args.moment.seconds meter (to_make_room c.args.bytes.now) link (commits) _ _ _ c.args.concentrator.now c.told_commit.new.concentrator
     refl (c.told_commit.ensures.went origin state before chain at) (λ answer is. (tt, fails_in_one g.W.Sink c.args.port c.args.out.now c.told_commit.new.out (does (commits, answer)) c.in-Err.ensures.fault, refl)) (λ answer is. tt)

@@ -13,7 +13,7 @@ returns-in-Ok-clause-went g c meter link origin state before chain at =
     let w1 = w c.told_hear.new.out in
     let w2 = w c.after_heard.new.out in
     let one = c.in-Ok.ensures.went origin state before chain at in
-    turn_then (g.D.Disk.keeps origin) g.D.Disk.sectors g.D.Disk.failures g.D.Disk.reads g.D.Disk.choices g.D.Disk.moment g.D.Disk.images_since c.args.concentrator.now.house.budget state before c.args.port c.args.moment.seconds meter (to_hear_again c.args.bytes.now) link (hears c.args.port.line c.args.moment.seconds c.args.bytes.now) _ (heard c.in-Ok.answer) _ _ _ _ c.args.concentrator.now c.told_hear.new.concentrator c.after_heard.new.concentrator
+    turn_then g.D.Disk origin c.args.concentrator.now.house.budget state before c.args.port c.args.moment.seconds meter (to_hear_again c.args.bytes.now) link (hears c.args.port.line c.args.moment.seconds c.args.bytes.now) _ (heard c.in-Ok.answer) _ _ _ _ c.args.concentrator.now c.told_hear.new.concentrator c.after_heard.new.concentrator
     refl one (λ answer s. s.0) c.told_hear.ensures.budget (λ behind ch a. c.after_heard.ensures.went c.args.port c.args.moment.seconds meter link origin state behind ch a)
     (λ more last e. (
       if_round_grows c.after_heard.result link 0 0 (does (hears c.args.port.line c.args.moment.seconds c.args.bytes.now, heard c.in-Ok.answer)) more last refl e.0,
@@ -24,5 +24,5 @@ returns-in-Ok-clause-went g c meter link origin state before chain at =
 
 pub returns-in-Err-clause-went : goal.returns-in-Err-clause-went
 returns-in-Err-clause-went g c meter link origin state before chain at =
-    way_turn (g.D.Disk.keeps origin) g.D.Disk.sectors g.D.Disk.failures g.D.Disk.reads g.D.Disk.choices g.D.Disk.moment g.D.Disk.images_since c.args.concentrator.now.house.budget state before c.args.port c.args.moment.seconds meter (to_hear_again c.args.bytes.now) link (hears c.args.port.line c.args.moment.seconds c.args.bytes.now) _ _ _ c.args.concentrator.now c.told_hear.new.concentrator
+    way_turn g.D.Disk origin c.args.concentrator.now.house.budget state before c.args.port c.args.moment.seconds meter (to_hear_again c.args.bytes.now) link (hears c.args.port.line c.args.moment.seconds c.args.bytes.now) _ _ _ c.args.concentrator.now c.told_hear.new.concentrator
     refl (c.told_hear.ensures.went origin state before chain at) (λ answer is. (tt, fails_in_one g.W.Sink c.args.port c.args.out.now c.told_hear.new.out (does (hears c.args.port.line c.args.moment.seconds c.args.bytes.now, answer)) c.in-Err.ensures.fault, refl)) (λ answer is. tt)

@@ -18,9 +18,9 @@ returns-in-Ok-clause-went g c origin state before chain at =
     let w2 = w c.start_and_read.new.out in
     let was = g.B.Bus.lost c.args.bus.now in
     let is = g.B.Bus.lost c.settle_bus.new.bus in
-    let one = way_settled (g.D.Disk.keeps origin) g.D.Disk.sectors g.D.Disk.failures g.D.Disk.reads g.D.Disk.choices g.D.Disk.moment g.D.Disk.images_since c.args.concentrator.now.house.budget state before c.args.port c.args.moment.seconds c.args.meter.now was is (Puts w0 w1) c.args.concentrator.now (went_none (g.D.Disk.keeps origin) g.D.Disk.sectors g.D.Disk.failures g.D.Disk.reads g.D.Disk.choices g.D.Disk.moment g.D.Disk.images_since c.args.concentrator.now.house.budget state before c.args.concentrator.now chain at (λ h image left. g.met.D.Disk.only_now c.args.concentrator.now.store.disk image left)) c.settle_bus.ensures.lost
+    let one = way_settled g.D.Disk origin c.args.concentrator.now.house.budget state before c.args.port c.args.moment.seconds c.args.meter.now was is (Puts w0 w1) c.args.concentrator.now (went_none g.D.Disk origin c.args.concentrator.now.house.budget state before c.args.concentrator.now chain at (λ h image left. g.met.D.Disk.only_now c.args.concentrator.now.store.disk image left)) c.settle_bus.ensures.lost
     (λ linked_before lost_after. not_a_gateway g.B.Bus.lost c.args.port.is_gateway c.args.bus.now c.settle_bus.new.bus c.settle_bus.ensures.gateway linked_before lost_after) c.in-Ok.ensures.told.0 in
-    way_then (g.D.Disk.keeps origin) g.D.Disk.sectors g.D.Disk.failures g.D.Disk.reads g.D.Disk.choices g.D.Disk.moment g.D.Disk.images_since c.args.concentrator.now.house.budget state before c.args.port c.args.moment.seconds c.args.meter.now _ (record { due = to_start; link = link_by is }) _ _ _ _ _ _ c.args.concentrator.now c.args.concentrator.now c.start_and_read.new.concentrator
+    way_then g.D.Disk origin c.args.concentrator.now.house.budget state before c.args.port c.args.moment.seconds c.args.meter.now _ (record { due = to_start; link = link_by is }) _ _ _ _ _ _ c.args.concentrator.now c.args.concentrator.now c.start_and_read.new.concentrator
     one one.ends_so.1 refl (λ behind ch a. c.start_and_read.ensures.went origin state behind ch a)
     (λ more last e. (
       end_after c.start_and_read.result (link_by (g.B.Bus.lost c.start_and_read.new.bus)) one.happened more last (ap rounds_in one.ends_so.0 ∙ settles_in_no_round was is) e.0,
@@ -40,8 +40,8 @@ returns-in-Err-clause-went g c origin state before chain at =
     let was = g.B.Bus.lost c.args.bus.now in
     let is = g.B.Bus.lost c.settle_bus.new.bus in
     let lost_so = c.in-Err.ensures.unwritten in
-    let one = way_settled (g.D.Disk.keeps origin) g.D.Disk.sectors g.D.Disk.failures g.D.Disk.reads g.D.Disk.choices g.D.Disk.moment g.D.Disk.images_since c.args.concentrator.now.house.budget state before c.args.port c.args.moment.seconds c.args.meter.now was is (λ text. Unit {0}) c.args.concentrator.now (went_none (g.D.Disk.keeps origin) g.D.Disk.sectors g.D.Disk.failures g.D.Disk.reads g.D.Disk.choices g.D.Disk.moment g.D.Disk.images_since c.args.concentrator.now.house.budget state before c.args.concentrator.now chain at (λ h image left. g.met.D.Disk.only_now c.args.concentrator.now.store.disk image left)) c.settle_bus.ensures.lost (λ linked_before lost_after. lost_so.0) tt in
-    way_as (g.D.Disk.keeps origin) g.D.Disk.sectors g.D.Disk.failures g.D.Disk.reads g.D.Disk.choices g.D.Disk.moment g.D.Disk.images_since c.args.concentrator.now.house.budget state before c.args.port c.args.moment.seconds c.args.meter.now _ _ _ _ _ c.args.concentrator.now c.args.concentrator.now one
+    let one = way_settled g.D.Disk origin c.args.concentrator.now.house.budget state before c.args.port c.args.moment.seconds c.args.meter.now was is (λ text. Unit {0}) c.args.concentrator.now (went_none g.D.Disk origin c.args.concentrator.now.house.budget state before c.args.concentrator.now chain at (λ h image left. g.met.D.Disk.only_now c.args.concentrator.now.store.disk image left)) c.settle_bus.ensures.lost (λ linked_before lost_after. lost_so.0) tt in
+    way_as g.D.Disk origin c.args.concentrator.now.house.budget state before c.args.port c.args.moment.seconds c.args.meter.now _ _ _ _ _ c.args.concentrator.now c.args.concentrator.now one
     (λ happened last e. (
       tt,
       settle_fails g.W.Sink c.args.port c.args.out.now c.settle_bus.new.out was is happened lost_so.1 lost_so.2 e.0 c.in-Err.ensures.told.3,

@@ -15,7 +15,7 @@ rounds-init g c =
       budget = refl;
       well = refl;
       untouched = λ is. refl;
-      so_far = λ meter origin state before chain at. way_none (g.D.Disk.keeps origin) g.D.Disk.sectors g.D.Disk.failures g.D.Disk.reads g.D.Disk.choices g.D.Disk.moment g.D.Disk.images_since c.args.concentrator.now.house.budget state before c.args.port c.args.moment.seconds meter _ _ _ c.args.concentrator.now (went_none (g.D.Disk.keeps origin) g.D.Disk.sectors g.D.Disk.failures g.D.Disk.reads g.D.Disk.choices g.D.Disk.moment g.D.Disk.images_since c.args.concentrator.now.house.budget state before c.args.concentrator.now chain at (λ h image left. g.met.D.Disk.only_now c.args.concentrator.now.store.disk image left)) (refl, refl, refl) (puts-none (g.W.Sink.written c.args.out.now));
+      so_far = λ meter origin state before chain at. way_none g.D.Disk origin c.args.concentrator.now.house.budget state before c.args.port c.args.moment.seconds meter _ _ _ c.args.concentrator.now (went_none g.D.Disk origin c.args.concentrator.now.house.budget state before c.args.concentrator.now chain at (λ h image left. g.met.D.Disk.only_now c.args.concentrator.now.store.disk image left)) (refl, refl, refl) (puts-none (g.W.Sink.written c.args.out.now));
     }
 
 pub rounds-preserved : goal.rounds-preserved
@@ -30,7 +30,7 @@ rounds-preserved g c =
           let old = c.rounds.concentrator in
           let new = c.ask_and_hear.new.concentrator in
           let one = c.rounds.invariant.so_far meter origin state before chain at in
-          way_then (g.D.Disk.keeps origin) g.D.Disk.sectors g.D.Disk.failures g.D.Disk.reads g.D.Disk.choices g.D.Disk.moment g.D.Disk.images_since first.house.budget state before c.args.port c.args.moment.seconds meter _ _ _ _ _ _ _ _ first old new
+          way_then g.D.Disk origin first.house.budget state before c.args.port c.args.moment.seconds meter _ _ _ _ _ _ _ _ first old new
           one one.ends_so.0 c.rounds.invariant.budget (λ behind ch a. c.in-Ok.ensures.went meter origin state behind ch a)
           (λ more last e. let r = e.0.rounds_are in let s = one.ends_so.1 in (
             e.0.last_is ∙ ap (λ (b : Bool). record { due = goes_on b; link = link_by (g.B.Bus.lost c.ask_and_hear.new.bus) }) c.if-not-more.false,
@@ -47,7 +47,7 @@ returns-then-not-more-clause-went g c meter origin state before chain at =
     let old = c.rounds.concentrator in
     let new = c.ask_and_hear.new.concentrator in
     let one = c.rounds.invariant.so_far meter origin state before chain at in
-    way_then (g.D.Disk.keeps origin) g.D.Disk.sectors g.D.Disk.failures g.D.Disk.reads g.D.Disk.choices g.D.Disk.moment g.D.Disk.images_since first.house.budget state before c.args.port c.args.moment.seconds meter _ _ _ _ _ _ _ _ first old new
+    way_then g.D.Disk origin first.house.budget state before c.args.port c.args.moment.seconds meter _ _ _ _ _ _ _ _ first old new
     one one.ends_so.0 c.rounds.invariant.budget (λ behind ch a. c.in-Ok.ensures.went meter origin state behind ch a)
     (λ more last e. let is = e.0.last_is ∙ ap (λ (b : Bool). record { due = goes_on b; link = link_by (g.B.Bus.lost c.ask_and_hear.new.bus) }) c.if-not-more.true in (
       (inl (ap (λ (p : Phase). p.due) is), ap (λ (p : Phase). p.link) is),
@@ -75,7 +75,7 @@ returns-in-Err-clause-went g c meter origin state before chain at =
     let old = c.rounds.concentrator in
     let new = c.ask_and_hear.new.concentrator in
     let one = c.rounds.invariant.so_far meter origin state before chain at in
-    way_then (g.D.Disk.keeps origin) g.D.Disk.sectors g.D.Disk.failures g.D.Disk.reads g.D.Disk.choices g.D.Disk.moment g.D.Disk.images_since first.house.budget state before c.args.port c.args.moment.seconds meter _ _ _ _ _ _ _ _ first old new
+    way_then g.D.Disk origin first.house.budget state before c.args.port c.args.moment.seconds meter _ _ _ _ _ _ _ _ first old new
     one one.ends_so.0 c.rounds.invariant.budget (λ behind ch a. c.in-Err.ensures.went meter origin state behind ch a)
     (λ more last e. (
       tt,
@@ -99,7 +99,7 @@ returns-in-Err-clause-untouched g c =
 pub returns-clause-went : goal.returns-clause-went
 returns-clause-went g c meter origin state before chain at =
     let one = c.rounds.invariant.so_far meter origin state before chain at in
-    way_as (g.D.Disk.keeps origin) g.D.Disk.sectors g.D.Disk.failures g.D.Disk.reads g.D.Disk.choices g.D.Disk.moment g.D.Disk.images_since c.args.concentrator.now.house.budget state before c.args.port c.args.moment.seconds meter _ _ _ _ _ c.args.concentrator.now c.rounds.concentrator one
+    way_as g.D.Disk origin c.args.concentrator.now.house.budget state before c.args.port c.args.moment.seconds meter _ _ _ _ _ c.args.concentrator.now c.rounds.concentrator one
     (λ happened last e. ((inr (let counted = e.1 in let at_end = c.rounds-test.false in let within = c.rounds.auto.counter-end in omega (arith, counted, at_end, within)), ap (λ (p : Phase). p.link) e.0), tt, e.2)) (λ text p. p)
 
 pub returns-clause-well : goal.returns-clause-well

@@ -16,8 +16,8 @@ invariant-rounds g l = record {
   budget : l.concentrator.house.budget ≡ l.fn.concentrator.house.budget;
   well : g.W.Sink.put_failures l.out ≡ g.W.Sink.put_failures l.fn.out;
   untouched : g.B.Bus.lost l.fn.bus ≡ true → l.bus ≡ l.fn.bus;
-  so_far : (meter : Identity) (origin : g.row.D.Denot) (state : State) (before : List Turn) → IsChain l.fn.concentrator.house.budget (opened state) before → IsAt (g.D.Disk.keeps origin) g.D.Disk.sectors g.D.Disk.reads g.D.Disk.choices l.fn.concentrator (leads (opened state) before)
-      → Way (g.D.Disk.keeps origin) g.D.Disk.sectors g.D.Disk.failures g.D.Disk.reads g.D.Disk.choices g.D.Disk.moment g.D.Disk.images_since l.fn.concentrator.house.budget state before l.port l.moment.seconds meter (record { due = to_ask; link = link_by (g.B.Bus.lost l.fn.bus) })
+  so_far : (meter : Identity) (origin : g.row.D.Denot) (state : State) (before : List Turn) → IsChain l.fn.concentrator.house.budget (opened state) before → IsAt g.D.Disk origin l.fn.concentrator (leads (opened state) before)
+      → Way g.D.Disk origin l.fn.concentrator.house.budget state before l.port l.moment.seconds meter (record { due = to_ask; link = link_by (g.B.Bus.lost l.fn.bus) })
       (λ happened last. (last ≡ record { due = to_ask; link = link_by (g.B.Bus.lost l.bus) }) × (rounds_in happened ≡ l.counter)
       × AreExchanged g.B.Bus.asks l.fn.bus (happened_exchanges happened) l.bus)
       (Puts (g.W.Sink.written l.fn.out) (g.W.Sink.written l.out)) l.fn.concentrator l.concentrator;

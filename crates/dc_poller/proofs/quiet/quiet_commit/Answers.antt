@@ -6,7 +6,7 @@ use Rattle.dc_poller.proofs.quiet.quiet_commit.Goals as goal
 
 pub returns-clause-went : goal.returns-clause-went
 returns-clause-went g c origin state before chain at =
-    committed_went (g.D.Disk.keeps origin) g.D.Disk.sectors g.D.Disk.failures g.D.Disk.reads g.D.Disk.choices g.D.Disk.moment g.D.Disk.images_since c.args.concentrator.now.house.budget state before (committed c.commit.result) _ c.args.concentrator.now c.commit.new.self chain at
+    committed_went g.D.Disk origin c.args.concentrator.now.house.budget state before (committed c.commit.result) _ c.args.concentrator.now c.commit.new.self chain at
     (λ h image left. g.met.D.Disk.only_now c.args.concentrator.now.store.disk image left) (c.commit.ensures.may origin _ at) (c.commit.ensures.at origin _ at)
-    (commit_shown g.D.Disk.failures c.args.concentrator.now c.commit.new.self c.commit.result c.commit.ensures.device c.commit.ensures.worn c.commit.ensures.unchanged)
-    c.commit.ensures.count (λ h. c.commit.ensures.any_moment origin h _ at) refl
+    (commit_shown g.D.Disk c.args.concentrator.now c.commit.new.self c.commit.result c.commit.ensures.counts.failed c.commit.ensures.worn c.commit.ensures.unchanged)
+    c.commit.ensures.counts.count (λ h. c.commit.ensures.any_moment origin h _ at) refl

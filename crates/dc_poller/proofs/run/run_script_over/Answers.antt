@@ -3,7 +3,7 @@ use Rattle.std.specs.Prelude.{IfSome}
 use Rattle.dc_changes.specs.State.{State}
 use Rattle.dc_core.specs.Core.{opened}
 use Rattle.dc_core.specs.Images.{Machine, IsAt}
-use Rattle.dc_recovery.specs.Halves.{half_len_of}
+use Rattle.dc_recovery.specs.Halves.{half_of}
 use Rattle.dc_recovery.specs.Stands.{EachStands}
 use Rattle.dc_io.specs.Stream.{Puts}
 use Rattle.dc_io.specs.Lines.{lines_of}
@@ -19,13 +19,13 @@ use Rattle.dc_poller.proofs.run.run_script_over.Goals as goal
 
 -- THE RUN FROM THE DISK TO THE DISK, of what the lines did.
 gone_over : (g : Over) (c : After-run_lines g) → (script : List (List ℕ) → State → Machine (g.row.D.Denot) → Machine (g.row.D.Denot) → Type 0) → (new : g.row.D.Denot)
-    → (g.D.Disk.keeps c.args.disk → EachStands (half_len_of (g.D.Disk.sectors c.args.disk)) (g.D.Disk.choices c.args.disk))
-    → (IsAt (g.D.Disk.keeps c.in-Ok-open.concentrator.store.disk) g.D.Disk.sectors g.D.Disk.reads g.D.Disk.choices c.in-Ok-open.concentrator (opened c.in-Ok-open.concentrator.house.state)
+    → (g.D.Disk.keeps c.args.disk → EachStands (half_of g.D.Disk c.args.disk) (g.D.Disk.choices c.args.disk))
+    → (IsAt g.D.Disk c.in-Ok-open.concentrator.store.disk c.in-Ok-open.concentrator (opened c.in-Ok-open.concentrator.house.state)
     → script (lines_of c.as_slice.result.now) c.in-Ok-open.concentrator.house.state c.in-Ok-open.concentrator c.run_lines.new.concentrator)
     → new ≡ c.run_lines.new.concentrator.store.disk
     → ImageWent g.D.Disk (g.R.Source.left c.args.reader.now) script c.args.disk new
 gone_over g c script new premise went disk_is =
-    let each : g.D.Disk.keeps c.in-Ok-open.concentrator.store.disk → EachStands (half_len_of (g.D.Disk.sectors c.args.disk)) (g.D.Disk.choices c.args.disk) = λ h. premise (c.in-Ok-open.ensures.before h) in
+    let each : g.D.Disk.keeps c.in-Ok-open.concentrator.store.disk → EachStands (half_of g.D.Disk c.args.disk) (g.D.Disk.choices c.args.disk) = λ h. premise (c.in-Ok-open.ensures.before h) in
     let at = c.in-Ok-open.ensures.at each in
     record {
       input = c.as_slice.result.now;
@@ -35,7 +35,7 @@ gone_over g c script new premise went disk_is =
       last = c.run_lines.new.concentrator;
       opening = record {
         budget_is = c.in-Ok-open.ensures.budget;
-        count = c.in-Ok-open.ensures.count;
+        count = c.in-Ok-open.ensures.counts.count;
         at = at;
         reads_as = λ h. c.in-Ok-open.ensures.reads h;
         leaves = λ h. c.in-Ok-open.ensures.any_moment (each h) h;
@@ -54,13 +54,13 @@ pub returns-in-Write-clause-cut : goal.returns-in-Write-clause-cut
 returns-in-Write-clause-cut g c premise write =
     let first = c.in-Ok-open.concentrator in
     gone_over g (goal.at.returns-in-Write-clause-cut g c).After-run_lines _ c.close-in-Write.result premise
-    (λ at. (of_write Bool c.in-Err-run_lines.halt (ScriptCut (g.D.Disk.keeps first.store.disk) g.D.Disk.sectors g.D.Disk.failures g.D.Disk.reads g.D.Disk.choices g.D.Disk.moment g.D.Disk.images_since first.house.budget first.house.state [] (links_of g.B.Bus.lost c.args.lines.now) (lines_of c.as_slice.result.now) (AreCarried g.B.Bus.lost g.B.Bus.asks g.B.ScriptBus.settles g.B.ScriptBus.ready c.args.lines.now c.run_lines.new.slots) first c.run_lines.new.concentrator) c.in-Write.is (c.in-Err-run_lines.ensures.cut first.store.disk first.house.state [] tt at))) c.close-in-Write.ensures.disk
+    (λ at. (of_write Bool c.in-Err-run_lines.halt (ScriptCut g.D.Disk first.store.disk first.house.budget first.house.state [] (links_of g.B.Bus.lost c.args.lines.now) (lines_of c.as_slice.result.now) (AreCarried g.B.Bus.lost g.B.Bus.asks g.B.ScriptBus.settles g.B.ScriptBus.ready c.args.lines.now c.run_lines.new.slots) first c.run_lines.new.concentrator) c.in-Write.is (c.in-Err-run_lines.ensures.cut first.store.disk first.house.state [] tt at))) c.close-in-Write.ensures.disk
 
 pub returns-clause-starved : goal.returns-clause-starved
 returns-clause-starved g c premise write =
     let first = c.in-Ok-open.concentrator in
     inr (gone_over g (goal.at.returns-clause-starved g c).After-run_lines _ c.close-in-NoMemory.result premise
-    (λ at. (of_no_memory Bool c.in-Err-run_lines.halt (ScriptStarved (g.D.Disk.keeps first.store.disk) g.D.Disk.sectors g.D.Disk.failures g.D.Disk.reads g.D.Disk.choices g.D.Disk.moment g.D.Disk.images_since first.house.budget first.house.state [] (links_of g.B.Bus.lost c.args.lines.now) (lines_of c.as_slice.result.now) (Puts (g.W.Sink.written c.args.writer.now) (g.W.Sink.written c.run_lines.new.out)) (AreCarried g.B.Bus.lost g.B.Bus.asks g.B.ScriptBus.settles g.B.ScriptBus.ready c.args.lines.now c.run_lines.new.slots) first c.run_lines.new.concentrator) c.in-NoMemory.is (c.in-Err-run_lines.ensures.starved first.store.disk first.house.state [] tt at))) c.close-in-NoMemory.ensures.disk)
+    (λ at. (of_no_memory Bool c.in-Err-run_lines.halt (ScriptStarved g.D.Disk first.store.disk first.house.budget first.house.state [] (links_of g.B.Bus.lost c.args.lines.now) (lines_of c.as_slice.result.now) (Puts (g.W.Sink.written c.args.writer.now) (g.W.Sink.written c.run_lines.new.out)) (AreCarried g.B.Bus.lost g.B.Bus.asks g.B.ScriptBus.settles g.B.ScriptBus.ready c.args.lines.now c.run_lines.new.slots) first c.run_lines.new.concentrator) c.in-NoMemory.is (c.in-Err-run_lines.ensures.starved first.store.disk first.house.state [] tt at))) c.close-in-NoMemory.ensures.disk)
 
 pub returns-clause-unread : goal.returns-clause-unread
 returns-clause-unread g c of_reading = inr (refl, of_no_memory Bool c.in-Err-run_lines.halt (¬ (AreAbsent (links_of g.B.Bus.lost c.args.lines.now))) c.in-NoMemory.is c.in-Err-run_lines.ensures.through)

@@ -17,9 +17,9 @@ returns-in-Some-clause-ran g c origin state before chain at =
     let slots = c.args.slots.now in
     let links = links_of lost slots in
     let found = c.in-Some.ensures.found in
-    ran_as (g.D.Disk.keeps origin) g.D.Disk.sectors g.D.Disk.failures g.D.Disk.reads g.D.Disk.choices g.D.Disk.moment g.D.Disk.images_since c.poll_slot.result c.args.concentrator.now.house.budget state before c.args.moment.seconds (polls c.args.line c.args.meter.now) links _ (Puts (g.W.Sink.written c.args.out.now) (g.W.Sink.written c.poll_slot.new.out)) _ _ c.args.concentrator.now c.poll_slot.new.concentrator
+    ran_as g.D.Disk origin c.poll_slot.result c.args.concentrator.now.house.budget state before c.args.moment.seconds (polls c.args.line c.args.meter.now) links _ (Puts (g.W.Sink.written c.args.out.now) (g.W.Sink.written c.poll_slot.new.out)) _ _ c.args.concentrator.now c.poll_slot.new.concentrator
     (λ exchanges goes. is_one g.B.Bus.lost g.B.Bus.asks g.B.ScriptBus.settles g.B.ScriptBus.ready (polls c.args.line c.args.meter.now) slots _ exchanges (named_set (PollsOver g.B.Bus.lost g.B.Bus.asks g.B.ScriptBus.settles g.B.ScriptBus.ready c.args.line exchanges) slots c.in-Some.at c.index-slots-at.result c.poll_slot.new.slot c.args.line found.0 found.1 goes))
-    (subst (λ (left : List LineLink). OnOk c.poll_slot.result (LineRan (g.D.Disk.keeps origin) g.D.Disk.sectors g.D.Disk.failures g.D.Disk.reads g.D.Disk.choices g.D.Disk.moment g.D.Disk.images_since c.args.concentrator.now.house.budget state before c.args.moment.seconds (polls c.args.line c.args.meter.now) links left (Puts (g.W.Sink.written c.args.out.now) (g.W.Sink.written c.poll_slot.new.out)) (λ exchanges. PollsOver g.B.Bus.lost g.B.Bus.asks g.B.ScriptBus.settles g.B.ScriptBus.ready c.args.line exchanges (get_or slots c.in-Some.at c.index-slots-at.result) c.poll_slot.new.slot) c.args.concentrator.now c.poll_slot.new.concentrator))
+    (subst (λ (left : List LineLink). OnOk c.poll_slot.result (LineRan g.D.Disk origin c.args.concentrator.now.house.budget state before c.args.moment.seconds (polls c.args.line c.args.meter.now) links left (Puts (g.W.Sink.written c.args.out.now) (g.W.Sink.written c.poll_slot.new.out)) (λ exchanges. PollsOver g.B.Bus.lost g.B.Bus.asks g.B.ScriptBus.settles g.B.ScriptBus.ready c.args.line exchanges (get_or slots c.in-Some.at c.index-slots-at.result) c.poll_slot.new.slot) c.args.concentrator.now c.poll_slot.new.concentrator))
     (slot_left lost slots c.in-Some.at c.index-slots-at.result c.poll_slot.new.slot c.args.line found.0 found.1 c.poll_slot.ensures.kept)
     (c.poll_slot.ensures.ran links (slot_found lost slots c.in-Some.at c.index-slots-at.result c.args.line found.0 found.1) origin state before chain at))
 
@@ -29,7 +29,7 @@ returns-in-Some-clause-cut g c origin state before chain at =
     let slots = c.args.slots.now in
     let links = links_of lost slots in
     let found = c.in-Some.ensures.found in
-    cut_as (g.D.Disk.keeps origin) g.D.Disk.sectors g.D.Disk.failures g.D.Disk.reads g.D.Disk.choices g.D.Disk.moment g.D.Disk.images_since c.poll_slot.result c.args.concentrator.now.house.budget state before c.args.moment.seconds (polls c.args.line c.args.meter.now) links _ _ c.args.concentrator.now c.poll_slot.new.concentrator
+    cut_as g.D.Disk origin c.poll_slot.result c.args.concentrator.now.house.budget state before c.args.moment.seconds (polls c.args.line c.args.meter.now) links _ _ c.args.concentrator.now c.poll_slot.new.concentrator
     (λ exchanges goes. is_one g.B.Bus.lost g.B.Bus.asks g.B.ScriptBus.settles g.B.ScriptBus.ready (polls c.args.line c.args.meter.now) slots _ exchanges (named_set (PollsOver g.B.Bus.lost g.B.Bus.asks g.B.ScriptBus.settles g.B.ScriptBus.ready c.args.line exchanges) slots c.in-Some.at c.index-slots-at.result c.poll_slot.new.slot c.args.line found.0 found.1 goes))
     (c.poll_slot.ensures.cut links (slot_found lost slots c.in-Some.at c.index-slots-at.result c.args.line found.0 found.1) origin state before chain at)
 
@@ -43,15 +43,15 @@ returns-in-Some-clause-absent g c are =
 pub returns-in-None-clause-ran : goal.returns-in-None-clause-ran
 returns-in-None-clause-ran g c origin state before chain at =
     let links = links_of g.B.Bus.lost c.args.slots.now in
-    said_ran (g.D.Disk.keeps origin) g.D.Disk.sectors g.D.Disk.failures g.D.Disk.reads g.D.Disk.choices g.D.Disk.moment g.D.Disk.images_since c.args.concentrator.now.house.budget state before c.args.moment.seconds (polls c.args.line c.args.meter.now) links links no_gateway (Puts (g.W.Sink.written c.args.out.now) (g.W.Sink.written c.put_no_bus.new.out)) _ c.args.concentrator.now c.put_no_bus.result
+    said_ran g.D.Disk origin c.args.concentrator.now.house.budget state before c.args.moment.seconds (polls c.args.line c.args.meter.now) links links no_gateway (Puts (g.W.Sink.written c.args.out.now) (g.W.Sink.written c.put_no_bus.new.out)) _ c.args.concentrator.now c.put_no_bus.result
     (inr (record { no_bus = none_absent (link_in links c.args.line) (no_line g.B.Bus.lost c.args.slots.now c.args.line c.in-None.ensures.none); says = record { no_turns = refl; text_is = refl }; unasked = refl; left_is = refl }))
     (is_one g.B.Bus.lost g.B.Bus.asks g.B.ScriptBus.settles g.B.ScriptBus.ready (polls c.args.line c.args.meter.now) c.args.slots.now c.args.slots.now [] (named_none g.B.Bus.lost _ c.args.slots.now c.args.line c.in-None.ensures.none))
-    (went_none (g.D.Disk.keeps origin) g.D.Disk.sectors g.D.Disk.failures g.D.Disk.reads g.D.Disk.choices g.D.Disk.moment g.D.Disk.images_since c.args.concentrator.now.house.budget state before c.args.concentrator.now chain at (λ h image left. g.met.D.Disk.only_now c.args.concentrator.now.store.disk image left)) c.put_no_bus.ensures.0
+    (went_none g.D.Disk origin c.args.concentrator.now.house.budget state before c.args.concentrator.now chain at (λ h image left. g.met.D.Disk.only_now c.args.concentrator.now.store.disk image left)) c.put_no_bus.ensures.0
 
 pub returns-in-None-clause-cut : goal.returns-in-None-clause-cut
 returns-in-None-clause-cut g c origin state before chain at =
     let links = links_of g.B.Bus.lost c.args.slots.now in
-    said_cut (g.D.Disk.keeps origin) g.D.Disk.sectors g.D.Disk.failures g.D.Disk.reads g.D.Disk.choices g.D.Disk.moment g.D.Disk.images_since c.args.concentrator.now.house.budget state before c.args.moment.seconds (polls c.args.line c.args.meter.now) links _ c.args.concentrator.now c.put_no_bus.result
+    said_cut g.D.Disk origin c.args.concentrator.now.house.budget state before c.args.moment.seconds (polls c.args.line c.args.meter.now) links _ c.args.concentrator.now c.put_no_bus.result
     (inr (none_absent (link_in links c.args.line) (no_line g.B.Bus.lost c.args.slots.now c.args.line c.in-None.ensures.none), refl, refl))
     (is_one g.B.Bus.lost g.B.Bus.asks g.B.ScriptBus.settles g.B.ScriptBus.ready (polls c.args.line c.args.meter.now) c.args.slots.now c.args.slots.now [] (named_none g.B.Bus.lost _ c.args.slots.now c.args.line c.in-None.ensures.none))
-    (went_none (g.D.Disk.keeps origin) g.D.Disk.sectors g.D.Disk.failures g.D.Disk.reads g.D.Disk.choices g.D.Disk.moment g.D.Disk.images_since c.args.concentrator.now.house.budget state before c.args.concentrator.now chain at (λ h image left. g.met.D.Disk.only_now c.args.concentrator.now.store.disk image left))
+    (went_none g.D.Disk origin c.args.concentrator.now.house.budget state before c.args.concentrator.now chain at (λ h image left. g.met.D.Disk.only_now c.args.concentrator.now.store.disk image left))

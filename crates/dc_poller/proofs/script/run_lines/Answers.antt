@@ -26,7 +26,7 @@ use Rattle.dc_poller.proofs.script.run_lines.Goals as goal
 
 -- the loop's own, with these lines to come
 abbrev SoFarWith : (g : Over) → g.row.D.Denot → After-first_line g → List (List ℕ) → Type 0
-SoFarWith g origin c rest = SoFar (g.D.Disk.keeps origin) g.D.Disk.sectors g.D.Disk.failures g.D.Disk.reads g.D.Disk.choices g.D.Disk.moment g.D.Disk.images_since c.args.concentrator.now.house.budget (links_of g.B.Bus.lost c.args.slots.now) (links_of g.B.Bus.lost c.lines.slots) (lines_of c.args.input.now) rest
+SoFarWith g origin c rest = SoFar g.D.Disk origin c.args.concentrator.now.house.budget (links_of g.B.Bus.lost c.args.slots.now) (links_of g.B.Bus.lost c.lines.slots) (lines_of c.args.input.now) rest
     c.lines.moment.0 c.lines.count (Puts (g.W.Sink.written c.args.out.now) (g.W.Sink.written c.lines.out)) (AreCarried g.B.Bus.lost g.B.Bus.asks g.B.ScriptBus.settles g.B.ScriptBus.ready c.args.slots.now c.lines.slots) c.args.concentrator.now c.lines.concentrator
 
 here : (g : Over) (origin : g.row.D.Denot) (c : After-first_line g) → SoFarWith g origin c (c.first_line.result.0.now ∷ lines_of c.first_line.result.1.now)
@@ -37,7 +37,7 @@ abbrev IsChainBefore : (g : Over) → After-first_line g → State → List Turn
 IsChainBefore g c state before = IsChain c.args.concentrator.now.house.budget (opened state) before
 
 abbrev IsAtBefore : (g : Over) → g.row.D.Denot → After-first_line g → State → List Turn → Type 0
-IsAtBefore g origin c state before = IsAt (g.D.Disk.keeps origin) g.D.Disk.sectors g.D.Disk.reads g.D.Disk.choices c.args.concentrator.now (leads (opened state) before)
+IsAtBefore g origin c state before = IsAt g.D.Disk origin c.args.concentrator.now (leads (opened state) before)
 
 abbrev turns_here : (g : Over) (c : After-first_line g) (origin : g.row.D.Denot) (state : State) (before : List Turn) → IsChainBefore g c state before → IsAtBefore g origin c state before → List Turn
 turns_here g c origin state before chain at = deeds_turns ((here g origin c).ran state before chain at).lines.deeds
@@ -45,12 +45,12 @@ turns_here g c origin state before chain at = deeds_turns ((here g origin c).ran
 chain_here : (g : Over) (c : After-first_line g) (origin : g.row.D.Denot) (state : State) (before : List Turn) (chain : IsChainBefore g c state before) (at : IsAtBefore g origin c state before)
     → IsChain c.args.concentrator.now.house.budget (opened state) (before ++ turns_here g c origin state before chain at)
 chain_here g c origin state before chain at =
-    went_chain (g.D.Disk.keeps origin) g.D.Disk.sectors g.D.Disk.failures g.D.Disk.reads g.D.Disk.choices g.D.Disk.moment g.D.Disk.images_since c.args.concentrator.now.house.budget state before (turns_here g c origin state before chain at) c.args.concentrator.now c.lines.concentrator ((here g origin c).ran state before chain at).lines.went
+    went_chain g.D.Disk origin c.args.concentrator.now.house.budget state before (turns_here g c origin state before chain at) c.args.concentrator.now c.lines.concentrator ((here g origin c).ran state before chain at).lines.went
 
 at_here : (g : Over) (c : After-first_line g) (origin : g.row.D.Denot) (state : State) (before : List Turn) (chain : IsChainBefore g c state before) (at : IsAtBefore g origin c state before)
-    → IsAt (g.D.Disk.keeps origin) g.D.Disk.sectors g.D.Disk.reads g.D.Disk.choices c.lines.concentrator (leads (opened state) (before ++ turns_here g c origin state before chain at))
+    → IsAt g.D.Disk origin c.lines.concentrator (leads (opened state) (before ++ turns_here g c origin state before chain at))
 at_here g c origin state before chain at =
-    went_at (g.D.Disk.keeps origin) g.D.Disk.sectors g.D.Disk.failures g.D.Disk.reads g.D.Disk.choices g.D.Disk.moment g.D.Disk.images_since c.args.concentrator.now.house.budget state before (turns_here g c origin state before chain at) c.args.concentrator.now c.lines.concentrator ((here g origin c).ran state before chain at).lines.went
+    went_at g.D.Disk origin c.args.concentrator.now.house.budget state before (turns_here g c origin state before chain at) c.args.concentrator.now c.lines.concentrator ((here g origin c).ran state before chain at).lines.went
 
 pub lines-init : goal.lines-init
 lines-init g c = record {
@@ -65,8 +65,8 @@ lines-init g c = record {
     are_read = refl;
     moment_is = refl;
     count_is = refl;
-    ran = λ state before chain at. lines_none (g.D.Disk.keeps origin) g.D.Disk.sectors g.D.Disk.failures g.D.Disk.reads g.D.Disk.choices g.D.Disk.moment g.D.Disk.images_since c.args.concentrator.now.house.budget state before (links_of g.B.Bus.lost c.args.slots.now) (Puts (g.W.Sink.written c.args.out.now) (g.W.Sink.written c.args.out.now)) (AreCarried g.B.Bus.lost g.B.Bus.asks g.B.ScriptBus.settles g.B.ScriptBus.ready c.args.slots.now c.args.slots.now) c.args.concentrator.now
-        (went_none (g.D.Disk.keeps origin) g.D.Disk.sectors g.D.Disk.failures g.D.Disk.reads g.D.Disk.choices g.D.Disk.moment g.D.Disk.images_since c.args.concentrator.now.house.budget state before c.args.concentrator.now chain at (λ h image left. g.met.D.Disk.only_now c.args.concentrator.now.store.disk image left))
+    ran = λ state before chain at. lines_none g.D.Disk origin c.args.concentrator.now.house.budget state before (links_of g.B.Bus.lost c.args.slots.now) (Puts (g.W.Sink.written c.args.out.now) (g.W.Sink.written c.args.out.now)) (AreCarried g.B.Bus.lost g.B.Bus.asks g.B.ScriptBus.settles g.B.ScriptBus.ready c.args.slots.now c.args.slots.now) c.args.concentrator.now
+        (went_none g.D.Disk origin c.args.concentrator.now.house.budget state before c.args.concentrator.now chain at (λ h image left. g.met.D.Disk.only_now c.args.concentrator.now.store.disk image left))
         (puts-none (g.W.Sink.written c.args.out.now)) (λ n. refl);
   };
 }
@@ -89,11 +89,11 @@ lines-preserved g c =
       well = c.in_default-run_line.ensures.counted ∙ c.lines.invariant.well;
       moment = c.moment_behind-moment.result.fits;
       absent = λ is. c.run_line.ensures.absent (c.lines.invariant.absent is);
-      so_far = λ origin. subst (λ (m : ℕ). SoFar (g.D.Disk.keeps origin) g.D.Disk.sectors g.D.Disk.failures g.D.Disk.reads g.D.Disk.choices g.D.Disk.moment g.D.Disk.images_since first.house.budget (links_of g.B.Bus.lost c.args.slots.now) (links_of g.B.Bus.lost c.run_line.new.slots) (lines_of c.args.input.now) (lines_of c.first_line.result.1.now) m (c.lines.count + 1) (Puts (w c.args.out.now) (w c.run_line.new.out)) (AreCarried g.B.Bus.lost g.B.Bus.asks g.B.ScriptBus.settles g.B.ScriptBus.ready c.args.slots.now c.run_line.new.slots) first new)
+      so_far = λ origin. subst (λ (m : ℕ). SoFar g.D.Disk origin first.house.budget (links_of g.B.Bus.lost c.args.slots.now) (links_of g.B.Bus.lost c.run_line.new.slots) (lines_of c.args.input.now) (lines_of c.first_line.result.1.now) m (c.lines.count + 1) (Puts (w c.args.out.now) (w c.run_line.new.out)) (AreCarried g.B.Bus.lost g.B.Bus.asks g.B.ScriptBus.settles g.B.ScriptBus.ready c.args.slots.now c.run_line.new.slots) first new)
           (sym c.moment_behind-moment.ensures)
-          (one_more (g.D.Disk.keeps origin) g.D.Disk.sectors g.D.Disk.failures g.D.Disk.reads g.D.Disk.choices g.D.Disk.moment g.D.Disk.images_since first.house.budget (links_of g.B.Bus.lost c.args.slots.now) (links_of g.B.Bus.lost c.lines.slots) (links_of g.B.Bus.lost c.run_line.new.slots) (lines_of c.args.input.now) c.first_line.result.0.now (lines_of c.first_line.result.1.now) asked c.lines.moment.0 c.lines.count
+          (one_more g.D.Disk origin first.house.budget (links_of g.B.Bus.lost c.args.slots.now) (links_of g.B.Bus.lost c.lines.slots) (links_of g.B.Bus.lost c.run_line.new.slots) (lines_of c.args.input.now) c.first_line.result.0.now (lines_of c.first_line.result.1.now) asked c.lines.moment.0 c.lines.count
           (Puts (w c.args.out.now) (w c.lines.out)) piece (Puts (w c.args.out.now) (w c.run_line.new.out)) (AreCarried g.B.Bus.lost g.B.Bus.asks g.B.ScriptBus.settles g.B.ScriptBus.ready c.args.slots.now c.lines.slots) (AreCarried g.B.Bus.lost g.B.Bus.asks g.B.ScriptBus.settles g.B.ScriptBus.ready c.args.slots.now c.run_line.new.slots) (IsCarried g.B.Bus.lost g.B.Bus.asks g.B.ScriptBus.settles g.B.ScriptBus.ready asked c.lines.slots c.run_line.new.slots) first old new (here g origin (goal.at.lines-preserved g c).After-first_line) c.in-Some.ensures.found
-          (λ state before chain at. subst (λ (b : ℕ). LineRan (g.D.Disk.keeps origin) g.D.Disk.sectors g.D.Disk.failures g.D.Disk.reads g.D.Disk.choices g.D.Disk.moment g.D.Disk.images_since b state before c.lines.moment.0 asked (links_of g.B.Bus.lost c.lines.slots) (links_of g.B.Bus.lost c.run_line.new.slots) piece (IsCarried g.B.Bus.lost g.B.Bus.asks g.B.ScriptBus.settles g.B.ScriptBus.ready asked c.lines.slots c.run_line.new.slots) old new) b_is
+          (λ state before chain at. subst (λ (b : ℕ). LineRan g.D.Disk origin b state before c.lines.moment.0 asked (links_of g.B.Bus.lost c.lines.slots) (links_of g.B.Bus.lost c.run_line.new.slots) piece (IsCarried g.B.Bus.lost g.B.Bus.asks g.B.ScriptBus.settles g.B.ScriptBus.ready asked c.lines.slots c.run_line.new.slots) old new) b_is
           (c.in_default-run_line.ensures.ran origin state before (subst (λ (b : ℕ). IsChain b (opened state) before) (sym b_is) chain) at))
           (λ text more wrote put. puts-both (w c.args.out.now) (w c.lines.out) (w c.run_line.new.out) text more wrote put)
           (λ traffic exchanges so one. carried_both g.B.Bus.lost g.B.Bus.asks g.B.ScriptBus.settles g.B.ScriptBus.ready c.args.slots.now c.lines.slots c.run_line.new.slots traffic (record { asked = asked; exchanges = exchanges } ∷ []) so one));
@@ -108,11 +108,11 @@ returns-in-Err-run_line-clause-cut g c origin state before chain at =
     let old = c.lines.concentrator in
     let new = c.run_line.new.concentrator in
     let turns = turns_here g from origin state before chain at in
-    on_write (Unit {0}) Bool c.in-Err-run_line.halt (LineCut (g.D.Disk.keeps origin) g.D.Disk.sectors g.D.Disk.failures g.D.Disk.reads g.D.Disk.choices g.D.Disk.moment g.D.Disk.images_since old.house.budget state (before ++ turns) c.lines.moment.0 asked (links_of g.B.Bus.lost c.lines.slots) (IsCarried g.B.Bus.lost g.B.Bus.asks g.B.ScriptBus.settles g.B.ScriptBus.ready asked c.lines.slots c.run_line.new.slots) old new)
-    (ScriptCut (g.D.Disk.keeps origin) g.D.Disk.sectors g.D.Disk.failures g.D.Disk.reads g.D.Disk.choices g.D.Disk.moment g.D.Disk.images_since first.house.budget state before (links_of g.B.Bus.lost c.args.slots.now) (lines_of c.args.input.now) (AreCarried g.B.Bus.lost g.B.Bus.asks g.B.ScriptBus.settles g.B.ScriptBus.ready c.args.slots.now c.run_line.new.slots) first new)
+    on_write (Unit {0}) Bool c.in-Err-run_line.halt (LineCut g.D.Disk origin old.house.budget state (before ++ turns) c.lines.moment.0 asked (links_of g.B.Bus.lost c.lines.slots) (IsCarried g.B.Bus.lost g.B.Bus.asks g.B.ScriptBus.settles g.B.ScriptBus.ready asked c.lines.slots c.run_line.new.slots) old new)
+    (ScriptCut g.D.Disk origin first.house.budget state before (links_of g.B.Bus.lost c.args.slots.now) (lines_of c.args.input.now) (AreCarried g.B.Bus.lost g.B.Bus.asks g.B.ScriptBus.settles g.B.ScriptBus.ready c.args.slots.now c.run_line.new.slots) first new)
     (λ here_cut.
-    let cut = subst (λ (b : ℕ). LineCut (g.D.Disk.keeps origin) g.D.Disk.sectors g.D.Disk.failures g.D.Disk.reads g.D.Disk.choices g.D.Disk.moment g.D.Disk.images_since b state (before ++ turns) c.lines.moment.0 asked (links_of g.B.Bus.lost c.lines.slots) (IsCarried g.B.Bus.lost g.B.Bus.asks g.B.ScriptBus.settles g.B.ScriptBus.ready asked c.lines.slots c.run_line.new.slots) old new) b_is here_cut in
-    cut_here (g.D.Disk.keeps origin) g.D.Disk.sectors g.D.Disk.failures g.D.Disk.reads g.D.Disk.choices g.D.Disk.moment g.D.Disk.images_since first.house.budget (links_of g.B.Bus.lost c.args.slots.now) (links_of g.B.Bus.lost c.lines.slots) (lines_of c.args.input.now) c.first_line.result.0.now (lines_of c.first_line.result.1.now) c.lines.moment.0 c.lines.count (Puts (g.W.Sink.written c.args.out.now) (g.W.Sink.written c.lines.out)) (AreCarried g.B.Bus.lost g.B.Bus.asks g.B.ScriptBus.settles g.B.ScriptBus.ready c.args.slots.now c.lines.slots) (AreCarried g.B.Bus.lost g.B.Bus.asks g.B.ScriptBus.settles g.B.ScriptBus.ready c.args.slots.now c.run_line.new.slots) cut.turns (record { asked = asked; exchanges = cut.exchanges } ∷ []) first old new (here g origin from) state before chain at
+    let cut = subst (λ (b : ℕ). LineCut g.D.Disk origin b state (before ++ turns) c.lines.moment.0 asked (links_of g.B.Bus.lost c.lines.slots) (IsCarried g.B.Bus.lost g.B.Bus.asks g.B.ScriptBus.settles g.B.ScriptBus.ready asked c.lines.slots c.run_line.new.slots) old new) b_is here_cut in
+    cut_here g.D.Disk origin first.house.budget (links_of g.B.Bus.lost c.args.slots.now) (links_of g.B.Bus.lost c.lines.slots) (lines_of c.args.input.now) c.first_line.result.0.now (lines_of c.first_line.result.1.now) c.lines.moment.0 c.lines.count (Puts (g.W.Sink.written c.args.out.now) (g.W.Sink.written c.lines.out)) (AreCarried g.B.Bus.lost g.B.Bus.asks g.B.ScriptBus.settles g.B.ScriptBus.ready c.args.slots.now c.lines.slots) (AreCarried g.B.Bus.lost g.B.Bus.asks g.B.ScriptBus.settles g.B.ScriptBus.ready c.args.slots.now c.run_line.new.slots) cut.turns (record { asked = asked; exchanges = cut.exchanges } ∷ []) first old new (here g origin from) state before chain at
     (inl (asked, cut.exchanges, c.in-Some.ensures.found, cut.does, refl))
     (λ traffic so. carried_both g.B.Bus.lost g.B.Bus.asks g.B.ScriptBus.settles g.B.ScriptBus.ready c.args.slots.now c.lines.slots c.run_line.new.slots traffic (record { asked = asked; exchanges = cut.exchanges } ∷ []) so cut.over) cut.went)
     (c.in-Err-run_line.ensures.cut origin state (before ++ turns) (subst (λ (b : ℕ). IsChain b (opened state) (before ++ turns)) (sym b_is) (chain_here g from origin state before chain at)) (at_here g from origin state before chain at))
@@ -128,9 +128,9 @@ returns-in-Err-run_line-clause-starved g c origin state before chain at =
     let new = c.run_line.new.concentrator in
     let turns = turns_here g from origin state before chain at in
     let piece : List ℕ → Type 0 = Puts (w c.lines.out) (w c.run_line.new.out) in
-    on_no_memory (Unit {0}) Bool c.in-Err-run_line.halt (LineStarved (g.D.Disk.keeps origin) g.D.Disk.sectors g.D.Disk.failures g.D.Disk.reads g.D.Disk.choices g.D.Disk.moment g.D.Disk.images_since old.house.budget state (before ++ turns) asked (links_of g.B.Bus.lost c.lines.slots) piece (IsCarried g.B.Bus.lost g.B.Bus.asks g.B.ScriptBus.settles g.B.ScriptBus.ready asked c.lines.slots c.run_line.new.slots) old new)
-    (ScriptStarved (g.D.Disk.keeps origin) g.D.Disk.sectors g.D.Disk.failures g.D.Disk.reads g.D.Disk.choices g.D.Disk.moment g.D.Disk.images_since first.house.budget state before (links_of g.B.Bus.lost c.args.slots.now) (lines_of c.args.input.now) (Puts (w c.args.out.now) (w c.run_line.new.out)) (AreCarried g.B.Bus.lost g.B.Bus.asks g.B.ScriptBus.settles g.B.ScriptBus.ready c.args.slots.now c.run_line.new.slots) first new)
-    (λ starved. starved_here (g.D.Disk.keeps origin) g.D.Disk.sectors g.D.Disk.failures g.D.Disk.reads g.D.Disk.choices g.D.Disk.moment g.D.Disk.images_since first.house.budget (links_of g.B.Bus.lost c.args.slots.now) (links_of g.B.Bus.lost c.lines.slots) (lines_of c.args.input.now) c.first_line.result.0.now (lines_of c.first_line.result.1.now) asked c.lines.moment.0 c.lines.count
+    on_no_memory (Unit {0}) Bool c.in-Err-run_line.halt (LineStarved g.D.Disk origin old.house.budget state (before ++ turns) asked (links_of g.B.Bus.lost c.lines.slots) piece (IsCarried g.B.Bus.lost g.B.Bus.asks g.B.ScriptBus.settles g.B.ScriptBus.ready asked c.lines.slots c.run_line.new.slots) old new)
+    (ScriptStarved g.D.Disk origin first.house.budget state before (links_of g.B.Bus.lost c.args.slots.now) (lines_of c.args.input.now) (Puts (w c.args.out.now) (w c.run_line.new.out)) (AreCarried g.B.Bus.lost g.B.Bus.asks g.B.ScriptBus.settles g.B.ScriptBus.ready c.args.slots.now c.run_line.new.slots) first new)
+    (λ starved. starved_here g.D.Disk origin first.house.budget (links_of g.B.Bus.lost c.args.slots.now) (links_of g.B.Bus.lost c.lines.slots) (lines_of c.args.input.now) c.first_line.result.0.now (lines_of c.first_line.result.1.now) asked c.lines.moment.0 c.lines.count
     (Puts (w c.args.out.now) (w c.lines.out)) piece (Puts (w c.args.out.now) (w c.run_line.new.out)) (AreCarried g.B.Bus.lost g.B.Bus.asks g.B.ScriptBus.settles g.B.ScriptBus.ready c.args.slots.now c.lines.slots) (AreCarried g.B.Bus.lost g.B.Bus.asks g.B.ScriptBus.settles g.B.ScriptBus.ready c.args.slots.now c.run_line.new.slots) (IsCarried g.B.Bus.lost g.B.Bus.asks g.B.ScriptBus.settles g.B.ScriptBus.ready asked c.lines.slots c.run_line.new.slots) first old new (here g origin from) c.in-Some.ensures.found b_is
     (λ text more wrote put. puts-both (w c.args.out.now) (w c.lines.out) (w c.run_line.new.out) text more wrote put)
     (λ traffic exchanges so one. carried_both g.B.Bus.lost g.B.Bus.asks g.B.ScriptBus.settles g.B.ScriptBus.ready c.args.slots.now c.lines.slots c.run_line.new.slots traffic (record { asked = asked; exchanges = exchanges } ∷ []) so one) state before chain at starved)
@@ -165,10 +165,10 @@ returns-in-Err-clause-cut g c origin state before chain at =
     let from = (goal.at.returns-in-Err-clause-cut g c).After-first_line in
     let first = c.args.concentrator.now in
     let old = c.lines.concentrator in
-    cut_here (g.D.Disk.keeps origin) g.D.Disk.sectors g.D.Disk.failures g.D.Disk.reads g.D.Disk.choices g.D.Disk.moment g.D.Disk.images_since first.house.budget (links_of g.B.Bus.lost c.args.slots.now) (links_of g.B.Bus.lost c.lines.slots) (lines_of c.args.input.now) c.first_line.result.0.now (lines_of c.first_line.result.1.now) c.lines.moment.0 c.lines.count (Puts (g.W.Sink.written c.args.out.now) (g.W.Sink.written c.lines.out)) (AreCarried g.B.Bus.lost g.B.Bus.asks g.B.ScriptBus.settles g.B.ScriptBus.ready c.args.slots.now c.lines.slots) (AreCarried g.B.Bus.lost g.B.Bus.asks g.B.ScriptBus.settles g.B.ScriptBus.ready c.args.slots.now c.lines.slots) [] [] first old old (here g origin from) state before chain at
+    cut_here g.D.Disk origin first.house.budget (links_of g.B.Bus.lost c.args.slots.now) (links_of g.B.Bus.lost c.lines.slots) (lines_of c.args.input.now) c.first_line.result.0.now (lines_of c.first_line.result.1.now) c.lines.moment.0 c.lines.count (Puts (g.W.Sink.written c.args.out.now) (g.W.Sink.written c.lines.out)) (AreCarried g.B.Bus.lost g.B.Bus.asks g.B.ScriptBus.settles g.B.ScriptBus.ready c.args.slots.now c.lines.slots) (AreCarried g.B.Bus.lost g.B.Bus.asks g.B.ScriptBus.settles g.B.ScriptBus.ready c.args.slots.now c.lines.slots) [] [] first old old (here g origin from) state before chain at
     (inr (c.in_default.ensures.only, refl, refl))
     (λ traffic so. subst (AreCarried g.B.Bus.lost g.B.Bus.asks g.B.ScriptBus.settles g.B.ScriptBus.ready c.args.slots.now c.lines.slots) (sym (append-nil traffic)) so)
-    (went_none (g.D.Disk.keeps origin) g.D.Disk.sectors g.D.Disk.failures g.D.Disk.reads g.D.Disk.choices g.D.Disk.moment g.D.Disk.images_since first.house.budget state (before ++ turns_here g from origin state before chain at) old (chain_here g from origin state before chain at) (at_here g from origin state before chain at)
+    (went_none g.D.Disk origin first.house.budget state (before ++ turns_here g from origin state before chain at) old (chain_here g from origin state before chain at) (at_here g from origin state before chain at)
     (λ h image left. g.met.D.Disk.only_now old.store.disk image left))
 
 pub returns-clause-ran : goal.returns-clause-ran

@@ -15,7 +15,7 @@ invariant-lines g l = record {
   well : g.W.Sink.put_failures l.out ≡ g.W.Sink.put_failures l.fn.out;
   moment : l.moment.0 ≤ last_moment;
   absent : AreAbsent (links_of g.B.Bus.lost l.fn.slots) → AreAbsent (links_of g.B.Bus.lost l.slots);
-  so_far : (origin : g.row.D.Denot) → SoFar (g.D.Disk.keeps origin) g.D.Disk.sectors g.D.Disk.failures g.D.Disk.reads g.D.Disk.choices g.D.Disk.moment g.D.Disk.images_since l.fn.concentrator.house.budget (links_of g.B.Bus.lost l.fn.slots) (links_of g.B.Bus.lost l.slots) (lines_of l.input) (lines_of l.rest) l.moment.0 l.count
+  so_far : (origin : g.row.D.Denot) → SoFar g.D.Disk origin l.fn.concentrator.house.budget (links_of g.B.Bus.lost l.fn.slots) (links_of g.B.Bus.lost l.slots) (lines_of l.input) (lines_of l.rest) l.moment.0 l.count
       (Puts (g.W.Sink.written l.fn.out) (g.W.Sink.written l.out)) (AreCarried g.B.Bus.lost g.B.Bus.asks g.B.ScriptBus.settles g.B.ScriptBus.ready l.fn.slots l.slots) l.fn.concentrator l.concentrator;
 }
 

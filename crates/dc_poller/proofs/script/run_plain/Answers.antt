@@ -37,59 +37,59 @@ returns-in-Nothing-clause-ran g c origin state before chain at =
       exchanges = [];
       line = [];
       does = idle;
-      went = went_none (g.D.Disk.keeps origin) g.D.Disk.sectors g.D.Disk.failures g.D.Disk.reads g.D.Disk.choices g.D.Disk.moment g.D.Disk.images_since c.args.concentrator.now.house.budget state before c.args.concentrator.now chain at (λ h image left. g.met.D.Disk.only_now c.args.concentrator.now.store.disk image left);
+      went = went_none g.D.Disk origin c.args.concentrator.now.house.budget state before c.args.concentrator.now chain at (λ h image left. g.met.D.Disk.only_now c.args.concentrator.now.store.disk image left);
       text = puts-none w;
       over = still;
     }
 
 pub returns-in-Start-clause-ran : goal.returns-in-Start-clause-ran
 returns-in-Start-clause-ran g c origin state before chain at =
-    rw c.in-Start.is (event_ran (g.D.Disk.keeps origin) g.D.Disk.sectors g.D.Disk.failures g.D.Disk.reads g.D.Disk.choices g.D.Disk.moment g.D.Disk.images_since c.args.concentrator.now.house.budget state before (starts c.in-Start.line c.in-Start.meter) c.args.moment.seconds _ (links_of g.B.Bus.lost c.args.slots.now) (Puts (g.W.Sink.written c.args.out.now) (g.W.Sink.written c.run_event.new.out)) _ c.args.concentrator.now c.run_event.new.concentrator c.run_event.result
+    rw c.in-Start.is (event_ran g.D.Disk origin c.args.concentrator.now.house.budget state before (starts c.in-Start.line c.in-Start.meter) c.args.moment.seconds _ (links_of g.B.Bus.lost c.args.slots.now) (Puts (g.W.Sink.written c.args.out.now) (g.W.Sink.written c.run_event.new.out)) _ c.args.concentrator.now c.run_event.new.concentrator c.run_event.result
     (c.run_event.ensures.went origin state before chain at) (λ turns text one. (one, refl, refl)) (is_one g.B.Bus.lost g.B.Bus.asks g.B.ScriptBus.settles g.B.ScriptBus.ready (start c.in-Start.line c.in-Start.meter) c.args.slots.now c.args.slots.now [] (λ n. refl)))
 
 pub returns-in-Start-clause-cut : goal.returns-in-Start-clause-cut
 returns-in-Start-clause-cut g c origin state before chain at =
-    rw c.in-Start.is (event_cut (g.D.Disk.keeps origin) g.D.Disk.sectors g.D.Disk.failures g.D.Disk.reads g.D.Disk.choices g.D.Disk.moment g.D.Disk.images_since c.args.concentrator.now.house.budget state before (starts c.in-Start.line c.in-Start.meter) c.args.moment.seconds _ (links_of g.B.Bus.lost c.args.slots.now) _ _ c.args.concentrator.now c.run_event.new.concentrator c.run_event.result
+    rw c.in-Start.is (event_cut g.D.Disk origin c.args.concentrator.now.house.budget state before (starts c.in-Start.line c.in-Start.meter) c.args.moment.seconds _ (links_of g.B.Bus.lost c.args.slots.now) _ _ c.args.concentrator.now c.run_event.new.concentrator c.run_event.result
     (c.run_event.ensures.went origin state before chain at) (λ turns is. (is, refl)) (is_one g.B.Bus.lost g.B.Bus.asks g.B.ScriptBus.settles g.B.ScriptBus.ready (start c.in-Start.line c.in-Start.meter) c.args.slots.now c.args.slots.now [] (λ n. refl)))
 
 pub returns-in-Ask-clause-ran : goal.returns-in-Ask-clause-ran
 returns-in-Ask-clause-ran g c origin state before chain at =
-    rw c.in-Ask.is (event_ran (g.D.Disk.keeps origin) g.D.Disk.sectors g.D.Disk.failures g.D.Disk.reads g.D.Disk.choices g.D.Disk.moment g.D.Disk.images_since c.args.concentrator.now.house.budget state before (asks c.in-Ask.line) c.args.moment.seconds _ (links_of g.B.Bus.lost c.args.slots.now) (Puts (g.W.Sink.written c.args.out.now) (g.W.Sink.written c.run_event-in-Ask.new.out)) _ c.args.concentrator.now c.run_event-in-Ask.new.concentrator c.run_event-in-Ask.result
+    rw c.in-Ask.is (event_ran g.D.Disk origin c.args.concentrator.now.house.budget state before (asks c.in-Ask.line) c.args.moment.seconds _ (links_of g.B.Bus.lost c.args.slots.now) (Puts (g.W.Sink.written c.args.out.now) (g.W.Sink.written c.run_event-in-Ask.new.out)) _ c.args.concentrator.now c.run_event-in-Ask.new.concentrator c.run_event-in-Ask.result
     (c.run_event-in-Ask.ensures.went origin state before chain at) (λ turns text one. (one, refl, refl)) (is_one g.B.Bus.lost g.B.Bus.asks g.B.ScriptBus.settles g.B.ScriptBus.ready (ask c.in-Ask.line) c.args.slots.now c.args.slots.now [] (λ n. refl)))
 
 pub returns-in-Ask-clause-cut : goal.returns-in-Ask-clause-cut
 returns-in-Ask-clause-cut g c origin state before chain at =
-    rw c.in-Ask.is (event_cut (g.D.Disk.keeps origin) g.D.Disk.sectors g.D.Disk.failures g.D.Disk.reads g.D.Disk.choices g.D.Disk.moment g.D.Disk.images_since c.args.concentrator.now.house.budget state before (asks c.in-Ask.line) c.args.moment.seconds _ (links_of g.B.Bus.lost c.args.slots.now) _ _ c.args.concentrator.now c.run_event-in-Ask.new.concentrator c.run_event-in-Ask.result
+    rw c.in-Ask.is (event_cut g.D.Disk origin c.args.concentrator.now.house.budget state before (asks c.in-Ask.line) c.args.moment.seconds _ (links_of g.B.Bus.lost c.args.slots.now) _ _ c.args.concentrator.now c.run_event-in-Ask.new.concentrator c.run_event-in-Ask.result
     (c.run_event-in-Ask.ensures.went origin state before chain at) (λ turns is. (is, refl)) (is_one g.B.Bus.lost g.B.Bus.asks g.B.ScriptBus.settles g.B.ScriptBus.ready (ask c.in-Ask.line) c.args.slots.now c.args.slots.now [] (λ n. refl)))
 
 pub returns-in-Hear-clause-ran : goal.returns-in-Hear-clause-ran
 returns-in-Hear-clause-ran g c origin state before chain at =
-    rw c.in-Hear.is (event_ran (g.D.Disk.keeps origin) g.D.Disk.sectors g.D.Disk.failures g.D.Disk.reads g.D.Disk.choices g.D.Disk.moment g.D.Disk.images_since c.args.concentrator.now.house.budget state before (hears c.in-Hear.line c.args.moment.seconds c.in-Hear.answer.now) c.args.moment.seconds _ (links_of g.B.Bus.lost c.args.slots.now) (Puts (g.W.Sink.written c.args.out.now) (g.W.Sink.written c.run_event-in-Hear.new.out)) _ c.args.concentrator.now c.run_event-in-Hear.new.concentrator c.run_event-in-Hear.result
+    rw c.in-Hear.is (event_ran g.D.Disk origin c.args.concentrator.now.house.budget state before (hears c.in-Hear.line c.args.moment.seconds c.in-Hear.answer.now) c.args.moment.seconds _ (links_of g.B.Bus.lost c.args.slots.now) (Puts (g.W.Sink.written c.args.out.now) (g.W.Sink.written c.run_event-in-Hear.new.out)) _ c.args.concentrator.now c.run_event-in-Hear.new.concentrator c.run_event-in-Hear.result
     (c.run_event-in-Hear.ensures.went origin state before chain at) (λ turns text one. (one, refl, refl)) (is_one g.B.Bus.lost g.B.Bus.asks g.B.ScriptBus.settles g.B.ScriptBus.ready (hear c.in-Hear.line c.in-Hear.answer.now) c.args.slots.now c.args.slots.now [] (λ n. refl)))
 
 pub returns-in-Hear-clause-cut : goal.returns-in-Hear-clause-cut
 returns-in-Hear-clause-cut g c origin state before chain at =
-    rw c.in-Hear.is (event_cut (g.D.Disk.keeps origin) g.D.Disk.sectors g.D.Disk.failures g.D.Disk.reads g.D.Disk.choices g.D.Disk.moment g.D.Disk.images_since c.args.concentrator.now.house.budget state before (hears c.in-Hear.line c.args.moment.seconds c.in-Hear.answer.now) c.args.moment.seconds _ (links_of g.B.Bus.lost c.args.slots.now) _ _ c.args.concentrator.now c.run_event-in-Hear.new.concentrator c.run_event-in-Hear.result
+    rw c.in-Hear.is (event_cut g.D.Disk origin c.args.concentrator.now.house.budget state before (hears c.in-Hear.line c.args.moment.seconds c.in-Hear.answer.now) c.args.moment.seconds _ (links_of g.B.Bus.lost c.args.slots.now) _ _ c.args.concentrator.now c.run_event-in-Hear.new.concentrator c.run_event-in-Hear.result
     (c.run_event-in-Hear.ensures.went origin state before chain at) (λ turns is. (is, refl)) (is_one g.B.Bus.lost g.B.Bus.asks g.B.ScriptBus.settles g.B.ScriptBus.ready (hear c.in-Hear.line c.in-Hear.answer.now) c.args.slots.now c.args.slots.now [] (λ n. refl)))
 
 pub returns-in-Commit-clause-ran : goal.returns-in-Commit-clause-ran
 returns-in-Commit-clause-ran g c origin state before chain at =
-    rw c.in-Commit.is (event_ran (g.D.Disk.keeps origin) g.D.Disk.sectors g.D.Disk.failures g.D.Disk.reads g.D.Disk.choices g.D.Disk.moment g.D.Disk.images_since c.args.concentrator.now.house.budget state before commits c.args.moment.seconds _ (links_of g.B.Bus.lost c.args.slots.now) (Puts (g.W.Sink.written c.args.out.now) (g.W.Sink.written c.run_event-in-Commit.new.out)) _ c.args.concentrator.now c.run_event-in-Commit.new.concentrator c.run_event-in-Commit.result
+    rw c.in-Commit.is (event_ran g.D.Disk origin c.args.concentrator.now.house.budget state before commits c.args.moment.seconds _ (links_of g.B.Bus.lost c.args.slots.now) (Puts (g.W.Sink.written c.args.out.now) (g.W.Sink.written c.run_event-in-Commit.new.out)) _ c.args.concentrator.now c.run_event-in-Commit.new.concentrator c.run_event-in-Commit.result
     (c.run_event-in-Commit.ensures.went origin state before chain at) (λ turns text one. (one, refl, refl)) (is_one g.B.Bus.lost g.B.Bus.asks g.B.ScriptBus.settles g.B.ScriptBus.ready commit c.args.slots.now c.args.slots.now [] (λ n. refl)))
 
 pub returns-in-Commit-clause-cut : goal.returns-in-Commit-clause-cut
 returns-in-Commit-clause-cut g c origin state before chain at =
-    rw c.in-Commit.is (event_cut (g.D.Disk.keeps origin) g.D.Disk.sectors g.D.Disk.failures g.D.Disk.reads g.D.Disk.choices g.D.Disk.moment g.D.Disk.images_since c.args.concentrator.now.house.budget state before commits c.args.moment.seconds _ (links_of g.B.Bus.lost c.args.slots.now) _ _ c.args.concentrator.now c.run_event-in-Commit.new.concentrator c.run_event-in-Commit.result
+    rw c.in-Commit.is (event_cut g.D.Disk origin c.args.concentrator.now.house.budget state before commits c.args.moment.seconds _ (links_of g.B.Bus.lost c.args.slots.now) _ _ c.args.concentrator.now c.run_event-in-Commit.new.concentrator c.run_event-in-Commit.result
     (c.run_event-in-Commit.ensures.went origin state before chain at) (λ turns is. (is, refl)) (is_one g.B.Bus.lost g.B.Bus.asks g.B.ScriptBus.settles g.B.ScriptBus.ready commit c.args.slots.now c.args.slots.now [] (λ n. refl)))
 
 pub returns-in-Office-clause-ran : goal.returns-in-Office-clause-ran
 returns-in-Office-clause-ran g c origin state before chain at =
-    rw c.in-Office.is (event_ran (g.D.Disk.keeps origin) g.D.Disk.sectors g.D.Disk.failures g.D.Disk.reads g.D.Disk.choices g.D.Disk.moment g.D.Disk.images_since c.args.concentrator.now.house.budget state before (offices c.in-Office.text.now) c.args.moment.seconds _ (links_of g.B.Bus.lost c.args.slots.now) (Puts (g.W.Sink.written c.args.out.now) (g.W.Sink.written c.run_event-in-Office.new.out)) _ c.args.concentrator.now c.run_event-in-Office.new.concentrator c.run_event-in-Office.result
+    rw c.in-Office.is (event_ran g.D.Disk origin c.args.concentrator.now.house.budget state before (offices c.in-Office.text.now) c.args.moment.seconds _ (links_of g.B.Bus.lost c.args.slots.now) (Puts (g.W.Sink.written c.args.out.now) (g.W.Sink.written c.run_event-in-Office.new.out)) _ c.args.concentrator.now c.run_event-in-Office.new.concentrator c.run_event-in-Office.result
     (c.run_event-in-Office.ensures.went origin state before chain at) (λ turns text one. (one, refl, refl)) (is_one g.B.Bus.lost g.B.Bus.asks g.B.ScriptBus.settles g.B.ScriptBus.ready (office c.in-Office.text.now) c.args.slots.now c.args.slots.now [] (λ n. refl)))
 
 pub returns-in-Office-clause-cut : goal.returns-in-Office-clause-cut
 returns-in-Office-clause-cut g c origin state before chain at =
-    rw c.in-Office.is (event_cut (g.D.Disk.keeps origin) g.D.Disk.sectors g.D.Disk.failures g.D.Disk.reads g.D.Disk.choices g.D.Disk.moment g.D.Disk.images_since c.args.concentrator.now.house.budget state before (offices c.in-Office.text.now) c.args.moment.seconds _ (links_of g.B.Bus.lost c.args.slots.now) _ _ c.args.concentrator.now c.run_event-in-Office.new.concentrator c.run_event-in-Office.result
+    rw c.in-Office.is (event_cut g.D.Disk origin c.args.concentrator.now.house.budget state before (offices c.in-Office.text.now) c.args.moment.seconds _ (links_of g.B.Bus.lost c.args.slots.now) _ _ c.args.concentrator.now c.run_event-in-Office.new.concentrator c.run_event-in-Office.result
     (c.run_event-in-Office.ensures.went origin state before chain at) (λ turns is. (is, refl)) (is_one g.B.Bus.lost g.B.Bus.asks g.B.ScriptBus.settles g.B.ScriptBus.ready (office c.in-Office.text.now) c.args.slots.now c.args.slots.now [] (λ n. refl)))
 
 pub returns-in-Poll-clause-ran : goal.returns-in-Poll-clause-ran

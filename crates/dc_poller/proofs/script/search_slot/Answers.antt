@@ -14,27 +14,27 @@ use Rattle.dc_poller.proofs.script.search_slot.Goals as goal
 pub returns-in-Some-clause-ran : goal.returns-in-Some-clause-ran
 returns-in-Some-clause-ran g c links moment same origin state before chain at =
     let lost = g.B.Bus.lost in
-    ran_as (g.D.Disk.keeps origin) g.D.Disk.sectors g.D.Disk.failures g.D.Disk.reads g.D.Disk.choices g.D.Disk.moment g.D.Disk.images_since c.search_on.result c.args.concentrator.now.house.budget state before moment (searches c.args.budget c.args.line) links _ (Puts (g.W.Sink.written c.args.out.now) (g.W.Sink.written c.search_on.new.out)) _ _ c.args.concentrator.now c.search_on.new.concentrator
+    ran_as g.D.Disk origin c.search_on.result c.args.concentrator.now.house.budget state before moment (searches c.args.budget c.args.line) links _ (Puts (g.W.Sink.written c.args.out.now) (g.W.Sink.written c.search_on.new.out)) _ _ c.args.concentrator.now c.search_on.new.concentrator
     (λ exchanges so. searches_over g.B.Bus.lost g.B.Bus.asks g.B.ScriptBus.settles g.B.ScriptBus.ready exchanges c.args.slot.now c.in-Some.slot c.search_on.new.bus c.in-Some.is so c.search_on.ensures.untouched)
-    (searched_ran (g.D.Disk.keeps origin) g.D.Disk.sectors g.D.Disk.failures g.D.Disk.reads g.D.Disk.choices g.D.Disk.moment g.D.Disk.images_since c.args.concentrator.now.house.budget state before moment c.args.budget c.args.line _ (g.B.Bus.meters c.in-Some.slot.bus) links _ (link_by (lost c.search_on.new.bus)) _
+    (searched_ran g.D.Disk origin c.args.concentrator.now.house.budget state before moment c.args.budget c.args.line _ (g.B.Bus.meters c.in-Some.slot.bus) links _ (link_by (lost c.search_on.new.bus)) _
     (Puts (g.W.Sink.written c.args.out.now) (g.W.Sink.written c.search_on.new.out)) c.args.concentrator.now c.search_on.new.concentrator c.search_on.result (same ∙ ap (line_of lost) c.in-Some.is) (has_bus_by (lost c.in-Some.slot.bus))
     (prompt_by c.in-Some.slot.is_gateway (g.B.ScriptBus.late c.in-Some.slot.bus) (g.B.ScriptBus.late c.search_on.new.bus)) (c.search_on.ensures.went origin state before chain at))
 
 pub returns-in-Some-clause-cut : goal.returns-in-Some-clause-cut
 returns-in-Some-clause-cut g c links moment same origin state before chain at =
     let lost = g.B.Bus.lost in
-    halted_as (g.D.Disk.keeps origin) g.D.Disk.sectors g.D.Disk.failures g.D.Disk.reads g.D.Disk.choices g.D.Disk.moment g.D.Disk.images_since c.search_on.result c.args.concentrator.now.house.budget state before moment (searches c.args.budget c.args.line) links _ _ c.args.concentrator.now c.search_on.new.concentrator
+    halted_as g.D.Disk origin c.search_on.result c.args.concentrator.now.house.budget state before moment (searches c.args.budget c.args.line) links _ _ c.args.concentrator.now c.search_on.new.concentrator
     (λ exchanges so. searches_over g.B.Bus.lost g.B.Bus.asks g.B.ScriptBus.settles g.B.ScriptBus.ready exchanges c.args.slot.now c.in-Some.slot c.search_on.new.bus c.in-Some.is so c.search_on.ensures.untouched)
-    (searched_cut (g.D.Disk.keeps origin) g.D.Disk.sectors g.D.Disk.failures g.D.Disk.reads g.D.Disk.choices g.D.Disk.moment g.D.Disk.images_since c.args.concentrator.now.house.budget state before moment c.args.budget c.args.line _ (g.B.Bus.meters c.in-Some.slot.bus) links _ (link_by (lost c.search_on.new.bus)) _
+    (searched_cut g.D.Disk origin c.args.concentrator.now.house.budget state before moment c.args.budget c.args.line _ (g.B.Bus.meters c.in-Some.slot.bus) links _ (link_by (lost c.search_on.new.bus)) _
     (Puts (g.W.Sink.written c.args.out.now) (g.W.Sink.written c.search_on.new.out)) c.args.concentrator.now c.search_on.new.concentrator c.search_on.result (same ∙ ap (line_of lost) c.in-Some.is) (has_bus_by (lost c.in-Some.slot.bus))
     (c.search_on.ensures.went origin state before chain at))
 
 pub returns-in-Some-clause-starved : goal.returns-in-Some-clause-starved
 returns-in-Some-clause-starved g c links same origin state before chain at =
     let lost = g.B.Bus.lost in
-    starved_as (g.D.Disk.keeps origin) g.D.Disk.sectors g.D.Disk.failures g.D.Disk.reads g.D.Disk.choices g.D.Disk.moment g.D.Disk.images_since c.search_on.result c.args.concentrator.now.house.budget state before (searches c.args.budget c.args.line) links (Puts (g.W.Sink.written c.args.out.now) (g.W.Sink.written c.search_on.new.out)) _ _ c.args.concentrator.now c.search_on.new.concentrator
+    starved_as g.D.Disk origin c.search_on.result c.args.concentrator.now.house.budget state before (searches c.args.budget c.args.line) links (Puts (g.W.Sink.written c.args.out.now) (g.W.Sink.written c.search_on.new.out)) _ _ c.args.concentrator.now c.search_on.new.concentrator
     (λ exchanges so. searches_over g.B.Bus.lost g.B.Bus.asks g.B.ScriptBus.settles g.B.ScriptBus.ready exchanges c.args.slot.now c.in-Some.slot c.search_on.new.bus c.in-Some.is so c.search_on.ensures.untouched)
-    (searched_starved (g.D.Disk.keeps origin) g.D.Disk.sectors g.D.Disk.failures g.D.Disk.reads g.D.Disk.choices g.D.Disk.moment g.D.Disk.images_since c.args.concentrator.now.house.budget state before c.args.budget c.args.line _ (g.B.Bus.meters c.in-Some.slot.bus) links _ (link_by (lost c.search_on.new.bus)) _
+    (searched_starved g.D.Disk origin c.args.concentrator.now.house.budget state before c.args.budget c.args.line _ (g.B.Bus.meters c.in-Some.slot.bus) links _ (link_by (lost c.search_on.new.bus)) _
     (Puts (g.W.Sink.written c.args.out.now) (g.W.Sink.written c.search_on.new.out)) c.args.concentrator.now c.search_on.new.concentrator c.search_on.result (same ∙ ap (line_of lost) c.in-Some.is) (has_bus_by (lost c.in-Some.slot.bus))
     (c.search_on.ensures.went origin state before chain at))
 
@@ -56,7 +56,7 @@ pub returns-in-None-clause-ran : goal.returns-in-None-clause-ran
 returns-in-None-clause-ran g c links moment same origin state before chain at =
     let link_is = ap (λ (l : LineLink). l.link) same in
     halted_ok c.put_no_bus.result c.written.result _ c.written.ensures
-    (said_ran (g.D.Disk.keeps origin) g.D.Disk.sectors g.D.Disk.failures g.D.Disk.reads g.D.Disk.choices g.D.Disk.moment g.D.Disk.images_since c.args.concentrator.now.house.budget state before moment (searches c.args.budget c.args.line) links _ no_gateway (Puts (g.W.Sink.written c.args.out.now) (g.W.Sink.written c.put_no_bus.new.out)) _ c.args.concentrator.now c.put_no_bus.result
+    (said_ran g.D.Disk origin c.args.concentrator.now.house.budget state before moment (searches c.args.budget c.args.line) links _ no_gateway (Puts (g.W.Sink.written c.args.out.now) (g.W.Sink.written c.put_no_bus.new.out)) _ c.args.concentrator.now c.put_no_bus.result
     (inr (record {
       no_bus = none_absent (link_in links c.args.line) (link_is ∙ ap (λ (s : Option _). (line_of g.B.Bus.lost s).link) c.in-None.is);
       says = record { no_turns = refl; text_is = refl };
@@ -64,16 +64,16 @@ returns-in-None-clause-ran g c links moment same origin state before chain at =
       left_is = ap (λ (l : Link). with_link links c.args.line l) (sym link_is) ∙ with_same links c.args.line;
     }))
     (goes_nowhere g.B.Bus.lost _ c.args.slot.now c.in-None.is)
-    (went_none (g.D.Disk.keeps origin) g.D.Disk.sectors g.D.Disk.failures g.D.Disk.reads g.D.Disk.choices g.D.Disk.moment g.D.Disk.images_since c.args.concentrator.now.house.budget state before c.args.concentrator.now chain at (λ h image left. g.met.D.Disk.only_now c.args.concentrator.now.store.disk image left)) c.put_no_bus.ensures.0)
+    (went_none g.D.Disk origin c.args.concentrator.now.house.budget state before c.args.concentrator.now chain at (λ h image left. g.met.D.Disk.only_now c.args.concentrator.now.store.disk image left)) c.put_no_bus.ensures.0)
 
 pub returns-in-None-clause-cut : goal.returns-in-None-clause-cut
 returns-in-None-clause-cut g c links moment same origin state before chain at =
     let link_is = ap (λ (l : LineLink). l.link) same in
     halted_write c.put_no_bus.result c.written.result _ c.written.ensures
-    (said_cut (g.D.Disk.keeps origin) g.D.Disk.sectors g.D.Disk.failures g.D.Disk.reads g.D.Disk.choices g.D.Disk.moment g.D.Disk.images_since c.args.concentrator.now.house.budget state before moment (searches c.args.budget c.args.line) links _ c.args.concentrator.now c.put_no_bus.result
+    (said_cut g.D.Disk origin c.args.concentrator.now.house.budget state before moment (searches c.args.budget c.args.line) links _ c.args.concentrator.now c.put_no_bus.result
     (inr (none_absent (link_in links c.args.line) (link_is ∙ ap (λ (s : Option _). (line_of g.B.Bus.lost s).link) c.in-None.is), refl, refl))
     (goes_nowhere g.B.Bus.lost _ c.args.slot.now c.in-None.is)
-    (went_none (g.D.Disk.keeps origin) g.D.Disk.sectors g.D.Disk.failures g.D.Disk.reads g.D.Disk.choices g.D.Disk.moment g.D.Disk.images_since c.args.concentrator.now.house.budget state before c.args.concentrator.now chain at (λ h image left. g.met.D.Disk.only_now c.args.concentrator.now.store.disk image left)))
+    (went_none g.D.Disk origin c.args.concentrator.now.house.budget state before c.args.concentrator.now chain at (λ h image left. g.met.D.Disk.only_now c.args.concentrator.now.store.disk image left)))
 
 pub returns-in-None-clause-starved : goal.returns-in-None-clause-starved
 returns-in-None-clause-starved g c links same origin state before chain at = halted_never c.put_no_bus.result c.written.result _ c.written.ensures

@@ -14,7 +14,7 @@ returns-in-Some-clause-went g c origin state before chain at =
     let late = late_by c.args.port.is_gateway (g.B.ScriptBus.late c.args.bus.now) (g.B.ScriptBus.late c.args.bus.now) in
     let talked : List Exchange → Type 0 = λ exchanges. AreExchanged g.B.Bus.asks c.args.bus.now exchanges c.args.bus.now in
     let wrote : List ℕ → Type 0 = Puts (g.W.Sink.written c.args.out.now) (g.W.Sink.written c.put_started.new.out) in
-    commit_and_look (g.D.Disk.keeps origin) g.D.Disk.sectors g.D.Disk.failures g.D.Disk.reads g.D.Disk.choices g.D.Disk.moment g.D.Disk.images_since c.args.concentrator.now.house.budget state before c.args.port.line c.quiet_commit.result c.in-Ok.field-0 (Some c.in-Some.field-0)
+    commit_and_look g.D.Disk origin c.args.concentrator.now.house.budget state before c.args.port.line c.quiet_commit.result c.in-Ok.field-0 (Some c.in-Some.field-0)
     (Comes meters c.args.port c.args.budget late link link talked wrote c.written.result) c.args.concentrator.now c.quiet_commit.new.concentrator
     (c.quiet_commit.ensures.went origin state before chain at) c.in-Ok.is c.quiet_commit.ensures.budget
     (λ behind ch a. rw (sym c.in-Some.is) (c.quiet_ask.ensures.went origin state behind ch a))
@@ -28,7 +28,7 @@ returns-in-None-clause-went g c origin state before chain at =
     let late = late_by c.args.port.is_gateway (g.B.ScriptBus.late c.args.bus.now) (g.B.ScriptBus.late c.search_bus.new.bus) in
     let talked : List Exchange → Type 0 = λ exchanges. AreExchanged g.B.Bus.asks c.args.bus.now exchanges c.search_bus.new.bus in
     let wrote : List ℕ → Type 0 = Puts (g.W.Sink.written c.args.out.now) (g.W.Sink.written c.search_bus.new.out) in
-    commit_and_look (g.D.Disk.keeps origin) g.D.Disk.sectors g.D.Disk.failures g.D.Disk.reads g.D.Disk.choices g.D.Disk.moment g.D.Disk.images_since c.args.concentrator.now.house.budget state before c.args.port.line c.quiet_commit.result c.in-Ok.field-0 None
+    commit_and_look g.D.Disk origin c.args.concentrator.now.house.budget state before c.args.port.line c.quiet_commit.result c.in-Ok.field-0 None
     (Comes meters c.args.port c.args.budget late link left talked wrote c.search_bus.result) c.args.concentrator.now c.quiet_commit.new.concentrator
     (c.quiet_commit.ensures.went origin state before chain at) c.in-Ok.is c.quiet_commit.ensures.budget
     (λ behind ch a. rw (sym c.in-None.is) (c.quiet_ask.ensures.went origin state behind ch a))

@@ -6,14 +6,14 @@ use Rattle.dc_poller.proofs.told.told_commit.Goals as goal
 
 pub returns-in-Err-clause-went : goal.returns-in-Err-clause-went
 returns-in-Err-clause-went g c origin state before chain at =
-    committed_went (g.D.Disk.keeps origin) g.D.Disk.sectors g.D.Disk.failures g.D.Disk.reads g.D.Disk.choices g.D.Disk.moment g.D.Disk.images_since c.args.concentrator.now.house.budget state before (committed c.commit-answer.result) _ c.args.concentrator.now c.commit-answer.new.self chain at
+    committed_went g.D.Disk origin c.args.concentrator.now.house.budget state before (committed c.commit-answer.result) _ c.args.concentrator.now c.commit-answer.new.self chain at
     (λ h image left. g.met.D.Disk.only_now c.args.concentrator.now.store.disk image left) (c.commit-answer.ensures.may origin _ at) (c.commit-answer.ensures.at origin _ at)
-    (commit_shown g.D.Disk.failures c.args.concentrator.now c.commit-answer.new.self c.commit-answer.result c.commit-answer.ensures.device c.commit-answer.ensures.worn c.commit-answer.ensures.unchanged)
-    c.commit-answer.ensures.count (λ h. c.commit-answer.ensures.any_moment origin h _ at) tt
+    (commit_shown g.D.Disk c.args.concentrator.now c.commit-answer.new.self c.commit-answer.result c.commit-answer.ensures.counts.failed c.commit-answer.ensures.worn c.commit-answer.ensures.unchanged)
+    c.commit-answer.ensures.counts.count (λ h. c.commit-answer.ensures.any_moment origin h _ at) tt
 
 pub returns-in-Ok-clause-went : goal.returns-in-Ok-clause-went
 returns-in-Ok-clause-went g c origin state before chain at =
-    committed_went (g.D.Disk.keeps origin) g.D.Disk.sectors g.D.Disk.failures g.D.Disk.reads g.D.Disk.choices g.D.Disk.moment g.D.Disk.images_since c.args.concentrator.now.house.budget state before (committed c.commit-answer.result) _ c.args.concentrator.now c.commit-answer.new.self chain at
+    committed_went g.D.Disk origin c.args.concentrator.now.house.budget state before (committed c.commit-answer.result) _ c.args.concentrator.now c.commit-answer.new.self chain at
     (λ h image left. g.met.D.Disk.only_now c.args.concentrator.now.store.disk image left) (c.commit-answer.ensures.may origin _ at) (c.commit-answer.ensures.at origin _ at)
-    (commit_shown g.D.Disk.failures c.args.concentrator.now c.commit-answer.new.self c.commit-answer.result c.commit-answer.ensures.device c.commit-answer.ensures.worn c.commit-answer.ensures.unchanged)
-    c.commit-answer.ensures.count (λ h. c.commit-answer.ensures.any_moment origin h _ at) (refl, c.in-Ok.ensures.0)
+    (commit_shown g.D.Disk c.args.concentrator.now c.commit-answer.new.self c.commit-answer.result c.commit-answer.ensures.counts.failed c.commit-answer.ensures.worn c.commit-answer.ensures.unchanged)
+    c.commit-answer.ensures.counts.count (λ h. c.commit-answer.ensures.any_moment origin h _ at) (refl, c.in-Ok.ensures.0)

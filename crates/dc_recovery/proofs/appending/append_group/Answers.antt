@@ -1,5 +1,6 @@
-use Rattle.std.proofs.Common.{◌≡◌, ◌∙◌, ◌+◌, ℕ, List, suc, ap, subst, sym}
-use Rattle.dc_sectors.specs.Disk.{Image, LeavesOnly, settled}
+use Rattle.std.proofs.Common.{◌∙◌, ◌+◌, ℕ, List, suc, ap, subst, sym}
+use Rattle.dc_sectors.specs.Disk.{Image}
+use Rattle.dc_sectors.specs.Runs.{LeavesOnly, IsSettled}
 use Rattle.dc_sectors.proofs.Moments.{weakened}
 use Rattle.dc_recovery.specs.Language.{State, Change, after}
 use Rattle.dc_recovery.specs.Stands.{IsAppendable, IsReady, StandsForEither}
@@ -10,11 +11,11 @@ use Rattle.dc_recovery.proofs.appending.append_group.Goals.{After-write_group}
 use Rattle.dc_recovery.proofs.appending.append_group.Goals as goal
 
 -- while the group is written
-written : (g : Over) (c : After-write_group g) → g.D.Disk.choices c.args.disk.now ≡ settled (g.D.Disk.reads c.args.disk.now) → (half_len m : ℕ) (was : State) (changes : List Change)
+written : (g : Over) (c : After-write_group g) → IsSettled g.D.Disk c.args.disk.now → (half_len m : ℕ) (was : State) (changes : List Change)
     → IsAppendable half_len c.args.root.now m c.args.site was c.args.bytes.now changes (g.D.Disk.reads c.args.disk.now)
-    → LeavesOnly g.D.Disk.moment g.D.Disk.images_since c.args.disk.now c.write_group.new.disk (StandsForEither half_len was (after was changes))
+    → LeavesOnly g.D.Disk c.args.disk.now c.write_group.new.disk (StandsForEither half_len was (after was changes))
 written g c is_settled half_len m was changes may =
-    weakened g.D.Disk.moment g.D.Disk.images_since c.args.disk.now c.write_group.new.disk _ _ (c.write_group.ensures.any_moment is_settled)
+    weakened g.D.Disk c.args.disk.now c.write_group.new.disk _ _ (c.write_group.ensures.any_moment is_settled)
     (appending_stands half_len c.args.root.now m c.args.site was c.args.bytes.now changes (g.D.Disk.reads c.args.disk.now) may)
 
 pub returns-in_err-count-clause-any_moment : goal.returns-in_err-count-clause-any_moment
@@ -22,12 +23,12 @@ returns-in_err-count-clause-any_moment g c is_settled half_len m was changes may
 
 pub returns-in_err-sync-clause-any_moment : goal.returns-in_err-sync-clause-any_moment
 returns-in_err-sync-clause-any_moment g c is_settled half_len m was changes may =
-    synced_behind g.D.Disk.moment g.D.Disk.images_since g.D.Disk.choices c.args.disk.now c.write_group.new.disk c.sync.new.self _ (g.met.D.Disk.counts_now c.write_group.new.disk)
+    synced_behind g.D.Disk c.args.disk.now c.write_group.new.disk c.sync.new.self _ (g.met.D.Disk.counts_now c.write_group.new.disk)
     (written g (goal.at.returns-in_err-sync-clause-any_moment g c).After-write_group is_settled half_len m was changes may) (c.sync.ensures.time)
 
 pub returns-clause-any_moment : goal.returns-clause-any_moment
 returns-clause-any_moment g c is_settled half_len m was changes may =
-    synced_behind g.D.Disk.moment g.D.Disk.images_since g.D.Disk.choices c.args.disk.now c.write_group.new.disk c.sync.new.self _ (g.met.D.Disk.counts_now c.write_group.new.disk)
+    synced_behind g.D.Disk c.args.disk.now c.write_group.new.disk c.sync.new.self _ (g.met.D.Disk.counts_now c.write_group.new.disk)
     (written g (goal.at.returns-clause-any_moment g c).After-write_group is_settled half_len m was changes may) (c.sync.ensures.time)
 
 pub returns-clause-ready : goal.returns-clause-ready

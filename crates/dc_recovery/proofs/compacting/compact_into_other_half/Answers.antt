@@ -1,5 +1,6 @@
 use Rattle.std.proofs.Common.{◌≡◌, ◌+◌, ℕ, zero, arith, ap, refl, subst, sym, ◌∙◌}
-use Rattle.dc_sectors.specs.Disk.{Image, LeavesOnly, settled}
+use Rattle.dc_sectors.specs.Disk.{Image, settled}
+use Rattle.dc_sectors.specs.Runs.{LeavesOnly, IsSettled}
 use Rattle.dc_pages.specs.declared.site.Site.{Site}
 use Rattle.dc_changes.proofs.Lengths.{state_some, state_fits}
 use Rattle.dc_roots.specs.declared.root.Root.{Root}
@@ -27,31 +28,31 @@ write_state-requires-clause-room g c =
     omega (arith, fits, first, limit, budget, c.requires.some)
 
 -- while the base group is written
-basing : (g : Over) (c : After-write_state g) → g.D.Disk.choices c.args.disk.now ≡ settled (g.D.Disk.reads c.args.disk.now)
-    → LeavesOnly g.D.Disk.moment g.D.Disk.images_since c.args.disk.now c.write_state.new.disk
+basing : (g : Over) (c : After-write_state g) → IsSettled g.D.Disk c.args.disk.now
+    → LeavesOnly g.D.Disk c.args.disk.now c.write_state.new.disk
     (IsAttempt (base_site c.args.half_len (compacted c.args.root.now c.args.sequence)) c.args.root.now.session (state_bytes c.args.house.now.state) (g.D.Disk.reads c.args.disk.now))
 basing g c is_settled =
-    subst (λ (s : Site). LeavesOnly g.D.Disk.moment g.D.Disk.images_since c.args.disk.now c.write_state.new.disk (IsAttempt s c.args.root.now.session (state_bytes c.args.house.now.state) (g.D.Disk.reads c.args.disk.now)))
+    subst (λ (s : Site). LeavesOnly g.D.Disk c.args.disk.now c.write_state.new.disk (IsAttempt s c.args.root.now.session (state_bytes c.args.house.now.state) (g.D.Disk.reads c.args.disk.now)))
     c.base_site-site.ensures.exact (c.write_state.ensures.any_moment is_settled)
 
 pub returns-in_err-count-clause-any_moment : goal.returns-in_err-count-clause-any_moment
 returns-in_err-count-clause-any_moment g c is_settled m place was ready at =
-    base_written g.D.Disk.moment g.D.Disk.images_since g.D.Disk.choices g.D.Disk.reads (g.met.D.Disk.counts_now) c.args.disk.now c.write_state.new.disk
+    base_written g.D.Disk (g.met.D.Disk.counts_now) c.args.disk.now c.write_state.new.disk
     (record { ready = ready; small = c.requires.half; at_sequence = at }) c.args.house.now.state (basing g (goal.at.returns-in_err-count-clause-any_moment g c).After-write_state is_settled)
 
 pub returns-in_err-sync-clause-any_moment : goal.returns-in_err-sync-clause-any_moment
 returns-in_err-sync-clause-any_moment g c is_settled m place was ready at =
-    base_synced g.D.Disk.moment g.D.Disk.images_since g.D.Disk.choices g.D.Disk.reads (g.met.D.Disk.counts_now) c.args.disk.now c.write_state.new.disk
+    base_synced g.D.Disk (g.met.D.Disk.counts_now) c.args.disk.now c.write_state.new.disk
     (record { ready = ready; small = c.requires.half; at_sequence = at }) c.args.house.now.state (basing g (goal.at.returns-in_err-sync-clause-any_moment g c).After-write_state is_settled)
     c.sync.new.self (c.sync.ensures.time)
 
 -- WHEN THE ROOT IS PUT: the disk is settled, and has the base group of the whole state.
 record HasBase (g : Over) (c : After-put_root g) : Type 0 where
-  still : g.D.Disk.choices c.sync.new.self ≡ settled (g.D.Disk.reads c.sync.new.self)
+  still : IsSettled g.D.Disk c.sync.new.self
   done : IsWritten (base_site c.args.half_len (compacted c.args.root.now c.args.sequence)) c.args.root.now.session (state_bytes c.args.house.now.state) c.in_ok-count.count (g.D.Disk.reads c.args.disk.now) (g.D.Disk.reads c.sync.new.self)
   spells : SpellsState (budget_of c.args.half_len) (state_bytes c.args.house.now.state) c.args.house.now.state
 
-has_base : (g : Over) (c : After-put_root g) → g.D.Disk.choices c.args.disk.now ≡ settled (g.D.Disk.reads c.args.disk.now) → HasBase g c
+has_base : (g : Over) (c : After-put_root g) → IsSettled g.D.Disk c.args.disk.now → HasBase g c
 has_base g c is_settled =
     let H = c.args.half_len in
     let house = c.args.house.now in
@@ -64,14 +65,14 @@ has_base g c is_settled =
     }
 
 -- until it is in force, or can't be put
-put : (g : Over) (c : After-put_root g) → g.D.Disk.choices c.args.disk.now ≡ settled (g.D.Disk.reads c.args.disk.now) → {m place : ℕ} {was : State}
+put : (g : Over) (c : After-put_root g) → IsSettled g.D.Disk c.args.disk.now → {m place : ℕ} {was : State}
     → IsCompactable c.args.half_len c.args.root.now m place c.args.sequence was (g.D.Disk.reads c.args.disk.now)
-    → LeavesOnly g.D.Disk.moment g.D.Disk.images_since c.args.disk.now c.write_state.new.disk
+    → LeavesOnly g.D.Disk c.args.disk.now c.write_state.new.disk
     (IsAttempt (base_site c.args.half_len (compacted c.args.root.now c.args.sequence)) c.args.root.now.session (state_bytes c.args.house.now.state) (g.D.Disk.reads c.args.disk.now))
-    → LeavesOnly g.D.Disk.moment g.D.Disk.images_since c.args.disk.now c.put_root.new.disk (StandsForEither c.args.half_len was c.args.house.now.state)
+    → LeavesOnly g.D.Disk c.args.disk.now c.put_root.new.disk (StandsForEither c.args.half_len was c.args.house.now.state)
 put g c is_settled may written =
     let based = has_base g c is_settled in
-    root_put g.D.Disk.moment g.D.Disk.images_since g.D.Disk.choices g.D.Disk.reads (g.met.D.Disk.counts_now) c.args.disk.now c.write_state.new.disk
+    root_put g.D.Disk (g.met.D.Disk.counts_now) c.args.disk.now c.write_state.new.disk
     may c.args.house.now.state written
     c.sync.new.self (c.sync.ensures.time) c.put_root.new.disk c.in_ok-count.count based.done based.spells (c.put_root.ensures.any_moment based.still)
 

@@ -1,5 +1,6 @@
-use Rattle.std.proofs.Common.{⊎_elim, ◌≡◌, ◌≤◌, ◌<◌, ◌+◌, ◌*◌, zero, inl, inr, arith, ap, subst, sym, ◌∙◌}
-use Rattle.dc_sectors.specs.Disk.{Image, LeavesOnly, settled}
+use Rattle.std.proofs.Common.{⊎_elim, ◌≤◌, ◌<◌, ◌+◌, ◌*◌, zero, inl, inr, arith, ap, subst, sym, ◌∙◌}
+use Rattle.dc_sectors.specs.Disk.{Image, settled}
+use Rattle.dc_sectors.specs.Runs.{LeavesOnly, IsSettled}
 use Rattle.dc_pages.specs.declared.site.Site.{Site}
 use Rattle.dc_recovery.specs.Halves.{half_start, budget_of, SparesRest}
 use Rattle.dc_recovery.specs.Language.{empty_state}
@@ -16,28 +17,28 @@ use Rattle.dc_recovery.proofs.formatting.lay_out.Goals.{After-sync, After-write_
 use Rattle.dc_recovery.proofs.formatting.lay_out.Goals as goal
 
 -- the zeros and their sync, whatever that answers
-zeros_synced : (g : Over) (c : After-sync g) → g.D.Disk.choices c.args.disk.now ≡ settled (g.D.Disk.reads c.args.disk.now) → IsUnformatted (g.D.Disk.reads c.args.disk.now)
-    → LeavesOnly g.D.Disk.moment g.D.Disk.images_since c.args.disk.now c.sync.new.self (IsBlankOrEmpty c.args.half_len)
+zeros_synced : (g : Over) (c : After-sync g) → IsSettled g.D.Disk c.args.disk.now → IsUnformatted (g.D.Disk.reads c.args.disk.now)
+    → LeavesOnly g.D.Disk c.args.disk.now c.sync.new.self (IsBlankOrEmpty c.args.half_len)
 zeros_synced g c is_settled none =
-    synced_behind g.D.Disk.moment g.D.Disk.images_since g.D.Disk.choices c.args.disk.now c.blank_sectors.new.disk c.sync.new.self _ (g.met.D.Disk.counts_now c.blank_sectors.new.disk)
-    (zeros_written g.D.Disk.moment g.D.Disk.images_since g.D.Disk.reads c.args.half_len c.args.disk.now c.blank_sectors.new.disk none (c.blank_sectors.ensures.any_moment is_settled)) (c.sync.ensures.time)
+    synced_behind g.D.Disk c.args.disk.now c.blank_sectors.new.disk c.sync.new.self _ (g.met.D.Disk.counts_now c.blank_sectors.new.disk)
+    (zeros_written g.D.Disk c.args.half_len c.args.disk.now c.blank_sectors.new.disk none (c.blank_sectors.ensures.any_moment is_settled)) (c.sync.ensures.time)
 
-blanked : (g : Over) (c : After-write_group g) → IsBlanked g.D.Disk.reads g.D.Disk.choices c.args.half_len c.sync.new.self
+blanked : (g : Over) (c : After-write_group g) → IsBlanked g.D.Disk c.args.half_len c.sync.new.self
 blanked g c = record {
   still = c.in_ok-sync.ensures.choices ∙ ap settled (sym (c.sync.ensures.reads));
   blanks = λ k low up. ap (λ (i : Image). i k) (c.sync.ensures.reads) ∙ c.in_ok-blank_sectors.ensures.blank k low (omega (arith, c.half_end.ensures.exact));
 }
 
 -- and then the base group
-grouped : (g : Over) (c : After-write_group g) → LeavesOnly g.D.Disk.moment g.D.Disk.images_since c.args.disk.now c.sync.new.self (IsBlankOrEmpty c.args.half_len)
-    → LeavesOnly g.D.Disk.moment g.D.Disk.images_since c.args.disk.now c.write_group.new.disk (IsBlankOrEmpty c.args.half_len)
+grouped : (g : Over) (c : After-write_group g) → LeavesOnly g.D.Disk c.args.disk.now c.sync.new.self (IsBlankOrEmpty c.args.half_len)
+    → LeavesOnly g.D.Disk c.args.disk.now c.write_group.new.disk (IsBlankOrEmpty c.args.half_len)
 grouped g c so_far =
     let blank = blanked g c in
-    group_written g.D.Disk.moment g.D.Disk.images_since g.D.Disk.reads c.args.half_len c.args.disk.now g.D.Disk.choices c.sync.new.self c.write_group.new.disk c.base_site.result empty_bytes
+    group_written g.D.Disk c.args.half_len c.args.disk.now c.sync.new.self c.write_group.new.disk c.base_site.result empty_bytes
     blank (omega (arith, ap (λ (s : Site). s.first) c.base_site.ensures.exact)) so_far (c.write_group.ensures.any_moment blank.still)
 
-based : (g : Over) (c : After-put_root g) → IsBlanked g.D.Disk.reads g.D.Disk.choices c.args.half_len c.sync.new.self
-    → IsBased g.D.Disk.reads g.D.Disk.choices c.args.half_len c.in_ok-write_group.field-0 empty_bytes empty_state c.sync.new.self c.sync-2.new.self
+based : (g : Over) (c : After-put_root g) → IsBlanked g.D.Disk c.args.half_len c.sync.new.self
+    → IsBased g.D.Disk c.args.half_len c.in_ok-write_group.field-0 empty_bytes empty_state c.sync.new.self c.sync-2.new.self
 based g c blank =
     let H = c.args.half_len in
     let count = c.in_ok-write_group.field-0 in
@@ -51,18 +52,18 @@ based g c blank =
     }
 
 -- and then its sync and the first root, whatever that answers
-rooted : (g : Over) (c : After-put_root g) → IsBlanked g.D.Disk.reads g.D.Disk.choices c.args.half_len c.sync.new.self
-    → LeavesOnly g.D.Disk.moment g.D.Disk.images_since c.args.disk.now c.write_group.new.disk (IsBlankOrEmpty c.args.half_len)
-    → LeavesOnly g.D.Disk.moment g.D.Disk.images_since c.args.disk.now c.put_root.new.disk (IsBlankOrEmpty c.args.half_len)
+rooted : (g : Over) (c : After-put_root g) → IsBlanked g.D.Disk c.args.half_len c.sync.new.self
+    → LeavesOnly g.D.Disk c.args.disk.now c.write_group.new.disk (IsBlankOrEmpty c.args.half_len)
+    → LeavesOnly g.D.Disk c.args.disk.now c.put_root.new.disk (IsBlankOrEmpty c.args.half_len)
 rooted g c blank so_far =
     let is = based g c blank in
-    root_written g.D.Disk.moment g.D.Disk.images_since g.D.Disk.reads c.args.half_len c.args.disk.now g.D.Disk.choices c.in_ok-write_group.field-0 empty_bytes c.sync.new.self c.sync-2.new.self c.put_root.new.disk is
-    (synced_behind g.D.Disk.moment g.D.Disk.images_since g.D.Disk.choices c.args.disk.now c.write_group.new.disk c.sync-2.new.self _ (g.met.D.Disk.counts_now c.write_group.new.disk) so_far (c.sync-2.ensures.time))
+    root_written g.D.Disk c.args.half_len c.args.disk.now c.in_ok-write_group.field-0 empty_bytes c.sync.new.self c.sync-2.new.self c.put_root.new.disk is
+    (synced_behind g.D.Disk c.args.disk.now c.write_group.new.disk c.sync-2.new.self _ (g.met.D.Disk.counts_now c.write_group.new.disk) so_far (c.sync-2.ensures.time))
     (c.put_root.ensures.any_moment is.still)
 
 pub returns-in_err-blank_sectors-clause-any_moment : goal.returns-in_err-blank_sectors-clause-any_moment
 returns-in_err-blank_sectors-clause-any_moment g c is_settled none =
-    zeros_written g.D.Disk.moment g.D.Disk.images_since g.D.Disk.reads c.args.half_len c.args.disk.now c.blank_sectors.new.disk none (c.blank_sectors.ensures.any_moment is_settled)
+    zeros_written g.D.Disk c.args.half_len c.args.disk.now c.blank_sectors.new.disk none (c.blank_sectors.ensures.any_moment is_settled)
 
 pub returns-in_err-sync-clause-any_moment : goal.returns-in_err-sync-clause-any_moment
 returns-in_err-sync-clause-any_moment g c is_settled none = zeros_synced g (goal.at.returns-in_err-sync-clause-any_moment g c).After-sync is_settled none
@@ -75,7 +76,7 @@ returns-in_err-write_group-clause-any_moment g c is_settled none =
 pub returns-in_err-sync-2-clause-any_moment : goal.returns-in_err-sync-2-clause-any_moment
 returns-in_err-sync-2-clause-any_moment g c is_settled none =
     let at = goal.at.returns-in_err-sync-2-clause-any_moment g c in
-    synced_behind g.D.Disk.moment g.D.Disk.images_since g.D.Disk.choices c.args.disk.now c.write_group.new.disk c.sync-2.new.self _ (g.met.D.Disk.counts_now c.write_group.new.disk)
+    synced_behind g.D.Disk c.args.disk.now c.write_group.new.disk c.sync-2.new.self _ (g.met.D.Disk.counts_now c.write_group.new.disk)
     (grouped g at.After-write_group (zeros_synced g at.After-sync is_settled none)) (c.sync-2.ensures.time)
 
 pub returns-in-Ok-clause-any_moment : goal.returns-in-Ok-clause-any_moment

@@ -1,5 +1,5 @@
 use Rattle.std.proofs.Common.{◌≡◌, ⊎_elim, ℕ, zero, suc, ◌+◌, ap, sym, subst, arith}
-use Rattle.dc_sectors.specs.Disk.{LeavesOnly, settled}
+use Rattle.dc_sectors.specs.Runs.{LeavesOnly, IsSettled}
 use Rattle.dc_sectors.proofs.Moments.{followed}
 use Rattle.dc_roots.specs.declared.root.Root.{Root}
 use Rattle.dc_recovery.specs.Halves.{SparesRest}
@@ -14,7 +14,7 @@ record HasBegun (g : Over) (c : After-compact_into_other_half g) (m : ℕ) : Typ
   at : c.args.found.now.last + 1 ≡ c.in_ok-begun.begun.base_sequence + suc m
   ready : IsReady c.args.half_len c.in_ok-begun.begun m c.args.found.now.place c.args.found.now.house.state (g.D.Disk.reads c.begin_session.new.disk)
 
-has_begun : (g : Over) (c : After-compact_into_other_half g) → g.D.Disk.choices c.args.disk.now ≡ settled (g.D.Disk.reads c.args.disk.now) → (m : ℕ)
+has_begun : (g : Over) (c : After-compact_into_other_half g) → IsSettled g.D.Disk c.args.disk.now → (m : ℕ)
     → StandsBy c.args.half_len c.args.found.now.root m c.args.found.now.place c.args.found.now.house.state (g.D.Disk.reads c.args.disk.now)
     → c.args.found.now.last ≡ c.args.found.now.root.base_sequence + m → HasBegun g c m
 has_begun g c is_settled m stands last_is =
@@ -28,15 +28,15 @@ has_begun g c is_settled m stands last_is =
     }
 
 -- whatever the compaction answers
-leaves : (g : Over) (c : After-compact_into_other_half g) → g.D.Disk.choices c.args.disk.now ≡ settled (g.D.Disk.reads c.args.disk.now) → (m : ℕ)
+leaves : (g : Over) (c : After-compact_into_other_half g) → IsSettled g.D.Disk c.args.disk.now → (m : ℕ)
     → StandsBy c.args.half_len c.args.found.now.root m c.args.found.now.place c.args.found.now.house.state (g.D.Disk.reads c.args.disk.now)
     → c.args.found.now.last ≡ c.args.found.now.root.base_sequence + m
-    → LeavesOnly g.D.Disk.moment g.D.Disk.images_since c.args.disk.now c.compact_into_other_half.new.disk (Stands c.args.half_len c.args.found.now.house.state)
+    → LeavesOnly g.D.Disk c.args.disk.now c.compact_into_other_half.new.disk (Stands c.args.half_len c.args.found.now.house.state)
 leaves g c is_settled m stands last_is =
     let found = c.args.found.now in
     let H = c.args.half_len in
     let begun = has_begun g c is_settled m stands last_is in
-    followed g.D.Disk.moment g.D.Disk.images_since c.args.disk.now c.begin_session.new.disk c.compact_into_other_half.new.disk (Stands H found.house.state) (StandsForEither H found.house.state found.house.state) (Stands H found.house.state)
+    followed g.D.Disk c.args.disk.now c.begin_session.new.disk c.compact_into_other_half.new.disk (Stands H found.house.state) (StandsForEither H found.house.state found.house.state) (Stands H found.house.state)
     (c.begin_session.ensures.any_moment H m found.place found.house.state is_settled stands)
     (c.compact_into_other_half.ensures.any_moment (c.in_ok-begun.ensures.durable) m found.place found.house.state begun.ready begun.at)
     (λ image is. is) (λ image either. ⊎_elim (λ is. is) (λ is. is) either)

@@ -8,10 +8,10 @@ returns-in-Ok-clause-ready g c half_len m place state is_settled stands =
 
 pub returns-in-Ok-clause-any_moment : goal.returns-in-Ok-clause-any_moment
 returns-in-Ok-clause-any_moment g c half_len m place state is_settled stands =
-    weakened g.D.Disk.moment g.D.Disk.images_since c.args.disk.now c.put_root.new.disk _ _ (c.put_root.ensures.any_moment is_settled)
+    weakened g.D.Disk c.args.disk.now c.put_root.new.disk _ _ (c.put_root.ensures.any_moment is_settled)
     (session_step half_len c.args.root.now m place state (g.D.Disk.reads c.args.disk.now) stands)
 
 pub returns-in-Err-clause-any_moment : goal.returns-in-Err-clause-any_moment
 returns-in-Err-clause-any_moment g c half_len m place state is_settled stands =
-    weakened g.D.Disk.moment g.D.Disk.images_since c.args.disk.now c.put_root.new.disk _ _ (c.put_root.ensures.any_moment is_settled)
+    weakened g.D.Disk c.args.disk.now c.put_root.new.disk _ _ (c.put_root.ensures.any_moment is_settled)
     (session_step half_len c.args.root.now m place state (g.D.Disk.reads c.args.disk.now) stands)

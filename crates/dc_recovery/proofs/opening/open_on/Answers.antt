@@ -1,5 +1,6 @@
-use Rattle.std.proofs.Common.{◌≡◌, ◌+◌, ℕ, ap, refl, subst, sym, ◌∙◌}
-use Rattle.dc_sectors.specs.Disk.{Image, IsImage, LeavesOnly, settled}
+use Rattle.std.proofs.Common.{◌≡◌, ◌+◌, ℕ, Err, ap, refl, subst, sym, ◌∙◌}
+use Rattle.dc_sectors.specs.Disk.{Image, IsImage, settled}
+use Rattle.dc_sectors.specs.Runs.{LeavesOnly, IsSettled}
 use Rattle.dc_recovery.specs.Halves.{SparesRest}
 use Rattle.dc_recovery.specs.Roots.{IsOpenedRoot}
 use Rattle.dc_recovery.specs.Refusal.{IsSpent}
@@ -12,12 +13,15 @@ use Rattle.dc_recovery.proofs.Spared.{spared_same, spared_through}
 use Rattle.dc_recovery.proofs.opening.open_on.Given.{Over}
 use Rattle.dc_recovery.proofs.opening.open_on.Goals.{After-read_image, After-is_spent, After-begin}
 use Rattle.dc_recovery.proofs.opening.open_on.Goals as goal
+use Rattle.std.proofs.lemmas.Result.{err_from_is_err_and}
+use Rattle.dc_sectors.proofs.Moments.{counted_on}
+use Rattle.dc_recovery.specs.declared.fault.OpenFault.TheVariants.{Device}
 
 -- the sync and the reading wrote nothing
-looked : (g : Over) (c : After-read_image g) → LeavesOnly g.D.Disk.moment g.D.Disk.images_since c.args.disk.now c.read_image.new.disk (IsImage (g.D.Disk.choices c.args.disk.now))
+looked : (g : Over) (c : After-read_image g) → LeavesOnly g.D.Disk c.args.disk.now c.read_image.new.disk (IsImage (g.D.Disk.choices c.args.disk.now))
 looked g c =
     let disk = c.args.disk.now in
-    synced_read g.D.Disk.moment g.D.Disk.images_since g.D.Disk.choices disk (g.met.D.Disk.only_now disk) g.D.Disk.reads c.sync.new.self c.read_image.new.disk (g.met.D.Disk.reads_a_choice disk) c.sync.ensures.time c.in-Ok.ensures.choices c.read_image.ensures.looked.any_moment
+    synced_read g.D.Disk disk (g.met.D.Disk.only_now disk) c.sync.new.self c.read_image.new.disk (g.met.D.Disk.reads_a_choice disk) c.sync.ensures.time c.in-Ok.ensures.choices c.read_image.ensures.looked.any_moment
 
 -- what was found is what the disk read from the first
 read : (g : Over) (c : After-is_spent g) → g.D.Disk.keeps c.read_image.new.disk
@@ -28,7 +32,7 @@ read g c h =
 
 -- WHAT THE SESSION BEGINS ON: a settled disk that stands for the state that was read, as the old one did.
 record IsFound (g : Over) (c : After-begin g) : Type 0 where
-  is_settled : g.D.Disk.choices c.read_image.new.disk ≡ settled (g.D.Disk.reads c.read_image.new.disk)
+  is_settled : IsSettled g.D.Disk c.read_image.new.disk
   m : ℕ
   stood : StandsBy c.args.half_len c.in_ok-found.found.root m c.in_ok-found.found.place c.in_ok-found.found.house.state (g.D.Disk.reads c.args.disk.now)
   stands : StandsBy c.args.half_len c.in_ok-found.found.root m c.in_ok-found.found.place c.in_ok-found.found.house.state (g.D.Disk.reads c.read_image.new.disk)
@@ -52,28 +56,28 @@ is_found g c each was =
 -- whatever the beginning answers
 begun : (g : Over) (c : After-begin g) → EachStands c.args.half_len (g.D.Disk.choices c.args.disk.now)
     → IsRead c.args.half_len c.in_ok-found.found.root c.in_ok-found.found.place c.in_ok-found.found.last c.in_ok-found.found.house.state (g.D.Disk.reads c.args.disk.now)
-    → LeavesOnly g.D.Disk.moment g.D.Disk.images_since c.args.disk.now c.read_image.new.disk (IsImage (g.D.Disk.choices c.args.disk.now))
-    → LeavesOnly g.D.Disk.moment g.D.Disk.images_since c.args.disk.now c.begin.new.disk (StandsForOne c.args.half_len (g.D.Disk.choices c.args.disk.now))
+    → LeavesOnly g.D.Disk c.args.disk.now c.read_image.new.disk (IsImage (g.D.Disk.choices c.args.disk.now))
+    → LeavesOnly g.D.Disk c.args.disk.now c.begin.new.disk (StandsForOne c.args.half_len (g.D.Disk.choices c.args.disk.now))
 begun g c each was reading =
     let disk = c.args.disk.now in
     let found = c.in_ok-found.found in
     let is = is_found g c each was in
-    after_session g.D.Disk.moment g.D.Disk.images_since g.D.Disk.choices c.args.half_len disk each c.read_image.new.disk c.begin.new.disk found.house.state (g.D.Disk.reads disk) (g.met.D.Disk.reads_a_choice disk)
+    after_session g.D.Disk c.args.half_len disk each c.read_image.new.disk c.begin.new.disk found.house.state (g.D.Disk.reads disk) (g.met.D.Disk.reads_a_choice disk)
     (record { root = found.root; m = is.m; place = found.place; by = is.stood }) reading (c.begin.ensures.any_moment is.is_settled is.m is.stands is.last_is)
 
 pub returns-in-Err-clause-any_moment : goal.returns-in-Err-clause-any_moment
 returns-in-Err-clause-any_moment g c h each =
     let disk = c.args.disk.now in
-    before_writing g.D.Disk.moment g.D.Disk.images_since g.D.Disk.choices c.args.half_len disk each c.sync.new.self
-    (synced g.D.Disk.moment g.D.Disk.images_since g.D.Disk.choices disk (g.met.D.Disk.only_now disk) c.sync.new.self c.sync.ensures.time)
+    before_writing g.D.Disk c.args.half_len disk each c.sync.new.self
+    (synced g.D.Disk disk (g.met.D.Disk.only_now disk) c.sync.new.self c.sync.ensures.time)
 
 pub returns-in_err-found-clause-any_moment : goal.returns-in_err-found-clause-any_moment
 returns-in_err-found-clause-any_moment g c h each =
-    before_writing g.D.Disk.moment g.D.Disk.images_since g.D.Disk.choices c.args.half_len c.args.disk.now each c.read_image.new.disk (looked g (goal.at.returns-in_err-found-clause-any_moment g c).After-read_image)
+    before_writing g.D.Disk c.args.half_len c.args.disk.now each c.read_image.new.disk (looked g (goal.at.returns-in_err-found-clause-any_moment g c).After-read_image)
 
 pub returns-then-is_spent-clause-any_moment : goal.returns-then-is_spent-clause-any_moment
 returns-then-is_spent-clause-any_moment g c h each =
-    before_writing g.D.Disk.moment g.D.Disk.images_since g.D.Disk.choices c.args.half_len c.args.disk.now each c.read_image.new.disk (looked g (goal.at.returns-then-is_spent-clause-any_moment g c).After-read_image)
+    before_writing g.D.Disk c.args.half_len c.args.disk.now each c.read_image.new.disk (looked g (goal.at.returns-then-is_spent-clause-any_moment g c).After-read_image)
 
 pub returns-in_err-begin-clause-any_moment : goal.returns-in_err-begin-clause-any_moment
 returns-in_err-begin-clause-any_moment g c h each =
@@ -157,3 +161,14 @@ pub returns-clause-elsewhere : goal.returns-clause-elsewhere
 returns-clause-elsewhere g c =
     let at = goal.at.returns-clause-elsewhere g c in
     begin_spares g at.After-begin (read_spares g at.After-read_image)
+
+pub returns-in_err-begin-clause-counts : goal.returns-in_err-begin-clause-counts
+returns-in_err-begin-clause-counts g c =
+    let told = c.from_residual-in_err-begin in
+    let p = err_from_is_err_and told.result told.ensures.1 in
+    let fault = c.in_err-begin.field-0.0 in
+    let same : told.result ≡ Err fault = cc (p.1, p.2) in
+    let disk = c.args.disk.now in
+    counted_on g.D.Disk disk c.read_image.new.disk c.begin.new.disk ⊥ _ _
+    (counted_on g.D.Disk disk c.sync.new.self c.read_image.new.disk _ _ ⊥ c.in-Ok.ensures.counts (λ is. cc is) c.in_ok-found.ensures.counts (λ is. cc is) (λ is. absurd is)) (λ is. is)
+    c.in_err-begin.ensures.counts (λ is. let e : fault ≡ Device = cc is in same ∙ ap Err e) (λ is. let e : fault ≡ Device = cc (is, same) in ap Err e)

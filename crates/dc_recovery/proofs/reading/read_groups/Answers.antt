@@ -6,6 +6,7 @@ use Rattle.dc_recovery.specs.Stands.{IsReached}
 use Rattle.dc_recovery.proofs.ReadMoments.{looked_on}
 use Rattle.dc_recovery.proofs.Steps.{all_read}
 use Rattle.dc_recovery.proofs.reading.read_groups.Goals as goal
+use Rattle.dc_sectors.proofs.Moments.{counted_on}
 
 pub returns-clause-all : goal.returns-clause-all
 returns-clause-all g c h budget reached =
@@ -36,6 +37,6 @@ groups-preserved g c =
       budget = next.kept.1 ∙ so_far.budget;
       from = (let first = so_far.from in let second = next.from in omega arith);
       within = next.within;
-      looked = looked_on g.D.Disk.keeps g.D.Disk.reads g.D.Disk.choices g.D.Disk.moment g.D.Disk.images_since g.D.Disk.sectors g.D.Disk.failures c.args.disk.now c.groups.disk c.read_next.new.disk so_far.looked next.looked;
-      passed = next.passed (λ is. absurd (cc is)) ∙ so_far.passed;
+      looked = looked_on g.D.Disk c.args.disk.now c.groups.disk c.read_next.new.disk so_far.looked next.looked;
+      counts = counted_on g.D.Disk c.args.disk.now c.groups.disk c.read_next.new.disk ⊥ _ ⊥ so_far.counts (λ is. is) next.counts (λ is. cc is) (λ is. absurd is);
     }

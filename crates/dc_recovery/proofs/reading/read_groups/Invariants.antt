@@ -1,5 +1,5 @@
 use Rattle.std.proofs.Common.{◌-◌, ◌≡◌, ◌≤◌}
-use Rattle.dc_recovery.specs.Looked.{OnlyLooked}
+use Rattle.dc_sectors.specs.Runs.{OnlyLooked, Counts}
 use Rattle.dc_recovery.specs.Halves.{half_end, budget_of}
 use Rattle.dc_recovery.specs.Stands.{IsReached}
 use Rattle.dc_recovery.proofs.reading.read_groups.Given as goal
@@ -13,8 +13,8 @@ invariant-groups g l = record {
   budget : l.found.house.budget ≡ l.fn.found.house.budget;
   from : l.fn.found.place ≤ l.found.place;
   within : l.found.place ≤ half_end l.half_len l.found.root.half;
-  looked : OnlyLooked g.D.Disk.keeps g.D.Disk.reads g.D.Disk.choices g.D.Disk.moment g.D.Disk.images_since g.D.Disk.sectors g.D.Disk.failures l.fn.disk l.disk;
-  passed : g.D.Disk.failures l.disk ≡ g.D.Disk.failures l.fn.disk;
+  looked : OnlyLooked g.D.Disk l.fn.disk l.disk;
+  counts : Counts g.D.Disk l.fn.disk l.disk ⊥;
 }
 
 abbrev pub decreases-groups : goal.decreases-groups

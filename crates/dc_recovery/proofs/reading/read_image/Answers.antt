@@ -1,22 +1,23 @@
 use Rattle.std.proofs.Common.{◌≡◌, ◌∙◌, ap, sym, subst, Err}
 use Rattle.std.proofs.lemmas.Result.{err_from_is_err_and}
 use Rattle.dc_sectors.specs.Disk.{Image}
+use Rattle.dc_sectors.specs.Runs.{OnlyLooked}
 use Rattle.dc_roots.specs.declared.root.Root.{Root}
 use Rattle.dc_recovery.specs.declared.fault.OpenFault.TheVariants.{Device}
-use Rattle.dc_recovery.specs.Looked.{OnlyLooked}
 use Rattle.dc_recovery.specs.Refusal.{IsRefused}
 use Rattle.dc_recovery.specs.Stands.{IsCurrent, IsReached, IsRead}
 use Rattle.dc_recovery.proofs.ReadMoments.{looked_on}
 use Rattle.dc_recovery.proofs.reading.read_image.Given.{Over}
 use Rattle.dc_recovery.proofs.reading.read_image.Goals.{In_ok-root, In_ok-found}
 use Rattle.dc_recovery.proofs.reading.read_image.Goals as goal
+use Rattle.dc_sectors.proofs.Moments.{counted_on}
 
 -- ---- BEFORE THE GROUPS: the root that was chosen, and the base that it led to
 
 looked_at_base : (g : Over) (c : In_ok-root g) → (base : g.row.D.Denot)
-    → OnlyLooked g.D.Disk.keeps g.D.Disk.reads g.D.Disk.choices g.D.Disk.moment g.D.Disk.images_since g.D.Disk.sectors g.D.Disk.failures c.current_root.new.disk base
-    → OnlyLooked g.D.Disk.keeps g.D.Disk.reads g.D.Disk.choices g.D.Disk.moment g.D.Disk.images_since g.D.Disk.sectors g.D.Disk.failures c.args.disk.now base
-looked_at_base g c base looked = looked_on g.D.Disk.keeps g.D.Disk.reads g.D.Disk.choices g.D.Disk.moment g.D.Disk.images_since g.D.Disk.sectors g.D.Disk.failures c.args.disk.now c.current_root.new.disk base c.current_root.ensures.looked looked
+    → OnlyLooked g.D.Disk c.current_root.new.disk base
+    → OnlyLooked g.D.Disk c.args.disk.now base
+looked_at_base g c base looked = looked_on g.D.Disk c.args.disk.now c.current_root.new.disk base c.current_root.ensures.looked looked
 
 -- what the disk reads is what it read before, and the base is reached from the root in force
 record IsBased (g : Over) (c : In_ok-found g) : Type 0 where
@@ -43,12 +44,12 @@ returns-in_err-found-clause-looked g c =
 
 pub returns-in_err-read_groups-clause-looked : goal.returns-in_err-read_groups-clause-looked
 returns-in_err-read_groups-clause-looked g c =
-    looked_on g.D.Disk.keeps g.D.Disk.reads g.D.Disk.choices g.D.Disk.moment g.D.Disk.images_since g.D.Disk.sectors g.D.Disk.failures c.args.disk.now c.read_base.new.disk c.read_groups.new.disk
+    looked_on g.D.Disk c.args.disk.now c.read_base.new.disk c.read_groups.new.disk
     (looked_at_base g (goal.at.returns-in_err-read_groups-clause-looked g c).In_ok-root c.read_base.new.disk c.read_base.ensures.looked) c.read_groups.ensures.looked
 
 pub returns-clause-looked : goal.returns-clause-looked
 returns-clause-looked g c =
-    looked_on g.D.Disk.keeps g.D.Disk.reads g.D.Disk.choices g.D.Disk.moment g.D.Disk.images_since g.D.Disk.sectors g.D.Disk.failures c.args.disk.now c.read_base.new.disk c.read_groups.new.disk
+    looked_on g.D.Disk c.args.disk.now c.read_base.new.disk c.read_groups.new.disk
     (looked_at_base g (goal.at.returns-clause-looked g c).In_ok-root c.read_base.new.disk c.read_base.ensures.looked) c.read_groups.ensures.looked
 
 pub returns-clause-all : goal.returns-clause-all
@@ -57,14 +58,15 @@ returns-clause-all g c h =
     let now = c.read_groups.new.found in
     subst (λ (i : Image). IsRead c.args.half_len now.root now.place now.last now.house.state i) based.reads_same (c.in_ok-read_groups.ensures.all h c.in_ok-found.ensures.budget based.reached)
 
-pub returns-in_err-read_groups-clause-passed : goal.returns-in_err-read_groups-clause-passed
-returns-in_err-read_groups-clause-passed g c other =
+pub returns-in_err-read_groups-clause-counts : goal.returns-in_err-read_groups-clause-counts
+returns-in_err-read_groups-clause-counts g c =
     let told = c.from_residual-in_err-read_groups in
     let p = err_from_is_err_and told.result told.ensures.1 in
     let same : told.result ≡ Err c.in_err-read_groups.field-0.0 = cc (p.1, p.2) in
     let fault = c.in_err-read_groups.field-0.0 in
-    let is_device : fault ≡ Device → told.result ≡ Err Device = λ e. same ∙ ap Err e in
-    c.in_err-read_groups.ensures.passed (λ device. other (is_device (cc device))) ∙ (c.in_ok-found.ensures.passed (λ is. cc is) ∙ c.in_ok-root.ensures.passed (λ is. cc is))
+    counted_on g.D.Disk c.args.disk.now c.read_base.new.disk c.read_groups.new.disk ⊥ _ _
+    (counted_on g.D.Disk c.args.disk.now c.current_root.new.disk c.read_base.new.disk _ _ ⊥ c.in_ok-root.ensures.counts (λ is. cc is) c.in_ok-found.ensures.counts (λ is. cc is) (λ is. absurd is)) (λ is. is)
+    c.in_err-read_groups.ensures.counts (λ is. let e : fault ≡ Device = cc is in same ∙ ap Err e) (λ is. let e : fault ≡ Device = cc (is, same) in ap Err e)
 
 pub returns-in_err-read_groups-clause-refused : goal.returns-in_err-read_groups-clause-refused
 returns-in_err-read_groups-clause-refused g c h =

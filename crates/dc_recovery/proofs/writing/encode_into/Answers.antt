@@ -3,16 +3,16 @@ use Rattle.dc_recovery.proofs.writing.encode_into.Goals as goal
 
 pub returns-in-Ok-clause-same_reference : goal.returns-in-Ok-clause-same_reference
 returns-in-Ok-clause-same_reference g c =
-    same_reference g.D.Disk.keeps g.D.Disk.reads g.D.Disk.choices g.D.Disk.moment g.D.Disk.images_since g.D.Disk.sectors g.D.Disk.failures c.args.sink.now c.encode.new.sink _ c.in-Ok.ensures.ok.chain
+    same_reference g.D.Disk c.args.sink.now c.encode.new.sink _ c.in-Ok.ensures.ok.chain
 
 pub returns-in-Ok-clause-goes_into : goal.returns-in-Ok-clause-goes_into
 returns-in-Ok-clause-goes_into g c =
-    went_into g.D.Disk.keeps g.D.Disk.reads g.D.Disk.choices g.D.Disk.moment g.D.Disk.images_since g.D.Disk.sectors g.D.Disk.failures c.args.sink.now c.encode.new.sink _ c.in-Ok.ensures.ok.chain
+    went_into g.D.Disk c.args.sink.now c.encode.new.sink _ c.in-Ok.ensures.ok.chain
 
 pub returns-in-Err-clause-same_reference : goal.returns-in-Err-clause-same_reference
 returns-in-Err-clause-same_reference g c =
-    broken_reference g.D.Disk.keeps g.D.Disk.reads g.D.Disk.choices g.D.Disk.moment g.D.Disk.images_since g.D.Disk.sectors g.D.Disk.failures c.args.sink.now c.encode.new.sink _ c.in-Err.ensures.err.broken
+    broken_reference g.D.Disk c.args.sink.now c.encode.new.sink _ c.in-Err.ensures.err.broken
 
 pub returns-in-Err-clause-breaks_off : goal.returns-in-Err-clause-breaks_off
 returns-in-Err-clause-breaks_off g c =
-    broke_off g.D.Disk.keeps g.D.Disk.reads g.D.Disk.choices g.D.Disk.moment g.D.Disk.images_since g.D.Disk.sectors g.D.Disk.failures c.args.sink.now c.encode.new.sink _ c.in-Err.ensures.err.broken
+    broke_off g.D.Disk c.args.sink.now c.encode.new.sink _ c.in-Err.ensures.err.broken

@@ -1,5 +1,5 @@
 use Rattle.std.proofs.Common.{◌≡◌, ◌∙◌, [], ap, subst}
-use Rattle.dc_sectors.specs.Disk.{settled}
+use Rattle.dc_sectors.specs.Runs.{IsSettled}
 use Rattle.dc_pages.specs.Draft.{Draft}
 use Rattle.dc_pages.specs.Writing.{SameOutside}
 use Rattle.dc_recovery.proofs.Drafts.{Begins, first_going, put_failed, finish_failed, finish_leaves, finish_written}
@@ -7,8 +7,8 @@ use Rattle.dc_recovery.proofs.writing.write_group.Given.{Over}
 use Rattle.dc_recovery.proofs.writing.write_group.Goals.{After-begin-writer}
 use Rattle.dc_recovery.proofs.writing.write_group.Goals as goal
 
-begins : (g : Over) (c : After-begin-writer g) → g.D.Disk.choices c.args.disk.now ≡ settled (g.D.Disk.reads c.args.disk.now)
-    → Begins g.D.Disk.reads g.D.Disk.choices g.D.Disk.moment g.D.Disk.images_since c.args.disk.now c.begin-writer.result c.args.site c.args.session
+begins : (g : Over) (c : After-begin-writer g) → IsSettled g.D.Disk c.args.disk.now
+    → Begins g.D.Disk c.args.disk.now c.begin-writer.result c.args.site c.args.session
 begins g c is_settled = record { draft_is = c.begin-writer.ensures; is_settled = is_settled; only_now = g.met.D.Disk.only_now c.args.disk.now }
 
 pub returns-in_err-put-clause-any_moment : goal.returns-in_err-put-clause-any_moment

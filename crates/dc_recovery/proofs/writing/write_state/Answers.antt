@@ -1,5 +1,5 @@
 use Rattle.std.proofs.Common.{◌≡◌, ◌∙◌, [], rules, ap, subst}
-use Rattle.dc_sectors.specs.Disk.{LeavesOnly, settled}
+use Rattle.dc_sectors.specs.Runs.{LeavesOnly, IsSettled}
 use Rattle.dc_pages.specs.Draft.{Draft}
 use Rattle.dc_pages.specs.Writing.{SameOutside}
 use Rattle.dc_recovery.specs.Language.{state_bytes}
@@ -9,14 +9,14 @@ use Rattle.dc_recovery.proofs.writing.write_state.Given.{Over}
 use Rattle.dc_recovery.proofs.writing.write_state.Goals.{After-begin}
 use Rattle.dc_recovery.proofs.writing.write_state.Goals as goal
 
-begins : (g : Over) (c : After-begin g) → g.D.Disk.choices c.args.disk.now ≡ settled (g.D.Disk.reads c.args.disk.now)
-    → Begins g.D.Disk.reads g.D.Disk.choices g.D.Disk.moment g.D.Disk.images_since c.args.disk.now c.begin.result c.args.site c.args.session
+begins : (g : Over) (c : After-begin g) → IsSettled g.D.Disk c.args.disk.now
+    → Begins g.D.Disk c.args.disk.now c.begin.result c.args.site c.args.session
 begins g c is_settled = record { draft_is = c.begin.ensures; is_settled = is_settled; only_now = g.met.D.Disk.only_now c.args.disk.now }
 
 -- the group may be written in part, on that disk
 abbrev Leaves : (g : Over) (c : After-begin g) → g.row.D.Denot → Type 0
 Leaves g c new =
-    LeavesOnly g.D.Disk.moment g.D.Disk.images_since c.args.disk.now new
+    LeavesOnly g.D.Disk c.args.disk.now new
     (IsAttempt c.args.site c.args.session (state_bytes c.args.house.now.state) (g.D.Disk.reads c.args.disk.now))
 
 pub returns-in_err-encode_into-clause-any_moment : goal.returns-in_err-encode_into-clause-any_moment

@@ -14,6 +14,6 @@ pub returns-clause-any_moment : goal.returns-clause-any_moment
 returns-clause-any_moment g c =
     let disk = c.args.disk.now in
     let P = IsImage (g.D.Disk.choices disk) in
-    let first = goes_on g.D.Disk.moment g.D.Disk.images_since disk disk c.read_slot.new.disk P _ (started g.D.Disk.moment g.D.Disk.images_since disk P (g.met.D.Disk.only_now disk)) (c.read_slot.ensures.time) (λ image is. is) in
-    goes_on g.D.Disk.moment g.D.Disk.images_since disk c.read_slot.new.disk c.read_slot-2.new.disk P _ first (c.read_slot-2.ensures.time)
+    let first = goes_on g.D.Disk disk disk c.read_slot.new.disk P _ (started g.D.Disk disk P (g.met.D.Disk.only_now disk)) (c.read_slot.ensures.time) (λ image is. is) in
+    goes_on g.D.Disk disk c.read_slot.new.disk c.read_slot-2.new.disk P _ first (c.read_slot-2.ensures.time)
     (λ image is. subst (λ (d : Choices). IsImage d image) (c.in-Ok.ensures.choices) is)

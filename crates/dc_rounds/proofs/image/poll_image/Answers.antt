@@ -2,7 +2,7 @@ use Rattle.std.proofs.Common.{◌≡◌, List, []}
 use Rattle.dc_core.specs.Core.{Core, opened}
 use Rattle.dc_core.specs.Images.{IsAt}
 use Rattle.dc_poller.specs.ImageRun.{IsOpenedOn}
-use Rattle.dc_recovery.specs.Halves.{half_len_of}
+use Rattle.dc_recovery.specs.Halves.{half_of}
 use Rattle.dc_recovery.specs.Stands.{EachStands}
 use Rattle.dc_rounds.specs.Happening.{Happening}
 use Rattle.dc_rounds.proofs.ImagePolls.{turned, turned_ok}
@@ -11,13 +11,13 @@ use Rattle.dc_rounds.proofs.image.poll_image.Given.{Over}
 use Rattle.dc_rounds.proofs.image.poll_image.Goals.{After-poll-polled}
 use Rattle.dc_rounds.proofs.image.poll_image.Goals as goal
 
-opening : (g : Over) (c : After-poll-polled g) → (g.D.Disk.keeps c.args.disk → EachStands (half_len_of (g.D.Disk.sectors c.args.disk)) (g.D.Disk.choices c.args.disk))
+opening : (g : Over) (c : After-poll-polled g) → (g.D.Disk.keeps c.args.disk → EachStands (half_of g.D.Disk c.args.disk) (g.D.Disk.choices c.args.disk))
     → IsOpenedOn g.D.Disk c.args.disk c.in-Ok.concentrator.house.state c.in-Ok.concentrator
 opening g c premise =
-    let each : g.D.Disk.keeps c.in-Ok.concentrator.store.disk → EachStands (half_len_of (g.D.Disk.sectors c.args.disk)) (g.D.Disk.choices c.args.disk) = λ h. premise (c.in-Ok.ensures.before h) in
+    let each : g.D.Disk.keeps c.in-Ok.concentrator.store.disk → EachStands (half_of g.D.Disk c.args.disk) (g.D.Disk.choices c.args.disk) = λ h. premise (c.in-Ok.ensures.before h) in
     record {
       budget_is = c.in-Ok.ensures.budget;
-      count = c.in-Ok.ensures.count;
+      count = c.in-Ok.ensures.counts.count;
       at = c.in-Ok.ensures.at each;
       reads_as = λ h. c.in-Ok.ensures.reads h;
       leaves = λ h. c.in-Ok.ensures.any_moment (each h) h;

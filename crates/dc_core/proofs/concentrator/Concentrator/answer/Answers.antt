@@ -17,9 +17,9 @@ returns-in-Repeat g c =
     subst (λ (b : Machine (g.row.D.Denot)). wrote (reply_text b.house line) ⊎ (TakesMemory line × wrote (refusal_line Memory))) c.self.view_is c.write_answer.ensures.told in
     record {
       answered = λ origin core at running. ⊎_elim
-          (λ text. answered_told (g.D.Disk.keeps origin) g.D.Disk.sectors g.D.Disk.failures g.D.Disk.reads g.D.Disk.choices g.D.Disk.moment g.D.Disk.images_since
+          (λ text. answered_told g.D.Disk origin
           machine core line wrote c.judge.result at c.requires.empty (λ h image left. g.met.D.Disk.only_now machine.store.disk image left) is (none_done c.judge.result c.in-Repeat.is) text)
-          (λ memory. answered_untold (g.D.Disk.keeps origin) g.D.Disk.sectors g.D.Disk.failures g.D.Disk.reads g.D.Disk.choices g.D.Disk.moment g.D.Disk.images_since
+          (λ memory. answered_untold g.D.Disk origin
           machine core line wrote at c.requires.empty (λ h image left. g.met.D.Disk.only_now machine.store.disk image left) memory.0 memory.1)
           told;
       count = refl;

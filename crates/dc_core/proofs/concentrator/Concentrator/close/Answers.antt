@@ -1,6 +1,6 @@
 use Rattle.std.proofs.Common.{◌≡◌, sym, subst}
 use Rattle.dc_sectors.specs.Disk.{Image, IsImage}
-use Rattle.dc_recovery.specs.Halves.{half_len_of}
+use Rattle.dc_recovery.specs.Halves.{half_of}
 use Rattle.dc_recovery.specs.Stands.{Stands}
 use Rattle.dc_recovery.specs.Stands.{Reads}
 use Rattle.dc_recovery.proofs.Life.{close_open}
@@ -9,10 +9,10 @@ use Rattle.dc_core.proofs.concentrator.Concentrator.close.Goals as goal
 pub returns-clause-holds : goal.returns-clause-holds
 returns-clause-holds g c origin h core at runs =
     let disk : c.close.result ≡ c.args.self.store.disk = cc in
-    subst (λ (d : g.row.D.Denot). (image : Image) → IsImage (g.D.Disk.choices d) image → Stands (half_len_of (g.D.Disk.sectors d)) core.committed image) (sym disk) (at.stands h runs)
+    subst (λ (d : g.row.D.Denot). (image : Image) → IsImage (g.D.Disk.choices d) image → Stands (half_of g.D.Disk d) core.committed image) (sym disk) (at.stands h runs)
 
 pub returns-clause-reads : goal.returns-clause-reads
 returns-clause-reads g c origin h core at runs state read =
     let disk : c.close.result ≡ c.args.self.store.disk = cc in
-    let there = subst (λ (d : g.row.D.Denot). Reads (half_len_of (g.D.Disk.sectors d)) state (g.D.Disk.reads d)) disk read in
-    close_open g.D.Disk.sectors g.D.Disk.reads g.D.Disk.choices c.args.self.store core.committed state (at.keeps h runs) there
+    let there = subst (λ (d : g.row.D.Denot). Reads (half_of g.D.Disk d) state (g.D.Disk.reads d)) disk read in
+    close_open g.D.Disk c.args.self.store core.committed state (at.keeps h runs) there

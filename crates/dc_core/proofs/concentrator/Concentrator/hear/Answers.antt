@@ -80,7 +80,7 @@ returns-in-Again-clause-at g c origin core at =
     let s = c.in-Some.session in
     let new : Machine (g.row.D.Denot) = record { store = c.self.inside.store; house = c.self.inside.house; waiting = c.self.inside.waiting; lines = c.put.new.self } in
     let there = c.put.ensures ∙ ap (λ (x : Summary). put_on c.args.line (Some x) c.self.inside.lines) c.in-Again.ensures.after ∙ ap (put_on c.args.line (Some (heard_by s again))) is.lines in
-    at_heard (g.D.Disk.keeps origin) g.D.Disk.sectors g.D.Disk.reads g.D.Disk.choices c.args.self.now new core c.args.line c.args.moment.seconds c.args.answer.now s again Again at is.who (sym c.in-Again.ensures.exact) refl is.store is.house is.waiting there
+    at_heard g.D.Disk origin c.args.self.now new core c.args.line c.args.moment.seconds c.args.answer.now s again Again at is.who (sym c.in-Again.ensures.exact) refl is.store is.house is.waiting there
 
 pub returns-in-Ready-clause-at : goal.returns-in-Ready-clause-at
 returns-in-Ready-clause-at g c origin core at =
@@ -88,13 +88,13 @@ returns-in-Ready-clause-at g c origin core at =
     let s = c.in-Some.session in
     let new : Machine (g.row.D.Denot) = record { store = c.self.inside.store; house = c.self.inside.house; waiting = c.self.inside.waiting; lines = c.put-in-Ready.new.self } in
     let there = c.put-in-Ready.ensures ∙ ap (λ (x : Summary). put_on c.args.line (Some x) c.self.inside.lines) c.in-Ready.ensures.after ∙ ap (put_on c.args.line (Some (heard_by s ready))) is.lines in
-    at_heard (g.D.Disk.keeps origin) g.D.Disk.sectors g.D.Disk.reads g.D.Disk.choices c.args.self.now new core c.args.line c.args.moment.seconds c.args.answer.now s ready Ready at is.who (sym c.in-Ready.ensures.exact) refl is.store is.house is.waiting there
+    at_heard g.D.Disk origin c.args.self.now new core c.args.line c.args.moment.seconds c.args.answer.now s ready Ready at is.who (sym c.in-Ready.ensures.exact) refl is.store is.house is.waiting there
 
 pub returns-in-Failed-clause-at : goal.returns-in-Failed-clause-at
 returns-in-Failed-clause-at g c origin core at =
     let is = is_heard g (goal.at.returns-in-Failed-clause-at g c).After-hear in
     let new : Machine (g.row.D.Denot) = record { store = c.self.inside.store; house = c.self.inside.house; waiting = c.self.inside.waiting; lines = c.put-in-Failed.new.self } in
-    at_heard (g.D.Disk.keeps origin) g.D.Disk.sectors g.D.Disk.reads g.D.Disk.choices c.args.self.now new core c.args.line c.args.moment.seconds c.args.answer.now c.in-Some.session (failed c.in-Failed.why) (Failed c.in-Failed.why) at is.who (sym c.in-Failed.ensures.exact) refl is.store is.house is.waiting
+    at_heard g.D.Disk origin c.args.self.now new core c.args.line c.args.moment.seconds c.args.answer.now c.in-Some.session (failed c.in-Failed.why) (Failed c.in-Failed.why) at is.who (sym c.in-Failed.ensures.exact) refl is.store is.house is.waiting
     (c.put-in-Failed.ensures ∙ ap (put_on c.args.line None) is.lines)
 
 pub returns-in_ok-take-in-New-clause-at : goal.returns-in_ok-take-in-New-clause-at
@@ -108,4 +108,4 @@ returns-in_ok-take-in-New-clause-at g c origin core at =
     let there = c.put-in-New.ensures ∙ ap (λ (x : Summary). put_on c.args.line (Some x) c.self.inside.lines) c.in-New.ensures.after ∙ ap (put_on c.args.line (Some (heard_by s v))) is.lines in
     let taken = subst (λ (w : Waiting). IsTaken c.args.self.now.house now.house w now.waiting change) is.waiting
     (subst (λ (h : Held). IsTaken h now.house c.self.inside.waiting now.waiting change) is.house c.in_ok-take-in-New.ensures.ok) in
-    at_taken (g.D.Disk.keeps origin) g.D.Disk.sectors g.D.Disk.reads g.D.Disk.choices c.args.self.now now core c.args.line c.args.moment.seconds c.args.answer.now s v change (Accepted c.in-New.part c.more_follows-more.result) at is.who (sym c.in-New.ensures.exact) refl is.store taken there
+    at_taken g.D.Disk origin c.args.self.now now core c.args.line c.args.moment.seconds c.args.answer.now s v change (Accepted c.in-New.part c.more_follows-more.result) at is.who (sym c.in-New.ensures.exact) refl is.store taken there

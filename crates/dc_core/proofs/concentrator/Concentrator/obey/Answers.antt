@@ -15,7 +15,7 @@ use Rattle.dc_core.proofs.concentrator.Concentrator.obey.Goals as goal
 pub returns-in-Err-clause-answered : goal.returns-in-Err-clause-answered
 returns-in-Err-clause-answered g c origin core at running =
     let wrote : List ℕ → Type 0 = Wrote g.W.Sink c.write_refusal.result c.args.out.now c.write_refusal.new.out in
-    answered_memory (g.D.Disk.keeps origin) g.D.Disk.sectors g.D.Disk.failures g.D.Disk.reads g.D.Disk.choices g.D.Disk.moment g.D.Disk.images_since
+    answered_memory g.D.Disk origin
     c.args.self.now c.order.new.self core c.args.line.now c.args.change.now wrote at c.requires.empty
     (λ h image left. g.met.D.Disk.only_now c.args.self.now.store.disk image left) c.requires.verdict c.in-Err.ensures.err c.write_refusal.ensures
 
@@ -33,7 +33,7 @@ returns-clause-answered g c origin core at running =
     let change = c.args.change.now in
     let at_mid = c.in-Ok.ensures.at origin core at in
     let done = c.in-Ok-settle.ensures.ok origin (ordered change core) at_mid in
-    answered_obeyed (g.D.Disk.keeps origin) g.D.Disk.sectors g.D.Disk.failures g.D.Disk.reads g.D.Disk.choices g.D.Disk.moment g.D.Disk.images_since
+    answered_obeyed g.D.Disk origin
     c.args.self.now c.order.new.self c.settle.new.self core c.args.line.now change wrote at c.requires.empty c.requires.verdict c.in-Ok.ensures.store
     (c.in-Ok-settle.ensures.house ∙ c.in-Ok.ensures.house) done.1
     (λ h. c.in-Ok-settle.ensures.any_moment origin h (ordered change core) at_mid)
@@ -46,7 +46,7 @@ returns-in-Err-settle-clause-answered g c origin core at running =
     let change = c.args.change.now in
     let at_mid = c.in-Ok.ensures.at origin core at in
     let failed = c.in-Err-settle.ensures.err origin (ordered change core) at_mid in
-    answered_uncommitted (g.D.Disk.keeps origin) g.D.Disk.sectors g.D.Disk.failures g.D.Disk.reads g.D.Disk.choices g.D.Disk.moment g.D.Disk.images_since
+    answered_uncommitted g.D.Disk origin
     c.args.self.now c.order.new.self c.settle.new.self core c.args.line.now change c.in-Err-settle.field-0 wrote at c.requires.empty c.requires.verdict c.in-Ok.ensures.store
     failed.0 failed.1 c.in-Err-settle.ensures.failed
     (λ h. c.in-Err-settle.ensures.any_moment origin h (ordered change core) at_mid)

@@ -10,6 +10,6 @@ pub returns-in-Ok-clause-turned : goal.returns-in-Ok-clause-turned
 returns-in-Ok-clause-turned g c origin core at =
     let told : Result (Unit {0}) IoFault = Ok tt in
     let answered : Result (Unit {0}) WriteFault = Ok tt in
-    turned_by (g.D.Disk.keeps origin) g.D.Disk.sectors g.D.Disk.failures g.D.Disk.reads g.D.Disk.choices g.D.Disk.moment g.D.Disk.images_since
+    turned_by g.D.Disk origin
     c.args.self.now c.reply.new.self core (offices c.args.line.now) (Wrote g.W.Sink told c.args.out.now c.reply.new.out) (Wrote g.W.Sink answered c.args.out.now c.reply.new.out)
     (λ text wrote. wrote) (c.in-Ok.ensures.turned origin core at)

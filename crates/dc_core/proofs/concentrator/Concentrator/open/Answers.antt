@@ -1,5 +1,5 @@
 use Rattle.std.proofs.Common.{rules, ap, sym, subst}
-use Rattle.dc_recovery.specs.Halves.{half_len_of}
+use Rattle.dc_recovery.specs.Halves.{half_of}
 use Rattle.dc_recovery.specs.Stands.{EachStands}
 use Rattle.dc_pending.specs.Waiting.{Waiting}
 use Rattle.dc_core.specs.Images.{Machine}
@@ -10,18 +10,18 @@ use Rattle.dc_core.proofs.concentrator.Concentrator.open.Goals as goal
 pub returns-clause-at : goal.returns-clause-at
 returns-clause-at g c each =
     let new : Machine (g.row.D.Denot) = record { store = c.in_ok-store.store; house = c.in_ok-store.house; waiting = c.new.result; lines = c.new-2.result } in
-    at_opened (g.D.Disk.keeps c.in_ok-store.store.disk) g.D.Disk.sectors g.D.Disk.reads g.D.Disk.choices new c.in_ok-store.ensures.running (λ h. c.in_ok-store.ensures.kept (each h) h) c.new.ensures c.new-2.ensures
+    at_opened g.D.Disk c.in_ok-store.store.disk new c.in_ok-store.ensures.running (λ h. c.in_ok-store.ensures.kept (each h) h) c.new.ensures c.new-2.ensures
 
 pub returns-clause-the_headline : goal.returns-clause-the_headline
 returns-clause-the_headline g c state done more was =
     let disk = c.args.disk in
     let new : Machine (g.row.D.Denot) = record { store = c.in_ok-store.store; house = c.in_ok-store.house; waiting = c.new.result; lines = c.new-2.result } in
     let opens = stopped_reads g.D.Disk g.met.D.Disk.only_now state done more was in
-    let each = subst (EachStands (half_len_of (g.D.Disk.sectors disk))) (sym opens.is_settled) opens.each in (
+    let each = subst (EachStands (half_of g.D.Disk disk)) (sym opens.is_settled) opens.each in (
       each,
       λ h. (
         opens.kept new.house.state (c.in_ok-store.ensures.reads h),
-        at_opened (g.D.Disk.keeps new.store.disk) g.D.Disk.sectors g.D.Disk.reads g.D.Disk.choices new c.in_ok-store.ensures.running (c.in_ok-store.ensures.kept each) c.new.ensures c.new-2.ensures,
+        at_opened g.D.Disk new.store.disk new c.in_ok-store.ensures.running (c.in_ok-store.ensures.kept each) c.new.ensures c.new-2.ensures,
       ),
       λ enough. tt,
     )
@@ -29,7 +29,7 @@ returns-clause-the_headline g c state done more was =
 pub returns-in_err-store-clause-the_headline : goal.returns-in_err-store-clause-the_headline
 returns-in_err-store-clause-the_headline g c state done more was =
     let opens = stopped_reads g.D.Disk g.met.D.Disk.only_now state done more was in
-    let each = subst (EachStands (half_len_of (g.D.Disk.sectors c.args.disk))) (sym opens.is_settled) opens.each in
+    let each = subst (EachStands (half_of g.D.Disk c.args.disk)) (sym opens.is_settled) opens.each in
     (each, search rules, λ enough. let named = c.in_err-store.ensures.premise enough each in search rules)
 
 pub returns-clause-empty : goal.returns-clause-empty

@@ -22,7 +22,7 @@ next_events events i event within is =
 
 pub loop-event-init : goal.loop-event-init
 loop-event-init g c = record {
-  ran = λ origin state before chain at. ran_none (g.D.Disk.keeps origin) g.D.Disk.sectors g.D.Disk.failures g.D.Disk.reads g.D.Disk.choices g.D.Disk.moment g.D.Disk.images_since c.args.self.now.house.budget state before (Puts (g.W.Sink.written c.args.out.now) (g.W.Sink.written c.args.out.now)) c.args.self.now chain at
+  ran = λ origin state before chain at. ran_none g.D.Disk origin c.args.self.now.house.budget state before (Puts (g.W.Sink.written c.args.out.now) (g.W.Sink.written c.args.out.now)) c.args.self.now chain at
       (λ h image left. g.met.D.Disk.only_now c.args.self.now.store.disk image left) (puts-none (g.W.Sink.written c.args.out.now));
   budget = refl;
   well = refl;
@@ -39,11 +39,11 @@ loop-event-preserved g c = record {
       let ran = c.loop-event.invariant.ran origin state before chain at in
       let core = leads (opened state) (before ++ ran.turns) in
       let piece : List ℕ → Type 0 = Wrote g.W.Sink done c.loop-event.out c.turn.new.out in
-      let turned = subst (λ (b : ℕ). Turned (g.D.Disk.keeps origin) g.D.Disk.sectors g.D.Disk.failures g.D.Disk.reads g.D.Disk.choices g.D.Disk.moment g.D.Disk.images_since b core (event_of event) piece c.loop-event.self new) c.loop-event.invariant.budget (c.in-Ok.ensures.turned origin core ran.at) in
-      let more = ran_more (g.D.Disk.keeps origin) g.D.Disk.sectors g.D.Disk.failures g.D.Disk.reads g.D.Disk.choices g.D.Disk.moment g.D.Disk.images_since c.args.self.now.house.budget state before (map event_of (take i events)) (event_of event)
+      let turned = subst (λ (b : ℕ). Turned g.D.Disk origin b core (event_of event) piece c.loop-event.self new) c.loop-event.invariant.budget (c.in-Ok.ensures.turned origin core ran.at) in
+      let more = ran_more g.D.Disk origin c.args.self.now.house.budget state before (map event_of (take i events)) (event_of event)
       (Puts (g.W.Sink.written c.args.out.now) (g.W.Sink.written c.loop-event.out)) piece (Puts (g.W.Sink.written c.args.out.now) (g.W.Sink.written c.turn.new.out)) c.args.self.now c.loop-event.self new ran turned c.in-Ok.ensures.count
       (λ text piece_text front piece. puts-both (g.W.Sink.written c.args.out.now) (g.W.Sink.written c.loop-event.out) (g.W.Sink.written c.turn.new.out) text piece_text front piece.0) in
-      let all = subst (λ (es : List Event). Ran (g.D.Disk.keeps origin) g.D.Disk.sectors g.D.Disk.failures g.D.Disk.reads g.D.Disk.choices g.D.Disk.moment g.D.Disk.images_since c.args.self.now.house.budget state before es (Puts (g.W.Sink.written c.args.out.now) (g.W.Sink.written c.turn.new.out)) c.args.self.now new)
+      let all = subst (λ (es : List Event). Ran g.D.Disk origin c.args.self.now.house.budget state before es (Puts (g.W.Sink.written c.args.out.now) (g.W.Sink.written c.turn.new.out)) c.args.self.now new)
       (sym (next_events events i event c.loop-event-test.true c.event-item.is)) more in
       all;
   budget = c.in-Ok.ensures.budget ∙ c.loop-event.invariant.budget;
@@ -64,9 +64,9 @@ returns-in-Err-clause-ended g c origin state before chain at =
     let mid_out = c.loop-event.out in
     let new_out = c.turn.new.out in
     let piece : List ℕ → Type 0 = Wrote g.W.Sink c.turn.result mid_out new_out in
-    let turned = subst (λ (b : ℕ). Turned (g.D.Disk.keeps origin) g.D.Disk.sectors g.D.Disk.failures g.D.Disk.reads g.D.Disk.choices g.D.Disk.moment g.D.Disk.images_since b core (event_of event) piece c.loop-event.self new) c.loop-event.invariant.budget (c.turn.ensures.turned origin core ran.at) in
-    let RanOf : List Event → Type 0 = λ es. Ran (g.D.Disk.keeps origin) g.D.Disk.sectors g.D.Disk.failures g.D.Disk.reads g.D.Disk.choices g.D.Disk.moment g.D.Disk.images_since c.args.self.now.house.budget state before es (λ text. Unit {0}) c.args.self.now new in
-    let more = ran_more (g.D.Disk.keeps origin) g.D.Disk.sectors g.D.Disk.failures g.D.Disk.reads g.D.Disk.choices g.D.Disk.moment g.D.Disk.images_since c.args.self.now.house.budget state before (map event_of (take i events)) (event_of event)
+    let turned = subst (λ (b : ℕ). Turned g.D.Disk origin b core (event_of event) piece c.loop-event.self new) c.loop-event.invariant.budget (c.turn.ensures.turned origin core ran.at) in
+    let RanOf : List Event → Type 0 = λ es. Ran g.D.Disk origin c.args.self.now.house.budget state before es (λ text. Unit {0}) c.args.self.now new in
+    let more = ran_more g.D.Disk origin c.args.self.now.house.budget state before (map event_of (take i events)) (event_of event)
     (Puts (written old_out) (written mid_out)) piece (λ text. Unit {0}) c.args.self.now c.loop-event.self new ran turned c.turn.ensures.count
     (λ text piece_text front piece. tt) in
     let Whole : List Event → Type 0 = λ es. (all : RanOf es) × FailedInLast g.W.Sink all.turns old_out new_out in
@@ -95,6 +95,6 @@ returns-clause-ran g c origin state before chain at =
     let within = c.loop-event.auto.event-index-end in
     let i : c.loop-event.event-index ≡ length events = omega (arith, past, within) in
     let e : take c.loop-event.event-index events ≡ events = ap (λ (n : ℕ). take n events) i ∙ take-length events in
-    subst (λ (es : List declared.Event). Ran (g.D.Disk.keeps origin) g.D.Disk.sectors g.D.Disk.failures g.D.Disk.reads g.D.Disk.choices g.D.Disk.moment g.D.Disk.images_since c.args.self.now.house.budget state before (map event_of es)
+    subst (λ (es : List declared.Event). Ran g.D.Disk origin c.args.self.now.house.budget state before (map event_of es)
     (Puts (g.W.Sink.written c.args.out.now) (g.W.Sink.written c.loop-event.out)) c.args.self.now c.loop-event.self) e
     (c.loop-event.invariant.ran origin state before chain at)

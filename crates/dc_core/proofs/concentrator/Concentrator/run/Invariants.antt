@@ -9,8 +9,8 @@ use Rattle.dc_core.proofs.concentrator.Concentrator.run.Given as goal
 
 abbrev pub invariant-loop-event : goal.invariant-loop-event
 invariant-loop-event g l = record {
-  ran : (origin : g.row.D.Denot) (state : State) (before : List Turn) → IsChain l.fn.self.house.budget (opened state) before → IsAt (g.D.Disk.keeps origin) g.D.Disk.sectors g.D.Disk.reads g.D.Disk.choices l.fn.self (leads (opened state) before)
-      → Ran (g.D.Disk.keeps origin) g.D.Disk.sectors g.D.Disk.failures g.D.Disk.reads g.D.Disk.choices g.D.Disk.moment g.D.Disk.images_since l.fn.self.house.budget state before (map event_of (take l.event-index l.events)) (Puts (g.W.Sink.written l.fn.out) (g.W.Sink.written l.out)) l.fn.self l.self;
+  ran : (origin : g.row.D.Denot) (state : State) (before : List Turn) → IsChain l.fn.self.house.budget (opened state) before → IsAt g.D.Disk origin l.fn.self (leads (opened state) before)
+      → Ran g.D.Disk origin l.fn.self.house.budget state before (map event_of (take l.event-index l.events)) (Puts (g.W.Sink.written l.fn.out) (g.W.Sink.written l.out)) l.fn.self l.self;
   budget : l.self.house.budget ≡ l.fn.self.house.budget;
   well : g.W.Sink.put_failures l.out ≡ g.W.Sink.put_failures l.fn.out;
 }

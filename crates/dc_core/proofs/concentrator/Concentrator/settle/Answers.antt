@@ -22,4 +22,4 @@ returns-in-Err-clause-err g c origin core at = (unstored_by core c.in-Err.fault 
 
 pub returns-in-Err-clause-failed : goal.returns-in-Err-clause-failed
 returns-in-Err-clause-failed g c =
-    commit_shown g.D.Disk.failures c.args.self.now c.commit.new.self (Err c.in-Err.fault) c.in-Err.ensures.device c.in-Err.ensures.worn c.in-Err.ensures.unchanged
+    commit_shown g.D.Disk c.args.self.now c.commit.new.self (Err c.in-Err.fault) c.in-Err.ensures.counts.failed c.in-Err.ensures.worn c.in-Err.ensures.unchanged

@@ -24,5 +24,5 @@ returns-clause-at g c origin core at =
     let begins : c.start.result ≡ begun meter row.address = c.start.ensures.exact ∙ ap (begun meter) c.address-address.ensures.address in
     let put : c.put.new.self ≡ put_on line (Some (begun meter row.address)) machine.lines =
     c.put.ensures ∙ ap (λ (s : Summary). put_on line (Some s) inside.lines) begins ∙ ap (put_on line (Some (begun meter row.address))) lines in
-    subst (λ (r : Option MeterRow). IsAt (g.D.Disk.keeps origin) g.D.Disk.sectors g.D.Disk.reads g.D.Disk.choices new (with_session line (Some (begun meter (address_in r))) core)) (sym registered)
-    (at_line (g.D.Disk.keeps origin) g.D.Disk.sectors g.D.Disk.reads g.D.Disk.choices machine new core line (Some (begun meter row.address)) at store house waiting put)
+    subst (λ (r : Option MeterRow). IsAt g.D.Disk origin new (with_session line (Some (begun meter (address_in r))) core)) (sym registered)
+    (at_line g.D.Disk origin machine new core line (Some (begun meter row.address)) at store house waiting put)

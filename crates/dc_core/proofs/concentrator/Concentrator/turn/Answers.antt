@@ -1,6 +1,6 @@
 use Rattle.std.proofs.Common.{refl, [], ◌++◌}
 use Rattle.dc_sectors.proofs.Moments.{weakened}
-use Rattle.dc_recovery.specs.Halves.{half_len_of}
+use Rattle.dc_recovery.specs.Halves.{half_of}
 use Rattle.dc_recovery.specs.Stands.{StandsForFront}
 use Rattle.dc_recovery.proofs.Fronts.{longer_front}
 use Rattle.dc_core.specs.Event.{starts, asks, hears, started, asked, heard, committed}
@@ -12,7 +12,7 @@ pub returns-in-Start-clause-turned : goal.returns-in-Start-clause-turned
 returns-in-Start-clause-turned g c origin core at =
     let machine = c.args.self.now in
     rw c.in-Start.is
-    (turned_at_rest (g.D.Disk.keeps origin) g.D.Disk.sectors g.D.Disk.failures g.D.Disk.reads g.D.Disk.choices g.D.Disk.moment g.D.Disk.images_since machine.house.budget
+    (turned_at_rest g.D.Disk origin machine.house.budget
     machine c.start-answer.new.self core (starts c.in-Start.line c.in-Start.meter) (started c.start-answer.result) _ refl
     (c.start-answer.ensures.may origin core at) c.put_started.ensures at (c.start-answer.ensures.at origin core at) c.start-answer.ensures.store (λ h. g.met.D.Disk.only_now machine.store.disk))
 
@@ -20,7 +20,7 @@ pub returns-in-Ask-clause-turned : goal.returns-in-Ask-clause-turned
 returns-in-Ask-clause-turned g c origin core at =
     let machine = c.args.self.now in
     rw c.in-Ask.is
-    (turned_at_rest (g.D.Disk.keeps origin) g.D.Disk.sectors g.D.Disk.failures g.D.Disk.reads g.D.Disk.choices g.D.Disk.moment g.D.Disk.images_since machine.house.budget
+    (turned_at_rest g.D.Disk origin machine.house.budget
     machine machine core (asks c.in-Ask.line) (asked c.ask-answer.result) _ refl
     (c.ask-answer.ensures.may origin core at) c.put_asked.ensures at at refl (λ h. g.met.D.Disk.only_now machine.store.disk))
 
@@ -28,7 +28,7 @@ pub returns-in-Hear-clause-turned : goal.returns-in-Hear-clause-turned
 returns-in-Hear-clause-turned g c origin core at =
     let machine = c.args.self.now in
     rw c.in-Hear.is
-    (turned_at_rest (g.D.Disk.keeps origin) g.D.Disk.sectors g.D.Disk.failures g.D.Disk.reads g.D.Disk.choices g.D.Disk.moment g.D.Disk.images_since machine.house.budget
+    (turned_at_rest g.D.Disk origin machine.house.budget
     machine c.hear-answer.new.self core (hears c.in-Hear.line c.in-Hear.moment.seconds c.in-Hear.bytes.now) (heard c.hear-answer.result) _ refl
     (c.hear-answer.ensures.may origin core at) c.put_heard.ensures at (c.hear-answer.ensures.at origin core at) c.hear-answer.ensures.store (λ h. g.met.D.Disk.only_now machine.store.disk))
 
@@ -36,14 +36,14 @@ pub returns-in-Commit-clause-turned : goal.returns-in-Commit-clause-turned
 returns-in-Commit-clause-turned g c origin core at =
     let machine = c.args.self.now in
     let new = c.commit-answer.new.self in
-    let H = half_len_of (g.D.Disk.sectors machine.store.disk) in
+    let H = half_of g.D.Disk machine.store.disk in
     rw c.in-Commit.is (record {
       answer = committed c.commit-answer.result;
       may = c.commit-answer.ensures.may origin core at;
       text = c.put_committed.ensures;
       at = c.commit-answer.ensures.at origin core at;
-      failed = commit_shown g.D.Disk.failures machine new c.commit-answer.result c.commit-answer.ensures.device c.commit-answer.ensures.worn c.commit-answer.ensures.unchanged;
-      leaves = λ h. weakened g.D.Disk.moment g.D.Disk.images_since machine.store.disk new.store.disk (StandsForFront H core.committed core.pending) (StandsForFront H core.committed (core.pending ++ []))
+      failed = commit_shown g.D.Disk machine new c.commit-answer.result c.commit-answer.ensures.counts.failed c.commit-answer.ensures.worn c.commit-answer.ensures.unchanged;
+      leaves = λ h. weakened g.D.Disk machine.store.disk new.store.disk (StandsForFront H core.committed core.pending) (StandsForFront H core.committed (core.pending ++ []))
           (c.commit-answer.ensures.any_moment origin h core at) (longer_front H core.committed core.pending []);
     })
 

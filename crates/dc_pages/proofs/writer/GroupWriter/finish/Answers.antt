@@ -12,16 +12,16 @@ use Rattle.dc_pages.proofs.writer.GroupWriter.finish.Goals.{After-flush_page, Af
 use Rattle.dc_pages.proofs.writer.GroupWriter.finish.Goals as goal
 
 -- the payload's last piece is in the buffer
-last_piece : (g : Over) (c : After-flush_page g) (start : g.row.D.Denot) (payload : List ℕ) → IsGoing g.D.Disk.reads g.D.Disk.choices g.D.Disk.moment g.D.Disk.images_since start c.args.disk.now c.args.self payload
+last_piece : (g : Over) (c : After-flush_page g) (start : g.row.D.Denot) (payload : List ℕ) → IsGoing g.D.Disk start c.args.disk.now c.args.self payload
     → c.args.self.buffer ≡ piece c.args.self.pages payload
 last_piece g c start payload is =
     let long = buffer_long c.self.inside.used c.self.inside.page c.args.self.buffer c.self.invariant (ap (λ (d : Draft). d.buffer) c.self.view_is) in
     let small = c.self.invariant.small in
-    next_piece g.D.Disk.reads g.D.Disk.choices g.D.Disk.moment g.D.Disk.images_since start c.args.disk.now c.args.self payload (omega arith) is
+    next_piece g.D.Disk start c.args.disk.now c.args.self payload (omega arith) is
 
 -- THE COMMIT SECTOR CLOSES THE GROUP, whatever its write answers.
-closed_by : (g : Over) (c : After-write g) → (start : g.row.D.Denot) (payload : List ℕ) → IsGoing g.D.Disk.reads g.D.Disk.choices g.D.Disk.moment g.D.Disk.images_since start c.args.disk.now c.args.self payload
-    → IsClosed g.D.Disk.moment g.D.Disk.images_since start c.write.new.self (g.D.Disk.reads start) c.args.self.site c.args.self.session (c.args.self.pages + 1) payload
+closed_by : (g : Over) (c : After-write g) → (start : g.row.D.Denot) (payload : List ℕ) → IsGoing g.D.Disk start c.args.disk.now c.args.self payload
+    → IsClosed g.D.Disk start c.write.new.self (g.D.Disk.reads start) c.args.self.site c.args.self.session (c.args.self.pages + 1) payload
     (put (g.D.Disk.reads c.flush_page.new.disk) (c.self.inside.site.first + (c.self.inside.index + 1)) c.write_head.new.sector)
 closed_by g c start payload is =
     let draft = c.args.self in
@@ -35,8 +35,8 @@ closed_by g c start payload is =
     let at_is : inside.site.first + (inside.index + 1) ≡ draft.site.first + (draft.pages + 1) = ap (λ (d : Draft). d.site.first + (d.pages + 1)) c.self.view_is in
     let sector_is : c.write_head.new.sector ≡ commit_bytes draft.site draft.session (draft.pages + 1)
     = c.write_head.ensures ∙ ap (λ (d : Draft). head_bytes commit_kind d.site.version 0 (d.pages + 1) d.session d.site.sequence ++ drop 24 (replicate 512 0)) c.self.view_is ∙ committed draft.site draft.session (draft.pages + 1) in
-    let last = next_piece g.D.Disk.reads g.D.Disk.choices g.D.Disk.moment g.D.Disk.images_since start c.args.disk.now draft payload (omega arith) is in
-    closes g.D.Disk.reads g.D.Disk.choices g.D.Disk.moment g.D.Disk.images_since c.args.disk.now c.flush_page.new.disk c.write.new.self draft (inside.site.first + (inside.index + 1)) c.write_head.new.sector at_is sector_is
+    let last = next_piece g.D.Disk start c.args.disk.now draft payload (omega arith) is in
+    closes g.D.Disk c.args.disk.now c.flush_page.new.disk c.write.new.self draft (inside.site.first + (inside.index + 1)) c.write_head.new.sector at_is sector_is
     (omega arith) (omega arith) (omega arith) (omega arith) c.requires.some (omega arith) (c.write.ensures.time) start payload is
     (c.in_ok-flush_page.ensures.on_disk start payload last is.on_disk)
 
@@ -63,7 +63,7 @@ returns-in_err-write-clause-any_moment g c start payload is =
 pub returns-clause-closed : goal.returns-clause-closed
 returns-clause-closed g c start payload is =
     let draft = c.args.self in
-    subst (λ (image : Image). IsClosed g.D.Disk.moment g.D.Disk.images_since start c.write.new.self (g.D.Disk.reads start) draft.site draft.session (draft.pages + 1) payload image)
+    subst (λ (image : Image). IsClosed g.D.Disk start c.write.new.self (g.D.Disk.reads start) draft.site draft.session (draft.pages + 1) payload image)
     (sym (c.in_ok-write.ensures.reads)) (closed_by g (goal.at.returns-clause-closed g c).After-write start payload is)
 
 pub returns-in_err-write-clause-elsewhere : goal.returns-in_err-write-clause-elsewhere

@@ -34,10 +34,10 @@ page g c =
     page_written inside.site inside.session inside.index inside.used inside.page c.write_head.new.sector _ c.self.invariant c.write_head.ensures (omega arith) (omega arith) (omega arith) refl
 
 -- whatever the write answers
-leaves : (g : Over) (c : After-write g) → LeavesPart g.D.Disk.reads g.D.Disk.choices g.D.Disk.moment g.D.Disk.images_since c.args.disk.now c.write.new.self c.args.self.now
+leaves : (g : Over) (c : After-write g) → LeavesPart g.D.Disk c.args.disk.now c.write.new.self c.args.self.now
 leaves g c =
-    subst (LeavesPart g.D.Disk.reads g.D.Disk.choices g.D.Disk.moment g.D.Disk.images_since c.args.disk.now c.write.new.self) c.self.view_is
-    (leaves_part g.D.Disk.reads g.D.Disk.choices g.D.Disk.moment g.D.Disk.images_since c.args.disk.now c.write.new.self (draft_of g c) c.write_head.new.sector (fits g c) (page g c) (c.write.ensures.time))
+    subst (LeavesPart g.D.Disk c.args.disk.now c.write.new.self) c.self.view_is
+    (leaves_part g.D.Disk c.args.disk.now c.write.new.self (draft_of g c) c.write_head.new.sector (fits g c) (page g c) (c.write.ensures.time))
 
 pub returns-in_err-write-clause-any_moment : goal.returns-in_err-write-clause-any_moment
 returns-in_err-write-clause-any_moment g c = leaves g (goal.at.returns-in_err-write-clause-any_moment g c).After-write
@@ -48,8 +48,8 @@ returns-clause-any_moment g c = leaves g (goal.at.returns-clause-any_moment g c)
 pub returns-clause-on_disk : goal.returns-clause-on_disk
 returns-clause-on_disk g c =
     let c' = (goal.at.returns-clause-on_disk g c).After-write in
-    subst (Flushes g.D.Disk.reads g.D.Disk.choices g.D.Disk.moment g.D.Disk.images_since c.args.disk.now c.write.new.self) c.self.view_is
-    (flushes g.D.Disk.reads g.D.Disk.choices g.D.Disk.moment g.D.Disk.images_since c.args.disk.now c.write.new.self (draft_of g c') c.write_head.new.sector (fits g c') (page g c')
+    subst (Flushes g.D.Disk c.args.disk.now c.write.new.self) c.self.view_is
+    (flushes g.D.Disk c.args.disk.now c.write.new.self (draft_of g c') c.write_head.new.sector (fits g c') (page g c')
     (c.write.ensures.time) (c.in_ok-write.ensures.reads) (c.in_ok-write.ensures.choices))
 
 spares : (g : Over) (c : After-write g) → SameOutside c.args.self.now.site (g.D.Disk.reads c.args.disk.now) (g.D.Disk.reads c.write.new.self)

@@ -1,6 +1,6 @@
 use Rattle.std.proofs.Common.{◌≡◌, ◌+◌, ◌-◌, ◌++◌, List, ℕ, length, take, drop, arith, ap, subst, sym, ◌∙◌}
 use Rattle.std.proofs.lemmas.List.{take_all, append_assoc, length-append}
-use Rattle.dc_sectors.specs.Disk.{LeavesOnly}
+use Rattle.dc_sectors.specs.Runs.{LeavesOnly}
 use Rattle.dc_pages.specs.Draft.{Draft}
 use Rattle.dc_pages.specs.Writing.{SameOutside, IsGoing, IsPartOf}
 use Rattle.dc_pages.proofs.Buffers.{part_taken, take-further}
@@ -10,7 +10,7 @@ use Rattle.dc_pages.proofs.writer.GroupWriter.put.Goals as goal
 pub returns-in_err-make_room-clause-any_moment : goal.returns-in_err-make_room-clause-any_moment
 returns-in_err-make_room-clause-any_moment g c start payload is =
     let so_far = c.loop-at.invariant in
-    let P : Draft → Type 0 = λ d. LeavesOnly g.D.Disk.moment g.D.Disk.images_since start c.make_room.new.disk (IsPartOf d.site d.session (g.D.Disk.reads start)) in
+    let P : Draft → Type 0 = λ d. LeavesOnly g.D.Disk start c.make_room.new.disk (IsPartOf d.site d.session (g.D.Disk.reads start)) in
     subst P so_far.same (c.make_room.ensures.any_moment start _ (so_far.going start payload is))
 
 pub returns-in_err-make_room-clause-elsewhere : goal.returns-in_err-make_room-clause-elsewhere
@@ -22,13 +22,13 @@ returns-in_err-make_room-clause-elsewhere g c m out =
 pub returns-clause-any_moment : goal.returns-clause-any_moment
 returns-clause-any_moment g c start payload is =
     let so_far = c.loop-at.invariant in
-    let P : Draft → Type 0 = λ d. LeavesOnly g.D.Disk.moment g.D.Disk.images_since start c.loop-at.disk (IsPartOf d.site d.session (g.D.Disk.reads start)) in
+    let P : Draft → Type 0 = λ d. LeavesOnly g.D.Disk start c.loop-at.disk (IsPartOf d.site d.session (g.D.Disk.reads start)) in
     subst P so_far.same (so_far.going start payload is).on_disk.any_moment
 
 pub returns-clause-going : goal.returns-clause-going
 returns-clause-going g c start payload is =
     let so_far = c.loop-at.invariant in
-    subst (λ (l : List ℕ). IsGoing g.D.Disk.reads g.D.Disk.choices g.D.Disk.moment g.D.Disk.images_since start c.loop-at.disk c.loop-at.self (payload ++ l)) (take_all c.loop-at.at c.args.bytes.now (omega arith)) (so_far.going start payload is)
+    subst (λ (l : List ℕ). IsGoing g.D.Disk start c.loop-at.disk c.loop-at.self (payload ++ l)) (take_all c.loop-at.at c.args.bytes.now (omega arith)) (so_far.going start payload is)
 
 pub loop-at-preserved : goal.loop-at-preserved
 loop-at-preserved g c =
@@ -55,15 +55,15 @@ loop-at-preserved g c =
       length = omega arith;
       same = same_through c.args.self.now roomy new (same_through c.args.self.now c.loop-at.self roomy so_far.same room.same) (same_filled roomy new (roomy.buffer ++ take count (drop at bytes)) filled);
       going = λ start payload is.
-          subst (λ (d : Draft). IsGoing g.D.Disk.reads g.D.Disk.choices g.D.Disk.moment g.D.Disk.images_since start c.make_room.new.disk d (payload ++ take (at + count) bytes)) (sym filled)
-          (subst (λ (l : List ℕ). IsGoing g.D.Disk.reads g.D.Disk.choices g.D.Disk.moment g.D.Disk.images_since start c.make_room.new.disk (record roomy { buffer = roomy.buffer ++ take count (drop at bytes) }) l)
+          subst (λ (d : Draft). IsGoing g.D.Disk start c.make_room.new.disk d (payload ++ take (at + count) bytes)) (sym filled)
+          (subst (λ (l : List ℕ). IsGoing g.D.Disk start c.make_room.new.disk (record roomy { buffer = roomy.buffer ++ take count (drop at bytes) }) l)
           (append_assoc payload (take at bytes) (take count (drop at bytes)) ∙ ap (λ (l : List ℕ). payload ++ l) (sym (take-further at count bytes)))
-          (going_filled g.D.Disk.reads g.D.Disk.choices g.D.Disk.moment g.D.Disk.images_since start c.make_room.new.disk roomy (payload ++ take at bytes) (take count (drop at bytes))
+          (going_filled g.D.Disk start c.make_room.new.disk roomy (payload ++ take at bytes) (take count (drop at bytes))
           (room.going start (payload ++ take at bytes) (so_far.going start payload is))));
       elsewhere = λ m out.
           subst (λ (d : Draft). SameOutside d.site (g.D.Disk.reads c.loop-at.disk) (g.D.Disk.reads c.make_room.new.disk)) so_far.same c.make_room.ensures.elsewhere m out
           ∙ so_far.elsewhere m out;
       before = λ kept. so_far.before (room.before kept);
-      count = c.in_ok-make_room.ensures.count ∙ so_far.count;
-      failures = c.in_ok-make_room.ensures.passed ∙ so_far.failures;
+      count = c.in_ok-make_room.ensures.counts.count ∙ so_far.count;
+      failures = c.in_ok-make_room.ensures.counts.passed (λ is. cc is) ∙ so_far.failures;
     }

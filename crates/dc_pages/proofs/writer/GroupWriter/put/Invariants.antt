@@ -9,8 +9,8 @@ invariant-loop-at g l = record {
   some : 0 < length l.fn.self.buffer + l.at → 0 < length l.self.buffer;
   length : draft_len l.self ≡ draft_len l.fn.self + l.at;
   same : l.self ≡ record l.fn.self { pages = l.self.pages; buffer = l.self.buffer };
-  going : (start : g.row.D.Denot) (payload : List ℕ) → IsGoing g.D.Disk.reads g.D.Disk.choices g.D.Disk.moment g.D.Disk.images_since start l.fn.disk l.fn.self payload
-      → IsGoing g.D.Disk.reads g.D.Disk.choices g.D.Disk.moment g.D.Disk.images_since start l.disk l.self (payload ++ take l.at l.bytes);
+  going : (start : g.row.D.Denot) (payload : List ℕ) → IsGoing g.D.Disk start l.fn.disk l.fn.self payload
+      → IsGoing g.D.Disk start l.disk l.self (payload ++ take l.at l.bytes);
   elsewhere : SameOutside l.fn.self.site (g.D.Disk.reads l.fn.disk) (g.D.Disk.reads l.disk);
   before : g.D.Disk.keeps l.disk → g.D.Disk.keeps l.fn.disk;
   count : g.D.Disk.sectors l.disk ≡ g.D.Disk.sectors l.fn.disk;

@@ -1,6 +1,6 @@
 use Rattle.std.proofs.Common.{◌≡◌, ◌≤◌, ◌+◌, ℕ, ap, subst, sym, ◌∙◌, refl}
-use Rattle.dc_sectors.specs.Disk.{LeavesOnly}
-use Rattle.dc_recovery.specs.Halves.{half_len_of, SparesRest}
+use Rattle.dc_sectors.specs.Runs.{LeavesOnly}
+use Rattle.dc_recovery.specs.Halves.{half_of, half_len_of, SparesRest}
 use Rattle.dc_roots.specs.declared.root.Root.{Root}
 use Rattle.dc_recovery.specs.Roots.{IsOpenedRoot}
 use Rattle.dc_recovery.specs.Stands.{EachStands, StandsForOne, IsReady, ReadsBy}
@@ -12,8 +12,8 @@ pub returns-in-Ok-clause-kept : goal.returns-in-Ok-clause-kept
 returns-in-Ok-clause-kept g c each h =
     let found = c.in-Ok.found in
     let disk = c.open_on.new.disk in
-    let at : c.half_len_of.result ≡ half_len_of (g.D.Disk.sectors c.args.disk) = c.half_len_of.ensures.exact ∙ ap half_len_of c.count-count.ensures in
-    let same : c.half_len_of.result ≡ half_len_of (g.D.Disk.sectors disk) = at ∙ ap half_len_of (sym c.open_on.ensures.count) in
+    let at : c.half_len_of.result ≡ half_of g.D.Disk c.args.disk = c.half_len_of.ensures.exact ∙ ap half_len_of c.count-count.ensures in
+    let same : c.half_len_of.result ≡ half_of g.D.Disk disk = at ∙ ap half_len_of (sym c.open_on.ensures.counts.count) in
     let ready = c.in-Ok.ensures.ready h (subst (λ (n : ℕ). EachStands n (g.D.Disk.choices c.args.disk)) (sym at) each) in
     record {
       running = refl;
@@ -26,42 +26,42 @@ returns-in-Ok-clause-kept g c each h =
 
 pub returns-in-Ok-clause-any_moment : goal.returns-in-Ok-clause-any_moment
 returns-in-Ok-clause-any_moment g c each h =
-    let at : c.half_len_of.result ≡ half_len_of (g.D.Disk.sectors c.args.disk) = c.half_len_of.ensures.exact ∙ ap half_len_of c.count-count.ensures in
-    subst (λ (n : ℕ). LeavesOnly g.D.Disk.moment g.D.Disk.images_since c.args.disk c.open_on.new.disk (StandsForOne n (g.D.Disk.choices c.args.disk))) at
+    let at : c.half_len_of.result ≡ half_of g.D.Disk c.args.disk = c.half_len_of.ensures.exact ∙ ap half_len_of c.count-count.ensures in
+    subst (λ (n : ℕ). LeavesOnly g.D.Disk c.args.disk c.open_on.new.disk (StandsForOne n (g.D.Disk.choices c.args.disk))) at
     (c.open_on.ensures.any_moment h (subst (λ (n : ℕ). EachStands n (g.D.Disk.choices c.args.disk)) (sym at) each))
 
 pub returns-in-Err-clause-any_moment : goal.returns-in-Err-clause-any_moment
 returns-in-Err-clause-any_moment g c each h =
-    let at : c.half_len_of.result ≡ half_len_of (g.D.Disk.sectors c.args.disk) = c.half_len_of.ensures.exact ∙ ap half_len_of c.count-count.ensures in
-    subst (λ (n : ℕ). LeavesOnly g.D.Disk.moment g.D.Disk.images_since c.args.disk c.open_on.new.disk (StandsForOne n (g.D.Disk.choices c.args.disk))) at
+    let at : c.half_len_of.result ≡ half_of g.D.Disk c.args.disk = c.half_len_of.ensures.exact ∙ ap half_len_of c.count-count.ensures in
+    subst (λ (n : ℕ). LeavesOnly g.D.Disk c.args.disk c.open_on.new.disk (StandsForOne n (g.D.Disk.choices c.args.disk))) at
     (c.open_on.ensures.any_moment h (subst (λ (n : ℕ). EachStands n (g.D.Disk.choices c.args.disk)) (sym at) each))
 
 pub returns-in-Ok-clause-not_worn : goal.returns-in-Ok-clause-not_worn
 returns-in-Ok-clause-not_worn g c h worn =
-    let at : c.half_len_of.result ≡ half_len_of (g.D.Disk.sectors c.args.disk) = c.half_len_of.ensures.exact ∙ ap half_len_of c.count-count.ensures in
+    let at : c.half_len_of.result ≡ half_of g.D.Disk c.args.disk = c.half_len_of.ensures.exact ∙ ap half_len_of c.count-count.ensures in
     c.in-Ok.ensures.not_worn h (subst (λ (n : ℕ). IsWorn n (g.D.Disk.reads c.args.disk)) (sym at) worn)
 
 pub returns-in-Err-clause-premise : goal.returns-in-Err-clause-premise
 returns-in-Err-clause-premise g c enough each h tells =
     let disk = c.args.disk in
-    let at : c.half_len_of.result ≡ half_len_of (g.D.Disk.sectors disk) = c.half_len_of.ensures.exact ∙ ap half_len_of c.count-count.ensures in
+    let at : c.half_len_of.result ≡ half_of g.D.Disk disk = c.half_len_of.ensures.exact ∙ ap half_len_of c.count-count.ensures in
     let one = each (g.D.Disk.reads disk) (g.met.D.Disk.reads_a_choice disk) in
-    stands_or_refused (half_len_of (g.D.Disk.sectors disk)) (subst (λ (n : ℕ). n ≤ 65536) at c.half_len_of.ensures.most) (g.D.Disk.reads disk) one.0 c.in-Err.fault tells
+    stands_or_refused (half_of g.D.Disk disk) (subst (λ (n : ℕ). n ≤ 65536) at c.half_len_of.ensures.most) (g.D.Disk.reads disk) one.0 c.in-Err.fault tells
     (subst (λ (n : ℕ). IsRefused n (g.D.Disk.reads disk) c.in-Err.fault) at (c.in-Err.ensures.refused h)) one.1
 
 pub returns-in-Ok-clause-root : goal.returns-in-Ok-clause-root
 returns-in-Ok-clause-root g c h =
     let found = c.in-Ok.found in
-    let at : c.half_len_of.result ≡ half_len_of (g.D.Disk.sectors c.args.disk) = c.half_len_of.ensures.exact ∙ ap half_len_of c.count-count.ensures in
+    let at : c.half_len_of.result ≡ half_of g.D.Disk c.args.disk = c.half_len_of.ensures.exact ∙ ap half_len_of c.count-count.ensures in
     subst (λ (n : ℕ). (root : Root) × (m : ℕ) × (place : ℕ) × ReadsBy n root m place found.house.state (g.D.Disk.reads c.args.disk) × IsOpenedRoot root (root.base_sequence + m) found.root) at
     (c.in-Ok.ensures.root h)
 
 pub returns-in-Ok-clause-elsewhere : goal.returns-in-Ok-clause-elsewhere
 returns-in-Ok-clause-elsewhere g c =
-    let at : c.half_len_of.result ≡ half_len_of (g.D.Disk.sectors c.args.disk) = c.half_len_of.ensures.exact ∙ ap half_len_of c.count-count.ensures in
+    let at : c.half_len_of.result ≡ half_of g.D.Disk c.args.disk = c.half_len_of.ensures.exact ∙ ap half_len_of c.count-count.ensures in
     subst (λ (n : ℕ). SparesRest n (g.D.Disk.reads c.args.disk) (g.D.Disk.reads c.open_on.new.disk)) at c.open_on.ensures.elsewhere
 
 pub returns-in-Err-clause-elsewhere : goal.returns-in-Err-clause-elsewhere
 returns-in-Err-clause-elsewhere g c =
-    let at : c.half_len_of.result ≡ half_len_of (g.D.Disk.sectors c.args.disk) = c.half_len_of.ensures.exact ∙ ap half_len_of c.count-count.ensures in
+    let at : c.half_len_of.result ≡ half_of g.D.Disk c.args.disk = c.half_len_of.ensures.exact ∙ ap half_len_of c.count-count.ensures in
     subst (λ (n : ℕ). SparesRest n (g.D.Disk.reads c.args.disk) (g.D.Disk.reads c.open_on.new.disk)) at c.open_on.ensures.elsewhere
