@@ -11,10 +11,6 @@ pub returns-in_err-put-2 : goal.returns-in_err-put-2
 unfolding refusal_line
 returns-in_err-put-2 g c = grind (arith, written)
 
-pub returns-in_err-put_detail : goal.returns-in_err-put_detail
-unfolding refusal_line
-returns-in_err-put_detail g c = grind (arith, written)
-
 pub returns : goal.returns
 unfolding refusal_line
 returns g c = grind (arith, written)
