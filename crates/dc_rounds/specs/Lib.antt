@@ -20,3 +20,5 @@ pub mod Polls
 pub mod Planned
 -- what a poll does to an image
 pub mod ImagePoll
+-- where a readout ends, what was accepted is committed
+pub mod Committed
