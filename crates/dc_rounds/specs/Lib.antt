@@ -22,3 +22,5 @@ pub mod Clock
 pub mod Planned
 -- what a poll does to an image
 pub mod ImagePoll
+-- where a readout ends, what was accepted is committed
+pub mod Committed

@@ -1,6 +1,6 @@
 //! What holds of the definitions alone.
 
-ghost use Rattle.std.specs.Prelude.{◌≡◌, ◌<◌, ◌≤◌, ◌*◌, ◌++◌, ◌∷◌, ℕ, Bool, List, None, []};
+ghost use Rattle.std.specs.Prelude.{◌≡◌, ◌<◌, ◌≤◌, ◌*◌, ◌++◌, ◌∷◌, ℕ, Bool, List, []};
 ghost use Rattle.std.specs.Prelude.{length};
 ghost use Rattle.std.specs.List.{AllByRecursion};
 ghost use Rattle.std.specs.List.Sorted.{IsStrictlySortedBy};
@@ -9,11 +9,10 @@ ghost use Rattle.dc_address.specs.Identity.{identity_cmp};
 ghost use Rattle.dc_address.specs.declared.identity.Identity.{Identity};
 ghost use Rattle.dc_changes.specs.State.{State};
 ghost use Rattle.dc_core.specs.Core.{Core};
-ghost use Rattle.dc_core.specs.Event.{asks, asked};
 ghost use Rattle.dc_core.specs.Transcript.{Turn, IsChain, leads};
+ghost use Rattle.dc_rounds.specs.Committed.{IsCommittedWhereNoneIsAsked};
 ghost use Rattle.dc_rounds.specs.Happening.{Happening, Told, happened_turns, tells};
-ghost use Rattle.dc_rounds.specs.Keeping.{AreTrue, InRounds, IsSettled, Store, all_kept, some_wait};
-ghost use Rattle.dc_rounds.specs.Keeping.{store_behind};
+ghost use Rattle.dc_rounds.specs.Keeping.{AreTrue, IsSettled, Store, all_kept, store_behind};
 ghost use Rattle.dc_rounds.specs.Planned.{queue_on};
 ghost use Rattle.dc_rounds.specs.Queue.{Part, part, AreApart, Goes, GoesWell, IsToldAs, IsTried};
 ghost use Rattle.dc_rounds.specs.Queue.{Lacks, meter_of, most_asks, read_in, requests_in};
@@ -21,6 +20,9 @@ ghost use Rattle.dc_rounds.specs.Queue.{starts_in};
 ghost use Rattle.dc_rounds.specs.declared.end.End.{End};
 ghost use Rattle.dc_rounds.specs.declared.phase.Phase.{Phase};
 ghost use Rattle.dc_rounds.specs.declared.phase.Phase.TheVariants.{Free};
+
+use crate::timer::Timer;
+use dc_line::QuietBus;
 
 /// A queue that is at its end went through all its meters, in passes: in the first each was started, in order, and in
 /// each later one those that failed in the one before it. There are no more passes than tries, so each was started once
@@ -76,11 +78,8 @@ pub fn what_is_committed_waits_no_more()
 
 /// Where a line has no request any more, all that was accepted is committed, unless a commit answered a fault; and so
 /// it is where a line of text is written.
-pub fn what_is_read_is_committed()
-    ensures asked { (T : Type 0) (told : T → ℕ → T → Type 0) (passes : T → T → Type 0)
-        (first last : T) (front back : List Turn) (line : ℕ) →
-        InRounds told passes first (front ++ (asks line, asked None) ∷ back) last →
-        IsSettled (store_behind some_wait front) }
+pub fn what_is_read_is_committed<B: QuietBus + Drop, T: Timer<B>>()
+    ensures asked { IsCommittedWhereNoneIsAsked T.tells T.passes }
     ensures written { (core : Core) (store : Store) (front back : List Happening) (line : ℕ)
         (told : Told) →
         AreTrue core store (front ++ tells line told ∷ back) →
