@@ -47,6 +47,10 @@ pub first_of : (xs : List Identity) (x : Identity) → slice_get xs 0 ≡ Some x
 first_of [] x e = absurd cc
 first_of (y ∷ ys) x e = let same : y ≡ x = cc in ap (λ (m : Identity). m ∷ ys) same
 
+pub none_first : (xs : List Identity) → ((m : Identity) → slice_get xs 0 ≡ Some m → ⊥) → xs ≡ []
+none_first [] none = refl
+none_first (x ∷ xs) none = absurd (none x refl)
+
 -- what is received of one with an answer
 pub taken_is : (request : Request) → is_answered request ≡ true → request ≡ Answered (taken_of request)
 taken_is Quiet is = absurd cc

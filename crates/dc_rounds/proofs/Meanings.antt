@@ -19,7 +19,7 @@ use Rattle.dc_rounds.specs.Keeping.{Store, all_kept, behind_answer, store_behind
 
 -- ---- an answer that isn't accepted adds nothing
 
-is_accepted : Result LineHeard HearFault → Bool
+abbrev is_accepted : Result LineHeard HearFault → Bool
 is_accepted (Ok (Accepted number more)) = true
 is_accepted answer = false
 

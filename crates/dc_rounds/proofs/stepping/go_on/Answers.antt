@@ -1,4 +1,5 @@
-use Rattle.std.proofs.Common.{◌≡◌, [], ◌∷◌, ◌≤◌, ◌-◌, ◌<◌, ℕ, drop, length, ap, sym, subst, ◌∙◌, arith}
+use Rattle.std.proofs.Common.{◌≡◌, [], ◌∷◌, ◌≤◌, ◌-◌, ◌<◌, ℕ, List, drop, length, ap, sym, subst, ◌∙◌, arith}
+use Rattle.dc_address.specs.declared.identity.Identity.{Identity}
 use Rattle.dc_rounds.specs.Keeping.{IsAsking}
 use Rattle.dc_rounds.specs.Station.{rounds_of}
 use Rattle.dc_rounds.proofs.Becoming.{free_pass, line_passed, passed_left, passed_phase, rounds_passed, sound_passed}

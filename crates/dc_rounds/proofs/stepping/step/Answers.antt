@@ -1,6 +1,6 @@
-use Rattle.std.proofs.Common.{◌≡◌, ◌∷◌, drop, refl, sym}
+use Rattle.std.proofs.Common.{◌≡◌, ◌∷◌, drop, refl, sym, ◌∙◌}
 use Rattle.dc_rounds.specs.Keeping.{IsAsking}
-use Rattle.dc_rounds.proofs.Becoming.{first_of}
+use Rattle.dc_rounds.proofs.Becoming.{first_of, none_first}
 use Rattle.dc_rounds.proofs.Idling.{fewer_out, fewer_empty, fewer_rest}
 use Rattle.dc_rounds.proofs.Queues.{line_stays, steps_none}
 use Rattle.dc_rounds.proofs.Running.{runs_none}
@@ -16,8 +16,8 @@ returns-in_default g c = record {
   budget = refl;
 }
 
-pub returns-in_default-first-clause-went : goal.returns-in_default-first-clause-went
-returns-in_default-first-clause-went g c =
+pub returns-in_default-present-clause-went : goal.returns-in_default-present-clause-went
+returns-in_default-present-clause-went g c =
     runs_none g.D.Disk _ c.args.concentrator.now (λ image left. g.met.D.Disk.only_now c.args.concentrator.now.store.disk image left)
     (λ core. steps_none c.args.tries c.args.line IsAsking c.args.station.now c.args.station.now (line_stays c.args.tries c.args.line c.args.station.now))
 
@@ -28,3 +28,8 @@ pub returns-in_default-phase-clause-went : goal.returns-in_default-phase-clause-
 returns-in_default-phase-clause-went g c =
     runs_none g.D.Disk _ c.args.concentrator.now (λ image left. g.met.D.Disk.only_now c.args.concentrator.now.store.disk image left)
     (λ core. steps_none c.args.tries c.args.line IsAsking c.args.station.now c.args.station.now (line_stays c.args.tries c.args.line c.args.station.now))
+
+pub returns-in_default-present-clause-fewer : goal.returns-in_default-present-clause-fewer
+returns-in_default-present-clause-fewer g c =
+    fewer_empty (whole g.B.HalfBus g.B.QuietBus) c.args.tries c.args.station.now c.requires
+    (none_first c.args.station.now.left.now (λ m is. c.in_default-present.not-Some m (c.present.ensures ∙ is)))
