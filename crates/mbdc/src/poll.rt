@@ -55,15 +55,9 @@ impl<C: Clock + Copy + Eprint> Timer<SystemBus<'_, C>> for SystemTimer<'_, '_, C
 
     fn pause(&mut self, stations: &[Station<'_, SystemBus<'_, C>>]) {
         self.progress.show(stations);
-        let mut watch = Watch::new();
-        for station in stations {
-            if station.is_waiting() || !station.bus.is_ready() {
-                watch.add(&station.bus);
-            } else if goes_on(station) {
-                return;
-            }
+        if !any_goes_on(stations) {
+            awaited(stations).wait();
         }
-        watch.wait();
     }
 
     fn warn(&mut self) {
@@ -73,10 +67,43 @@ impl<C: Clock + Copy + Eprint> Timer<SystemBus<'_, C>> for SystemTimer<'_, '_, C
     }
 }
 
-// Whether a line that waits for nothing goes on in the next round: the end of a readout is printed, or the next one is
-// begun.
-fn goes_on<B: QuietBus + Drop>(station: &Station<'_, B>) -> bool {
-    !station.left.is_empty() || matches!(station.phase, Phase::Over(_))
+// Whether a line has a request out, or isn't ready for one.
+fn is_awaited<B: QuietBus + Drop>(station: &Station<'_, B>) -> bool {
+    station.is_waiting() || !station.bus.is_ready()
+}
+
+// A bus that can be waited for.
+trait Watched {
+    // Adds it.
+    fn add_to(&self, watch: &mut Watch);
+}
+
+impl<C: Clock + Copy> Watched for SystemBus<'_, C> {
+    fn add_to(&self, watch: &mut Watch) {
+        watch.add(self);
+    }
+}
+
+// The buses that are awaited.
+fn awaited<B: QuietBus + Watched + Drop>(stations: &[Station<'_, B>]) -> Watch {
+    let mut watch = Watch::new();
+    for station in stations {
+        if is_awaited(station) {
+            station.bus.add_to(&mut watch);
+        }
+    }
+    watch
+}
+
+// Whether a line goes on without an answer: the end of a readout is printed, or the next one begins.
+fn any_goes_on<B: QuietBus + Drop>(stations: &[Station<'_, B>]) -> bool {
+    for station in stations {
+        let has_more = !station.left.is_empty() || matches!(station.phase, Phase::Over(_));
+        if has_more && !is_awaited(station) {
+            return true;
+        }
+    }
+    false
 }
 
 /// Reads the registered meters of the image in that file over the links of their lines, or only

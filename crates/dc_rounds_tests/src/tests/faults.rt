@@ -89,26 +89,43 @@ fn a_device_fault_at_each_call(rt: HostRuntime) -> Result<(), Fail> {
     Err(Fail::from("a call fails in each poll"))
 }
 
-// Each growth is refused in turn: the poll isn't begun, or the meter whose telegram finds no room is refused.
+// Polls with the k-th growth refused: the poll isn't begun, or the meter whose telegram finds no room is refused.
+// Whether a growth was refused.
+fn refuses_growth(
+    rt: &impl Abort,
+    heap: Global,
+    refusing: &Refusing<Global>,
+    disk: MemoryDisk<Global>,
+    k: u64,
+) -> Result<bool, Fail> {
+    let lines = lines_of(heap, refusing, &SMALL)?;
+    refusing.refuse(k);
+    let polled = poll_at(heap, refusing, disk, lines, &[], NEW_YEAR)?;
+    let is_refused = !refusing.is_waiting();
+    let is_begun = polled.outcome.is_ok();
+    let text = text_of(&polled)?;
+    if !is_refused {
+        tells_all(rt, heap, &SMALL, text)?;
+    } else if is_begun {
+        says_only(rt, text, " 4 NoMemory");
+    } else {
+        assert_eq!(rt; text, "");
+    }
+    if is_refused {
+        goes_on(rt, heap, polled.disk.copy()?, text)?;
+    }
+    Ok(is_refused)
+}
+
 #[test]
 fn refused_memory_at_each_growth(rt: HostRuntime) -> Result<(), Fail> {
     let heap = rt.alloc();
     let disk = registered(heap, &SMALL)?;
     let refusing = Refusing::new(heap);
     for k in 1..1000 {
-        let lines = lines_of(heap, &refusing, &SMALL)?;
-        refusing.refuse(k);
-        let polled = poll_at(heap, &refusing, disk.copy()?, lines, &[], NEW_YEAR)?;
-        let text = text_of(&polled)?;
-        if refusing.is_waiting() {
-            tells_all(&rt, heap, &SMALL, text)?;
+        if !refuses_growth(&rt, heap, &refusing, disk.copy()?, k)? {
             return Ok(());
         }
-        match polled.outcome {
-            Ok(_) => says_only(&rt, text, " 4 NoMemory"),
-            Err(_) => assert_eq!(rt; text, ""),
-        }
-        goes_on(&rt, heap, polled.disk.copy()?, text)?;
     }
     Err(Fail::from("no end"))
 }

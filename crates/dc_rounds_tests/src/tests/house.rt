@@ -94,7 +94,7 @@ pub fn body_of(
     let mut body = Vec::from_slice(heap, &meter.wire())?;
     let end = if number < count { MORE_FOLLOW } else { LAST };
     body.extend_from_slice(&[number, 0, 0, 0, end])?;
-    while body.len() < len {
+    for _ in body.len()..len {
         body.push(0)?;
     }
     Ok(body)

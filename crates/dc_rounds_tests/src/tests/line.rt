@@ -60,11 +60,11 @@ impl SlowLine {
 }
 
 impl HalfBus for SlowLine {
-    ghost use Rattle.std.specs.Prelude.{⊤};
+    ghost use Rattle.std.specs.Prelude.{⊤, min};
 
     ghost lost = { λ line. line.is_lost };
 
-    ghost waits_left = { λ line. line.waits };
+    ghost waits_left = { λ line. min line.waits 255 };
 
     ghost sends = { λ _ _ _. ⊤ };
 
