@@ -149,15 +149,17 @@ Faults: mbdc: gateway where no such socket is given; mbdc: memory";
 pub const POLL: &str = "Example:
   mbdc poll house.image --line 1=tcp://192.0.2.10:10001 --line 2=serial:/dev/ttyUSB0
 
-Each line's meters are read one after the other, in order of identity, all lines at once. Telegrams
-are committed to the image before the next ones are requested. Printed as each readout ends:
+Each line's meters are read one after the other, in order of identity, all lines at once; those that
+failed are read again after the line's others. Telegrams are committed to the image before the next
+ones are requested. Printed as each readout ends:
   READ ident serial parts  a whole reading, with its serial and its number of parts
   FAILED ident n Name      the last try failed, and why, as in run
   REFUSED ident n Name     the register or the disk refused it
   LINE n LOST              the connection of line n ended or failed
-  LATE line n              so many late answers were dropped on that line: make --patience longer
+  LATE line n              n late answers were dropped on that line: make --patience longer
   END read failed
-With --json an object an event. On a terminal, standard error shows how far it is.
+With --json an object an event. On a terminal, standard error shows how far it is. Where the clock is
+earlier than a time stamp of the register: mbdc: clock: behind the newest reading
 Status: 0 every meter was read, 1 one wasn't, 3 the image, 4 a link, a file or memory.";
 
 /// Of `scan`.
