@@ -9,7 +9,7 @@ use Rattle.std.proofs.lemmas.Bool.Decides.{nat_tests}
 use Rattle.dc_sectors.specs.Disk.{Image, Choices, IsImage, settled}
 use Rattle.dc_sectors.specs.Images.{settled_image}
 use Rattle.dc_sectors.specs.declared.device.Disk.{Ghosts}
-use Rattle.dc_sectors.specs.Runs.{LeavesOnly, IsSettled}
+use Rattle.dc_sectors.specs.Runs.{LeavesOnly, IsSettled, WasLeft}
 use Rattle.dc_sectors.proofs.Moments.{started as begun, followed}
 use Rattle.dc_changes.specs.State.{State}
 use Rattle.dc_changes.specs.declared.change.Change.{Change}
@@ -29,7 +29,7 @@ use Rattle.dc_core.specs.Images.{Machine, IsAt, StandsForPromised}
 use Rattle.dc_core.specs.Lives.{IsFront, MayFollow}
 use Rattle.dc_core.specs.Told.{Tells}
 use Rattle.dc_core.specs.Run.{DidAll}
-use Rattle.dc_core.specs.Headline.{IsOpened, WasLeft, IsOpening, WasStopped, in_a_run, in_an_opening, accepted, IsPrefix, IsPromised, HasTold, IsKept}
+use Rattle.dc_core.specs.Headline.{IsOpened, IsOpening, WasStopped, in_a_run, in_an_opening, accepted, IsPrefix, IsPromised, HasTold, IsKept}
 use Rattle.dc_core.proofs.Fronts.{promised_is_committed, accepted_counted, latest_within, heard_on_line}
 use Rattle.dc_core.proofs.Going.{leads_push, chain_push, accepted_push, seen_push, promised_push, grown, fewer, from_first, now_first}
 use Rattle.dc_core.proofs.Following.{stands_reads, lives_follow}

@@ -2,7 +2,11 @@
 -- again (this product). The theorem is the clause `the_headline` of `Concentrator::open`.
 use Rattle.std.specs.Prelude.{◌≡◌, ℕ, Some, Ok, List, [], ◌∷◌, ◌++◌, Contains}
 use Rattle.dc_sectors.specs.declared.device.Disk.{Ghosts}
-use Rattle.dc_sectors.specs.Runs.{LeavesOnly, IsSettled}
+use Rattle.dc_sectors.specs.Disk.{Image}
+use Rattle.dc_sectors.specs.declared.sector.Sector.{Sector}
+use Rattle.dc_sectors.specs.Record.{image_of}
+use Rattle.dc_sectors.specs.File.{FileState, HasKept, opened_on}
+use Rattle.dc_sectors.specs.Runs.{LeavesOnly, WasLeft}
 use Rattle.dc_changes.specs.State.{State}
 use Rattle.dc_changes.specs.declared.change.Change.{Change}
 use Rattle.dc_changes.specs.History.{after}
@@ -24,13 +28,6 @@ use Rattle.dc_core.specs.Told.{Tells}
 abbrev pub IsOpened : {D : Type 0} → Ghosts D → State → Machine D → Type 0
 IsOpened g state machine = IsAt g machine.store.disk machine (opened state)
 
--- A power cut came between these two states of a disk, before, within or after a call. This disk
--- has what was left, and nothing else.
-pub record WasLeft {D : Type 0} (g : Ghosts D) (from to disk : D) : Type 0 where
-  pub image : g.images_since to (g.moment from) (g.reads disk)
-  pub is_settled : IsSettled g disk
-  pub same_size : g.sectors disk ≡ g.sectors from
-
 -- an opening of the disk, as far as it came (`Concentrator::open`: `any_moment`)
 abbrev pub IsOpening : {D : Type 0} → Ghosts D → D → D → Type 0
 IsOpening g from to = LeavesOnly g from to (StandsForOne (half_of g from) (g.choices from))
@@ -48,6 +45,15 @@ pub data WasStopped {D : Type 0} (g : Ghosts D) (state : State) (done more : Lis
       → WasLeft g now.store.disk last.store.disk disk → WasStopped g state done more disk
   in_an_opening : (from to disk : D) → WasStopped g state done more from
       → IsOpening g from to → WasLeft g from to disk → WasStopped g state done more disk
+
+-- Of a file that was left with this image: the disk of that many sectors that an opening of the file makes is one that
+-- was stopped so. What the file holds is a value of the disk, so each life has a disk of the same type.
+pub record IsStoppedFile (g : Ghosts FileState) (state : State) (done more : List Turn)
+    (sectors : ℕ) (image : Image) : Type 0 where
+  pub left : List Sector
+  pub left_is : image_of left ≡ image
+  pub stopped : WasStopped g state done more (opened_on sectors left)
+  pub keeps : HasKept (opened_on sectors left)
 
 -- ---- what it holds
 

@@ -1,11 +1,38 @@
 //! Theorems about whole runs, and about one life after another. The functions have no effect; their
 //! contracts state the theorems.
 
+ghost use Rattle.std.specs.Prelude.{List};
+ghost use Rattle.dc_sectors.specs.Disk.{Image};
+ghost use Rattle.dc_sectors.specs.File.{FileState, HasKept, moment_in, images_in};
+ghost use Rattle.dc_changes.specs.State.{State};
+ghost use Rattle.dc_core.specs.Core.{opened};
+ghost use Rattle.dc_core.specs.Headline.{IsOpened, IsOpening, WasStopped, IsStoppedFile};
+ghost use Rattle.dc_core.specs.Images.{Machine};
+ghost use Rattle.dc_core.specs.Run.{DidAll};
+ghost use Rattle.dc_core.specs.Transcript.{Turn, leads};
 ghost use Rattle.dc_core.specs.Known.{NoneIsUnknown};
 ghost use Rattle.dc_core.specs.Lives.{LivesFollow};
 ghost use Rattle.dc_core.specs.Promised.{PromisedIsCommitted};
 ghost use Rattle.dc_core.specs.Toggled.{SettlingToggles};
 ghost use Rattle.dc_core.specs.Told.{ToldIsKept};
+
+use dc_sectors::{Disk, DiskOver, FileCalls};
+
+/// Of each image that a power cut may leave in a file, within a run or within an opening, the next disk over that file is
+/// one that the headline speaks of, and none of its answers has broken the disk model.
+pub fn a_stop_of_a_file_is_one_of_the_headline<C: FileCalls + Drop>()
+    ensures in_a_run { (state : State) (done more : List Turn) (first now last : Machine FileState)
+        (image : Image) → IsOpened ⟦<DiskOver<C> as Disk>⟧ state first → HasKept first.store.disk
+        → DidAll ⟦<DiskOver<C> as Disk>⟧ first.store.disk first.house.budget (opened state) done first now
+        → DidAll ⟦<DiskOver<C> as Disk>⟧ first.store.disk first.house.budget
+        (leads (opened state) done) more now last
+        → images_in last.store.disk (moment_in now.store.disk) image
+        → IsStoppedFile ⟦<DiskOver<C> as Disk>⟧ state done more now.store.disk.sectors image }
+    ensures in_an_opening { (state : State) (done more : List Turn) (from to : FileState)
+        (image : Image) → WasStopped ⟦<DiskOver<C> as Disk>⟧ state done more from
+        → IsOpening ⟦<DiskOver<C> as Disk>⟧ from to → images_in to (moment_in from) image
+        → IsStoppedFile ⟦<DiskOver<C> as Disk>⟧ state done more from.sectors image }
+{}
 
 /// In every chain of steps from a newly opened concentrator, what is committed is the register
 /// after a prefix of the accepted changes, which has all that is promised; the rest is pending.

@@ -3,12 +3,12 @@ use Rattle.std.specs.Prelude.{◌≡◌, ℕ, Bool, Option, IfSome, List, [], �
 use Rattle.dc_changes.specs.State.{State}
 use Rattle.dc_recovery.specs.Halves.{budget_of, half_of}
 use Rattle.dc_recovery.specs.Stands.{Reads, StandsForOne}
-use Rattle.dc_core.specs.Headline.{IsOpened, WasLeft, WasStopped, IsKept}
+use Rattle.dc_core.specs.Headline.{IsOpened, WasStopped, IsKept}
 use Rattle.dc_core.specs.Images.{Machine}
 use Rattle.dc_core.specs.Transcript.{Turn}
 use Rattle.dc_io.specs.Lines.{lines_of}
 use Rattle.dc_sectors.specs.declared.device.Disk.{Ghosts}
-use Rattle.dc_sectors.specs.Runs.{LeavesOnly}
+use Rattle.dc_sectors.specs.Runs.{LeavesOnly, WasLeft}
 use Rattle.dc_poller.specs.Link.{LineLink}
 use Rattle.dc_poller.specs.Script.{ScriptRan, ScriptCut}
 use Rattle.dc_poller.specs.Traffic.{Traffic}

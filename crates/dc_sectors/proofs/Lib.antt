@@ -4,6 +4,8 @@
 pub mod Moments
 -- the text of a sector
 pub mod Texts
+-- what a power cut leaves of a file
+pub mod Cuts
 -- a disk over a file, and that its hypothesis can be met
 pub mod Filed
 -- numbers in a sector read back

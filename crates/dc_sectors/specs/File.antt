@@ -3,6 +3,7 @@
 -- rule says of its sector after the writes before it.
 use Rattle.std.specs.Prelude.{◌≡◌, ◌⊎◌, ◌==◌, ◌<◌, ℕ, Bool, true, false, ◌+◌, ◌-◌, ◌*◌, ◌/◌, ◌^◌}
 use Rattle.std.specs.Prelude.{min, List, [], ◌∷◌, ◌++◌, length, Option, Some, None, Result, Ok, Err}
+use Rattle.dc_sectors.specs.declared.sector.Sector.{Sector}
 use Rattle.dc_sectors.specs.declared.sector.Sector.TheVariants.{Bytes}
 use Rattle.dc_sectors.specs.declared.sector.ReadFault.{ReadFault}
 use Rattle.dc_sectors.specs.declared.sector.ReadFault.TheVariants.{Unreadable as CannotRead}
@@ -11,7 +12,7 @@ use Rattle.dc_sectors.specs.declared.sector.Failed.{Failed}
 use Rattle.dc_sectors.specs.declared.event.Event.{Event}
 use Rattle.dc_sectors.specs.declared.event.Event.TheVariants.{Write, Sync}
 use Rattle.dc_sectors.specs.Disk.{Image, Choices, Counted}
-use Rattle.dc_sectors.specs.Record.{reads_after, choices_after, ImageSince}
+use Rattle.dc_sectors.specs.Record.{image_of, reads_after, choices_after, ImageSince}
 use Rattle.dc_sectors.specs.FileCalls.{Call, Measured, Got, Put, Synced}
 
 pub record FileState : Type 0 where
@@ -20,6 +21,8 @@ pub record FileState : Type 0 where
   pub failures : ℕ
   -- a sync failed: what was written since the last one may be lost, so that every later call fails
   pub lost : Bool
+  -- what the sectors held before the first call: any value, of which nothing is known
+  pub start : List Sector
   -- the calls of the file so far, the newest first
   pub calls : List Call
 
@@ -78,7 +81,10 @@ IsSyncOf old (Ok _) calls = (old.lost ≡ false) × (calls ≡ Synced true ∷ o
 IsSyncOf old (Err _) calls = ((old.lost ≡ true) × (calls ≡ old.calls))
     ⊎ ((old.lost ≡ false) × (calls ≡ Synced false ∷ old.calls))
 
--- What the disk model states after these calls, if the sectors held `start` before the first.
+-- What the disk model states after these calls, from what the sectors held before the first.
+
+abbrev pub start_of : FileState → Image
+start_of disk = image_of disk.start
 
 -- one more call: a write, done where all was taken, or a sync that succeeded
 abbrev pub noted : List Event → Call → List Event
@@ -93,19 +99,19 @@ abbrev pub events_of : List Call → List Event
 events_of [] = []
 events_of (call ∷ earlier) = noted (events_of earlier) call
 
-abbrev pub reads_in : Image → FileState → Image
-reads_in start disk = reads_after start (events_of disk.calls)
+abbrev pub reads_in : FileState → Image
+reads_in disk = reads_after (start_of disk) (events_of disk.calls)
 
-abbrev pub choices_in : Image → FileState → Choices
-choices_in start disk = choices_after start (events_of disk.calls)
+abbrev pub choices_in : FileState → Choices
+choices_in disk = choices_after (start_of disk) (events_of disk.calls)
 
 abbrev pub moment_in : FileState → ℕ
 moment_in disk = length (events_of disk.calls)
 
 -- The other half of the hypothesis, which no call shows: after a crash at any moment of these calls
--- the file holds one of the images since moment 0, and that is the next `start`.
-abbrev pub images_in : Image → FileState → ℕ → Image → Type 0
-images_in start disk = ImageSince start (events_of disk.calls)
+-- the file holds one of the images since moment 0, and that is the next disk's `start`.
+abbrev pub images_in : FileState → ℕ → Image → Type 0
+images_in disk = ImageSince (start_of disk) (events_of disk.calls)
 
 -- THE HYPOTHESIS, of the file and of the system under it.
 
@@ -123,3 +129,17 @@ abbrev pub KeepsRule : Image → List Call → Type 0
 KeepsRule start [] = Unit {0}
 KeepsRule start (call ∷ earlier) =
     KeepsRule start earlier × AnswersAs (reads_after start (events_of earlier)) call
+
+-- each whole read of this disk did
+abbrev pub HasKept : FileState → Type 0
+HasKept disk = KeepsRule (start_of disk) disk.calls
+
+-- a disk of this many sectors just opened on a file that holds these
+abbrev pub opened_on : ℕ → List Sector → FileState
+opened_on sectors start = record {
+  sectors = sectors;
+  failures = 0;
+  lost = false;
+  start = start;
+  calls = Measured (Some (512 * sectors)) ∷ [];
+}

@@ -30,3 +30,10 @@ Counts g = Counted g.sectors g.failures
 -- What is read is durable: it is the one choice of each sector.
 abbrev pub IsSettled : {D : Type 0} → Ghosts D → D → Type 0
 IsSettled g disk = g.choices disk ≡ settled (g.reads disk)
+
+-- A power cut came between these two states of a disk, before, within or after a call. This disk
+-- has what was left, and nothing else.
+pub record WasLeft {D : Type 0} (g : Ghosts D) (from to disk : D) : Type 0 where
+  pub image : g.images_since to (g.moment from) (g.reads disk)
+  pub is_settled : IsSettled g disk
+  pub same_size : g.sectors disk ≡ g.sectors from

@@ -2,16 +2,15 @@
 
 ghost use Rattle.std.specs.Prelude.{◌≡◌, ◌≢◌, ◌⊎◌, ◌<◌, ◌≤◌, ◌*◌, ◌/◌, ◌-◌, ◌^◌, ◌==◌, ℕ, []};
 ghost use Rattle.std.specs.Prelude.{min, true, false, IfOk, OnOk, OnErr, IsErr, IsErrOf, length};
-ghost use Rattle.dc_sectors.specs.declared.sector.Sector.{Sector};
 ghost use Rattle.dc_sectors.specs.declared.sector.ReadFault.TheVariants.{Unreadable as CannotRead};
 ghost use Rattle.dc_sectors.specs.declared.sector.ReadFault.TheVariants.{Failed as ReadFailed};
 ghost use Rattle.dc_sectors.specs.FileCalls.{value_of};
 ghost use Rattle.dc_sectors.specs.Disk.{Answers, Elapses, IsImage, put, added, settled};
 ghost use Rattle.dc_sectors.specs.File.{failed_once_more, IsOpened, is_all, IsReadOf, IsWriteOf};
 ghost use Rattle.dc_sectors.specs.File.{IsSyncOf, reads_in, choices_in, moment_in, images_in};
-ghost use Rattle.dc_sectors.specs.File.{KeepsRule, FileCounts};
+ghost use Rattle.dc_sectors.specs.File.{HasKept, FileCounts};
 
-use crate::{Disk, Failed, FileCalls, Logged, ReadFault, Start, Unknown};
+use crate::{Disk, Failed, FileCalls, Logged, ReadFault};
 use dc_io::one_failure_more;
 use std::fs::{OpenFile, OpenOptions};
 use std::io;
@@ -36,11 +35,8 @@ pub struct DiskOver<C: FileCalls + Drop> {
     lost: bool,
 }
 
-/// A disk over a file of std that held `S.image` before its first call.
-pub type FileDiskFrom<F, S> = DiskOver<Logged<F, S>>;
-
-/// A disk over a file of std, for `main` to name.
-pub type FileDisk<F> = DiskOver<Logged<F, Unknown>>;
+/// A disk over a file of std. What the file held before its first call is a value, of which nothing is known.
+pub type FileDisk<F> = DiskOver<Logged<F>>;
 
 impl<C: FileCalls + Drop> Model for DiskOver<C> {
     ghost use Rattle.dc_sectors.specs.File.{FileState};
@@ -51,16 +47,17 @@ impl<C: FileCalls + Drop> Model for DiskOver<C> {
       sectors = d.count;
       failures = d.failures;
       lost = d.lost;
+      start = C.start d.file;
       calls = C.history d.file;
     } };
 }
 
-impl<F: FileExt + OpenFile + Drop, S: Start> DiskOver<Logged<F, S>> {
+impl<F: FileExt + OpenFile + Drop> DiskOver<Logged<F>> {
     /// Opens the file at that path, which must exist and be readable and writable, as a disk.
     pub fn open<R: Files<File = F>, P: AsPath>(
         rt: &R,
         path: P,
-    ) -> io::Result<DiskOver<Logged<F, S>>>
+    ) -> io::Result<DiskOver<Logged<F>>>
         ensures { IfOk result (λ disk. IsOpened [] disk) }
     {
         Self::new(OpenOptions::new().read(true).write(true).open(rt, path)?)
@@ -68,7 +65,7 @@ impl<F: FileExt + OpenFile + Drop, S: Start> DiskOver<Logged<F, S>> {
 
     /// Returns a disk over an open file, with a sector for each 512 bytes of the file's current
     /// length, and at most `u32::MAX`. Bytes after the last whole sector are left alone.
-    pub fn new(file: F) -> io::Result<DiskOver<Logged<F, S>>>
+    pub fn new(file: F) -> io::Result<DiskOver<Logged<F>>>
         ensures { IfOk result (λ disk. IsOpened [] disk) }
     {
         Self::over(Logged::new(file))
@@ -109,6 +106,7 @@ impl<C: FileCalls + Drop> DiskOver<C> {
 
     fn read_sector(&mut self, n: u32) -> Result<[u8; 512], ReadFault>
         ensures made { IsReadOf self.old n result self.new.calls }
+        ensures start { self.new.start ≡ self.old.start }
         ensures ok { OnOk result (self.new ≡ record self.old { calls = self.new.calls }) }
         ensures err { OnErr result (self.new
             ≡ record (failed_once_more self.old) { calls = self.new.calls }) }
@@ -129,6 +127,7 @@ impl<C: FileCalls + Drop> DiskOver<C> {
 
     fn write_sector(&mut self, n: u32, bytes: &[u8; 512]) -> Result<(), Failed>
         ensures made { IsWriteOf self.old n bytes.now result self.new.calls }
+        ensures start { self.new.start ≡ self.old.start }
         ensures ok { OnOk result (self.new ≡ record self.old { calls = self.new.calls }) }
         ensures err { OnErr result (self.new
             ≡ record (failed_once_more self.old) { calls = self.new.calls }) }
@@ -148,6 +147,7 @@ impl<C: FileCalls + Drop> DiskOver<C> {
 
     fn sync_sectors(&mut self) -> Result<(), Failed>
         ensures made { IsSyncOf self.old result self.new.calls }
+        ensures start { self.new.start ≡ self.old.start }
         ensures ok { OnOk result (self.new ≡ record self.old { calls = self.new.calls }) }
         ensures err { OnErr result (self.new
             ≡ record (failed_once_more self.old) { lost = true; calls = self.new.calls }) }
@@ -188,28 +188,28 @@ fn is_whole(answer: &io::Result<usize>) -> bool
 }
 
 impl<C: FileCalls + Drop> Disk for DiskOver<C> {
-    ghost use Rattle.dc_sectors.specs.File.{events_of};
+    ghost use Rattle.dc_sectors.specs.File.{start_of, events_of};
     ghost use Rattle.dc_sectors.specs.Record.{reads_a_choice, counts_now, only_now};
 
-    ghost keeps = { λ disk. KeepsRule C.start disk.calls };
+    ghost keeps = { HasKept };
 
     ghost sectors = { λ disk. disk.sectors };
 
-    ghost reads = { reads_in C.start };
+    ghost reads = { reads_in };
 
-    ghost choices = { choices_in C.start };
+    ghost choices = { choices_in };
 
     ghost moment = { moment_in };
 
-    ghost images_since = { images_in C.start };
+    ghost images_since = { images_in };
 
     ghost failures = { λ disk. disk.failures };
 
-    ghost reads_a_choice = { λ disk. reads_a_choice C.start (events_of disk.calls) };
+    ghost reads_a_choice = { λ disk. reads_a_choice (start_of disk) (events_of disk.calls) };
 
-    ghost counts_now = { λ disk. counts_now C.start (events_of disk.calls) };
+    ghost counts_now = { λ disk. counts_now (start_of disk) (events_of disk.calls) };
 
-    ghost only_now = { λ disk. only_now C.start (events_of disk.calls) };
+    ghost only_now = { λ disk. only_now (start_of disk) (events_of disk.calls) };
 
     fn count(&self) -> u32 {
         self.count
@@ -218,21 +218,19 @@ impl<C: FileCalls + Drop> Disk for DiskOver<C> {
     fn read(&mut self, n: u32) -> Result<[u8; 512], ReadFault>
         requires { n < self.old.sectors }
         ensures made { IsReadOf self.old n result self.new.calls }
-        ensures any_start { (start : ℕ → Sector) → KeepsRule start self.new.calls
-            → Answers (reads_in start self.old n) result }
         ensures ok { OnOk result (self.new ≡ record self.old { calls = self.new.calls }) }
         ensures err { OnErr result (self.new
             ≡ record (failed_once_more self.old) { calls = self.new.calls }) }
         ensures readable { IsErrOf result CannotRead → ⊥ }
         ensures lost { self.old.lost ≡ true → IsErr result }
-        ensures answer { KeepsRule C.start self.new.calls
-            → Answers (reads_in C.start self.old n) result }
-        ensures before { KeepsRule C.start self.new.calls → KeepsRule C.start self.old.calls }
-        ensures reads { reads_in C.start self.new ≡ reads_in C.start self.old }
-        ensures choices { choices_in C.start self.new ≡ choices_in C.start self.old }
+        ensures answer { HasKept self.new
+            → Answers (reads_in self.old n) result }
+        ensures before { HasKept self.new → HasKept self.old }
+        ensures reads { reads_in self.new ≡ reads_in self.old }
+        ensures choices { choices_in self.new ≡ choices_in self.old }
         ensures time { Elapses (moment_in self.old) (moment_in self.new)
-            (images_in C.start self.old) (images_in C.start self.new)
-            (IsImage (choices_in C.start self.old)) }
+            (images_in self.old) (images_in self.new)
+            (IsImage (choices_in self.old)) }
         ensures counts { FileCounts self.old self.new (IsErrOf result ReadFailed) }
     {
         self.read_sector(n)
@@ -245,19 +243,19 @@ impl<C: FileCalls + Drop> Disk for DiskOver<C> {
         ensures err { OnErr result (self.new
             ≡ record (failed_once_more self.old) { calls = self.new.calls }) }
         ensures lost { self.old.lost ≡ true → IsErr result }
-        ensures before { KeepsRule C.start self.new.calls → KeepsRule C.start self.old.calls }
-        ensures reads { OnOk result (reads_in C.start self.new
-            ≡ put (reads_in C.start self.old) n bytes.now) }
+        ensures before { HasKept self.new → HasKept self.old }
+        ensures reads { OnOk result (reads_in self.new
+            ≡ put (reads_in self.old) n bytes.now) }
         ensures elsewhere { (m : ℕ) → m ≢ n
-            → reads_in C.start self.new m ≡ reads_in C.start self.old m }
-        ensures choices { OnOk result (choices_in C.start self.new
-            ≡ added (choices_in C.start self.old) n bytes.now) }
+            → reads_in self.new m ≡ reads_in self.old m }
+        ensures choices { OnOk result (choices_in self.new
+            ≡ added (choices_in self.old) n bytes.now) }
         ensures choices_err { OnErr result
-            ((choices_in C.start self.new ≡ added (choices_in C.start self.old) n bytes.now)
-            ⊎ (choices_in C.start self.new ≡ choices_in C.start self.old)) }
+            ((choices_in self.new ≡ added (choices_in self.old) n bytes.now)
+            ⊎ (choices_in self.new ≡ choices_in self.old)) }
         ensures time { Elapses (moment_in self.old) (moment_in self.new)
-            (images_in C.start self.old) (images_in C.start self.new)
-            (IsImage (added (choices_in C.start self.old) n bytes.now)) }
+            (images_in self.old) (images_in self.new)
+            (IsImage (added (choices_in self.old) n bytes.now)) }
         ensures counts { FileCounts self.old self.new (IsErr result) }
     {
         self.write_sector(n, bytes)
@@ -272,15 +270,15 @@ impl<C: FileCalls + Drop> Disk for DiskOver<C> {
         ensures err { OnErr result (self.new
             ≡ record (failed_once_more self.old) { lost = true; calls = self.new.calls }) }
         ensures lost { self.old.lost ≡ true → IsErr result }
-        ensures before { KeepsRule C.start self.new.calls → KeepsRule C.start self.old.calls }
-        ensures reads { reads_in C.start self.new ≡ reads_in C.start self.old }
-        ensures choices { OnOk result (choices_in C.start self.new
-            ≡ settled (reads_in C.start self.old)) }
+        ensures before { HasKept self.new → HasKept self.old }
+        ensures reads { reads_in self.new ≡ reads_in self.old }
+        ensures choices { OnOk result (choices_in self.new
+            ≡ settled (reads_in self.old)) }
         ensures choices_err { OnErr result
-            (choices_in C.start self.new ≡ choices_in C.start self.old) }
+            (choices_in self.new ≡ choices_in self.old) }
         ensures time { Elapses (moment_in self.old) (moment_in self.new)
-            (images_in C.start self.old) (images_in C.start self.new)
-            (IsImage (choices_in C.start self.old)) }
+            (images_in self.old) (images_in self.new)
+            (IsImage (choices_in self.old)) }
         ensures counts { FileCounts self.old self.new (IsErr result) }
     {
         self.sync_sectors()

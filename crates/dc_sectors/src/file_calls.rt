@@ -11,26 +11,30 @@ pub trait FileCalls {
     /// The calls so far with their results, the newest first.
     ghost history: { Self → List Call };
 
-    /// What each sector held before the first call.
-    ghost start: { ℕ → Sector };
+    /// What the sectors held before the first call: a value, of which nothing is known.
+    ghost start: { Self → List Sector };
 
     /// Returns the file's length in bytes.
     fn measure(&mut self) -> io::Result<u64>
-        ensures noted { history self.new ≡ Measured (value_of result) ∷ history self.old };
+        ensures noted { history self.new ≡ Measured (value_of result) ∷ history self.old }
+        ensures start { start self.new ≡ start self.old };
 
     /// Reads once from that byte on into the first bytes of the buffer, and returns the number of
     /// bytes read.
     fn read_some(&mut self, at: u64, bytes: &mut [u8]) -> io::Result<usize>
         ensures count { IfOk result (λ n. n ≤ length bytes.old) }
         ensures noted { history self.new ≡ Got at (length bytes.old) (came result bytes.new)
-            ∷ history self.old };
+            ∷ history self.old }
+        ensures start { start self.new ≡ start self.old };
 
     /// Writes these bytes once from that byte on, and returns the number of bytes written.
     fn write_some(&mut self, at: u64, bytes: &[u8]) -> io::Result<usize>
         ensures count { IfOk result (λ n. n ≤ length bytes.now) }
-        ensures noted { history self.new ≡ Put at bytes.now (value_of result) ∷ history self.old };
+        ensures noted { history self.new ≡ Put at bytes.now (value_of result) ∷ history self.old }
+        ensures start { start self.new ≡ start self.old };
 
     /// Makes the written bytes durable, in one call.
     fn sync_once(&mut self) -> io::Result<()>
-        ensures noted { history self.new ≡ Synced (is_ok result) ∷ history self.old };
+        ensures noted { history self.new ≡ Synced (is_ok result) ∷ history self.old }
+        ensures start { start self.new ≡ start self.old };
 }

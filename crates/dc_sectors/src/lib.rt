@@ -20,7 +20,7 @@
 //! makes, and what it returns for that call's result: the file's calls are in a history that only
 //! clauses read. No contract can state what a file keeps, so the disk model is a hypothesis on that
 //! history, `KeepsRule` of specs/File: that is its `keeps`. The file's contents before the first
-//! call are the image of a [`Start`], which no code reads. Each fault of the file is a counted
+//! call are a value that only clauses read, and of which nothing is known. Each fault of the file is a counted
 //! failure, and after a sync that failed every call fails.
 //!
 //! Callers state the images that they leave for every moment, and prove them from the trait alone.
@@ -38,19 +38,19 @@ mod event;
 mod fields;
 mod file;
 mod file_calls;
+mod laws;
 mod logged;
 mod memory;
 mod pick;
 mod scan;
 mod sector;
-mod start;
 
 pub use device::Disk;
 pub use fields::{put_u16, put_u32, put_u64, u16_at, u32_at, u64_at};
-pub use file::{DiskOver, FileDisk, FileDiskFrom};
+pub use file::{DiskOver, FileDisk};
 pub use file_calls::FileCalls;
+pub use laws::{a_cut_between_two_files, what_is_left_may_be_opened};
 pub use logged::Logged;
 pub use memory::MemoryDisk;
 pub use pick::Pick;
 pub use sector::{Failed, ReadFault, Sector};
-pub use start::{Start, Unknown};

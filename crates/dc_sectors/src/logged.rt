@@ -4,10 +4,9 @@ ghost use Rattle.std.specs.Prelude.{◌≡◌, []};
 ghost use Rattle.dc_sectors.specs.Note.{calls_of};
 
 use crate::call_log::CallLog;
-use crate::{FileCalls, Start};
+use crate::FileCalls;
 use std::fs::OpenFile;
 use std::io;
-use std::marker::PhantomData;
 use std::os::unix::fs::FileExt;
 
 const MEASURED: u64 = 0;
@@ -23,30 +22,28 @@ const SYNCED: u64 = 3;
 /// Each method makes one call of std, adds it with its result to the history, and does nothing else. No contract of
 /// std relates a call to the file, so these four methods are to be read.
 ///
-/// The file held `S.image` before the first call. Nothing is assumed of what its calls return.
+/// What the file held before the first call is a value in the log. Nothing is assumed of what its calls return.
 #[derive(Drop)]
-pub struct Logged<F: FileExt + OpenFile + Drop, S: Start> {
+pub struct Logged<F: FileExt + OpenFile + Drop> {
     file: F,
     log: CallLog,
-    start: PhantomData<S>,
 }
 
-impl<F: FileExt + OpenFile + Drop, S: Start> Logged<F, S> {
-    pub(crate) fn new(file: F) -> Logged<F, S>
+impl<F: FileExt + OpenFile + Drop> Logged<F> {
+    pub(crate) fn new(file: F) -> Logged<F>
         ensures { result.log.notes ≡ [] }
     {
         Logged {
             file,
             log: CallLog::new(),
-            start: PhantomData,
         }
     }
 }
 
-impl<F: FileExt + OpenFile + Drop, S: Start> FileCalls for Logged<F, S> {
+impl<F: FileExt + OpenFile + Drop> FileCalls for Logged<F> {
     ghost history = { λ f. calls_of f.log.notes };
 
-    ghost start = { S.image };
+    ghost start = { λ f. f.log.start };
 
     fn measure(&mut self) -> io::Result<u64> {
         match self.file.metadata() {
