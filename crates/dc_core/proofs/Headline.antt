@@ -29,7 +29,7 @@ use Rattle.dc_core.specs.Images.{Machine, IsAt, StandsForPromised}
 use Rattle.dc_core.specs.Lives.{IsFront, MayFollow}
 use Rattle.dc_core.specs.Told.{Tells}
 use Rattle.dc_core.specs.Run.{DidAll}
-use Rattle.dc_core.specs.Headline.{IsOpened, IsOpening, WasStopped, in_a_run, in_an_opening, accepted, IsPrefix, IsPromised, HasTold, IsKept}
+use Rattle.dc_core.specs.Headline.{IsOpened, IsOpening, WasStopped, in_a_run, in_an_opening, accepted, IsPrefix, IsPromised, HasTold, IsKept, HoldsKept}
 use Rattle.dc_core.proofs.Fronts.{promised_is_committed, accepted_counted, latest_within, heard_on_line}
 use Rattle.dc_core.proofs.Going.{leads_push, chain_push, accepted_push, seen_push, promised_push, grown, fewer, from_first, now_first}
 use Rattle.dc_core.proofs.Following.{stands_reads, lives_follow}
@@ -296,3 +296,33 @@ module _ {D : Type 0} (g : Ghosts D) (only : (disk : D) (image : Image) → g.im
   pub stopped_reads : (state : State) (done more : List Turn) {disk : D} → WasStopped g state done more disk → OpensAsKept state done more disk
   stopped_reads state done more (in_a_run first now last disk opens h did does left) = run_reads state done more first now last disk opens h did does left
   stopped_reads state done more (in_an_opening from to disk was opening left) = opening_reads state done more from to disk (stopped_reads state done more was) opening left
+
+  pub image_kept : (state : State) (done more : List Turn) (first now last : Machine D) (image : Image) → IsOpened g state first → g.keeps first.store.disk
+      → DidAll g first.store.disk first.house.budget (opened state) done first now → DidAll g first.store.disk first.house.budget (leads (opened state) done) more now last
+      → g.images_since last.store.disk (g.moment now.store.disk) image → HoldsKept (half_of g now.store.disk) state done more image
+  image_kept state done more first now last image opens h did does left =
+      let budget = first.house.budget in
+      let origin = first.store.disk in
+      let chain = does_chain origin budget (opened state) done first now did in
+      let at = does_at origin budget (opened state) done first now opens did in
+      let leaves = does_leaves origin h budget state done more now last chain at does in
+      let follows = lives_follow (g.sectors now.store.disk) state (promised_in done) (accepted state (done ++ more)) image (leaves.each image left) in
+      record {
+        premise = follows.premise;
+        kept = λ held reads. is_kept budget state done more held chain (follows.found held reads);
+      }
+
+  pub opening_keeps : (state : State) (done more : List Turn) (from to : D) (image : Image) → HoldsKept (half_of g from) state done more (g.reads from) → IsSettled g from
+      → IsOpening g from to → g.images_since to (g.moment from) image → HoldsKept (half_of g from) state done more image
+  opening_keeps state done more from to image holds is_settled opening left =
+      let H = half_of g from in
+      let one : StandsForOne H (g.choices from) image = opening.each image left in
+      let was : one.was ≡ g.reads from = settled_image (g.reads from) one.was (subst (λ (c : Choices). IsImage c one.was) is_settled one.was_image) in
+      let stood : Stands H one.state (g.reads from) = subst (Stands H one.state) was one.stood in
+      let is = holds.kept one.state (stands_reads H one.state (g.reads from) stood) in
+      record {
+        premise = λ other it. (one.state, subst (Stands H one.state) (sym (settled_image image other it)) one.stands);
+        kept = λ held reads.
+            let same : held ≡ one.state = reads_once H (omega arith) image held one.state reads (stands_reads H one.state image one.stands) in
+            subst (IsKept state done more) (sym same) is;
+      }

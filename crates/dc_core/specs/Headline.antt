@@ -2,7 +2,7 @@
 -- again (this product). The theorem is the clause `the_headline` of `Concentrator::open`.
 use Rattle.std.specs.Prelude.{◌≡◌, ℕ, Some, Ok, List, [], ◌∷◌, ◌++◌, Contains}
 use Rattle.dc_sectors.specs.declared.device.Disk.{Ghosts}
-use Rattle.dc_sectors.specs.Disk.{Image}
+use Rattle.dc_sectors.specs.Disk.{Image, settled}
 use Rattle.dc_sectors.specs.declared.sector.Sector.{Sector}
 use Rattle.dc_sectors.specs.Record.{image_of}
 use Rattle.dc_sectors.specs.File.{FileState, HasKept, opened_on}
@@ -11,7 +11,7 @@ use Rattle.dc_changes.specs.State.{State}
 use Rattle.dc_changes.specs.declared.change.Change.{Change}
 use Rattle.dc_changes.specs.History.{after}
 use Rattle.dc_recovery.specs.Halves.{half_of}
-use Rattle.dc_recovery.specs.Stands.{StandsForOne}
+use Rattle.dc_recovery.specs.Stands.{StandsForOne, EachStands, Reads}
 use Rattle.dc_core.specs.declared.line_heard.LineHeard.TheVariants.{Accepted}
 use Rattle.dc_core.specs.Core.{Core, opened}
 use Rattle.dc_core.specs.Event.{Event, Answer, asks, hears, commits, offices, asked, heard}
@@ -95,3 +95,8 @@ pub record IsKept (state : State) (done more : List Turn) (held : State) : Type 
       → IsPromised turn.0 turn.1 behind → IsPrefix (accepted state (before ++ turn ∷ [])) prefix
   pub told : (before behind : List Turn) (turn : Turn) → done ≡ before ++ turn ∷ behind
       → HasTold turn.0 turn.1 (after state (accepted state (before ++ turn ∷ [])))
+
+-- This image may be opened, on whatever disk, and the state that it reads as is kept.
+pub record HoldsKept (half_len : ℕ) (state : State) (done more : List Turn) (image : Image) : Type 0 where
+  pub premise : EachStands half_len (settled image)
+  pub kept : (held : State) → Reads half_len held image → IsKept state done more held

@@ -15,7 +15,7 @@ ghost use Rattle.dc_core.specs.Event.{starts, asks, started, asked};
 ghost use Rattle.dc_core.specs.Step.{May, next, longest_request};
 ghost use Rattle.dc_core.specs.Images.{IsAt};
 ghost use Rattle.dc_core.specs.Transcript.{Turn};
-ghost use Rattle.dc_core.specs.Headline.{IsOpened, WasStopped, IsKept};
+ghost use Rattle.dc_core.specs.Headline.{IsOpened, WasStopped, IsKept, HoldsKept};
 
 mod commit;
 mod hear;
@@ -73,6 +73,15 @@ impl<D: Disk + Drop, A: Allocator + Copy> Concentrator<D, A> {
         // image is refused only for an exhausted counter, where the device failed, or out of memory.
         ensures the_headline { (state : State) (done more : List Turn)
             → WasStopped D.Disk state done more disk
+            → EachStands (half_of D.Disk disk) (D.choices disk)
+            × IfOk result (λ c. D.keeps c.store.disk
+            → IsKept state done more c.house.state × IsOpened D.Disk c.house.state c)
+            × (fewest_sectors ≤ D.sectors disk
+            → IfErr result (λ e. D.keeps e.1 → TellsOfImage e.0 → e.0 ≡ Worn)) }
+
+        // The same of an image that was left by another disk (`what_a_power_cut_leaves_is_kept`).
+        ensures on_any_disk { (state : State) (done more : List Turn) → IsSettled D.Disk disk
+            → HoldsKept (half_of D.Disk disk) state done more (D.reads disk)
             → EachStands (half_of D.Disk disk) (D.choices disk)
             × IfOk result (λ c. D.keeps c.store.disk
             → IsKept state done more c.house.state × IsOpened D.Disk c.house.state c)

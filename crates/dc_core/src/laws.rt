@@ -6,7 +6,10 @@ ghost use Rattle.dc_sectors.specs.Disk.{Image};
 ghost use Rattle.dc_sectors.specs.File.{FileState, HasKept, moment_in, images_in};
 ghost use Rattle.dc_changes.specs.State.{State};
 ghost use Rattle.dc_core.specs.Core.{opened};
+ghost use Rattle.dc_sectors.specs.Runs.{IsSettled};
+ghost use Rattle.dc_recovery.specs.Halves.{half_of};
 ghost use Rattle.dc_core.specs.Headline.{IsOpened, IsOpening, WasStopped, IsStoppedFile};
+ghost use Rattle.dc_core.specs.Headline.{HoldsKept};
 ghost use Rattle.dc_core.specs.Images.{Machine};
 ghost use Rattle.dc_core.specs.Run.{DidAll};
 ghost use Rattle.dc_core.specs.Transcript.{Turn, leads};
@@ -32,6 +35,21 @@ pub fn a_stop_of_a_file_is_one_of_the_headline<C: FileCalls + Drop>()
         (image : Image) → WasStopped ⟦<DiskOver<C> as Disk>⟧ state done more from
         → IsOpening ⟦<DiskOver<C> as Disk>⟧ from to → images_in to (moment_in from) image
         → IsStoppedFile ⟦<DiskOver<C> as Disk>⟧ state done more from.sectors image }
+{}
+
+/// What a power cut leaves of a run over one disk, or of an opening of an image that is kept, is kept, on whatever disk
+/// it is opened again.
+pub fn what_a_power_cut_leaves_is_kept<E: Disk + Drop>()
+    ensures in_a_run { (state : State) (done more : List Turn) (first now last : Machine E) (image : Image)
+        → IsOpened E.Disk state first → E.keeps first.store.disk
+        → DidAll E.Disk first.store.disk first.house.budget (opened state) done first now
+        → DidAll E.Disk first.store.disk first.house.budget (leads (opened state) done) more now last
+        → E.images_since last.store.disk (E.moment now.store.disk) image
+        → HoldsKept (half_of E.Disk now.store.disk) state done more image }
+    ensures in_an_opening { (state : State) (done more : List Turn) (from to : E) (image : Image)
+        → HoldsKept (half_of E.Disk from) state done more (E.reads from) → IsSettled E.Disk from
+        → IsOpening E.Disk from to → E.images_since to (E.moment from) image
+        → HoldsKept (half_of E.Disk from) state done more image }
 {}
 
 /// In every chain of steps from a newly opened concentrator, what is committed is the register

@@ -32,6 +32,24 @@ returns-in_err-store-clause-the_headline g c state done more was =
     let each = subst (EachStands (half_of g.D.Disk c.args.disk)) (sym opens.is_settled) opens.each in
     (each, search rules, λ enough. let named = c.in_err-store.ensures.premise enough each in search rules)
 
+pub returns-clause-on_any_disk : goal.returns-clause-on_any_disk
+returns-clause-on_any_disk g c state done more is_settled holds =
+    let disk = c.args.disk in
+    let new : Machine (g.row.D.Denot) = record { store = c.in_ok-store.store; house = c.in_ok-store.house; waiting = c.new.result; lines = c.new-2.result } in
+    let each = subst (EachStands (half_of g.D.Disk disk)) (sym is_settled) holds.premise in (
+      each,
+      λ h. (
+        holds.kept new.house.state (c.in_ok-store.ensures.reads h),
+        at_opened g.D.Disk new.store.disk new c.in_ok-store.ensures.running (c.in_ok-store.ensures.kept each) c.new.ensures c.new-2.ensures,
+      ),
+      λ enough. tt,
+    )
+
+pub returns-in_err-store-clause-on_any_disk : goal.returns-in_err-store-clause-on_any_disk
+returns-in_err-store-clause-on_any_disk g c state done more is_settled holds =
+    let each = subst (EachStands (half_of g.D.Disk c.args.disk)) (sym is_settled) holds.premise in
+    (each, search rules, λ enough. let named = c.in_err-store.ensures.premise enough each in search rules)
+
 pub returns-clause-empty : goal.returns-clause-empty
 returns-clause-empty g c = ap (λ (w : Waiting). w.count) c.new.ensures
 
