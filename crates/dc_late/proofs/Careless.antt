@@ -17,21 +17,21 @@ use Rattle.dc_world.specs.Meter.{Meter, moved_by, answer_to}
 use Rattle.dc_world.specs.declared.event.Outcome.TheVariants.{AsSent}
 use Rattle.dc_world.specs.World.{Finished, AreRegular, IsWhole, whole_readout}
 use Rattle.dc_world.proofs.Commits.{suc_is}
-use Rattle.dc_late.specs.Late.{LateWorld, LateEvent, starts, exchanges, commits, AreDifferent}
+use Rattle.dc_late.specs.Late.{LateWorld, LateEvent, starts, exchanges, commits, body_with, ArePlain, AreDifferent}
 use Rattle.dc_late.specs.Without.{careless_step, careless_from, careless_after}
 
--- PAD 00000001, version 1, water; the access numbers differ, and more follow after the first
+-- PAD 00000001, version 1, water; the access numbers are 0, and more follow after the first
 abbrev pub wire : List ℕ
 wire = 0x01 ∷ 0x00 ∷ 0x00 ∷ 0x00 ∷ 0x24 ∷ 0x40 ∷ 0x01 ∷ 0x07 ∷ []
 
 abbrev pub first_body : List ℕ
-first_body = 0x01 ∷ 0x00 ∷ 0x00 ∷ 0x00 ∷ 0x24 ∷ 0x40 ∷ 0x01 ∷ 0x07 ∷ 0x01 ∷ 0x00 ∷ 0x00 ∷ 0x00 ∷ 0x1F ∷ []
+first_body = 0x01 ∷ 0x00 ∷ 0x00 ∷ 0x00 ∷ 0x24 ∷ 0x40 ∷ 0x01 ∷ 0x07 ∷ 0x00 ∷ 0x01 ∷ 0x00 ∷ 0x00 ∷ 0x1F ∷ []
 
 abbrev second_body : List ℕ
-second_body = 0x01 ∷ 0x00 ∷ 0x00 ∷ 0x00 ∷ 0x24 ∷ 0x40 ∷ 0x01 ∷ 0x07 ∷ 0x02 ∷ 0x00 ∷ 0x00 ∷ 0x00 ∷ 0x0F ∷ []
+second_body = 0x01 ∷ 0x00 ∷ 0x00 ∷ 0x00 ∷ 0x24 ∷ 0x40 ∷ 0x01 ∷ 0x07 ∷ 0x00 ∷ 0x02 ∷ 0x00 ∷ 0x00 ∷ 0x0F ∷ []
 
 abbrev pub told : Identity → ℕ → List ℕ → Ending → Parsed
-told i access body ending = record { body = body; header = record { identity = i; access = access; status = 0; config = 0 }; records = []; ending = ending }
+told i status body ending = record { body = body; header = record { identity = i; access = 0; status = status; config = 0 }; records = []; ending = ending }
 
 reads : (i : Identity) × (telegram_at first_body ≡ Ok (told i 1 first_body (more []))) × (telegram_at second_body ≡ Ok (told i 2 second_body (last [])))
 unfolding telegram_at header_at content_at front_at is_identity
@@ -77,22 +77,22 @@ module _ (i : Identity) (r1 : telegram_at first_body ≡ Ok (told i 1 first_body
     clear = clear;
   }
 
-  acknowledged_at_once : careless_step line (at 0 None Resets 0 0 None [] [] true) (exchanges AsSent true) ≡ at 0 None Requests 0 0 None [] [] true
+  acknowledged_at_once : careless_step line (at 0 None Resets 0 0 None [] [] true) (exchanges AsSent true 0) ≡ at 0 None Requests 0 0 None [] [] true
   unfolding moved_by answer_to frame_of
   acknowledged_at_once = refl
 
-  comes_late : careless_step line (at 0 None Requests 0 0 None [] [] true) (exchanges AsSent false) ≡ at 1 (Some true) Requests 1 0 None [] (first_told ∷ []) false
+  comes_late : careless_step line (at 0 None Requests 0 0 None [] [] true) (exchanges AsSent false 0) ≡ at 1 (Some true) Requests 1 0 None [] (first_told ∷ []) false
   unfolding moved_by answer_to frame_of
   comes_late = refl
 
-  asked_again : careless_step line (at 1 (Some true) Requests 1 0 None [] (first_told ∷ []) false) (exchanges AsSent true) ≡ at 1 (Some true) (Pending true) 0 0 (Some first_body) [] (first_told ∷ []) false
+  asked_again : careless_step line (at 1 (Some true) Requests 1 0 None [] (first_told ∷ []) false) (exchanges AsSent true 0) ≡ at 1 (Some true) (Pending true) 0 0 (Some first_body) [] (first_told ∷ []) false
   unfolding moved_by answer_to frame_of
   asked_again = rw (r1, number_own, maker_own, version_own, kind_own) refl
 
   first_kept : careless_step line (at 1 (Some true) (Pending true) 0 0 (Some first_body) [] (first_told ∷ []) false) commits ≡ at 1 (Some true) Requests 0 1 None (first_body ∷ []) (first_told ∷ []) false
   first_kept = rw r1 refl
 
-  first_again : careless_step line (at 1 (Some true) Requests 0 1 None (first_body ∷ []) (first_told ∷ []) false) (exchanges AsSent true)
+  first_again : careless_step line (at 1 (Some true) Requests 0 1 None (first_body ∷ []) (first_told ∷ []) false) (exchanges AsSent true 0)
       ≡ at 2 (Some false) (Pending true) 0 1 (Some first_body) (first_body ∷ []) (second_told ∷ []) false
   unfolding moved_by answer_to frame_of
   first_again = rw (r1, number_own, maker_own, version_own, kind_own) refl
@@ -101,7 +101,7 @@ module _ (i : Identity) (r1 : telegram_at first_body ≡ Ok (told i 1 first_body
       ≡ at 2 (Some false) Requests 0 2 None (first_body ∷ first_body ∷ []) (second_told ∷ []) false
   again_kept = rw r1 refl
 
-  second_heard : careless_step line (at 2 (Some false) Requests 0 2 None (first_body ∷ first_body ∷ []) (second_told ∷ []) false) (exchanges AsSent true)
+  second_heard : careless_step line (at 2 (Some false) Requests 0 2 None (first_body ∷ first_body ∷ []) (second_told ∷ []) false) (exchanges AsSent true 0)
       ≡ at 3 (Some true) (Pending false) 0 2 (Some second_body) (first_body ∷ first_body ∷ []) [] false
   unfolding moved_by answer_to frame_of
   second_heard = rw (r2, number_own, maker_own, version_own, kind_own) refl
@@ -111,19 +111,19 @@ module _ (i : Identity) (r1 : telegram_at first_body ≡ Ok (told i 1 first_body
   wrongly_held = rw r2 refl
 
   abbrev events : List LateEvent
-  events = starts 0 ∷ exchanges AsSent true ∷ exchanges AsSent false ∷ exchanges AsSent true ∷ commits ∷ exchanges AsSent true ∷ commits ∷ exchanges AsSent true ∷ commits ∷ []
+  events = starts 0 ∷ exchanges AsSent true 0 ∷ exchanges AsSent false 0 ∷ exchanges AsSent true 0 ∷ commits ∷ exchanges AsSent true 0 ∷ commits ∷ exchanges AsSent true 0 ∷ commits ∷ []
 
   abbrev then : LateWorld → List LateEvent → List Finished
   then w rest = (careless_from line w rest).world.held
 
   held_is : (careless_after line events).world.held ≡ record { meter = 0; parts = first_body ∷ first_body ∷ second_body ∷ [] } ∷ []
   held_is =
-      ap (λ w. then w (exchanges AsSent false ∷ exchanges AsSent true ∷ commits ∷ exchanges AsSent true ∷ commits ∷ exchanges AsSent true ∷ commits ∷ [])) acknowledged_at_once
-      ∙ ap (λ w. then w (exchanges AsSent true ∷ commits ∷ exchanges AsSent true ∷ commits ∷ exchanges AsSent true ∷ commits ∷ [])) comes_late
-      ∙ ap (λ w. then w (commits ∷ exchanges AsSent true ∷ commits ∷ exchanges AsSent true ∷ commits ∷ [])) asked_again
-      ∙ ap (λ w. then w (exchanges AsSent true ∷ commits ∷ exchanges AsSent true ∷ commits ∷ [])) first_kept
-      ∙ ap (λ w. then w (commits ∷ exchanges AsSent true ∷ commits ∷ [])) first_again
-      ∙ ap (λ w. then w (exchanges AsSent true ∷ commits ∷ [])) again_kept
+      ap (λ w. then w (exchanges AsSent false 0 ∷ exchanges AsSent true 0 ∷ commits ∷ exchanges AsSent true 0 ∷ commits ∷ exchanges AsSent true 0 ∷ commits ∷ [])) acknowledged_at_once
+      ∙ ap (λ w. then w (exchanges AsSent true 0 ∷ commits ∷ exchanges AsSent true 0 ∷ commits ∷ exchanges AsSent true 0 ∷ commits ∷ [])) comes_late
+      ∙ ap (λ w. then w (commits ∷ exchanges AsSent true 0 ∷ commits ∷ exchanges AsSent true 0 ∷ commits ∷ [])) asked_again
+      ∙ ap (λ w. then w (exchanges AsSent true 0 ∷ commits ∷ exchanges AsSent true 0 ∷ commits ∷ [])) first_kept
+      ∙ ap (λ w. then w (commits ∷ exchanges AsSent true 0 ∷ commits ∷ [])) first_again
+      ∙ ap (λ w. then w (exchanges AsSent true 0 ∷ commits ∷ [])) again_kept
       ∙ ap (λ w. then w (commits ∷ [])) second_heard
       ∙ wrongly_held
 
@@ -156,8 +156,16 @@ module _ (i : Identity) (r1 : telegram_at first_body ≡ Ok (told i 1 first_body
     apart = λ k j x y a b c. (alone k x a).0 ∙ sym (alone j y b).0;
   }
 
+  body_is_plain : (j : ℕ) (body : List ℕ) → slice_get (first_body ∷ second_body ∷ []) j ≡ Some body → body_with 0 body ≡ body
+  body_is_plain zero body e = let same : first_body ≡ body = cc in subst (λ (b : List ℕ). body_with 0 b ≡ b) same refl
+  body_is_plain (suc zero) body e = let same : second_body ≡ body = cc in subst (λ (b : List ℕ). body_with 0 b ≡ b) same refl
+  body_is_plain (suc (suc j)) body e = absurd cc
+
+  are_plain : ArePlain line
+  are_plain k j m body at stands = body_is_plain j body (ap (λ x. slice_get x.bodies j) (alone k m at).1 ∙ stands)
+
   bodies_differ : (k : ℕ) (body next : List ℕ) → slice_get (first_body ∷ second_body ∷ []) k ≡ Some body → slice_get (first_body ∷ second_body ∷ []) (suc k) ≡ Some next → body ≢ next
-  bodies_differ zero body next a b e = let c : first_body ≡ body = cc in let d : second_body ≡ next = cc in absurd (let f : first_body ≡ second_body = c ∙ e ∙ sym d in let g : 1 ≡ 2 = ap (λ l. slice_index l 8) f in omega (arith, g))
+  bodies_differ zero body next a b e = let c : first_body ≡ body = cc in let d : second_body ≡ next = cc in absurd (let f : first_body ≡ second_body = c ∙ e ∙ sym d in let g : 1 ≡ 2 = ap (λ l. slice_index l 9) f in omega (arith, g))
   bodies_differ (suc zero) body next a b e = absurd cc
   bodies_differ (suc (suc k)) body next a b e = absurd cc
 
@@ -166,7 +174,7 @@ module _ (i : Identity) (r1 : telegram_at first_body ≡ Ok (told i 1 first_body
       let same = (alone k m at).1 in
       bodies_differ j body next (ap (λ x. slice_get x.bodies j) same ∙ a) (ap (λ x. slice_get x.bodies (suc j)) same ∙ ap (slice_get m.bodies) (suc_is j) ∙ b)
 
-pub careless_is_wrong : (meters : List Meter) × (events : List LateEvent) × AreRegular meters × AreDifferent meters × (AllByRecursion (IsWhole meters) (careless_after meters events).world.held → ⊥)
+pub careless_is_wrong : (meters : List Meter) × (events : List LateEvent) × AreRegular meters × ArePlain meters × AreDifferent meters × (AllByRecursion (IsWhole meters) (careless_after meters events).world.held → ⊥)
 careless_is_wrong =
     let r = reads in
-    (line r.0 r.1 r.2, events r.0 r.1 r.2, regular r.0 r.1 r.2, different r.0 r.1 r.2, not_whole r.0 r.1 r.2)
+    (line r.0 r.1 r.2, events r.0 r.1 r.2, regular r.0 r.1 r.2, are_plain r.0 r.1 r.2, different r.0 r.1 r.2, not_whole r.0 r.1 r.2)

@@ -23,7 +23,7 @@ use Rattle.dc_world.proofs.Moves.{no_frame_of_nothing, no_frame_of_zero, selecte
 use Rattle.dc_world.proofs.Exchanges.{own_goes_on, own_selected}
 use Rattle.dc_world.proofs.Replies.{answer_to-reset, answer_to-selection, heard_as_sent}
 use Rattle.dc_world.proofs.Commits.{suc_is}
-use Rattle.dc_late.specs.Late.{LateWorld, LateEvent, Last, Listened, starts, passes, exchanges, commits, stops, is_copy, last_after, and_sent, listened, heard_late, exchanged, exchanged_by, started_if, is_quiet, late_step, late_from, late_after, new_late_world, in_its_time, AreDifferent, NoAnswerIsACopy}
+use Rattle.dc_late.proofs.Plainly.{LateWorld, LateEvent, Last, Listened, is_command, starts, passes, arrives_cut, exchanges, commits, stops, is_copy, last_after, and_sent, listened, heard_late, exchanged, exchanged_by, started_if, is_quiet, late_step, late_from, late_after, new_late_world, in_its_time, AreDifferent, NoAnswerIsACopy}
 use Rattle.dc_late.proofs.UnderWay.{answer_no, last_at, IsLast, IsRegularLate}
 use Rattle.dc_late.proofs.Sent.{request_answered}
 use Rattle.dc_late.proofs.LateWorlds.{follows_there, step_keeps, new_is_regular_late}
@@ -43,7 +43,11 @@ IsLongLast (Some l) = IsLong l.answer
 
 long_after : (heard : Option FrameSeen) (request answer : List ℕ) (last : Option Last) → frame_of answer ≡ heard → IsLongLast last → IsLongLast (last_after heard request answer last)
 long_after None request answer last e is = is
-long_after (Some ack) request answer last e is = tt
+long_after (Some ack) request answer last e is = go (is_command (frame_of request))
+  where
+    go : (b : Bool) → IsLongLast (cond b None last)
+    go true = tt
+    go false = is
 long_after (Some (short control sender)) request answer last e is = is
 long_after (Some (long control sender ci body)) request answer last e is = record { control = control; sender = sender; ci = ci; body = body; is = e }
 
@@ -64,6 +68,7 @@ long_started meters w place false is = is
 long_kept : (meters : List Meter) (w : LateWorld) (event : LateEvent) → IsLongLast w.last → IsLongLast (late_step meters w event).last
 long_kept meters w (starts place) is = long_started meters w place (is_quiet w.under_way || w.clear) is
 long_kept meters w (passes count) is = is
+long_kept meters w (arrives_cut place count pieces) is = is
 long_kept meters w (exchanges outcome in_time) is = long_in meters w w.world.running outcome in_time is
 long_kept meters w commits is = is
 long_kept meters w stops is = tt

@@ -21,15 +21,15 @@ use Rattle.dc_world.specs.Meter.{Meter, first_position, moved_by, answer_to}
 use Rattle.dc_world.specs.declared.event.Outcome.TheVariants.{RequestLost, AsSent}
 use Rattle.dc_world.specs.World.{Running, Finished, AreRegular, IsWhole, whole_readout}
 use Rattle.dc_world.proofs.Commits.{suc_is}
-use Rattle.dc_late.specs.Late.{LateWorld, LateEvent, Last, starts, exchanges, commits, stops, AreDifferent}
+use Rattle.dc_late.specs.Late.{LateWorld, LateEvent, Last, starts, exchanges, commits, stops, body_with, ArePlain, AreDifferent}
 use Rattle.dc_late.specs.Without.{hasty_step, hasty_from, hasty_after}
 use Rattle.dc_late.proofs.Careless.{told, wire, first_body}
 
 abbrev second_body : List ℕ
-second_body = 0x01 ∷ 0x00 ∷ 0x00 ∷ 0x00 ∷ 0x24 ∷ 0x40 ∷ 0x01 ∷ 0x07 ∷ 0x02 ∷ 0x00 ∷ 0x00 ∷ 0x00 ∷ 0x1F ∷ []
+second_body = 0x01 ∷ 0x00 ∷ 0x00 ∷ 0x00 ∷ 0x24 ∷ 0x40 ∷ 0x01 ∷ 0x07 ∷ 0x00 ∷ 0x02 ∷ 0x00 ∷ 0x00 ∷ 0x1F ∷ []
 
 abbrev third_body : List ℕ
-third_body = 0x01 ∷ 0x00 ∷ 0x00 ∷ 0x00 ∷ 0x24 ∷ 0x40 ∷ 0x01 ∷ 0x07 ∷ 0x03 ∷ 0x00 ∷ 0x00 ∷ 0x00 ∷ 0x0F ∷ []
+third_body = 0x01 ∷ 0x00 ∷ 0x00 ∷ 0x00 ∷ 0x24 ∷ 0x40 ∷ 0x01 ∷ 0x07 ∷ 0x00 ∷ 0x03 ∷ 0x00 ∷ 0x00 ∷ 0x0F ∷ []
 
 -- PAD 00000002, which has no telegram
 abbrev other_wire : List ℕ
@@ -131,11 +131,11 @@ module _ (r : Reads) where
   abbrev heard_at : List ℕ → List ℕ → Option Last
   heard_at request body = Some (record { request = request; answer = told_at body })
 
-  s1 : hasty_step line (at 0 None (with_one Resets 0 None) [] [] None true) (exchanges AsSent true) ≡ at 0 None (with_one Requests 0 None) [] [] None true
+  s1 : hasty_step line (at 0 None (with_one Resets 0 None) [] [] None true) (exchanges AsSent true 0) ≡ at 0 None (with_one Requests 0 None) [] [] None true
   unfolding moved_by answer_to frame_of
   s1 = refl
 
-  s2 : hasty_step line (at 0 None (with_one Requests 0 None) [] [] None true) (exchanges AsSent true)
+  s2 : hasty_step line (at 0 None (with_one Requests 0 None) [] [] None true) (exchanges AsSent true 0)
       ≡ at 1 (Some true) (with_one (Pending true) 0 (Some first_body)) [] [] (heard_at (spelling (short 0x7B 1)) first_body) true
   unfolding moved_by answer_to frame_of
   s2 = rw (r.r1, number_own, maker_own, version_own, kind_own) refl
@@ -144,7 +144,7 @@ module _ (r : Reads) where
       ≡ at 1 (Some true) (with_one Requests 1 None) (first_body ∷ []) [] (heard_at (spelling (short 0x7B 1)) first_body) true
   s3 = rw (r.r1) refl
 
-  s4 : hasty_step line (at 1 (Some true) (with_one Requests 1 None) (first_body ∷ []) [] (heard_at (spelling (short 0x7B 1)) first_body) true) (exchanges AsSent true)
+  s4 : hasty_step line (at 1 (Some true) (with_one Requests 1 None) (first_body ∷ []) [] (heard_at (spelling (short 0x7B 1)) first_body) true) (exchanges AsSent true 0)
       ≡ at 2 (Some false) (with_one (Pending true) 1 (Some second_body)) (first_body ∷ []) [] (heard_at (spelling (short 0x5B 1)) second_body) true
   unfolding moved_by answer_to frame_of
   s4 = rw (r.r2, number_own, maker_own, version_own, kind_own) refl
@@ -153,7 +153,7 @@ module _ (r : Reads) where
       ≡ at 2 (Some false) (with_two 0) (first_body ∷ []) [] None true
   s5 = refl
 
-  s6 : hasty_step line (at 2 (Some false) (with_two 0) (first_body ∷ []) [] None true) (exchanges AsSent false)
+  s6 : hasty_step line (at 2 (Some false) (with_two 0) (first_body ∷ []) [] None true) (exchanges AsSent false 0)
       ≡ at 2 (Some false) (with_two 1) (first_body ∷ []) (spelling ack ∷ []) None false
   unfolding moved_by answer_to frame_of
   s6 = refl
@@ -162,12 +162,12 @@ module _ (r : Reads) where
       ≡ at 2 (Some false) (with_one Resets 0 None) (first_body ∷ []) (spelling ack ∷ []) None true
   s7 = refl
 
-  s8 : hasty_step line (at 2 (Some false) (with_one Resets 0 None) (first_body ∷ []) (spelling ack ∷ []) None true) (exchanges RequestLost true)
+  s8 : hasty_step line (at 2 (Some false) (with_one Resets 0 None) (first_body ∷ []) (spelling ack ∷ []) None true) (exchanges RequestLost true 0)
       ≡ at 2 (Some false) (with_one Requests 0 None) (first_body ∷ []) [] None true
   unfolding moved_by answer_to frame_of
   s8 = refl
 
-  s9 : hasty_step line (at 2 (Some false) (with_one Requests 0 None) (first_body ∷ []) [] None true) (exchanges AsSent true)
+  s9 : hasty_step line (at 2 (Some false) (with_one Requests 0 None) (first_body ∷ []) [] None true) (exchanges AsSent true 0)
       ≡ at 3 (Some true) (with_one (Pending false) 0 (Some third_body)) (first_body ∷ []) [] (heard_at (spelling (short 0x7B 1)) third_body) true
   unfolding moved_by answer_to frame_of
   s9 = rw (r.r3, number_own, maker_own, version_own, kind_own) refl
@@ -177,21 +177,21 @@ module _ (r : Reads) where
   s10 = rw (r.r3) refl
 
   abbrev events : List LateEvent
-  events = starts 0 ∷ exchanges AsSent true ∷ exchanges AsSent true ∷ commits ∷ exchanges AsSent true ∷ stops ∷ starts 1 ∷ exchanges AsSent false ∷ stops ∷ starts 0 ∷ exchanges RequestLost true ∷ exchanges AsSent true ∷ commits ∷ []
+  events = starts 0 ∷ exchanges AsSent true 0 ∷ exchanges AsSent true 0 ∷ commits ∷ exchanges AsSent true 0 ∷ stops ∷ starts 1 ∷ exchanges AsSent false 0 ∷ stops ∷ starts 0 ∷ exchanges RequestLost true 0 ∷ exchanges AsSent true 0 ∷ commits ∷ []
 
   abbrev then : LateWorld → List LateEvent → List Finished
   then w rest = (hasty_from line w rest).world.held
 
   held_is : (hasty_after line events).world.held ≡ record { meter = 0; parts = third_body ∷ [] } ∷ []
   held_is =
-      ap (λ w. then w (exchanges AsSent true ∷ commits ∷ exchanges AsSent true ∷ stops ∷ starts 1 ∷ exchanges AsSent false ∷ stops ∷ starts 0 ∷ exchanges RequestLost true ∷ exchanges AsSent true ∷ commits ∷ [])) s1
-      ∙ ap (λ w. then w (commits ∷ exchanges AsSent true ∷ stops ∷ starts 1 ∷ exchanges AsSent false ∷ stops ∷ starts 0 ∷ exchanges RequestLost true ∷ exchanges AsSent true ∷ commits ∷ [])) s2
-      ∙ ap (λ w. then w (exchanges AsSent true ∷ stops ∷ starts 1 ∷ exchanges AsSent false ∷ stops ∷ starts 0 ∷ exchanges RequestLost true ∷ exchanges AsSent true ∷ commits ∷ [])) s3
-      ∙ ap (λ w. then w (stops ∷ starts 1 ∷ exchanges AsSent false ∷ stops ∷ starts 0 ∷ exchanges RequestLost true ∷ exchanges AsSent true ∷ commits ∷ [])) s4
-      ∙ ap (λ w. then w (exchanges AsSent false ∷ stops ∷ starts 0 ∷ exchanges RequestLost true ∷ exchanges AsSent true ∷ commits ∷ [])) s5
-      ∙ ap (λ w. then w (stops ∷ starts 0 ∷ exchanges RequestLost true ∷ exchanges AsSent true ∷ commits ∷ [])) s6
-      ∙ ap (λ w. then w (exchanges RequestLost true ∷ exchanges AsSent true ∷ commits ∷ [])) s7
-      ∙ ap (λ w. then w (exchanges AsSent true ∷ commits ∷ [])) s8
+      ap (λ w. then w (exchanges AsSent true 0 ∷ commits ∷ exchanges AsSent true 0 ∷ stops ∷ starts 1 ∷ exchanges AsSent false 0 ∷ stops ∷ starts 0 ∷ exchanges RequestLost true 0 ∷ exchanges AsSent true 0 ∷ commits ∷ [])) s1
+      ∙ ap (λ w. then w (commits ∷ exchanges AsSent true 0 ∷ stops ∷ starts 1 ∷ exchanges AsSent false 0 ∷ stops ∷ starts 0 ∷ exchanges RequestLost true 0 ∷ exchanges AsSent true 0 ∷ commits ∷ [])) s2
+      ∙ ap (λ w. then w (exchanges AsSent true 0 ∷ stops ∷ starts 1 ∷ exchanges AsSent false 0 ∷ stops ∷ starts 0 ∷ exchanges RequestLost true 0 ∷ exchanges AsSent true 0 ∷ commits ∷ [])) s3
+      ∙ ap (λ w. then w (stops ∷ starts 1 ∷ exchanges AsSent false 0 ∷ stops ∷ starts 0 ∷ exchanges RequestLost true 0 ∷ exchanges AsSent true 0 ∷ commits ∷ [])) s4
+      ∙ ap (λ w. then w (exchanges AsSent false 0 ∷ stops ∷ starts 0 ∷ exchanges RequestLost true 0 ∷ exchanges AsSent true 0 ∷ commits ∷ [])) s5
+      ∙ ap (λ w. then w (stops ∷ starts 0 ∷ exchanges RequestLost true 0 ∷ exchanges AsSent true 0 ∷ commits ∷ [])) s6
+      ∙ ap (λ w. then w (exchanges RequestLost true 0 ∷ exchanges AsSent true 0 ∷ commits ∷ [])) s7
+      ∙ ap (λ w. then w (exchanges AsSent true 0 ∷ commits ∷ [])) s8
       ∙ ap (λ w. then w (commits ∷ [])) s9
       ∙ s10
 
@@ -256,18 +256,31 @@ module _ (r : Reads) where
     apart = λ k l x y a b c. apart_at k l x y (stands k x a) (stands l y b) c;
   }
 
-  other_access : (a b : ℕ) (body next : List ℕ) → slice_index body 8 ≡ a → slice_index next 8 ≡ b → a ≢ b → body ≢ next
-  other_access a b body next x y differ e = differ (sym x ∙ ap (λ l. slice_index l 8) e ∙ y)
+  body_is_plain : (j : ℕ) (body : List ℕ) → slice_get (first_body ∷ second_body ∷ third_body ∷ []) j ≡ Some body → body_with 0 body ≡ body
+  body_is_plain zero body e = let same : first_body ≡ body = cc in subst (λ (b : List ℕ). body_with 0 b ≡ b) same refl
+  body_is_plain (suc zero) body e = let same : second_body ≡ body = cc in subst (λ (b : List ℕ). body_with 0 b ≡ b) same refl
+  body_is_plain (suc (suc zero)) body e = let same : third_body ≡ body = cc in subst (λ (b : List ℕ). body_with 0 b ≡ b) same refl
+  body_is_plain (suc (suc (suc j))) body e = absurd cc
+
+  plain_at : (k j : ℕ) (m : Meter) (body : List ℕ) → ((k ≡ 0) × (one ≡ m)) ⊎ ((k ≡ 1) × (two ≡ m)) → slice_get m.bodies j ≡ Some body → body_with 0 body ≡ body
+  plain_at k j m body (inl is) at = body_is_plain j body (ap (λ x. slice_get x.bodies j) is.1 ∙ at)
+  plain_at k j m body (inr is) at = absurd (let e : None ≡ Some body = ap (λ x. slice_get x.bodies j) is.1 ∙ at in cc)
+
+  are_plain : ArePlain line
+  are_plain k j m body at there = plain_at k j m body (stands k m at) there
+
+  other_status : (a b : ℕ) (body next : List ℕ) → slice_index body 9 ≡ a → slice_index next 9 ≡ b → a ≢ b → body ≢ next
+  other_status a b body next x y differ e = differ (sym x ∙ ap (λ l. slice_index l 9) e ∙ y)
 
   bodies_differ : (k : ℕ) (body next : List ℕ) → slice_get (first_body ∷ second_body ∷ third_body ∷ []) k ≡ Some body → slice_get (first_body ∷ second_body ∷ third_body ∷ []) (suc k) ≡ Some next → body ≢ next
   bodies_differ zero body next a b =
       let c : first_body ≡ body = cc in
       let d : second_body ≡ next = cc in
-      other_access 1 2 body next (ap (λ l. slice_index l 8) (sym c)) (ap (λ l. slice_index l 8) (sym d)) (omega arith)
+      other_status 1 2 body next (ap (λ l. slice_index l 9) (sym c)) (ap (λ l. slice_index l 9) (sym d)) (omega arith)
   bodies_differ (suc zero) body next a b =
       let c : second_body ≡ body = cc in
       let d : third_body ≡ next = cc in
-      other_access 2 3 body next (ap (λ l. slice_index l 8) (sym c)) (ap (λ l. slice_index l 8) (sym d)) (omega arith)
+      other_status 2 3 body next (ap (λ l. slice_index l 9) (sym c)) (ap (λ l. slice_index l 9) (sym d)) (omega arith)
   bodies_differ (suc (suc zero)) body next a b = absurd cc
   bodies_differ (suc (suc (suc k))) body next a b = absurd cc
 
@@ -279,5 +292,5 @@ module _ (r : Reads) where
   different : AreDifferent line
   different k j m body next at a b = differ_at k j m body next (stands k m at) a b
 
-pub hasty_is_wrong : (meters : List Meter) × (events : List LateEvent) × AreRegular meters × AreDifferent meters × (AllByRecursion (IsWhole meters) (hasty_after meters events).world.held → ⊥)
-hasty_is_wrong = (line reads, events reads, regular reads, different reads, not_whole reads)
+pub hasty_is_wrong : (meters : List Meter) × (events : List LateEvent) × AreRegular meters × ArePlain meters × AreDifferent meters × (AllByRecursion (IsWhole meters) (hasty_after meters events).world.held → ⊥)
+hasty_is_wrong = (line reads, events reads, regular reads, are_plain reads, different reads, not_whole reads)

@@ -5,8 +5,8 @@ use Rattle.std.specs.List.{AllByRecursion}
 use Rattle.std.proofs.lemmas.Bool.{eq-eqb}
 use Rattle.std.proofs.lemmas.Bool.Decides.{nat_tests}
 use Rattle.std.proofs.lemmas.Slice.Eq.{bytes_eq-Decides}
-use Rattle.dc_linkframe.specs.Frame.{FrameSeen, ack, long, spelling}
-use Rattle.dc_linkframe.specs.Control.{req_ud2, variable_data}
+use Rattle.dc_linkframe.specs.Frame.{FrameSeen, ack, short, long, spelling}
+use Rattle.dc_linkframe.specs.Control.{req_ud2, snd_nke, variable_data}
 use Rattle.dc_linkframe.specs.Reading.{frame_of}
 use Rattle.dc_linkframe.proofs.Spellings.{frame_of-spelling}
 use Rattle.dc_address.specs.declared.identity.Identity.{Identity}
@@ -19,14 +19,15 @@ use Rattle.dc_readout.specs.declared.why.Why.{Why}
 use Rattle.dc_readout.specs.declared.why.Why.TheVariants.{Stranger, TooManyParts}
 use Rattle.dc_readout.specs.Answer.{acknowledged, answered, missed, broken, max_parts, to_command, to_request, is_from, is_meter, by_body}
 use Rattle.dc_readout.proofs.Table.{acknowledged_when}
-use Rattle.dc_readout.specs.Summary.{request_bit, request_of, asked_at, meaning_at, after_command}
+use Rattle.dc_readout.proofs.Requests.{selection_is_long}
+use Rattle.dc_readout.specs.Summary.{request_bit, reset_of, selection_of, request_of, asked_at, meaning_at, after_command}
 use Rattle.dc_world.specs.Meter.{Meter, Position, response, rsp_ud}
 use Rattle.dc_world.specs.World.{more_in}
 use Rattle.dc_world.specs.Reply.{bytes_of}
 use Rattle.dc_world.specs.InStep.{HasGoneOn, IsInStep, IsAlone, IsNextBody}
 use Rattle.dc_world.proofs.Moves.{no_frame_of_nothing}
 use Rattle.dc_world.proofs.Exchanges.{Long, telegram_long, alone_pending}
-use Rattle.dc_late.specs.Late.{Last, is_copy, last_after}
+use Rattle.dc_late.proofs.Plainly.{Last, is_command, is_long, is_copy, last_after}
 use Rattle.dc_late.proofs.UnderWay.{answer_no, IsOld, IsNew, IsAcknowledged, IsUnreadable, IsOrdered, IsUnderWay, IsLast, last_at, all_map, old_ordered}
 use Rattle.dc_late.proofs.Sent.{Line}
 
@@ -60,16 +61,16 @@ own_copy address m k x is =
 
 -- ---- what may be received when a telegram is requested
 
--- no frame, the acknowledgement if no telegram was acknowledged yet, or the next telegram
+-- no telegram, the acknowledgement if no telegram was acknowledged yet, or the next telegram
 pub data Comes (m : Meter) (n : ℕ) (p : Position) (left : List (List ℕ)) : List ℕ → Type 0 where
-  nothing : {x : List ℕ} → frame_of x ≡ None → Comes m n p left x
+  nothing : {x : List ℕ} → is_long (frame_of x) ≡ false → Comes m n p left x
   first_ack : {x : List ℕ} → n ≡ 0 → frame_of x ≡ Some ack → Comes m n p left x
   next : {x : List ℕ} → x ≡ answer_no m (suc n) → HasGoneOn n p → AllByRecursion (IsNew m n p) left → Comes m n p left x
 
 old_comes : (address : Option ℕ) (m : Meter) (n : ℕ) (p : Position) (left : List (List ℕ)) (last : Option Last) (x : List ℕ)
     → last ≡ last_at address m n → (frame_of x ≡ None) ⊎ (is_copy last (spelling (request_of address n)) x ≡ false) → IsOld m n x → Comes m n p left x
 old_comes address m n p left last x is fresh (inl none) = nothing none
-old_comes address m n p left last x is (inl none) (inr e) = nothing none
+old_comes address m n p left last x is (inl none) (inr e) = nothing (ap is_long none)
 old_comes address m zero p left last x is (inr other) (inr e) = first_ack refl (ap frame_of e ∙ frame_of-spelling ack)
 old_comes address m (suc k) p left last x is (inr other) (inr e) =
     absurd (let copy = own_copy address m k x e in
@@ -108,7 +109,7 @@ pub record Taken (m : Meter) (n : ℕ) (p : Position) (left : List (List ℕ)) (
 
 takes : (identity : Identity) (address : Option ℕ) (m : Meter) (n : ℕ) (p : Position) (left : List (List ℕ)) (x : List ℕ) (t : Parsed)
     → Comes m n p left x → Long (frame_of x) t → Taken m n p left x t
-takes identity address m n p left x t (nothing none) l = absurd (let e = l.is in cc)
+takes identity address m n p left x t (nothing none) l = absurd (let e : true ≡ false = sym (ap is_long l.is) ∙ none in cc)
 takes identity address m n p left x t (first_ack zero_is is) l = absurd (let e = l.is in cc)
 takes identity address m n p left x t (next is gone all) l =
     let body : slice_get m.bodies n ≡ Some t.body = next_body m (slice_get m.bodies n) x l.control l.sender l.ci t.body is l.is in
@@ -147,14 +148,31 @@ next_kept identity address m n part last request x (Some b) why whom is e same =
     absurd (told_not_missed identity address part m b why whom
     (ap (to_request identity address part) (sym (ap frame_of is ∙ frame_of-spelling (long rsp_ud (unwrap_or m.address 0) variable_data b))) ∙ e))
 
-kept_by : (identity : Identity) (address : Option ℕ) (m : Meter) (n : ℕ) (p : Position) (left : List (List ℕ)) (last : Option Last) (request x : List ℕ) (why : Why) → m.address ≡ address
+kept_by : (identity : Identity) (address : Option ℕ) (m : Meter) (n : ℕ) (p : Position) (left : List (List ℕ)) (last : Option Last) (request x : List ℕ) (why : Why) → m.address ≡ address → is_command (frame_of request) ≡ false
     → Comes m n p left x → to_request identity address (n + 1) (frame_of x) ≡ missed why → last ≡ last_at address m n → last_after (frame_of x) request x last ≡ last_at address m n
-kept_by identity address m n p left last request x why whom (nothing none) e same = rw none same
-kept_by identity address m n p left last request x why whom (first_ack zero_is is) e same = rw is (ap (last_at address m) (sym zero_is))
-kept_by identity address m n p left last request x why whom (next is gone all) e same =
+kept_by identity address m n p left last request x why whom never (nothing none) e same = go (frame_of x) none
+  where
+    go : (found : Option FrameSeen) → is_long found ≡ false → last_after found request x last ≡ last_at address m n
+    go None is = same
+    go (Some ack) is = rw never same
+    go (Some (short control sender)) is = same
+    go (Some (long control sender ci body)) is = absurd cc
+kept_by identity address m n p left last request x why whom never (first_ack zero_is is) e same = rw is (go (is_command (frame_of request)))
+  where
+    go : (b : Bool) → cond b None last ≡ last_at address m n
+    go true = ap (last_at address m) (sym zero_is)
+    go false = same
+kept_by identity address m n p left last request x why whom never (next is gone all) e same =
     next_kept identity address m n (n + 1) last request x (slice_get m.bodies n) why whom is e same
 
 -- ---- by the stage of the session
+
+asks_no_command : (address : Option ℕ) (n : ℕ) (frame : FrameSeen) → request_of address n ≡ frame → is_command (frame_of (spelling frame)) ≡ false
+asks_no_command address n frame same = ap is_command (frame_of-spelling frame ∙ ap Some (sym same)) ∙ go (request_bit n)
+  where
+    go : (b : Bool) → (req_ud2 b == snd_nke) ≡ false
+    go true = refl
+    go false = refl
 
 -- what was received is a failed try
 pub missed_keeps : (stage : Stage) (identity : Identity) (address : Option ℕ) (n i : ℕ) (frame : FrameSeen) (m : Meter) (p : Position) (positions : List Position) (left : List (List ℕ)) (last : Option Last) (x : List ℕ) (why : Why)
@@ -165,17 +183,17 @@ missed_keeps Resets identity address n i frame m p positions left last x why ask
 missed_keeps Selects identity address n i frame m p positions left last x why asks whom u fresh e is = tt
 missed_keeps Requests identity address n i frame m p positions left last x why asks whom u fresh e is =
     let same : request_of address n ≡ frame = cc in
-    kept_by identity address m n p left last (spelling frame) x why whom
+    kept_by identity address m n p left last (spelling frame) x why whom (asks_no_command address n frame same)
     (comes address m n p left last x is (subst (λ f. (frame_of x ≡ None) ⊎ (is_copy last (spelling f) x ≡ false)) (sym same) fresh) u) e is
 missed_keeps (Pending more) identity address n i frame m p positions left last x why asks whom u fresh e is = absurd cc
 missed_keeps Ended identity address n i frame m p positions left last x why asks whom u fresh e is = absurd cc
 
 -- the acknowledgement was received
 acknowledged_when_heard : (address : Option ℕ) (n i : ℕ) (m : Meter) (p : Position) (positions : List Position) (left : List (List ℕ)) (last : Option Last) (request x : List ℕ)
-    → n ≡ 0 → slice_get positions i ≡ Some p → to_command (frame_of x) ≡ acknowledged → IsAcknowledged address n i p positions x → AllByRecursion (IsAcknowledged address n i p positions) left
+    → is_command (frame_of request) ≡ true → n ≡ 0 → slice_get positions i ≡ Some p → to_command (frame_of x) ≡ acknowledged → IsAcknowledged address n i p positions x → AllByRecursion (IsAcknowledged address n i p positions) left
     → Line Requests address n i m positions left × (last_after (frame_of x) request x last ≡ last_at address m n)
-acknowledged_when_heard address n i m p positions left last request x zero_is stands e (inl none) all = absurd (let t = ap to_command none in cc)
-acknowledged_when_heard address n i m p positions left last request x zero_is stands e (inr is) all = (
+acknowledged_when_heard address n i m p positions left last request x command zero_is stands e (inl none) all = absurd (let t = ap to_command none in cc)
+acknowledged_when_heard address n i m p positions left last request x command zero_is stands e (inr is) all = (
   record {
     position = p;
     stands = stands;
@@ -183,12 +201,19 @@ acknowledged_when_heard address n i m p positions left last request x zero_is st
     alone = is.2;
     under_way = old_ordered (IsOld m n) (IsNew m n p) left (all_map (IsAcknowledged address n i p positions) (IsOld m n) first left all);
   },
-  rw (ap frame_of is.0 ∙ frame_of-spelling ack) (ap (last_at address m) (sym zero_is)),
+  rw (ap frame_of is.0 ∙ frame_of-spelling ack, command) (ap (last_at address m) (sym zero_is)),
 )
   where
     first : (y : List ℕ) → IsAcknowledged address n i p positions y → IsOld m n y
-    first y (inl none) = inl none
+    first y (inl none) = inl (ap is_long none)
     first y (inr f) = inr (f.0 ∙ ap (answer_no m) (sym zero_is))
+
+-- the reset and the selection are answered by the acknowledgement
+resets : (a : ℕ) (frame : FrameSeen) → Some (reset_of (Some a)) ≡ Some frame → is_command (frame_of (spelling frame)) ≡ true
+resets a frame asks = ap is_command (frame_of-spelling frame ∙ sym asks)
+
+selects : (identity : Identity) (frame : FrameSeen) → Some (selection_of identity) ≡ Some frame → is_command (frame_of (spelling frame)) ≡ true
+selects identity frame asks = ap is_command (frame_of-spelling frame ∙ sym asks ∙ ap Some (selection_is_long identity))
 
 unreadable_only : (address : Option ℕ) (n i : ℕ) (p : Position) (positions : List Position) (y : List ℕ) → IsUnreadable y → IsAcknowledged address n i p positions y
 unreadable_only address n i p positions y none = inl none
@@ -206,9 +231,9 @@ command_keeps Resets identity None n i frame m p positions left last x asks stan
   tt,
 )
 command_keeps Resets identity (Some a) n i frame m p positions left last x asks stands step u e =
-    acknowledged_when_heard (Some a) n i m p positions left last (spelling frame) x step stands e u.0 u.1
+    acknowledged_when_heard (Some a) n i m p positions left last (spelling frame) x (resets a frame asks) step stands e u.0 u.1
 command_keeps Selects identity address n i frame m p positions left last x asks stands step u e =
-    acknowledged_when_heard address n i m p positions left last (spelling frame) x step stands e u.0 u.1
+    acknowledged_when_heard address n i m p positions left last (spelling frame) x (selects identity frame asks) step stands e u.0 u.1
 command_keeps Requests identity address n i frame m p positions left last x asks stands step u e =
     absurd (no_command (acknowledged_when Requests identity address n (frame_of x) e))
 command_keeps (Pending more) identity address n i frame m p positions left last x asks stands step u e = absurd cc

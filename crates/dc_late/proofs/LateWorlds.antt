@@ -24,8 +24,8 @@ use Rattle.dc_world.proofs.Exchanges.{own_is, not_group}
 use Rattle.dc_world.proofs.Events.{ready_is, new_is, waits_none, waits_after, length-after, start_keeps, new_is_regular, stop_keeps, at_place}
 use Rattle.dc_world.proofs.Commits.{pends, suc_is, commit_keeps}
 use Rattle.dc_world.proofs.Worlds.{regular_goes_on}
-use Rattle.dc_late.specs.Late.{LateWorld, LateEvent, Last, Listened, starts, passes, exchanges, commits, stops, is_copy, past_copies, last_after, and_sent, first_of, listened, heard_late, exchanged_as, exchanged_by, exchanged, started_if, is_quiet, has_answer, clear_after, late_step, late_from, late_after, new_late_world}
-use Rattle.dc_late.proofs.UnderWay.{IsUnderWay, IsUnreadable, all_map, all_sent, IsLast, IsOld, IsNew, Follows, IsRegularLate, old_ordered, last_at, under_way_tail, under_way_silence, drop_keeps, past_keeps, past_is_none}
+use Rattle.dc_late.proofs.Plainly.{LateWorld, LateEvent, Last, Listened, starts, passes, arrives_cut, cut_at, exchanges, commits, stops, is_copy, past_copies, last_after, and_sent, first_of, listened, heard_late, exchanged_as, exchanged_by, exchanged, started_if, is_quiet, has_answer, clear_after, late_step, late_from, late_after, new_late_world}
+use Rattle.dc_late.proofs.UnderWay.{IsUnderWay, IsUnreadable, cut_kept, unreadable_harmless, under_way_cut, all_map, all_sent, IsLast, IsOld, IsNew, Follows, IsRegularLate, old_ordered, last_at, under_way_tail, under_way_silence, drop_keeps, past_keeps, past_is_none}
 use Rattle.dc_late.proofs.Sent.{Line, sent_on}
 use Rattle.dc_late.proofs.Heard.{missed_keeps, command_keeps, telegram_keeps}
 
@@ -345,6 +345,24 @@ passed_keeps meters w count is = record {
       };
 }
 
+-- ---- a telegram that is cut
+
+cut_keeps : (meters : List Meter) (w : LateWorld) (place count : ℕ) (pieces : List (List ℕ)) → IsRegularLate meters w → IsRegularLate meters (record w { under_way = cut_at place count pieces w.under_way })
+cut_keeps meters w place count pieces is = record {
+  regular = is.regular;
+  unanswered = λ e. cut_kept IsUnreadable unreadable_harmless place count pieces w.under_way (is.unanswered e);
+  follows = λ r runs.
+      let f = is.follows r runs in
+      record {
+        meter = f.meter;
+        position = f.position;
+        is_meter = f.is_meter;
+        stands = f.stands;
+        under_way = under_way_cut r.session.stage r.session.address r.session.settled r.meter f.meter f.position w.world.positions place count pieces w.under_way f.under_way;
+        last_is = f.last_is;
+      };
+}
+
 -- ---- a commit
 
 settled_under_way : (stage : Stage) (more : Bool) (address : Option ℕ) (n i : ℕ) (m : Meter) (p : Position) (positions : List Position) (way : List (List ℕ)) → stage ≡ Pending more → more ≡ true
@@ -400,6 +418,7 @@ commit_follows meters w (Some r) is was r' runs = body_follows meters w r r.wait
 pub step_keeps : (meters : List Meter) (regular : AreRegular meters) (w : LateWorld) (event : LateEvent) → IsRegularLate meters w → IsRegularLate meters (late_step meters w event)
 step_keeps meters regular w (starts place) is = started_keeps meters w place (is_quiet w.under_way || w.clear) refl is
 step_keeps meters regular w (passes count) is = passed_keeps meters w count is
+step_keeps meters regular w (arrives_cut place count pieces) is = cut_keeps meters w place count pieces is
 step_keeps meters regular w (exchanges outcome in_time) is = running_keeps meters regular w w.world.running outcome in_time is refl
 step_keeps meters regular w commits is = record {
   regular = commit_keeps meters w.world w.world.running is.regular refl;

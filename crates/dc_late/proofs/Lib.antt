@@ -1,5 +1,7 @@
 -- lemmas by topic
 
+-- the same line without access numbers
+pub mod Plainly
 -- what may be under way on a late link, and what keeps it so
 pub mod UnderWay
 -- what an exchange puts onto a late link, and where it leaves the meter
@@ -14,3 +16,7 @@ pub mod Copies
 pub mod Careless
 -- without the rule of quiet a reading is wrong
 pub mod Hasty
+-- a line with access numbers does what one without them does
+pub mod Numbers
+-- a session judges an answer as it judges the plain one
+pub mod Verdicts

@@ -22,7 +22,7 @@ use Rattle.dc_world.specs.InStep.{HasGoneOn, IsInStep, IsAlone}
 use Rattle.dc_world.proofs.Moves.{moved_at, no_frame_of_zero, answer_to-request}
 use Rattle.dc_world.proofs.Exchanges.{stays, command_done, own_hears, own_goes_on, own_selected, body_at_next}
 use Rattle.dc_world.proofs.Replies.{answer_to-reset, answer_to-selection}
-use Rattle.dc_late.specs.Late.{and_sent}
+use Rattle.dc_late.proofs.Plainly.{and_sent, is_long}
 use Rattle.dc_late.proofs.UnderWay.{answer_no, IsOld, IsNew, IsAcknowledged, IsUnreadable, IsUnderWay, all_map, ordered_map, all_sent, ordered_sent}
 
 -- the meter's position, and the answers under way
@@ -55,7 +55,7 @@ acknowledged_again address n i p q positions moved step alone x (inr e) = inr (e
 
 tells : (m : Meter) (n : ℕ) (p : Position) (answer sent : List ℕ) → answer ≡ answer_no m (suc n) → HasGoneOn n p → IsSent answer sent → (sent ≡ []) ⊎ IsNew m n p sent
 tells m n p answer sent is gone (inl e) = inl e
-tells m n p answer sent is gone (inr (inl e)) = inr (inl e)
+tells m n p answer sent is gone (inr (inl e)) = inr (inl (ap is_long e))
 tells m n p answer sent is gone (inr (inr e)) = inr (inr (e ∙ is, gone))
 
 told_again : (m : Meter) (n : ℕ) (p q : Position) → HasGoneOn n q → (x : List ℕ) → IsNew m n p x → IsNew m n q x

@@ -1,9 +1,10 @@
 -- What may be under way on a late link, and what keeps it so.
-use Rattle.std.proofs.Common.{◌≡◌, ℕ, zero, suc, ◌⊎◌, inl, inr, Bool, true, false, List, [], ◌∷◌, ◌++◌, drop, Option, Some, None, cond, refl, sym, ◌∙◌, ap}
+use Rattle.std.proofs.Common.{◌≡◌, ℕ, zero, suc, ◌⊎◌, inl, inr, Bool, true, false, not, ◌&&◌, List, [], ◌∷◌, ◌++◌, drop, Option, Some, None, cond, refl, sym, ◌∙◌, ap, subst}
 use Rattle.std.specs.Prelude.{slice_get}
 use Rattle.std.specs.List.{AllByRecursion}
 use Rattle.dc_linkframe.specs.Frame.{ack, spelling}
 use Rattle.dc_linkframe.specs.Reading.{frame_of}
+use Rattle.dc_linkframe.proofs.Spellings.{frame_of-spelling}
 use Rattle.dc_readout.specs.declared.stage.Stage.{Stage}
 use Rattle.dc_readout.specs.declared.stage.Stage.TheVariants.{Resets, Selects, Requests, Pending, Ended}
 use Rattle.dc_readout.specs.Summary.{request_of}
@@ -11,7 +12,7 @@ use Rattle.dc_world.specs.Meter.{Meter, Position, response}
 use Rattle.dc_world.specs.World.{Running}
 use Rattle.dc_world.specs.Reply.{bytes_of}
 use Rattle.dc_world.specs.InStep.{HasGoneOn, IsInStep, IsAlone, IsRegularWorld}
-use Rattle.dc_late.specs.Late.{LateWorld, Last, is_copy, past_copies, and_sent}
+use Rattle.dc_late.proofs.Plainly.{LateWorld, Last, is_copy, past_copies, and_sent, is_long, are_no_telegrams, cut_at}
 
 -- ---- what may be under way
 
@@ -20,13 +21,17 @@ abbrev pub answer_no : Meter → ℕ → List ℕ
 answer_no m zero = spelling ack
 answer_no m (suc k) = bytes_of (response m (slice_get m.bodies k))
 
--- what is no frame, or the answer of this number
-abbrev pub IsOld : Meter → ℕ → List ℕ → Type 0
-IsOld m n x = (frame_of x ≡ None) ⊎ (x ≡ answer_no m n)
+-- what is no telegram
+abbrev pub IsHarmless : List ℕ → Type 0
+IsHarmless x = is_long (frame_of x) ≡ false
 
--- what is no frame, or the next answer, of a meter that has gone on to it
+-- what is no telegram, or the answer of this number
+abbrev pub IsOld : Meter → ℕ → List ℕ → Type 0
+IsOld m n x = IsHarmless x ⊎ (x ≡ answer_no m n)
+
+-- what is no telegram, or the next answer, of a meter that has gone on to it
 abbrev pub IsNew : Meter → ℕ → Position → List ℕ → Type 0
-IsNew m n p x = (frame_of x ≡ None) ⊎ ((x ≡ answer_no m (suc n)) × HasGoneOn n p)
+IsNew m n p x = IsHarmless x ⊎ ((x ≡ answer_no m (suc n)) × HasGoneOn n p)
 
 -- what is no frame, or the acknowledgement of a meter that has begun anew, and is alone
 abbrev pub IsAcknowledged : Option ℕ → ℕ → ℕ → Position → List Position → List ℕ → Type 0
@@ -133,8 +138,8 @@ pub under_way_silence : (stage : Stage) (address : Option ℕ) (n i : ℕ) (m : 
 under_way_silence Resets None n i m p positions x xs none u = (none, u)
 under_way_silence Resets (Some a) n i m p positions x xs none u = (inl none, u)
 under_way_silence Selects address n i m p positions x xs none u = (inl none, u)
-under_way_silence Requests address n i m p positions x xs none u = inl (inl none, u)
-under_way_silence (Pending more) address n i m p positions x xs none u = (inl none, u)
+under_way_silence Requests address n i m p positions x xs none u = inl (inl (ap is_long none), u)
+under_way_silence (Pending more) address n i m p positions x xs none u = (inl (ap is_long none), u)
 under_way_silence Ended address n i m p positions x xs none u = tt
 
 module _ (W : List (List ℕ) → Type 0) (tail : (x : List ℕ) (xs : List (List ℕ)) → W (x ∷ xs) → W xs) where
@@ -161,3 +166,72 @@ past_is_none last request (y ∷ ys) x more e = go (is_copy last request y) refl
         → (past_copies last request ys ≡ x ∷ more → is_copy last request x ≡ false) → is_copy last request x ≡ false
     go true is e rest = rest e
     go false is e rest = let same : y ≡ x = cc in ap (is_copy last request) (sym same) ∙ is
+
+-- ---- a telegram is cut
+
+pieces_harmless : (piece : List ℕ) (pieces : List (List ℕ)) → (not (is_long (frame_of piece)) && are_no_telegrams pieces) ≡ true → IsHarmless piece × (are_no_telegrams pieces ≡ true)
+pieces_harmless piece pieces e = go (is_long (frame_of piece)) refl e
+  where
+    go : (b : Bool) → is_long (frame_of piece) ≡ b → (not b && are_no_telegrams pieces) ≡ true → IsHarmless piece × (are_no_telegrams pieces ≡ true)
+    go true is e = absurd cc
+    go false is e = (is, e)
+
+-- nothing to cut
+cut_same : (P : List ℕ → Type 0) → ((x : List ℕ) → P x → IsHarmless x) → (place count : ℕ) (pieces way : List (List ℕ)) → AllByRecursion P way → cut_at place count pieces way ≡ way
+cut_same P f place count pieces [] all = refl
+cut_same P f zero count pieces (x ∷ xs) all = rw (f x all.0) refl
+cut_same P f (suc k) count pieces (x ∷ xs) all = ap (λ (ys : List (List ℕ)). x ∷ ys) (cut_same P f k count pieces xs all.1)
+
+pub cut_kept : (P : List ℕ → Type 0) → ((x : List ℕ) → P x → IsHarmless x) → (place count : ℕ) (pieces way : List (List ℕ)) → AllByRecursion P way → AllByRecursion P (cut_at place count pieces way)
+cut_kept P f place count pieces way all = subst (AllByRecursion P) (sym (cut_same P f place count pieces way all)) all
+
+module _ (P : List ℕ → Type 0) (harmless : (x : List ℕ) → IsHarmless x → P x) where
+  pieces_all : (pieces more : List (List ℕ)) → are_no_telegrams pieces ≡ true → AllByRecursion P more → AllByRecursion P (pieces ++ more)
+  pieces_all [] more e all = all
+  pieces_all (piece ∷ pieces) more e all =
+      let h = pieces_harmless piece pieces e in
+      (harmless piece h.0, pieces_all pieces more h.1 all)
+
+  cut_all : (place count : ℕ) (pieces way : List (List ℕ)) → AllByRecursion P way → AllByRecursion P (cut_at place count pieces way)
+  cut_all place count pieces [] all = tt
+  cut_all zero count pieces (x ∷ xs) all = go (is_long (frame_of x)) (are_no_telegrams pieces) refl
+    where
+      go : (a b : Bool) → are_no_telegrams pieces ≡ b → AllByRecursion P (cond (a && b) (pieces ++ drop count xs) (x ∷ xs))
+      go true true e = pieces_all pieces (drop count xs) e (drop_keeps (AllByRecursion P) (λ y ys all. all.1) count xs all.1)
+      go true false e = all
+      go false b e = all
+  cut_all (suc k) count pieces (x ∷ xs) all = (all.0, cut_all k count pieces xs all.1)
+
+module _ (P Q : List ℕ → Type 0) (old : (x : List ℕ) → IsHarmless x → P x) (new : (x : List ℕ) → IsHarmless x → Q x) where
+  pieces_ordered : (pieces more : List (List ℕ)) → are_no_telegrams pieces ≡ true → IsOrdered P Q more → IsOrdered P Q (pieces ++ more)
+  pieces_ordered [] more e o = o
+  pieces_ordered (piece ∷ pieces) more e o =
+      let h = pieces_harmless piece pieces e in
+      inl (old piece h.0, pieces_ordered pieces more h.1 o)
+
+  cut_ordered : (place count : ℕ) (pieces way : List (List ℕ)) → IsOrdered P Q way → IsOrdered P Q (cut_at place count pieces way)
+  cut_ordered place count pieces [] o = tt
+  cut_ordered zero count pieces (x ∷ xs) o = go (is_long (frame_of x)) (are_no_telegrams pieces) refl
+    where
+      go : (a b : Bool) → are_no_telegrams pieces ≡ b → IsOrdered P Q (cond (a && b) (pieces ++ drop count xs) (x ∷ xs))
+      go true true e = pieces_ordered pieces (drop count xs) e (drop_keeps (IsOrdered P Q) (ordered_tail P Q) count xs (ordered_tail P Q x xs o))
+      go true false e = o
+      go false b e = o
+  cut_ordered (suc k) count pieces (x ∷ xs) (inl both) = inl (both.0, cut_ordered k count pieces xs both.1)
+  cut_ordered (suc k) count pieces (x ∷ xs) (inr all) = new_ordered P Q (x ∷ cut_at k count pieces xs) (all.0, cut_all Q new k count pieces xs all.1)
+
+acknowledged_harmless : (address : Option ℕ) (n i : ℕ) (p : Position) (positions : List Position) (x : List ℕ) → IsAcknowledged address n i p positions x → IsHarmless x
+acknowledged_harmless address n i p positions x (inl none) = ap is_long none
+acknowledged_harmless address n i p positions x (inr is) = ap is_long (ap frame_of is.0 ∙ frame_of-spelling ack)
+
+pub unreadable_harmless : (x : List ℕ) → IsUnreadable x → IsHarmless x
+unreadable_harmless x none = ap is_long none
+
+pub under_way_cut : (stage : Stage) (address : Option ℕ) (n i : ℕ) (m : Meter) (p : Position) (positions : List Position) (place count : ℕ) (pieces way : List (List ℕ))
+    → IsUnderWay stage address n i m p positions way → IsUnderWay stage address n i m p positions (cut_at place count pieces way)
+under_way_cut Resets None n i m p positions place count pieces way u = cut_kept IsUnreadable unreadable_harmless place count pieces way u
+under_way_cut Resets (Some a) n i m p positions place count pieces way u = cut_kept (IsAcknowledged (Some a) n i p positions) (acknowledged_harmless (Some a) n i p positions) place count pieces way u
+under_way_cut Selects address n i m p positions place count pieces way u = cut_kept (IsAcknowledged address n i p positions) (acknowledged_harmless address n i p positions) place count pieces way u
+under_way_cut Requests address n i m p positions place count pieces way u = cut_ordered (IsOld m n) (IsNew m n p) (λ x h. inl h) (λ x h. inl h) place count pieces way u
+under_way_cut (Pending more) address n i m p positions place count pieces way u = cut_all (IsOld m (suc n)) (λ x h. inl h) place count pieces way u
+under_way_cut Ended address n i m p positions place count pieces way u = tt

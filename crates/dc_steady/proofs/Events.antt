@@ -1,5 +1,5 @@
 -- What the line layer does over a link, as events of a late world.
-use Rattle.std.proofs.Common.{◌≡◌, ℕ, suc, Bool, true, false, List, [], ◌∷◌, ◌++◌, ◌||◌, drop, length, Option, Some, None, refl, ap, sym, subst, ◌∙◌, if◌then◌else◌, ◌⊎◌, inl, inr}
+use Rattle.std.proofs.Common.{◌≡◌, ℕ, suc, Bool, true, false, List, [], ◌∷◌, ◌++◌, ◌||◌, ◌&&◌, not, bytes_eq, drop, length, Option, Some, None, refl, ap, sym, subst, ◌∙◌, if◌then◌else◌, ◌⊎◌, inl, inr}
 use Rattle.std.specs.List.{AllByRecursion}
 use Rattle.dc_io.specs.Chain.{IsRun}
 use Rattle.dc_io.proofs.Chains.{run-append}
@@ -12,13 +12,13 @@ use Rattle.dc_world.specs.Meter.{Meter, Position}
 use Rattle.dc_world.specs.World.{AreRegular, GoesOnFromCommitted, IsWhole, Running, world_step, positions_after, heard_in}
 use Rattle.dc_world.specs.declared.event.WorldEvent.TheVariants.{Start}
 use Rattle.dc_world.proofs.Moves.{no_frame_of_nothing}
-use Rattle.dc_late.specs.Late.{LateWorld, LateEvent, Last, Listened, starts, passes, exchanges, commits, stops, is_copy, past_copies, last_after, and_sent, first_of, listened, heard_late, exchanged_by, exchanged, started_if, is_quiet, clear_after, late_step, late_from, late_after, new_late_world}
-use Rattle.dc_late.proofs.LateWorlds.{late_held_is_whole, late_goes_on_from_committed}
+use Rattle.dc_late.specs.Late.{LateWorld, LateEvent, Last, Listened, starts, passes, arrives_cut, exchanges, commits, stops, ArePlain, numbered, is_command, is_copy, past_copies, last_after, and_sent, first_of, listened, heard_late, exchanged_by, exchanged, started_if, is_quiet, clear_after, late_step, late_from, late_after, new_late_world}
+use Rattle.dc_late.proofs.Numbers.{late_held_is_whole, late_goes_on_from_committed, plain_nothing, plain_some}
 use Rattle.dc_steady.specs.declared.line.Steady.{Steady}
 use Rattle.dc_steady.specs.Life.{BecomesClear, Hears, is_clear, settles_first, takes, waits_first}
 use Rattle.dc_steady.specs.Steady.{Drops, Settles, StillWaits, Takes, drops_it, dropped, given_up, not_yet, quiet, request_of}
 use Rattle.dc_steady.proofs.Dropped.{past_append}
-use Rattle.dc_steady.specs.Link.{LinkGives, LinkWaits, Happens, Lives, drops, begins, settles, hears, keeps, restarts, young, older, judged, line_of, with_line}
+use Rattle.dc_steady.specs.Link.{LinkGives, LinkWaits, Happens, Lives, drops, cuts, begins, settles, hears, keeps, restarts, young, older, judged, line_of, with_line}
 
 -- ---- silence is no copy
 
@@ -28,15 +28,21 @@ HasText (Some l) = l.answer ≡ [] → ⊥
 
 pub text_long : (heard : Option FrameSeen) (request answer : List ℕ) (last : Option Last) → frame_of answer ≡ heard → HasText last → HasText (last_after heard request answer last)
 text_long None request answer last e is = is
-text_long (Some ack) request answer last e is = tt
+text_long (Some ack) request answer last e is = go (is_command (frame_of request))
+  where
+    go : (b : Bool) → HasText (if b then None else last)
+    go true = tt
+    go false = is
 text_long (Some (short control sender)) request answer last e is = is
-text_long (Some (long control sender ci body)) request answer last e is = λ none. absurd (let n = no_frame_of_nothing in let f = ap frame_of none in cc)
+text_long (Some (long control sender ci body)) request answer last e is =
+    plain_some answer (λ none. absurd (let n = no_frame_of_nothing in let f = ap frame_of none in cc))
 
 pub silence_no_copy : (last : Option Last) (request : List ℕ) → HasText last → is_copy last request [] ≡ false
 silence_no_copy None request is = refl
-silence_no_copy (Some l) request is = by_answer l.answer is
+silence_no_copy (Some l) request is =
+    ap (λ (x : List ℕ). bytes_eq x l.answer && not (bytes_eq request l.request)) plain_nothing ∙ by_answer l.answer is
   where
-    by_answer : (answer : List ℕ) → (answer ≡ [] → ⊥) → is_copy (Some (record { request = l.request; answer = answer })) request [] ≡ false
+    by_answer : (answer : List ℕ) → (answer ≡ [] → ⊥) → (bytes_eq [] answer && not (bytes_eq request l.request)) ≡ false
     by_answer [] some = absurd (some refl)
     by_answer (byte ∷ bytes) some = refl
 
@@ -152,15 +158,15 @@ pub record Leads (meters : List Meter) (w new : LateWorld) : Type 0 where
 by_request : (frame : FrameSeen) → request_of (frame_of (spelling frame)) ≡ frame
 by_request frame = ap request_of (frame_of-spelling frame)
 
-module _ (meters : List Meter) (w : LateWorld) (outcome : Outcome) (r : Running) (frame : FrameSeen) (running : w.world.running ≡ Some r) (asks : asked_by r.session ≡ Some frame) where
+module _ (meters : List Meter) (w : LateWorld) (outcome : Outcome) (access : ℕ) (r : Running) (frame : FrameSeen) (running : w.world.running ≡ Some r) (asks : asked_by r.session ≡ Some frame) where
   abbrev pub positions : List Position
   positions = positions_after outcome frame meters w.world.positions
 
   abbrev pub way : List (List ℕ)
-  way = and_sent (heard_in outcome frame meters w.world.positions) w.under_way
+  way = and_sent (numbered access (heard_in outcome frame meters w.world.positions)) w.under_way
 
-  exchanged_is : (in_time : Bool) → late_step meters w (exchanges outcome in_time) ≡ heard_late (listened in_time w.last (spelling frame) way) frame positions r w
-  exchanged_is in_time = ap (λ (x : Option Running). exchanged meters outcome in_time x w) running ∙ ap (λ (f : Option FrameSeen). exchanged_by meters outcome in_time f r w) asks
+  exchanged_is : (in_time : Bool) → late_step meters w (exchanges outcome in_time access) ≡ heard_late (listened in_time w.last (spelling frame) way) frame positions r w
+  exchanged_is in_time = ap (λ (x : Option Running). exchanged meters outcome in_time access x w) running ∙ ap (λ (f : Option FrameSeen). exchanged_by meters outcome in_time access f r w) asks
 
   judged_late : (heard : List ℕ) (line : Steady (List (List ℕ))) → IsHeardOver (line_of w way (spelling frame)) heard line
       → with_line (judged meters outcome frame r heard w.world) line ≡ heard_late (record { heard = heard; left = line.bus }) frame positions r w
@@ -171,11 +177,11 @@ module _ (meters : List Meter) (w : LateWorld) (outcome : Outcome) (r : Running)
 
   by_time : (heard : List ℕ) (left : List (List ℕ)) → IsHeardLate w.last (spelling frame) way left heard → Leads meters w (heard_late (record { heard = heard; left = left }) frame positions r w)
   by_time heard left (inl same) = record {
-    events = exchanges outcome true ∷ [];
+    events = exchanges outcome true access ∷ [];
     lead = ap (λ (l : Listened). heard_late l frame positions r w) same ∙ sym (exchanged_is true);
   }
   by_time heard left (inr late) = record {
-    events = exchanges outcome false ∷ passes late.0 ∷ [];
+    events = exchanges outcome false access ∷ passes late.0 ∷ [];
     lead = ap (λ (xs : List ℕ). heard_late (record { heard = xs; left = left }) frame positions r w) late.1
         ∙ ap (λ (ws : List (List ℕ)). heard_late (record { heard = []; left = ws }) frame positions r w) late.2
         ∙ ap (λ (v : LateWorld). late_step meters v (passes late.0)) (sym (exchanged_is false));
@@ -223,20 +229,22 @@ module _ (meters : List Meter) (w new : LateWorld) where
 
   pub follows : Happens meters w new → HasText w.last → Leads meters w new
   follows (drops count e) has = record { events = passes count ∷ []; lead = e }
+  follows (cuts place count pieces e) has = record { events = arrives_cut place count pieces ∷ []; lead = e }
   follows (begins place clear e) has = begin_lead place clear e
   follows (settles place request line becomes none e) has = settle_lead place request line (clear_last becomes) none e
-  follows (hears outcome r frame heard line running asks heard_it e) has =
-      let leads = hears_lead meters w outcome r frame running asks heard line has (heard_over heard_it) in record { events = leads.events; lead = e ∙ leads.lead }
+  follows (hears outcome access r frame heard line running asks heard_it e) has =
+      let leads = hears_lead meters w outcome access r frame running asks heard line has (heard_over heard_it) in record { events = leads.events; lead = e ∙ leads.lead }
   follows (keeps e) has = record { events = commits ∷ []; lead = e }
   follows (restarts e) has = record { events = stops ∷ []; lead = e }
 
   pub follows_text : Happens meters w new → HasText w.last → HasText new.last
   follows_text (drops count e) has = subst HasText (sym (ap (λ (v : LateWorld). v.last) e)) has
+  follows_text (cuts place count pieces e) has = subst HasText (sym (ap (λ (v : LateWorld). v.last) e)) has
   follows_text (begins place clear e) has = subst HasText (sym (ap (λ (v : LateWorld). v.last) e)) has
   follows_text (settles place request line becomes none e) has =
       subst HasText (sym (ap (λ (v : LateWorld). v.last) e ∙ (clear_last becomes).0)) has
-  follows_text (hears outcome r frame heard line running asks heard_it e) has =
-      subst HasText (sym (ap (λ (v : LateWorld). v.last) e)) (hears_text meters w outcome r frame running asks heard line has (heard_over heard_it))
+  follows_text (hears outcome access r frame heard line running asks heard_it e) has =
+      subst HasText (sym (ap (λ (v : LateWorld). v.last) e)) (hears_text meters w outcome access r frame running asks heard line has (heard_over heard_it))
   follows_text (keeps e) has = subst HasText (sym (ap (λ (v : LateWorld). v.last) e)) has
   follows_text (restarts e) has = subst HasText (sym (ap (λ (v : LateWorld). v.last) e)) tt
 
@@ -259,12 +267,12 @@ lives_late meters w (older {w = before} life step) =
       text = follows_text meters before w step late.text;
     }
 
-pub lives_whole : (meters : List Meter) (w : LateWorld) → AreRegular meters → Lives meters w → AllByRecursion (IsWhole meters) w.world.held
-lives_whole meters w regular life =
+pub lives_whole : (meters : List Meter) (w : LateWorld) → AreRegular meters → ArePlain meters → Lives meters w → AllByRecursion (IsWhole meters) w.world.held
+lives_whole meters w regular are life =
     let late = lives_late meters w life in
-    subst (λ (v : LateWorld). AllByRecursion (IsWhole meters) v.world.held) (sym late.is) (late_held_is_whole meters regular late.events)
+    subst (λ (v : LateWorld). AllByRecursion (IsWhole meters) v.world.held) (sym late.is) (late_held_is_whole meters regular are late.events)
 
-pub lives_on : (meters : List Meter) (w : LateWorld) → AreRegular meters → Lives meters w → GoesOnFromCommitted meters w.world
-lives_on meters w regular life =
+pub lives_on : (meters : List Meter) (w : LateWorld) → AreRegular meters → ArePlain meters → Lives meters w → GoesOnFromCommitted meters w.world
+lives_on meters w regular are life =
     let late = lives_late meters w life in
-    subst (λ (v : LateWorld). GoesOnFromCommitted meters v.world) (sym late.is) (late_goes_on_from_committed meters regular late.events)
+    subst (λ (v : LateWorld). GoesOnFromCommitted meters v.world) (sym late.is) (late_goes_on_from_committed meters regular are late.events)

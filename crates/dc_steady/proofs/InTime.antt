@@ -8,13 +8,21 @@ use Rattle.dc_world.specs.declared.event.WorldEvent.{WorldEvent}
 use Rattle.dc_world.specs.declared.event.WorldEvent.TheVariants.{Start, Exchange, Commit, Stop}
 use Rattle.dc_world.specs.Meter.{Meter}
 use Rattle.dc_world.specs.World.{AreRegular, World, Running, new_world, world_after, world_step, heard_in, positions_after}
-use Rattle.dc_late.specs.Late.{AreDifferent, LateWorld, Last, Listened, and_sent, clear_after, exchanged, exchanged_by, first_of, heard_late, in_its_time, is_copy, last_after, late_from, late_step, listened, past_copies}
-use Rattle.dc_late.proofs.Copies.{same_in_time}
+use Rattle.dc_late.specs.Late.{AreDifferent, ArePlain, Timely, events_of, numbered, LateWorld, Last, Listened, and_sent, clear_after, exchanged, exchanged_by, first_of, heard_late, in_its_time, is_copy, last_after, late_from, late_step, listened, past_copies}
+use Rattle.dc_late.proofs.Numbers.{same_in_time}
 use Rattle.dc_steady.specs.declared.line.Steady.{Steady}
 use Rattle.dc_steady.specs.Life.{BecomesClear, is_clear, settles_first, takes}
 use Rattle.dc_steady.specs.Steady.{Listens, and_late, copies_in, drops_it, dropped, quiet, request_of}
 use Rattle.dc_steady.specs.Link.{LinkGives, LinkWaits, Lives, line_of, settles, hears, keeps, restarts, young, older, judged, with_line}
 use Rattle.dc_steady.proofs.Events.{HasText, past_copy, silence_no_copy, text_long}
+
+-- an event of a line on which each telegram has the access number 0
+abbrev at_zero : WorldEvent → Timely
+at_zero event = record { event = event; access = 0 }
+
+events_at_zero : (events : List WorldEvent) → events_of (map at_zero events) ≡ events
+events_at_zero [] = refl
+events_at_zero (event ∷ events) = ap (λ (es : List WorldEvent). event ∷ es) (events_at_zero events)
 
 -- nothing is under way
 abbrev pub at : World → Option Last → Bool → LateWorld
@@ -97,10 +105,10 @@ module _ (meters : List Meter) (world : World) (last : Option Last) (clear calm 
   same : IsLived meters (at world last calm)
   same = record { world = world; last = last; clear = clear; calm = calm; life = life; text = text; is = refl }
 
-  lived_asked : (outcome : Outcome) (r : Running) (asks : Option FrameSeen) → world.running ≡ Some r → asked_by r.session ≡ asks → IsLived meters (exchanged_by meters outcome true asks r (at world last calm))
+  lived_asked : (outcome : Outcome) (r : Running) (asks : Option FrameSeen) → world.running ≡ Some r → asked_by r.session ≡ asks → IsLived meters (exchanged_by meters outcome true 0 asks r (at world last calm))
   lived_asked outcome r None running asked = same
   lived_asked outcome r (Some frame) running asked =
-      let t : InTime last (spelling frame) (and_sent (heard_in outcome frame meters world.positions) []) = comes_in_time last (spelling frame) (heard_in outcome frame meters world.positions) text in
+      let t : InTime last (spelling frame) (and_sent (numbered 0 (heard_in outcome frame meters world.positions)) []) = comes_in_time last (spelling frame) (numbered 0 (heard_in outcome frame meters world.positions)) text in
       let line : Steady (List (List ℕ)) = record {
         bus = [];
         request = spelling frame;
@@ -117,16 +125,16 @@ module _ (meters : List Meter) (world : World) (last : Option Last) (clear calm 
         last = last_after (frame_of t.heard) (spelling frame) t.heard last;
         clear = clear_after (request_of (frame_of (spelling frame))) (frame_of t.heard) clear;
         calm = clear_after frame (frame_of t.heard) calm;
-        life = older life (hears outcome r frame t.heard line running asked (takes (record { copies = t.copies; listens = t.listens; kept = refl })) refl);
+        life = older life (hears outcome 0 r frame t.heard line running asked (takes (record { copies = t.copies; listens = t.listens; kept = refl })) refl);
         text = text_long (frame_of t.heard) (spelling frame) t.heard last refl text;
         is = ap (λ (l : Listened). heard_late l frame (positions_after outcome frame meters world.positions) r (at world last calm)) t.is;
       }
 
-  lived_running : (outcome : Outcome) (running : Option Running) → world.running ≡ running → IsLived meters (exchanged meters outcome true running (at world last calm))
+  lived_running : (outcome : Outcome) (running : Option Running) → world.running ≡ running → IsLived meters (exchanged meters outcome true 0 running (at world last calm))
   lived_running outcome None is = same
   lived_running outcome (Some r) is = lived_asked outcome r (asked_by r.session) is refl
 
-  lived_one : (event : WorldEvent) → IsLived meters (late_step meters (at world last calm) (in_its_time event))
+  lived_one : (event : WorldEvent) → IsLived meters (late_step meters (at world last calm) (in_its_time (at_zero event)))
   lived_one (Start place) =
       let cleared : IsCleared meters world last clear place = settled meters world last clear place in
       record {
@@ -142,14 +150,14 @@ module _ (meters : List Meter) (world : World) (last : Option Last) (clear calm 
   lived_one Commit = record { world = world_step meters world Commit; last = last; clear = clear; calm = calm; life = older life (keeps refl); text = text; is = refl }
   lived_one Stop = record { world = world_step meters world Stop; last = None; clear = false; calm = false; life = older life (restarts refl); text = tt; is = refl }
 
-lived_all : (meters : List Meter) (events : List WorldEvent) (world : World) (last : Option Last) (clear calm : Bool) → Lives meters (at world last clear) → HasText last → IsLived meters (late_from meters (at world last calm) (map in_its_time events))
+lived_all : (meters : List Meter) (events : List WorldEvent) (world : World) (last : Option Last) (clear calm : Bool) → Lives meters (at world last clear) → HasText last → IsLived meters (late_from meters (at world last calm) (map in_its_time (map at_zero events)))
 lived_all meters [] world last clear calm life text = same meters world last clear calm life text
 lived_all meters (event ∷ events) world last clear calm life text =
     let one = lived_one meters world last clear calm life text event in
-    subst (λ (v : LateWorld). IsLived meters (late_from meters v (map in_its_time events))) (sym one.is)
+    subst (λ (v : LateWorld). IsLived meters (late_from meters v (map in_its_time (map at_zero events)))) (sym one.is)
     (lived_all meters events one.world one.last one.clear one.calm one.life one.text)
 
-pub lives_in_time : (meters : List Meter) (events : List WorldEvent) → AreRegular meters → AreDifferent meters → (w : LateWorld) × Lives meters w × (w.world ≡ world_after meters events)
-lives_in_time meters events regular different =
+pub lives_in_time : (meters : List Meter) (events : List WorldEvent) → AreRegular meters → ArePlain meters → AreDifferent meters → (w : LateWorld) × Lives meters w × (w.world ≡ world_after meters events)
+lives_in_time meters events regular are different =
     let all = lived_all meters events (new_world meters) None false true (young refl) tt in
-    (at all.world all.last all.clear, all.life, sym (ap (λ (v : LateWorld). v.world) all.is) ∙ same_in_time meters regular different events)
+    (at all.world all.last all.clear, all.life, sym (ap (λ (v : LateWorld). v.world) all.is) ∙ same_in_time meters regular are different (map at_zero events) ∙ ap (world_after meters) (events_at_zero events))

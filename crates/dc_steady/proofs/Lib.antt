@@ -8,3 +8,5 @@ pub mod Events
 pub mod InTime
 -- what a line that settles drops
 pub mod Settling
+-- a body whose access number is replaced
+pub mod Unnumbered

@@ -8,8 +8,8 @@ use Rattle.dc_world.specs.declared.event.WorldEvent.TheVariants.{Start}
 use Rattle.dc_world.specs.Meter.{Meter}
 use Rattle.dc_world.specs.World.{World, Running, world_step, positions_after, heard_in}
 use Rattle.dc_world.specs.World.{running_after}
-use Rattle.dc_late.specs.Late.{LateWorld, and_sent, new_late_world, late_step, passes, commits}
-use Rattle.dc_late.specs.Late.{stops}
+use Rattle.dc_late.specs.Late.{LateWorld, and_sent, new_late_world, late_step, numbered}
+use Rattle.dc_late.specs.Late.{plain, passes, arrives_cut, commits, stops}
 use Rattle.dc_steady.specs.declared.line.Steady.{Steady}
 use Rattle.dc_steady.specs.Life.{BecomesClear, Hears}
 
@@ -46,35 +46,38 @@ with_line world line = record {
   clear = line.clear;
 }
 
--- the answers under way once the request is sent: the answer to it comes after the others
-abbrev pub way_of : List Meter → LateWorld → Outcome → FrameSeen → List (List ℕ)
-way_of meters w outcome frame = and_sent
-    (heard_in outcome frame meters w.world.positions) w.under_way
+-- the answers under way once the request is sent: the answer to it comes after the others, and a
+-- telegram has this access number
+abbrev pub way_of : List Meter → LateWorld → Outcome → ℕ → FrameSeen → List (List ℕ)
+way_of meters w outcome access frame = and_sent
+    (numbered access (heard_in outcome frame meters w.world.positions)) w.under_way
 
--- the session judges the answer
+-- the session judges the answer, and keeps it but for its access number
 abbrev pub judged : List Meter → Outcome → FrameSeen → Running → List ℕ → World → World
 judged meters outcome frame r heard world = record world {
   positions = positions_after outcome frame meters world.positions;
-  running = running_after (verdict_by r.session heard) r;
+  running = running_after (verdict_by r.session (plain heard)) r;
 }
 
 -- ONE EVENT, as the line layer allows it: the oldest answers arrive and are dropped before a
--- request; a readout begins where the line is clear, or after it has settled, under the PREMISE
+-- request; a telegram that is under way is cut; a readout begins where the line is clear, or after it has settled, under the PREMISE
 -- that no answer is under way once nothing came for twice the time-out; the session's request is
 -- sent, and the session judges the line's answer; the received telegram is committed; the
 -- concentrator crashes, and restarts with a new line.
 pub data Happens (meters : List Meter) (w new : LateWorld) : Type 0 where
   drops : (count : ℕ) → new ≡ late_step meters w (passes count) → Happens meters w new
+  cuts : (place count : ℕ) (pieces : List (List ℕ)) → new ≡ late_step meters w (arrives_cut place count pieces)
+      → Happens meters w new
   begins : (place : ℕ) → w.clear ≡ true
       → new ≡ record w { world = world_step meters w.world (Start place) } → Happens meters w new
   settles : (place : ℕ) (request : List ℕ) (line : Steady (List (List ℕ)))
       → BecomesClear LinkGives LinkWaits (line_of w w.under_way request) line → line.bus ≡ []
       → new ≡ with_line (world_step meters w.world (Start place)) line → Happens meters w new
-  hears : (outcome : Outcome) (r : Running) (frame : FrameSeen) (heard : List ℕ)
+  hears : (outcome : Outcome) (access : ℕ) (r : Running) (frame : FrameSeen) (heard : List ℕ)
       (line : Steady (List (List ℕ)))
       → w.world.running ≡ Some r → asked_by r.session ≡ Some frame
-      → Hears LinkGives LinkWaits (line_of w (way_of meters w outcome frame) (spelling frame)) heard
-      line
+      → Hears LinkGives LinkWaits
+      (line_of w (way_of meters w outcome access frame) (spelling frame)) heard line
       → new ≡ with_line (judged meters outcome frame r heard w.world) line → Happens meters w new
   keeps : new ≡ late_step meters w commits → Happens meters w new
   restarts : new ≡ late_step meters w stops → Happens meters w new

@@ -2,16 +2,21 @@
 
 ghost use Rattle.std.specs.Prelude.{◌≡◌, ◌≤◌, Bool, Option, length};
 ghost use Rattle.dc_gateway.specs.Blocks.{most_answer};
+ghost use Rattle.dc_linkframe.specs.Frame.{long, longest_body, spelling};
 ghost use Rattle.dc_linkframe.specs.Reading.{frame_of};
-ghost use Rattle.dc_late.specs.Late.{Last, clear_after, is_copy, last_after};
+ghost use Rattle.dc_late.specs.Late.{Last, body_with, clear_after, is_command, is_copy, last_after};
+ghost use Rattle.dc_late.specs.Late.{plain};
 ghost use Rattle.dc_steady.specs.Steady.{request_of};
 
 use dc_gateway::AnswerBuf;
-use dc_linkframe::control::{SELECTED, SND_NKE};
-use dc_linkframe::{Frame, FrameBuf, parse};
+use dc_linkframe::control::{SELECTED, SND_NKE, SND_UD, VARIABLE_DATA};
+use dc_linkframe::{Frame, FrameBuf, parse, write_long};
 use std::marker::Model;
 
-/// The last long frame that was received, and the request that it answered.
+// The access number's place in a telegram's body.
+const ACCESS_AT: usize = 8;
+
+/// The last long frame that was received, with access number 0, and the request that it answered.
 #[derive(Drop)]
 pub struct LastFrame {
     request: FrameBuf,
@@ -26,21 +31,22 @@ impl Model for LastFrame {
     ghost view = { λ last. record { request = last.request; answer = last.answer } };
 }
 
-// Whether an answer is a copy of the last long frame, which answered another request.
+// Whether an answer is a copy of the last long frame, but for its access number, which answered
+// another request.
 pub(crate) fn is_copy(last: &Option<LastFrame>, request: &FrameBuf, answer: &AnswerBuf) -> bool
     ensures { result ≡ is_copy last.now request.now answer.now }
 {
     match last {
         Some(last) => {
-            answer.as_slice() == last.answer.as_slice()
+            plain(answer).as_slice() == last.answer.as_slice()
                 && request.as_slice() != last.request.as_slice()
         }
         None => false,
     }
 }
 
-// The last long frame after an answer. An acknowledgement clears it; bytes that are no frame, or a
-// short frame, leave it.
+// The last long frame after an answer. The acknowledgement of a command clears it; another
+// acknowledgement, bytes that are no frame, or a short frame leave it.
 pub(crate) fn next_last(
     last: Option<LastFrame>,
     request: &FrameBuf,
@@ -49,21 +55,81 @@ pub(crate) fn next_last(
     ensures { result ≡ last_after (frame_of answer.now) request.now answer.now last }
 {
     match parse(answer.as_slice()) {
-        Ok(Frame::Ack) => None,
+        Ok(Frame::Ack) => { if is_command(request) { None } else { last } }
         Ok(Frame::Long { .. }) => Some(LastFrame {
             request: *request,
-            answer: copy_of(answer),
+            answer: plain(answer),
         }),
         Ok(Frame::Short { .. }) => last,
         Err(_) => last,
     }
 }
 
-fn copy_of(answer: &AnswerBuf) -> AnswerBuf
-    ensures { result ≡ answer.now }
+// Whether an acknowledgement answers the request.
+fn is_command(request: &FrameBuf) -> bool
+    ensures { result ≡ is_command (frame_of request.now) }
+{
+    match parse(request.as_slice()) {
+        Ok(Frame::Short { control, .. }) => control == SND_NKE,
+        Ok(Frame::Long { control, .. }) => control == SND_UD,
+        Ok(Frame::Ack) => false,
+        Err(_) => false,
+    }
+}
+
+// The bytes of an answer; a telegram's access number is 0.
+fn plain(answer: &AnswerBuf) -> AnswerBuf
+    ensures { result ≡ plain answer.now }
+{
+    match parse(answer.as_slice()) {
+        Ok(
+            Frame::Long {
+                control,
+                address,
+                ci,
+                body,
+            },
+        ) => {
+            if ci == VARIABLE_DATA {
+                let unnumbered = without_access(body);
+                telegram(control, address, ci, unnumbered.as_slice())
+            } else {
+                copy_of(answer.as_slice())
+            }
+        }
+        _ => copy_of(answer.as_slice()),
+    }
+}
+
+fn telegram(control: u8, address: u8, ci: u8, body: &[u8]) -> AnswerBuf
+    requires { length body.now ≤ longest_body }
+    ensures { result ≡ spelling (long control address ci body.now) }
+{
+    let mut frame = FrameBuf::new();
+    write_long(control, address, ci, body, &mut frame);
+    copy_of(frame.as_slice())
+}
+
+fn without_access(body: &[u8]) -> AnswerBuf
+    requires { length body.now ≤ longest_body }
+    ensures { result ≡ body_with 0 body.now }
+{
+    if body.len() <= ACCESS_AT {
+        return copy_of(body);
+    }
+    let mut plain = AnswerBuf::new();
+    plain.append(&body[..ACCESS_AT]);
+    plain.append(&[0]);
+    plain.append(&body[ACCESS_AT + 1..]);
+    plain
+}
+
+fn copy_of(bytes: &[u8]) -> AnswerBuf
+    requires { length bytes.now ≤ most_answer }
+    ensures { result ≡ bytes.now }
 {
     let mut copy = AnswerBuf::new();
-    copy.append(answer.as_slice());
+    copy.append(bytes);
     copy
 }
 

@@ -5,7 +5,7 @@ ghost use Rattle.std.specs.List.{AllByRecursion};
 ghost use Rattle.dc_world.specs.Meter.{Meter};
 ghost use Rattle.dc_world.specs.World.{AreRegular, GoesOnFromCommitted, IsWhole, world_after};
 ghost use Rattle.dc_world.specs.declared.event.WorldEvent.{WorldEvent};
-ghost use Rattle.dc_late.specs.Late.{AreDifferent, LateWorld};
+ghost use Rattle.dc_late.specs.Late.{AreDifferent, ArePlain, LateWorld};
 ghost use Rattle.dc_line.specs.Bus.{Runs};
 ghost use Rattle.dc_steady.specs.Life.{BecomesClear};
 ghost use Rattle.dc_steady.specs.Link.{Lives};
@@ -17,13 +17,15 @@ use dc_line::HalfBus;
 /// any life is whole: the bodies of one meter from the first to the first after which no more
 /// follow, in order, each once.
 pub fn what_is_read_over_a_steady_line_is_whole()
-    ensures { (meters : List Meter) (w : LateWorld) → AreRegular meters → Lives meters w
+    ensures { (meters : List Meter) (w : LateWorld) → AreRegular meters → ArePlain meters
+        → Lives meters w
         → AllByRecursion (IsWhole meters) w.world.held }
 {}
 
 /// A meter on such a line advances past a body only if the bodies up to it are committed.
 pub fn a_meter_on_a_steady_line_goes_on_from_what_is_committed()
-    ensures { (meters : List Meter) (w : LateWorld) → AreRegular meters → Lives meters w
+    ensures { (meters : List Meter) (w : LateWorld) → AreRegular meters → ArePlain meters
+        → Lives meters w
         → GoesOnFromCommitted meters w.world }
 {}
 
@@ -32,7 +34,7 @@ pub fn a_meter_on_a_steady_line_goes_on_from_what_is_committed()
 /// finished.
 pub fn what_comes_in_time_is_read_over_a_steady_line()
     ensures { (meters : List Meter) (events : List WorldEvent) → AreRegular meters
-        → AreDifferent meters → (w : LateWorld) × Lives meters w
+        → ArePlain meters → AreDifferent meters → (w : LateWorld) × Lives meters w
         × (w.world ≡ world_after meters events) }
 {}
 
