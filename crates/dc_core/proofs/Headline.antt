@@ -133,6 +133,8 @@ promised_by budget state before (hears line moment bytes) (heard (Ok (Accepted p
 promised_by budget state before (offices text) (replied (obeyed number change)) behind whole here promise = promises_behind budget state before (offices text) (replied (obeyed number change)) behind (λ seen. refl) whole here
 promised_by budget state before (offices text) (replied (repeated number)) behind whole here promise = promises_behind budget state before (offices text) (replied (repeated number)) behind (λ seen. refl) whole here
 promised_by budget state before (offices text) (replied (shown bytes)) behind whole here promise = promises_behind budget state before (offices text) (replied (shown bytes)) behind (λ seen. refl) whole here
+promised_by budget state before (offices text) (replied (refused code)) behind whole here promise = promises_behind budget state before (offices text) (replied (refused code)) behind (λ seen. refl) whole here
+promised_by budget state before (offices text) (replied out_of_memory) behind whole here promise = promises_behind budget state before (offices text) (replied out_of_memory) behind (λ seen. refl) whole here
 promised_by budget state before commits (committed (Ok count)) behind whole here promise = promises_behind budget state before commits (committed (Ok count)) behind (λ seen. refl) whole here
 promised_by budget state before event answer behind whole here promise = absurd promise
 

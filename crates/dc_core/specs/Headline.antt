@@ -15,7 +15,7 @@ use Rattle.dc_recovery.specs.Stands.{StandsForOne, EachStands, Reads}
 use Rattle.dc_core.specs.declared.line_heard.LineHeard.TheVariants.{Accepted}
 use Rattle.dc_core.specs.Core.{Core, opened}
 use Rattle.dc_core.specs.Event.{Event, Answer, asks, hears, commits, offices, asked, heard}
-use Rattle.dc_core.specs.Event.{committed, replied, repeated, shown, obeyed}
+use Rattle.dc_core.specs.Event.{committed, replied, repeated, refused, shown, out_of_memory, obeyed}
 use Rattle.dc_core.specs.Transcript.{Turn, leads, accepted_in}
 use Rattle.dc_core.specs.Images.{Machine, IsAt}
 use Rattle.dc_core.specs.Run.{DidAll}
@@ -68,13 +68,16 @@ abbrev pub IsAskedOn : ℕ → List Turn → Type 0
 IsAskedOn line turns = (request : List ℕ) × Contains turns (asks line, asked (Some request))
 
 -- Promised is every telegram after which a frame count bit was toggled, every command acknowledged and every
--- reading uploaded, with all that was accepted before; and, more than the headline says, all that was committed.
+-- reading uploaded, with all that was accepted before; and, more than the headline says, all that was accepted before
+-- a commit that answered a number, or before an office line that was refused or ended out of memory.
 abbrev pub IsPromised : Event → Answer → List Turn → Type 0
 IsPromised (hears line moment bytes) (heard (Ok (Accepted part more))) behind =
     IsAskedOn line behind
 IsPromised (offices text) (replied (obeyed number change)) behind = Unit {0}
 IsPromised (offices text) (replied (repeated number)) behind = Unit {0}
 IsPromised (offices text) (replied (shown bytes)) behind = Unit {0}
+IsPromised (offices text) (replied (refused code)) behind = Unit {0}
+IsPromised (offices text) (replied out_of_memory) behind = Unit {0}
 IsPromised commits (committed (Ok count)) behind = Unit {0}
 IsPromised event answer behind = ⊥
 

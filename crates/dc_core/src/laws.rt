@@ -52,6 +52,14 @@ pub fn what_a_power_cut_leaves_is_kept<E: Disk + Drop>()
         → HoldsKept (half_of E.Disk from) state done more image }
 {}
 
+/// What a disk reads as after a crash is kept, by whatever it is read: a table and the text of an inspection are of a
+/// state that the image reads as.
+pub fn what_is_read_after_a_crash_is_kept<E: Disk + Drop>()
+    ensures kept { (state : State) (done more : List Turn) (disk : E)
+        → WasStopped E.Disk state done more disk
+        → IsSettled E.Disk disk × HoldsKept (half_of E.Disk disk) state done more (E.reads disk) }
+{}
+
 /// In every chain of steps from a newly opened concentrator, what is committed is the register
 /// after a prefix of the accepted changes, which has all that is promised; the rest is pending.
 pub fn what_is_promised_is_committed()
