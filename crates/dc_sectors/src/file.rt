@@ -2,6 +2,7 @@
 
 ghost use Rattle.std.specs.Prelude.{◌≡◌, ◌≢◌, ◌⊎◌, ◌<◌, ◌≤◌, ◌*◌, ◌/◌, ◌-◌, ◌^◌, ◌==◌, ℕ, []};
 ghost use Rattle.std.specs.Prelude.{min, true, false, IfOk, OnOk, OnErr, IsErr, IsErrOf, length};
+ghost use Rattle.std.specs.Prelude.{IfSome, ◌≤ℤ◌, pos};
 ghost use Rattle.dc_sectors.specs.declared.sector.ReadFault.TheVariants.{Unreadable as CannotRead};
 ghost use Rattle.dc_sectors.specs.declared.sector.ReadFault.TheVariants.{Failed as ReadFailed};
 ghost use Rattle.dc_sectors.specs.FileCalls.{value_of};
@@ -15,6 +16,7 @@ use dc_io::one_failure_more;
 use std::fs::{OpenFile, OpenOptions};
 use std::io;
 use std::marker::Model;
+use std::os::fd::AsRawFd;
 use std::os::unix::fs::FileExt;
 use std::path::AsPath;
 use std::rt::Files;
@@ -52,12 +54,15 @@ impl<C: FileCalls + Drop> Model for DiskOver<C> {
     } };
 }
 
-impl<F: FileExt + OpenFile + Drop> DiskOver<Logged<F>> {
+// The descriptor of standard error, the greatest of the three streams.
+const LAST_STREAM: i32 = 2;
+
+impl<F: FileExt + OpenFile + AsRawFd + Drop> DiskOver<Logged<F>> {
     /// Opens the file at that path, which must exist and be readable and writable, as a disk.
-    pub fn open<R: Files<File = F>, P: AsPath>(
-        rt: &R,
-        path: P,
-    ) -> io::Result<DiskOver<Logged<F>>>
+    ///
+    /// # Errors
+    /// It can't be opened, or as of [`DiskOver::new`].
+    pub fn open<R: Files<File = F>, P: AsPath>(rt: &R, path: P) -> io::Result<DiskOver<Logged<F>>>
         ensures { IfOk result (λ disk. IsOpened [] disk) }
     {
         Self::new(OpenOptions::new().read(true).write(true).open(rt, path)?)
@@ -65,9 +70,20 @@ impl<F: FileExt + OpenFile + Drop> DiskOver<Logged<F>> {
 
     /// Returns a disk over an open file, with a sector for each 512 bytes of the file's current
     /// length, and at most `u32::MAX`. Bytes after the last whole sector are left alone.
+    ///
+    /// # Errors
+    /// The file's length can't be asked for, or its descriptor is that of a standard stream (0, 1 or
+    /// 2), whose text would be written over its sectors. The file wasn't changed.
     pub fn new(file: F) -> io::Result<DiskOver<Logged<F>>>
-        ensures { IfOk result (λ disk. IsOpened [] disk) }
+        ensures opened { IfOk result (λ disk. IsOpened [] disk) }
+        ensures no_stream { IfSome (F.raw_fd file) (λ fd. fd ≤ℤ pos 2 → IsErr result) }
     {
+        if file.as_raw_fd() <= LAST_STREAM {
+            return Err(io::Error::new(
+                io::ErrorKind::InvalidInput,
+                "its descriptor is that of a standard stream",
+            ));
+        }
         Self::over(Logged::new(file))
     }
 }

@@ -15,6 +15,7 @@ mod poll;
 mod progress;
 mod report;
 mod script;
+mod streams;
 mod tasks;
 mod why;
 
@@ -37,6 +38,9 @@ fn words_of(rt: &(impl Env + AllocGlobal)) -> io::Result<Vec<String>> {
 }
 
 fn main(rt: HostRuntime) -> ExitCode {
+    if streams::hold(&rt).is_err() {
+        return told(&rt, &Ending::File(streams::NOWHERE));
+    }
     let words = match words_of(&rt) {
         Ok(words) => words,
         Err(error) if error.kind() == ErrorKind::OutOfMemory => {

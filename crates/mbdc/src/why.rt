@@ -5,6 +5,7 @@ use std::cell::Cell;
 use std::fs::{File, Metadata, OpenFile};
 use std::io;
 use std::io::{ErrorKind, Read, Write};
+use std::os::fd::{AsRawFd, RawFd};
 use std::os::unix::fs::FileExt;
 
 /// The system's message for a call that failed, and the bus line of its link.
@@ -124,6 +125,17 @@ impl FileExt for Noted<'_, File> {
             self.why.note(error);
         }
         answer
+    }
+}
+
+impl AsRawFd for Noted<'_, File> {
+    ghost use Rattle.std.specs.Prelude.{Some};
+    ghost use Rattle.std.specs.Fd.{file_raw_fd};
+
+    ghost raw_fd = { λ noted. Some (file_raw_fd noted.inner) };
+
+    fn as_raw_fd(&self) -> RawFd {
+        self.inner.as_raw_fd()
     }
 }
 

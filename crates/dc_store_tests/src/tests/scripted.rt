@@ -3,6 +3,7 @@
 use dc_sectors::{Disk, Failed, FileDisk, ReadFault};
 use std::cell::Cell;
 use std::fs::{File, Metadata, OpenFile};
+use std::os::fd::{AsRawFd, RawFd};
 use std::os::unix::fs::FileExt;
 use std::process::Abort;
 use std::test::Fail;
@@ -84,6 +85,12 @@ impl FileExt for Scripted<'_> {
             }
             Step::Fails => Err(failure()),
         }
+    }
+}
+
+impl AsRawFd for Scripted<'_> {
+    fn as_raw_fd(&self) -> RawFd {
+        self.file.as_raw_fd()
     }
 }
 
