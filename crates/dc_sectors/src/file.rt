@@ -24,8 +24,8 @@ use std::rt::Files;
 /// A disk over a file: sector n is the 512 bytes from byte 512 n on.
 ///
 /// A read, a write or a sync is one call of the file. Each fault of the file is a counted failure,
-/// including a short read or a short write. A sector of a file is never `Unreadable`. After a sync
-/// that failed every call fails.
+/// including a short read or a short write, except that a sector which the drive can't read (EIO of
+/// POSIX) is `Unreadable`. After a sync that failed every call fails.
 ///
 /// That the file keeps the disk model is a hypothesis on its calls so far: `KeepsRule` of
 /// specs/File.
@@ -124,21 +124,22 @@ impl<C: FileCalls + Drop> DiskOver<C> {
         ensures made { IsReadOf self.old n result self.new.calls }
         ensures start { self.new.start ≡ self.old.start }
         ensures ok { OnOk result (self.new ≡ record self.old { calls = self.new.calls }) }
-        ensures err { OnErr result (self.new
-            ≡ record (failed_once_more self.old) { calls = self.new.calls }) }
-        ensures readable { IsErrOf result CannotRead → ⊥ }
-        ensures lost { self.old.lost ≡ true → IsErr result }
+        ensures unreadable { IsErrOf result CannotRead
+            → self.new ≡ record self.old { calls = self.new.calls } }
+        ensures err { IsErrOf result ReadFailed → self.new
+            ≡ record (failed_once_more self.old) { calls = self.new.calls } }
+        ensures lost { self.old.lost ≡ true → IsErrOf result ReadFailed }
         ensures counts { FileCounts self.old self.new (IsErrOf result ReadFailed) }
     {
         if self.lost {
             return Err(self.unread());
         }
         let mut bytes = [0; 512];
-        let came = self.file.read_some(position(n), &mut bytes);
-        if !is_whole(&came) {
-            return Err(self.unread());
+        match self.file.read_some(position(n), &mut bytes) {
+            Ok(512) => Ok(bytes),
+            Err(ReadFault::Unreadable) => Err(ReadFault::Unreadable),
+            Ok(_) | Err(ReadFault::Failed) => Err(self.unread()),
         }
-        Ok(bytes)
     }
 
     fn write_sector(&mut self, n: u32, bytes: &[u8; 512]) -> Result<(), Failed>
@@ -235,10 +236,11 @@ impl<C: FileCalls + Drop> Disk for DiskOver<C> {
         requires { n < self.old.sectors }
         ensures made { IsReadOf self.old n result self.new.calls }
         ensures ok { OnOk result (self.new ≡ record self.old { calls = self.new.calls }) }
-        ensures err { OnErr result (self.new
-            ≡ record (failed_once_more self.old) { calls = self.new.calls }) }
-        ensures readable { IsErrOf result CannotRead → ⊥ }
-        ensures lost { self.old.lost ≡ true → IsErr result }
+        ensures unreadable { IsErrOf result CannotRead
+            → self.new ≡ record self.old { calls = self.new.calls } }
+        ensures err { IsErrOf result ReadFailed → self.new
+            ≡ record (failed_once_more self.old) { calls = self.new.calls } }
+        ensures lost { self.old.lost ≡ true → IsErrOf result ReadFailed }
         ensures answer { HasKept self.new
             → Answers (reads_in self.old n) result }
         ensures before { HasKept self.new → HasKept self.old }
