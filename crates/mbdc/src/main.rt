@@ -3,6 +3,7 @@
 #![tactic(auto)]
 
 mod bench;
+mod clock;
 mod connecting;
 mod demo;
 mod ending;
@@ -21,7 +22,7 @@ mod why;
 
 use dc_poller::Ending;
 use dc_words::{Call, call_of};
-use ending::{told, told_why, told_words};
+use ending::{told, told_disk, told_why, told_words};
 use host::Host;
 use std::io::{ErrorKind, IsTerminal};
 use std::process::ExitCode;
@@ -69,6 +70,9 @@ fn answer(rt: &HostRuntime, call: &Call<'_>) -> ExitCode {
     let status = told(rt, &ending);
     if call.is_verbose {
         told_why(rt, &ending, &why);
+    }
+    if call.is_verbose || host.is_watched || why.has_unreadable() {
+        told_disk(rt, &ending, &why);
     }
     status
 }
