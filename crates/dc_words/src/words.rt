@@ -352,10 +352,12 @@ fn image_task<'a>(
 fn run_task<'a>(image: &'a str, inner: &ArgMatches<'a>) -> Result<Task<'a>, WordsFault> {
     let mut links = links_of(inner)?;
     let gateway = inner.get_str("GATEWAY");
-    if !links.is_empty()
-        && let Some(place) = gateway
-    {
-        links.add_gateway(place)?;
+    if let Some(place) = gateway {
+        if links.is_empty() {
+            let _ = LinkName::gateway(place)?;
+        } else {
+            links.add_gateway(place)?;
+        }
     }
     Ok(Task::Run(RunTask {
         image,

@@ -1,7 +1,7 @@
 //! The command `inspect`: the contents of an image in a file.
 
 use crate::host::Host;
-use crate::image::open_locked;
+use crate::image::open_to_look;
 use crate::tasks::{ROOM, flushed};
 use crate::why::Noted;
 use dc_inspect::inspect;
@@ -9,20 +9,18 @@ use dc_io::{Buffered, WriteSink};
 use dc_poller::{Ending, ProgramFault, STREAM, ending_of};
 use dc_recovery::OpenFault;
 use dc_sectors::FileDisk;
-use std::fs::{File, OpenFile, OpenOptions};
+use std::fs::{File, OpenFile};
 use std::io;
 use std::os::unix::fs::FileExt;
 use std::rt::Files;
 
 /// Prints the contents of the image in that file, or why it doesn't open. The file is opened
-/// read-only, and locked while it is open.
+/// read-only, and nobody writes it meanwhile.
 pub fn inspect_image<'a, R>(host: &Host<'_, R>, image: &'a str) -> Ending<'a>
 where
     R: Files<File = File> + Print + AllocGlobal,
 {
-    let mut options = OpenOptions::new();
-    options.read(true);
-    let file = match open_locked(host.rt, &options, image) {
+    let file = match open_to_look(host.rt, image) {
         Ok(file) => file,
         Err(error) => return host.why.file(image, error),
     };

@@ -1,7 +1,6 @@
 //! The commands: an engine of a library between the files and links that the words name.
 
 use crate::bench::{read_on_bus, scan_bus};
-use crate::demo;
 use crate::format::format_image;
 use crate::host::Host;
 use crate::inspect::inspect_image;
@@ -9,6 +8,7 @@ use crate::poll::poll_on_image;
 use crate::report::report_on_image;
 use crate::script::run_on_image;
 use crate::why::{Noted, Why};
+use crate::{clock, demo};
 use dc_decode::decode_lines;
 use dc_io::{Buffered, ReadSource, Source, WriteSink};
 use dc_json::{explain_lines, json_lines};
@@ -60,6 +60,8 @@ where
             meter,
             patience,
         } => read_on_bus(host, link, *meter, *patience),
+        // No reading gets a stamp that is no time.
+        Task::Poll(_) if clock::moment(host.rt).is_none() => Ending::Clock,
         Task::Poll(task) => poll_on_image(host, task),
         Task::Demo => demo::play(host),
     }
