@@ -6,40 +6,38 @@ ghost use Rattle.dc_recovery.specs.Halves.{half_start, half_end, budget_of, shor
 ghost use Rattle.dc_recovery.specs.Halves.{longest_half, SparesRest};
 ghost use Rattle.dc_recovery.specs.Roots.{compacted};
 ghost use Rattle.dc_recovery.specs.Stands.{IsReady, StandsForEither};
-ghost use Rattle.dc_recovery.specs.Language.{State};
 
 use crate::reading::VERSION;
 use crate::rooting::put_root;
 use crate::sites::base_site;
 use crate::writing::write_state;
-use dc_meters::House;
+use dc_kept::Kept;
 use dc_roots::Root;
 use dc_sectors::{Disk, Failed};
-use std::alloc::Allocator;
 
 /// Writes a base group of this version with the house's state into the other half and syncs, and
 /// then puts the root in force that names it. Returns that root, and the place of the next group.
-pub(crate) fn compact_into_other_half<A: Allocator + Copy, D: Disk>(
+pub(crate) fn compact_into_other_half<K: Kept, D: Disk>(
     disk: &mut D,
     root: &Root,
     half_len: u32,
     sequence: u64,
-    house: &House<A>,
+    house: &K,
 ) -> Result<(Root, u32), Failed>
     requires half { root.now.half ≤ 1 }
     requires some { shortest_half ≤ half_len }
     requires most { half_len ≤ longest_half }
     requires fits { 3 + 2 * half_len ≤ D.sectors disk.old }
     requires generation { root.now.generation < 2 ^ 64 - 1 }
-    requires budget { house.now.budget ≤ budget_of half_len }
-    ensures ready { IsSettled D.Disk disk.old → (m place : ℕ) (was : State)
-        → IsReady half_len root.now m place was (D.reads disk.old)
+    requires budget { K.limit house.now ≤ budget_of half_len }
+    ensures ready { IsSettled D.Disk disk.old → (m place : ℕ) (was : K.State)
+        → IsReady K.Language half_len root.now m place was (D.reads disk.old)
         → sequence ≡ root.now.base_sequence + suc m
-        → IfOk result (λ o. IsReady half_len o.0 zero o.1 house.now.state (D.reads disk.new)) }
+        → IfOk result (λ o. IsReady K.Language half_len o.0 zero o.1 (K.state house.now) (D.reads disk.new)) }
     ensures any_moment { IsSettled D.Disk disk.old
-        → (m place : ℕ) (was : State) → IsReady half_len root.now m place was (D.reads disk.old)
+        → (m place : ℕ) (was : K.State) → IsReady K.Language half_len root.now m place was (D.reads disk.old)
         → sequence ≡ root.now.base_sequence + suc m
-        → LeavesOnly D.Disk disk.old disk.new (StandsForEither half_len was house.now.state) }
+        → LeavesOnly D.Disk disk.old disk.new (StandsForEither K.Language half_len was (K.state house.now)) }
     ensures durable { OnOk result (IsSettled D.Disk disk.new) }
     ensures root { IfOk result (λ o. o.0 ≡ compacted root.now sequence) }
     ensures from { IfOk result (λ o. half_start half_len o.0.half ≤ o.1) }
