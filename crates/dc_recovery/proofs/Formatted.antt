@@ -90,7 +90,7 @@ module _ {K : Type 0} (lang : Language K) where
       unused = λ k from to carries. let one = stamped k root.session (root.base_sequence + suc zero) from to carries in omega (arith, one.1);
     }
 
-  -- FROM ZEROS: the base group of the empty register, and then the first root
+  -- FROM ZEROS: the base group of the first state, and then the first root
   pub formatted : (half_len count : ℕ) (payload : List ℕ) (state : lang.State) (zeros grouped image : Image)
       → ((k : ℕ) → 1 ≤ k → k < 3 + 2 * half_len → zeros k ≡ blank)
       → IsWritten (base_site half_len (first_root half_len)) 1 payload count zeros grouped

@@ -9,7 +9,7 @@ use Rattle.dc_recovery.specs.Halves.{half_of, half_len_of, budget_of}
 use Rattle.dc_recovery.specs.Roots.{compacted}
 use Rattle.dc_recovery.specs.Sites.{change_site}
 use Rattle.dc_recovery.specs.Stands.{IsReady, IsReadyFor, IsAppendable, Reads, Stands, EachStands, StandsForEither}
-use Rattle.dc_recovery.specs.Store.{Kept, Keeps}
+use Rattle.dc_recovery.specs.Store.{Opened, Keeps}
 use Rattle.dc_recovery.proofs.Once.{reads_once}
 use Rattle.dc_kept.specs.declared.kept.Language.{Ghosts as Language}
 
@@ -22,14 +22,14 @@ module _ {K : Type 0} (lang : Language K) where
 
   module _ {D : Type 0} (g : Ghosts D) where
     -- before anything is written
-    pub keeps_stands : (store : Kept D) (was next : lang.State) (image : Image) → Keeps lang g store was → IsImage (g.choices store.disk) image
+    pub keeps_stands : (store : Opened D) (was next : lang.State) (image : Image) → Keeps lang g store was → IsImage (g.choices store.disk) image
         → StandsForEither lang (half_of g store.disk) was next image
     keeps_stands store was next image kept is =
         inl (ready_stands (half_of g store.disk) store.root was (g.choices store.disk) (g.reads store.disk) image kept.is_settled
         (record { m = kept.m; place = store.place; ready = kept.ready }) is)
 
     -- accepted changes may follow
-    pub keeps_appendable : (store : Kept D) (was : lang.State) (payload : List ℕ) (changes : List lang.Change) (kept : Keeps lang g store was) → store.last + 1 < 2 ^ 64
+    pub keeps_appendable : (store : Opened D) (was : lang.State) (payload : List ℕ) (changes : List lang.Change) (kept : Keeps lang g store was) → store.last + 1 < 2 ^ 64
         → lang.SpellsChanges payload changes → lang.Accepts (budget_of (half_of g store.disk)) was changes
         → IsAppendable lang (half_of g store.disk) store.root kept.m (change_site (half_of g store.disk) store.root (store.last + 1) store.place) was payload changes (g.reads store.disk)
     keeps_appendable store was payload changes kept small spells accepted =
@@ -45,7 +45,7 @@ module _ {K : Type 0} (lang : Language K) where
         }
 
     -- and are kept
-    pub keeps_after : (store new : Kept D) (was : lang.State) (count next : ℕ) (now : lang.State) → (kept : Keeps lang g store was)
+    pub keeps_after : (store new : Opened D) (was : lang.State) (count next : ℕ) (now : lang.State) → (kept : Keeps lang g store was)
         → new.is_stopped ≡ false → new.root ≡ store.root → new.place ≡ store.place + count → new.last ≡ store.last + 1 → g.sectors new.disk ≡ g.sectors store.disk
         → IsSettled g new.disk
         → IsReady lang (half_of g store.disk) store.root (suc kept.m) (store.place + count) now (g.reads new.disk) → Keeps lang g new now
@@ -64,7 +64,7 @@ module _ {K : Type 0} (lang : Language K) where
         }
 
     -- the state that was compacted is kept
-    pub keeps_compacted : (store new : Kept D) (state : lang.State) (sequence : ℕ) → new.is_stopped ≡ false → new.root ≡ compacted store.root sequence → new.last ≡ sequence → g.sectors new.disk ≡ g.sectors store.disk
+    pub keeps_compacted : (store new : Opened D) (state : lang.State) (sequence : ℕ) → new.is_stopped ≡ false → new.root ≡ compacted store.root sequence → new.last ≡ sequence → g.sectors new.disk ≡ g.sectors store.disk
         → IsSettled g new.disk → IsReady lang (half_of g store.disk) new.root zero new.place state (g.reads new.disk) → Keeps lang g new state
     keeps_compacted store new state sequence running root last same is_settled ready =
         let base : new.root.base_sequence ≡ sequence = ap (λ (r : Root). r.base_sequence) root in
@@ -80,15 +80,15 @@ module _ {K : Type 0} (lang : Language K) where
     -- FOR THE CRATES ABOVE
 
     -- each image of a store that keeps a state stands for it
-    pub kept_stands : (store : Kept D) (state : lang.State) (image : Image) → Keeps lang g store state → IsImage (g.choices store.disk) image → Stands lang (half_of g store.disk) state image
+    pub kept_stands : (store : Opened D) (state : lang.State) (image : Image) → Keeps lang g store state → IsImage (g.choices store.disk) image → Stands lang (half_of g store.disk) state image
     kept_stands store state image kept is =
         ready_stands (half_of g store.disk) store.root state (g.choices store.disk) (g.reads store.disk) image kept.is_settled (record { m = kept.m; place = store.place; ready = kept.ready }) is
 
     -- and so may be opened again
-    pub kept_each_stands : (store : Kept D) (state : lang.State) → Keeps lang g store state → EachStands lang (half_of g store.disk) (g.choices store.disk)
+    pub kept_each_stands : (store : Opened D) (state : lang.State) → Keeps lang g store state → EachStands lang (half_of g store.disk) (g.choices store.disk)
     kept_each_stands store state kept image is = (state, kept_stands store state image kept is)
 
     -- what its disk reads as, once it is closed and opened with Ok, is that state
-    pub close_open : (store : Kept D) (was now : lang.State) → Keeps lang g store was → Reads lang (half_of g store.disk) now (g.reads store.disk) → now ≡ was
+    pub close_open : (store : Opened D) (was now : lang.State) → Keeps lang g store was → Reads lang (half_of g store.disk) now (g.reads store.disk) → now ≡ was
     close_open store was now kept read =
         reads_once lang (half_of g store.disk) (omega arith) (g.reads store.disk) now was read (record { root = store.root; m = kept.m; place = store.place; by = kept.ready.stands.reads })

@@ -186,12 +186,12 @@ module _ {K : Type 0} (lang : Language K) where
     pub place : ℕ
     pub ready : IsReady half_len root m place state image
 
-  -- it has none, or stands for the empty register
+  -- it has none, or stands for the first state
   abbrev pub IsBlankOrEmpty : ℕ → Image → Type 0
   IsBlankOrEmpty half_len image = IsUnformatted image ⊎ Stands half_len lang.empty image
 
   -- while a disk with such possible contents is formatted: one of its images, or one without a root
-  -- or of the empty register
+  -- or of the first state
   abbrev pub IsFormatting : ℕ → Choices → Image → Type 0
   IsFormatting half_len choices image = IsImage choices image ⊎ IsBlankOrEmpty half_len image
 

@@ -45,7 +45,7 @@ fn blank_sectors<D: Disk>(disk: &mut D, end: u32) -> Result<(), Failed>
     Ok(())
 }
 
-/// Lays out an image of the empty register: zeros, the base group, and then the root.
+/// Lays out an image of the first state: zeros, the base group, and then the root.
 fn lay_out<K: Kept, D: Disk>(disk: &mut D, half_len: u32) -> Result<(), Failed>
     requires some { shortest_half ≤ half_len }
     requires most { half_len ≤ longest_half }
@@ -69,7 +69,12 @@ fn lay_out<K: Kept, D: Disk>(disk: &mut D, half_len: u32) -> Result<(), Failed>
         base_sequence: 1,
         half_len,
     };
-    write_group(disk, base_site(half_len, &root), root.session, K::empty_bytes())?;
+    write_group(
+        disk,
+        base_site(half_len, &root),
+        root.session,
+        K::empty_bytes(),
+    )?;
     disk.sync()?;
     match put_root(disk, &root) {
         Ok(_) => Ok(()),

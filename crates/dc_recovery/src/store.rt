@@ -51,9 +51,9 @@ pub struct Store<D: Disk + Drop> {
 impl<D: Disk + Drop> Model for Store<D> {
     ghost use Rattle.std.specs.Prelude.{◌≤◌, ◌≡◌};
     ghost use Rattle.dc_recovery.specs.Halves.{half_of, half_end};
-    ghost use Rattle.dc_recovery.specs.Store.{Kept, IsLaidOut};
+    ghost use Rattle.dc_recovery.specs.Store.{Opened, IsLaidOut};
 
-    ghost Value = { Kept D };
+    ghost Value = { Opened D };
 
     ghost view = { λ s. record {
       disk = s.disk;
@@ -69,7 +69,7 @@ impl<D: Disk + Drop> Model for Store<D> {
 impl<D: Disk + Drop> Store<D> {
     ghost use Rattle.dc_recovery.specs.Store.{Keeps, Fits};
 
-    /// Formats the disk: an image of the empty register, in session 1.
+    /// Formats the disk: an image of the first state, `K::empty`, in session 1.
     ///
     /// # Errors
     ///
@@ -92,13 +92,13 @@ impl<D: Disk + Drop> Store<D> {
             → IfErr result (λ e. D.keeps e.1
             → LeavesOnly D.Disk disk e.1 (IsImage (D.choices disk))) }
 
-        // On the way each image is one of those before, has no valid root, or stands for the empty register.
+        // On the way each image is one of those before, has no valid root, or stands for the first state.
         ensures any_moment { MatchResult result (λ d. D.keeps d → LeavesOnly D.Disk disk d
             (IsFormatting K.Language (half_of D.Disk disk) (D.choices disk)))
             (λ e. D.keeps e.1 → LeavesOnly D.Disk disk e.1
             (IsFormatting K.Language (half_of D.Disk disk) (D.choices disk))) }
 
-        // Each image of the disk stands for the empty register, by the first root.
+        // Each image of the disk stands for the first state, by the first root.
         ensures formatted { IfOk result (λ d. (image : Image) → IsImage (D.choices d) image
             → Stands K.Language (half_of D.Disk d) K.empty image) }
         ensures root { IfOk result (λ d. IsChosen (first_root (half_of D.Disk d)) (D.reads d)) }
@@ -126,10 +126,7 @@ impl<D: Disk + Drop> Store<D> {
     /// # Errors
     ///
     /// The first in the order of the steps: [`OpenFault`]. The disk is returned.
-    pub fn open<K: Kept>(
-        alloc: K::Alloc,
-        mut disk: D,
-    ) -> Result<(Store<D>, K), (OpenFault, D)>
+    pub fn open<K: Kept>(alloc: K::Alloc, mut disk: D) -> Result<(Store<D>, K), (OpenFault, D)>
         ensures small { D.sectors disk < fewest_sectors → result ≡ Err (NotImage, disk) }
 
         // Ok gives exactly the state that the image reads as, and a refusal is a fact of the image.
@@ -184,7 +181,7 @@ impl<D: Disk + Drop> Store<D> {
             Ok(found) => {
                 let Found {
                     root,
-                    house,
+                    house: kept,
                     place,
                     last,
                 } = found;
@@ -195,7 +192,7 @@ impl<D: Disk + Drop> Store<D> {
                     last,
                     is_stopped: false,
                 };
-                Ok((store, house))
+                Ok((store, kept))
             }
             Err(fault) => Err((fault, disk)),
         }
@@ -281,16 +278,16 @@ impl<D: Disk + Drop> Store<D> {
         }
     }
 
-    /// Writes the house's whole state as the base group of the other half, and puts that half in
-    /// force. Each image on the way stands for the state that the store keeps or for the house's,
-    /// and in the end for the house's.
+    /// Writes the whole state of `kept` as the base group of the other half, and puts that half in
+    /// force. Each image on the way stands for the state that the store keeps or for that of `kept`,
+    /// and in the end for the latter.
     ///
     /// # Errors
     ///
     /// `Stopped` after a failure; `Worn` if the sequence or the generation is exhausted, and
     /// nothing was written; `Device` if the disk failed, and the store is stopped from then on.
-    pub fn compact<K: Kept>(&mut self, house: &K) -> Result<(), StoreFault>
-        requires budget { K.limit house.now ≤ budget_of (half_of D.Disk self.old.disk) }
+    pub fn compact<K: Kept>(&mut self, kept: &K) -> Result<(), StoreFault>
+        requires budget { K.limit kept.now ≤ budget_of (half_of D.Disk self.old.disk) }
         ensures stopped { IsErrOf result Stopped ↔ (self.old.is_stopped ≡ true) }
         ensures worn { IsErrOf result StoreWorn ↔ ((self.old.is_stopped ≡ false)
             × ((2 ^ 64 - 1 ≤ self.old.last + 1) ⊎ (self.old.root.generation ≡ 2 ^ 64 - 1))) }
@@ -301,10 +298,10 @@ impl<D: Disk + Drop> Store<D> {
         ensures root { OnOk result (self.new.root ≡ compacted self.old.root (self.old.last + 1)) }
         ensures last { OnOk result (self.new.last ≡ self.old.last + 1) }
         ensures kept { (was : K.State) → Keeps K.Language D.Disk self.old was
-            → OnOk result (Keeps K.Language D.Disk self.new (K.state house.now)) }
+            → OnOk result (Keeps K.Language D.Disk self.new (K.state kept.now)) }
         ensures any_moment { (was : K.State) → Keeps K.Language D.Disk self.old was
             → LeavesOnly D.Disk self.old.disk self.new.disk
-            (StandsForEither K.Language (half_of D.Disk self.old.disk) was (K.state house.now)) }
+            (StandsForEither K.Language (half_of D.Disk self.old.disk) was (K.state kept.now)) }
         ensures elsewhere { SparesRest (half_of D.Disk self.old.disk)
             (D.reads self.old.disk) (D.reads self.new.disk) }
         ensures before { D.keeps self.new.disk → D.keeps self.old.disk }
@@ -318,7 +315,7 @@ impl<D: Disk + Drop> Store<D> {
         }
         let half_len = half_len_of(self.disk.count());
         let next = self.last + 1;
-        match compact_into_other_half(&mut self.disk, &self.root, half_len, next, house) {
+        match compact_into_other_half(&mut self.disk, &self.root, half_len, next, kept) {
             Ok((root, place)) => {
                 self.root = root;
                 self.place = place;
