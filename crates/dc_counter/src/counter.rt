@@ -45,7 +45,6 @@ fn put<S: Sink>(sink: &mut S, bytes: &[u8]) -> Result<(), IoFault>
 impl Language for Counter {
     ghost use Rattle.dc_counter.specs.Laws.{one_number, one_step, wider_number, some_number};
     ghost use Rattle.dc_counter.specs.Laws.{fits_number, zero_spelled, counted_append};
-
     ghost use Rattle.std.specs.Prelude.{refl};
 
     ghost State = { ℕ };

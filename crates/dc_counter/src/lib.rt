@@ -1,12 +1,11 @@
-//! A counter, kept in a store: the second thing that the store keeps, which shows that it knows no meter.
+//! A counter in the store: an example of what a store keeps, beside the house.
+//!
+//! A state is a number of eight bytes, a change a number to add. Proved: a [`Counter`] is what
+//! [`Kept`](dc_kept::Kept) asks, so each clause of the store is one of counters too. No program uses it.
 #![tactic(auto)]
 
 mod counter;
 mod reopen;
-
-#[cfg(test)]
-mod tests;
-
 
 pub use counter::Counter;
 pub use reopen::reopened;
