@@ -13,6 +13,7 @@ use dc_core::Concentrator;
 use dc_decode::decode_lines;
 use dc_io::{Bytes, Sink, TextFault, first_line};
 use dc_json::{explain_lines, json_lines};
+use dc_meters::House;
 use dc_poller::{
     Ending, Halt, ProgramFault, Report, ending_of, fold_lines, report_on, run_script, search,
 };
@@ -105,7 +106,7 @@ impl World {
 
     fn format(&mut self, out: &mut Bytes<Global>) -> Result<(), CaseFault> {
         let disk = self.disk.take().ok_or(CaseFault::Syntax)?;
-        match Store::format(disk) {
+        match Store::format::<House<Global>>(disk) {
             Ok(disk) => {
                 self.disk = Some(disk);
                 Ok(())

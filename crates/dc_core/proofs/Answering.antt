@@ -11,9 +11,10 @@ use Rattle.dc_changes.specs.Apply.{applied}
 use Rattle.dc_changes.specs.declared.change.Change.{Change}
 use Rattle.dc_changes.specs.History.{after}
 use Rattle.dc_recovery.specs.Halves.{half_of, half_len_of}
-use Rattle.dc_recovery.specs.Stands.{StandsForFront}
-use Rattle.dc_recovery.specs.Store.{Kept}
+use Rattle.dc_pending.specs.Images.{StandsForFront}
+use Rattle.dc_recovery.specs.Store.{Opened}
 use Rattle.dc_recovery.proofs.Fronts.{longer_front, front_behind}
+use Rattle.dc_meters.specs.Language.{register}
 use Rattle.dc_upload.specs.declared.line.OfficeLine.{OfficeLine}
 use Rattle.dc_upload.specs.declared.verdict.Verdict.{Verdict}
 use Rattle.dc_upload.specs.declared.verdict.Verdict.TheVariants.{Repeat, Do, Show, Refuse}
@@ -46,7 +47,7 @@ none_done v is = ⊎_elim
     is
 
 -- what can't be written shows that a counter of the store is exhausted
-worn_out : {D : Type 0} {P : Type 0} (store : Kept D) → (2 ^ 64 - 1 ≤ store.last + 1) ⊎ (P × (store.root.generation ≡ 2 ^ 64 - 1)) → IsWornOut store
+worn_out : {D : Type 0} {P : Type 0} (store : Opened D) → (2 ^ 64 - 1 ≤ store.last + 1) ⊎ (P × (store.root.generation ≡ 2 ^ 64 - 1)) → IsWornOut store
 worn_out store worn = ⊎_elim (λ last. inl last) (λ more. inr more.1) worn
 
 -- a commit's fault shows
@@ -149,7 +150,7 @@ module _ {D : Type 0} (g : Ghosts D) (origin : D) where
       → (g.keeps origin → LeavesOnly g mid.store.disk new.store.disk (StandsForFront (half_of g mid.store.disk) core.committed (change ∷ [])))
       → g.keeps origin → LeavesOnly g machine.store.disk new.store.disk (StandsForFront (half_of g machine.store.disk) core.committed (change ∷ []))
   since machine mid new core change store left h =
-      subst (λ (s : Kept D). LeavesOnly g s.disk new.store.disk (StandsForFront (half_of g s.disk) core.committed (change ∷ []))) store (left h)
+      subst (λ (s : Opened D). LeavesOnly g s.disk new.store.disk (StandsForFront (half_of g s.disk) core.committed (change ∷ []))) store (left h)
 
   -- a new command is done
   pub answered_obeyed : (machine mid new : Machine D) (core : Core) (line : OfficeLine) (change : Change) (wrote : List ℕ → Type 0) → IsAt g origin machine core → machine.waiting.count ≡ 0
@@ -189,7 +190,7 @@ module _ {D : Type 0} (g : Ghosts D) (origin : D) where
   }
     where
       shows_since : (f : CommitFault) → IsShown g mid new (Some f) → IsShown g machine new (Some f)
-      shows_since Device s = subst (λ (k : Kept D). HasRisen (g.failures k.disk) (g.failures new.store.disk)) store s
+      shows_since Device s = subst (λ (k : Opened D). HasRisen (g.failures k.disk) (g.failures new.store.disk)) store s
       shows_since Worn s = s
       shows_since Stopped s = tt
 
@@ -208,7 +209,7 @@ module _ {D : Type 0} (g : Ghosts D) (origin : D) where
         at = at;
         failed = tt;
         leaves = λ h. begun g machine.store.disk P
-            (λ image left. longer_front (half_of g machine.store.disk) core.committed core.pending [] image (at.leaves h image (only h image left)));
+            (λ image left. longer_front register (half_of g machine.store.disk) core.committed core.pending [] image (at.leaves h image (only h image left)));
       }
 
   -- the pending changes aren't committed
@@ -226,7 +227,7 @@ module _ {D : Type 0} (g : Ghosts D) (origin : D) where
         at = at;
         failed = shows;
         leaves = λ h. weakened g machine.store.disk new.store.disk (StandsForFront H core.committed core.pending) (StandsForFront H core.committed (core.pending ++ []))
-            (left h) (longer_front H core.committed core.pending []);
+            (left h) (longer_front register H core.committed core.pending []);
       }
 
   may_is : (budget : ℕ) (core : Core) (text : List ℕ) (line : OfficeLine) (reply : Reply) → Spells text line → core.stopped ≡ false → MayAnswer budget (settled core) line reply → MayReply budget core text reply
@@ -281,7 +282,7 @@ module _ {D : Type 0} (g : Ghosts D) (origin : D) where
       let all = core.pending ++ more in
       let may = subst (λ (b : ℕ). MayAnswer b (settled core) line reply) budget answered.may in
       let behind : (image : Image) → StandsForFront (half_of g mid.store.disk) (settled core).committed more image → StandsForFront H core.committed all image =
-      λ image stands. front_behind H core.committed core.pending more image
+      λ image stands. front_behind register H core.committed core.pending more image
       (subst (λ (s : State). StandsForFront H s more image) (committed_is core core.pending refl) (subst (λ (n : ℕ). StandsForFront (half_len_of n) (settled core).committed more image) count stands)) in
       record {
         answer = replied reply;
@@ -290,7 +291,7 @@ module _ {D : Type 0} (g : Ghosts D) (origin : D) where
         at = subst (λ (c : Core). IsAt g origin new c) (after_is machine.house.budget core line reply may) answered.at;
         failed = shown_since machine.house.budget line machine mid new (settled core) reply may answered.failed (λ risen. has_risen-after (g.failures machine.store.disk) (g.failures mid.store.disk) (g.failures new.store.disk) kept risen);
         leaves = λ h. followed g machine.store.disk mid.store.disk new.store.disk (StandsForFront H core.committed core.pending) (StandsForFront (half_of g mid.store.disk) (settled core).committed more) (StandsForFront H core.committed all)
-            (left h) (answered.leaves h) (longer_front H core.committed core.pending more) behind;
+            (left h) (answered.leaves h) (longer_front register H core.committed core.pending more) behind;
       }
 
   -- the same text, as another result states it

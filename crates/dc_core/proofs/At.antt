@@ -15,9 +15,9 @@ use Rattle.dc_changes.specs.Spelled.{SpellsChanges}
 use Rattle.dc_changes.specs.Valid.{IsChange}
 use Rattle.dc_readout.specs.Summary.{Summary, Verdict, verdict_by}
 use Rattle.dc_recovery.specs.Halves.{half_of}
-use Rattle.dc_recovery.specs.Stands.{StandsForFront}
+use Rattle.dc_pending.specs.Images.{StandsForFront, Keeps}
 use Rattle.dc_recovery.proofs.Fronts.{longer_front}
-use Rattle.dc_recovery.specs.Store.{Keeps}
+use Rattle.dc_meters.specs.Language.{register}
 use Rattle.dc_recovery.proofs.Life.{kept_stands}
 use Rattle.dc_core.specs.declared.line_heard.LineHeard.{LineHeard}
 use Rattle.dc_pending.specs.Waiting.{Waiting}
@@ -96,7 +96,7 @@ module _ {D : Type 0} (g : Ghosts D) (origin : D) where
         stopped_is = at.stopped_is;
         keeps = at.keeps;
         stands = at.stands;
-        leaves = λ h image is_image. longer_front (half_of g machine.store.disk) core.committed core.pending (change ∷ []) image (at.leaves h image is_image);
+        leaves = λ h image is_image. longer_front register (half_of g machine.store.disk) core.committed core.pending (change ∷ []) image (at.leaves h image is_image);
       } in
       rw (there, is, same) (subst (λ (x : Machine D). IsAt g origin x to) (sym e) all)
 
@@ -123,7 +123,7 @@ module _ {D : Type 0} (g : Ghosts D) (origin : D) where
         stopped_is = at.stopped_is;
         keeps = at.keeps;
         stands = at.stands;
-        leaves = λ h image is_image. longer_front (half_of g machine.store.disk) core.committed core.pending (change ∷ []) image (at.leaves h image is_image);
+        leaves = λ h image is_image. longer_front register (half_of g machine.store.disk) core.committed core.pending (change ∷ []) image (at.leaves h image is_image);
       } in
       subst (λ (c : Core). IsAt g origin new c) same (subst (λ (x : Machine D). IsAt g origin x to) (sym e) all)
 
@@ -141,8 +141,8 @@ module _ {D : Type 0} (g : Ghosts D) (origin : D) where
         lines_are = lines ∙ ap settled_lines at.lines_are;
         stopped_is = running ∙ sym runs ∙ at.stopped_is;
         keeps = λ h still. kept h;
-        stands = λ h still image is. kept_stands g new.store (present core) image (kept h) is;
-        leaves = λ h image is. record { count = 0; within = omega arith; stands = kept_stands g new.store (present core) image (kept h) is };
+        stands = λ h still image is. kept_stands register g new.store (present core) image (kept h) is;
+        leaves = λ h image is. record { count = 0; within = omega arith; stands = kept_stands register g new.store (present core) image (kept h) is };
       } in
       subst (λ (c : Core). IsAt g origin new c) (sym (settled_is core core.pending (λ e. some (at.count_is ∙ e)))) all
 
@@ -173,6 +173,6 @@ module _ {D : Type 0} (g : Ghosts D) (origin : D) where
     lines_are = lines;
     stopped_is = running;
     keeps = λ h still. kept h;
-    stands = λ h still image is. kept_stands g new.store new.house.state image (kept h) is;
-    leaves = λ h image is. record { count = 0; within = omega arith; stands = kept_stands g new.store new.house.state image (kept h) is };
+    stands = λ h still image is. kept_stands register g new.store new.house.state image (kept h) is;
+    leaves = λ h image is. record { count = 0; within = omega arith; stands = kept_stands register g new.store new.house.state image (kept h) is };
   }

@@ -4,8 +4,9 @@ use Rattle.dc_sectors.specs.Disk.{Image}
 use Rattle.dc_sectors.specs.Images.{settled_image}
 use Rattle.dc_changes.specs.State.{State}
 use Rattle.dc_recovery.specs.Halves.{half_len_of}
-use Rattle.dc_recovery.specs.Stands.{Reads, Stands}
+use Rattle.dc_pending.specs.Images.{Reads, Stands}
 use Rattle.dc_recovery.proofs.Once.{reads_once}
+use Rattle.dc_meters.specs.Language.{register}
 use Rattle.dc_core.specs.Lives.{LivesFollow}
 
 pub stands_reads : (half_len : ℕ) (state : State) (image : Image) → Stands half_len state image → Reads half_len state image
@@ -21,6 +22,6 @@ lives_follow sectors state promised changes image left =
         count = left.front.count;
         all_promised = left.all_promised;
         within = left.front.within;
-        found_is = reads_once H (omega arith) image found _ reads (stands_reads H _ image stands);
+        found_is = reads_once register H (omega arith) image found _ reads (stands_reads H _ image stands);
       };
     }

@@ -11,9 +11,10 @@ use Rattle.dc_changes.specs.declared.change.Change.{Change}
 use Rattle.dc_changes.specs.History.{after}
 use Rattle.dc_changes.proofs.History.{after_of_append}
 use Rattle.dc_recovery.specs.Halves.{half_of, half_len_of}
-use Rattle.dc_recovery.specs.Stands.{Stands, StandsForFront}
-use Rattle.dc_recovery.specs.Store.{Kept}
+use Rattle.dc_pending.specs.Images.{Stands, StandsForFront}
+use Rattle.dc_recovery.specs.Store.{Opened}
 use Rattle.dc_recovery.proofs.Fronts.{longer_front}
+use Rattle.dc_meters.specs.Language.{register}
 use Rattle.dc_core.specs.declared.line_heard.LineHeard.TheVariants.{Again, Ready, Accepted, Failed}
 use Rattle.dc_core.specs.Core.{Core, opened}
 use Rattle.dc_core.specs.Event.{Event, Answer, starts, asks, hears, commits, offices, started, asked, heard, committed, replied}
@@ -147,8 +148,8 @@ module _ {D : Type 0} (g : Ghosts D) (origin : D) where
   at_rest machine new core more at h same only =
       let H = half_of g machine.store.disk in
       let P : Image → Type 0 = StandsForFront H core.committed (core.pending ++ more) in
-      subst (λ (s : Kept D). LeavesOnly g machine.store.disk s.disk P) (sym same)
-      (begun g machine.store.disk P (λ image left. longer_front H core.committed core.pending more image (at.leaves h image (only image left))))
+      subst (λ (s : Opened D). LeavesOnly g machine.store.disk s.disk P) (sym same)
+      (begun g machine.store.disk P (λ image left. longer_front register H core.committed core.pending more image (at.leaves h image (only image left))))
 
   -- AN EVENT THAT LEAVES THE STORE as it was
   pub turned_at_rest : (budget : ℕ) (machine new : Machine D) (core : Core) (event : Event) (answer : Answer) (wrote : List ℕ → Type 0) → fault_in answer ≡ None

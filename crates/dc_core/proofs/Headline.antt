@@ -15,8 +15,9 @@ use Rattle.dc_changes.specs.State.{State}
 use Rattle.dc_changes.specs.declared.change.Change.{Change}
 use Rattle.dc_changes.specs.History.{after}
 use Rattle.dc_recovery.specs.Halves.{half_of, half_len_of}
-use Rattle.dc_recovery.specs.Stands.{Reads, Stands, EachStands, StandsForFront, StandsForOne}
+use Rattle.dc_pending.specs.Images.{Reads, Stands, EachStands, StandsForFront, StandsForOne}
 use Rattle.dc_recovery.proofs.Once.{reads_once}
+use Rattle.dc_meters.specs.Language.{register}
 use Rattle.dc_pending.specs.Lines.{is_line}
 use Rattle.dc_core.specs.declared.line_heard.LineHeard.TheVariants.{Accepted}
 use Rattle.dc_core.specs.Core.{Core, opened}
@@ -291,7 +292,7 @@ module _ {D : Type 0} (g : Ghosts D) (only : (disk : D) (image : Image) → g.im
         is_settled = left.is_settled;
         each = λ image it. (one.state, subst (λ (n : ℕ). Stands (half_len_of n) one.state image) (sym left.same_size) (subst (Stands H one.state) (sym (settled_image (g.reads disk) image it)) one.stands));
         kept = λ held reads.
-            let same : held ≡ one.state = reads_once H (omega arith) (g.reads disk) held one.state (subst (λ (n : ℕ). Reads (half_len_of n) held (g.reads disk)) left.same_size reads) (stands_reads H one.state (g.reads disk) one.stands) in
+            let same : held ≡ one.state = reads_once register H (omega arith) (g.reads disk) held one.state (subst (λ (n : ℕ). Reads (half_len_of n) held (g.reads disk)) left.same_size reads) (stands_reads H one.state (g.reads disk) one.stands) in
             subst (IsKept state done more) (sym same) is;
       }
 
@@ -325,6 +326,6 @@ module _ {D : Type 0} (g : Ghosts D) (only : (disk : D) (image : Image) → g.im
       record {
         premise = λ other it. (one.state, subst (Stands H one.state) (sym (settled_image image other it)) one.stands);
         kept = λ held reads.
-            let same : held ≡ one.state = reads_once H (omega arith) image held one.state reads (stands_reads H one.state image one.stands) in
+            let same : held ≡ one.state = reads_once register H (omega arith) image held one.state reads (stands_reads H one.state image one.stands) in
             subst (IsKept state done more) (sym same) is;
       }

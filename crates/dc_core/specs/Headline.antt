@@ -11,7 +11,7 @@ use Rattle.dc_changes.specs.State.{State}
 use Rattle.dc_changes.specs.declared.change.Change.{Change}
 use Rattle.dc_changes.specs.History.{after}
 use Rattle.dc_recovery.specs.Halves.{half_of}
-use Rattle.dc_recovery.specs.Stands.{StandsForOne, EachStands, Reads}
+use Rattle.dc_pending.specs.Images.{StandsForOne, EachStands, Reads}
 use Rattle.dc_core.specs.declared.line_heard.LineHeard.TheVariants.{Accepted}
 use Rattle.dc_core.specs.Core.{Core, opened}
 use Rattle.dc_core.specs.Event.{Event, Answer, asks, hears, commits, offices, asked, heard}

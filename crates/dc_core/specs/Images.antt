@@ -8,8 +8,8 @@ use Rattle.dc_changes.specs.History.{AcceptsAll}
 use Rattle.dc_changes.specs.Spelled.{SpellsChanges}
 use Rattle.dc_readout.specs.Summary.{Summary}
 use Rattle.dc_recovery.specs.Halves.{half_of, half_len_of, budget_of}
-use Rattle.dc_recovery.specs.Stands.{Stands, StandsForFront}
-use Rattle.dc_recovery.specs.Store.{Kept, Keeps}
+use Rattle.dc_pending.specs.Images.{Stands, StandsForFront, Keeps}
+use Rattle.dc_recovery.specs.Store.{Opened}
 use Rattle.dc_pending.specs.Waiting.{Waiting}
 use Rattle.dc_core.specs.Core.{Core, present}
 
@@ -22,7 +22,7 @@ pub record StandsForPromised (half_len : ℕ) (state : State) (promised : ℕ) (
 
 -- the parts of a concentrator
 pub record Machine (D : Type 0) : Type 0 where
-  pub store : Kept D
+  pub store : Opened D
   pub house : Held
   pub waiting : Waiting
   pub lines : List (Option Summary)

@@ -6,7 +6,7 @@ use Rattle.dc_changes.specs.State.{State}
 use Rattle.dc_changes.specs.declared.change.Change.{Change}
 use Rattle.dc_changes.specs.History.{after}
 use Rattle.dc_recovery.specs.Halves.{half_len_of}
-use Rattle.dc_recovery.specs.Stands.{Reads, EachStands}
+use Rattle.dc_pending.specs.Images.{Reads, EachStands}
 use Rattle.dc_core.specs.Images.{StandsForPromised}
 
 -- the state is that after a prefix of the changes which has all that is promised

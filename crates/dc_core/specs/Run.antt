@@ -9,8 +9,8 @@ use Rattle.dc_sectors.specs.declared.device.Disk.{Ghosts}
 use Rattle.dc_sectors.specs.Runs.{LeavesOnly}
 use Rattle.dc_changes.specs.State.{State}
 use Rattle.dc_recovery.specs.Halves.{half_of}
-use Rattle.dc_recovery.specs.Stands.{StandsForFront}
-use Rattle.dc_recovery.specs.Store.{Kept}
+use Rattle.dc_pending.specs.Images.{StandsForFront}
+use Rattle.dc_recovery.specs.Store.{Opened}
 use Rattle.dc_upload.specs.declared.line.OfficeLine.{OfficeLine}
 use Rattle.dc_core.specs.declared.fault.CommitFault.{CommitFault}
 use Rattle.dc_core.specs.declared.fault.CommitFault.TheVariants.{Device, Worn, Stopped}
@@ -41,7 +41,7 @@ fault_in (replied (uncommitted change fault)) = Some fault
 fault_in answer = None
 
 -- the sequence or the generation has no next value
-abbrev pub IsWornOut : {D : Type 0} → Kept D → Type 0
+abbrev pub IsWornOut : {D : Type 0} → Opened D → Type 0
 IsWornOut store = (2 ^ 64 - 1 ≤ store.last + 1) ⊎ (store.root.generation ≡ 2 ^ 64 - 1)
 
 -- It shows: the disk has counted a failure, or the store is worn out.

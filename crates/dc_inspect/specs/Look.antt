@@ -1,6 +1,7 @@
 -- The result of reading an image: for the contracts of private functions.
 use Rattle.std.specs.Prelude.{◌≡◌, ◌⊎◌, ℕ, Option, option_map}
 use Rattle.dc_sectors.specs.Disk.{Image}
+use Rattle.dc_changes.specs.State.{Held}
 use Rattle.dc_roots.specs.Held.{IsHeld}
 use Rattle.dc_poller.specs.declared.fault.ProgramFault.{ProgramFault}
 use Rattle.dc_poller.specs.declared.fault.ProgramFault.TheVariants.{Open, NoMemory as Refused}
@@ -15,7 +16,7 @@ abbrev pub AreHeld : Image → Slots → Type 0
 AreHeld image slots = IsHeld 1 (image 1) slots.first × IsHeld 2 (image 2) slots.second
 
 -- what was found, as contracts see it
-abbrev pub seen_of : {A : Type 0} → Found A → Seen
+abbrev pub seen_of : Found Held → Seen
 seen_of found = record {
   root = found.root;
   last = found.last;
@@ -23,7 +24,7 @@ seen_of found = record {
   state = found.house.state;
 }
 
-abbrev pub IsSeen : {A : Type 0} → ℕ → Image → Option (Found A) → Option OpenFault → Type 0
+abbrev pub IsSeen : ℕ → Image → Option (Found Held) → Option OpenFault → Type 0
 IsSeen half_len image found refusal = IsLook half_len image (option_map seen_of found) refusal
 
 -- the program fault for a reading fault that ends the inspection

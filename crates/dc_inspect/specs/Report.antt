@@ -4,7 +4,7 @@ use Rattle.dc_changes.specs.State.{State}
 use Rattle.dc_json.specs.Report.{due_lines, register_lines}
 use Rattle.dc_poller.specs.declared.report.Report.{Report}
 use Rattle.dc_poller.specs.declared.report.Report.TheVariants.{Register, Due}
-use Rattle.dc_recovery.specs.Stands.{Reads}
+use Rattle.dc_pending.specs.Images.{Reads}
 use Rattle.dc_sectors.specs.Disk.{Image}
 
 abbrev pub table_lines : Report → State → List ℕ

@@ -7,8 +7,8 @@ use Rattle.dc_roots.specs.declared.root.Root.{Root}
 use Rattle.dc_roots.specs.declared.chooser.Held.{Held}
 use Rattle.dc_roots.specs.Held.{IsHeld}
 use Rattle.dc_recovery.specs.Halves.{half_len_of, budget_of, fewest_sectors}
-use Rattle.dc_recovery.specs.Refusal.{IsRefused, IsSpent, TellsOfImage}
-use Rattle.dc_recovery.specs.Stands.{IsRead}
+use Rattle.dc_pending.specs.Images.{IsRefused, IsRead}
+use Rattle.dc_recovery.specs.Refusal.{IsSpent, TellsOfImage}
 use Rattle.dc_recovery.specs.declared.fault.OpenFault.{OpenFault}
 use Rattle.dc_recovery.specs.declared.fault.OpenFault.TheVariants.{NotImage, Worn, Device}
 use Rattle.dc_poller.specs.declared.fault.ProgramFault.{ProgramFault}

@@ -20,6 +20,7 @@ use crate::text::{
     put_number_line, put_place, put_refusal, put_refused_line, put_slot, put_summary,
 };
 use dc_io::{Bytes, IoFault, Sink};
+use dc_meters::House;
 use dc_poller::ProgramFault;
 use dc_recovery::{FEWEST_SECTORS, Found, OpenFault, half_len_of};
 use dc_sectors::{Disk, Failed};
@@ -55,7 +56,7 @@ fn put_image<A: Allocator + Copy, W: Sink>(
 fn put_found<A: Allocator + Copy, W: Sink>(
     out: &mut W,
     half_len: u32,
-    found: &Option<Found<A>>,
+    found: &Option<Found<House<A>>>,
 ) -> Result<(), IoFault>
     requires most { half_len ≤ longest_half }
     requires budget { IfSome found.now (λ found. found.house.budget ≡ budget_of half_len) }

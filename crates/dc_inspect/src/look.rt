@@ -9,6 +9,7 @@ ghost use Rattle.dc_recovery.specs.Refusal.{TellsOfImage};
 ghost use Rattle.dc_inspect.specs.Look.{AreHeld, IsSeen, IsStop};
 ghost use Rattle.dc_inspect.specs.Told.{IsOfLook, IsWearOf};
 
+use dc_meters::House;
 use dc_poller::ProgramFault;
 use dc_recovery::{Found, OpenFault, is_spent, read_image};
 use dc_roots::{Held, Root, read_slot};
@@ -28,7 +29,7 @@ pub(crate) struct Slots {
 #[derive(Drop)]
 pub(crate) struct Look<A: Allocator + Copy> {
     /// The state and its place, if the image reads as one.
-    pub found: Option<Found<A>>,
+    pub found: Option<Found<House<A>>>,
     /// Why it doesn't open, if it doesn't.
     pub refusal: Option<OpenFault>,
 }

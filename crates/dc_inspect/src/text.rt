@@ -10,6 +10,7 @@ ghost use Rattle.dc_inspect.specs.Text.{summary_text};
 
 use crate::summary::Summary;
 use dc_io::{IoFault, Sink, put_fault, put_number_word};
+use dc_meters::House;
 use dc_recovery::{Found, OpenFault, half_end, half_start};
 use dc_roots::{Held, Root};
 use std::alloc::Allocator;
@@ -74,7 +75,7 @@ pub(crate) fn put_slot<W: Sink>(out: &mut W, slot: u8, held: &Held) -> Result<()
 pub(crate) fn put_place<A: Allocator + Copy, W: Sink>(
     out: &mut W,
     half_len: u32,
-    found: &Found<A>,
+    found: &Found<House<A>>,
 ) -> Result<(), IoFault>
     requires most { half_len ≤ longest_half }
     requires half { found.now.root.half ≤ 1 }

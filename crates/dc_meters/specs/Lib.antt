@@ -15,3 +15,5 @@ pub mod Orders
 pub mod Ascending
 -- the meters indexed by flat, and by bus line and primary address
 pub mod Places
+-- the register as what a store keeps
+pub mod Language

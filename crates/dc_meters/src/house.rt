@@ -12,6 +12,7 @@ mod apply;
 mod check;
 mod decode;
 mod encode;
+mod kept;
 mod replay;
 
 use crate::{Meter, MeterMap, Place, Reading, ReadingList, Serials};

@@ -8,3 +8,5 @@ pub mod Waiting
 pub mod Taking
 -- when the pending changes can't be written
 pub mod Writing
+-- the store's definitions, of the register
+pub mod Images

@@ -1,10 +1,10 @@
 -- When the pending changes can't be written (this product).
 use Rattle.std.specs.Prelude.{◌≡◌, ◌⊎◌, ◌≤◌, ◌+◌, ◌-◌, ◌^◌, ℕ}
-use Rattle.dc_recovery.specs.Store.{Kept, Fits}
+use Rattle.dc_recovery.specs.Store.{Opened, Fits}
 
 -- This many bytes can't be written: the store has no next sequence, or the bytes don't fit in its half and it has no
 -- next generation.
-abbrev pub IsWornFor : {D : Type 0} → ℕ → Kept D → ℕ → Type 0
+abbrev pub IsWornFor : {D : Type 0} → ℕ → Opened D → ℕ → Type 0
 IsWornFor sectors store len =
     (2 ^ 64 - 1 ≤ store.last + 1) ⊎ (¬ (Fits sectors store len)
     × (store.root.generation ≡ 2 ^ 64 - 1))

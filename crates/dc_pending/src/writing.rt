@@ -7,8 +7,8 @@ ghost use Rattle.dc_changes.specs.State.{State};
 ghost use Rattle.dc_changes.specs.History.{after, AcceptsAll};
 ghost use Rattle.dc_changes.specs.Spelled.{SpellsChanges};
 ghost use Rattle.dc_recovery.specs.Halves.{half_of, budget_of};
-ghost use Rattle.dc_recovery.specs.Stands.{StandsForEither};
-ghost use Rattle.dc_recovery.specs.Store.{Fits, Keeps};
+ghost use Rattle.dc_pending.specs.Images.{StandsForEither, Keeps};
+ghost use Rattle.dc_recovery.specs.Store.{Fits};
 ghost use Rattle.dc_recovery.specs.declared.fault.StoreFault.TheVariants.{Device, Worn, Stopped};
 ghost use Rattle.dc_pending.specs.Writing.{IsWornFor};
 
@@ -60,7 +60,7 @@ pub fn write_waiting<D: Disk + Drop, A: Allocator + Copy>(
 {
     let bytes = waiting.as_slice();
     if store.fits(bytes.len()) {
-        return store.append(bytes);
+        return store.append::<House<A>>(bytes);
     }
     store.compact(house)
 }

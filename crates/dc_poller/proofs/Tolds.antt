@@ -6,9 +6,10 @@ use Rattle.dc_sectors.specs.Runs.{LeavesOnly}
 use Rattle.dc_sectors.proofs.Moments.{weakened}
 use Rattle.dc_changes.specs.State.{State}
 use Rattle.dc_recovery.specs.Halves.{half_of}
-use Rattle.dc_recovery.specs.Stands.{StandsForFront}
+use Rattle.dc_pending.specs.Images.{StandsForFront}
 use Rattle.dc_recovery.proofs.Fronts.{longer_front}
-use Rattle.dc_recovery.specs.Store.{Kept}
+use Rattle.dc_meters.specs.Language.{register}
+use Rattle.dc_recovery.specs.Store.{Opened}
 use Rattle.dc_core.specs.Core.{opened}
 use Rattle.dc_core.specs.Event.{Event, Answer, commits}
 use Rattle.dc_core.specs.Images.{Machine, IsAt}
@@ -37,7 +38,7 @@ module _ {D : Type 0} (g : Ghosts D) (origin : D) where
         failed = shown;
         leaves = λ h. at_rest g origin old new core (accepted_by core event answer) is_at h same (only h);
       } in
-      turn_went g origin budget state before event such (λ text. Unit {0}) old new chain is_at only turned (ap (λ (kept : Kept D). g.sectors kept.disk) same) is_such
+      turn_went g origin budget state before event such (λ text. Unit {0}) old new chain is_at only turned (ap (λ (kept : Opened D). g.sectors kept.disk) same) is_such
 
   -- a commit
   pub committed_went : (budget : ℕ) (state : State) (before : List Turn) (answer : Answer) (such : Answer → Type 0) (old new : Machine D)
@@ -57,6 +58,6 @@ module _ {D : Type 0} (g : Ghosts D) (origin : D) where
         at = at;
         failed = shown;
         leaves = λ h. weakened g old.store.disk new.store.disk (StandsForFront H core.committed core.pending) (StandsForFront H core.committed (core.pending ++ accepted_by core commits answer))
-            (leaves h) (longer_front H core.committed core.pending (accepted_by core commits answer));
+            (leaves h) (longer_front register H core.committed core.pending (accepted_by core commits answer));
       } in
       turn_went g origin budget state before commits such (λ text. Unit {0}) old new chain is_at only turned count is_such

@@ -2,7 +2,7 @@
 use Rattle.std.specs.Prelude.{◌≡◌, ℕ, Bool, Option, IfSome, List, [], ◌++◌}
 use Rattle.dc_changes.specs.State.{State}
 use Rattle.dc_recovery.specs.Halves.{budget_of, half_of}
-use Rattle.dc_recovery.specs.Stands.{Reads, StandsForOne}
+use Rattle.dc_pending.specs.Images.{Reads, StandsForOne}
 use Rattle.dc_core.specs.Headline.{IsOpened, WasStopped, IsKept}
 use Rattle.dc_core.specs.Images.{Machine}
 use Rattle.dc_core.specs.Transcript.{Turn}

@@ -1,7 +1,7 @@
 -- A table of what an image holds (this product).
 use Rattle.std.specs.Prelude.{ℕ, List, codes}
 use Rattle.dc_changes.specs.State.{State}
-use Rattle.dc_recovery.specs.Stands.{Reads}
+use Rattle.dc_pending.specs.Images.{Reads}
 use Rattle.dc_report.specs.DueTable.{due_text}
 use Rattle.dc_report.specs.RegisterTable.{register_text}
 use Rattle.dc_sectors.specs.Disk.{Image}

@@ -4,8 +4,8 @@ ghost use Rattle.std.specs.Prelude.{◌≡◌, ◌≢◌, ◌≤◌, ◌<◌, �
 ghost use Rattle.std.specs.Prelude.{IfOk, IfErr, OnOk, OnErr, IsErrOf};
 ghost use Rattle.dc_io.specs.Failures.{HasRisen};
 ghost use Rattle.dc_recovery.specs.Halves.{fewest_sectors, half_of};
-ghost use Rattle.dc_recovery.specs.Refusal.{IsRefused, TellsOfImage};
-ghost use Rattle.dc_recovery.specs.Stands.{EachStands, StandsForOne};
+ghost use Rattle.dc_pending.specs.Images.{IsRefused, EachStands, StandsForOne};
+ghost use Rattle.dc_recovery.specs.Refusal.{TellsOfImage};
 ghost use Rattle.dc_recovery.specs.declared.fault.OpenFault.TheVariants.{NotImage, Worn, Device};
 ghost use Rattle.dc_io.specs.Written.{PutsInto};
 ghost use Rattle.dc_sectors.specs.Runs.{LeavesOnly};

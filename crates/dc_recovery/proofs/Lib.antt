@@ -33,7 +33,7 @@ pub mod RootWrite
 pub mod Session
 -- which writes leave the sectors outside an image as they read
 pub mod Spared
--- the bytes that formatting writes spell the empty register
+-- the bytes that formatting writes spell the first state
 pub mod Spellings
 -- one step of reading an image, and why it stops
 pub mod Steps

@@ -5,29 +5,30 @@ use Rattle.dc_sectors.specs.declared.device.Disk.{Ghosts}
 use Rattle.dc_sectors.specs.Runs.{LeavesOnly}
 use Rattle.dc_sectors.proofs.Moments.{weakened, followed}
 use Rattle.dc_roots.specs.declared.root.Root.{Root}
-use Rattle.dc_recovery.specs.Language.{State}
 use Rattle.dc_recovery.specs.Stands.{StandsBy, Stands, IsRead, EachStands, StandsForOne}
 use Rattle.dc_recovery.proofs.Once.{stands_as_read}
+use Rattle.dc_kept.specs.declared.kept.Language.{Ghosts as Language}
 
--- an image of the disk as it was
-stood : (half_len : ℕ) (choices : Choices) → EachStands half_len choices → (image : Image) → IsImage choices image → StandsForOne half_len choices image
-stood half_len choices each image is = let one = each image is in record { state = one.0; stands = one.1; was = image; was_image = is; stood = one.1 }
+module _ {K : Type 0} (lang : Language K) where
+  -- an image of the disk as it was
+  stood : (half_len : ℕ) (choices : Choices) → EachStands lang half_len choices → (image : Image) → IsImage choices image → StandsForOne lang half_len choices image
+  stood half_len choices each image is = let one = each image is in record { state = one.0; stands = one.1; was = image; was_image = is; stood = one.1 }
 
--- what is read stands for the state that was read
-pub read_stands : (half_len : ℕ) → half_len ≤ 65536 → (root : Root) (place last : ℕ) (state : State) (choices : Choices) (image : Image) → EachStands half_len choices → IsImage choices image
-    → (read : IsRead half_len root place last state image) → StandsBy half_len root read.m place state image
-read_stands half_len most root place last state choices image each is read =
-    let one = each image is in stands_as_read half_len most root read.m place state one.0 image read.by one.1
+  -- what is read stands for the state that was read
+  pub read_stands : (half_len : ℕ) → half_len ≤ 65536 → (root : Root) (place last : ℕ) (state : lang.State) (choices : Choices) (image : Image) → EachStands lang half_len choices → IsImage choices image
+      → (read : IsRead lang half_len root place last state image) → StandsBy lang half_len root read.m place state image
+  read_stands half_len most root place last state choices image each is read =
+      let one = each image is in stands_as_read lang half_len most root read.m place state one.0 image read.by one.1
 
-module _ {D : Type 0} (g : Ghosts D) (half_len : ℕ) (old : D) (each : EachStands half_len (g.choices old)) where
-  -- nothing was written yet
-  pub before_writing : (read : D) → LeavesOnly g old read (IsImage (g.choices old)) → LeavesOnly g old read (StandsForOne half_len (g.choices old))
-  before_writing read reading = weakened g old read (IsImage (g.choices old)) (StandsForOne half_len (g.choices old)) reading (stood half_len (g.choices old) each)
+  module _ {D : Type 0} (g : Ghosts D) (half_len : ℕ) (old : D) (each : EachStands lang half_len (g.choices old)) where
+    -- nothing was written yet
+    pub before_writing : (read : D) → LeavesOnly g old read (IsImage (g.choices old)) → LeavesOnly g old read (StandsForOne lang half_len (g.choices old))
+    before_writing read reading = weakened g old read (IsImage (g.choices old)) (StandsForOne lang half_len (g.choices old)) reading (stood half_len (g.choices old) each)
 
-  -- and then the session is begun, on what was read
-  pub after_session : (read begun : D) (state : State) (was : Image) → IsImage (g.choices old) was → Stands half_len state was
-      → LeavesOnly g old read (IsImage (g.choices old)) → LeavesOnly g read begun (Stands half_len state)
-      → LeavesOnly g old begun (StandsForOne half_len (g.choices old))
-  after_session read begun state was is stands reading session =
-      followed g old read begun (StandsForOne half_len (g.choices old)) (Stands half_len state) (StandsForOne half_len (g.choices old))
-      (before_writing read reading) session (λ image left. left) (λ image now. record { state = state; stands = now; was = was; was_image = is; stood = stands })
+    -- and then the session is begun, on what was read
+    pub after_session : (read begun : D) (state : lang.State) (was : Image) → IsImage (g.choices old) was → Stands lang half_len state was
+        → LeavesOnly g old read (IsImage (g.choices old)) → LeavesOnly g read begun (Stands lang half_len state)
+        → LeavesOnly g old begun (StandsForOne lang half_len (g.choices old))
+    after_session read begun state was is stands reading session =
+        followed g old read begun (StandsForOne lang half_len (g.choices old)) (Stands lang half_len state) (StandsForOne lang half_len (g.choices old))
+        (before_writing read reading) session (λ image left. left) (λ image now. record { state = state; stands = now; was = was; was_image = is; stood = stands })

@@ -4,8 +4,6 @@
 pub mod Fault
 -- where the two halves of an image lie, and what a half can hold
 pub mod Halves
--- what the payloads of an image's groups spell: the register's states and changes
-pub mod Language
 -- why an image isn't opened, as a fact of the image
 pub mod Refusal
 -- the roots that are written, and when the next one is in force

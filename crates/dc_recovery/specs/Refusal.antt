@@ -12,9 +12,9 @@ use Rattle.dc_recovery.specs.declared.fault.OpenFault.{OpenFault}
 use Rattle.dc_recovery.specs.declared.fault.OpenFault.TheVariants.{NotImage, Damaged, Version, Worn}
 use Rattle.dc_recovery.specs.declared.fault.OpenFault.TheVariants.{Device, NoMemory}
 use Rattle.dc_recovery.specs.Halves.{half_start, budget_of, longest_half}
-use Rattle.dc_recovery.specs.Language.{State, Change, SpellsState, SpellsChanges, AcceptsAll}
 use Rattle.dc_recovery.specs.Sites.{base_site, change_site}
 use Rattle.dc_recovery.specs.Stands.{image_version, IsSequence, IsCurrent, Holds, ReadsBy, Reads}
+use Rattle.dc_kept.specs.declared.kept.Language.{Ghosts as Language}
 
 -- a root slot can't be read, and the other one has no root
 pub record HasNoRoot (n : ℕ) (image : Image) : Type 0 where
@@ -34,39 +34,6 @@ pub record HasNoBase (half_len n : ℕ) (image : Image) : Type 0 where
   pub current : IsCurrent half_len root image
   pub cut : IsCutAt (base_site half_len root) n image
 
--- the base group is complete and spells no state
-pub record HasBadBase (half_len n : ℕ) (image : Image) : Type 0 where
-  pub root : Root
-  pub current : IsCurrent half_len root image
-  pub session : ℕ
-  pub pages : ℕ
-  pub payload : List ℕ
-  pub group : IsGroup (base_site half_len root) session payload pages image
-  pub no_state : (state : State) → SpellsState (budget_of half_len) payload state → ⊥
-  pub at : n ≡ half_start half_len root.half
-
--- a complete group of changes, after those that could be read, spells no changes that are accepted
--- in turn
-pub record HasBadGroup (half_len n : ℕ) (image : Image) : Type 0 where
-  pub root : Root
-  pub current : IsCurrent half_len root image
-  pub m : ℕ
-  pub state : State
-  pub before : Holds half_len root image m n state
-  pub is_sequence : IsSequence (root.base_sequence + suc m)
-  pub session : ℕ
-  pub pages : ℕ
-  pub payload : List ℕ
-  pub group : IsGroup (change_site half_len root (root.base_sequence + suc m) n) session payload
-      pages image
-  pub no_changes : (changes : List Change) → SpellsChanges payload changes
-      → AcceptsAll (budget_of half_len) state changes → ⊥
-
-abbrev pub IsDamagedAt : ℕ → ℕ → Image → Type 0
-IsDamagedAt half_len n image =
-    (((HasNoRoot n image ⊎ HasOtherLength half_len n image) ⊎ HasNoBase half_len n image)
-    ⊎ HasBadBase half_len n image) ⊎ HasBadGroup half_len n image
-
 -- the root in force has an unknown version
 pub record HasOtherVersion (image : Image) : Type 0 where
   pub root : Root
@@ -79,24 +46,6 @@ abbrev pub IsSpent : Root → ℕ → Type 0
 IsSpent root last = ((root.generation ≡ 2 ^ 64 - 1) ⊎ (root.session ≡ 2 ^ 64 - 1))
     ⊎ ((root.version ≢ image_version) × ((root.generation ≡ 2 ^ 64 - 2) ⊎ (2 ^ 64 - 1 ≤ last + 1)))
 
--- the image can be read, but no session can begin on it
-pub record IsWorn (half_len : ℕ) (image : Image) : Type 0 where
-  pub root : Root
-  pub m : ℕ
-  pub place : ℕ
-  pub state : State
-  pub by : ReadsBy half_len root m place state image
-  pub spent : IsSpent root (root.base_sequence + m)
-
--- why reading the image stops; a device may always fail, and memory may always run out
-abbrev pub IsRefused : ℕ → Image → OpenFault → Type 0
-IsRefused half_len image NotImage = IsRootless None image
-IsRefused half_len image (Damaged n) = IsDamagedAt half_len n image
-IsRefused half_len image Version = HasOtherVersion image
-IsRefused half_len image Worn = IsWorn half_len image
-IsRefused half_len image Device = Unit {0}
-IsRefused half_len image NoMemory = Unit {0}
-
 -- what a fault states of the image; a device may always fail, and memory may always run out
 abbrev pub TellsOfImage : OpenFault → Type 0
 TellsOfImage NotImage = Unit {0}
@@ -106,17 +55,69 @@ TellsOfImage Worn = Unit {0}
 TellsOfImage Device = ⊥
 TellsOfImage NoMemory = ⊥
 
--- THE THEOREMS, each by the lemma that is named beside it
+module _ {K : Type 0} (lang : Language K) where
+  -- the base group is complete and spells no state
+  pub record HasBadBase (half_len n : ℕ) (image : Image) : Type 0 where
+    pub root : Root
+    pub current : IsCurrent half_len root image
+    pub session : ℕ
+    pub pages : ℕ
+    pub payload : List ℕ
+    pub group : IsGroup (base_site half_len root) session payload pages image
+    pub no_state : (state : lang.State) → lang.SpellsState (budget_of half_len) payload state → ⊥
+    pub at : n ≡ half_start half_len root.half
 
--- The refusals of an image exclude each other: if a fault's fact holds, no other's does
--- (one_refusal).
-abbrev pub OneRefusal : Type 0
-OneRefusal = (half_len : ℕ) → half_len ≤ longest_half → (image : Image) (f g : OpenFault)
-    → TellsOfImage f → TellsOfImage g → IsRefused half_len image f → IsRefused half_len image g
-    → f ≡ g
+  -- a complete group of changes, after those that could be read, spells no changes that are accepted
+  -- in turn
+  pub record HasBadGroup (half_len n : ℕ) (image : Image) : Type 0 where
+    pub root : Root
+    pub current : IsCurrent half_len root image
+    pub m : ℕ
+    pub state : lang.State
+    pub before : Holds lang half_len root image m n state
+    pub is_sequence : IsSequence (root.base_sequence + suc m)
+    pub session : ℕ
+    pub pages : ℕ
+    pub payload : List ℕ
+    pub group : IsGroup (change_site half_len root (root.base_sequence + suc m) n) session payload
+        pages image
+    pub no_changes : (changes : List lang.Change) → lang.SpellsChanges payload changes
+        → lang.Accepts (budget_of half_len) state changes → ⊥
 
--- An image that reads as a state is refused only for an exhausted counter (read_or_refused).
-abbrev pub RefusedIsNotRead : Type 0
-RefusedIsNotRead = (half_len : ℕ) → half_len ≤ longest_half
-    → (image : Image) (state : State) (f : OpenFault) → TellsOfImage f → IsRefused half_len image f
-    → Reads half_len state image → f ≡ Worn
+  abbrev pub IsDamagedAt : ℕ → ℕ → Image → Type 0
+  IsDamagedAt half_len n image =
+      (((HasNoRoot n image ⊎ HasOtherLength half_len n image) ⊎ HasNoBase half_len n image)
+      ⊎ HasBadBase half_len n image) ⊎ HasBadGroup half_len n image
+
+  -- the image can be read, but no session can begin on it
+  pub record IsWorn (half_len : ℕ) (image : Image) : Type 0 where
+    pub root : Root
+    pub m : ℕ
+    pub place : ℕ
+    pub state : lang.State
+    pub by : ReadsBy lang half_len root m place state image
+    pub spent : IsSpent root (root.base_sequence + m)
+
+  -- why reading the image stops; a device may always fail, and memory may always run out
+  abbrev pub IsRefused : ℕ → Image → OpenFault → Type 0
+  IsRefused half_len image NotImage = IsRootless None image
+  IsRefused half_len image (Damaged n) = IsDamagedAt half_len n image
+  IsRefused half_len image Version = HasOtherVersion image
+  IsRefused half_len image Worn = IsWorn half_len image
+  IsRefused half_len image Device = Unit {0}
+  IsRefused half_len image NoMemory = Unit {0}
+
+  -- THE THEOREMS, each by the lemma that is named beside it
+
+  -- The refusals of an image exclude each other: if a fault's fact holds, no other's does
+  -- (one_refusal).
+  abbrev pub OneRefusal : Type 0
+  OneRefusal = (half_len : ℕ) → half_len ≤ longest_half → (image : Image) (f g : OpenFault)
+      → TellsOfImage f → TellsOfImage g → IsRefused half_len image f → IsRefused half_len image g
+      → f ≡ g
+
+  -- An image that reads as a state is refused only for an exhausted counter (read_or_refused).
+  abbrev pub RefusedIsNotRead : Type 0
+  RefusedIsNotRead = (half_len : ℕ) → half_len ≤ longest_half
+      → (image : Image) (state : lang.State) (f : OpenFault) → TellsOfImage f → IsRefused half_len image f
+      → Reads lang half_len state image → f ≡ Worn

@@ -10,8 +10,7 @@ use Rattle.dc_pages.specs.declared.site.Site.{Site}
 use Rattle.dc_pages.specs.Group.{IsKnown, IsGroup, IsComplete, Carries}
 use Rattle.dc_recovery.specs.Halves.{half_start, budget_of, longest_half}
 use Rattle.dc_recovery.specs.Sites.{base_site, change_site}
-use Rattle.dc_recovery.specs.Language.{State, Change, SpellsState, SpellsChanges, AcceptsAll, after}
-use Rattle.dc_recovery.specs.Language.{empty_state}
+use Rattle.dc_kept.specs.declared.kept.Language.{Ghosts as Language}
 
 -- the version of the images that are written; those of version 1 are read too
 abbrev pub image_version : ℕ
@@ -36,144 +35,11 @@ abbrev pub IsUnused : ℕ → ℕ → ℕ → Image → Type 0
 IsUnused half_len session sequence image =
     (m : ℕ) → 3 ≤ m → m < 3 + 2 * half_len → Carries session sequence (image m) → ⊥
 
--- the half begins with a base group that spells the state; it ends before `place`
-pub record HasBase (half_len : ℕ) (root : Root) (place : ℕ) (state : State)
-    (image : Image) : Type 0 where
-  pub session : ℕ
-  pub payload : List ℕ
-  pub pages : ℕ
-  pub group : IsGroup (base_site half_len root) session payload pages image
-  pub spells : SpellsState (budget_of half_len) payload state
-  pub end : place ≡ half_start half_len root.half + pages + 1
-
--- one group of changes more than what `Before` says of a place and a state
-pub record HasMore (half_len : ℕ) (root : Root) (Before : ℕ → State → Type 0) (sequence place : ℕ)
-    (state : State) (image : Image) : Type 0 where
-  pub from : ℕ
-  pub was : State
-  pub before : Before from was
-  pub session : ℕ
-  pub payload : List ℕ
-  pub pages : ℕ
-  pub is_sequence : IsSequence sequence
-  pub group : IsGroup (change_site half_len root sequence from) session payload pages image
-  pub changes : List Change
-  pub spells : SpellsChanges payload changes
-  pub accepted : AcceptsAll (budget_of half_len) was changes
-  pub state_is : state ≡ after was changes
-  pub end : place ≡ from + pages + 1
-
--- After the base and m groups of changes with consecutive sequences the state is this, and the last of them ends
--- before `place`.
-abbrev pub Holds : ℕ → Root → Image → ℕ → ℕ → State → Type 0
-Holds half_len root image zero place state = HasBase half_len root place state image
-Holds half_len root image (suc m) place state =
-    HasMore half_len root (Holds half_len root image m)
-    (root.base_sequence + suc m) place state image
-
--- The image reads as the state, by this root and m groups of changes, and `place` is where the next would go.
-pub record ReadsBy (half_len : ℕ) (root : Root) (m place : ℕ) (state : State)
-    (image : Image) : Type 0 where
-  pub chosen : IsChosen root image
-  pub version : IsKnown root.version
-  pub length_is : root.half_len ≡ half_len
-  pub holds : Holds half_len root image m place state
-  pub no_more : IsSequence (root.base_sequence + suc m)
-      → IsComplete (change_site half_len root (root.base_sequence + suc m) place) image → ⊥
-
--- it reads, and it is fresh
-pub record StandsBy (half_len : ℕ) (root : Root) (m place : ℕ) (state : State)
-    (image : Image) : Type 0 where
-  pub reads : ReadsBy half_len root m place state image
-  pub fresh : IsFresh half_len root.session (root.base_sequence + suc m) image
-
-pub record Reads (half_len : ℕ) (state : State) (image : Image) : Type 0 where
-  pub root : Root
-  pub m : ℕ
-  pub place : ℕ
-  pub by : ReadsBy half_len root m place state image
-
-pub record Stands (half_len : ℕ) (state : State) (image : Image) : Type 0 where
-  pub root : Root
-  pub m : ℕ
-  pub place : ℕ
-  pub by : StandsBy half_len root m place state image
-
--- WHAT A STORE KNOWS, while it is open, of the one image that its disk has: it stands for the
--- state, and none of its sectors has the stamp that comes next.
-pub record IsReady (half_len : ℕ) (root : Root) (m place : ℕ) (state : State)
-    (image : Image) : Type 0 where
-  pub stands : StandsBy half_len root m place state image
-  pub unused : IsUnused half_len root.session (root.base_sequence + suc m) image
-
--- The image is ready after the groups up to one of sequence `last`, and the next would go to `place`.
-pub record IsBegun (half_len : ℕ) (root : Root) (place last : ℕ) (state : State)
-    (image : Image) : Type 0 where
-  pub m : ℕ
-  pub ready : IsReady half_len root m place state image
-  pub last_is : last ≡ root.base_sequence + m
-
 -- the root in force, of a known version and for halves of this length
 pub record IsCurrent (half_len : ℕ) (root : Root) (image : Image) : Type 0 where
   pub chosen : IsChosen root image
   pub version : IsKnown root.version
   pub length_is : root.half_len ≡ half_len
-
--- The root in force leads to this state by the groups up to one of sequence `last`, and the next would go to `place`.
-pub record IsReached (half_len : ℕ) (root : Root) (place last : ℕ) (state : State)
-    (image : Image) : Type 0 where
-  pub current : IsCurrent half_len root image
-  pub m : ℕ
-  pub holds : Holds half_len root image m place state
-  pub last_is : last ≡ root.base_sequence + m
-
--- and no group of the next sequence is complete there
-pub record IsRead (half_len : ℕ) (root : Root) (place last : ℕ) (state : State)
-    (image : Image) : Type 0 where
-  pub m : ℕ
-  pub by : ReadsBy half_len root m place state image
-  pub last_is : last ≡ root.base_sequence + m
-
--- each image stands for some state
-abbrev pub EachStands : ℕ → Choices → Type 0
-EachStands half_len choices = (image : Image) → IsImage choices image → (state : State)
-    × Stands half_len state image
-
--- the image stands for a state that one of those images stood for
-pub record StandsForOne (half_len : ℕ) (choices : Choices) (image : Image) : Type 0 where
-  pub state : State
-  pub stands : Stands half_len state image
-  pub was : Image
-  pub was_image : IsImage choices was
-  pub stood : Stands half_len state was
-
--- the image stands for one of two states
-abbrev pub StandsForEither : ℕ → State → State → Image → Type 0
-StandsForEither half_len before after image =
-    Stands half_len before image ⊎ Stands half_len after image
-
--- the image stands for the state after a prefix of those changes
-pub record StandsForFront (half_len : ℕ) (state : State) (changes : List Change)
-    (image : Image) : Type 0 where
-  pub count : ℕ
-  pub within : count ≤ length changes
-  pub stands : Stands half_len (after state (take count changes)) image
-
--- A payload that spells accepted changes may follow: the image is ready, and this is the site of
--- the next group.
-pub record IsAppendable (half_len : ℕ) (root : Root) (m : ℕ) (site : Site) (was : State)
-    (payload : List ℕ) (changes : List Change) (image : Image) : Type 0 where
-  pub ready : IsReady half_len root m site.first was image
-  pub site_is : site ≡ change_site half_len root (root.base_sequence + suc m) site.first
-  pub is_sequence : IsSequence (root.base_sequence + suc m)
-  pub spells : SpellsChanges payload changes
-  pub accepted : AcceptsAll (budget_of half_len) was changes
-
--- the image stands for the state by this root, and the stamp that comes next is unused
-pub record IsReadyFor (half_len : ℕ) (root : Root) (state : State) (image : Image) : Type 0 where
-  pub m : ℕ
-  pub place : ℕ
-  pub ready : IsReady half_len root m place state image
 
 -- while zeros are written to a sector: what it read before, zeros, or nothing
 abbrev pub WipedAt : Image → ℕ → Sector → Type 0
@@ -186,16 +52,150 @@ IsWiped old image = (k : ℕ) → WipedAt old k (image k)
 abbrev pub IsUnformatted : Image → Type 0
 IsUnformatted image = (root : Root) → HasRoot root image → ⊥
 
--- it has none, or stands for the empty register
-abbrev pub IsBlankOrEmpty : ℕ → Image → Type 0
-IsBlankOrEmpty half_len image = IsUnformatted image ⊎ Stands half_len empty_state image
+module _ {K : Type 0} (lang : Language K) where
+  -- the half begins with a base group that spells the state; it ends before `place`
+  pub record HasBase (half_len : ℕ) (root : Root) (place : ℕ) (state : lang.State)
+      (image : Image) : Type 0 where
+    pub session : ℕ
+    pub payload : List ℕ
+    pub pages : ℕ
+    pub group : IsGroup (base_site half_len root) session payload pages image
+    pub spells : lang.SpellsState (budget_of half_len) payload state
+    pub end : place ≡ half_start half_len root.half + pages + 1
 
--- while a disk with such possible contents is formatted: one of its images, or one without a root
--- or of the empty register
-abbrev pub IsFormatting : ℕ → Choices → Image → Type 0
-IsFormatting half_len choices image = IsImage choices image ⊎ IsBlankOrEmpty half_len image
+  -- one group of changes more than what `Before` says of a place and a state
+  pub record HasMore (half_len : ℕ) (root : Root) (Before : ℕ → lang.State → Type 0) (sequence place : ℕ)
+      (state : lang.State) (image : Image) : Type 0 where
+    pub from : ℕ
+    pub was : lang.State
+    pub before : Before from was
+    pub session : ℕ
+    pub payload : List ℕ
+    pub pages : ℕ
+    pub is_sequence : IsSequence sequence
+    pub group : IsGroup (change_site half_len root sequence from) session payload pages image
+    pub changes : List lang.Change
+    pub spells : lang.SpellsChanges payload changes
+    pub accepted : lang.Accepts (budget_of half_len) was changes
+    pub state_is : state ≡ lang.after was changes
+    pub end : place ≡ from + pages + 1
 
--- AN IMAGE READS AS ONE STATE
-abbrev pub ReadsOnce : Type 0
-ReadsOnce = (half_len : ℕ) → half_len ≤ longest_half → (image : Image) (state other : State)
-    → Reads half_len state image → Reads half_len other image → state ≡ other
+  -- After the base and m groups of changes with consecutive sequences the state is this, and the last of them ends
+  -- before `place`.
+  abbrev pub Holds : ℕ → Root → Image → ℕ → ℕ → lang.State → Type 0
+  Holds half_len root image zero place state = HasBase half_len root place state image
+  Holds half_len root image (suc m) place state =
+      HasMore half_len root (Holds half_len root image m)
+      (root.base_sequence + suc m) place state image
+
+  -- The image reads as the state, by this root and m groups of changes, and `place` is where the next would go.
+  pub record ReadsBy (half_len : ℕ) (root : Root) (m place : ℕ) (state : lang.State)
+      (image : Image) : Type 0 where
+    pub chosen : IsChosen root image
+    pub version : IsKnown root.version
+    pub length_is : root.half_len ≡ half_len
+    pub holds : Holds half_len root image m place state
+    pub no_more : IsSequence (root.base_sequence + suc m)
+        → IsComplete (change_site half_len root (root.base_sequence + suc m) place) image → ⊥
+
+  -- it reads, and it is fresh
+  pub record StandsBy (half_len : ℕ) (root : Root) (m place : ℕ) (state : lang.State)
+      (image : Image) : Type 0 where
+    pub reads : ReadsBy half_len root m place state image
+    pub fresh : IsFresh half_len root.session (root.base_sequence + suc m) image
+
+  pub record Reads (half_len : ℕ) (state : lang.State) (image : Image) : Type 0 where
+    pub root : Root
+    pub m : ℕ
+    pub place : ℕ
+    pub by : ReadsBy half_len root m place state image
+
+  pub record Stands (half_len : ℕ) (state : lang.State) (image : Image) : Type 0 where
+    pub root : Root
+    pub m : ℕ
+    pub place : ℕ
+    pub by : StandsBy half_len root m place state image
+
+  -- WHAT A STORE KNOWS, while it is open, of the one image that its disk has: it stands for the
+  -- state, and none of its sectors has the stamp that comes next.
+  pub record IsReady (half_len : ℕ) (root : Root) (m place : ℕ) (state : lang.State)
+      (image : Image) : Type 0 where
+    pub stands : StandsBy half_len root m place state image
+    pub unused : IsUnused half_len root.session (root.base_sequence + suc m) image
+
+  -- The image is ready after the groups up to one of sequence `last`, and the next would go to `place`.
+  pub record IsBegun (half_len : ℕ) (root : Root) (place last : ℕ) (state : lang.State)
+      (image : Image) : Type 0 where
+    pub m : ℕ
+    pub ready : IsReady half_len root m place state image
+    pub last_is : last ≡ root.base_sequence + m
+
+  -- The root in force leads to this state by the groups up to one of sequence `last`, and the next would go to `place`.
+  pub record IsReached (half_len : ℕ) (root : Root) (place last : ℕ) (state : lang.State)
+      (image : Image) : Type 0 where
+    pub current : IsCurrent half_len root image
+    pub m : ℕ
+    pub holds : Holds half_len root image m place state
+    pub last_is : last ≡ root.base_sequence + m
+
+  -- and no group of the next sequence is complete there
+  pub record IsRead (half_len : ℕ) (root : Root) (place last : ℕ) (state : lang.State)
+      (image : Image) : Type 0 where
+    pub m : ℕ
+    pub by : ReadsBy half_len root m place state image
+    pub last_is : last ≡ root.base_sequence + m
+
+  -- each image stands for some state
+  abbrev pub EachStands : ℕ → Choices → Type 0
+  EachStands half_len choices = (image : Image) → IsImage choices image → (state : lang.State)
+      × Stands half_len state image
+
+  -- the image stands for a state that one of those images stood for
+  pub record StandsForOne (half_len : ℕ) (choices : Choices) (image : Image) : Type 0 where
+    pub state : lang.State
+    pub stands : Stands half_len state image
+    pub was : Image
+    pub was_image : IsImage choices was
+    pub stood : Stands half_len state was
+
+  -- the image stands for one of two states
+  abbrev pub StandsForEither : ℕ → lang.State → lang.State → Image → Type 0
+  StandsForEither half_len before next image =
+      Stands half_len before image ⊎ Stands half_len next image
+
+  -- the image stands for the state after a prefix of those changes
+  pub record StandsForFront (half_len : ℕ) (state : lang.State) (changes : List lang.Change)
+      (image : Image) : Type 0 where
+    pub count : ℕ
+    pub within : count ≤ length changes
+    pub stands : Stands half_len (lang.after state (take count changes)) image
+
+  -- A payload that spells accepted changes may follow: the image is ready, and this is the site of
+  -- the next group.
+  pub record IsAppendable (half_len : ℕ) (root : Root) (m : ℕ) (site : Site) (was : lang.State)
+      (payload : List ℕ) (changes : List lang.Change) (image : Image) : Type 0 where
+    pub ready : IsReady half_len root m site.first was image
+    pub site_is : site ≡ change_site half_len root (root.base_sequence + suc m) site.first
+    pub is_sequence : IsSequence (root.base_sequence + suc m)
+    pub spells : lang.SpellsChanges payload changes
+    pub accepted : lang.Accepts (budget_of half_len) was changes
+
+  -- the image stands for the state by this root, and the stamp that comes next is unused
+  pub record IsReadyFor (half_len : ℕ) (root : Root) (state : lang.State) (image : Image) : Type 0 where
+    pub m : ℕ
+    pub place : ℕ
+    pub ready : IsReady half_len root m place state image
+
+  -- it has none, or stands for the first state
+  abbrev pub IsBlankOrEmpty : ℕ → Image → Type 0
+  IsBlankOrEmpty half_len image = IsUnformatted image ⊎ Stands half_len lang.empty image
+
+  -- while a disk with such possible contents is formatted: one of its images, or one without a root
+  -- or of the first state
+  abbrev pub IsFormatting : ℕ → Choices → Image → Type 0
+  IsFormatting half_len choices image = IsImage choices image ⊎ IsBlankOrEmpty half_len image
+
+  -- AN IMAGE READS AS ONE STATE
+  abbrev pub ReadsOnce : Type 0
+  ReadsOnce = (half_len : ℕ) → half_len ≤ longest_half → (image : Image) (state other : lang.State)
+      → Reads half_len state image → Reads half_len other image → state ≡ other

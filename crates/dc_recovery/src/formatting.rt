@@ -11,7 +11,6 @@ ghost use Rattle.dc_recovery.specs.declared.fault.FormatFault.TheVariants.{Alrea
 ghost use Rattle.dc_recovery.specs.declared.fault.FormatFault.TheVariants.{Device};
 ghost use Rattle.dc_recovery.specs.Halves.{half_of, shortest_half, longest_half};
 ghost use Rattle.dc_recovery.specs.Halves.{fewest_sectors, SparesRest};
-ghost use Rattle.dc_recovery.specs.Language.{empty_state};
 ghost use Rattle.dc_recovery.specs.Roots.{first_root};
 ghost use Rattle.dc_recovery.specs.Stands.{IsReadyFor, IsUnformatted, IsBlankOrEmpty, IsFormatting};
 ghost use Rattle.dc_recovery.specs.Stands.{IsWiped, blank};
@@ -22,17 +21,12 @@ use crate::reading::VERSION;
 use crate::rooting::put_root;
 use crate::sites::base_site;
 use crate::writing::write_group;
+use dc_kept::Kept;
 use dc_roots::{Root, RootFault, choose};
 use dc_sectors::{Disk, Failed};
 
 /// The session of the first groups and of the first root.
 const FIRST_SESSION: u64 = 1;
-
-/// The encoding of the empty register: the next serial is 1, and all else is zero or empty.
-const EMPTY: [u8; 33] = [
-    1, 0, 0, 0, 0, 0, 0, 0, 0, 0, 0, 0, 0, 0, 0, 0, 0, 0, 0, 0, 0, 0, 0, 0, 0, 0, 0, 0, 0, 0, 0, 0,
-    0,
-];
 
 /// Writes zeros to the sectors from 1 up to that one.
 fn blank_sectors<D: Disk>(disk: &mut D, end: u32) -> Result<(), Failed>
@@ -51,16 +45,16 @@ fn blank_sectors<D: Disk>(disk: &mut D, end: u32) -> Result<(), Failed>
     Ok(())
 }
 
-/// Lays out an image of the empty register: zeros, the base group, and then the root.
-fn lay_out<D: Disk>(disk: &mut D, half_len: u32) -> Result<(), Failed>
+/// Lays out an image of the first state: zeros, the base group, and then the root.
+fn lay_out<K: Kept, D: Disk>(disk: &mut D, half_len: u32) -> Result<(), Failed>
     requires some { shortest_half ≤ half_len }
     requires most { half_len ≤ longest_half }
     requires fits { 3 + 2 * half_len ≤ D.sectors disk.old }
-    ensures ready { OnOk result (IsReadyFor half_len (first_root half_len) empty_state
+    ensures ready { OnOk result (IsReadyFor K.Language half_len (first_root half_len) K.empty
         (D.reads disk.new)) }
     ensures durable { OnOk result (IsSettled D.Disk disk.new) }
     ensures any_moment { IsSettled D.Disk disk.old → IsUnformatted (D.reads disk.old)
-        → LeavesOnly D.Disk disk.old disk.new (IsBlankOrEmpty half_len) }
+        → LeavesOnly D.Disk disk.old disk.new (IsBlankOrEmpty K.Language half_len) }
     ensures elsewhere { SparesRest half_len (D.reads disk.old) (D.reads disk.new) }
     ensures before { D.keeps disk.new → D.keeps disk.old }
     ensures counts { Counts D.Disk disk.old disk.new (IsErr result) }
@@ -75,7 +69,12 @@ fn lay_out<D: Disk>(disk: &mut D, half_len: u32) -> Result<(), Failed>
         base_sequence: 1,
         half_len,
     };
-    write_group(disk, base_site(half_len, &root), root.session, &EMPTY)?;
+    write_group(
+        disk,
+        base_site(half_len, &root),
+        root.session,
+        K::empty_bytes(),
+    )?;
     disk.sync()?;
     match put_root(disk, &root) {
         Ok(_) => Ok(()),
@@ -84,7 +83,7 @@ fn lay_out<D: Disk>(disk: &mut D, half_len: u32) -> Result<(), Failed>
 }
 
 /// Formats a borrowed disk.
-pub(crate) fn format_on<D: Disk>(disk: &mut D) -> Result<(), FormatFault>
+pub(crate) fn format_on<K: Kept, D: Disk>(disk: &mut D) -> Result<(), FormatFault>
     ensures too_small { IsErrOf result TooSmall ↔ (D.sectors disk.old < fewest_sectors) }
     ensures untouched { IsErrOf result TooSmall → disk.new ≡ disk.old }
     ensures already { D.keeps disk.new → IsErrOf result AlreadyFormatted → (root : Root)
@@ -95,11 +94,11 @@ pub(crate) fn format_on<D: Disk>(disk: &mut D) -> Result<(), FormatFault>
         → LeavesOnly D.Disk disk.old disk.new (IsImage (D.choices disk.old)) }
     ensures any_moment { D.keeps disk.new
         → LeavesOnly D.Disk disk.old disk.new
-        (IsFormatting (half_of D.Disk disk.old) (D.choices disk.old)) }
+        (IsFormatting K.Language (half_of D.Disk disk.old) (D.choices disk.old)) }
     ensures never_over { D.keeps disk.new → (root : Root) → HasRoot root (D.reads disk.old)
         → OnOk result ⊥ }
-    ensures ready { OnOk result (IsReadyFor (half_of D.Disk disk.old)
-        (first_root (half_of D.Disk disk.old)) empty_state (D.reads disk.new)) }
+    ensures ready { OnOk result (IsReadyFor K.Language (half_of D.Disk disk.old)
+        (first_root (half_of D.Disk disk.old)) K.empty (D.reads disk.new)) }
     ensures durable { OnOk result (IsSettled D.Disk disk.new) }
     ensures elsewhere { SparesRest (half_of D.Disk disk.old) (D.reads disk.old) (D.reads disk.new) }
     ensures before { D.keeps disk.new → D.keeps disk.old }
@@ -118,7 +117,7 @@ pub(crate) fn format_on<D: Disk>(disk: &mut D) -> Result<(), FormatFault>
         Err(RootFault::NoRoot(_)) => {}
         Err(_) => return Err(FormatFault::Device),
     }
-    match lay_out(disk, half_len_of(count)) {
+    match lay_out::<K, D>(disk, half_len_of(count)) {
         Ok(()) => Ok(()),
         Err(Failed) => Err(FormatFault::Device),
     }

@@ -3,18 +3,20 @@
 ghost use Rattle.dc_recovery.specs.Refusal.{OneRefusal, RefusedIsNotRead};
 ghost use Rattle.dc_recovery.specs.Stands.{ReadsOnce};
 
+use dc_kept::Kept;
+
 /// An image reads as at most one state.
-pub fn reads_as_one_state()
-    ensures { ReadsOnce }
+pub fn reads_as_one_state<K: Kept>()
+    ensures { ReadsOnce K.Language }
 {}
 
 /// The refusals of an image exclude each other: if the fact of one holds, no other's does, nor that
 /// of another damaged sector.
-pub fn one_refusal()
-    ensures { OneRefusal }
+pub fn one_refusal<K: Kept>()
+    ensures { OneRefusal K.Language }
 {}
 
 /// A refused image reads as no state, unless a counter is exhausted.
-pub fn a_refused_image_is_not_read()
-    ensures { RefusedIsNotRead }
+pub fn a_refused_image_is_not_read<K: Kept>()
+    ensures { RefusedIsNotRead K.Language }
 {}

@@ -1,4 +1,4 @@
-//! The store: the register and the readings of a house on a disk, through every crash.
+//! The store: a state on a disk, through every crash. What it keeps implements `dc_kept::Kept`.
 //!
 //! This product's own format. After two root slots an image has two halves. The root in force names
 //! one; it begins with a base group that spells a whole state, and groups of changes with

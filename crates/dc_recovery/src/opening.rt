@@ -7,7 +7,6 @@ ghost use Rattle.dc_sectors.specs.Runs.{LeavesOnly, Counts, IsSettled};
 ghost use Rattle.dc_recovery.specs.declared.fault.OpenFault.TheVariants.{Device};
 ghost use Rattle.dc_recovery.specs.Halves.{half_start, half_end, budget_of, shortest_half};
 ghost use Rattle.dc_recovery.specs.Halves.{longest_half, SparesRest};
-ghost use Rattle.dc_recovery.specs.Language.{State};
 ghost use Rattle.dc_recovery.specs.Roots.{opened, IsOpenedRoot};
 ghost use Rattle.dc_recovery.specs.Stands.{image_version, IsRead, IsReady, IsBegun, StandsBy};
 ghost use Rattle.dc_recovery.specs.Stands.{Stands, ReadsBy, Reads, EachStands, StandsForOne};
@@ -19,25 +18,25 @@ use crate::OpenFault;
 use crate::compacting::compact_into_other_half;
 use crate::reading::{Found, VERSION, read_image};
 use crate::rooting::put_root;
+use dc_kept::Kept;
 use dc_roots::Root;
 use dc_sectors::{Disk, Failed};
-use std::alloc::Allocator;
 
 /// Begins a session: writes the next root, which differs only in generation and session.
-fn begin_session<D: Disk>(disk: &mut D, root: &Root) -> Result<Root, OpenFault>
+fn begin_session<K: Kept, D: Disk>(disk: &mut D, root: &Root) -> Result<Root, OpenFault>
     requires slots { 2 < D.sectors disk.old }
     requires half { root.now.half ≤ 1 }
     requires generation { root.now.generation < 2 ^ 64 - 1 }
     requires session { root.now.session < 2 ^ 64 - 1 }
     ensures next { IfOk result (λ next. next ≡ opened root.now) }
     ensures only_device { IfErr result (λ fault. fault ≡ Device) }
-    ensures ready { (half_len m place : ℕ) (state : State) → IsSettled D.Disk disk.old
-        → StandsBy half_len root.now m place state (D.reads disk.old)
-        → OnOk result (IsReady half_len (opened root.now) m place state (D.reads disk.new)) }
+    ensures ready { (half_len m place : ℕ) (state : K.State) → IsSettled D.Disk disk.old
+        → StandsBy K.Language half_len root.now m place state (D.reads disk.old)
+        → OnOk result (IsReady K.Language half_len (opened root.now) m place state (D.reads disk.new)) }
     ensures durable { OnOk result (IsSettled D.Disk disk.new) }
-    ensures any_moment { (half_len m place : ℕ) (state : State) → IsSettled D.Disk disk.old
-        → StandsBy half_len root.now m place state (D.reads disk.old)
-        → LeavesOnly D.Disk disk.old disk.new (Stands half_len state) }
+    ensures any_moment { (half_len m place : ℕ) (state : K.State) → IsSettled D.Disk disk.old
+        → StandsBy K.Language half_len root.now m place state (D.reads disk.old)
+        → LeavesOnly D.Disk disk.old disk.new (Stands K.Language half_len state) }
     ensures elsewhere { (m : ℕ) → m ≢ slot (opened root.now).generation
         → D.reads disk.new m ≡ D.reads disk.old m }
     ensures before { D.keeps disk.new → D.keeps disk.old }
@@ -64,16 +63,16 @@ pub fn is_spent(root: &Root, last: u64) -> bool
 }
 
 /// Begins a session on the image that was read. An image of version 1 is then compacted into one of this version.
-fn begin<A: Allocator + Copy, D: Disk>(
+fn begin<K: Kept, D: Disk>(
     disk: &mut D,
-    found: &mut Found<A>,
+    found: &mut Found<K>,
     half_len: u32,
 ) -> Result<(), OpenFault>
     requires half { found.old.root.half ≤ 1 }
     requires some { shortest_half ≤ half_len }
     requires most { half_len ≤ longest_half }
     requires fits { 3 + 2 * half_len ≤ D.sectors disk.old }
-    requires budget { found.old.house.budget ≡ budget_of half_len }
+    requires budget { K.limit found.old.house ≡ budget_of half_len }
     requires within { found.old.place ≤ half_end half_len found.old.root.half }
     requires unspent { IsSpent found.old.root found.old.last → ⊥ }
     ensures root { OnOk result (IsOpenedRoot found.old.root found.old.last found.new.root) }
@@ -81,17 +80,17 @@ fn begin<A: Allocator + Copy, D: Disk>(
     ensures house { found.new.house ≡ found.old.house }
     ensures only_device { IfErr result (λ fault. fault ≡ Device) }
     ensures ready { IsSettled D.Disk disk.old → (m : ℕ)
-        → StandsBy half_len found.old.root m found.old.place found.old.house.state
+        → StandsBy K.Language half_len found.old.root m found.old.place (K.state found.old.house)
         (D.reads disk.old)
         → found.old.last ≡ found.old.root.base_sequence + m
-        → OnOk result (IsBegun half_len found.new.root found.new.place found.new.last
-        found.old.house.state (D.reads disk.new)) }
+        → OnOk result (IsBegun K.Language half_len found.new.root found.new.place found.new.last
+        (K.state found.old.house) (D.reads disk.new)) }
     ensures durable { OnOk result (IsSettled D.Disk disk.new) }
     ensures any_moment { IsSettled D.Disk disk.old → (m : ℕ)
-        → StandsBy half_len found.old.root m found.old.place found.old.house.state
+        → StandsBy K.Language half_len found.old.root m found.old.place (K.state found.old.house)
         (D.reads disk.old)
         → found.old.last ≡ found.old.root.base_sequence + m
-        → LeavesOnly D.Disk disk.old disk.new (Stands half_len found.old.house.state) }
+        → LeavesOnly D.Disk disk.old disk.new (Stands K.Language half_len (K.state found.old.house)) }
     ensures half { OnOk result (found.new.root.half ≤ 1) }
     ensures from { half_start half_len found.old.root.half ≤ found.old.place
         → OnOk result (half_start half_len found.new.root.half ≤ found.new.place) }
@@ -100,7 +99,7 @@ fn begin<A: Allocator + Copy, D: Disk>(
     ensures before { D.keeps disk.new → D.keeps disk.old }
     ensures counts { Counts D.Disk disk.old disk.new (IsErrOf result Device) }
 {
-    let begun = begin_session(disk, &found.root)?;
+    let begun = begin_session::<K, D>(disk, &found.root)?;
     if begun.version == VERSION {
         found.root = begun;
         return Ok(());
@@ -118,34 +117,34 @@ fn begin<A: Allocator + Copy, D: Disk>(
 }
 
 /// Syncs, reads the image, and begins a session.
-pub(crate) fn open_on<A: Allocator + Copy, D: Disk>(
-    alloc: A,
+pub(crate) fn open_on<K: Kept, D: Disk>(
+    alloc: K::Alloc,
     disk: &mut D,
     half_len: u32,
-) -> Result<Found<A>, OpenFault>
+) -> Result<Found<K>, OpenFault>
     requires some { shortest_half ≤ half_len }
     requires most { half_len ≤ longest_half }
     requires fits { 3 + 2 * half_len ≤ D.sectors disk.old }
     ensures reads { D.keeps disk.new
-        → IfOk result (λ found. Reads half_len found.house.state (D.reads disk.old)) }
+        → IfOk result (λ found. Reads K.Language half_len (K.state found.house) (D.reads disk.old)) }
     ensures refused { D.keeps disk.new
-        → IfErr result (λ fault. IsRefused half_len (D.reads disk.old) fault) }
+        → IfErr result (λ fault. IsRefused K.Language half_len (D.reads disk.old) fault) }
     ensures unwritten { IfErr result (λ fault.
         fault ≢ Device → D.reads disk.new ≡ D.reads disk.old) }
     ensures spares_images { IfErr result (λ fault.
         fault ≢ Device → LeavesOnly D.Disk disk.old disk.new (IsImage (D.choices disk.old))) }
     ensures root { D.keeps disk.new → IfOk result (λ found. (root : Root) × (m : ℕ) × (place : ℕ)
-        × ReadsBy half_len root m place found.house.state (D.reads disk.old)
+        × ReadsBy K.Language half_len root m place (K.state found.house) (D.reads disk.old)
         × IsOpenedRoot root (root.base_sequence + m) found.root) }
     ensures version { IfOk result (λ found. found.root.version ≡ image_version) }
-    ensures not_worn { D.keeps disk.new → OnOk result (IsWorn half_len (D.reads disk.old) → ⊥) }
-    ensures ready { D.keeps disk.new → EachStands half_len (D.choices disk.old)
-        → IfOk result (λ found. IsBegun half_len found.root found.place found.last found.house.state
+    ensures not_worn { D.keeps disk.new → OnOk result (IsWorn K.Language half_len (D.reads disk.old) → ⊥) }
+    ensures ready { D.keeps disk.new → EachStands K.Language half_len (D.choices disk.old)
+        → IfOk result (λ found. IsBegun K.Language half_len found.root found.place found.last (K.state found.house)
         (D.reads disk.new)) }
     ensures durable { OnOk result (IsSettled D.Disk disk.new) }
-    ensures any_moment { D.keeps disk.new → EachStands half_len (D.choices disk.old)
-        → LeavesOnly D.Disk disk.old disk.new (StandsForOne half_len (D.choices disk.old)) }
-    ensures budget { IfOk result (λ found. found.house.budget ≡ budget_of half_len) }
+    ensures any_moment { D.keeps disk.new → EachStands K.Language half_len (D.choices disk.old)
+        → LeavesOnly D.Disk disk.old disk.new (StandsForOne K.Language half_len (D.choices disk.old)) }
+    ensures budget { IfOk result (λ found. K.limit found.house ≡ budget_of half_len) }
     ensures half { IfOk result (λ found. found.root.half ≤ 1) }
     ensures from { IfOk result (λ found. half_start half_len found.root.half ≤ found.place) }
     ensures within { IfOk result (λ found. found.place ≤ half_end half_len found.root.half) }

@@ -7,7 +7,6 @@ ghost use Rattle.dc_roots.specs.declared.root.Root.{Root};
 ghost use Rattle.dc_recovery.specs.declared.fault.OpenFault.{OpenFault};
 ghost use Rattle.dc_recovery.specs.declared.fault.OpenFault.TheVariants.{Device};
 ghost use Rattle.dc_recovery.specs.Halves.{half_start, half_end, budget_of, longest_half};
-ghost use Rattle.dc_recovery.specs.Language.{State};
 ghost use Rattle.dc_recovery.specs.Stands.{IsSequence, IsCurrent, IsReached, IsRead, Holds};
 ghost use Rattle.dc_recovery.specs.Stands.{ReadsBy, Reads};
 ghost use Rattle.dc_pages.specs.Group.{IsKnown, IsComplete};
@@ -17,12 +16,10 @@ ghost use Rattle.dc_recovery.specs.Refusal.{IsRefused};
 use crate::OpenFault;
 use crate::halves::budget_of;
 use crate::sites::{base_site, change_site};
-use dc_changes::DecodeFault;
-use dc_meters::House;
+use dc_kept::{DecodeFault, Kept};
 use dc_pages::{GroupFault, read_group};
 use dc_roots::{Root, RootFault, choose};
 use dc_sectors::Disk;
-use std::alloc::Allocator;
 
 /// The version of the sectors that are written.
 pub(crate) const VERSION: u8 = 2;
@@ -31,14 +28,14 @@ pub(crate) const VERSION: u8 = 2;
 const FIRST_VERSION: u8 = 1;
 
 /// Chooses the root in force, which must have a known version and halves of this length.
-fn current_root<D: Disk>(disk: &mut D, half_len: u32) -> Result<Root, OpenFault>
+fn current_root<K: Kept, D: Disk>(disk: &mut D, half_len: u32) -> Result<Root, OpenFault>
     requires { 2 < D.sectors disk.old }
     ensures current { D.keeps disk.new
         → IfOk result (λ root. IsCurrent half_len root (D.reads disk.old)) }
     ensures half { IfOk result (λ root. root.half ≤ 1) }
     ensures known { IfOk result (λ root. IsKnown root.version) }
     ensures refused { D.keeps disk.new
-        → IfErr result (λ fault. IsRefused half_len (D.reads disk.old) fault) }
+        → IfErr result (λ fault. IsRefused K.Language half_len (D.reads disk.old) fault) }
     ensures looked { OnlyLooked D.Disk disk.old disk.new }
     ensures counts { Counts D.Disk disk.old disk.new (IsErrOf result Device) }
 {
@@ -61,32 +58,32 @@ fn current_root<D: Disk>(disk: &mut D, half_len: u32) -> Result<Root, OpenFault>
 /// The content read so far: the root in force, the state, the place of the next group, and the
 /// sequence of the last one.
 #[derive(Drop)]
-pub struct Found<A: Allocator + Copy> {
+pub struct Found<K: Kept> {
     pub root: Root,
-    pub house: House<A>,
+    pub house: K,
     pub place: u32,
     pub last: u64,
 }
 
 /// Reads the base group of the root in force.
-fn read_base<A: Allocator + Copy, D: Disk>(
-    alloc: A,
+fn read_base<K: Kept, D: Disk>(
+    alloc: K::Alloc,
     disk: &mut D,
     root: Root,
     half_len: u32,
-) -> Result<Found<A>, OpenFault>
+) -> Result<Found<K>, OpenFault>
     requires half { root.half ≤ 1 }
     requires most { half_len ≤ longest_half }
     requires fits { 3 + 2 * half_len ≤ D.sectors disk.old }
     ensures reached { D.keeps disk.new → IsCurrent half_len root (D.reads disk.old)
-        → IfOk result (λ found. IsReached half_len root found.place found.last found.house.state
+        → IfOk result (λ found. IsReached K.Language half_len root found.place found.last (K.state found.house)
         (D.reads disk.old)) }
     ensures root { IfOk result (λ found. found.root ≡ root) }
-    ensures budget { IfOk result (λ found. found.house.budget ≡ budget_of half_len) }
+    ensures budget { IfOk result (λ found. K.limit found.house ≡ budget_of half_len) }
     ensures from { IfOk result (λ found. half_start half_len root.half ≤ found.place) }
     ensures within { IfOk result (λ found. found.place ≤ half_end half_len root.half) }
     ensures refused { D.keeps disk.new → IsCurrent half_len root (D.reads disk.old)
-        → IfErr result (λ fault. IsRefused half_len (D.reads disk.old) fault) }
+        → IfErr result (λ fault. IsRefused K.Language half_len (D.reads disk.old) fault) }
     ensures looked { OnlyLooked D.Disk disk.old disk.new }
     ensures counts { Counts D.Disk disk.old disk.new (IsErrOf result Device) }
 {
@@ -97,7 +94,7 @@ fn read_base<A: Allocator + Copy, D: Disk>(
         Err(GroupFault::Device) => return Err(OpenFault::Device),
         Err(GroupFault::NoMemory) => return Err(OpenFault::NoMemory),
     };
-    match House::decode(alloc, group.payload.as_slice(), budget_of(half_len)) {
+    match K::decode(alloc, group.payload.as_slice(), budget_of(half_len)) {
         Ok(house) => Ok(Found {
             root,
             house,
@@ -110,34 +107,34 @@ fn read_base<A: Allocator + Copy, D: Disk>(
 }
 
 /// Reads the next group of changes, if one is complete, and returns whether one was.
-fn read_next<A: Allocator + Copy, D: Disk>(
-    alloc: A,
+fn read_next<K: Kept, D: Disk>(
+    alloc: K::Alloc,
     disk: &mut D,
-    found: &mut Found<A>,
+    found: &mut Found<K>,
     half_len: u32,
 ) -> Result<bool, OpenFault>
     requires half { found.old.root.half ≤ 1 }
     requires most { half_len ≤ longest_half }
     requires fits { 3 + 2 * half_len ≤ D.sectors disk.old }
     requires within { found.old.place ≤ half_end half_len found.old.root.half }
-    ensures more { D.keeps disk.new → found.old.house.budget ≡ budget_of half_len
-        → IsReached half_len found.old.root found.old.place found.old.last found.old.house.state
+    ensures more { D.keeps disk.new → K.limit found.old.house ≡ budget_of half_len
+        → IsReached K.Language half_len found.old.root found.old.place found.old.last (K.state found.old.house)
         (D.reads disk.old)
-        → OnOk result (IsReached half_len found.new.root found.new.place found.new.last
-        found.new.house.state (D.reads disk.old)) }
+        → OnOk result (IsReached K.Language half_len found.new.root found.new.place found.new.last
+        (K.state found.new.house) (D.reads disk.old)) }
     ensures none { D.keeps disk.new → result ≡ Ok false → (sequence : ℕ)
         → sequence ≡ found.new.last + 1 → IsSequence sequence
         → IsComplete (change_site half_len found.new.root sequence found.new.place)
         (D.reads disk.old) → ⊥ }
-    ensures refused { D.keeps disk.new → found.old.house.budget ≡ budget_of half_len
-        → IsReached half_len found.old.root found.old.place found.old.last found.old.house.state
+    ensures refused { D.keeps disk.new → K.limit found.old.house ≡ budget_of half_len
+        → IsReached K.Language half_len found.old.root found.old.place found.old.last (K.state found.old.house)
         (D.reads disk.old)
-        → IfErr result (λ fault. IsRefused half_len (D.reads disk.old) fault) }
+        → IfErr result (λ fault. IsRefused K.Language half_len (D.reads disk.old) fault) }
     ensures from { found.old.place ≤ found.new.place }
     ensures further { result ≡ Ok true → found.old.place < found.new.place }
     ensures within { OnOk result (found.new.place ≤ half_end half_len found.new.root.half) }
     ensures kept { (found.new.root ≡ found.old.root)
-        × (found.new.house.budget ≡ found.old.house.budget) }
+        × (K.limit found.new.house ≡ K.limit found.old.house) }
     ensures looked { OnlyLooked D.Disk disk.old disk.new }
     ensures counts { Counts D.Disk disk.old disk.new (IsErrOf result Device) }
 {
@@ -163,29 +160,29 @@ fn read_next<A: Allocator + Copy, D: Disk>(
 }
 
 /// Reads the groups of changes that follow, as long as they are complete.
-fn read_groups<A: Allocator + Copy, D: Disk>(
-    alloc: A,
+fn read_groups<K: Kept, D: Disk>(
+    alloc: K::Alloc,
     disk: &mut D,
-    found: &mut Found<A>,
+    found: &mut Found<K>,
     half_len: u32,
 ) -> Result<(), OpenFault>
     requires half { found.old.root.half ≤ 1 }
     requires most { half_len ≤ longest_half }
     requires fits { 3 + 2 * half_len ≤ D.sectors disk.old }
     requires within { found.old.place ≤ half_end half_len found.old.root.half }
-    ensures all { D.keeps disk.new → found.old.house.budget ≡ budget_of half_len
-        → IsReached half_len found.old.root found.old.place found.old.last found.old.house.state
+    ensures all { D.keeps disk.new → K.limit found.old.house ≡ budget_of half_len
+        → IsReached K.Language half_len found.old.root found.old.place found.old.last (K.state found.old.house)
         (D.reads disk.old)
-        → OnOk result (IsRead half_len found.new.root found.new.place found.new.last
-        found.new.house.state (D.reads disk.old)) }
-    ensures refused { D.keeps disk.new → found.old.house.budget ≡ budget_of half_len
-        → IsReached half_len found.old.root found.old.place found.old.last found.old.house.state
+        → OnOk result (IsRead K.Language half_len found.new.root found.new.place found.new.last
+        (K.state found.new.house) (D.reads disk.old)) }
+    ensures refused { D.keeps disk.new → K.limit found.old.house ≡ budget_of half_len
+        → IsReached K.Language half_len found.old.root found.old.place found.old.last (K.state found.old.house)
         (D.reads disk.old)
-        → IfErr result (λ fault. IsRefused half_len (D.reads disk.old) fault) }
+        → IfErr result (λ fault. IsRefused K.Language half_len (D.reads disk.old) fault) }
     ensures from { found.old.place ≤ found.new.place }
     ensures within { OnOk result (found.new.place ≤ half_end half_len found.new.root.half) }
     ensures root { found.new.root ≡ found.old.root }
-    ensures budget { found.new.house.budget ≡ found.old.house.budget }
+    ensures budget { K.limit found.new.house ≡ K.limit found.old.house }
     ensures looked { OnlyLooked D.Disk disk.old disk.new }
     ensures counts { Counts D.Disk disk.old disk.new (IsErrOf result Device) }
 {
@@ -194,18 +191,18 @@ fn read_groups<A: Allocator + Copy, D: Disk>(
 }
 
 /// Reads the whole image: from the root in force to the state.
-pub fn read_image<A: Allocator + Copy, D: Disk>(
-    alloc: A,
+pub fn read_image<K: Kept, D: Disk>(
+    alloc: K::Alloc,
     disk: &mut D,
     half_len: u32,
-) -> Result<Found<A>, OpenFault>
+) -> Result<Found<K>, OpenFault>
     requires most { half_len ≤ longest_half }
     requires fits { 3 + 2 * half_len ≤ D.sectors disk.old }
     ensures all { D.keeps disk.new → IfOk result (λ found.
-        IsRead half_len found.root found.place found.last found.house.state (D.reads disk.old)) }
+        IsRead K.Language half_len found.root found.place found.last (K.state found.house) (D.reads disk.old)) }
     ensures refused { D.keeps disk.new
-        → IfErr result (λ fault. IsRefused half_len (D.reads disk.old) fault) }
-    ensures budget { IfOk result (λ found. found.house.budget ≡ budget_of half_len) }
+        → IfErr result (λ fault. IsRefused K.Language half_len (D.reads disk.old) fault) }
+    ensures budget { IfOk result (λ found. K.limit found.house ≡ budget_of half_len) }
     ensures half { IfOk result (λ found. found.root.half ≤ 1) }
     ensures known { IfOk result (λ found. IsKnown found.root.version) }
     ensures from { IfOk result (λ found. half_start half_len found.root.half ≤ found.place) }
@@ -213,7 +210,7 @@ pub fn read_image<A: Allocator + Copy, D: Disk>(
     ensures looked { OnlyLooked D.Disk disk.old disk.new }
     ensures counts { Counts D.Disk disk.old disk.new (IsErrOf result Device) }
 {
-    let root = current_root(disk, half_len)?;
+    let root = current_root::<K, D>(disk, half_len)?;
     let mut found = read_base(alloc, disk, root, half_len)?;
     read_groups(alloc, disk, &mut found, half_len)?;
     Ok(found)

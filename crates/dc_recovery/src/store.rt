@@ -20,8 +20,6 @@ ghost use Rattle.dc_recovery.specs.declared.fault.StoreFault.TheVariants.{Stoppe
 ghost use Rattle.dc_recovery.specs.Halves.{half_of, half_end, budget_of, fewest_sectors};
 ghost use Rattle.dc_recovery.specs.Halves.{SparesRest};
 ghost use Rattle.dc_recovery.specs.Roots.{first_root, compacted, IsOpenedRoot};
-ghost use Rattle.dc_recovery.specs.Language.{State, Change, SpellsChanges, AcceptsAll, after};
-ghost use Rattle.dc_recovery.specs.Language.{empty_state};
 ghost use Rattle.dc_recovery.specs.Stands.{EachStands, StandsForOne, StandsForEither, Stands};
 ghost use Rattle.dc_recovery.specs.Stands.{ReadsBy, Reads, IsFormatting, image_version};
 
@@ -33,11 +31,10 @@ use crate::opening::open_on;
 use crate::reading::Found;
 use crate::sites::change_site;
 use crate::{FormatFault, OpenFault, StoreFault};
-use dc_meters::House;
+use dc_kept::Kept;
 use dc_pages::PAYLOAD;
 use dc_roots::Root;
 use dc_sectors::{Disk, Failed};
-use std::alloc::Allocator;
 use std::marker::Model;
 
 /// An open image. It writes groups of changes after the existing ones, and the whole state into the
@@ -54,9 +51,9 @@ pub struct Store<D: Disk + Drop> {
 impl<D: Disk + Drop> Model for Store<D> {
     ghost use Rattle.std.specs.Prelude.{◌≤◌, ◌≡◌};
     ghost use Rattle.dc_recovery.specs.Halves.{half_of, half_end};
-    ghost use Rattle.dc_recovery.specs.Store.{Kept, IsLaidOut};
+    ghost use Rattle.dc_recovery.specs.Store.{Opened, IsLaidOut};
 
-    ghost Value = { Kept D };
+    ghost Value = { Opened D };
 
     ghost view = { λ s. record {
       disk = s.disk;
@@ -72,14 +69,14 @@ impl<D: Disk + Drop> Model for Store<D> {
 impl<D: Disk + Drop> Store<D> {
     ghost use Rattle.dc_recovery.specs.Store.{Keeps, Fits};
 
-    /// Formats the disk: an image of the empty register, in session 1.
+    /// Formats the disk: an image of the first state, `K::empty`, in session 1.
     ///
     /// # Errors
     ///
     /// `TooSmall` under 131 sectors; `AlreadyFormatted` if no call failed and a slot has a valid
     /// root. Both write nothing. `Device` if a call failed: nothing was written if a slot had a
     /// valid root.
-    pub fn format(mut disk: D) -> Result<D, (FormatFault, D)>
+    pub fn format<K: Kept>(mut disk: D) -> Result<D, (FormatFault, D)>
         ensures small { D.sectors disk < fewest_sectors → result ≡ Err (TooSmall, disk) }
         ensures too_small { IfErr result (λ e. e.0 ≡ TooSmall → D.sectors disk < fewest_sectors) }
         ensures already { IfErr result (λ e.
@@ -95,15 +92,15 @@ impl<D: Disk + Drop> Store<D> {
             → IfErr result (λ e. D.keeps e.1
             → LeavesOnly D.Disk disk e.1 (IsImage (D.choices disk))) }
 
-        // On the way each image is one of those before, has no valid root, or stands for the empty register.
+        // On the way each image is one of those before, has no valid root, or stands for the first state.
         ensures any_moment { MatchResult result (λ d. D.keeps d → LeavesOnly D.Disk disk d
-            (IsFormatting (half_of D.Disk disk) (D.choices disk)))
+            (IsFormatting K.Language (half_of D.Disk disk) (D.choices disk)))
             (λ e. D.keeps e.1 → LeavesOnly D.Disk disk e.1
-            (IsFormatting (half_of D.Disk disk) (D.choices disk))) }
+            (IsFormatting K.Language (half_of D.Disk disk) (D.choices disk))) }
 
-        // Each image of the disk stands for the empty register, by the first root.
+        // Each image of the disk stands for the first state, by the first root.
         ensures formatted { IfOk result (λ d. (image : Image) → IsImage (D.choices d) image
-            → Stands (half_of D.Disk d) empty_state image) }
+            → Stands K.Language (half_of D.Disk d) K.empty image) }
         ensures root { IfOk result (λ d. IsChosen (first_root (half_of D.Disk d)) (D.reads d)) }
         ensures durable { IfOk result (λ d. IsSettled D.Disk d) }
 
@@ -116,7 +113,7 @@ impl<D: Disk + Drop> Store<D> {
         ensures counts { MatchResult result (λ d. Counts D.Disk disk d ⊥)
             (λ e. Counts D.Disk disk e.1 (e.0 ≡ FormatDevice)) }
     {
-        match format_on(&mut disk) {
+        match format_on::<K, D>(&mut disk) {
             Ok(()) => Ok(disk),
             Err(fault) => Err((fault, disk)),
         }
@@ -129,20 +126,17 @@ impl<D: Disk + Drop> Store<D> {
     /// # Errors
     ///
     /// The first in the order of the steps: [`OpenFault`]. The disk is returned.
-    pub fn open<A: Allocator + Copy>(
-        alloc: A,
-        mut disk: D,
-    ) -> Result<(Store<D>, House<A>), (OpenFault, D)>
+    pub fn open<K: Kept>(alloc: K::Alloc, mut disk: D) -> Result<(Store<D>, K), (OpenFault, D)>
         ensures small { D.sectors disk < fewest_sectors → result ≡ Err (NotImage, disk) }
 
         // Ok gives exactly the state that the image reads as, and a refusal is a fact of the image.
         ensures reads { IfOk result (λ o.
-            D.keeps o.0.disk → Reads (half_of D.Disk disk) o.1.state (D.reads disk)) }
+            D.keeps o.0.disk → Reads K.Language (half_of D.Disk disk) (K.state o.1) (D.reads disk)) }
         ensures refused { fewest_sectors ≤ D.sectors disk
-            → IfErr result (λ e. D.keeps e.1 → IsRefused (half_of D.Disk disk) (D.reads disk) e.0) }
+            → IfErr result (λ e. D.keeps e.1 → IsRefused K.Language (half_of D.Disk disk) (D.reads disk) e.0) }
         ensures version { IfOk result (λ o. o.0.root.version ≡ image_version) }
         ensures root { IfOk result (λ o. D.keeps o.0.disk → (root : Root) × (m : ℕ) × (place : ℕ)
-            × ReadsBy (half_of D.Disk disk) root m place o.1.state (D.reads disk)
+            × ReadsBy K.Language (half_of D.Disk disk) root m place (K.state o.1) (D.reads disk)
             × IsOpenedRoot root (root.base_sequence + m) o.0.root) }
 
         // Unless the device failed, a refusal wrote nothing: the disk reads as before, and so does each image of
@@ -151,24 +145,24 @@ impl<D: Disk + Drop> Store<D> {
         ensures spares_images { IfErr result (λ e. e.0 ≢ OpenDevice → LeavesOnly D.Disk disk e.1
             (IsImage (D.choices disk))) }
         ensures not_worn { IfOk result (λ o.
-            D.keeps o.0.disk → IsWorn (half_of D.Disk disk) (D.reads disk) → ⊥) }
+            D.keeps o.0.disk → IsWorn K.Language (half_of D.Disk disk) (D.reads disk) → ⊥) }
 
         // Where each image stands for some state, a stop leaves one that stands for a state that one of them stood for.
-        ensures kept { EachStands (half_of D.Disk disk) (D.choices disk)
-            → IfOk result (λ o. D.keeps o.0.disk → Keeps D.Disk o.0 o.1.state) }
-        ensures any_moment { EachStands (half_of D.Disk disk) (D.choices disk)
+        ensures kept { EachStands K.Language (half_of D.Disk disk) (D.choices disk)
+            → IfOk result (λ o. D.keeps o.0.disk → Keeps K.Language D.Disk o.0 (K.state o.1)) }
+        ensures any_moment { EachStands K.Language (half_of D.Disk disk) (D.choices disk)
             → MatchResult result (λ o. D.keeps o.0.disk
-            → LeavesOnly D.Disk disk o.0.disk (StandsForOne (half_of D.Disk disk) (D.choices disk)))
+            → LeavesOnly D.Disk disk o.0.disk (StandsForOne K.Language (half_of D.Disk disk) (D.choices disk)))
             (λ e. D.keeps e.1 → LeavesOnly D.Disk disk e.1
-            (StandsForOne (half_of D.Disk disk) (D.choices disk))) }
+            (StandsForOne K.Language (half_of D.Disk disk) (D.choices disk))) }
 
         // And such an image is refused only for an exhausted counter.
         ensures premise { fewest_sectors ≤ D.sectors disk
-            → EachStands (half_of D.Disk disk) (D.choices disk)
+            → EachStands K.Language (half_of D.Disk disk) (D.choices disk)
             → IfErr result (λ e. D.keeps e.1 → TellsOfImage e.0 → e.0 ≡ OpenWorn) }
         ensures durable { IfOk result (λ o. IsSettled D.Disk o.0.disk) }
         ensures running { IfOk result (λ o. o.0.is_stopped ≡ false) }
-        ensures budget { IfOk result (λ o. o.1.budget ≡ budget_of (half_of D.Disk disk)) }
+        ensures budget { IfOk result (λ o. K.limit o.1 ≡ budget_of (half_of D.Disk disk)) }
 
         // Sector 0 and the sectors after the second half read as before.
         ensures elsewhere { MatchResult result (λ o.
@@ -187,7 +181,7 @@ impl<D: Disk + Drop> Store<D> {
             Ok(found) => {
                 let Found {
                     root,
-                    house,
+                    house: kept,
                     place,
                     last,
                 } = found;
@@ -198,7 +192,7 @@ impl<D: Disk + Drop> Store<D> {
                     last,
                     is_stopped: false,
                 };
-                Ok((store, house))
+                Ok((store, kept))
             }
             Err(fault) => Err((fault, disk)),
         }
@@ -234,7 +228,7 @@ impl<D: Disk + Drop> Store<D> {
     ///
     /// `Stopped` after a failure; `Worn` if the sequence is exhausted, and nothing was written;
     /// `Device` if the disk failed, and the store is stopped from then on.
-    pub fn append(&mut self, bytes: &[u8]) -> Result<(), StoreFault>
+    pub fn append<K: Kept>(&mut self, bytes: &[u8]) -> Result<(), StoreFault>
         requires some { 0 < length bytes.now }
         requires fits { Fits (D.sectors self.old.disk) self.old (length bytes.now) }
         ensures stopped { IsErrOf result Stopped ↔ (self.old.is_stopped ≡ true) }
@@ -248,15 +242,15 @@ impl<D: Disk + Drop> Store<D> {
         ensures last { OnOk result (self.new.last ≡ self.old.last + 1) }
 
         // The changes are accepted in turn in the state that the store keeps.
-        ensures kept { (was : State) (changes : List Change)
-            → Keeps D.Disk self.old was → SpellsChanges bytes.now changes
-            → AcceptsAll (budget_of (half_of D.Disk self.old.disk)) was changes
-            → OnOk result (Keeps D.Disk self.new (after was changes)) }
-        ensures any_moment { (was : State) (changes : List Change)
-            → Keeps D.Disk self.old was → SpellsChanges bytes.now changes
-            → AcceptsAll (budget_of (half_of D.Disk self.old.disk)) was changes
+        ensures kept { (was : K.State) (changes : List K.Change)
+            → Keeps K.Language D.Disk self.old was → K.SpellsChanges bytes.now changes
+            → K.Accepts (budget_of (half_of D.Disk self.old.disk)) was changes
+            → OnOk result (Keeps K.Language D.Disk self.new (K.after was changes)) }
+        ensures any_moment { (was : K.State) (changes : List K.Change)
+            → Keeps K.Language D.Disk self.old was → K.SpellsChanges bytes.now changes
+            → K.Accepts (budget_of (half_of D.Disk self.old.disk)) was changes
             → LeavesOnly D.Disk self.old.disk self.new.disk
-            (StandsForEither (half_of D.Disk self.old.disk) was (after was changes)) }
+            (StandsForEither K.Language (half_of D.Disk self.old.disk) was (K.after was changes)) }
         ensures elsewhere { SparesRest (half_of D.Disk self.old.disk)
             (D.reads self.old.disk) (D.reads self.new.disk) }
         ensures before { D.keeps self.new.disk → D.keeps self.old.disk }
@@ -271,7 +265,7 @@ impl<D: Disk + Drop> Store<D> {
         let half_len = half_len_of(self.disk.count());
         let next = self.last + 1;
         let site = change_site(half_len, &self.root, next, self.place);
-        match append_group(&mut self.disk, &self.root, site, bytes) {
+        match append_group::<K, D>(&mut self.disk, &self.root, site, bytes) {
             Ok(count) => {
                 self.place += count;
                 self.last = next;
@@ -284,16 +278,16 @@ impl<D: Disk + Drop> Store<D> {
         }
     }
 
-    /// Writes the house's whole state as the base group of the other half, and puts that half in
-    /// force. Each image on the way stands for the state that the store keeps or for the house's,
-    /// and in the end for the house's.
+    /// Writes the whole state of `kept` as the base group of the other half, and puts that half in
+    /// force. Each image on the way stands for the state that the store keeps or for that of `kept`,
+    /// and in the end for the latter.
     ///
     /// # Errors
     ///
     /// `Stopped` after a failure; `Worn` if the sequence or the generation is exhausted, and
     /// nothing was written; `Device` if the disk failed, and the store is stopped from then on.
-    pub fn compact<A: Allocator + Copy>(&mut self, house: &House<A>) -> Result<(), StoreFault>
-        requires budget { house.now.budget ≤ budget_of (half_of D.Disk self.old.disk) }
+    pub fn compact<K: Kept>(&mut self, kept: &K) -> Result<(), StoreFault>
+        requires budget { K.limit kept.now ≤ budget_of (half_of D.Disk self.old.disk) }
         ensures stopped { IsErrOf result Stopped ↔ (self.old.is_stopped ≡ true) }
         ensures worn { IsErrOf result StoreWorn ↔ ((self.old.is_stopped ≡ false)
             × ((2 ^ 64 - 1 ≤ self.old.last + 1) ⊎ (self.old.root.generation ≡ 2 ^ 64 - 1))) }
@@ -303,11 +297,11 @@ impl<D: Disk + Drop> Store<D> {
         ensures running { OnOk result (self.new.is_stopped ≡ false) }
         ensures root { OnOk result (self.new.root ≡ compacted self.old.root (self.old.last + 1)) }
         ensures last { OnOk result (self.new.last ≡ self.old.last + 1) }
-        ensures kept { (was : State) → Keeps D.Disk self.old was
-            → OnOk result (Keeps D.Disk self.new house.now.state) }
-        ensures any_moment { (was : State) → Keeps D.Disk self.old was
+        ensures kept { (was : K.State) → Keeps K.Language D.Disk self.old was
+            → OnOk result (Keeps K.Language D.Disk self.new (K.state kept.now)) }
+        ensures any_moment { (was : K.State) → Keeps K.Language D.Disk self.old was
             → LeavesOnly D.Disk self.old.disk self.new.disk
-            (StandsForEither (half_of D.Disk self.old.disk) was house.now.state) }
+            (StandsForEither K.Language (half_of D.Disk self.old.disk) was (K.state kept.now)) }
         ensures elsewhere { SparesRest (half_of D.Disk self.old.disk)
             (D.reads self.old.disk) (D.reads self.new.disk) }
         ensures before { D.keeps self.new.disk → D.keeps self.old.disk }
@@ -321,7 +315,7 @@ impl<D: Disk + Drop> Store<D> {
         }
         let half_len = half_len_of(self.disk.count());
         let next = self.last + 1;
-        match compact_into_other_half(&mut self.disk, &self.root, half_len, next, house) {
+        match compact_into_other_half(&mut self.disk, &self.root, half_len, next, kept) {
             Ok((root, place)) => {
                 self.root = root;
                 self.place = place;

@@ -5,14 +5,12 @@ ghost use Rattle.dc_sectors.specs.Runs.{LeavesOnly, Counts, IsSettled};
 ghost use Rattle.dc_pages.specs.Draft.{FitsAt};
 ghost use Rattle.dc_pages.specs.Writing.{SameOutside};
 ghost use Rattle.dc_pages.specs.Streaming.{GoesInto, BreaksOff};
-ghost use Rattle.dc_recovery.specs.Language.{state_bytes};
 ghost use Rattle.dc_recovery.specs.Writing.{IsAttempt, IsWritten};
 
 use dc_io::IoFault;
-use dc_meters::House;
+use dc_kept::Kept;
 use dc_pages::{GroupSink, GroupWriter, Site};
 use dc_sectors::{Disk, Failed};
-use std::alloc::Allocator;
 
 /// Writes a group with these bytes, and returns its number of sectors.
 pub(crate) fn write_group<D: Disk>(
@@ -41,40 +39,37 @@ pub(crate) fn write_group<D: Disk>(
     Ok(count)
 }
 
-// Writes the house's encoding into the group, piece by piece.
-fn encode_into<A: Allocator + Copy, D: Disk>(
-    sink: &mut GroupSink<'_, D>,
-    house: &House<A>,
-) -> Result<(), Failed>
+// Writes the bytes of the state into the group, piece by piece.
+fn encode_into<K: Kept, D: Disk>(sink: &mut GroupSink<'_, D>, kept: &K) -> Result<(), Failed>
     ensures same_reference { sink.new.disk.ghost_name ≡ sink.old.disk.ghost_name }
     ensures goes_into { OnOk result (GoesInto D.Disk sink.old.disk.now sink.new.disk.now
         sink.old.writer sink.new.writer
-        (state_bytes house.now.state)) }
+        (K.bytes_of (K.state kept.now))) }
     ensures breaks_off { OnErr result (BreaksOff D.Disk
-        sink.old.disk.now sink.new.disk.now sink.old.writer (state_bytes house.now.state)) }
+        sink.old.disk.now sink.new.disk.now sink.old.writer (K.bytes_of (K.state kept.now))) }
 {
-    match house.encode(sink) {
+    match kept.encode(sink) {
         Ok(()) => Ok(()),
         Err(IoFault) => Err(Failed),
     }
 }
 
-/// Writes a group with the bytes that spell a house's state, and returns its number of sectors.
-pub(crate) fn write_state<A: Allocator + Copy, D: Disk>(
+/// Writes a group with the bytes of the state, and returns its number of sectors.
+pub(crate) fn write_state<K: Kept, D: Disk>(
     disk: &mut D,
     site: Site,
     session: u64,
-    house: &House<A>,
+    kept: &K,
 ) -> Result<u32, Failed>
-    requires some { 0 < length (state_bytes house.now.state) }
-    requires room { FitsAt site.first site.limit (length (state_bytes house.now.state)) }
+    requires some { 0 < length (K.bytes_of (K.state kept.now)) }
+    requires room { FitsAt site.first site.limit (length (K.bytes_of (K.state kept.now))) }
     requires limit { site.limit ≤ D.sectors disk.old }
     ensures written { IsSettled D.Disk disk.old
-        → IfOk result (λ count. IsWritten site session (state_bytes house.now.state) count
+        → IfOk result (λ count. IsWritten site session (K.bytes_of (K.state kept.now)) count
         (D.reads disk.old) (D.reads disk.new)) }
     ensures any_moment { IsSettled D.Disk disk.old
         → LeavesOnly D.Disk disk.old disk.new
-        (IsAttempt site session (state_bytes house.now.state) (D.reads disk.old)) }
+        (IsAttempt site session (K.bytes_of (K.state kept.now)) (D.reads disk.old)) }
     ensures within { IfOk result (λ count. site.first + count ≤ site.limit) }
     ensures elsewhere { SameOutside site (D.reads disk.old) (D.reads disk.new) }
     ensures before { D.keeps disk.new → D.keeps disk.old }
@@ -85,7 +80,7 @@ pub(crate) fn write_state<A: Allocator + Copy, D: Disk>(
         writer: GroupWriter::begin(site, session),
         refused: 0,
     };
-    encode_into(&mut sink, house)?;
+    encode_into(&mut sink, kept)?;
     let GroupSink { disk, writer, .. } = sink;
     let count = writer.finish(disk)?;
     Ok(count)

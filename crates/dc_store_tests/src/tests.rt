@@ -1,6 +1,7 @@
 //! Tests of disks and of the store, by topic.
 
 mod bytes;
+mod counter;
 mod disks;
 mod faults;
 mod fields;

@@ -5,6 +5,7 @@ use crate::tasks::{ROOM, flushed};
 use crate::why::Noted;
 use dc_address::{Identity, Primary};
 use dc_io::{Buffered, Bytes, NoMemory, ReadSource, WriteSink};
+use dc_meters::House;
 use dc_poller::{Ending, ProgramFault, STREAM, ending_of, run_script};
 use dc_recovery::Store;
 use dc_sectors::MemoryDisk;
@@ -53,7 +54,7 @@ where
     let Ok(disk) = MemoryDisk::new(host.rt.alloc(), SECTORS) else {
         return Ending::Memory;
     };
-    match Store::format(disk) {
+    match Store::format::<House<Global>>(disk) {
         Ok(disk) => ending_of(work(host, disk, ends), STREAM),
         Err((fault, _)) => Ending::Format(fault),
     }

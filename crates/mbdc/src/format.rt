@@ -4,10 +4,12 @@ use crate::half_made::{HalfMade, is_same_file};
 use crate::host::Host;
 use crate::image::{lock, no_file, open_image, within_limit};
 use crate::why::{Noted, Why};
+use dc_meters::House;
 use dc_poller::Ending;
 use dc_recovery::{FormatFault, Store};
 use dc_roots::{RootFault, choose};
 use dc_sectors::{Disk, FileDisk};
+use std::alloc::Global;
 use std::fs::{File, Metadata};
 use std::io::ErrorKind;
 use std::os::unix::fs::FileExt;
@@ -157,7 +159,7 @@ fn format_file(why: &Why, file: File, length: u64) -> io::Result<Option<FormatFa
     if file.metadata()?.len() != length {
         return Err(other_length());
     }
-    match Store::format(FileDisk::new(Noted::new(file, why))?) {
+    match Store::format::<House<Global>>(FileDisk::new(Noted::new(file, why))?) {
         Ok(_) => Ok(None),
         Err((fault, _)) => Ok(Some(fault)),
     }

@@ -7,7 +7,7 @@ ghost use Rattle.dc_core.specs.declared.fault.CommitFault.TheVariants.{Device, W
 ghost use Rattle.dc_core.specs.Core.{Core};
 ghost use Rattle.dc_core.specs.Event.{commits, committed};
 ghost use Rattle.dc_core.specs.Step.{May, next};
-ghost use Rattle.dc_recovery.specs.Stands.{StandsForFront};
+ghost use Rattle.dc_pending.specs.Images.{StandsForFront};
 ghost use Rattle.dc_recovery.specs.Store.{Fits};
 ghost use Rattle.dc_pending.specs.Writing.{IsWornFor};
 ghost use Rattle.dc_core.specs.Images.{IsAt};

@@ -8,7 +8,7 @@ ghost use Rattle.dc_changes.specs.Accepts.{Accepts};
 ghost use Rattle.dc_changes.specs.Apply.{applied};
 ghost use Rattle.dc_changes.specs.Valid.{IsChange};
 ghost use Rattle.dc_recovery.specs.Halves.{half_of};
-ghost use Rattle.dc_recovery.specs.Stands.{StandsForFront};
+ghost use Rattle.dc_pending.specs.Images.{StandsForFront};
 ghost use Rattle.dc_upload.specs.Line.{IsOfficeLine};
 ghost use Rattle.dc_upload.specs.Reply.{refusal_line, reply_text, TakesMemory};
 ghost use Rattle.dc_upload.specs.Verdict.{verdict_of, IfDo};

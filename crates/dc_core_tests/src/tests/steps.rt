@@ -4,6 +4,7 @@ use dc_address::Identity;
 use dc_changes::Moment;
 use dc_core::{Concentrator, Event, WriteFault, put_asked, put_committed, put_heard, put_started};
 use dc_io::{Bytes, IoFault};
+use dc_meters::House;
 use dc_recovery::{OpenFault, Store};
 use dc_sectors::MemoryDisk;
 use std::alloc::{Allocator, Global};
@@ -134,7 +135,7 @@ pub fn opened<A: Allocator + Copy>(
 
 /// An image of 131 sectors with the empty register.
 pub fn blank(heap: Global) -> Result<MemoryDisk<Global>, Fail> {
-    match Store::format(MemoryDisk::new(heap, 131)?) {
+    match Store::format::<House<Global>>(MemoryDisk::new(heap, 131)?) {
         Ok(disk) => Ok(disk),
         Err((fault, _)) => Err(Fail::from(fault)),
     }
@@ -160,7 +161,7 @@ pub fn fitted(rt: &impl Abort, heap: Global) -> Result<MemoryDisk<Global>, Fail>
 /// the size.
 pub fn found(heap: Global, disk: MemoryDisk<Global>) -> Result<(usize, usize, u32), Fail> {
     let meter = Identity::parse_text(METER)?;
-    match Store::open(heap, disk) {
+    match Store::open::<House<Global>>(heap, disk) {
         Ok((_, house)) => {
             let open = match house.meter(&meter) {
                 Some(row) => row.parts().len(),

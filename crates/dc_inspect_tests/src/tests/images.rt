@@ -1,6 +1,7 @@
 //! Images that the tests share.
 
 use dc_io::Bytes;
+use dc_meters::House;
 use dc_poller::run_script;
 use dc_recovery::Store;
 use dc_sectors::{Disk, MemoryDisk};
@@ -23,7 +24,7 @@ COMMIT
 
 /// An image of an empty register.
 pub fn formatted(heap: Global) -> Result<MemoryDisk<Global>, Fail> {
-    match Store::format(MemoryDisk::new(heap, 131)?) {
+    match Store::format::<House<Global>>(MemoryDisk::new(heap, 131)?) {
         Ok(disk) => Ok(disk),
         Err((fault, _)) => Err(Fail::from(fault)),
     }

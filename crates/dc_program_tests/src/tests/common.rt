@@ -1,5 +1,6 @@
 //! What the tests share: texts put together, and a fresh image.
 
+use dc_meters::House;
 use dc_recovery::Store;
 use dc_sectors::MemoryDisk;
 use std::alloc::{AllocError, Global};
@@ -13,7 +14,7 @@ pub fn joined(alloc: Global, front: &[u8], back: &[u8]) -> Result<Vec<u8>, Alloc
 
 /// An image of an empty register.
 pub fn blank(heap: Global) -> Result<MemoryDisk<Global>, Fail> {
-    match Store::format(MemoryDisk::new(heap, 131)?) {
+    match Store::format::<House<Global>>(MemoryDisk::new(heap, 131)?) {
         Ok(disk) => Ok(disk),
         Err((fault, _)) => Err(Fail::from(fault)),
     }

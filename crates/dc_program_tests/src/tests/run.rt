@@ -2,6 +2,7 @@
 use super::common::{blank, joined};
 use super::streams::{FailingSink, FailingSource};
 use dc_io::{Bytes, Sink, Source};
+use dc_meters::House;
 use dc_poller::{ProgramFault, run_script};
 use dc_recovery::Store;
 use dc_sectors::{Disk, MemoryDisk};
@@ -57,7 +58,7 @@ pub fn run<D: Disk + Drop, A: Allocator + Copy, R: Source, W: Sink>(
 
 // How many readings the image has, and how many bytes its register.
 fn found(heap: Global, disk: MemoryDisk<Global>) -> Result<(usize, u32), Fail> {
-    match Store::open(heap, disk) {
+    match Store::open::<House<Global>>(heap, disk) {
         Ok((_, house)) => Ok((house.readings().len(), house.size())),
         Err((fault, _)) => Err(Fail::from(fault)),
     }

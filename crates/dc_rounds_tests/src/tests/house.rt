@@ -5,6 +5,7 @@ use dc_address::{Identity, Primary};
 use dc_core::Concentrator;
 use dc_gateway::AnswerBuf;
 use dc_io::Bytes;
+use dc_meters::House;
 use dc_recovery::Store;
 use dc_sectors::MemoryDisk;
 use dc_world::{Bodies, Body, MeterScript, SimulatedBus, SimulatedMeter};
@@ -51,7 +52,7 @@ const LAST: u8 = 0x0F;
 
 /// A disk of an empty register.
 pub fn blank(heap: Global) -> Result<MemoryDisk<Global>, Fail> {
-    match Store::format(MemoryDisk::new(heap, 131)?) {
+    match Store::format::<House<Global>>(MemoryDisk::new(heap, 131)?) {
         Ok(disk) => Ok(disk),
         Err((fault, _)) => Err(Fail::from(fault)),
     }

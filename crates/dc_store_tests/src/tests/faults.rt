@@ -4,6 +4,7 @@ use super::life::{
     FIT, Life, accept, accept_all, calls_of_open, closed, compact, formatted, opened, read_as,
     written,
 };
+use dc_meters::House;
 use dc_recovery::{FormatFault, OpenFault, Store, StoreFault};
 use dc_sectors::MemoryDisk;
 use refusing_alloc::Refusing;
@@ -57,7 +58,7 @@ fn goes_on(rt: &impl Abort, heap: Global, disk: MemoryDisk<Global>) -> Result<()
 /// Why the disk isn't formatted, and whether a call of it was made or a write is unsynced.
 fn fault_of_format(disk: MemoryDisk<Global>) -> Result<(FormatFault, bool, bool), Fail> {
     let before = disk.calls();
-    match Store::format(disk) {
+    match Store::format::<House<Global>>(disk) {
         Err((fault, disk)) => Ok((fault, disk.calls() > before, disk.pending()?.len() > 0)),
         Ok(_) => Err(Fail::from("it was formatted")),
     }
@@ -87,7 +88,7 @@ fn readings_of<A: Allocator + Copy>(
     alloc: A,
     disk: MemoryDisk<Global>,
 ) -> Result<usize, OpenFault> {
-    match Store::open(alloc, disk) {
+    match Store::open::<House<A>>(alloc, disk) {
         Ok((_, house)) => Ok(house.readings().len()),
         Err((fault, _)) => Err(fault),
     }

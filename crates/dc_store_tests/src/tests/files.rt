@@ -19,7 +19,7 @@ struct OnFile {
 }
 
 fn format(rt: &HostRuntime, path: &str) -> Result<Result<(), FormatFault>, Fail> {
-    match Store::format(FileDisk::open(rt, path)?) {
+    match Store::format::<House<Global>>(FileDisk::open(rt, path)?) {
         Ok(_) => Ok(Ok(())),
         Err((fault, _)) => Ok(Err(fault)),
     }
@@ -43,7 +43,10 @@ fn confirm(rt: &impl Abort, heap: Global, life: &mut OnFile) -> Result<(), Fail>
     encode_change(&change, &mut bytes)?;
     assert!(rt; !bytes.as_slice().is_empty());
     assert!(rt; life.store.fits(bytes.as_slice().len()));
-    assert_eq!(rt; life.store.append(bytes.as_slice()), Ok(()));
+    assert_eq!(rt;
+        life.store.append::<House<Global>>(bytes.as_slice()),
+        Ok(())
+    );
     Ok(())
 }
 

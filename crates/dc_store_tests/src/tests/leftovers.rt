@@ -8,6 +8,7 @@ use super::life::{
 use super::sectors::read;
 use dc_changes::{Change, encode_change};
 use dc_io::Bytes;
+use dc_meters::House;
 use dc_recovery::StoreFault;
 use dc_sectors::MemoryDisk;
 use std::alloc::Global;
@@ -31,7 +32,7 @@ fn two_pages(heap: Global) -> Result<Bytes<Global>, Fail> {
 fn append(rt: &impl Abort, life: &mut Life, bytes: &[u8]) -> Result<(), StoreFault> {
     assert!(rt; !bytes.is_empty());
     assert!(rt; life.store.fits(bytes.len()));
-    life.store.append(bytes)
+    life.store.append::<House<Global>>(bytes)
 }
 
 /// Opens the image, fits two meters where it has none, and writes that group, whose sync fails.

@@ -31,7 +31,7 @@ pub struct Found {
 
 /// A formatted disk of that many sectors.
 pub fn formatted(heap: Global, sectors: u32) -> Result<MemoryDisk<Global>, Fail> {
-    match Store::format(MemoryDisk::new(heap, sectors)?) {
+    match Store::format::<House<Global>>(MemoryDisk::new(heap, sectors)?) {
         Ok(disk) => Ok(disk),
         Err((fault, _)) => Err(Fail::from(fault)),
     }
@@ -111,7 +111,7 @@ fn apply(rt: &impl Abort, house: &mut House<Global>, change: &Change<'_>) -> Res
 fn write(rt: &impl Abort, life: &mut Life, bytes: &[u8]) -> Result<(), StoreFault> {
     assert!(rt; !bytes.is_empty());
     if life.store.fits(bytes.len()) {
-        return life.store.append(bytes);
+        return life.store.append::<House<Global>>(bytes);
     }
     compact(rt, life)
 }

@@ -2,6 +2,7 @@
 
 use super::life::{FIT, accept, closed, compact, formatted, opened, reopened, written};
 use super::sectors::{put, read, reads_alike};
+use dc_meters::House;
 use dc_recovery::{OpenFault, Store, StoreFault};
 use dc_roots::{Root, write_next};
 use dc_sectors::{Disk, MemoryDisk};
@@ -39,7 +40,7 @@ fn refusal(
     heap: Global,
     disk: MemoryDisk<Global>,
 ) -> Result<(OpenFault, MemoryDisk<Global>), Fail> {
-    match Store::open(heap, disk) {
+    match Store::open::<House<Global>>(heap, disk) {
         Err(refused) => Ok(refused),
         Ok(_) => Err(Fail::from("it was opened")),
     }

@@ -7,6 +7,7 @@ use super::stops::{is_in, span_at};
 use super::turns::{Told, Way, turn};
 use dc_core::Concentrator;
 use dc_io::Bytes;
+use dc_meters::House;
 use dc_recovery::Store;
 use dc_sectors::FileDisk;
 use std::alloc::Global;
@@ -19,7 +20,7 @@ type OnFile = Concentrator<FileDisk<File>, Global>;
 /// A file with a blank image of 131 sectors, opened.
 fn opened(rt: &HostRuntime, path: &str) -> Result<OnFile, Fail> {
     File::create(rt, path)?.set_len(131 * 512)?;
-    let disk = match Store::format(FileDisk::open(rt, path)?) {
+    let disk = match Store::format::<House<Global>>(FileDisk::open(rt, path)?) {
         Ok(disk) => disk,
         Err((fault, _)) => return Err(Fail::from(fault)),
     };

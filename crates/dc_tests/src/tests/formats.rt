@@ -4,6 +4,7 @@
 use super::images::{images_of, rested, stopped};
 use super::life::{blank, state_of};
 use super::stops::Tried;
+use dc_meters::House;
 use dc_recovery::{FormatFault, OpenFault, Store};
 use dc_sectors::{Disk, MemoryDisk};
 use std::alloc::Global;
@@ -19,7 +20,7 @@ fn is_opened(
     image: MemoryDisk<Global>,
     empty: &[u8],
 ) -> Result<bool, Fail> {
-    match Store::open(heap, image) {
+    match Store::open::<House<Global>>(heap, image) {
         Ok((store, _)) => {
             assert!(rt; state_of(heap, store.close())?.as_slice() == empty);
             Ok(true)
@@ -37,7 +38,7 @@ fn is_image(
     empty: &[u8],
 ) -> Result<bool, Fail> {
     let is_one = is_opened(rt, heap, image.copy()?, empty)?;
-    match Store::format(image) {
+    match Store::format::<House<Global>>(image) {
         Ok(disk) => {
             assert!(rt; !is_one);
             assert!(rt; state_of(heap, disk)?.as_slice() == empty);
@@ -74,7 +75,7 @@ fn stopped_format(
 ) -> Result<Option<MemoryDisk<Global>>, Fail> {
     let mut disk = disk.copy()?;
     disk.fuse(passes);
-    match Store::format(disk) {
+    match Store::format::<House<Global>>(disk) {
         Ok(_) => Ok(None),
         Err((FormatFault::Device, disk)) => Ok(Some(disk)),
         Err((fault, _)) => Err(Fail::from(fault)),

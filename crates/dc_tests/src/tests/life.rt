@@ -75,7 +75,7 @@ pub fn blank(heap: Global) -> Result<MemoryDisk<Global>, Fail> {
 
 /// A blank image of 131 sectors, formatted, which keeps its record in this memory.
 pub fn blank_on<A: Allocator + Copy>(heap: Global, alloc: A) -> Result<MemoryDisk<A>, Fail> {
-    match Store::format(MemoryDisk::new(alloc, 131)?) {
+    match Store::format::<House<Global>>(MemoryDisk::new(alloc, 131)?) {
         Ok(disk) => Ok(rested(heap, &disk)?),
         Err((fault, _)) => Err(Fail::from(fault)),
     }

@@ -2,8 +2,8 @@ use Rattle.std.proofs.Common.{subst, OnOk, ⊎_elim, inl, inr, length, rules}
 use Rattle.dc_sectors.specs.Runs.{LeavesOnly}
 use Rattle.dc_changes.specs.State.{State}
 use Rattle.dc_recovery.specs.Halves.{half_of}
-use Rattle.dc_recovery.specs.Stands.{StandsForEither}
-use Rattle.dc_recovery.specs.Store.{Fits, Keeps}
+use Rattle.dc_pending.specs.Images.{StandsForEither, Keeps}
+use Rattle.dc_recovery.specs.Store.{Fits}
 use Rattle.dc_pending.proofs.writing.write_waiting.Goals as goal
 
 pub returns-then-fits-clause-goes_on : goal.returns-then-fits-clause-goes_on

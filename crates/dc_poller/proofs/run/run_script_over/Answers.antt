@@ -4,7 +4,7 @@ use Rattle.dc_changes.specs.State.{State}
 use Rattle.dc_core.specs.Core.{opened}
 use Rattle.dc_core.specs.Images.{Machine, IsAt}
 use Rattle.dc_recovery.specs.Halves.{half_of}
-use Rattle.dc_recovery.specs.Stands.{EachStands}
+use Rattle.dc_pending.specs.Images.{EachStands}
 use Rattle.dc_io.specs.Stream.{Puts}
 use Rattle.dc_io.specs.Lines.{lines_of}
 use Rattle.dc_poller.specs.ImageRun.{ImageWent}

@@ -2,26 +2,24 @@ use Rattle.std.proofs.Common.{◌≡◌, ◌+◌, ℕ, zero, arith, ap, refl, su
 use Rattle.dc_sectors.specs.Disk.{Image, settled}
 use Rattle.dc_sectors.specs.Runs.{LeavesOnly, IsSettled}
 use Rattle.dc_pages.specs.declared.site.Site.{Site}
-use Rattle.dc_changes.proofs.Lengths.{state_some, state_fits}
 use Rattle.dc_roots.specs.declared.root.Root.{Root}
 use Rattle.dc_recovery.specs.Halves.{budget_of, SparesRest}
-use Rattle.dc_recovery.specs.Language.{State, SpellsState, state_bytes}
 use Rattle.dc_recovery.specs.Roots.{compacted}
 use Rattle.dc_recovery.specs.Sites.{base_site}
 use Rattle.dc_recovery.specs.Stands.{IsReady, StandsForEither}
 use Rattle.dc_recovery.specs.Writing.{IsAttempt, IsWritten}
-use Rattle.dc_recovery.proofs.Compacted.{IsCompactable, wider, compacting_done, base_written, base_synced, root_put}
+use Rattle.dc_recovery.proofs.Compacted.{IsCompactable, compacting_done, base_written, base_synced, root_put}
 use Rattle.dc_recovery.proofs.Spared.{spared_same, spared_through, spared_slot, spared_site}
 use Rattle.dc_recovery.proofs.compacting.compact_into_other_half.Given.{Over}
 use Rattle.dc_recovery.proofs.compacting.compact_into_other_half.Goals.{After-write_state, After-put_root}
 use Rattle.dc_recovery.proofs.compacting.compact_into_other_half.Goals as goal
 
 pub write_state-requires-clause-some : goal.write_state-requires-clause-some
-write_state-requires-clause-some g c = omega (arith, state_some c.args.house.now.state)
+write_state-requires-clause-some g c = g.K.Language.some _ _ _ c.size-size.ensures.is_state
 
 pub write_state-requires-clause-room : goal.write_state-requires-clause-room
 write_state-requires-clause-room g c =
-    let fits = state_fits c.size-size.ensures.is_state in
+    let fits = g.K.Language.fits _ _ _ c.size-size.ensures.is_state in
     let first = ap (λ (s : Site). s.first) c.base_site-site.ensures.exact in
     let limit = ap (λ (s : Site). s.limit) c.base_site-site.ensures.exact in
     let budget = c.requires.budget in
@@ -30,50 +28,50 @@ write_state-requires-clause-room g c =
 -- while the base group is written
 basing : (g : Over) (c : After-write_state g) → IsSettled g.D.Disk c.args.disk.now
     → LeavesOnly g.D.Disk c.args.disk.now c.write_state.new.disk
-    (IsAttempt (base_site c.args.half_len (compacted c.args.root.now c.args.sequence)) c.args.root.now.session (state_bytes c.args.house.now.state) (g.D.Disk.reads c.args.disk.now))
+    (IsAttempt (base_site c.args.half_len (compacted c.args.root.now c.args.sequence)) c.args.root.now.session (g.K.Language.bytes_of (g.K.Language.state c.args.kept.now)) (g.D.Disk.reads c.args.disk.now))
 basing g c is_settled =
-    subst (λ (s : Site). LeavesOnly g.D.Disk c.args.disk.now c.write_state.new.disk (IsAttempt s c.args.root.now.session (state_bytes c.args.house.now.state) (g.D.Disk.reads c.args.disk.now)))
+    subst (λ (s : Site). LeavesOnly g.D.Disk c.args.disk.now c.write_state.new.disk (IsAttempt s c.args.root.now.session (g.K.Language.bytes_of (g.K.Language.state c.args.kept.now)) (g.D.Disk.reads c.args.disk.now)))
     c.base_site-site.ensures.exact (c.write_state.ensures.any_moment is_settled)
 
 pub returns-in_err-count-clause-any_moment : goal.returns-in_err-count-clause-any_moment
 returns-in_err-count-clause-any_moment g c is_settled m place was ready at =
-    base_written g.D.Disk (g.met.D.Disk.counts_now) c.args.disk.now c.write_state.new.disk
-    (record { ready = ready; small = c.requires.half; at_sequence = at }) c.args.house.now.state (basing g (goal.at.returns-in_err-count-clause-any_moment g c).After-write_state is_settled)
+    base_written g.K.Language g.D.Disk (g.met.D.Disk.counts_now) c.args.disk.now c.write_state.new.disk
+    (record { ready = ready; small = c.requires.half; at_sequence = at }) (g.K.Language.state c.args.kept.now) (basing g (goal.at.returns-in_err-count-clause-any_moment g c).After-write_state is_settled)
 
 pub returns-in_err-sync-clause-any_moment : goal.returns-in_err-sync-clause-any_moment
 returns-in_err-sync-clause-any_moment g c is_settled m place was ready at =
-    base_synced g.D.Disk (g.met.D.Disk.counts_now) c.args.disk.now c.write_state.new.disk
-    (record { ready = ready; small = c.requires.half; at_sequence = at }) c.args.house.now.state (basing g (goal.at.returns-in_err-sync-clause-any_moment g c).After-write_state is_settled)
+    base_synced g.K.Language g.D.Disk (g.met.D.Disk.counts_now) c.args.disk.now c.write_state.new.disk
+    (record { ready = ready; small = c.requires.half; at_sequence = at }) (g.K.Language.state c.args.kept.now) (basing g (goal.at.returns-in_err-sync-clause-any_moment g c).After-write_state is_settled)
     c.sync.new.self (c.sync.ensures.time)
 
 -- WHEN THE ROOT IS PUT: the disk is settled, and has the base group of the whole state.
 record HasBase (g : Over) (c : After-put_root g) : Type 0 where
   still : IsSettled g.D.Disk c.sync.new.self
-  done : IsWritten (base_site c.args.half_len (compacted c.args.root.now c.args.sequence)) c.args.root.now.session (state_bytes c.args.house.now.state) c.in_ok-count.count (g.D.Disk.reads c.args.disk.now) (g.D.Disk.reads c.sync.new.self)
-  spells : SpellsState (budget_of c.args.half_len) (state_bytes c.args.house.now.state) c.args.house.now.state
+  done : IsWritten (base_site c.args.half_len (compacted c.args.root.now c.args.sequence)) c.args.root.now.session (g.K.Language.bytes_of (g.K.Language.state c.args.kept.now)) c.in_ok-count.count (g.D.Disk.reads c.args.disk.now) (g.D.Disk.reads c.sync.new.self)
+  spells : g.K.Language.SpellsState (budget_of c.args.half_len) (g.K.Language.bytes_of (g.K.Language.state c.args.kept.now)) (g.K.Language.state c.args.kept.now)
 
 has_base : (g : Over) (c : After-put_root g) → IsSettled g.D.Disk c.args.disk.now → HasBase g c
 has_base g c is_settled =
     let H = c.args.half_len in
-    let house = c.args.house.now in
+    let kept = c.args.kept.now in
     let same : g.D.Disk.reads c.sync.new.self ≡ g.D.Disk.reads c.write_state.new.disk = c.sync.ensures.reads in
     record {
       still = c.in_ok-sync.ensures.choices ∙ ap settled (sym same);
-      done = subst (λ (s : Site). IsWritten s c.args.root.now.session (state_bytes house.state) c.in_ok-count.count (g.D.Disk.reads c.args.disk.now) (g.D.Disk.reads c.sync.new.self)) c.base_site-site.ensures.exact
-          (subst (λ (i : Image). IsWritten c.base_site-site.result c.args.root.now.session (state_bytes house.state) c.in_ok-count.count (g.D.Disk.reads c.args.disk.now) i) (sym same) (c.in_ok-count.ensures.written is_settled));
-      spells = record { spelled = refl; is_state = wider house.budget (budget_of H) house.state c.requires.budget c.size-size.ensures.is_state };
+      done = subst (λ (s : Site). IsWritten s c.args.root.now.session (g.K.Language.bytes_of (g.K.Language.state kept)) c.in_ok-count.count (g.D.Disk.reads c.args.disk.now) (g.D.Disk.reads c.sync.new.self)) c.base_site-site.ensures.exact
+          (subst (λ (i : Image). IsWritten c.base_site-site.result c.args.root.now.session (g.K.Language.bytes_of (g.K.Language.state kept)) c.in_ok-count.count (g.D.Disk.reads c.args.disk.now) i) (sym same) (c.in_ok-count.ensures.written is_settled));
+      spells = g.K.Language.wider (g.K.Language.limit kept) (budget_of H) _ _ c.requires.budget c.size-size.ensures.is_state;
     }
 
 -- until it is in force, or can't be put
-put : (g : Over) (c : After-put_root g) → IsSettled g.D.Disk c.args.disk.now → {m place : ℕ} {was : State}
-    → IsCompactable c.args.half_len c.args.root.now m place c.args.sequence was (g.D.Disk.reads c.args.disk.now)
+put : (g : Over) (c : After-put_root g) → IsSettled g.D.Disk c.args.disk.now → {m place : ℕ} {was : g.K.Language.State}
+    → IsCompactable g.K.Language c.args.half_len c.args.root.now m place c.args.sequence was (g.D.Disk.reads c.args.disk.now)
     → LeavesOnly g.D.Disk c.args.disk.now c.write_state.new.disk
-    (IsAttempt (base_site c.args.half_len (compacted c.args.root.now c.args.sequence)) c.args.root.now.session (state_bytes c.args.house.now.state) (g.D.Disk.reads c.args.disk.now))
-    → LeavesOnly g.D.Disk c.args.disk.now c.put_root.new.disk (StandsForEither c.args.half_len was c.args.house.now.state)
+    (IsAttempt (base_site c.args.half_len (compacted c.args.root.now c.args.sequence)) c.args.root.now.session (g.K.Language.bytes_of (g.K.Language.state c.args.kept.now)) (g.D.Disk.reads c.args.disk.now))
+    → LeavesOnly g.D.Disk c.args.disk.now c.put_root.new.disk (StandsForEither g.K.Language c.args.half_len was (g.K.Language.state c.args.kept.now))
 put g c is_settled may written =
     let based = has_base g c is_settled in
-    root_put g.D.Disk (g.met.D.Disk.counts_now) c.args.disk.now c.write_state.new.disk
-    may c.args.house.now.state written
+    root_put g.K.Language g.D.Disk (g.met.D.Disk.counts_now) c.args.disk.now c.write_state.new.disk
+    may (g.K.Language.state c.args.kept.now) written
     c.sync.new.self (c.sync.ensures.time) c.put_root.new.disk c.in_ok-count.count based.done based.spells (c.put_root.ensures.any_moment based.still)
 
 pub returns-in-Ok-clause-any_moment : goal.returns-in-Ok-clause-any_moment
@@ -92,10 +90,10 @@ returns-in-Ok-clause-ready g c is_settled m place was ready at =
     let image = g.D.Disk.reads c.put_root.new.disk in
     let next = compacted c.args.root.now c.args.sequence in
     let site = base_site c.args.half_len next in
-    subst (λ (r : Root). IsReady c.args.half_len r zero (c.base_site-site.result.first + c.in_ok-count.count) c.args.house.now.state image) (sym c.in-Ok.ensures.next)
-    (subst (λ (s : Site). IsReady c.args.half_len next zero (s.first + c.in_ok-count.count) c.args.house.now.state image) (sym c.base_site-site.ensures.exact)
-    (compacting_done (record { ready = ready; small = c.requires.half; at_sequence = at })
-    c.args.house.now.state c.in_ok-count.count (g.D.Disk.reads c.sync.new.self) based.done based.spells image (c.in-Ok.ensures.done based.still)))
+    subst (λ (r : Root). IsReady g.K.Language c.args.half_len r zero (c.base_site-site.result.first + c.in_ok-count.count) (g.K.Language.state c.args.kept.now) image) (sym c.in-Ok.ensures.next)
+    (subst (λ (s : Site). IsReady g.K.Language c.args.half_len next zero (s.first + c.in_ok-count.count) (g.K.Language.state c.args.kept.now) image) (sym c.base_site-site.ensures.exact)
+    (compacting_done g.K.Language (record { ready = ready; small = c.requires.half; at_sequence = at })
+    (g.K.Language.state c.args.kept.now) c.in_ok-count.count (g.D.Disk.reads c.sync.new.self) based.done based.spells image (c.in-Ok.ensures.done based.still)))
 
 -- the sectors outside stay, call by call
 

@@ -17,7 +17,7 @@ looked g c =
     synced_read g.D.Disk disk (g.met.D.Disk.only_now disk) c.sync.new.self c.choose.new.disk (g.met.D.Disk.reads_a_choice disk) c.sync.ensures.time c.in-Ok.ensures.choices c.choose.ensures.any_moment
 
 looked_only : (g : Over) (c : After-choose g)
-    → LeavesOnly g.D.Disk c.args.disk.now c.choose.new.disk (IsFormatting (half_of g.D.Disk c.args.disk.now) (g.D.Disk.choices c.args.disk.now))
+    → LeavesOnly g.D.Disk c.args.disk.now c.choose.new.disk (IsFormatting g.K.Language (half_of g.D.Disk c.args.disk.now) (g.D.Disk.choices c.args.disk.now))
 looked_only g c = weakened g.D.Disk c.args.disk.now c.choose.new.disk _ _ (looked g c) (λ image is. inl is)
 
 -- where an image is laid out no root was
@@ -26,26 +26,26 @@ rootless g c h = let choice = rw c.in-Err-NoRoot.field-0-is at (c.in-Err-NoRoot.
 
 -- and then the image is laid out, whatever that answers
 laid : (g : Over) (c : After-lay_out g) → g.D.Disk.keeps c.choose.new.disk → LeavesOnly g.D.Disk c.args.disk.now c.choose.new.disk (IsImage (g.D.Disk.choices c.args.disk.now))
-    → LeavesOnly g.D.Disk c.args.disk.now c.lay_out.new.disk (IsFormatting (half_of g.D.Disk c.args.disk.now) (g.D.Disk.choices c.args.disk.now))
+    → LeavesOnly g.D.Disk c.args.disk.now c.lay_out.new.disk (IsFormatting g.K.Language (half_of g.D.Disk c.args.disk.now) (g.D.Disk.choices c.args.disk.now))
 laid g c h looking =
     let disk = c.args.disk.now in
     let read = c.choose.new.disk in
     let at : c.half_len_of.result ≡ half_of g.D.Disk disk = c.half_len_of.ensures.exact ∙ ap half_len_of c.count-count.ensures in
     let same : g.D.Disk.reads read ≡ g.D.Disk.reads disk = c.choose.ensures.reads ∙ c.sync.ensures.reads in
     let is_settled : IsSettled g.D.Disk read = c.choose.ensures.choices ∙ c.in-Ok.ensures.choices ∙ ap settled (sym same) in
-    followed g.D.Disk disk read c.lay_out.new.disk (IsImage (g.D.Disk.choices disk)) (IsBlankOrEmpty c.half_len_of.result) (IsFormatting (half_of g.D.Disk disk) (g.D.Disk.choices disk))
+    followed g.D.Disk disk read c.lay_out.new.disk (IsImage (g.D.Disk.choices disk)) (IsBlankOrEmpty g.K.Language c.half_len_of.result) (IsFormatting g.K.Language (half_of g.D.Disk disk) (g.D.Disk.choices disk))
     looking (c.lay_out.ensures.any_moment is_settled (subst IsUnformatted (sym same) (rootless g c h)))
-    (λ image is. inl is) (λ image left. inr (subst (λ (n : ℕ). IsBlankOrEmpty n image) at left))
+    (λ image is. inl is) (λ image left. inr (subst (λ (n : ℕ). IsBlankOrEmpty g.K.Language n image) at left))
 
 pub returns-then-count-lt-FEWEST_SECTORS-clause-any_moment : goal.returns-then-count-lt-FEWEST_SECTORS-clause-any_moment
 returns-then-count-lt-FEWEST_SECTORS-clause-any_moment g c h =
     let disk = c.args.disk.now in
-    started g.D.Disk disk (IsFormatting (half_of g.D.Disk disk) (g.D.Disk.choices disk)) (λ image left. inl (g.met.D.Disk.only_now disk image left))
+    started g.D.Disk disk (IsFormatting g.K.Language (half_of g.D.Disk disk) (g.D.Disk.choices disk)) (λ image left. inl (g.met.D.Disk.only_now disk image left))
 
 pub returns-in-Err-clause-any_moment : goal.returns-in-Err-clause-any_moment
 returns-in-Err-clause-any_moment g c h =
     let disk = c.args.disk.now in
-    weakened g.D.Disk disk c.sync.new.self (IsImage (g.D.Disk.choices disk)) (IsFormatting (half_of g.D.Disk disk) (g.D.Disk.choices disk))
+    weakened g.D.Disk disk c.sync.new.self (IsImage (g.D.Disk.choices disk)) (IsFormatting g.K.Language (half_of g.D.Disk disk) (g.D.Disk.choices disk))
     (synced g.D.Disk disk (g.met.D.Disk.only_now disk) c.sync.new.self c.sync.ensures.time) (λ image is. inl is)
 
 pub returns-in-Ok-choose-clause-spares_images : goal.returns-in-Ok-choose-clause-spares_images

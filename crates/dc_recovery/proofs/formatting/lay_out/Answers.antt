@@ -1,16 +1,15 @@
-use Rattle.std.proofs.Common.{⊎_elim, ◌≤◌, ◌<◌, ◌+◌, ◌*◌, zero, inl, inr, arith, ap, subst, sym, ◌∙◌}
+use Rattle.std.proofs.Common.{⊎_elim, ◌≤◌, ◌<◌, ◌+◌, ◌*◌, ℕ, List, zero, inl, inr, arith, ap, subst, sym, ◌∙◌}
 use Rattle.dc_sectors.specs.Disk.{Image, settled}
 use Rattle.dc_sectors.specs.Runs.{LeavesOnly, IsSettled}
 use Rattle.dc_pages.specs.declared.site.Site.{Site}
 use Rattle.dc_recovery.specs.Halves.{half_start, budget_of, SparesRest}
-use Rattle.dc_recovery.specs.Language.{empty_state}
 use Rattle.dc_recovery.specs.Roots.{first_root}
 use Rattle.dc_recovery.specs.Sites.{base_site}
 use Rattle.dc_recovery.specs.Stands.{IsUnformatted, IsBlankOrEmpty}
 use Rattle.dc_recovery.specs.Writing.{IsWritten}
 use Rattle.dc_recovery.proofs.ReadMoments.{synced_behind}
 use Rattle.dc_recovery.proofs.Spared.{spared_same, spared_through, spared_slot, spared_site}
-use Rattle.dc_recovery.proofs.Spellings.{empty_bytes, empty_spelled}
+use Rattle.dc_recovery.proofs.Spellings.{empty_spelled}
 use Rattle.dc_recovery.proofs.Wiped.{IsBlanked, IsBased, first_root_done, zeros_written, group_written, root_written}
 use Rattle.dc_recovery.proofs.formatting.lay_out.Given.{Over}
 use Rattle.dc_recovery.proofs.formatting.lay_out.Goals.{After-sync, After-write_group, After-put_root}
@@ -18,10 +17,10 @@ use Rattle.dc_recovery.proofs.formatting.lay_out.Goals as goal
 
 -- the zeros and their sync, whatever that answers
 zeros_synced : (g : Over) (c : After-sync g) → IsSettled g.D.Disk c.args.disk.now → IsUnformatted (g.D.Disk.reads c.args.disk.now)
-    → LeavesOnly g.D.Disk c.args.disk.now c.sync.new.self (IsBlankOrEmpty c.args.half_len)
+    → LeavesOnly g.D.Disk c.args.disk.now c.sync.new.self (IsBlankOrEmpty g.K.Language c.args.half_len)
 zeros_synced g c is_settled none =
     synced_behind g.D.Disk c.args.disk.now c.blank_sectors.new.disk c.sync.new.self _ (g.met.D.Disk.counts_now c.blank_sectors.new.disk)
-    (zeros_written g.D.Disk c.args.half_len c.args.disk.now c.blank_sectors.new.disk none (c.blank_sectors.ensures.any_moment is_settled)) (c.sync.ensures.time)
+    (zeros_written g.K.Language g.D.Disk c.args.half_len c.args.disk.now c.blank_sectors.new.disk none (c.blank_sectors.ensures.any_moment is_settled)) (c.sync.ensures.time)
 
 blanked : (g : Over) (c : After-write_group g) → IsBlanked g.D.Disk c.args.half_len c.sync.new.self
 blanked g c = record {
@@ -30,15 +29,15 @@ blanked g c = record {
 }
 
 -- and then the base group
-grouped : (g : Over) (c : After-write_group g) → LeavesOnly g.D.Disk c.args.disk.now c.sync.new.self (IsBlankOrEmpty c.args.half_len)
-    → LeavesOnly g.D.Disk c.args.disk.now c.write_group.new.disk (IsBlankOrEmpty c.args.half_len)
+grouped : (g : Over) (c : After-write_group g) → LeavesOnly g.D.Disk c.args.disk.now c.sync.new.self (IsBlankOrEmpty g.K.Language c.args.half_len)
+    → LeavesOnly g.D.Disk c.args.disk.now c.write_group.new.disk (IsBlankOrEmpty g.K.Language c.args.half_len)
 grouped g c so_far =
     let blank = blanked g c in
-    group_written g.D.Disk c.args.half_len c.args.disk.now c.sync.new.self c.write_group.new.disk c.base_site.result empty_bytes
+    group_written g.K.Language g.D.Disk c.args.half_len c.args.disk.now c.sync.new.self c.write_group.new.disk c.base_site.result c.empty_bytes.result.now
     blank (omega (arith, ap (λ (s : Site). s.first) c.base_site.ensures.exact)) so_far (c.write_group.ensures.any_moment blank.still)
 
 based : (g : Over) (c : After-put_root g) → IsBlanked g.D.Disk c.args.half_len c.sync.new.self
-    → IsBased g.D.Disk c.args.half_len c.in_ok-write_group.field-0 empty_bytes empty_state c.sync.new.self c.sync-2.new.self
+    → IsBased g.K.Language g.D.Disk c.args.half_len c.in_ok-write_group.field-0 c.empty_bytes.result.now g.K.Language.empty c.sync.new.self c.sync-2.new.self
 based g c blank =
     let H = c.args.half_len in
     let count = c.in_ok-write_group.field-0 in
@@ -46,24 +45,24 @@ based g c blank =
     record {
       still = c.in_ok-sync-2.ensures.choices ∙ ap settled (sym (c.sync-2.ensures.reads));
       blanks = blank.blanks;
-      written = subst (IsWritten (base_site H (first_root H)) 1 empty_bytes count zeros) (sym (c.sync-2.ensures.reads))
-          (subst (λ (s : Site). IsWritten s 1 empty_bytes count zeros (g.D.Disk.reads c.write_group.new.disk)) c.base_site.ensures.exact (c.in_ok-write_group.ensures.written blank.still));
-      spells = empty_spelled (budget_of H) (omega (arith, c.requires.some));
+      written = subst (IsWritten (base_site H (first_root H)) 1 c.empty_bytes.result.now count zeros) (sym (c.sync-2.ensures.reads))
+          (subst (λ (s : Site). IsWritten s 1 c.empty_bytes.result.now count zeros (g.D.Disk.reads c.write_group.new.disk)) c.base_site.ensures.exact (c.in_ok-write_group.ensures.written blank.still));
+      spells = subst (λ (l : List ℕ). g.K.Language.SpellsState (budget_of H) l g.K.Language.empty) (sym c.empty_bytes.ensures) (empty_spelled g.K.Language (budget_of H) (omega (arith, c.requires.some)));
     }
 
 -- and then its sync and the first root, whatever that answers
 rooted : (g : Over) (c : After-put_root g) → IsBlanked g.D.Disk c.args.half_len c.sync.new.self
-    → LeavesOnly g.D.Disk c.args.disk.now c.write_group.new.disk (IsBlankOrEmpty c.args.half_len)
-    → LeavesOnly g.D.Disk c.args.disk.now c.put_root.new.disk (IsBlankOrEmpty c.args.half_len)
+    → LeavesOnly g.D.Disk c.args.disk.now c.write_group.new.disk (IsBlankOrEmpty g.K.Language c.args.half_len)
+    → LeavesOnly g.D.Disk c.args.disk.now c.put_root.new.disk (IsBlankOrEmpty g.K.Language c.args.half_len)
 rooted g c blank so_far =
     let is = based g c blank in
-    root_written g.D.Disk c.args.half_len c.args.disk.now c.in_ok-write_group.field-0 empty_bytes c.sync.new.self c.sync-2.new.self c.put_root.new.disk is
+    root_written g.K.Language g.D.Disk c.args.half_len c.args.disk.now c.in_ok-write_group.field-0 c.empty_bytes.result.now c.sync.new.self c.sync-2.new.self c.put_root.new.disk is
     (synced_behind g.D.Disk c.args.disk.now c.write_group.new.disk c.sync-2.new.self _ (g.met.D.Disk.counts_now c.write_group.new.disk) so_far (c.sync-2.ensures.time))
     (c.put_root.ensures.any_moment is.still)
 
 pub returns-in_err-blank_sectors-clause-any_moment : goal.returns-in_err-blank_sectors-clause-any_moment
 returns-in_err-blank_sectors-clause-any_moment g c is_settled none =
-    zeros_written g.D.Disk c.args.half_len c.args.disk.now c.blank_sectors.new.disk none (c.blank_sectors.ensures.any_moment is_settled)
+    zeros_written g.K.Language g.D.Disk c.args.half_len c.args.disk.now c.blank_sectors.new.disk none (c.blank_sectors.ensures.any_moment is_settled)
 
 pub returns-in_err-sync-clause-any_moment : goal.returns-in_err-sync-clause-any_moment
 returns-in_err-sync-clause-any_moment g c is_settled none = zeros_synced g (goal.at.returns-in_err-sync-clause-any_moment g c).After-sync is_settled none
@@ -96,7 +95,7 @@ returns-in-Ok-clause-ready g c =
     record {
       m = zero;
       place = half_start c.args.half_len 0 + c.in_ok-write_group.field-0;
-      ready = first_root_done is (g.D.Disk.reads c.put_root.new.disk) (c.in-Ok.ensures.done is.still);
+      ready = first_root_done g.K.Language is (g.D.Disk.reads c.put_root.new.disk) (c.in-Ok.ensures.done is.still);
     }
 
 -- the sectors outside stay, call by call

@@ -12,10 +12,10 @@ use Rattle.dc_recovery.proofs.opening.begin.Goals as goal
 -- THE SESSION HAS BEGUN, after m groups, and the state is compacted with the next sequence.
 record HasBegun (g : Over) (c : After-compact_into_other_half g) (m : ℕ) : Type 0 where
   at : c.args.found.now.last + 1 ≡ c.in_ok-begun.begun.base_sequence + suc m
-  ready : IsReady c.args.half_len c.in_ok-begun.begun m c.args.found.now.place c.args.found.now.house.state (g.D.Disk.reads c.begin_session.new.disk)
+  ready : IsReady g.K.Language c.args.half_len c.in_ok-begun.begun m c.args.found.now.place (g.K.Language.state c.args.found.now.house) (g.D.Disk.reads c.begin_session.new.disk)
 
 has_begun : (g : Over) (c : After-compact_into_other_half g) → IsSettled g.D.Disk c.args.disk.now → (m : ℕ)
-    → StandsBy c.args.half_len c.args.found.now.root m c.args.found.now.place c.args.found.now.house.state (g.D.Disk.reads c.args.disk.now)
+    → StandsBy g.K.Language c.args.half_len c.args.found.now.root m c.args.found.now.place (g.K.Language.state c.args.found.now.house) (g.D.Disk.reads c.args.disk.now)
     → c.args.found.now.last ≡ c.args.found.now.root.base_sequence + m → HasBegun g c m
 has_begun g c is_settled m stands last_is =
     let found = c.args.found.now in
@@ -23,22 +23,22 @@ has_begun g c is_settled m stands last_is =
     let base : c.in_ok-begun.begun.base_sequence ≡ found.root.base_sequence = ap (λ (r : Root). r.base_sequence) next in
     record {
       at = omega (arith, last_is, base);
-      ready = subst (λ (r : Root). IsReady c.args.half_len r m found.place found.house.state (g.D.Disk.reads c.begin_session.new.disk)) (sym next)
-          (c.in_ok-begun.ensures.ready c.args.half_len m found.place found.house.state is_settled stands);
+      ready = subst (λ (r : Root). IsReady g.K.Language c.args.half_len r m found.place (g.K.Language.state found.house) (g.D.Disk.reads c.begin_session.new.disk)) (sym next)
+          (c.in_ok-begun.ensures.ready c.args.half_len m found.place (g.K.Language.state found.house) is_settled stands);
     }
 
 -- whatever the compaction answers
 leaves : (g : Over) (c : After-compact_into_other_half g) → IsSettled g.D.Disk c.args.disk.now → (m : ℕ)
-    → StandsBy c.args.half_len c.args.found.now.root m c.args.found.now.place c.args.found.now.house.state (g.D.Disk.reads c.args.disk.now)
+    → StandsBy g.K.Language c.args.half_len c.args.found.now.root m c.args.found.now.place (g.K.Language.state c.args.found.now.house) (g.D.Disk.reads c.args.disk.now)
     → c.args.found.now.last ≡ c.args.found.now.root.base_sequence + m
-    → LeavesOnly g.D.Disk c.args.disk.now c.compact_into_other_half.new.disk (Stands c.args.half_len c.args.found.now.house.state)
+    → LeavesOnly g.D.Disk c.args.disk.now c.compact_into_other_half.new.disk (Stands g.K.Language c.args.half_len (g.K.Language.state c.args.found.now.house))
 leaves g c is_settled m stands last_is =
     let found = c.args.found.now in
     let H = c.args.half_len in
     let begun = has_begun g c is_settled m stands last_is in
-    followed g.D.Disk c.args.disk.now c.begin_session.new.disk c.compact_into_other_half.new.disk (Stands H found.house.state) (StandsForEither H found.house.state found.house.state) (Stands H found.house.state)
-    (c.begin_session.ensures.any_moment H m found.place found.house.state is_settled stands)
-    (c.compact_into_other_half.ensures.any_moment (c.in_ok-begun.ensures.durable) m found.place found.house.state begun.ready begun.at)
+    followed g.D.Disk c.args.disk.now c.begin_session.new.disk c.compact_into_other_half.new.disk (Stands g.K.Language H (g.K.Language.state found.house)) (StandsForEither g.K.Language H (g.K.Language.state found.house) (g.K.Language.state found.house)) (Stands g.K.Language H (g.K.Language.state found.house))
+    (c.begin_session.ensures.any_moment H m found.place (g.K.Language.state found.house) is_settled stands)
+    (c.compact_into_other_half.ensures.any_moment (c.in_ok-begun.ensures.durable) m found.place (g.K.Language.state found.house) begun.ready begun.at)
     (λ image is. is) (λ image either. ⊎_elim (λ is. is) (λ is. is) either)
 
 pub returns-in-Ok-clause-ready : goal.returns-in-Ok-clause-ready
@@ -48,7 +48,7 @@ returns-in-Ok-clause-ready g c is_settled m stands last_is =
     let named : c.in-Ok.root.base_sequence ≡ found.last + 1 = ap (λ (r : Root). r.base_sequence) c.in-Ok.ensures.root in
     record {
       m = zero;
-      ready = c.in-Ok.ensures.ready (c.in_ok-begun.ensures.durable) m found.place found.house.state begun.ready begun.at;
+      ready = c.in-Ok.ensures.ready (c.in_ok-begun.ensures.durable) m found.place (g.K.Language.state found.house) begun.ready begun.at;
       last_is = omega (arith, named);
     }
 

@@ -4,7 +4,6 @@ use Rattle.dc_sectors.specs.Runs.{LeavesOnly, IsSettled}
 use Rattle.dc_recovery.specs.Halves.{SparesRest}
 use Rattle.dc_recovery.specs.Roots.{IsOpenedRoot}
 use Rattle.dc_recovery.specs.Refusal.{IsSpent}
-use Rattle.dc_changes.specs.State.{Held}
 use Rattle.dc_recovery.specs.Stands.{IsRead, IsBegun, ReadsBy, Reads, StandsBy, EachStands, StandsForOne}
 use Rattle.dc_recovery.proofs.Opened.{before_writing, after_session, read_stands}
 use Rattle.dc_recovery.proofs.ReadMoments.{if_err, synced, synced_read}
@@ -25,59 +24,59 @@ looked g c =
 
 -- what was found is what the disk read from the first
 read : (g : Over) (c : After-is_spent g) → g.D.Disk.keeps c.read_image.new.disk
-    → IsRead c.args.half_len c.in_ok-found.found.root c.in_ok-found.found.place c.in_ok-found.found.last c.in_ok-found.found.house.state (g.D.Disk.reads c.args.disk.now)
+    → IsRead g.K.Language c.args.half_len c.in_ok-found.found.root c.in_ok-found.found.place c.in_ok-found.found.last (g.K.Language.state c.in_ok-found.found.house) (g.D.Disk.reads c.args.disk.now)
 read g c h =
     let found = c.in_ok-found.found in
-    subst (λ (i : Image). IsRead c.args.half_len found.root found.place found.last found.house.state i) c.sync.ensures.reads (c.in_ok-found.ensures.all h)
+    subst (λ (i : Image). IsRead g.K.Language c.args.half_len found.root found.place found.last (g.K.Language.state found.house) i) c.sync.ensures.reads (c.in_ok-found.ensures.all h)
 
 -- WHAT THE SESSION BEGINS ON: a settled disk that stands for the state that was read, as the old one did.
 record IsFound (g : Over) (c : After-begin g) : Type 0 where
   is_settled : IsSettled g.D.Disk c.read_image.new.disk
   m : ℕ
-  stood : StandsBy c.args.half_len c.in_ok-found.found.root m c.in_ok-found.found.place c.in_ok-found.found.house.state (g.D.Disk.reads c.args.disk.now)
-  stands : StandsBy c.args.half_len c.in_ok-found.found.root m c.in_ok-found.found.place c.in_ok-found.found.house.state (g.D.Disk.reads c.read_image.new.disk)
+  stood : StandsBy g.K.Language c.args.half_len c.in_ok-found.found.root m c.in_ok-found.found.place (g.K.Language.state c.in_ok-found.found.house) (g.D.Disk.reads c.args.disk.now)
+  stands : StandsBy g.K.Language c.args.half_len c.in_ok-found.found.root m c.in_ok-found.found.place (g.K.Language.state c.in_ok-found.found.house) (g.D.Disk.reads c.read_image.new.disk)
   last_is : c.in_ok-found.found.last ≡ c.in_ok-found.found.root.base_sequence + m
 
-is_found : (g : Over) (c : After-begin g) → EachStands c.args.half_len (g.D.Disk.choices c.args.disk.now)
-    → IsRead c.args.half_len c.in_ok-found.found.root c.in_ok-found.found.place c.in_ok-found.found.last c.in_ok-found.found.house.state (g.D.Disk.reads c.args.disk.now) → IsFound g c
+is_found : (g : Over) (c : After-begin g) → EachStands g.K.Language c.args.half_len (g.D.Disk.choices c.args.disk.now)
+    → IsRead g.K.Language c.args.half_len c.in_ok-found.found.root c.in_ok-found.found.place c.in_ok-found.found.last (g.K.Language.state c.in_ok-found.found.house) (g.D.Disk.reads c.args.disk.now) → IsFound g c
 is_found g c each was =
     let disk = c.args.disk.now in
     let found = c.in_ok-found.found in
     let same : g.D.Disk.reads c.read_image.new.disk ≡ g.D.Disk.reads disk = c.read_image.ensures.looked.reads_same ∙ c.sync.ensures.reads in
-    let by = read_stands c.args.half_len c.requires.most found.root found.place found.last found.house.state (g.D.Disk.choices disk) (g.D.Disk.reads disk) each (g.met.D.Disk.reads_a_choice disk) was in
+    let by = read_stands g.K.Language c.args.half_len c.requires.most found.root found.place found.last (g.K.Language.state found.house) (g.D.Disk.choices disk) (g.D.Disk.reads disk) each (g.met.D.Disk.reads_a_choice disk) was in
     record {
       is_settled = c.read_image.ensures.looked.choices_same ∙ c.in-Ok.ensures.choices ∙ ap settled (sym same);
       m = was.m;
       stood = by;
-      stands = subst (λ (i : Image). StandsBy c.args.half_len found.root was.m found.place found.house.state i) (sym same) by;
+      stands = subst (λ (i : Image). StandsBy g.K.Language c.args.half_len found.root was.m found.place (g.K.Language.state found.house) i) (sym same) by;
       last_is = was.last_is;
     }
 
 -- whatever the beginning answers
-begun : (g : Over) (c : After-begin g) → EachStands c.args.half_len (g.D.Disk.choices c.args.disk.now)
-    → IsRead c.args.half_len c.in_ok-found.found.root c.in_ok-found.found.place c.in_ok-found.found.last c.in_ok-found.found.house.state (g.D.Disk.reads c.args.disk.now)
+begun : (g : Over) (c : After-begin g) → EachStands g.K.Language c.args.half_len (g.D.Disk.choices c.args.disk.now)
+    → IsRead g.K.Language c.args.half_len c.in_ok-found.found.root c.in_ok-found.found.place c.in_ok-found.found.last (g.K.Language.state c.in_ok-found.found.house) (g.D.Disk.reads c.args.disk.now)
     → LeavesOnly g.D.Disk c.args.disk.now c.read_image.new.disk (IsImage (g.D.Disk.choices c.args.disk.now))
-    → LeavesOnly g.D.Disk c.args.disk.now c.begin.new.disk (StandsForOne c.args.half_len (g.D.Disk.choices c.args.disk.now))
+    → LeavesOnly g.D.Disk c.args.disk.now c.begin.new.disk (StandsForOne g.K.Language c.args.half_len (g.D.Disk.choices c.args.disk.now))
 begun g c each was reading =
     let disk = c.args.disk.now in
     let found = c.in_ok-found.found in
     let is = is_found g c each was in
-    after_session g.D.Disk c.args.half_len disk each c.read_image.new.disk c.begin.new.disk found.house.state (g.D.Disk.reads disk) (g.met.D.Disk.reads_a_choice disk)
+    after_session g.K.Language g.D.Disk c.args.half_len disk each c.read_image.new.disk c.begin.new.disk (g.K.Language.state found.house) (g.D.Disk.reads disk) (g.met.D.Disk.reads_a_choice disk)
     (record { root = found.root; m = is.m; place = found.place; by = is.stood }) reading (c.begin.ensures.any_moment is.is_settled is.m is.stands is.last_is)
 
 pub returns-in-Err-clause-any_moment : goal.returns-in-Err-clause-any_moment
 returns-in-Err-clause-any_moment g c h each =
     let disk = c.args.disk.now in
-    before_writing g.D.Disk c.args.half_len disk each c.sync.new.self
+    before_writing g.K.Language g.D.Disk c.args.half_len disk each c.sync.new.self
     (synced g.D.Disk disk (g.met.D.Disk.only_now disk) c.sync.new.self c.sync.ensures.time)
 
 pub returns-in_err-found-clause-any_moment : goal.returns-in_err-found-clause-any_moment
 returns-in_err-found-clause-any_moment g c h each =
-    before_writing g.D.Disk c.args.half_len c.args.disk.now each c.read_image.new.disk (looked g (goal.at.returns-in_err-found-clause-any_moment g c).After-read_image)
+    before_writing g.K.Language g.D.Disk c.args.half_len c.args.disk.now each c.read_image.new.disk (looked g (goal.at.returns-in_err-found-clause-any_moment g c).After-read_image)
 
 pub returns-then-is_spent-clause-any_moment : goal.returns-then-is_spent-clause-any_moment
 returns-then-is_spent-clause-any_moment g c h each =
-    before_writing g.D.Disk c.args.half_len c.args.disk.now each c.read_image.new.disk (looked g (goal.at.returns-then-is_spent-clause-any_moment g c).After-read_image)
+    before_writing g.K.Language g.D.Disk c.args.half_len c.args.disk.now each c.read_image.new.disk (looked g (goal.at.returns-then-is_spent-clause-any_moment g c).After-read_image)
 
 pub returns-in_err-begin-clause-any_moment : goal.returns-in_err-begin-clause-any_moment
 returns-in_err-begin-clause-any_moment g c h each =
@@ -94,7 +93,7 @@ returns-clause-ready g c h each =
     let at = goal.at.returns-clause-ready g c in
     let is = is_found g at.After-begin each (read g at.After-is_spent (c.begin.ensures.before h)) in
     let house = c.begin.ensures.house in
-    subst (λ (held : Held). IsBegun c.args.half_len c.begin.new.found.root c.begin.new.found.place c.begin.new.found.last held.state (g.D.Disk.reads c.begin.new.disk)) (sym house)
+    subst (λ (held : g.row.K.Denot). IsBegun g.K.Language c.args.half_len c.begin.new.found.root c.begin.new.found.place c.begin.new.found.last (g.K.Language.state held) (g.D.Disk.reads c.begin.new.disk)) (sym house)
     (c.in_ok-begin.ensures.ready is.is_settled is.m is.stands is.last_is)
 
 pub returns-clause-not_worn : goal.returns-clause-not_worn
@@ -102,7 +101,7 @@ returns-clause-not_worn g c h =
     let found = c.in_ok-found.found in
     let was = read g (goal.at.returns-clause-not_worn g c).After-is_spent (c.begin.ensures.before h) in
     let fine : IsSpent found.root found.last → ⊥ = λ spent. (let yes = c.is_spent.ensures.1 spent in let no = c.if-is_spent.false in absurd (cc (yes, no))) in
-    not_worn c.args.half_len c.requires.most (g.D.Disk.reads c.args.disk.now) found.root was.m found.place found.house.state was.by (λ spent. fine (subst (IsSpent found.root) (sym was.last_is) spent))
+    not_worn g.K.Language c.args.half_len c.requires.most (g.D.Disk.reads c.args.disk.now) found.root was.m found.place (g.K.Language.state found.house) was.by (λ spent. fine (subst (IsSpent found.root) (sym was.last_is) spent))
 
 pub returns-clause-root : goal.returns-clause-root
 returns-clause-root g c h =
@@ -111,14 +110,14 @@ returns-clause-root g c h =
       found.root,
       was.m,
       found.place,
-      subst (λ (held : Held). ReadsBy c.args.half_len found.root was.m found.place held.state (g.D.Disk.reads c.args.disk.now)) (sym c.begin.ensures.house) was.by,
+      subst (λ (held : g.row.K.Denot). ReadsBy g.K.Language c.args.half_len found.root was.m found.place (g.K.Language.state held) (g.D.Disk.reads c.args.disk.now)) (sym c.begin.ensures.house) was.by,
       subst (λ (n : ℕ). IsOpenedRoot found.root n c.begin.new.found.root) was.last_is c.in_ok-begin.ensures.root,
     )
 
 pub returns-clause-reads : goal.returns-clause-reads
 returns-clause-reads g c h =
     let was = read g (goal.at.returns-clause-reads g c).After-is_spent (c.begin.ensures.before h) in
-    subst (λ (held : Held). Reads c.args.half_len held.state (g.D.Disk.reads c.args.disk.now)) (sym c.begin.ensures.house) (record { root = c.in_ok-found.found.root; m = was.m; place = c.in_ok-found.found.place; by = was.by })
+    subst (λ (held : g.row.K.Denot). Reads g.K.Language c.args.half_len (g.K.Language.state held) (g.D.Disk.reads c.args.disk.now)) (sym c.begin.ensures.house) (record { root = c.in_ok-found.found.root; m = was.m; place = c.in_ok-found.found.place; by = was.by })
 
 pub returns-in_err-found-clause-spares_images : goal.returns-in_err-found-clause-spares_images
 returns-in_err-found-clause-spares_images g c = if_err _ c.from_residual.result (λ fault other. looked g (goal.at.returns-in_err-found-clause-spares_images g c).After-read_image)
@@ -131,7 +130,7 @@ returns-then-is_spent-clause-refused g c h =
     let found = c.in_ok-found.found in
     let was = read g (goal.at.returns-then-is_spent-clause-refused g c).After-is_spent h in
     let spent : IsSpent found.root found.last = c.if-is_spent.ensures.0 refl in
-    record { root = found.root; m = was.m; place = found.place; state = found.house.state; by = was.by; spent = subst (λ (n : ℕ). IsSpent found.root n) was.last_is spent }
+    record { root = found.root; m = was.m; place = found.place; state = (g.K.Language.state found.house); by = was.by; spent = subst (λ (n : ℕ). IsSpent found.root n) was.last_is spent }
 
 -- the sectors outside stay: while the image is read, and when a session begins
 

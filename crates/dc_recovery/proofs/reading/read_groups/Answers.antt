@@ -15,9 +15,9 @@ returns-clause-all g c h budget reached =
     let same = c.groups.invariant.looked.reads_same in
     let found = c.groups.found in
     let now = c.read_next.new.found in
-    let before = subst (λ (i : Image). IsReached H found.root found.place found.last found.house.state i) (sym same) so_far in
-    let after = subst (λ (i : Image). IsReached H now.root now.place now.last now.house.state i) same (c.in_ok-read_next.ensures.more h (c.groups.invariant.budget ∙ budget) before) in
-    all_read H now.root now.place now.last now.house.state (g.D.Disk.reads c.args.disk.now) after
+    let before = subst (λ (i : Image). IsReached g.K.Language H found.root found.place found.last (g.K.Language.state found.house) i) (sym same) so_far in
+    let after = subst (λ (i : Image). IsReached g.K.Language H now.root now.place now.last (g.K.Language.state now.house) i) same (c.in_ok-read_next.ensures.more h (c.groups.invariant.budget ∙ budget) before) in
+    all_read g.K.Language H now.root now.place now.last (g.K.Language.state now.house) (g.D.Disk.reads c.args.disk.now) after
     (λ sequence next small complete. c.in_ok-read_next.ensures.none h (ap Ok c.if-branch.false) sequence next small
     (subst (λ (i : Image). IsComplete (change_site H now.root sequence now.place) i) (sym same) complete))
 
@@ -31,8 +31,8 @@ groups-preserved g c =
     record {
       reached = λ h budget reached.
           let same = so_far.looked.reads_same in
-          let before = subst (λ (i : Image). IsReached H found.root found.place found.last found.house.state i) (sym same) (so_far.reached (next.looked.before h) budget reached) in
-          subst (λ (i : Image). IsReached H now.root now.place now.last now.house.state i) same (next.more h (so_far.budget ∙ budget) before);
+          let before = subst (λ (i : Image). IsReached g.K.Language H found.root found.place found.last (g.K.Language.state found.house) i) (sym same) (so_far.reached (next.looked.before h) budget reached) in
+          subst (λ (i : Image). IsReached g.K.Language H now.root now.place now.last (g.K.Language.state now.house) i) same (next.more h (so_far.budget ∙ budget) before);
       root = next.kept.0 ∙ so_far.root;
       budget = next.kept.1 ∙ so_far.budget;
       from = (let first = so_far.from in let second = next.from in omega arith);

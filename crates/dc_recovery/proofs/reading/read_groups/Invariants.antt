@@ -6,11 +6,11 @@ use Rattle.dc_recovery.proofs.reading.read_groups.Given as goal
 
 abbrev pub invariant-groups : goal.invariant-groups
 invariant-groups g l = record {
-  reached : g.D.Disk.keeps l.disk → l.fn.found.house.budget ≡ budget_of l.half_len
-      → IsReached l.half_len l.fn.found.root l.fn.found.place l.fn.found.last l.fn.found.house.state (g.D.Disk.reads l.fn.disk)
-      → IsReached l.half_len l.found.root l.found.place l.found.last l.found.house.state (g.D.Disk.reads l.fn.disk);
+  reached : g.D.Disk.keeps l.disk → (g.K.Language.limit l.fn.found.house) ≡ budget_of l.half_len
+      → IsReached g.K.Language l.half_len l.fn.found.root l.fn.found.place l.fn.found.last (g.K.Language.state l.fn.found.house) (g.D.Disk.reads l.fn.disk)
+      → IsReached g.K.Language l.half_len l.found.root l.found.place l.found.last (g.K.Language.state l.found.house) (g.D.Disk.reads l.fn.disk);
   root : l.found.root ≡ l.fn.found.root;
-  budget : l.found.house.budget ≡ l.fn.found.house.budget;
+  budget : (g.K.Language.limit l.found.house) ≡ (g.K.Language.limit l.fn.found.house);
   from : l.fn.found.place ≤ l.found.place;
   within : l.found.place ≤ half_end l.half_len l.found.root.half;
   looked : OnlyLooked g.D.Disk l.fn.disk l.disk;

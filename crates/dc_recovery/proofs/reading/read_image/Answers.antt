@@ -22,7 +22,7 @@ looked_at_base g c base looked = looked_on g.D.Disk c.args.disk.now c.current_ro
 -- what the disk reads is what it read before, and the base is reached from the root in force
 record IsBased (g : Over) (c : In_ok-found g) : Type 0 where
   reads_same : g.D.Disk.reads c.read_base.new.disk ≡ g.D.Disk.reads c.args.disk.now
-  reached : IsReached c.args.half_len c.in_ok-found.found.root c.in_ok-found.found.place c.in_ok-found.found.last c.in_ok-found.found.house.state (g.D.Disk.reads c.read_base.new.disk)
+  reached : IsReached g.K.Language c.args.half_len c.in_ok-found.found.root c.in_ok-found.found.place c.in_ok-found.found.last (g.K.Language.state c.in_ok-found.found.house) (g.D.Disk.reads c.read_base.new.disk)
 
 is_based : (g : Over) (c : In_ok-found g) → g.D.Disk.keeps c.read_base.new.disk → IsBased g c
 is_based g c h =
@@ -32,10 +32,10 @@ is_based g c h =
     let root = c.in_ok-root.root in
     let found = c.in_ok-found.found in
     let current = subst (λ (i : Image). IsCurrent H root i) (sym chosen) (c.in_ok-root.ensures.current (c.read_base.ensures.looked.before h)) in
-    let reached = subst (λ (i : Image). IsReached H root found.place found.last found.house.state i) (sym based) (c.in_ok-found.ensures.reached h current) in
+    let reached = subst (λ (i : Image). IsReached g.K.Language H root found.place found.last (g.K.Language.state found.house) i) (sym based) (c.in_ok-found.ensures.reached h current) in
     record {
       reads_same = based ∙ chosen;
-      reached = subst (λ (r : Root). IsReached H r found.place found.last found.house.state (g.D.Disk.reads c.read_base.new.disk)) (sym c.in_ok-found.ensures.root) reached;
+      reached = subst (λ (r : Root). IsReached g.K.Language H r found.place found.last (g.K.Language.state found.house) (g.D.Disk.reads c.read_base.new.disk)) (sym c.in_ok-found.ensures.root) reached;
     }
 
 pub returns-in_err-found-clause-looked : goal.returns-in_err-found-clause-looked
@@ -56,7 +56,7 @@ pub returns-clause-all : goal.returns-clause-all
 returns-clause-all g c h =
     let based = is_based g (goal.at.returns-clause-all g c).In_ok-found (c.read_groups.ensures.looked.before h) in
     let now = c.read_groups.new.found in
-    subst (λ (i : Image). IsRead c.args.half_len now.root now.place now.last now.house.state i) based.reads_same (c.in_ok-read_groups.ensures.all h c.in_ok-found.ensures.budget based.reached)
+    subst (λ (i : Image). IsRead g.K.Language c.args.half_len now.root now.place now.last (g.K.Language.state now.house) i) based.reads_same (c.in_ok-read_groups.ensures.all h c.in_ok-found.ensures.budget based.reached)
 
 pub returns-in_err-read_groups-clause-counts : goal.returns-in_err-read_groups-clause-counts
 returns-in_err-read_groups-clause-counts g c =
@@ -75,4 +75,4 @@ returns-in_err-read_groups-clause-refused g c h =
     let p = err_from_is_err_and told.result told.ensures.1 in
     let fault = c.in_err-read_groups.field-0.0 in
     let same : told.result ≡ Err fault = cc (p.1, p.2) in
-    rw same (subst (λ (i : Image). IsRefused c.args.half_len i fault) based.reads_same (c.in_err-read_groups.ensures.refused h c.in_ok-found.ensures.budget based.reached))
+    rw same (subst (λ (i : Image). IsRefused g.K.Language c.args.half_len i fault) based.reads_same (c.in_err-read_groups.ensures.refused h c.in_ok-found.ensures.budget based.reached))

@@ -4,7 +4,6 @@ use Rattle.dc_pages.specs.Reading.{IsCutAt}
 use Rattle.dc_pages.specs.declared.site.Site.{Site}
 use Rattle.dc_pages.proofs.OneSync.{not_commit}
 use Rattle.dc_pages.proofs.Cut.{cut_incomplete}
-use Rattle.dc_recovery.specs.Language.{SpellsChanges, AcceptsAll}
 use Rattle.dc_recovery.specs.Sites.{change_site}
 use Rattle.dc_recovery.proofs.Steps.{group_reached, group_bad}
 use Rattle.dc_recovery.proofs.reading.read_next.Goals as goal
@@ -21,16 +20,16 @@ returns-in-Err-Incomplete-clause-none g c h was sequence next small complete =
 pub returns-in-Err-Bad-clause-refused : goal.returns-in-Err-Bad-clause-refused
 returns-in-Err-Bad-clause-refused g c h budget reached =
     let found = c.args.found.now in
-    group_bad c.args.half_len found.root found.place found.last c.change_site-site.result _ _ found.house.state (g.D.Disk.reads c.args.disk.now) reached c.change_site-site.ensures.exact (omega arith) (c.in-Ok.ensures.group h)
-    (λ changes spells accepted. c.replay.ensures.bad (cc) changes (subst (λ (l : List ℕ). SpellsChanges l changes) (sym c.as_slice.ensures.value) spells)
-    (subst (λ (b : ℕ). AcceptsAll b found.house.state changes) (sym budget) accepted))
+    group_bad g.K.Language c.args.half_len found.root found.place found.last c.change_site-site.result _ _ (g.K.Language.state found.house) (g.D.Disk.reads c.args.disk.now) reached c.change_site-site.ensures.exact (omega arith) (c.in-Ok.ensures.group h)
+    (λ changes spells accepted. c.replay.ensures.bad (cc) changes (subst (λ (l : List ℕ). g.K.Language.SpellsChanges l changes) (sym c.as_slice.ensures.value) spells)
+    (subst (λ (b : ℕ). g.K.Language.Accepts b (g.K.Language.state found.house) changes) (sym budget) accepted))
 
 pub returns-clause-more : goal.returns-clause-more
 returns-clause-more g c h budget reached =
     let found = c.args.found.now in
     let took = c.in-Ok-replay.ensures.ok in
-    group_reached c.args.half_len found.root found.place found.last c.change_site-site.result _ _ found.house.state c.replay.new.self.state took.0 (g.D.Disk.reads c.args.disk.now) reached c.change_site-site.ensures.exact
+    group_reached g.K.Language c.args.half_len found.root found.place found.last c.change_site-site.result _ _ (g.K.Language.state found.house) (g.K.Language.state c.replay.new.self) took.0 (g.D.Disk.reads c.args.disk.now) reached c.change_site-site.ensures.exact
     (omega arith) (c.in-Ok.ensures.group h)
-    (subst (λ (l : List ℕ). SpellsChanges l took.0) c.as_slice.ensures.value took.1)
-    (subst (λ (b : ℕ). AcceptsAll b found.house.state took.0) budget took.2)
+    (subst (λ (l : List ℕ). g.K.Language.SpellsChanges l took.0) c.as_slice.ensures.value took.1)
+    (subst (λ (b : ℕ). g.K.Language.Accepts b (g.K.Language.state found.house) took.0) budget took.2)
     took.3

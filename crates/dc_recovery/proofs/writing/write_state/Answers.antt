@@ -2,7 +2,6 @@ use Rattle.std.proofs.Common.{◌≡◌, ◌∙◌, [], rules, ap, subst}
 use Rattle.dc_sectors.specs.Runs.{LeavesOnly, IsSettled}
 use Rattle.dc_pages.specs.Draft.{Draft}
 use Rattle.dc_pages.specs.Writing.{SameOutside}
-use Rattle.dc_recovery.specs.Language.{state_bytes}
 use Rattle.dc_recovery.specs.Writing.{IsAttempt, IsWritten}
 use Rattle.dc_recovery.proofs.Drafts.{Begins, first_going, put_failed, finish_failed, finish_leaves, finish_written}
 use Rattle.dc_recovery.proofs.writing.write_state.Given.{Over}
@@ -17,20 +16,20 @@ begins g c is_settled = record { draft_is = c.begin.ensures; is_settled = is_set
 abbrev Leaves : (g : Over) (c : After-begin g) → g.row.D.Denot → Type 0
 Leaves g c new =
     LeavesOnly g.D.Disk c.args.disk.now new
-    (IsAttempt c.args.site c.args.session (state_bytes c.args.house.now.state) (g.D.Disk.reads c.args.disk.now))
+    (IsAttempt c.args.site c.args.session (g.K.Language.bytes_of (g.K.Language.state c.args.kept.now)) (g.D.Disk.reads c.args.disk.now))
 
 pub returns-in_err-encode_into-clause-any_moment : goal.returns-in_err-encode_into-clause-any_moment
 returns-in_err-encode_into-clause-any_moment g c is_settled =
     let from = (goal.at.returns-in_err-encode_into-clause-any_moment g c).After-begin in
     let start = begins g from is_settled in
     subst (Leaves g from) (search rules)
-    (put_failed start (state_bytes c.args.house.now.state) c.encode_into.new.sink.disk.now (c.in_err-encode_into.ensures.breaks_off.any_moment c.args.disk.now [] (first_going start)))
+    (put_failed start (g.K.Language.bytes_of (g.K.Language.state c.args.kept.now)) c.encode_into.new.sink.disk.now (c.in_err-encode_into.ensures.breaks_off.any_moment c.args.disk.now [] (first_going start)))
 
 pub returns-in_err-count-clause-any_moment : goal.returns-in_err-count-clause-any_moment
 returns-in_err-count-clause-any_moment g c is_settled =
     let from = (goal.at.returns-in_err-count-clause-any_moment g c).After-begin in
     let start = begins g from is_settled in
-    let bytes = state_bytes c.args.house.now.state in
+    let bytes = g.K.Language.bytes_of (g.K.Language.state c.args.kept.now) in
     subst (Leaves g from) (search rules)
     (finish_failed start bytes c.finish.new.disk c.encode_into.new.sink.writer c.in_ok-encode_into.ensures.goes_into.same
     (c.in_err-count.ensures.any_moment c.args.disk.now bytes (c.in_ok-encode_into.ensures.goes_into.going c.args.disk.now [] (first_going start))))
@@ -39,7 +38,7 @@ pub returns-clause-any_moment : goal.returns-clause-any_moment
 returns-clause-any_moment g c is_settled =
     let from = (goal.at.returns-clause-any_moment g c).After-begin in
     let start = begins g from is_settled in
-    let bytes = state_bytes c.args.house.now.state in
+    let bytes = g.K.Language.bytes_of (g.K.Language.state c.args.kept.now) in
     subst (Leaves g from) (search rules)
     (finish_leaves start bytes c.finish.new.disk c.encode_into.new.sink.writer c.in_ok-encode_into.ensures.goes_into.same
     (c.in_ok-count.ensures.closed c.args.disk.now bytes (c.in_ok-encode_into.ensures.goes_into.going c.args.disk.now [] (first_going start))))
@@ -47,7 +46,7 @@ returns-clause-any_moment g c is_settled =
 pub returns-clause-written : goal.returns-clause-written
 returns-clause-written g c is_settled =
     let start = begins g (goal.at.returns-clause-written g c).After-begin is_settled in
-    let bytes = state_bytes c.args.house.now.state in
+    let bytes = g.K.Language.bytes_of (g.K.Language.state c.args.kept.now) in
     subst (λ (d : g.row.D.Denot). IsWritten c.args.site c.args.session bytes c.in_ok-count.count (g.D.Disk.reads c.args.disk.now) (g.D.Disk.reads d)) (search rules)
     (finish_written start bytes c.finish.new.disk c.encode_into.new.sink.writer c.in_ok-encode_into.ensures.goes_into.same
     (c.in_ok-count.ensures.closed c.args.disk.now bytes (c.in_ok-encode_into.ensures.goes_into.going c.args.disk.now [] (first_going start))) c.in_ok-count.count c.in_ok-count.ensures.sectors)

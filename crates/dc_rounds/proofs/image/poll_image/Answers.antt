@@ -3,7 +3,7 @@ use Rattle.dc_core.specs.Core.{Core, opened}
 use Rattle.dc_core.specs.Images.{IsAt}
 use Rattle.dc_poller.specs.ImageRun.{IsOpenedOn}
 use Rattle.dc_recovery.specs.Halves.{half_of}
-use Rattle.dc_recovery.specs.Stands.{EachStands}
+use Rattle.dc_pending.specs.Images.{EachStands}
 use Rattle.dc_rounds.specs.Happening.{Happening}
 use Rattle.dc_rounds.proofs.ImagePolls.{turned, turned_ok}
 use Rattle.dc_rounds.proofs.Running.{runs_as}

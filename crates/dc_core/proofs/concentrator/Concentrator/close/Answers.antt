@@ -1,9 +1,9 @@
 use Rattle.std.proofs.Common.{◌≡◌, sym, subst}
 use Rattle.dc_sectors.specs.Disk.{Image, IsImage}
 use Rattle.dc_recovery.specs.Halves.{half_of}
-use Rattle.dc_recovery.specs.Stands.{Stands}
-use Rattle.dc_recovery.specs.Stands.{Reads}
+use Rattle.dc_pending.specs.Images.{Stands, Reads}
 use Rattle.dc_recovery.proofs.Life.{close_open}
+use Rattle.dc_meters.specs.Language.{register}
 use Rattle.dc_core.proofs.concentrator.Concentrator.close.Goals as goal
 
 pub returns-clause-holds : goal.returns-clause-holds
@@ -15,4 +15,4 @@ pub returns-clause-reads : goal.returns-clause-reads
 returns-clause-reads g c origin h core at runs state read =
     let disk : c.close.result ≡ c.args.self.store.disk = cc in
     let there = subst (λ (d : g.row.D.Denot). Reads (half_of g.D.Disk d) state (g.D.Disk.reads d)) disk read in
-    close_open g.D.Disk c.args.self.store core.committed state (at.keeps h runs) there
+    close_open register g.D.Disk c.args.self.store core.committed state (at.keeps h runs) there

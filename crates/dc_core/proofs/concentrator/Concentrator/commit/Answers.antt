@@ -4,9 +4,10 @@ use Rattle.dc_sectors.specs.Runs.{LeavesOnly}
 use Rattle.dc_sectors.proofs.Moments.{started, weakened, at_end}
 use Rattle.dc_changes.specs.History.{AcceptsAll}
 use Rattle.dc_recovery.specs.Halves.{half_of, half_len_of}
-use Rattle.dc_recovery.specs.Stands.{StandsForFront}
-use Rattle.dc_recovery.specs.Store.{Fits, Kept}
+use Rattle.dc_pending.specs.Images.{StandsForFront}
+use Rattle.dc_recovery.specs.Store.{Fits, Opened}
 use Rattle.dc_recovery.proofs.Fronts.{either_is_front}
+use Rattle.dc_meters.specs.Language.{register}
 use Rattle.dc_pending.specs.Writing.{IsWornFor}
 use Rattle.dc_core.specs.Core.{Core}
 use Rattle.dc_core.specs.Images.{Machine, IsAt}
@@ -31,7 +32,7 @@ left_inside g c origin h core at runs =
     let accepted = subst (λ (b : ℕ). AcceptsAll b core.committed core.pending) c.self.invariant at'.accepted in
     let H = half_of g.D.Disk c.self.inside.store.disk in
     weakened g.D.Disk c.self.inside.store.disk c.write_waiting.new.store.disk _ (StandsForFront H core.committed core.pending)
-    (c.write_waiting.ensures.any_moment core.committed core.pending (at'.keeps h (sym at'.stopped_is ∙ runs)) at'.spells accepted at'.house_is) (either_is_front H core.committed core.pending)
+    (c.write_waiting.ensures.any_moment core.committed core.pending (at'.keeps h (sym at'.stopped_is ∙ runs)) at'.spells accepted at'.house_is) (either_is_front register H core.committed core.pending)
 
 left : (g : Over) (c : After-write_waiting g) (origin : g.row.D.Denot) → g.D.Disk.keeps origin → (core : Core) → IsAt g.D.Disk origin c.args.self.now core → c.self.inside.store.is_stopped ≡ false
     → LeavesOnly g.D.Disk c.args.self.now.store.disk c.write_waiting.new.store.disk (StandsForFront (half_of g.D.Disk c.args.self.now.store.disk) core.committed core.pending)
@@ -118,5 +119,5 @@ returns-in-Err-Stopped-clause-any_moment g c origin h core at =
     let disk = c.self.inside.store.disk in
     let P : Image → Type 0 = StandsForFront (half_of g.D.Disk disk) core.committed core.pending in
     let begun = started g.D.Disk disk P (λ image left. (at_inside g from origin core at).leaves h image (g.met.D.Disk.only_now disk image left)) in
-    let ended = subst (λ (s : Kept (g.row.D.Denot)). LeavesOnly g.D.Disk disk s.disk P) (sym same) begun in
+    let ended = subst (λ (s : Opened (g.row.D.Denot)). LeavesOnly g.D.Disk disk s.disk P) (sym same) begun in
     subst (λ (b : Machine (g.row.D.Denot)). LeavesOnly g.D.Disk b.store.disk c.write_waiting.new.store.disk (StandsForFront (half_of g.D.Disk b.store.disk) core.committed core.pending)) c.self.view_is ended

@@ -19,7 +19,7 @@ use Rattle.dc_pending.specs.Waiting.{Waiting}
 use Rattle.dc_changes.specs.State.{Held, State}
 use Rattle.dc_core.specs.Images.{Machine}
 use Rattle.dc_core.proofs.At.{at_heard, at_taken}
-use Rattle.dc_recovery.specs.Store.{Kept}
+use Rattle.dc_recovery.specs.Store.{Opened}
 use Rattle.dc_core.proofs.concentrator.Concentrator.hear.Given.{Over}
 use Rattle.dc_core.proofs.concentrator.Concentrator.hear.Goals.{After-hear}
 use Rattle.dc_core.proofs.concentrator.Concentrator.hear.Goals as goal
@@ -57,7 +57,7 @@ returns-in_err-take-in-New-clause-may g c origin core at =
     let is = is_heard g (goal.at.returns-in_err-take-in-New-clause-may g c).After-hear in
     let who : session_of core line ≡ Some s = ap (on_line line) (sym at.lines_are) ∙ is.who in
     let yes : is_line line ≡ true = grind (arith, common_steps) in
-    let running : core.stopped ≡ false = sym at.stopped_is ∙ sym (ap (λ (k : Kept (g.row.D.Denot)). k.is_stopped) is.store) ∙ sym c.is_stopped.ensures ∙ c.if-is_stopped.false in
+    let running : core.stopped ≡ false = sym at.stopped_is ∙ sym (ap (λ (k : Opened (g.row.D.Denot)). k.is_stopped) is.store) ∙ sym c.is_stopped.ensures ∙ c.if-is_stopped.false in
     let asks : is_some (asked_by s) ≡ true = c.if-not-is_asking.ensures.0 refl in
     let r = refuses inside.house.budget inside.waiting.count change inside.house.state in
     let same : r ≡ refuses machine.house.budget (length core.pending) change (present core) =

@@ -1,6 +1,6 @@
 use Rattle.std.proofs.Common.{rules, ap, sym, subst}
 use Rattle.dc_recovery.specs.Halves.{half_of}
-use Rattle.dc_recovery.specs.Stands.{EachStands}
+use Rattle.dc_pending.specs.Images.{EachStands}
 use Rattle.dc_pending.specs.Waiting.{Waiting}
 use Rattle.dc_core.specs.Images.{Machine}
 use Rattle.dc_core.proofs.At.{at_opened}

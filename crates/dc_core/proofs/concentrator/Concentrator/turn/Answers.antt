@@ -1,8 +1,9 @@
 use Rattle.std.proofs.Common.{refl, [], ◌++◌}
 use Rattle.dc_sectors.proofs.Moments.{weakened}
 use Rattle.dc_recovery.specs.Halves.{half_of}
-use Rattle.dc_recovery.specs.Stands.{StandsForFront}
+use Rattle.dc_pending.specs.Images.{StandsForFront}
 use Rattle.dc_recovery.proofs.Fronts.{longer_front}
+use Rattle.dc_meters.specs.Language.{register}
 use Rattle.dc_core.specs.Event.{starts, asks, hears, started, asked, heard, committed}
 use Rattle.dc_core.proofs.Going.{turned_at_rest}
 use Rattle.dc_core.proofs.Answering.{commit_shown}
@@ -44,7 +45,7 @@ returns-in-Commit-clause-turned g c origin core at =
       at = c.commit-answer.ensures.at origin core at;
       failed = commit_shown g.D.Disk machine new c.commit-answer.result c.commit-answer.ensures.counts.failed c.commit-answer.ensures.worn c.commit-answer.ensures.unchanged;
       leaves = λ h. weakened g.D.Disk machine.store.disk new.store.disk (StandsForFront H core.committed core.pending) (StandsForFront H core.committed (core.pending ++ []))
-          (c.commit-answer.ensures.any_moment origin h core at) (longer_front H core.committed core.pending []);
+          (c.commit-answer.ensures.any_moment origin h core at) (longer_front register H core.committed core.pending []);
     })
 
 pub returns-in-Ok-clause-turned : goal.returns-in-Ok-clause-turned

@@ -1,0 +1,1 @@
+-- the definitions that contracts cite

@@ -1,0 +1,10 @@
+//! Why bytes can't be decoded.
+
+/// Why bytes can't be decoded.
+#[derive(Clone, Copy, Debug, PartialEq, Eq)]
+pub enum DecodeFault {
+    /// The bytes don't spell the expected value.
+    Bad,
+    /// Out of memory.
+    NoMemory,
+}
