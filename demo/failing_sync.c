@@ -1,15 +1,17 @@
 /* For demo/losses, by LD_PRELOAD: a drive beside each file, and one fdatasync that fails, after which the system takes the
    pages for clean, as Linux does. FILE.drive has what the drive holds; FILE.clean what the page cache held at the failure.
 
-   FAIL_SYNC=N: the Nth fdatasync of the process fails. */
+   FAIL_SYNC=N: the Nth fdatasync of the process fails. FAIL_READ=N: sector N of a file NAME.image can't be read (EIO).
+   CLOCK=SECONDS: the time of day, since 1970. */
 #define _GNU_SOURCE
-#include <dlfcn.h>
 #include <errno.h>
 #include <fcntl.h>
 #include <stdio.h>
 #include <stdlib.h>
 #include <string.h>
 #include <sys/stat.h>
+#include <sys/syscall.h>
+#include <time.h>
 #include <unistd.h>
 
 enum { SECTOR = 512 };
@@ -57,8 +59,6 @@ static void reach_the_drive(char name[3][4096]) {
 
 int fdatasync(int fd) {
     static int calls;
-    static int (*real)(int);
-    if (!real) real = (int (*)(int))dlsym(RTLD_NEXT, "fdatasync");
     const char *failing = getenv("FAIL_SYNC");
     char name[3][4096];
     names_of(fd, name);
@@ -70,7 +70,7 @@ int fdatasync(int fd) {
         return -1;
     }
     reach_the_drive(name);
-    return real(fd);
+    return syscall(SYS_fdatasync, fd);
 }
 
 int posix_fadvise(int fd, off_t from, off_t length, int advice) {
@@ -87,3 +87,28 @@ int posix_fadvise(int fd, off_t from, off_t length, int advice) {
 }
 
 int posix_fadvise64(int fd, off64_t from, off64_t length, int advice) { return posix_fadvise(fd, from, length, advice); }
+
+static int is_image(int fd) {
+    char name[3][4096];
+    names_of(fd, name);
+    size_t n = strlen(name[0]);
+    return n > 6 && !strcmp(name[0] + n - 6, ".image");
+}
+
+ssize_t pread64(int fd, void *room, size_t length, off64_t at) {
+    const char *failing = getenv("FAIL_READ");
+    if (failing && at / SECTOR == atoll(failing) && is_image(fd)) {
+        errno = EIO;
+        return -1;
+    }
+    return syscall(SYS_pread64, fd, room, length, at);
+}
+
+ssize_t pread(int fd, void *room, size_t length, off_t at) { return pread64(fd, room, length, at); }
+
+int clock_gettime(clockid_t clock, struct timespec *now) {
+    int status = syscall(SYS_clock_gettime, clock, now);
+    const char *shifted = getenv("CLOCK");
+    if (shifted && clock == CLOCK_REALTIME) now->tv_sec = atoll(shifted);
+    return status;
+}

@@ -56,9 +56,10 @@ fn put_line<W: Sink>(
     }
 }
 
-// Writes the text of an input's lines, and returns whether it has a fault.
+/// Writes the text of an input's lines, and returns whether it has a fault. `digits` and `bytes` are
+/// room for a line.
 #[tactic(auto, using(dc_io::proofs::Pieces::written, crate::proofs::Inputs::lines))]
-fn put_lines<W: Sink>(
+pub fn put_lines<W: Sink>(
     input: &[u8],
     digits: &mut [u8],
     bytes: &mut [u8],

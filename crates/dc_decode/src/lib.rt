@@ -11,8 +11,8 @@
 //! `decode_lines` writes many small pieces: callers pass it a buffered sink, such as
 //! [`Buffered`](dc_io::Buffered).
 //!
-//! Other crates that read frames from lines use [`decode_line`], [`first_frame`] and
-//! [`read_frame`].
+//! [`put_lines`] does the same for an input that is at hand, and needs no memory of its own. Other
+//! crates that read frames from lines use [`decode_line`], [`first_frame`] and [`read_frame`].
 //!
 //! Theorem: [`frames_are_told_in_turn`]. A line's bytes split into texts without loss, and
 //! consecutive frames are printed one by one.
@@ -24,7 +24,7 @@ mod laws;
 mod seen;
 mod telegram;
 
-pub use decode::{decode_line, decode_lines};
+pub use decode::{decode_line, decode_lines, put_lines};
 pub use frames::{first_frame, put_frames, read as read_frame};
 pub use laws::frames_are_told_in_turn;
 pub use seen::put_point;

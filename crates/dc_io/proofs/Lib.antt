@@ -20,3 +20,5 @@ pub mod Bools
 pub mod Feeds
 -- lines without spaces
 pub mod Solid
+-- a put into a slice that has no place for all of it
+mod Slices

@@ -6,6 +6,8 @@ pub mod Failures
 pub mod Stream
 -- bytes in memory and in a fixed room, as contracts see them
 pub mod Bytes
+-- a sink over a borrowed slice
+pub mod Slice
 -- puts one after the other (this product's writer)
 pub mod Chain
 -- what one or more puts make of a sink

@@ -132,10 +132,10 @@ impl<W: Sink + Drop, A: Allocator> Sink for Buffered<W, A> {
     }
 }
 
-// Places a piece after the first `at` bytes.
+/// Places a piece after the first `at` bytes.
 #[inline]
 #[tactic(auto, using(crate::proofs::Placed::piece_placed))]
-fn place(bytes: &mut [u8], at: usize, piece: &[u8])
+pub(crate) fn place(bytes: &mut [u8], at: usize, piece: &[u8])
     requires { at + length piece.now ≤ length bytes.old }
     ensures { take (at + length piece.now) bytes.new ≡ take at bytes.old ++ piece.now }
 {

@@ -3,7 +3,8 @@
 //! [`Source`] and [`Sink`] are the readers and writers of this product. Contracts see their bytes
 //! where they are known, and a count of their failures, so that a function that reports a fault is
 //! bound to a failure that happened. [`Bytes`] is both over memory, [`FixedSink`] a sink of fixed
-//! capacity that uses no memory, [`Buffered`] a sink that writes to its writer in large pieces.
+//! capacity that uses no memory, [`SliceSink`] one over a slice of the caller's, [`Buffered`] a sink
+//! that writes to its writer in large pieces.
 //! [`ReadSource`] and [`WriteSink`] wrap those of std: their bytes aren't known, but their
 //! contracts name the calls of std's reader and writer.
 //!
@@ -29,6 +30,7 @@ mod lines;
 mod memory;
 mod number;
 mod read_source;
+mod slice_sink;
 mod spaces;
 mod stream;
 mod text_fault;
@@ -46,6 +48,7 @@ pub use lines::{LONGEST, first_line};
 pub use memory::{NoMemory, room};
 pub use number::{put_number, put_number_word};
 pub use read_source::ReadSource;
+pub use slice_sink::SliceSink;
 pub use spaces::{lacks_space, squeeze_into};
 pub use stream::{IoFault, Sink, Source};
 pub use text_fault::TextFault;

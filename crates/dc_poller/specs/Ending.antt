@@ -8,7 +8,7 @@ use Rattle.dc_io.specs.Words.{fault_text, number_word}
 use Rattle.dc_poller.specs.Escape.{escaped}
 use Rattle.dc_poller.specs.declared.ending.Ending.{Ending}
 use Rattle.dc_poller.specs.declared.ending.Ending.TheVariants.{Clean, Faulty, Words, Format, Open}
-use Rattle.dc_poller.specs.declared.ending.Ending.TheVariants.{File, Gateway, Memory}
+use Rattle.dc_poller.specs.declared.ending.Ending.TheVariants.{File, Gateway, Clock, Memory}
 
 abbrev pub status_of : Ending → ℕ
 status_of Clean = 0
@@ -18,6 +18,7 @@ status_of (Format fault) = 3
 status_of (Open fault) = 3
 status_of (File name) = 4
 status_of Gateway = 4
+status_of Clock = 4
 status_of Memory = 4
 
 -- a name after what is at fault with it
@@ -54,4 +55,5 @@ line_of (Open fault) = fault_line (codes "mbdc: open: ") (open_number fault) (op
     (damaged_at fault)
 line_of (File name) = named_line (codes "mbdc: file: ") name.now
 line_of Gateway = codes "mbdc: gateway\n"
+line_of Clock = codes "mbdc: clock: outside 1970 to 9999\n"
 line_of Memory = codes "mbdc: memory\n"

@@ -31,13 +31,15 @@ pub enum Ending<'a> {
     File(&'a str),
     /// The gateway wasn't reached.
     Gateway,
+    /// The clock has no time that a reading can be stamped with, 1970 to 9999.
+    Clock,
     /// Out of memory.
     Memory,
 }
 
 impl Ending<'_> {
     /// The exit status: 0, 1 for a fault in an input line, 2 for the words, 3 for an image or its
-    /// disk, 4 for a file, a socket or memory.
+    /// disk, 4 for a file, a socket, the clock or memory.
     pub fn status(&self) -> u8
         ensures { result ≡ status_of self.now }
     {
@@ -46,7 +48,7 @@ impl Ending<'_> {
             Ending::Faulty => 1,
             Ending::Words(_) => 2,
             Ending::Format(_) | Ending::Open(_) => 3,
-            Ending::File(_) | Ending::Gateway | Ending::Memory => 4,
+            Ending::File(_) | Ending::Gateway | Ending::Clock | Ending::Memory => 4,
         }
     }
 
@@ -73,6 +75,7 @@ impl Ending<'_> {
             ),
             Ending::File(name) => put_named(out, b"mbdc: file: ", name),
             Ending::Gateway => out.put(b"mbdc: gateway\n"),
+            Ending::Clock => out.put(b"mbdc: clock: outside 1970 to 9999\n"),
             Ending::Memory => out.put(b"mbdc: memory\n"),
         }
     }

@@ -29,7 +29,7 @@ left_each zero = reads_a_choice (start_of written) (events_of written.calls) zer
 left_each (suc n) =
     let other : suc n ≢ 0 = λ is. absurd (omega (arith, is)) in
     subst (Contains (choices_in written (suc n))) (put_elsewhere (start_of written) 0 (replicate 512 1) (suc n) other)
-        (reads_a_choice (start_of written) (events_of written.calls) (suc n))
+    (reads_a_choice (start_of written) (events_of written.calls) (suc n))
 
 pub is_left : images_in written 0 (image_of (sector_of 1 ∷ []))
 is_left = counts_now (start_of written) (events_of written.calls) 0 (image_of (sector_of 1 ∷ [])) (omega arith) left_each
@@ -88,6 +88,6 @@ left_sectors start events t image since =
     let seen = take since.0 events in
     let bound = length start + above seen in
     let none : (k : ℕ) → bound ≤ k → image k ≡ Unreadable = λ k le.
-        let reads = past_the_last start k (omega (arith, le)) in
-        only_one Unreadable (image k) (subst (λ (c : List Sector). Contains c (image k)) (none_above (image_of start) (settled (image_of start)) seen k (omega (arith, le)) reads (ap (λ (s : Sector). s ∷ []) reads)) (since.3 k)) in
+    let reads = past_the_last start k (omega (arith, le)) in
+    only_one Unreadable (image k) (subst (λ (c : List Sector). Contains c (image k)) (none_above (image_of start) (settled (image_of start)) seen k (omega (arith, le)) reads (ap (λ (s : Sector). s ∷ []) reads)) (since.3 k)) in
     (cut bound image, λ i n. cut_is bound image none n i)

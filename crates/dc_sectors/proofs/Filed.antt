@@ -4,7 +4,7 @@ use Rattle.std.specs.Prelude.{◌*◌, ◌/◌, Option, Some, None, Result, Ok, 
 use Rattle.dc_sectors.specs.declared.sector.ReadFault.{ReadFault}
 use Rattle.dc_sectors.specs.declared.sector.ReadFault.TheVariants.{Unreadable as CannotRead, Failed as ReadFailed}
 use Rattle.dc_sectors.specs.declared.sector.Failed.{Failed}
-use Rattle.dc_sectors.specs.declared.sector.Sector.TheVariants.{Bytes}
+use Rattle.dc_sectors.specs.declared.sector.Sector.TheVariants.{Bytes, Unreadable}
 use Rattle.dc_sectors.specs.declared.event.Event.{Event}
 use Rattle.dc_sectors.specs.declared.event.Event.TheVariants.{Write, Sync}
 use Rattle.dc_sectors.specs.Disk.{Image, Choices, IsImage, Answers, Elapses, put, added, settled}
@@ -58,18 +58,18 @@ module _ (start : Image) (old new : FileState) (n : ℕ) where
   read_events (Ok bytes) made = ap events_of made.2
   read_events (Err ReadFailed) (inl made) = ap events_of made.1
   read_events (Err ReadFailed) (inr made) = ap events_of made.3
-  read_events (Err CannotRead) made = absurd made
+  read_events (Err CannotRead) made = ap events_of made.1
 
   pub read_kept : (result : Result (List ℕ) ReadFault) → IsReadOf old n result new.calls → KeepsRule start new.calls → Answers (reads_at start old n) result
   read_kept (Ok bytes) made keeps = (subst (λ (l : List Call). KeepsRule start l) made.2 keeps).1 n refl made.1
   read_kept (Err ReadFailed) made keeps = tt
-  read_kept (Err CannotRead) made keeps = absurd made
+  read_kept (Err CannotRead) made keeps = (subst (λ (l : List Call). KeepsRule start l) made.1 keeps).1 n refl refl
 
   pub read_before : (result : Result (List ℕ) ReadFault) → IsReadOf old n result new.calls → KeepsRule start new.calls → KeepsRule start old.calls
   read_before (Ok bytes) made keeps = (subst (λ (l : List Call). KeepsRule start l) made.2 keeps).0
   read_before (Err ReadFailed) (inl made) keeps = subst (λ (l : List Call). KeepsRule start l) made.1 keeps
   read_before (Err ReadFailed) (inr made) keeps = (subst (λ (l : List Call). KeepsRule start l) made.3 keeps).0
-  read_before (Err CannotRead) made keeps = absurd made
+  read_before (Err CannotRead) made keeps = (subst (λ (l : List Call). KeepsRule start l) made.1 keeps).0
 
   pub read_reads : (result : Result (List ℕ) ReadFault) → IsReadOf old n result new.calls → reads_at start new ≡ reads_at start old
   read_reads result made = reads_rest start old new (read_events result made)
@@ -166,9 +166,13 @@ keeps_put start calls at bytes taken keeps = (keeps, tt)
 pub keeps_synced : (start : Image) (calls : List Call) (done : Bool) → KeepsRule start calls → KeepsRule start (Synced done ∷ calls)
 keeps_synced start calls done keeps = (keeps, tt)
 
-pub keeps_got : (start : Image) (calls : List Call) (n : ℕ) (bytes : List ℕ) → reads_after start (events_of calls) n ≡ Bytes bytes → KeepsRule start calls → KeepsRule start (Got (512 * n) 512 (Some bytes) ∷ calls)
+pub keeps_got : (start : Image) (calls : List Call) (n : ℕ) (bytes : List ℕ) → reads_after start (events_of calls) n ≡ Bytes bytes → KeepsRule start calls → KeepsRule start (Got (512 * n) 512 (Ok bytes) ∷ calls)
 keeps_got start calls n bytes reads keeps =
     (keeps, λ m same long. let here : m ≡ n = omega arith in subst (λ k. reads_after start (events_of calls) k ≡ Bytes bytes) (sym here) reads)
 
-pub keeps_not_got : (start : Image) (calls : List Call) (at n : ℕ) → KeepsRule start calls → KeepsRule start (Got at n None ∷ calls)
+pub keeps_unreadable : (start : Image) (calls : List Call) (n : ℕ) → reads_after start (events_of calls) n ≡ Unreadable → KeepsRule start calls → KeepsRule start (Got (512 * n) 512 (Err CannotRead) ∷ calls)
+keeps_unreadable start calls n reads keeps =
+    (keeps, λ m same long. let here : m ≡ n = omega arith in subst (λ k. reads_after start (events_of calls) k ≡ Unreadable) (sym here) reads)
+
+pub keeps_not_got : (start : Image) (calls : List Call) (at n : ℕ) → KeepsRule start calls → KeepsRule start (Got at n (Err ReadFailed) ∷ calls)
 keeps_not_got start calls at n keeps = (keeps, tt)

@@ -4,7 +4,7 @@
 use Rattle.std.specs.Prelude.{◌≡◌, ◌⊎◌, ◌==◌, ◌<◌, ℕ, Bool, true, false, ◌+◌, ◌-◌, ◌*◌, ◌/◌, ◌^◌}
 use Rattle.std.specs.Prelude.{min, List, [], ◌∷◌, ◌++◌, length, Option, Some, None, Result, Ok, Err}
 use Rattle.dc_sectors.specs.declared.sector.Sector.{Sector}
-use Rattle.dc_sectors.specs.declared.sector.Sector.TheVariants.{Bytes}
+use Rattle.dc_sectors.specs.declared.sector.Sector.TheVariants.{Bytes, Unreadable}
 use Rattle.dc_sectors.specs.declared.sector.ReadFault.{ReadFault}
 use Rattle.dc_sectors.specs.declared.sector.ReadFault.TheVariants.{Unreadable as CannotRead}
 use Rattle.dc_sectors.specs.declared.sector.ReadFault.TheVariants.{Failed as ReadFailed}
@@ -49,21 +49,24 @@ abbrev pub is_all : Option ℕ → Bool
 is_all (Some n) = n == 512
 is_all None = false
 
--- no bytes came, or fewer than 512
-abbrev pub IsShort : Option (List ℕ) → Type 0
-IsShort (Some bytes) = length bytes < 512
-IsShort None = Unit {0}
+-- fewer than 512 bytes came, or none for another reason than that the drive can't read them
+abbrev pub IsShort : Result (List ℕ) ReadFault → Type 0
+IsShort (Ok bytes) = length bytes < 512
+IsShort (Err CannotRead) = ⊥
+IsShort (Err ReadFailed) = Unit {0}
 
 -- A read of sector n is one read of the file, of 512 bytes from byte 512 n on. It is Ok with these bytes where all
--- 512 came. It fails where fewer or none came; and where a sync failed before, then without a call of the file.
+-- 512 came, and Unreadable where the drive can't read them. It fails where fewer or none came for another reason; and
+-- where a sync failed before, then without a call of the file.
 abbrev pub IsReadOf : FileState → ℕ → Result (List ℕ) ReadFault → List Call → Type 0
 IsReadOf old n (Ok bytes) calls =
-    (old.lost ≡ false) × (length bytes ≡ 512) × (calls ≡ Got (512 * n) 512 (Some bytes) ∷ old.calls)
+    (old.lost ≡ false) × (length bytes ≡ 512) × (calls ≡ Got (512 * n) 512 (Ok bytes) ∷ old.calls)
 IsReadOf old n (Err ReadFailed) calls =
     ((old.lost ≡ true) × (calls ≡ old.calls))
-    ⊎ ((got : Option (List ℕ)) × (old.lost ≡ false) × IsShort got
+    ⊎ ((got : Result (List ℕ) ReadFault) × (old.lost ≡ false) × IsShort got
     × (calls ≡ Got (512 * n) 512 got ∷ old.calls))
-IsReadOf old n (Err CannotRead) calls = ⊥
+IsReadOf old n (Err CannotRead) calls =
+    (old.lost ≡ false) × (calls ≡ Got (512 * n) 512 (Err CannotRead) ∷ old.calls)
 
 -- A write of these bytes to sector n is one write of the file, from byte 512 n on. It is Ok where all 512 were taken.
 -- It fails where fewer or none were taken; and where a sync failed before, then without a call of the file.
@@ -117,14 +120,19 @@ images_in disk = ImageSince (start_of disk) (events_of disk.calls)
 
 -- this call returned what the sectors read then
 abbrev pub AnswersAs : Image → Call → Type 0
-AnswersAs image (Got at n (Some bytes)) =
+AnswersAs image (Got at n (Ok bytes)) =
     (m : ℕ) → at ≡ 512 * m → length bytes ≡ 512 → image m ≡ Bytes bytes
-AnswersAs image (Got at n None) = Unit {0}
+AnswersAs image (Got at n (Err CannotRead)) =
+    (m : ℕ) → at ≡ 512 * m → n ≡ 512 → image m ≡ Unreadable
+AnswersAs image (Got at n (Err ReadFailed)) = Unit {0}
 AnswersAs image (Put at bytes taken) = Unit {0}
 AnswersAs image (Synced done) = Unit {0}
 AnswersAs image (Measured n) = Unit {0}
 
--- each whole read of a sector returned what was last written to it and taken whole, or what it held at the start
+-- Each whole read of a sector returned what was last written to it and taken whole, or what it held at the start; and
+-- the drive couldn't read only a sector that was unreadable at the start, with nothing taken whole since. A drive that
+-- can't read a sector that was synced doesn't keep to this; nor does one of which a write that failed changes what the
+-- sector reads before it is written again.
 abbrev pub KeepsRule : Image → List Call → Type 0
 KeepsRule start [] = Unit {0}
 KeepsRule start (call ∷ earlier) =

@@ -2,6 +2,7 @@
 
 ghost use Rattle.std.specs.Prelude.{◌≡◌, ◌≢◌, ◌⊎◌, ◌<◌, ◌≤◌, ◌*◌, ◌/◌, ◌-◌, ◌^◌, ◌==◌, ℕ, []};
 ghost use Rattle.std.specs.Prelude.{min, true, false, IfOk, OnOk, OnErr, IsErr, IsErrOf, length};
+ghost use Rattle.std.specs.Prelude.{IfSome, ◌≤ℤ◌, pos};
 ghost use Rattle.dc_sectors.specs.declared.sector.ReadFault.TheVariants.{Unreadable as CannotRead};
 ghost use Rattle.dc_sectors.specs.declared.sector.ReadFault.TheVariants.{Failed as ReadFailed};
 ghost use Rattle.dc_sectors.specs.FileCalls.{value_of};
@@ -15,6 +16,7 @@ use dc_io::one_failure_more;
 use std::fs::{OpenFile, OpenOptions};
 use std::io;
 use std::marker::Model;
+use std::os::fd::AsRawFd;
 use std::os::unix::fs::FileExt;
 use std::path::AsPath;
 use std::rt::Files;
@@ -22,8 +24,8 @@ use std::rt::Files;
 /// A disk over a file: sector n is the 512 bytes from byte 512 n on.
 ///
 /// A read, a write or a sync is one call of the file. Each fault of the file is a counted failure,
-/// including a short read or a short write. A sector of a file is never `Unreadable`. After a sync
-/// that failed every call fails.
+/// including a short read or a short write, except that a sector which the drive can't read (EIO of
+/// POSIX) is `Unreadable`. After a sync that failed every call fails.
 ///
 /// That the file keeps the disk model is a hypothesis on its calls so far: `KeepsRule` of
 /// specs/File.
@@ -52,12 +54,15 @@ impl<C: FileCalls + Drop> Model for DiskOver<C> {
     } };
 }
 
-impl<F: FileExt + OpenFile + Drop> DiskOver<Logged<F>> {
+// The descriptor of standard error, the greatest of the three streams.
+const LAST_STREAM: i32 = 2;
+
+impl<F: FileExt + OpenFile + AsRawFd + Drop> DiskOver<Logged<F>> {
     /// Opens the file at that path, which must exist and be readable and writable, as a disk.
-    pub fn open<R: Files<File = F>, P: AsPath>(
-        rt: &R,
-        path: P,
-    ) -> io::Result<DiskOver<Logged<F>>>
+    ///
+    /// # Errors
+    /// It can't be opened, or as of [`DiskOver::new`].
+    pub fn open<R: Files<File = F>, P: AsPath>(rt: &R, path: P) -> io::Result<DiskOver<Logged<F>>>
         ensures { IfOk result (λ disk. IsOpened [] disk) }
     {
         Self::new(OpenOptions::new().read(true).write(true).open(rt, path)?)
@@ -65,9 +70,20 @@ impl<F: FileExt + OpenFile + Drop> DiskOver<Logged<F>> {
 
     /// Returns a disk over an open file, with a sector for each 512 bytes of the file's current
     /// length, and at most `u32::MAX`. Bytes after the last whole sector are left alone.
+    ///
+    /// # Errors
+    /// The file's length can't be asked for, or its descriptor is that of a standard stream (0, 1 or
+    /// 2), whose text would be written over its sectors. The file wasn't changed.
     pub fn new(file: F) -> io::Result<DiskOver<Logged<F>>>
-        ensures { IfOk result (λ disk. IsOpened [] disk) }
+        ensures opened { IfOk result (λ disk. IsOpened [] disk) }
+        ensures no_stream { IfSome (F.raw_fd file) (λ fd. fd ≤ℤ pos 2 → IsErr result) }
     {
+        if file.as_raw_fd() <= LAST_STREAM {
+            return Err(io::Error::new(
+                io::ErrorKind::InvalidInput,
+                "its descriptor is that of a standard stream",
+            ));
+        }
         Self::over(Logged::new(file))
     }
 }
@@ -108,21 +124,22 @@ impl<C: FileCalls + Drop> DiskOver<C> {
         ensures made { IsReadOf self.old n result self.new.calls }
         ensures start { self.new.start ≡ self.old.start }
         ensures ok { OnOk result (self.new ≡ record self.old { calls = self.new.calls }) }
-        ensures err { OnErr result (self.new
-            ≡ record (failed_once_more self.old) { calls = self.new.calls }) }
-        ensures readable { IsErrOf result CannotRead → ⊥ }
-        ensures lost { self.old.lost ≡ true → IsErr result }
+        ensures unreadable { IsErrOf result CannotRead
+            → self.new ≡ record self.old { calls = self.new.calls } }
+        ensures err { IsErrOf result ReadFailed → self.new
+            ≡ record (failed_once_more self.old) { calls = self.new.calls } }
+        ensures lost { self.old.lost ≡ true → IsErrOf result ReadFailed }
         ensures counts { FileCounts self.old self.new (IsErrOf result ReadFailed) }
     {
         if self.lost {
             return Err(self.unread());
         }
         let mut bytes = [0; 512];
-        let came = self.file.read_some(position(n), &mut bytes);
-        if !is_whole(&came) {
-            return Err(self.unread());
+        match self.file.read_some(position(n), &mut bytes) {
+            Ok(512) => Ok(bytes),
+            Err(ReadFault::Unreadable) => Err(ReadFault::Unreadable),
+            Ok(_) | Err(ReadFault::Failed) => Err(self.unread()),
         }
-        Ok(bytes)
     }
 
     fn write_sector(&mut self, n: u32, bytes: &[u8; 512]) -> Result<(), Failed>
@@ -219,10 +236,11 @@ impl<C: FileCalls + Drop> Disk for DiskOver<C> {
         requires { n < self.old.sectors }
         ensures made { IsReadOf self.old n result self.new.calls }
         ensures ok { OnOk result (self.new ≡ record self.old { calls = self.new.calls }) }
-        ensures err { OnErr result (self.new
-            ≡ record (failed_once_more self.old) { calls = self.new.calls }) }
-        ensures readable { IsErrOf result CannotRead → ⊥ }
-        ensures lost { self.old.lost ≡ true → IsErr result }
+        ensures unreadable { IsErrOf result CannotRead
+            → self.new ≡ record self.old { calls = self.new.calls } }
+        ensures err { IsErrOf result ReadFailed → self.new
+            ≡ record (failed_once_more self.old) { calls = self.new.calls } }
+        ensures lost { self.old.lost ≡ true → IsErrOf result ReadFailed }
         ensures answer { HasKept self.new
             → Answers (reads_in self.old n) result }
         ensures before { HasKept self.new → HasKept self.old }

@@ -4,6 +4,7 @@ ghost use Rattle.std.specs.Prelude.{◌≡◌, ◌≤◌, ℕ, List, ◌∷◌, 
 ghost use Rattle.dc_sectors.specs.declared.sector.Sector.{Sector};
 ghost use Rattle.dc_sectors.specs.FileCalls.{Call, Measured, Got, Put, Synced, value_of, came};
 
+use crate::ReadFault;
 use std::io;
 
 /// A file, reduced to the calls of a disk over it. Its history has each call with its result.
@@ -21,7 +22,11 @@ pub trait FileCalls {
 
     /// Reads once from that byte on into the first bytes of the buffer, and returns the number of
     /// bytes read.
-    fn read_some(&mut self, at: u64, bytes: &mut [u8]) -> io::Result<usize>
+    ///
+    /// # Errors
+    /// [`ReadFault::Unreadable`] where the drive can't read them (EIO of POSIX),
+    /// [`ReadFault::Failed`] at any other error.
+    fn read_some(&mut self, at: u64, bytes: &mut [u8]) -> Result<usize, ReadFault>
         ensures count { IfOk result (λ n. n ≤ length bytes.old) }
         ensures noted { history self.new ≡ Got at (length bytes.old) (came result bytes.new)
             ∷ history self.old }

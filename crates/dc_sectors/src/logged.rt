@@ -4,7 +4,7 @@ ghost use Rattle.std.specs.Prelude.{◌≡◌, []};
 ghost use Rattle.dc_sectors.specs.Note.{calls_of};
 
 use crate::call_log::CallLog;
-use crate::FileCalls;
+use crate::{FileCalls, ReadFault};
 use std::fs::OpenFile;
 use std::io;
 use std::os::unix::fs::FileExt;
@@ -16,6 +16,9 @@ const GOT: u64 = 1;
 const PUT: u64 = 2;
 
 const SYNCED: u64 = 3;
+
+// The error number of Linux for bytes that the drive can't read.
+const EIO: i32 = 5;
 
 /// A file of std with the history of its calls.
 ///
@@ -59,14 +62,22 @@ impl<F: FileExt + OpenFile + Drop> FileCalls for Logged<F> {
         }
     }
 
-    fn read_some(&mut self, at: u64, bytes: &mut [u8]) -> io::Result<usize> {
+    fn read_some(&mut self, at: u64, bytes: &mut [u8]) -> Result<usize, ReadFault> {
         let asked = bytes.len() as u64;
-        let answer = self.file.read_at(bytes, at);
-        match answer {
-            Ok(n) => self.log.note(&[GOT, at, asked, 1], &bytes[..n]),
-            Err(_) => self.log.note(&[GOT, at, asked, 0], &[]),
+        match self.file.read_at(bytes, at) {
+            Ok(n) => {
+                self.log.note(&[GOT, at, asked, 1], &bytes[..n]);
+                Ok(n)
+            }
+            Err(error) if error.raw_os_error() == Some(EIO) => {
+                self.log.note(&[GOT, at, asked, 2], &[]);
+                Err(ReadFault::Unreadable)
+            }
+            Err(_) => {
+                self.log.note(&[GOT, at, asked, 0], &[]);
+                Err(ReadFault::Failed)
+            }
         }
-        answer
     }
 
     fn write_some(&mut self, at: u64, bytes: &[u8]) -> io::Result<usize> {

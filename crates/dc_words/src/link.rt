@@ -1,7 +1,7 @@
 //! The name of a link: how a bus line is reached.
 
-ghost use Rattle.std.specs.Prelude.{◌≡◌, ◌≢◌, IfOk, IfErr, IsErrOf, ◌++◌, codes};
-ghost use Rattle.dc_words.specs.Link.{word_of};
+ghost use Rattle.std.specs.Prelude.{◌≡◌, ◌++◌, IfOk, IfErr, MatchOption, MatchResult, codes};
+ghost use Rattle.dc_words.specs.Link.{word_of, IsLink, IsMistake, IsPlace, IsPort};
 
 use crate::fault::LinkFault;
 
@@ -29,7 +29,8 @@ impl<'a> LinkName<'a> {
     /// [`LinkFault::Scheme`], [`LinkFault::Port`] and [`LinkFault::Path`].
     pub fn parse(word: &'a str) -> Result<LinkName<'a>, LinkFault>
         ensures spelled { IfOk result (λ link. word.now ≡ word_of link) }
-        ensures scheme { IsErrOf result LinkFault.Scheme → (link : LinkName) → word.now ≢ word_of link }
+        ensures whole { IfOk result IsLink }
+        ensures refused { IfErr result (λ fault. IsMistake fault word.now) }
     {
         if let Some(place) = word.strip_prefix(TCP) {
             return Ok(LinkName::Tcp(with_port(place)?));
@@ -50,7 +51,8 @@ impl<'a> LinkName<'a> {
     /// [`LinkFault::Port`].
     pub fn gateway(place: &'a str) -> Result<LinkName<'a>, LinkFault>
         ensures blocks { IfOk result (λ link. word_of link ≡ codes "blocks://" ++ place.now) }
-        ensures fault { IfErr result (λ fault. fault ≡ LinkFault.Port) }
+        ensures whole { IfOk result (λ _. IsPlace place.now) }
+        ensures refused { IfErr result (λ fault. (fault ≡ LinkFault.Port) × ¬ (IsPlace place.now)) }
     {
         Ok(LinkName::Blocks(with_port(place)?))
     }
@@ -58,14 +60,34 @@ impl<'a> LinkName<'a> {
 
 // The place, where a port from 1 to 65535 follows its last colon.
 fn with_port(place: &str) -> Result<&str, LinkFault>
-    ensures same { IfOk result (λ same. same.now ≡ place.now) }
-    ensures fault { IfErr result (λ fault. fault ≡ LinkFault.Port) }
+    ensures { MatchResult result (λ same. (same.now ≡ place.now) × IsPlace place.now)
+        (λ fault. (fault ≡ LinkFault.Port) × ¬ (IsPlace place.now)) }
+{
+    match port_of(place) {
+        Some(_) => Ok(place),
+        None => Err(LinkFault::Port),
+    }
+}
+
+// The port of a place.
+fn port_of(place: &str) -> Option<u16>
+    ensures { MatchOption result (¬ (IsPlace place.now)) (λ _. IsPlace place.now) }
 {
     match place.rsplit_once(':') {
-        Some((host, port)) if !host.is_empty() => match port.parse::<u16>() {
-            Ok(0) | Err(_) => Err(LinkFault::Port),
-            Ok(_) => Ok(place),
-        },
-        _ => Err(LinkFault::Port),
+        Some((host, port)) if !host.is_empty() => port_number(port),
+        _ => None,
+    }
+}
+
+// The number that a port is.
+fn port_number(port: &str) -> Option<u16>
+    ensures { MatchOption result (¬ (IsPort port.now)) (λ _. IsPort port.now) }
+{
+    if port.starts_with('+') {
+        return None;
+    }
+    match port.parse::<u16>() {
+        Ok(0) | Err(_) => None,
+        Ok(number) => Some(number),
     }
 }

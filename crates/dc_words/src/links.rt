@@ -1,10 +1,10 @@
 //! Which bus line has which link.
 
-ghost use Rattle.std.specs.Prelude.{◌≡◌, ◌≤◌, ◌+◌, ◌++◌, ◌∷◌, ℕ, [], None, IfSome, OnOk, OnErr};
-ghost use Rattle.std.specs.Prelude.{codes};
+ghost use Rattle.std.specs.Prelude.{◌≡◌, ◌≢◌, ◌≤◌, ◌+◌, ◌++◌, ◌∷◌, ◌↔◌, ℕ, [], None, codes, IsTrue};
+ghost use Rattle.std.specs.Prelude.{IfErr, IfNone, IfSome, OnOk, OnErr};
 ghost use Rattle.std.specs.List.{All};
-ghost use Rattle.dc_words.specs.Link.{word_of};
-ghost use Rattle.dc_words.specs.Links.{Adds, line_word};
+ghost use Rattle.dc_words.specs.Link.{word_of, IsLink, IsPlace};
+ghost use Rattle.dc_words.specs.Links.{Adds, IsGatewayMistake, IsLineMistake, IsTaken, line_word};
 ghost use Rattle.dc_words.specs.declared.link.LinkName.{LinkName as Link};
 
 use crate::fault::LinkFault;
@@ -38,7 +38,9 @@ impl<'a> Links<'a> {
     }
 
     /// Whether no line has a link.
-    pub fn is_empty(&self) -> bool {
+    pub fn is_empty(&self) -> bool
+        ensures { IsTrue result ↔ All (λ link. link ≡ None) self.now.links }
+    {
         self.links.iter().all(|link| link.is_none())
     }
 
@@ -48,12 +50,16 @@ impl<'a> Links<'a> {
     /// [`LinkFault`]: no line from 1 to 8, no link, or the line has one already. Nothing is changed then.
     pub fn add(&mut self, word: &'a str) -> Result<(), LinkFault>
         ensures added { OnOk result ((place : ℕ) × (link : Link) × (word.now ≡ line_word place link)
-            × Adds place link self.old.links self.new.links) }
+            × IsLink link × Adds place link self.old.links self.new.links) }
+        ensures refused { IfErr result (λ fault. IsLineMistake fault word.now self.old.links) }
         ensures kept { OnErr result (self.new ≡ self.old) }
     {
         let (line, link) = word.split_once('=').ok_or(LinkFault::NoLine)?;
         let place = place_of(line).ok_or(LinkFault::NoLine)?;
-        self.put(place, LinkName::parse(link)?)
+        match LinkName::parse(link) {
+            Ok(link) => self.put(place, link),
+            Err(fault) => Err(fault),
+        }
     }
 
     /// Gives line 1 the link of a gateway at `HOST:PORT`.
@@ -62,7 +68,8 @@ impl<'a> Links<'a> {
     /// [`LinkFault::Port`], and [`LinkFault::Twice`] where line 1 has a link already.
     pub fn add_gateway(&mut self, place: &'a str) -> Result<(), LinkFault>
         ensures added { OnOk result ((link : Link) × (word_of link ≡ codes "blocks://" ++ place.now)
-            × Adds 0 link self.old.links self.new.links) }
+            × IsPlace place.now × Adds 0 link self.old.links self.new.links) }
+        ensures refused { IfErr result (λ fault. IsGatewayMistake fault place.now self.old.links) }
         ensures kept { OnErr result (self.new ≡ self.old) }
     {
         self.put(0, LinkName::gateway(place)?)
@@ -71,6 +78,8 @@ impl<'a> Links<'a> {
     fn put(&mut self, place: usize, link: LinkName<'a>) -> Result<(), LinkFault>
         requires { place ≤ 7 }
         ensures added { OnOk result (Adds place link.entry self.old.links self.new.links) }
+        ensures refused { IfErr result (λ fault. (fault ≡ LinkFault.Twice)
+            × IsTaken place self.old.links) }
         ensures kept { OnErr result (self.new ≡ self.old) }
     {
         if self.links[place].is_some() {
@@ -85,6 +94,7 @@ impl<'a> Links<'a> {
 fn place_of(line: &str) -> Option<usize>
     ensures within { IfSome result (λ place. place ≤ 7) }
     ensures digit { IfSome result (λ place. line.now ≡ (49 + place) ∷ []) }
+    ensures none { IfNone result ((place : ℕ) → place ≤ 7 → line.now ≢ (49 + place) ∷ []) }
 {
     match line.as_bytes() {
         [digit @ b'1'..=b'8'] => Some(usize::from(*digit - b'1')),

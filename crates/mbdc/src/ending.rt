@@ -9,7 +9,7 @@ ghost use Rattle.clap.specs.declared.error.kind.ErrorKind.TheVariants.{OutOfMemo
 ghost use Rattle.dc_poller.specs.Ending.{status_of};
 ghost use Rattle.dc_words.specs.Fault.{IfMistake};
 
-use crate::why::{Reason, Why};
+use crate::why::{DiskReason, Reason, Why};
 use clap::Error;
 use clap::error::ErrorKind;
 use dc_io::{Buffered, IoFault, WriteSink};
@@ -57,6 +57,26 @@ pub fn told_why(rt: &HostRuntime, ending: &Ending, why: &Why) {
         && let Ok(line) = reason_line(rt.alloc(), &reason)
     {
         let _ = rt.stderr().write_all(line.as_bytes());
+    }
+}
+
+/// Prints why the disk failed, where the run went on without it: what it couldn't keep it refused,
+/// as `ERR STORE`, and its status is that of the answers.
+pub fn told_disk(rt: &HostRuntime, ending: &Ending, why: &Why) {
+    if let Ending::Clean | Ending::Faulty = ending
+        && let Some(reason) = why.disk()
+        && let Ok(line) = disk_line(rt.alloc(), &reason)
+    {
+        let _ = rt.stderr().write_all(line.as_bytes());
+    }
+}
+
+fn disk_line(alloc: Global, reason: &DiskReason) -> Result<String, AllocError> {
+    let said = format!(in alloc; "{}", reason.error)?;
+    let words = words_of(said.as_str());
+    match reason.sector {
+        Some(sector) => format!(in alloc; "mbdc: disk: sector {sector}: {words}\n"),
+        None => format!(in alloc; "mbdc: disk: {words}\n"),
     }
 }
 

@@ -2,7 +2,7 @@
 
 use crate::half_made::{HalfMade, is_same_file};
 use crate::host::Host;
-use crate::image::{lock, open_image};
+use crate::image::{lock, no_file, open_image, within_limit};
 use crate::why::{Noted, Why};
 use dc_poller::Ending;
 use dc_recovery::{FormatFault, Store};
@@ -28,6 +28,9 @@ pub fn format_image<'a, R: Files<File = File> + AllocGlobal>(
     sectors: u32,
 ) -> Ending<'a> {
     let length = 512 * u64::from(sectors);
+    if let Err(error) = within_limit(length) {
+        return host.why.file(name, error);
+    }
     match fs::symlink_metadata(host.rt, name) {
         Ok(seen) => format_in_place(host, name, &seen, length),
         Err(error) if error.kind() == ErrorKind::NotFound => make_image(host, name, length),
@@ -104,7 +107,7 @@ fn is_blank(file: &File, length: u64) -> io::Result<bool> {
 // Opens the regular file that was found under the name. Another one may have replaced it since.
 fn open_seen<R: Files<File = File>>(rt: &R, name: &str, seen: &Metadata) -> io::Result<File> {
     if !seen.is_file() {
-        return Err(io::Error::new(ErrorKind::InvalidInput, "it is no regular file"));
+        return Err(no_file());
     }
     let file = open_image(rt, name)?;
     if !is_same_file(&file.metadata()?, seen) {

@@ -1,49 +1,133 @@
-//! Opens the file of an image, which one program at a time may have open.
+//! Opens the file of an image. One program at a time may change it; several may look at it.
 
+use libc::net::poll;
+use libc::types::rlimit;
 use std::fs::{File, OpenOptions, TryLockError};
-use std::io;
 use std::io::ErrorKind;
 use std::os::fd::AsRawFd;
 use std::rt::Files;
+use std::{fs, io};
+
+// Number of times that a lock is tried before it is refused, and the milliseconds between them:
+// two seconds, so that a look at an image in passing stops nobody.
+const TRIES: u32 = 100;
+
+const PAUSE: i32 = 20;
+
+// The limit of a file's length, of Linux.
+const RLIMIT_FSIZE: i32 = 1;
 
 /// Opens the file to read and write, and locks it while it is open. Its first read goes to the
 /// drive.
 ///
 /// # Errors
-/// The file can't be opened or synced, or another program holds its lock. Nothing was changed then.
+/// It is no regular file, it can't be opened or synced, or another program holds a lock of it for
+/// two seconds. Nothing was changed then.
 pub fn open_image<R: Files<File = File>>(rt: &R, name: &str) -> io::Result<File> {
     let mut options = OpenOptions::new();
     options.read(true).write(true);
-    let file = open_locked(rt, &options, name)?;
+    let file = open_regular(rt, &options, name)?;
+    within_limit(file.metadata()?.len())?;
+    lock(&file)?;
+    file.sync_data()?;
     drop_cached(&file)?;
     Ok(file)
 }
 
-// Syncs the file, and drops its pages from the system's cache. If a sync of an earlier program
-// failed, the cache may hold data that the drive lacks, and no call reports it.
+/// Opens the file to read, beside others that read it. Its first read goes to the drive.
+///
+/// # Errors
+/// It is no regular file, it can't be opened, or another program has it open to write for two
+/// seconds.
+pub fn open_to_look<R: Files<File = File>>(rt: &R, name: &str) -> io::Result<File> {
+    let mut options = OpenOptions::new();
+    options.read(true);
+    let file = open_regular(rt, &options, name)?;
+    lock_shared(&file)?;
+    // What a killed program has written and not synced would be read, and may be lost. If this
+    // sync fails, what the drive holds is read: that is what the next opening finds.
+    let _ = file.sync_data();
+    drop_cached(&file)?;
+    Ok(file)
+}
+
+// Drops the file's pages from the system's cache, once they are synced. If a sync of an earlier
+// program failed, the cache may hold data that the drive lacks, and no call reports it.
 fn drop_cached(file: &File) -> io::Result<()> {
-    file.sync_data()?;
     match libc::posix_fadvise(file.as_raw_fd(), 0, 0, libc::POSIX_FADV_DONTNEED) {
         0 => Ok(()),
         error => Err(io::Error::from_raw_os_error(error)),
     }
 }
 
-/// Opens the file as the options state, and locks it while it is open: an exclusive advisory lock
-/// on the whole file (`flock` of Linux), which ends with the program, however that ends.
-pub fn open_locked<R: Files<File = File>>(
+// Opens a regular file. It is asked for before, since opening a pipe may wait for its other end.
+fn open_regular<R: Files<File = File>>(
     rt: &R,
     options: &OpenOptions,
     name: &str,
 ) -> io::Result<File> {
+    if !fs::metadata(rt, name)?.is_file() {
+        return Err(no_file());
+    }
     let file = options.open(rt, name)?;
-    lock(&file)?;
+    if !file.metadata()?.is_file() {
+        return Err(no_file());
+    }
     Ok(file)
 }
 
-/// Locks a file that is open.
+/// Whether a file of that length may be written.
+///
+/// # Errors
+/// It is longer than the limit of this process (`ulimit -f`). A write beyond the limit would end the
+/// program by a signal.
+pub fn within_limit(length: u64) -> io::Result<()> {
+    let mut limit = rlimit {
+        rlim_cur: u64::MAX,
+        rlim_max: u64::MAX,
+    };
+    if libc::getrlimit(RLIMIT_FSIZE, &mut limit) == 0 && limit.rlim_cur < length {
+        return Err(io::Error::new(
+            ErrorKind::InvalidInput,
+            "it is longer than the limit of files (ulimit -f)",
+        ));
+    }
+    Ok(())
+}
+
+/// The refusal of a folder, a pipe or a device.
+pub fn no_file() -> io::Error {
+    io::Error::new(ErrorKind::InvalidInput, "it is no regular file")
+}
+
+/// Locks a file that is open: an exclusive advisory lock on the whole file (`flock` of Linux),
+/// which ends with the program, however that ends.
+///
+/// # Errors
+/// Another program holds a lock of it for two seconds.
 pub fn lock(file: &File) -> io::Result<()> {
+    for _ in 0..TRIES {
+        match file.try_lock() {
+            Err(TryLockError::WouldBlock) => wait(),
+            tried => return locked(tried),
+        }
+    }
     locked(file.try_lock())
+}
+
+// Takes a lock that others may share, while nobody holds the exclusive one.
+fn lock_shared(file: &File) -> io::Result<()> {
+    for _ in 0..TRIES {
+        match file.try_lock_shared() {
+            Err(TryLockError::WouldBlock) => wait(),
+            tried => return locked(tried),
+        }
+    }
+    locked(file.try_lock_shared())
+}
+
+fn wait() {
+    poll(&mut [], PAUSE);
 }
 
 fn locked(tried: Result<(), TryLockError>) -> io::Result<()> {

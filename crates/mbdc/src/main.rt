@@ -3,6 +3,7 @@
 #![tactic(auto)]
 
 mod bench;
+mod clock;
 mod connecting;
 mod demo;
 mod ending;
@@ -15,12 +16,13 @@ mod poll;
 mod progress;
 mod report;
 mod script;
+mod streams;
 mod tasks;
 mod why;
 
 use dc_poller::Ending;
 use dc_words::{Call, call_of};
-use ending::{told, told_why, told_words};
+use ending::{told, told_disk, told_why, told_words};
 use host::Host;
 use std::io::{ErrorKind, IsTerminal};
 use std::process::ExitCode;
@@ -37,6 +39,9 @@ fn words_of(rt: &(impl Env + AllocGlobal)) -> io::Result<Vec<String>> {
 }
 
 fn main(rt: HostRuntime) -> ExitCode {
+    if streams::hold(&rt).is_err() {
+        return told(&rt, &Ending::File(streams::NOWHERE));
+    }
     let words = match words_of(&rt) {
         Ok(words) => words,
         Err(error) if error.kind() == ErrorKind::OutOfMemory => {
@@ -65,6 +70,9 @@ fn answer(rt: &HostRuntime, call: &Call<'_>) -> ExitCode {
     let status = told(rt, &ending);
     if call.is_verbose {
         told_why(rt, &ending, &why);
+    }
+    if call.is_verbose || host.is_watched || why.has_unreadable() {
+        told_disk(rt, &ending, &why);
     }
     status
 }

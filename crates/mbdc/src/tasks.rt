@@ -1,14 +1,14 @@
 //! The commands: an engine of a library between the files and links that the words name.
 
 use crate::bench::{read_on_bus, scan_bus};
-use crate::demo;
 use crate::format::format_image;
 use crate::host::Host;
-use crate::inspect::inspect_image;
+use crate::inspect::{Look, look_into};
 use crate::poll::poll_on_image;
 use crate::report::report_on_image;
 use crate::script::run_on_image;
 use crate::why::{Noted, Why};
+use crate::{clock, demo};
 use dc_decode::decode_lines;
 use dc_io::{Buffered, ReadSource, Source, WriteSink};
 use dc_json::{explain_lines, json_lines};
@@ -49,7 +49,8 @@ where
             table,
             is_json,
         } => report_on_image(host, image, table, *is_json),
-        Task::Inspect { image } => inspect_image(host, image),
+        Task::Inspect { image } => look_into(host, Look::Inspect, image),
+        Task::Values { image } => look_into(host, Look::Values, image),
         Task::Scan {
             link,
             scan,
@@ -60,6 +61,8 @@ where
             meter,
             patience,
         } => read_on_bus(host, link, *meter, *patience),
+        // No reading gets a stamp that is no time.
+        Task::Poll(_) if clock::moment(host.rt).is_none() => Ending::Clock,
         Task::Poll(task) => poll_on_image(host, task),
         Task::Demo => demo::play(host),
     }

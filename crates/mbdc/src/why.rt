@@ -1,11 +1,18 @@
 //! Why a run failed: the system's message for the failed call.
 
+ghost use Rattle.std.specs.Prelude.{◌≡◌};
+
 use dc_poller::Ending;
+use libc::EIO;
 use std::cell::Cell;
 use std::fs::{File, Metadata, OpenFile};
 use std::io;
 use std::io::{ErrorKind, Read, Write};
+use std::os::fd::{AsRawFd, RawFd};
 use std::os::unix::fs::FileExt;
+
+// Number of bytes of a sector.
+const SECTOR: u64 = 512;
 
 /// The system's message for a call that failed, and the bus line of its link.
 #[derive(Clone, Copy)]
@@ -16,10 +23,21 @@ pub struct Reason {
     pub error: io::Error,
 }
 
-/// The last failed call that may end the run.
+/// The system's message for a call of an image's file that failed.
+#[derive(Clone, Copy)]
+pub struct DiskReason {
+    /// The sector that was read or written; none for the others.
+    pub sector: Option<u64>,
+    /// The system's message.
+    pub error: io::Error,
+}
+
+/// The last failed call that may end the run, and the last one of an image's file.
 #[derive(Drop)]
 pub struct Why {
     last: Cell<Option<Reason>>,
+    disk: Cell<Option<DiskReason>>,
+    has_unreadable: Cell<bool>,
 }
 
 impl Why {
@@ -27,12 +45,29 @@ impl Why {
     pub fn new() -> Self {
         Why {
             last: Cell::new(None),
+            disk: Cell::new(None),
+            has_unreadable: Cell::new(false),
         }
     }
 
     /// The last call that failed.
     pub fn last(&self) -> Option<Reason> {
         self.last.get()
+    }
+
+    /// The last call of an image's file that failed. The commands go on after it, and refuse what they can't keep.
+    pub fn disk(&self) -> Option<DiskReason> {
+        self.disk.get()
+    }
+
+    /// Whether the drive couldn't read a sector of the image.
+    pub fn has_unreadable(&self) -> bool {
+        self.has_unreadable.get()
+    }
+
+    fn note_disk(&self, sector: Option<u64>, error: io::Error) {
+        self.disk.set(Some(DiskReason { sector, error }));
+        self.note(error);
     }
 
     /// Notes a failed call. A call that a signal interrupted is repeated, and not noted.
@@ -72,10 +107,30 @@ impl<'w, T: Drop> Noted<'w, T> {
     pub fn new(inner: T, why: &'w Why) -> Self {
         Noted { inner, why }
     }
+}
 
+// The calls of a disk.
+impl Noted<'_, File> {
     fn noted<V: Drop>(&self, answer: io::Result<V>) -> io::Result<V> {
         if let Err(error) = answer {
-            self.why.note(error);
+            self.why.note_disk(None, error);
+        }
+        answer
+    }
+
+    // A read or a write at that place. One that transfers less than it was asked to, as at the end
+    // of the file or of the room, fails too.
+    fn whole(&self, answer: io::Result<usize>, asked: usize, at: u64) -> io::Result<usize>
+        ensures { result ≡ answer }
+    {
+        let sector = Some(at / SECTOR);
+        match answer {
+            Ok(n) if n < asked => {
+                let error = io::Error::new(ErrorKind::WriteZero, "only a part of the sector");
+                self.why.note_disk(sector, error);
+            }
+            Ok(_) => {}
+            Err(error) => self.why.note_disk(sector, error),
         }
         answer
     }
@@ -112,18 +167,27 @@ impl<T: Write + Drop> Write for Noted<'_, T> {
 impl FileExt for Noted<'_, File> {
     fn read_at(&self, room: &mut [u8], at: u64) -> io::Result<usize> {
         let answer = self.inner.read_at(room, at);
-        if let Err(error) = answer {
-            self.why.note(error);
+        if let Err(error) = answer
+            && error.raw_os_error() == Some(EIO)
+        {
+            self.why.has_unreadable.set(true);
         }
-        answer
+        self.whole(answer, room.len(), at)
     }
 
     fn write_at(&self, bytes: &[u8], at: u64) -> io::Result<usize> {
-        let answer = self.inner.write_at(bytes, at);
-        if let Err(error) = answer {
-            self.why.note(error);
-        }
-        answer
+        self.whole(self.inner.write_at(bytes, at), bytes.len(), at)
+    }
+}
+
+impl AsRawFd for Noted<'_, File> {
+    ghost use Rattle.std.specs.Prelude.{Some};
+    ghost use Rattle.std.specs.Fd.{file_raw_fd};
+
+    ghost raw_fd = { λ noted. Some (file_raw_fd noted.inner) };
+
+    fn as_raw_fd(&self) -> RawFd {
+        self.inner.as_raw_fd()
     }
 }
 

@@ -59,7 +59,7 @@ fn a_store_is_told_with_number_and_name(rt: HostRuntime) -> Result<(), Fail> {
 }
 
 #[test]
-fn files_gateway_and_memory_have_one_status(rt: HostRuntime) -> Result<(), Fail> {
+fn files_gateway_clock_and_memory_have_one_status(rt: HostRuntime) -> Result<(), Fail> {
     let ending = Ending::File("day.txt");
     assert_eq!(rt; ending.status(), 4);
     assert_eq!(rt;
@@ -70,6 +70,11 @@ fn files_gateway_and_memory_have_one_status(rt: HostRuntime) -> Result<(), Fail>
     assert_eq!(rt;
         line_of(rt.alloc(), &Ending::Gateway)?.as_slice(),
         b"mbdc: gateway\n".as_slice()
+    );
+    assert_eq!(rt; Ending::Clock.status(), 4);
+    assert_eq!(rt;
+        line_of(rt.alloc(), &Ending::Clock)?.as_slice(),
+        b"mbdc: clock: outside 1970 to 9999\n".as_slice()
     );
     assert_eq!(rt; Ending::Memory.status(), 4);
     assert_eq!(rt;

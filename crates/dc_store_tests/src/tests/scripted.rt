@@ -3,6 +3,7 @@
 use dc_sectors::{Disk, Failed, FileDisk, ReadFault};
 use std::cell::Cell;
 use std::fs::{File, Metadata, OpenFile};
+use std::os::fd::{AsRawFd, RawFd};
 use std::os::unix::fs::FileExt;
 use std::process::Abort;
 use std::test::Fail;
@@ -21,6 +22,8 @@ enum Step {
     Part(usize),
     /// It fails.
     Fails,
+    /// The drive can't do it: EIO of POSIX.
+    Denied,
 }
 
 /// The step of the next call, and how many calls there were.
@@ -72,6 +75,7 @@ impl FileExt for Scripted<'_> {
                 self.file.read_at(&mut buf[..most], offset)
             }
             Step::Fails => Err(failure()),
+            Step::Denied => Err(io::Error::from_raw_os_error(5)),
         }
     }
 
@@ -83,7 +87,14 @@ impl FileExt for Scripted<'_> {
                 self.file.write_at(&buf[..most], offset)
             }
             Step::Fails => Err(failure()),
+            Step::Denied => Err(io::Error::from_raw_os_error(5)),
         }
+    }
+}
+
+impl AsRawFd for Scripted<'_> {
+    fn as_raw_fd(&self) -> RawFd {
+        self.file.as_raw_fd()
     }
 }
 
@@ -151,6 +162,20 @@ fn a_part_and_a_failure_are_failures(rt: HostRuntime) -> Result<(), Fail> {
         assert!(rt; disk.read(3) == Ok(A));
     }
     assert_eq!(rt; disk.sync(), Ok(()));
+    Ok(fs::remove_file(&rt, path.as_str())?)
+}
+
+#[test]
+fn a_sector_that_the_drive_cannot_read_is_unreadable(rt: HostRuntime) -> Result<(), Fail> {
+    let path = place(&rt, "denied")?;
+    let script = Script::new();
+    let mut disk = FileDisk::new(four_sectors(&rt, path.as_str(), &script)?)?;
+    assert_eq!(rt; disk.write(2, &A), Ok(()));
+    script.set(Step::Denied);
+    assert!(rt; disk.read(2) == Err(ReadFault::Unreadable));
+    assert!(rt; disk.read(2) == Ok(A));
+    script.set(Step::Denied);
+    assert_eq!(rt; disk.write(2, &A), Err(Failed));
     Ok(fs::remove_file(&rt, path.as_str())?)
 }
 

@@ -1,0 +1,21 @@
+//! The calls of dc_library under the names by which C and WebAssembly know them.
+//!
+//! A slice is two arguments there, its address and its length. Nothing here takes memory or keeps a
+//! state. `tools/library` makes libmbdc of it for C, and a module for web pages.
+#![tactic(auto)]
+
+ghost use Rattle.std.specs.Prelude.{◌≡◌, ◌≢◌, ◌-◌, ◌^◌, ◌<◌, ◌≤◌, length, take};
+ghost use Rattle.dc_decode.specs.Text.{text_of};
+
+use dc_library::decode_text_into;
+
+/// Writes the text that `decode` prints for an input to the front of `out`, and returns its number
+/// of bytes; `usize::MAX` if it has more than `out`.
+#[unsafe(no_mangle)]
+pub extern "C" fn mbdc_decode_text(input: &[u8], out: &mut [u8]) -> usize
+    ensures text { result ≢ 2 ^ 64 - 1 → take result out.new ≡ text_of input.now }
+    ensures full { result ≡ 2 ^ 64 - 1 → length out.old < length (text_of input.now) }
+    ensures fits { result ≢ 2 ^ 64 - 1 → result ≤ length out.old }
+{
+    decode_text_into(input, out)
+}

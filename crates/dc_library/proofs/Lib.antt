@@ -1,0 +1,2 @@
+-- what a failed sink over a slice says of the text
+mod Filled

@@ -1,0 +1,218 @@
+//! Words and tasks. The words are those of docs/COMMANDS.md and `--help`; the bounds are those of the tables there.
+
+use crate::tests::text::{fault_text, text_of};
+use dc_words::call_of;
+use std::alloc::{AllocError, Global};
+
+// Words after `mbdc`, and the task that they give.
+type Rows = &'static [(&'static str, &'static str)];
+
+const LINES: Rows = &[
+    ("", "decode text from standard input"),
+    ("--verbose", "decode text from standard input verbose"),
+    ("decode", "decode text from standard input"),
+    ("decode frames.txt", "decode text frames.txt"),
+    ("decode --json", "decode json from standard input"),
+    ("decode --explain frames.txt", "decode table frames.txt"),
+    ("decode --json --explain", "refused"),
+    ("decode one two", "refused"),
+    ("fold lines.txt", "fold lines.txt"),
+    ("fold", "refused"),
+    ("demo", "demo"),
+    ("demo --verbose", "demo verbose"),
+    ("--help", "help"),
+    ("poll --help", "help"),
+    ("--version", "version"),
+    ("dekode", "refused"),
+];
+
+const IMAGES: Rows = &[
+    ("format house.image 131", "format house.image 131"),
+    ("format house.image 2051", "format house.image 2051"),
+    ("format house.image 131075", "format house.image 131075"),
+    ("format house.image 130", "refused"),
+    ("format house.image 131076", "refused"),
+    ("format house.image", "refused"),
+    ("report house.image register", "report house.image register"),
+    (
+        "report house.image 2024-12-31 --json",
+        "report house.image 2024-12-31 json",
+    ),
+    ("report house.image", "refused"),
+    ("values house.image", "values house.image"),
+    ("values house.image register", "refused"),
+    ("inspect house.image", "inspect house.image"),
+    (
+        "--verbose inspect house.image",
+        "inspect house.image verbose",
+    ),
+    ("inspect", "refused"),
+];
+
+const RUNS: Rows = &[
+    (
+        "run house.image day.txt",
+        "run house.image day.txt gateway none patience 2000",
+    ),
+    (
+        "run house.image day.txt --gateway box:9999 --patience 1",
+        "run house.image day.txt gateway box:9999 patience 1",
+    ),
+    (
+        "run house.image day.txt --line 8=serial:/dev/ttyUSB0 --verbose",
+        "run house.image day.txt 8=serial(/dev/ttyUSB0) gateway none patience 2000 verbose",
+    ),
+    (
+        "run house.image day.txt --line 2=tcp://box:1 --gateway box:9999",
+        "run house.image day.txt 1=blocks(box:9999) 2=tcp(box:1) gateway box:9999 patience 2000",
+    ),
+    (
+        "run house.image day.txt --line 1=tcp://box:1 --gateway box:9999",
+        "refused Twice",
+    ),
+    ("run house.image", "refused"),
+];
+
+const POLLS: Rows = &[
+    (
+        "poll house.image --line 1=tcp://10.0.0.7:10001",
+        "poll house.image 1=tcp(10.0.0.7:10001) tries 2 patience 2000",
+    ),
+    (
+        "poll house.image --line 1=tcp://a:1 --line 2=tcp://b:2 --line 3=tcp://c:3 --line 4=tcp://d:4 --line 5=serial:e \
+         --line 6=blocks://f:6 --line 7=tcp://[::1]:7 --line 8=tcp://h:65535",
+        "poll house.image 1=tcp(a:1) 2=tcp(b:2) 3=tcp(c:3) 4=tcp(d:4) 5=serial(e) 6=blocks(f:6) 7=tcp([::1]:7) \
+         8=tcp(h:65535) tries 2 patience 2000",
+    ),
+    (
+        "poll house.image --line 1=tcp://a:1 --only 12345678.PAD.01.07 --only 18034063.PAD.49.06 --tries 9 --json \
+         --patience 60000",
+        "poll house.image 1=tcp(a:1) only 12345678.PAD.01.07 only 18034063.PAD.49.06 tries 9 patience 60000 json",
+    ),
+    (
+        "poll house.image --line 1=tcp://a:1 --only 12345678",
+        "refused Meter",
+    ),
+    ("poll house.image --line 1=tcp://a:1 --tries 0", "refused"),
+    ("poll house.image --line 1=tcp://a:1 --tries 10", "refused"),
+    (
+        "poll house.image --line 1=tcp://a:1 --patience 0",
+        "refused",
+    ),
+    (
+        "poll house.image --line 1=tcp://a:1 --patience 60001",
+        "refused",
+    ),
+    ("poll house.image", "refused"),
+];
+
+const LINKS: Rows = &[
+    ("poll house.image --line tcp://a:1", "refused NoLine"),
+    ("poll house.image --line 0=tcp://a:1", "refused NoLine"),
+    ("poll house.image --line 9=tcp://a:1", "refused NoLine"),
+    (
+        "poll house.image --line 1=tcp://a:1 --line 1=tcp://b:1",
+        "refused Twice",
+    ),
+    ("poll house.image --line 1=tcp:a:1", "refused Scheme"),
+    ("poll house.image --line 1=tcp://a", "refused Port"),
+    ("poll house.image --line 1=tcp://a:0", "refused Port"),
+    ("poll house.image --line 1=tcp://a:65536", "refused Port"),
+    ("poll house.image --line 1=tcp://a:+1", "refused Port"),
+    ("poll house.image --line 1=blocks://:1", "refused Port"),
+    ("poll house.image --line 1=serial:", "refused Path"),
+];
+
+const BUSES: Rows = &[
+    ("scan tcp://a:1", "scan tcp(a:1) budget 1000 patience 2000"),
+    (
+        "scan tcp://a:1 --budget 0",
+        "scan tcp(a:1) budget 0 patience 2000",
+    ),
+    (
+        "scan tcp://a:1 --budget 4294967295 --patience 500",
+        "scan tcp(a:1) budget 4294967295 patience 500",
+    ),
+    (
+        "scan serial:/dev/ttyUSB0 --primary",
+        "scan serial(/dev/ttyUSB0) primary patience 2000",
+    ),
+    ("scan tcp://a:1 --primary --budget 5", "refused"),
+    ("scan tcp://a:1 --budget 4294967296", "refused"),
+    ("scan a:1", "refused Scheme"),
+    ("scan", "refused"),
+    (
+        "read blocks://a:1 12345678.PAD.01.07 --patience 3000",
+        "read blocks(a:1) 12345678.PAD.01.07 patience 3000",
+    ),
+    (
+        "read tcp://a:1 250",
+        "read tcp(a:1) address 250 patience 2000",
+    ),
+    ("read tcp://a:1 0", "refused Meter"),
+    ("read tcp://a:1 251", "refused Meter"),
+    ("read tcp://a:1", "refused"),
+];
+
+// The words as the program gets them.
+fn words_of(alloc: Global, line: &str) -> Result<Vec<String>, AllocError> {
+    let mut words = Vec::new(alloc);
+    words.push(String::from_str(alloc, "mbdc")?)?;
+    for word in line.split_whitespace() {
+        words.push(String::from_str(alloc, word)?)?;
+    }
+    Ok(words)
+}
+
+fn answer_to(alloc: Global, line: &str) -> Result<String, AllocError> {
+    let words = words_of(alloc, line)?;
+    match call_of(alloc, words.as_slice()) {
+        Ok(call) => text_of(alloc, &call),
+        Err(fault) => fault_text(alloc, &fault),
+    }
+}
+
+// Whether each line of words gives its task; prints those that don't.
+fn agrees(rt: &HostRuntime, rows: Rows) -> bool {
+    let mut found = true;
+    for (line, task) in rows {
+        let Ok(got) = answer_to(rt.alloc(), line) else {
+            return false;
+        };
+        if got.as_str() != *task {
+            found = false;
+            let _ = eprintln!(rt; "mbdc {line}\n  expected: {task}\n  got:      {got}");
+        }
+    }
+    found
+}
+
+#[test]
+fn lines_are_decoded_and_folded(rt: HostRuntime) {
+    assert!(rt; agrees(&rt, LINES));
+}
+
+#[test]
+fn images_are_formatted_and_shown(rt: HostRuntime) {
+    assert!(rt; agrees(&rt, IMAGES));
+}
+
+#[test]
+fn scripts_run_over_an_image(rt: HostRuntime) {
+    assert!(rt; agrees(&rt, RUNS));
+}
+
+#[test]
+fn meters_are_polled(rt: HostRuntime) {
+    assert!(rt; agrees(&rt, POLLS));
+}
+
+#[test]
+fn links_are_refused_for_their_mistakes(rt: HostRuntime) {
+    assert!(rt; agrees(&rt, LINKS));
+}
+
+#[test]
+fn buses_are_searched_and_read(rt: HostRuntime) {
+    assert!(rt; agrees(&rt, BUSES));
+}

@@ -1,0 +1,158 @@
+//! A task as a line of text: the command, and then each field that it has.
+
+use clap::error::ErrorKind;
+use dc_address::Identity;
+use dc_words::{
+    Call, Engine, Form, LinkName, Links, MeterName, PollTask, RunTask, Scan, Task, WordsFault,
+};
+use std::alloc::{AllocError, Global};
+use std::str;
+
+/// What the words ask for, as a line; `verbose` comes last.
+pub fn text_of(alloc: Global, call: &Call<'_>) -> Result<String, AllocError> {
+    let task = task_text(alloc, &call.task)?;
+    if call.is_verbose {
+        return format!(in alloc; "{task} verbose");
+    }
+    Ok(task)
+}
+
+/// The mistake in the words, as a line.
+pub fn fault_text(alloc: Global, fault: &WordsFault) -> Result<String, AllocError> {
+    match fault {
+        WordsFault::Clap(error) => {
+            let kind = match error.kind() {
+                ErrorKind::DisplayHelp => "help",
+                ErrorKind::DisplayVersion => "version",
+                _ => "refused",
+            };
+            String::from_str(alloc, kind)
+        }
+        WordsFault::Link(fault) => format!(in alloc; "refused {fault:?}"),
+        WordsFault::Meter => String::from_str(alloc, "refused Meter"),
+        WordsFault::NoLink => String::from_str(alloc, "refused NoLink"),
+        WordsFault::NoMemory => String::from_str(alloc, "memory"),
+    }
+}
+
+fn task_text(alloc: Global, task: &Task<'_>) -> Result<String, AllocError> {
+    match task {
+        Task::Lines { engine, file } => lines_text(alloc, *engine, *file),
+        Task::Format { image, sectors } => format!(in alloc; "format {image} {sectors}"),
+        Task::Run(task) => run_text(alloc, task),
+        Task::Report {
+            image,
+            table,
+            is_json,
+        } => format!(in alloc; "report {image} {table}{}", json_text(*is_json)),
+        Task::Inspect { image } => format!(in alloc; "inspect {image}"),
+        Task::Values { image } => format!(in alloc; "values {image}"),
+        Task::Poll(task) => poll_text(alloc, task),
+        Task::Demo => String::from_str(alloc, "demo"),
+        task => bus_text(alloc, task),
+    }
+}
+
+fn lines_text(alloc: Global, engine: Engine, file: Option<&str>) -> Result<String, AllocError> {
+    let name = match engine {
+        Engine::Decode(Form::Text) => "decode text",
+        Engine::Decode(Form::Json) => "decode json",
+        Engine::Decode(Form::Table) => "decode table",
+        Engine::Fold => "fold",
+    };
+    match file {
+        Some(file) => format!(in alloc; "{name} {file}"),
+        None => format!(in alloc; "{name} from standard input"),
+    }
+}
+
+fn bus_text(alloc: Global, task: &Task<'_>) -> Result<String, AllocError> {
+    match task {
+        Task::Scan {
+            link,
+            scan,
+            patience,
+        } => {
+            let link = link_text(alloc, *link)?;
+            match scan {
+                Scan::Wildcards(budget) => {
+                    format!(in alloc; "scan {link} budget {budget} patience {patience}")
+                }
+                Scan::Primary => format!(in alloc; "scan {link} primary patience {patience}"),
+            }
+        }
+        Task::Read {
+            link,
+            meter,
+            patience,
+        } => {
+            let link = link_text(alloc, *link)?;
+            let meter = meter_text(alloc, *meter)?;
+            format!(in alloc; "read {link} {meter} patience {patience}")
+        }
+        _ => String::from_str(alloc, "?"),
+    }
+}
+
+fn run_text(alloc: Global, task: &RunTask<'_>) -> Result<String, AllocError> {
+    let links = links_text(alloc, &task.links)?;
+    let gateway = task.gateway.unwrap_or("none");
+    format!(in alloc;
+        "run {} {}{links} gateway {gateway} patience {}",
+        task.image, task.script, task.patience
+    )
+}
+
+fn poll_text(alloc: Global, task: &PollTask<'_>) -> Result<String, AllocError> {
+    let links = links_text(alloc, &task.links)?;
+    let only = only_text(alloc, task.only.as_slice())?;
+    let json = json_text(task.is_json);
+    format!(in alloc;
+        "poll {}{links}{only} tries {} patience {}{json}",
+        task.image, task.tries, task.patience
+    )
+}
+
+fn json_text(is_json: bool) -> &'static str {
+    if is_json { " json" } else { "" }
+}
+
+fn only_text(alloc: Global, only: &[Identity]) -> Result<String, AllocError> {
+    let mut text = String::new(alloc);
+    for meter in only {
+        let meter = meter_text(alloc, MeterName::Identity(*meter))?;
+        text.push_str(" only ")?;
+        text.push_str(meter.as_str())?;
+    }
+    Ok(text)
+}
+
+fn links_text(alloc: Global, links: &Links<'_>) -> Result<String, AllocError> {
+    let mut text = String::new(alloc);
+    for (place, link) in links.by_line().iter().enumerate() {
+        if let Some(link) = link {
+            let link = link_text(alloc, *link)?;
+            let line = format!(in alloc; " {}={link}", place.saturating_add(1))?;
+            text.push_str(line.as_str())?;
+        }
+    }
+    Ok(text)
+}
+
+fn link_text(alloc: Global, link: LinkName<'_>) -> Result<String, AllocError> {
+    match link {
+        LinkName::Tcp(place) => format!(in alloc; "tcp({place})"),
+        LinkName::Serial(path) => format!(in alloc; "serial({path})"),
+        LinkName::Blocks(place) => format!(in alloc; "blocks({place})"),
+    }
+}
+
+fn meter_text(alloc: Global, meter: MeterName) -> Result<String, AllocError> {
+    match meter {
+        MeterName::Identity(identity) => {
+            let text = identity.text();
+            String::from_str(alloc, str::from_utf8(&text).unwrap_or("?"))
+        }
+        MeterName::Primary(primary) => format!(in alloc; "address {}", primary.get()),
+    }
+}

@@ -1,0 +1,62 @@
+/* Tries mbdc_decode_text at the edges of its slices: each ends before a page that nobody may touch.
+ *
+ *     cc -std=c99 edges.c $(pkg-config --cflags --libs mbdc) -o edges
+ *     ./edges <LINES
+ *
+ * Each line of standard input is decoded into a room of each size up to its text's and one more. Prints the number of
+ * calls, or what went wrong.
+ */
+#define _DEFAULT_SOURCE
+#include <stdio.h>
+#include <stdlib.h>
+#include <string.h>
+#include <sys/mman.h>
+#include <unistd.h>
+
+#include <mbdc.h>
+
+enum { ROOM = 1 << 20, GUARD = 64, UNTOUCHED = 0xA5 };
+
+/* Memory whose last byte is followed by a page that can't be read. Returns the address after the last byte. */
+static uint8_t *end_of_memory(void)
+{
+    size_t page = (size_t)sysconf(_SC_PAGESIZE);
+    uint8_t *all = (uint8_t *)mmap(NULL, ROOM + page, PROT_READ | PROT_WRITE, MAP_PRIVATE | MAP_ANONYMOUS, -1, 0);
+    if (all == MAP_FAILED || mprotect(all + ROOM, page, PROT_NONE) != 0) {
+        perror("edges");
+        exit(EXIT_FAILURE);
+    }
+    return all + ROOM;
+}
+
+/* One call with a room of `size` bytes, for an input whose text has `length`. Returns whether all is well. */
+static int is_well(const uint8_t *input, size_t input_size, uint8_t *end, size_t size, size_t length, const uint8_t *text)
+{
+    uint8_t *out = end - size;
+    memset(end - size - GUARD, UNTOUCHED, size + GUARD);
+    size_t count = mbdc_decode_text(input, input_size, out, size);
+    for (const uint8_t *at = out - GUARD; at < out; at++)
+        if (*at != UNTOUCHED)
+            return 0;
+    return count == (size < length ? MBDC_TOO_LONG : length) && (size < length || memcmp(out, text, length) == 0);
+}
+
+int main(void)
+{
+    static char line[8192];
+    static uint8_t text[ROOM];
+    uint8_t *in = end_of_memory(), *out = end_of_memory();
+    unsigned long calls = 0;
+    while (fgets(line, sizeof line, stdin)) {
+        size_t size = strcspn(line, "\n");
+        memcpy(in - size, line, size);
+        size_t length = mbdc_decode_text(in - size, size, text, sizeof text);
+        for (size_t room = 0; room <= length + 1; room++, calls++)
+            if (!is_well(in - size, size, out, room, length, text)) {
+                printf("a room of %zu bytes: %s", room, line);
+                return EXIT_FAILURE;
+            }
+    }
+    printf("%lu calls\n", calls);
+    return EXIT_SUCCESS;
+}

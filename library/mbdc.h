@@ -1,0 +1,40 @@
+/* libmbdc: link frames and telegrams of wired M-Bus (EN 13757-2, EN 13757-3) as text.
+ *
+ * What the comments here say of a function is proved of it (crates/dc_library), if the caller keeps
+ * to what C asks of any caller: each address is that of as many bytes as the size after it says, and
+ * not null; `out` overlaps no other argument. The functions take no memory, keep no state and call
+ * nothing of the host but memcpy, memmove and memset: any thread may call them at any time. They use
+ * less than 64 KiB of stack.
+ */
+#ifndef MBDC_H
+#define MBDC_H
+
+#include <stddef.h>
+#include <stdint.h>
+
+#ifdef __cplusplus
+extern "C" {
+#endif
+
+/* The result of a call whose text is longer than `out`. */
+#define MBDC_TOO_LONG SIZE_MAX
+
+/* Decodes lines of hex digits: writes the text that `mbdc decode` prints for them to `out`, and
+ * returns its number of bytes. No zero byte follows them.
+ *
+ * The result is MBDC_TOO_LONG if and only if the text has more than `out_size` bytes. The bytes of
+ * `out` are then undefined, and the same call with a larger `out` succeeds: 80 bytes for each byte
+ * of the input are enough for every input that was tried. Otherwise the result is at most
+ * `out_size`, and `out` begins with the text.
+ *
+ * The input needs no zero byte. Its lines end at a line feed or at its end, and have pairs of hex
+ * digits in either case, with spaces anywhere; a line of more than 4,096 characters, or with any
+ * other character, prints HEX FAULT. It may have any size.
+ */
+size_t mbdc_decode_text(const uint8_t *input, size_t input_size, uint8_t *out, size_t out_size);
+
+#ifdef __cplusplus
+}
+#endif
+
+#endif

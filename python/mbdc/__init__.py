@@ -1,0 +1,15 @@
+"""Link frames and telegrams of wired M-Bus (EN 13757-2, EN 13757-3), decoded by libmbdc.
+
+>>> import mbdc
+>>> frame, = mbdc.decode("10 5B 01 5C 16")
+>>> frame.kind, frame.control, frame.address
+('short', 91, 1)
+
+`decode` returns frozen dataclasses, `decode_text` the lines that the command `mbdc decode` prints. Both take the
+hex digits that the command takes, and may be called from any thread.
+"""
+
+from mbdc._library import LibraryFault, decode_text
+from mbdc._records import Fault, Frame, Meter, Record, Telegram, Value, decode
+
+__all__ = ["Fault", "Frame", "LibraryFault", "Meter", "Record", "Telegram", "Value", "decode", "decode_text"]

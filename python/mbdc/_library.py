@@ -1,0 +1,77 @@
+"""The call of libmbdc, by ctypes.
+
+The library is the one that the variable MBDC_LIBRARY names, else the checkout's own (out/library, made by
+tools/library), else the system's.
+"""
+
+import ctypes
+import os
+import pathlib
+import threading
+from typing import Union
+
+_NAME = "libmbdc.so.0"
+_FIRST_ROOM = 65_536  # bytes; a telegram's text has some hundred
+_MOST_ROOM_A_BYTE = 128  # bytes of text for a byte of the input; more than any input that was tried takes
+_TOO_LONG = ctypes.c_size_t(-1).value
+
+
+class LibraryFault(Exception):
+    """The library isn't there, or has no place for a text."""
+
+
+def _path() -> str:
+    named = os.environ.get("MBDC_LIBRARY")
+    built = pathlib.Path(__file__).resolve().parents[2] / "out" / "library" / _NAME
+    return named or (str(built) if built.exists() else _NAME)
+
+
+def _load() -> ctypes.CDLL:
+    try:
+        library = ctypes.CDLL(_path())
+    except OSError as fault:
+        raise LibraryFault(f"{_path()}: {fault}") from fault
+    library.mbdc_decode_text.restype = ctypes.c_size_t
+    library.mbdc_decode_text.argtypes = [ctypes.c_char_p, ctypes.c_size_t, ctypes.c_void_p, ctypes.c_size_t]
+    return library
+
+
+_decode_text = _load().mbdc_decode_text
+
+
+class _Room(threading.local):
+    """Each thread's room for a text."""
+
+    def __init__(self) -> None:
+        self.grow(_FIRST_ROOM)
+
+    def grow(self, size: int) -> None:
+        """Takes a room of so many bytes in place of the old one."""
+        self.size = size
+        self.buffer = ctypes.create_string_buffer(size)
+        self.address = ctypes.addressof(self.buffer)
+
+
+_room = _Room()
+
+
+def decode_text(frames: Union[str, bytes]) -> str:
+    """The lines that `mbdc decode` prints for lines of hex digits.
+
+    Raises LibraryFault where memory for them is refused.
+
+    >>> decode_text("E5 10 40 05 45 16")
+    'ACK\\nSHORT 40 05\\n'
+    """
+    digits = frames.encode("utf-8", "surrogatepass") if isinstance(frames, str) else frames
+    room = _room
+    count: int = _decode_text(digits, len(digits), room.address, room.size)
+    while count == _TOO_LONG:
+        if room.size > _MOST_ROOM_A_BYTE * len(digits) + _FIRST_ROOM:
+            raise LibraryFault(f"the text of {len(digits)} bytes has more than {room.size}")
+        try:
+            room.grow(4 * room.size)
+        except MemoryError as fault:
+            raise LibraryFault("memory was refused") from fault
+        count = _decode_text(digits, len(digits), room.address, room.size)
+    return ctypes.string_at(room.address, count).decode("ascii")
