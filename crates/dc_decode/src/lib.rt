@@ -27,3 +27,4 @@ mod telegram;
 pub use decode::{decode_line, decode_lines, put_lines};
 pub use frames::{first_frame, put_frames, read as read_frame};
 pub use laws::frames_are_told_in_turn;
+pub use seen::put_point;

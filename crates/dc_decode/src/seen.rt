@@ -23,9 +23,9 @@ fn put_unit<W: Sink>(value: &Value, quantity: Quantity, out: &mut W) -> Result<(
     }
 }
 
-// Writes a point's value and its unit.
+/// Writes a point's value and its unit.
 #[tactic(auto, using(dc_io::proofs::Pieces::written), unfolding(crate::specs::Seen::point_text))]
-fn put_point<W: Sink>(point: &Point, out: &mut W) -> Result<(), IoFault>
+pub fn put_point<W: Sink>(point: &Point, out: &mut W) -> Result<(), IoFault>
     ensures { Wrote W.Sink result out.old out.new (point_text point.now) }
 {
     let mut text = [0u8; TEXT_ROOM];

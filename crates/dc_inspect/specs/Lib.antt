@@ -4,6 +4,8 @@
 pub mod Text
 -- what `inspect` prints of an image
 pub mod Told
+-- what `values` prints of an image
+pub mod Values
 -- a table of an image's contents, as JSON
 pub mod Report
 -- the result of reading an image: for the contracts of private functions

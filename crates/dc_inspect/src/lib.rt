@@ -6,6 +6,8 @@
 //! the state that the image reads as, by the definitions that
 //! [`Store::open`](dc_recovery::Store::open) follows, or the image's one refusal.
 //!
+//! [`show_values`] reads an image in the same way, and writes what its meters stand at (dc_values).
+//!
 //! [`report_json_on`] opens an image as [`report_on`](dc_poller::report_on) does, and writes a JSON object for each
 //! row of a table.
 #![tactic(auto)]
@@ -15,6 +17,8 @@ mod look;
 mod report;
 mod summary;
 mod text;
+mod values;
 
 pub use inspecting::inspect;
 pub use report::report_json_on;
+pub use values::show_values;

@@ -3,3 +3,4 @@
 mod images;
 mod inspect;
 mod report;
+mod values;

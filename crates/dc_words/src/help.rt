@@ -20,6 +20,7 @@ Look:
   decode   Prints what each M-Bus frame says: link fields, meter, records, end
   fold     Applies telegrams and commands to an empty register, and prints it
   report   Prints a table of what an image holds: its register, or the due-date values for a date
+  values   Prints what each meter stands at, and changes nothing
   inspect  Prints what an image holds, and changes nothing
 
 Maintain:
@@ -120,6 +121,17 @@ pub const REPORT: &str = "Example:
 Printed of the register: flat,meter,medium,line,address,open; of a date the values that are dated
   by it: flat,meter,serial,storage,function,tariff,subunit,value,unit. With --json an object a row
 The image is opened as by run, so its next session is written.
+Faults: mbdc: open: 1 NotImage, 2 Damaged sector, 3 Version, 4 Worn, 5 Device; mbdc: memory;
+  mbdc: file: IMAGE where the file can't be opened or is open in another mbdc";
+
+/// Of `values`.
+pub const VALUES: &str = "Example:
+  mbdc values house.image
+
+Printed, for each registered meter by flat: METER flat ident medium, and NONE where no reading of it is held, else the
+  serial and the minute (UTC) of the last one; STATUS hex words, the status byte that it sent; and VALUE tariff subunit
+  value unit for each of its current values.
+A reading that the office has confirmed isn't held any more. Nothing is written.
 Faults: mbdc: open: 1 NotImage, 2 Damaged sector, 3 Version, 4 Worn, 5 Device; mbdc: memory;
   mbdc: file: IMAGE where the file can't be opened or is open in another mbdc";
 

@@ -116,6 +116,11 @@ pub enum Task<'a> {
         /// The image's file.
         image: &'a str,
     },
+    /// What the meters of an image stand at, without opening it.
+    Values {
+        /// The image's file.
+        image: &'a str,
+    },
     /// The readout of the registered meters over an image.
     Poll(PollTask<'a>),
     /// A search for meters on one bus, without an image.

@@ -200,6 +200,17 @@ fn inspect_command<'a>(alloc: Global) -> Result<Command<'a>, AllocError> {
     )
 }
 
+fn values_command<'a>(alloc: Global) -> Result<Command<'a>, AllocError> {
+    let about = "Prints what each meter stands at, and changes nothing";
+    command_of(
+        alloc,
+        "values",
+        about,
+        help::VALUES,
+        vec![in alloc; image_arg(alloc)]?,
+    )
+}
+
 fn scan_command<'a>(alloc: Global) -> Result<Command<'a>, AllocError> {
     let primary = "Asks each primary address from 1 to 250 in place of the wildcard search";
     let primary = flag_arg(alloc, "PRIMARY", "primary", primary).conflicts_with("BUDGET")?;
@@ -236,6 +247,7 @@ fn program<'a>(alloc: Global) -> Result<Command<'a>, AllocError> {
     let program = with_command(program, poll_command(alloc));
     let program = with_command(program, run_command(alloc));
     let program = with_command(program, report_command(alloc));
+    let program = with_command(program, values_command(alloc));
     let program = with_command(program, inspect_command(alloc));
     let program = with_command(program, scan_command(alloc));
     let program = with_command(program, read_command(alloc));
@@ -344,6 +356,7 @@ fn image_task<'a>(
             is_json: inner.get_flag("JSON"),
         }),
         "inspect" => Ok(Task::Inspect { image }),
+        "values" => Ok(Task::Values { image }),
         "run" => run_task(image, inner),
         _ => poll_task(alloc, image, inner),
     }

@@ -1,10 +1,10 @@
-//! The command `inspect`: the contents of an image in a file.
+//! The commands `inspect` and `values`: an image in a file, which is only read.
 
 use crate::host::Host;
 use crate::image::open_to_look;
 use crate::tasks::{ROOM, flushed};
 use crate::why::Noted;
-use dc_inspect::inspect;
+use dc_inspect::{inspect, show_values};
 use dc_io::{Buffered, WriteSink};
 use dc_poller::{Ending, ProgramFault, STREAM, ending_of};
 use dc_recovery::OpenFault;
@@ -14,9 +14,17 @@ use std::io;
 use std::os::unix::fs::FileExt;
 use std::rt::Files;
 
-/// Prints the contents of the image in that file, or why it doesn't open. The file is opened
-/// read-only, and nobody writes it meanwhile.
-pub fn inspect_image<'a, R>(host: &Host<'_, R>, image: &'a str) -> Ending<'a>
+/// What is printed of an image.
+#[derive(Clone, Copy)]
+pub enum Look {
+    /// Its contents, or why it doesn't open.
+    Inspect,
+    /// What its meters stand at.
+    Values,
+}
+
+/// Prints what is asked for of the image in that file. The file is opened read-only, and nobody writes it meanwhile.
+pub fn look_into<'a, R>(host: &Host<'_, R>, look: Look, image: &'a str) -> Ending<'a>
 where
     R: Files<File = File> + Print + AllocGlobal,
 {
@@ -28,21 +36,26 @@ where
         Ok(disk) => disk,
         Err(error) => return host.why.file(image, error),
     };
-    match look(host, &mut disk) {
+    match print(host, look, &mut disk) {
         Ok(None) => Ending::Clean,
         Ok(Some(fault)) => Ending::Open(fault),
         Err(fault) => ending_of(Err(fault), STREAM),
     }
 }
 
-// Writes what the disk's image holds to standard output, and returns why it doesn't open.
-fn look<D: FileExt + OpenFile + Drop, R: Print + AllocGlobal>(
+// Writes it to standard output, and returns why the image doesn't open.
+fn print<D: FileExt + OpenFile + Drop, R: Print + AllocGlobal>(
     host: &Host<'_, R>,
+    look: Look,
     disk: &mut FileDisk<D>,
 ) -> Result<Option<OpenFault>, ProgramFault> {
     let printer = Noted::new(io::writer(host.rt), host.why);
     let mut writer = Buffered::new(host.rt.alloc(), ROOM, WriteSink::new(printer))?;
-    let refusal = inspect(host.rt.alloc(), disk, &mut writer)?;
+    let alloc = host.rt.alloc();
+    let refusal = match look {
+        Look::Inspect => inspect(alloc, disk, &mut writer)?,
+        Look::Values => show_values(alloc, disk, &mut writer)?,
+    };
     flushed(writer)?;
     Ok(refusal)
 }

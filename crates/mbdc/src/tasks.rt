@@ -3,7 +3,7 @@
 use crate::bench::{read_on_bus, scan_bus};
 use crate::format::format_image;
 use crate::host::Host;
-use crate::inspect::inspect_image;
+use crate::inspect::{Look, look_into};
 use crate::poll::poll_on_image;
 use crate::report::report_on_image;
 use crate::script::run_on_image;
@@ -49,7 +49,8 @@ where
             table,
             is_json,
         } => report_on_image(host, image, table, *is_json),
-        Task::Inspect { image } => inspect_image(host, image),
+        Task::Inspect { image } => look_into(host, Look::Inspect, image),
+        Task::Values { image } => look_into(host, Look::Values, image),
         Task::Scan {
             link,
             scan,

@@ -39,6 +39,8 @@ const IMAGES: Rows = &[
         "report house.image 2024-12-31 json",
     ),
     ("report house.image", "refused"),
+    ("values house.image", "values house.image"),
+    ("values house.image register", "refused"),
     ("inspect house.image", "inspect house.image"),
     (
         "--verbose inspect house.image",

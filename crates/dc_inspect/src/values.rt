@@ -1,0 +1,118 @@
+//! The engine of `values`.
+
+ghost use Rattle.std.specs.Prelude.{◌≡◌, ◌≢◌, ◌<◌, ◌≤◌, Some, IfOk, IfErr, IfSome, OnOk, IsErrOf};
+ghost use Rattle.std.specs.Prelude.{option_map};
+ghost use Rattle.dc_io.specs.Failures.{HasRisen};
+ghost use Rattle.dc_io.specs.Stream.{Puts};
+ghost use Rattle.dc_io.specs.Written.{PutsInto, Wrote};
+ghost use Rattle.dc_sectors.specs.Runs.{OnlyLooked, Counts};
+ghost use Rattle.dc_recovery.specs.Halves.{fewest_sectors};
+ghost use Rattle.dc_recovery.specs.declared.fault.OpenFault.TheVariants.{Device};
+ghost use Rattle.dc_inspect.specs.Look.{seen_of};
+ghost use Rattle.dc_inspect.specs.Told.{IsOfLook};
+ghost use Rattle.dc_inspect.specs.Values.{Shows, ShowsImage, seen_values};
+
+use crate::look::look_at;
+use dc_io::{Bytes, IoFault, Sink};
+use dc_poller::ProgramFault;
+use dc_recovery::{FEWEST_SECTORS, Found, OpenFault, half_len_of};
+use dc_sectors::Disk;
+use dc_values::put_values;
+use std::alloc::Allocator;
+
+// Writes the values of the state that was found.
+#[tactic(auto, using(dc_io::proofs::Pieces::written))]
+fn put_found<A: Allocator + Copy, W: Sink>(
+    out: &mut W,
+    found: &Option<Found<A>>,
+) -> Result<(), IoFault>
+    ensures { Wrote W.Sink result out.old out.new (seen_values (option_map seen_of found.now)) }
+{
+    match found {
+        Some(found) => put_values(out, &found.house),
+        None => Ok(()),
+    }
+}
+
+// Appends the values of an image, and returns why it doesn't open.
+fn show_image<A: Allocator + Copy, D: Disk>(
+    alloc: A,
+    disk: &mut D,
+    sectors: u32,
+    text: &mut Bytes<A>,
+) -> Result<Option<OpenFault>, ProgramFault>
+    requires sectors { sectors ≡ D.sectors disk.old }
+    requires enough { fewest_sectors ≤ sectors }
+    ensures told { D.keeps disk.new → IfOk result (λ refusal.
+        ShowsImage sectors (D.reads disk.old) refusal
+        (Puts (Some text.old.bytes) (Some text.new.bytes))) }
+    ensures looked { OnlyLooked D.Disk disk.old disk.new }
+    ensures counts { Counts D.Disk disk.old disk.new (IsErrOf result (ProgramFault.Open Device)) }
+    ensures faults { IfErr result (IsOfLook
+        (HasRisen (D.failures disk.old) (D.failures disk.new)) ⊥) }
+{
+    let look = look_at(alloc, disk, half_len_of(sectors))?;
+    match put_found(text, &look.found) {
+        Ok(()) => Ok(look.refusal),
+        Err(IoFault) => Err(ProgramFault::NoMemory),
+    }
+}
+
+// Builds the whole text, and returns why the image doesn't open.
+fn show_disk<A: Allocator + Copy, D: Disk>(
+    alloc: A,
+    disk: &mut D,
+    text: &mut Bytes<A>,
+) -> Result<Option<OpenFault>, ProgramFault>
+    ensures told { D.keeps disk.new → IfOk result (λ refusal.
+        Shows (D.sectors disk.old) (D.reads disk.old) refusal
+        (Puts (Some text.old.bytes) (Some text.new.bytes))) }
+    ensures looked { OnlyLooked D.Disk disk.old disk.new }
+    ensures counts { Counts D.Disk disk.old disk.new (IsErrOf result (ProgramFault.Open Device)) }
+    ensures faults { IfErr result (IsOfLook
+        (HasRisen (D.failures disk.old) (D.failures disk.new)) ⊥) }
+{
+    let sectors = disk.count();
+    if sectors < FEWEST_SECTORS {
+        return Ok(Some(OpenFault::NotImage));
+    }
+    show_image(alloc, disk, sectors, text)
+}
+
+/// Reads the image and writes what its meters stand at. Nothing is written to the disk and nothing is synced, not even
+/// the next root. Returns why the image doesn't open, if it doesn't; of an image that can't be read nothing is written.
+///
+/// The image is read as [`Store::open`](dc_recovery::Store::open) reads it. The text is built whole before it is
+/// written, in one put.
+///
+/// # Errors
+/// `Open(Device)` if a read of the disk failed and [`ProgramFault::NoMemory`] if memory ran out,
+/// both with the writer unchanged; [`ProgramFault::Write`] if the writer failed.
+pub fn show_values<D: Disk, A: Allocator + Copy, W: Sink>(
+    alloc: A,
+    disk: &mut D,
+    writer: &mut W,
+) -> Result<Option<OpenFault>, ProgramFault>
+    ensures told { D.keeps disk.new → IfOk result (λ refusal.
+        Shows (D.sectors disk.old) (D.reads disk.old) refusal
+        (PutsInto W.Sink writer.old writer.new)) }
+    ensures well { OnOk result (W.put_failures writer.new ≡ W.put_failures writer.old) }
+
+    // The disk reads as before, and so does what a stop at any moment leaves.
+    ensures looked { OnlyLooked D.Disk disk.old disk.new }
+    ensures counts { Counts D.Disk disk.old disk.new (IsErrOf result (ProgramFault.Open Device)) }
+
+    // A fault of an end is returned only if that end counted a failure, and only a failed write
+    // touches the writer.
+    ensures faults { IfErr result (IsOfLook (HasRisen (D.failures disk.old) (D.failures disk.new))
+        (HasRisen (W.put_failures writer.old) (W.put_failures writer.new))) }
+    ensures untouched { IfErr result (λ fault.
+        fault ≢ ProgramFault.Write → writer.new ≡ writer.old) }
+{
+    let mut text = Bytes::new(alloc);
+    let refusal = show_disk(alloc, disk, &mut text)?;
+    match writer.put(text.as_slice()) {
+        Ok(()) => Ok(refusal),
+        Err(IoFault) => Err(ProgramFault::Write),
+    }
+}
