@@ -22,10 +22,9 @@ extern "C" {
 /* Decodes lines of hex digits: writes the text that `mbdc decode` prints for them to `out`, and
  * returns its number of bytes. No zero byte follows them.
  *
- * The result is MBDC_TOO_LONG if and only if the text has more than `out_size` bytes. The bytes of
- * `out` are then undefined, and the same call with a larger `out` succeeds: 80 bytes for each byte
- * of the input are enough for every input that was tried. Otherwise the result is at most
- * `out_size`, and `out` begins with the text.
+ * The result is MBDC_TOO_LONG if and only if the text has more than `out_size` bytes: the same call
+ * succeeds once `out` is large enough. The bytes of `out` are undefined then. Otherwise the result is
+ * at most `out_size`, and `out` begins with the text; its bytes after the text are undefined.
  *
  * The input needs no zero byte. Its lines end at a line feed or at its end, and have pairs of hex
  * digits in either case, with spaces anywhere; a line of more than 4,096 characters, or with any

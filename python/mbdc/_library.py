@@ -12,7 +12,7 @@ from typing import Union
 
 _NAME = "libmbdc.so.0"
 _FIRST_ROOM = 65_536  # bytes; a telegram's text has some hundred
-_MOST_ROOM_A_BYTE = 128  # bytes of text for a byte of the input; more than any input that was tried takes
+_MOST_ROOM_A_BYTE = 128  # bytes of text for a byte of the input, far above that of a fault (10): a guard, for no clause bounds it
 _TOO_LONG = ctypes.c_size_t(-1).value
 
 

@@ -1,0 +1,453 @@
+"use strict";
+// The page of the decoder. MODULE (base64) and NAMES (tables of codes, from the definitions) are set before this text.
+
+const SHOWN = 200; // frames; more would make the page slow
+const MOST_LINE = 4096; // characters of a line that the decoder takes
+const PAGE = 65536; // bytes of a page of the module's memory
+const CI_VARIABLE = 0x72;
+const HEADER = 12; // bytes of a telegram's header
+const TOO_LONG = 0xFFFFFFFFFFFFFFFFn;
+
+const WORDS = {
+  en: {
+    title: "M-Bus decoder", about: "Paste frames or telegrams of wired M-Bus in hex digits. Nothing leaves this page.",
+    input: "Hex digits, one or more frames a line", joined: "The lines belong together", decode: "Decode",
+    csv: "Copy as CSV", json: "Copy as JSON", link: "Copy link", other: "Deutsch",
+    proved: "The decoder in this page is proved: it prints what the definitions of mbdc say for each input, byte for byte. "
+      + "The names of codes and this page's own words are not.",
+    refused: "This page needs a browser with 64-bit WebAssembly memory: Chrome or Edge 133, Firefox 134, or later.",
+    frames: (n, bad) => `${n} ${n === 1 ? "frame" : "frames"}, ${bad} with a fault.`, nothing: "There are no digits.",
+    cleaned: (what) => `Left out: ${what}.`, more: (n) => `${n} more are not shown; the copies have them.`, copied: "Copied.",
+    notCopied: "The browser doesn't allow copying.", line: "Line", control: "Control field", address: "Address", ci: "CI field",
+    meter: "Meter", medium: "Medium", access: "Access number", status: "Status", more_follow: "More records follow in the next telegram",
+    maker: "Manufacturer's data", records: "Records", name: "Name", value: "Value", unit: "Unit", storage: "Storage", tariff: "Tariff",
+    subunit: "Subunit", function: "Function", body: "Body", bytes: "Bytes", fault: "Fault", place: "Place", byte: (n) => `byte ${n}`,
+    expected: "Expected", ack: "Acknowledgement", short: "Short frame", long: "Long frame", none: "No frame",
+    power: "power low", permanent: "permanent error", temporary: "temporary error", bits: (n) => `manufacturer bits ${n}`,
+    noValue: "no value", notRead: "not decoded", joinHint: "Do the lines belong together? Then tick the box above.",
+    chars: { return: "carriage returns", prefix: "0x", tab: "tabs", mark: "the characters" },
+    want: {
+      frame1: "a frame", frame2: "E5, 10 or 68", frame3: "more bytes of the frame", frame4: "two equal lengths of 3 or more, and 68 again",
+      frame5: "no byte after the frame", frame6: "16", frame7: "the sum of the bytes before it", body1: "a header of 12 bytes",
+      body2: "eight digits and three letters", body3: "security mode 0 (the telegram is encrypted)", body4: "a DIF that isn't reserved",
+      body5: "a record of at most ten DIFEs", body6: "a record of at most ten VIFEs", body7: "a record with a length byte below F0",
+      body8: "a record whose VIF isn't FC", body9: "a whole record", hex1: "pairs of hex digits, at most 4,096 characters a line",
+    },
+  },
+  de: {
+    title: "M-Bus-Decoder", about: "Rahmen oder Telegramme des drahtgebundenen M-Bus als Hexziffern einfügen. Nichts verlässt diese Seite.",
+    input: "Hexziffern, je Zeile ein Rahmen oder mehrere", joined: "Die Zeilen gehören zusammen", decode: "Dekodieren",
+    csv: "Als CSV kopieren", json: "Als JSON kopieren", link: "Link kopieren", other: "English",
+    proved: "Der Decoder dieser Seite ist bewiesen: Er schreibt zu jeder Eingabe Byte für Byte, was die Definitionen von mbdc sagen. "
+      + "Die Namen der Codes (englisch, wie in mbdc) und die Wörter dieser Seite sind es nicht.",
+    refused: "Diese Seite braucht einen Browser mit 64-Bit-Speicher für WebAssembly: Chrome oder Edge 133, Firefox 134 oder neuer.",
+    frames: (n, bad) => `${n} Rahmen, davon ${bad} mit Fehler.`, nothing: "Es gibt keine Ziffern.",
+    cleaned: (what) => `Weggelassen: ${what}.`, more: (n) => `${n} weitere werden nicht gezeigt; die Kopien enthalten sie.`, copied: "Kopiert.",
+    notCopied: "Der Browser erlaubt das Kopieren nicht.", line: "Zeile", control: "C-Feld", address: "Adresse", ci: "CI-Feld",
+    meter: "Zähler", medium: "Medium", access: "Zugriffsnummer", status: "Status", more_follow: "Weitere Datensätze folgen im nächsten Telegramm",
+    maker: "Herstellerdaten", records: "Datensätze", name: "Name", value: "Wert", unit: "Einheit", storage: "Speicher", tariff: "Tarif",
+    subunit: "Untereinheit", function: "Funktion", body: "Nutzdaten", bytes: "Bytes", fault: "Fehler", place: "Stelle", byte: (n) => `Byte ${n}`,
+    expected: "Erwartet", ack: "Quittung", short: "Kurzrahmen", long: "Langrahmen", none: "Kein Rahmen",
+    power: "Batterie schwach", permanent: "dauerhafter Fehler", temporary: "vorübergehender Fehler", bits: (n) => `Herstellerbits ${n}`,
+    noValue: "kein Wert", notRead: "nicht dekodiert", joinHint: "Gehören die Zeilen zusammen? Dann oben ankreuzen.",
+    chars: { return: "Wagenrückläufe", prefix: "0x", tab: "Tabulatoren", mark: "die Zeichen" },
+    want: {
+      frame1: "ein Rahmen", frame2: "E5, 10 oder 68", frame3: "weitere Bytes des Rahmens", frame4: "zwei gleiche Längen ab 3, dann wieder 68",
+      frame5: "kein Byte nach dem Rahmen", frame6: "16", frame7: "die Summe der Bytes davor", body1: "ein Kopf von 12 Bytes",
+      body2: "acht Ziffern und drei Buchstaben", body3: "Sicherheitsmodus 0 (das Telegramm ist verschlüsselt)", body4: "ein DIF, das nicht reserviert ist",
+      body5: "ein Datensatz mit höchstens zehn DIFE", body6: "ein Datensatz mit höchstens zehn VIFE", body7: "ein Datensatz mit Längenbyte unter F0",
+      body8: "ein Datensatz, dessen VIF nicht FC ist", body9: "ein ganzer Datensatz", hex1: "Paare von Hexziffern, höchstens 4096 Zeichen je Zeile",
+    },
+  },
+};
+
+// ---- the decoder
+
+let exported = null;
+let base = 0;
+
+async function start() {
+  const bytes = Uint8Array.from(atob(MODULE), (letter) => letter.charCodeAt(0));
+  const made = await WebAssembly.instantiate(bytes, {});
+  exported = made.instance.exports;
+  base = exported.memory.buffer.byteLength;
+  exported.memory.grow(4n);
+}
+
+// Makes the memory after the module's own so large.
+function makeRoom(size) {
+  const missing = base + size - exported.memory.buffer.byteLength;
+  if (missing > 0) exported.memory.grow(BigInt(Math.ceil(missing / PAGE)));
+}
+
+// The lines that the decoder prints for an input of bytes.
+function textOf(input) {
+  for (let room = PAGE; ; room *= 4) {
+    makeRoom(input.length + room);
+    const at = base + input.length;
+    new Uint8Array(exported.memory.buffer, base, input.length).set(input);
+    const count = BigInt.asUintN(64, exported.mbdc_decode_text(BigInt(base), BigInt(input.length), BigInt(at), BigInt(room)));
+    if (count !== TOO_LONG) return new TextDecoder().decode(new Uint8Array(exported.memory.buffer, at, Number(count)));
+  }
+}
+
+const encoder = new TextEncoder();
+const hexOf = (bytes) => Array.from(bytes, (byte) => byte.toString(16).toUpperCase().padStart(2, "0")).join("");
+const bytesOf = (digits) => Uint8Array.from(digits.match(/../g) ?? [], (pair) => parseInt(pair, 16));
+
+// ---- names
+
+const nameIn = (rows, code) => (rows.find((row) => code <= row[0]) ?? [0, "reserved"])[1];
+
+function quantityOf(vib) {
+  if (vib.length > 1 && vib[0] === 0xFB) return nameIn(NAMES.first, vib[1] % 128);
+  if (vib.length > 1 && vib[0] === 0xFD) return nameIn(NAMES.second, vib[1] % 128);
+  return vib.length ? nameIn(NAMES.primary, vib[0] % 128) : "reserved";
+}
+
+function qualifiersOf(vib) {
+  if (vib.length < 2 || vib[0] === 0x7C || vib[0] === 0xFF) return [];
+  const others = Array.from(vib.slice(vib[0] === 0xFB || vib[0] === 0xFD ? 2 : 1));
+  const end = others.findIndex((vife) => vife === 0xFF || vife === 0xFC);
+  return (end < 0 ? others : others.slice(0, end + 1)).map((vife) => nameIn(NAMES.vife, vife % 128));
+}
+
+// ---- from the printed lines to objects, with the field names of `mbdc decode --json`
+
+// The texts of the frames in a line's bytes: each has its length in it, or is all that is left.
+function splitFrames(bytes) {
+  const texts = [];
+  for (let at = 0; at < bytes.length;) {
+    const [first, length, again] = [bytes[at], bytes[at + 1], bytes[at + 2]];
+    const isLong = first === 0x68 && at + 3 < bytes.length && length === again && length >= 3 && bytes[at + 3] === 0x68;
+    const size = first === 0xE5 ? 1 : first === 0x10 ? 5 : isLong ? length + 6 : bytes.length - at;
+    texts.push(bytes.slice(at, at + size));
+    at += texts[texts.length - 1].length;
+  }
+  return texts;
+}
+
+function meterOf(id) {
+  const [number, manufacturer, version, medium] = id.split(".");
+  const code = parseInt(medium, 16);
+  return { id, number, manufacturer, version: parseInt(version, 16), medium: nameIn(NAMES.media, code), medium_code: code };
+}
+
+function statusOf(code) {
+  return {
+    code, application: nameIn(NAMES.states, code % 4), power_low: (code & 4) !== 0, permanent_error: (code & 8) !== 0,
+    temporary_error: (code & 16) !== 0, manufacturer_bits: code >> 5,
+  };
+}
+
+function recordOf(words) {
+  const [storage, tariff, subunit, code] = words.slice(1, 5).map(Number);
+  const vib = bytesOf(words[5]);
+  const isRead = words[8] !== "other";
+  return {
+    storage, tariff, subunit, function: nameIn(NAMES.functions, code), vib: words[5] === "-" ? "" : words[5],
+    data: words[6] === "-" ? "" : words[6], quantity: quantityOf(vib), qualifiers: qualifiersOf(vib),
+    reading: isRead ? "point" : "other", value: isRead && words[8] !== "none" ? words[8] : null, unit: words[9] ?? null,
+  };
+}
+
+function faultOf(words) {
+  return words[0] === "HEX" ? { kind: "hex", number: 1, name: "Hex" } : { kind: words[0].toLowerCase(), number: Number(words[2]), name: words[3] };
+}
+
+// The telegram's lines up to its end, or the body's fault.
+function bodyOf(lines, body) {
+  const words = lines.shift().split(" ");
+  if (words[0] !== "METER") return { body: hexOf(body), fault: faultOf(words) };
+  const records = [];
+  while (lines[0].startsWith("RECORD ")) records.push(recordOf(lines.shift().split(" ")));
+  const [end, count] = lines.shift().split(" ");
+  const rest = count === undefined ? null : hexOf(body.slice(body.length - Number(count)));
+  return {
+    meter: meterOf(words[1]), access: Number(words[2]), status: statusOf(Number(words[3])), records, more: end === "MORE",
+    manufacturer_data: rest,
+  };
+}
+
+// The next frame of the printed lines, whose bytes are `text`.
+function frameOf(lines, line, text) {
+  const words = lines.shift().split(" ");
+  const [control, address, ci] = words.slice(1, 4).map((word) => parseInt(word, 16));
+  const link = { control, control_name: nameIn(NAMES.controls, control), address };
+  if (words[0] === "ACK") return { line, frame: "ack" };
+  if (words[0] === "SHORT") return { line, frame: "short", ...link };
+  if (words[0] !== "LONG") return { line, frame: "none", ...(words[0] === "HEX" ? {} : { bytes: hexOf(text) }), fault: faultOf(words) };
+  const body = text.slice(7, 7 + Number(words[4]));
+  const inside = ci === CI_VARIABLE ? bodyOf(lines, body) : { body: hexOf(body) };
+  return { line, frame: "long", ...link, ci, ci_name: nameIn(NAMES.informations, ci), ...inside };
+}
+
+function decodeLine(line, number) {
+  const lines = textOf(encoder.encode(line)).split("\n");
+  lines.pop();
+  const texts = lines[0] === "HEX FAULT" ? [new Uint8Array()] : splitFrames(bytesOf(line.replaceAll(" ", "")));
+  const found = texts.map((text) => ({ object: frameOf(lines, number, text), text }));
+  if (lines.length) throw new Error("the frames of a line weren't split as the decoder does");
+  return found;
+}
+
+// ---- what people paste
+
+const CLEANED = [
+  ["return", /\r/g, ""], ["prefix", /0[xX](?=[0-9A-Fa-f]{2})/g, " "], ["tab", /\t/g, " "],
+  ["mark", /[:;,|_\-.'"\u00A0\uFEFF()[\]{}<>]/g, " "],
+];
+
+// The input without what the decoder refuses and what can't be meant, and what was left out.
+function clean(text) {
+  const left = [];
+  let kept = text;
+  for (const [name, found, instead] of CLEANED) {
+    const marks = new Set(kept.match(found) ?? []);
+    if (!marks.size) continue;
+    left.push(name === "mark" ? `${WORDS[language].chars.mark} ${[...marks].join(" ").trim() || "␣"}` : WORDS[language].chars[name]);
+    kept = kept.replace(found, instead);
+  }
+  const lines = kept.split("\n").map((line) => (line.length > MOST_LINE ? line.replaceAll(" ", "") : line));
+  return { lines: lines.at(-1) === "" ? lines.slice(0, -1) : lines, left };
+}
+
+// ---- the places of fields and faults
+
+// Number of bytes of the longest beginning of a body that is a telegram.
+function wholeItems(body) {
+  let whole = 0;
+  for (let end = HEADER; end < body.length; end++) {
+    const content = [8, 0, CI_VARIABLE, ...body.slice(0, end)];
+    const sum = content.reduce((total, byte) => total + byte, 0) % 256;
+    const frame = hexOf([0x68, content.length, content.length, 0x68, ...content, sum, 0x16]);
+    if (!textOf(encoder.encode(frame)).includes("FAULT")) whole = end;
+  }
+  return whole;
+}
+
+// Where a fault lies, in bytes from the frame's first; null of a line that isn't hex.
+function placeOf(object, text) {
+  const { kind, number } = object.fault;
+  const last = Math.max(text.length - 1, 0);
+  if (kind === "hex") return null;
+  if (kind === "frame") return [0, 0, 0, text.length, 1, last, last, Math.max(last - 1, 0)][number];
+  const body = bytesOf(object.body);
+  return 7 + (number === 1 ? body.length : number === 2 ? 0 : number === 3 ? 11 : wholeItems(body));
+}
+
+// First byte and end of each record in the frame; null where a record isn't found at its place.
+function spansOf(object, text) {
+  const spans = [];
+  let at = 7 + HEADER;
+  for (const record of object.records) {
+    while (text[at] === 0x2F) at++;
+    const begin = at;
+    const isVariable = (text[at] & 15) === 13;
+    while (text[at++] & 128);
+    const vib = record.vib.length / 2;
+    const data = record.data.length / 2;
+    if (hexOf(text.slice(at, at + vib)) !== record.vib) return null;
+    at += vib + (isVariable ? 1 : 0);
+    if (hexOf(text.slice(at, at + data)) !== record.data) return null;
+    at += data;
+    spans.push([begin, at]);
+  }
+  return spans;
+}
+
+// ---- what is shown
+
+let language = (navigator.language ?? "en").toLowerCase().startsWith("de") ? "de" : "en";
+let shown = [];
+const $ = (id) => document.getElementById(id);
+
+function element(tag, text, attributes = {}) {
+  const made = document.createElement(tag);
+  if (text !== null) made.textContent = text;
+  for (const [name, value] of Object.entries(attributes)) made.setAttribute(name, value);
+  return made;
+}
+
+function put(list, name, value, kind = "") {
+  list.append(element("dt", name), element("dd", value, kind ? { class: kind } : {}));
+}
+
+function statusWords(status) {
+  const words = WORDS[language];
+  const set = [[status.power_low, words.power], [status.permanent_error, words.permanent], [status.temporary_error, words.temporary]];
+  const bits = status.manufacturer_bits ? [words.bits(status.manufacturer_bits)] : [];
+  return [status.application, ...set.filter((one) => one[0]).map((one) => one[1]), ...bits].join(", ");
+}
+
+function bytesShown(text, spans, place) {
+  const shownBytes = element("div", null, { class: "bytes", role: "group", "aria-label": WORDS[language].bytes });
+  const parts = spans.map(() => element("span", null));
+  let at = 0;
+  text.forEach((byte, n) => {
+    while (at < spans.length && n >= spans[at][1]) at++;
+    const inside = at < spans.length && n >= spans[at][0] ? parts[at] : shownBytes;
+    if (inside !== shownBytes && !inside.parentNode) shownBytes.append(inside);
+    inside.append(n === place ? element("span", hexOf([byte]), { class: "here" }) : hexOf([byte]), " ");
+  });
+  return [shownBytes, parts];
+}
+
+function recordRow(record, part) {
+  const words = WORDS[language];
+  const row = element("tr", null, { tabindex: "0", role: "row" });
+  const value = record.value ?? (record.reading === "other" ? `${words.notRead}: ${record.data}` : words.noValue);
+  const cells = [
+    [words.name, [record.quantity, ...record.qualifiers].join(", ")], [words.value, value, "number"], [words.unit, record.unit ?? ""],
+    [words.storage, record.storage, "number"], [words.tariff, record.tariff, "number"], [words.subunit, record.subunit, "number"],
+    [words.function, record.function],
+  ];
+  for (const [label, text, kind] of cells) row.append(element("td", text, { role: "cell", "data-label": label, ...(kind ? { class: kind } : {}) }));
+  const light = (is) => () => part?.classList.toggle("lit", is);
+  for (const [event, is] of [["mouseenter", true], ["focus", true], ["mouseleave", false], ["blur", false]]) row.addEventListener(event, light(is));
+  return row;
+}
+
+function recordTable(records, parts) {
+  const words = WORDS[language];
+  // (roles, since a narrow page lays out the cells one below the other)
+  const table = element("table", null, { role: "table" });
+  const heads = element("tr", null, { role: "row" });
+  for (const name of ["name", "value", "unit", "storage", "tariff", "subunit", "function"]) heads.append(element("th", words[name], { scope: "col", role: "columnheader" }));
+  const head = element("thead", null, { role: "rowgroup" });
+  const rows = element("tbody", null, { role: "rowgroup" });
+  head.append(heads);
+  rows.append(...records.map((record, n) => recordRow(record, parts[n])));
+  table.append(element("caption", words.records), head, rows);
+  return table;
+}
+
+function putTelegram(list, object) {
+  const words = WORDS[language];
+  put(list, words.meter, object.meter.id);
+  put(list, words.medium, object.meter.medium);
+  put(list, words.access, object.access);
+  put(list, words.status, statusWords(object.status), object.status.code ? "bad" : "");
+  if (object.more) put(list, words.status, words.more_follow);
+  if (object.manufacturer_data !== null) put(list, words.maker, object.manufacturer_data || "-");
+}
+
+function putFault(list, object, place) {
+  const words = WORDS[language];
+  put(list, words.fault, `${object.fault.number} ${object.fault.name}`, "bad");
+  if (place !== null) put(list, words.place, words.byte(place));
+  put(list, words.expected, words.want[object.fault.kind + object.fault.number] ?? "");
+}
+
+function frameShown({ object, text }) {
+  const words = WORDS[language];
+  const article = element("article", null);
+  const list = element("dl", null);
+  const place = object.fault ? placeOf(object, text) : null;
+  article.append(element("h2", `${words.line} ${object.line}: ${words[object.frame]}`));
+  if (object.control_name) put(list, words.control, `${hexOf([object.control])} ${object.control_name}`);
+  if (object.control_name) put(list, words.address, object.address);
+  if (object.ci_name) put(list, words.ci, `${hexOf([object.ci])} ${object.ci_name}`);
+  if (object.meter) putTelegram(list, object);
+  if (object.fault) putFault(list, object, place);
+  const [bytes, parts] = bytesShown(text, (object.records && spansOf(object, text)) || [], place);
+  article.append(list);
+  if (object.records?.length) article.append(recordTable(object.records, parts));
+  if (text.length) article.append(bytes);
+  return article;
+}
+
+function decodeAll(input) {
+  const { lines, left } = clean(input);
+  const joined = $("joined").checked ? [lines.join(" ").replaceAll(" ", "")] : lines;
+  return { found: joined.flatMap((line, n) => decodeLine(line, n + 1)), left, count: lines.length };
+}
+
+function show() {
+  const words = WORDS[language];
+  const { found, left, count } = decodeAll($("input").value);
+  const bad = found.filter((one) => one.object.fault).length;
+  const said = [found.length ? words.frames(found.length, bad) : words.nothing];
+  if (left.length) said.push(words.cleaned(left.join(", ")));
+  if (found.length > SHOWN) said.push(words.more(found.length - SHOWN));
+  if (bad && count > 1 && !$("joined").checked) said.push(words.joinHint);
+  shown = found.map((one) => one.object);
+  $("frames").replaceChildren(...found.slice(0, SHOWN).map(frameShown));
+  $("said").textContent = said.join(" ");
+}
+
+// ---- copies
+
+const cell = (value) => (/[",\n]|^[=+@]/.test(value) ? `"${value.replaceAll('"', '""')}"` : value);
+
+function csv() {
+  const rows = [["line", "meter", "medium", "name", "value", "unit", "storage", "tariff", "subunit", "function", "vib", "data", "fault"]];
+  for (const one of shown) {
+    const meter = one.meter ?? { id: "", medium: "" };
+    for (const r of one.records ?? []) {
+      const name = [r.quantity, ...r.qualifiers].join("; ");
+      rows.push([one.line, meter.id, meter.medium, name, r.value ?? "", r.unit ?? "", r.storage, r.tariff, r.subunit, r.function, r.vib, r.data, ""]);
+    }
+    if (one.fault) rows.push([one.line, ...Array(11).fill(""), `${one.fault.kind} ${one.fault.number} ${one.fault.name}`]);
+  }
+  return rows.map((row) => row.map((value) => cell(String(value))).join(",") + "\r\n").join("");
+}
+
+const json = () => shown.map((one) => JSON.stringify(one) + "\n").join("");
+const link = () => `${location.href.split("#")[0]}#${encodeURIComponent($("input").value.trim())}`;
+
+async function copy(text) {
+  try {
+    await navigator.clipboard.writeText(text);
+    $("said").textContent = WORDS[language].copied;
+  } catch {
+    $("said").textContent = WORDS[language].notCopied;
+  }
+}
+
+// ---- the page
+
+function speak() {
+  const words = WORDS[language];
+  document.documentElement.lang = language;
+  document.title = words.title;
+  for (const one of document.querySelectorAll("[data-text]")) one.textContent = words[one.dataset.text];
+  $("language").textContent = words.other;
+  $("language").lang = language === "en" ? "de" : "en";
+  $("refused").textContent = words.refused;
+}
+
+function openLink() {
+  let text = location.hash.slice(1);
+  try {
+    text = decodeURIComponent(text);
+  } catch {
+    // the text as it is
+  }
+  if (text) {
+    $("input").value = text;
+    show();
+  }
+}
+
+async function main() {
+  speak();
+  try {
+    await start();
+  } catch {
+    $("refused").hidden = false;
+    $("form").hidden = true;
+    return;
+  }
+  $("form").addEventListener("submit", (event) => { event.preventDefault(); show(); });
+  $("joined").addEventListener("change", show);
+  $("csv").addEventListener("click", () => copy(csv()));
+  $("json").addEventListener("click", () => copy(json()));
+  $("link").addEventListener("click", () => copy(link()));
+  $("language").addEventListener("click", () => { language = language === "en" ? "de" : "en"; speak(); if (shown.length) show(); });
+  addEventListener("hashchange", openLink);
+  openLink();
+  document.documentElement.dataset.ready = "yes";
+}
+
+main();
