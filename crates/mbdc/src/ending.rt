@@ -61,9 +61,15 @@ pub fn told_why(rt: &HostRuntime, ending: &Ending, why: &Why) {
 }
 
 /// Prints why the disk failed, where the run went on without it: what it couldn't keep it refused,
-/// as `ERR STORE`, and its status is that of the answers.
+/// as `ERR STORE`, and its status is that of the answers. A sector that the drive can't read is
+/// named also where the image doesn't open.
 pub fn told_disk(rt: &HostRuntime, ending: &Ending, why: &Why) {
-    if let Ending::Clean | Ending::Faulty = ending
+    let is_told = match ending {
+        Ending::Clean | Ending::Faulty => true,
+        Ending::Open(_) => why.has_unreadable(),
+        _ => false,
+    };
+    if is_told
         && let Some(reason) = why.disk()
         && let Ok(line) = disk_line(rt.alloc(), &reason)
     {

@@ -32,7 +32,7 @@ where
         Ok(file) => file,
         Err(error) => return host.why.file(image, error),
     };
-    let mut disk = match FileDisk::new(Noted::new(file, host.why)) {
+    let mut disk = match FileDisk::new(Noted::look(file, host.why)) {
         Ok(disk) => disk,
         Err(error) => return host.why.file(image, error),
     };
