@@ -14,6 +14,8 @@ pub mod Judging
 pub mod Laws
 -- how much of a group is there, and where it is cut off
 pub mod Reading
+-- the stamp of a sector
+pub mod Stamp
 -- a group's payload that is put piece by piece, seen with the group's disk
 pub mod Streaming
 -- a group that is being written, and what a crash may leave of it

@@ -12,7 +12,7 @@
 //! sink for encoders.
 //!
 //! [`read_group`] returns the payload exactly if a group is complete, and otherwise names the first
-//! sector that doesn't fit.
+//! sector that doesn't fit. [`stamp_of`] returns the stamp of any one sector.
 #![tactic(auto)]
 
 mod fault;
@@ -20,6 +20,7 @@ mod head;
 mod laws;
 mod reader;
 mod site;
+mod stamp;
 mod streaming;
 mod writer;
 
@@ -31,5 +32,6 @@ pub use laws::{
 };
 pub use reader::{Group, read_group};
 pub use site::Site;
+pub use stamp::{Stamp, stamp_of};
 pub use streaming::GroupSink;
 pub use writer::GroupWriter;
