@@ -84,8 +84,8 @@ class Server:
                 cursor.execute("SELECT pid FROM pg_stat_activity WHERE backend_type = 'client backend'"
                                " ORDER BY pid = pg_backend_pid() LIMIT 1")
                 os.kill(cursor.fetchone()[0], signal.SIGKILL)
-        except psycopg2.OperationalError:
-            pass  # it is recovering already
+        except (psycopg2.OperationalError, ProcessLookupError):
+            pass  # it is recovering already, or that process has ended
 
     def stop(self):
         if self.process is not None and self.process.poll() is None:

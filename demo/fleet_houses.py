@@ -43,14 +43,28 @@ class House:
         self.mbdc, self.folder, self.box, self.meters = mbdc, folder, box, meters
         self.sent, self.kills, self.seconds, self.today = [], 0, 0.01, None
         self.flats = {meter.name: None for meter in meters}  # None where it isn't fitted
-        self.format()
+        subprocess.run([self.mbdc, "format", self.image, str(SECTORS)], check=True)
+        self.write_settings()
 
     @property
     def image(self):
         return self.folder / f"{self.box}.image"
 
-    def format(self):
-        subprocess.run([self.mbdc, "format", self.image, str(SECTORS)], check=True)
+    @property
+    def identity(self):
+        """Which box it is, beside the image (packaging/office-line)."""
+        return self.folder / f"{self.box}.image.identity"
+
+    def write_settings(self):
+        (self.folder / f"{self.box}.conf").write_text(f"IMAGE={self.image}\n")
+
+    def rename(self, box):
+        """The box goes on under another name."""
+        image, identity = self.image, self.identity
+        self.box = box
+        image.rename(self.image)
+        identity.rename(self.identity)
+        self.write_settings()
 
     def fits(self):
         return [f"FIT {meter.name} {LINE} {meter.address} {meter.flat}" for meter in self.meters]

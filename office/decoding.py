@@ -1,15 +1,15 @@
 """Decodes telegrams with `mbdc decode`, and finds the due-date value of each record (OMS Volume 2)."""
 
+import datetime
 import decimal
 import functools
 import json
 import os
-import pathlib
 import re
 import subprocess
-from typing import NamedTuple, Optional
+from typing import Any, Dict, List, NamedTuple, Optional, Sequence
 
-MBDC = os.environ.get("MBDC", str(pathlib.Path(__file__).resolve().parent.parent / "mbdc"))
+MBDC = os.environ.get("MBDC", "mbdc")  # an installed program
 FRAMES_A_RUN = 1500  # of at most 523 bytes each, below the 1 MiB that an input may have
 DECODE_SECONDS = 60  # at most, of one run of the decoder
 RSP_UD, CI_VARIABLE = 0x08, 0x72  # EN 13757-2 and -3
@@ -18,11 +18,17 @@ TIME_POINT_VIFS = (0x6C, 0x6D)  # a date; a date and time (EN 13757-3)
 RECORD = re.compile(r"RECORD (\d+) (\d+) (\d+) (\d+) ([0-9A-F]+) (?:[0-9A-F]+|-) = (\S+)(?: (\S+))?")
 NUMBER = re.compile(r"-?\d+(\.\d+)?")
 DAY = re.compile(r"(\d{4}-\d\d-\d\d)(T.*)?")
+MIDNIGHT = re.compile(r"T00:00(:00)?")  # which ends the day before
 FLAGS, OTHER = "flags", "other"
+FIRST_DAY = "0001-01-01"
 
 
 class Undecoded(Exception):
     """The decoder failed, or a telegram isn't one. The box holds only telegrams that its decoder reads."""
+
+
+class NoDecoder(Exception):
+    """There is no decoder: another try won't find one either."""
 
 
 class Point(NamedTuple):
@@ -38,49 +44,62 @@ class Point(NamedTuple):
     is_point: bool  # of the decoder's table of units; other values aren't due-date values
 
     @property
-    def value(self):
+    def value(self) -> Optional[decimal.Decimal]:
         """The number, exact; None of a date, of flags, and where there is none."""
         is_number = self.unit != FLAGS and NUMBER.fullmatch(self.shown)
         return decimal.Decimal(self.shown) if is_number else None
 
     @property
-    def is_time_point(self):
+    def is_time_point(self) -> bool:
         return self.is_point and int(self.vib[:2], 16) & 0x7F in TIME_POINT_VIFS
 
     @property
-    def day(self):
+    def day(self) -> Optional[str]:
+        """The day at whose end a time point lies: a moment at 00:00 ends the day before it."""
         found = DAY.fullmatch(self.shown)
-        return found[1] if found and self.is_time_point else None
+        if not found or not self.is_time_point:
+            return None
+        is_day_before = found[2] and MIDNIGHT.fullmatch(found[2]) and found[1] > FIRST_DAY
+        return day_before(found[1]) if is_day_before else found[1]
 
 
-def frame_of(body):
+def day_before(day: str) -> str:
+    return (datetime.date.fromisoformat(day) - datetime.timedelta(days=1)).isoformat()
+
+
+def frame_of(body: bytes) -> str:
     """The long frame around a telegram, in hex digits (EN 13757-2)."""
     content = bytes([RSP_UD, 0, CI_VARIABLE]) + body
     return bytes([0x68, len(content), len(content), 0x68, *content, sum(content) % 256, 0x16]).hex().upper()
 
 
 @functools.lru_cache(maxsize=None)
-def has_json():
-    """Whether the decoder has an output for programs."""
-    told = subprocess.run([MBDC, "decode", "--help"], capture_output=True, text=True, check=False)
-    return "--json" in told.stdout
+def has_json() -> bool:
+    """Whether the decoder has an output for programs.
+
+    Raises NoDecoder and Undecoded."""
+    return "--json" in decoded("", "--help")
 
 
-def decoded(text, *words):
-    """What the decoder prints of a text."""
+def decoded(text: str, *words: str) -> str:
+    """What the decoder prints of a text.
+
+    Raises NoDecoder and Undecoded."""
     try:
         done = subprocess.run([MBDC, "decode", *words], input=text, capture_output=True, text=True,
                               timeout=DECODE_SECONDS, check=False)
-    except (OSError, subprocess.TimeoutExpired) as fault:
+    except (FileNotFoundError, PermissionError) as fault:
+        raise NoDecoder(f"no decoder: {MBDC}: {fault.strerror} (the variable MBDC names it)") from fault
+    except (OSError, ValueError, subprocess.TimeoutExpired) as fault:
         raise Undecoded(f"{MBDC} decode: {fault}") from fault
     if done.returncode != 0:
         raise Undecoded(f"{MBDC} decode ended with status {done.returncode}")
     return done.stdout
 
 
-def points_of_text(text):
+def points_of_text(text: str) -> List[List[Point]]:
     """The records of each frame, from the decoder's lines."""
-    frames = []
+    frames: List[List[Point]] = []
     for line in text.splitlines():
         if line.startswith("LONG "):
             frames.append([])
@@ -92,12 +111,12 @@ def points_of_text(text):
     return frames
 
 
-def points_of_json(text):
+def points_of_json(text: str) -> List[List[Point]]:
     """The records of each frame, from the decoder's JSON Lines."""
     return [[point_of_object(record) for record in json.loads(line).get("records", [])] for line in text.splitlines()]
 
 
-def point_of_object(record):
+def point_of_object(record: Dict[str, Any]) -> Point:
     """A record from its JSON object; `reading` is point, plain (a value of another table) or other (none)."""
     function = next(number for number, word in enumerate(FUNCTIONS) if word in record["function"])
     quantity = ", ".join([record["quantity"], *record.get("qualifiers", [])])
@@ -106,24 +125,27 @@ def point_of_object(record):
                  record["unit"], record["reading"] == "point")
 
 
-def points_of(bodies):
+def points_of(bodies: Sequence[bytes]) -> List[List[Point]]:
     """The records of each telegram.
 
-    Raises Undecoded."""
-    frames = []
+    Raises NoDecoder and Undecoded."""
+    frames: List[List[Point]] = []
     for begin in range(0, len(bodies), FRAMES_A_RUN):
         text = "".join(f"{frame_of(body)}\n" for body in bodies[begin:begin + FRAMES_A_RUN])
-        frames += points_of_json(decoded(text, "--json")) if has_json() else points_of_text(decoded(text))
+        try:
+            frames += points_of_json(decoded(text, "--json")) if has_json() else points_of_text(decoded(text))
+        except (KeyError, IndexError, StopIteration, TypeError, ValueError) as fault:
+            raise Undecoded(f"{MBDC} decode printed what can't be read: {fault!r}") from fault
     if len(frames) != len(bodies):
         raise Undecoded(f"{len(frames)} frames were decoded of {len(bodies)}")
     return frames
 
 
-def due_days(points):
+def due_days(points: Sequence[Point]) -> List[Optional[str]]:
     """For each record of a reading the day at which its value was stored, or None.
 
     A date of function 0, tariff 0 and subunit 0 dates its storage number, the first of them; storage 0 is current."""
-    days = {}
+    days: Dict[int, str] = {}
     for point in points:
         if point.day and (point.function, point.tariff, point.subunit) == (0, 0, 0):
             days.setdefault(point.storage, point.day)

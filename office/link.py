@@ -7,12 +7,16 @@ import re
 import shlex
 import signal
 import subprocess
-from typing import NamedTuple
+from typing import Iterator, List, NamedTuple, Optional, Tuple
 
 PAGE = 100  # the most readings that one WINDOW shows
 # A numbered line that no box accepts, since its number isn't the next one's: it is answered `ERR ORDER last`.
 PROBE = "999999999999999999 CONFIRM 0"
 REPLY_ENDS = ("OK", "ERR", "END")
+# The first line of each script names the box that it is for, or asks, and its last one is END: packaging/office-line
+# does nothing where another box is meant, or where the script isn't whole.
+ASKING = "?"
+NAMED = re.compile(r"(BOX|ERR BOX) ([0-9a-f]{32})")
 UTC = datetime.timezone.utc
 
 
@@ -24,13 +28,17 @@ class Disagreement(Exception):
     """The box contradicts the database. Nothing is confirmed until somebody has looked."""
 
 
+class WrongCommand(Exception):
+    """The command of the box in the database is none: it can't be split into words."""
+
+
 class Reading(NamedTuple):
     """A reading as the box shows it."""
     serial: int
     identity: str
     flat: str
-    heard: tuple  # a moment for each telegram
-    bodies: tuple  # the telegrams without their frames
+    heard: Tuple[datetime.datetime, ...]  # a moment for each telegram
+    bodies: Tuple[bytes, ...]  # the telegrams without their frames
 
 
 class Meter(NamedTuple):
@@ -43,25 +51,48 @@ class Meter(NamedTuple):
 
 class Seen(NamedTuple):
     """What a box shows at one moment."""
+    identity: str  # which box it is
     number: int  # of the last command that it did
     confirmed: int  # the serial up to which it has confirmed
-    meters: list
-    readings: list  # from the serial asked for on, at most PAGE
+    meters: List[Meter]
+    readings: List[Reading]  # from the serial asked for on, at most PAGE
     is_all: bool  # there are no further ones
 
 
+Reply = List[str]
+
+
 class Link:
-    """A box behind its command."""
+    """A box behind its command; `identity` is the one that it has to have, None where that isn't known."""
 
-    def __init__(self, box, command, timeout):
-        self.box, self.timeout = box, timeout
-        self.words = [word.replace("{box}", box) for word in shlex.split(command)]
+    def __init__(self, box: str, command: str, timeout: float, identity: Optional[str]) -> None:
+        self.box, self.timeout, self.identity = box, timeout, identity
+        try:
+            words = shlex.split(command)
+        except ValueError as fault:
+            raise WrongCommand(f"its command can't be read: {fault}") from fault
+        if not words or "\0" in command:
+            raise WrongCommand("its command is empty, or has a byte of 0")
+        self.words = [word.replace("{box}", box) for word in words]
 
-    def run(self, lines):
+    def run(self, lines: List[str]) -> List[Reply]:
         """The replies to these office lines, each a list of lines.
 
-        Raises Unreached where the command failed, took too long, or a reply isn't whole."""
-        script = "".join(f"OFFICE {line}\n" for line in lines)
+        Raises Unreached where the command failed, took too long, or a reply isn't whole, and Disagreement where
+        another box answers, which has done nothing then."""
+        script = "".join([f"BOX {self.identity or ASKING}\n", *(f"OFFICE {line}\n" for line in lines), "END\n"])
+        first, _, rest = self.printed(script).decode("ascii", "replace").partition("\n")
+        named = NAMED.fullmatch(first)
+        if named is None:
+            raise Unreached("it doesn't say which box it is")
+        if self.identity is None:
+            self.identity = named[2]
+        if named[1] == "ERR BOX" or named[2] != self.identity:
+            raise Disagreement(f"another box answers: {named[2]}, and not {self.identity}")
+        return whole_replies(rest, len(lines))
+
+    def printed(self, script: str) -> bytes:
+        """What the command prints."""
         try:
             process = subprocess.Popen(self.words, stdin=subprocess.PIPE, stdout=subprocess.PIPE,
                                        stderr=subprocess.PIPE, start_new_session=True)
@@ -79,33 +110,33 @@ class Link:
         if process.returncode != 0:
             last = complaint.decode(errors="replace").strip().rpartition("\n")[2]
             raise Unreached(f"status {process.returncode} {last}".strip())
-        return whole_replies(printed.decode("ascii", "replace"), len(lines))
+        return printed
 
-    def look(self, first):
+    def look(self, first: int) -> Seen:
         """What the box shows, with the readings from that serial on, or from the first that isn't confirmed.
 
-        Raises Unreached."""
+        Raises Unreached and Disagreement."""
         try:
             return self.seen_from(first)
-        except (ValueError, IndexError, StopIteration) as fault:
+        except (ValueError, IndexError, OverflowError, StopIteration) as fault:
             raise Unreached(f"an answer can't be read: {fault}") from fault
 
-    def seen_from(self, first):
+    def seen_from(self, first: int) -> Seen:
         order, mark, register, window = self.run([PROBE, "WINDOW 1 1", "REGISTER", f"WINDOW {first} {PAGE}"])
         confirmed = gone(mark)
         if gone(window):
             first = confirmed + 1
             order, mark, register, window = self.run([PROBE, "WINDOW 1 1", "REGISTER", f"WINDOW {first} {PAGE}"])
         number = re.fullmatch(r"ERR ORDER (\d+)", order[0])
-        if number is None or gone(mark) != confirmed or gone(window):
+        if number is None or self.identity is None or gone(mark) != confirmed or gone(window):
             raise Unreached(f"unexpected answers: {order[0]}, {mark[0]}, {window[0]}")
         readings = readings_of(window)
-        return Seen(int(number[1]), confirmed, meters_of(register), readings, len(readings) < PAGE)
+        return Seen(self.identity, int(number[1]), confirmed, meters_of(register), readings, len(readings) < PAGE)
 
 
-def whole_replies(text, count):
+def whole_replies(text: str, count: int) -> List[Reply]:
     """The replies in a text; the last line of each begins with OK, ERR or END."""
-    lines = text.splitlines() if text.endswith("\n") else []
+    lines = text.splitlines() if text.endswith("\n") and text.replace("\n", "").isprintable() else []
     ends = [place + 1 for place, line in enumerate(lines) if line.split(" ")[0] in REPLY_ENDS]
     replies = [lines[begin:end] for begin, end in zip([0, *ends], ends)]
     if len(replies) != count or ends[-1:] != [len(lines)]:
@@ -116,21 +147,22 @@ def whole_replies(text, count):
     return replies
 
 
-def gone(window):
+def gone(window: Reply) -> int:
     """The confirmed serial that a WINDOW was refused with, or 0."""
     found = re.fullmatch(r"ERR GONE (\d+)", window[0])
     return int(found[1]) if found else 0
 
 
-def counted(reply, count):
+def counted(reply: Reply, count: int) -> None:
     """Raises Unreached where the END of a reply has another count."""
     if reply[-1] != f"END {count}":
         raise Unreached(f"{count} rows before {reply[-1]}")
 
 
-def readings_of(window):
+def readings_of(window: Reply) -> List[Reading]:
     """The readings of a WINDOW's reply."""
-    readings, rest = [], iter(window[:-1])
+    readings: List[Reading] = []
+    rest: Iterator[str] = iter(window[:-1])
     for line in rest:
         _, serial, identity, flat, count = line.split(" ")
         parts = [next(rest).split(" ") for _ in range(int(count))]
@@ -141,7 +173,7 @@ def readings_of(window):
     return readings
 
 
-def meters_of(register):
+def meters_of(register: Reply) -> List[Meter]:
     """The meters of a REGISTER's reply."""
     rows = [line.split(" ") for line in register[:-1]]
     counted(register, len(rows))

@@ -8,22 +8,23 @@ import contextlib
 import random
 import re
 import time
-from typing import NamedTuple, Optional
+from typing import Callable, Iterator, List, NamedTuple, Optional, Tuple, TypeVar
 
 import psycopg2
-import psycopg2.extras
 
-from decoding import Undecoded, due_days, points_of
-from link import PAGE, Disagreement, Link, Meter, Reading, Unreached
+from database import Cursor, Database, insert, one
+from decoding import Undecoded
+from link import Disagreement, Link, Meter, Reading, Seen, Unreached
+from storing import store_readings, stored
 
-# A visit whose machine is gone holds its lock for at most IDLE_RUNS runs at the box and GRACE seconds; another one
-# waits for it a little longer.
-IDLE_RUNS, GRACE = 3, 60
 LONGEST_PAUSE = 60  # seconds between two tries
 REFUSALS = ("SYNTAX", "KNOWN", "UNKNOWN", "ADDRESS", "FULL")  # of an order; its number is used again
 NO_BOX = "there is no such box in the database"
-IS_OPEN = "state IN ('pending', 'queued')"
+IS_OPEN = "state IN ('pending', 'queued')"  # in the words of the index open_orders
 TRANSIENT = (Unreached, Undecoded, psycopg2.Error)  # a lost database is any psycopg2.Error
+LAST_SERIAL = 2**63 - 1
+
+Result = TypeVar("Result")
 
 
 class Order(NamedTuple):
@@ -37,110 +38,102 @@ class Order(NamedTuple):
 
 
 class Known(NamedTuple):
-    """What the database knows of a box's state."""
+    """What the database knows of a box's state; both are None before the first contact."""
     number: Optional[int]
     confirmed: Optional[int]
 
 
-class Database:
-    """A connection to the database, made anew where it was lost; a process has one for all its visits."""
-
-    def __init__(self, name, timeout):
-        idle = int(IDLE_RUNS * timeout) + GRACE
-        self.name, self.connection = name, None
-        self.options = f"-c timezone=UTC -c idle_in_transaction_session_timeout={idle}s -c lock_timeout={idle + GRACE}s"
-
-    @contextlib.contextmanager
-    def transaction(self):
-        """A transaction's cursor."""
-        if self.connection is None or self.connection.closed:
-            self.connection = psycopg2.connect(self.name, options=self.options)
-        with self.connection, self.connection.cursor() as cursor:
-            yield cursor
-
-    def close(self):
-        if self.connection is not None:
-            self.connection.close()
+class Standing(NamedTuple):
+    """A box's state that is known."""
+    number: int
+    confirmed: int
 
 
 class Visit:
     """Talks to one box. Each method that ends in a commit can be called again after any failure."""
 
-    def __init__(self, database, box, timeout):
+    def __init__(self, database: Database, box: str, timeout: float) -> None:
         self.database, self.box, self.timeout = database, box, timeout
-        # whether this visit saw the box as the database knows it, the order that it numbered, the readings it stored
-        self.is_checked, self.own, self.stored_count = False, None, 0
+        # whether this visit saw the box as the database knows it, since then no order was refused; the order that it
+        # numbered; the readings that it stored
+        self.is_checked, self.stored_count = False, 0
+        self.own: Optional[int] = None
 
-    def transaction(self):
+    def transaction(self) -> "contextlib.AbstractContextManager[Cursor]":
         return self.database.transaction()
 
     @contextlib.contextmanager
-    def locked(self):
+    def locked(self) -> Iterator[Tuple[Cursor, Link, Known]]:
         """A transaction that holds the lock of the box's row: cursor, link, and what is known."""
         with self.transaction() as cursor:
-            cursor.execute("SELECT command, number, confirmed FROM boxes WHERE name = %s FOR NO KEY UPDATE",
+            cursor.execute("SELECT command, identity, number, confirmed FROM boxes WHERE name = %s FOR NO KEY UPDATE",
                            (self.box,))
             row = cursor.fetchone()
             if row is None:
                 raise Disagreement(NO_BOX)
-            yield cursor, Link(self.box, row[0], self.timeout), Known(*row[1:])
+            command, identity, number, confirmed = row
+            yield cursor, Link(self.box, command, self.timeout, identity), Known(number, confirmed)
 
-    def retried(self, work, tries, pause):
+    def retried(self, work: Callable[[], Result], tries: int, pause: float) -> Result:
         """What `work` returns; after a transient failure it is done again, later and later."""
-        for attempt in range(tries):
+        for attempt in range(tries - 1):
             try:
                 return work()
             except TRANSIENT as fault:
-                self.is_checked, self.own = False, None
-                if isinstance(fault, psycopg2.Error):
-                    self.database.close()
-                if attempt == tries - 1:
-                    raise
+                self.forget(fault)
                 time.sleep(min(LONGEST_PAUSE, pause * 2 ** attempt) * random.uniform(0.5, 1))
+        try:
+            return work()
+        except TRANSIENT as fault:
+            self.forget(fault)
+            raise
+
+    def forget(self, fault: BaseException) -> None:
+        """After a failure nothing is taken from before."""
+        self.is_checked, self.own = False, None
+        if isinstance(fault, psycopg2.Error):
+            self.database.close()
 
     # ---- orders
 
-    def queue(self, lines, key):
+    def queue(self, lines: List[str], key: str) -> List[int]:
         """Puts orders into the table, each once for the key and its place; returns their ids."""
         with self.transaction() as cursor:  # its lock isn't needed: it may be held for long
             cursor.execute("SELECT FROM boxes WHERE name = %s", (self.box,))
             if cursor.fetchone() is None:
                 raise Disagreement(NO_BOX)
-            ids = []
-            for place, line in enumerate(lines, 1):
-                own_key = f"{key}.{place}"
-                cursor.execute("INSERT INTO orders (box, key, line) VALUES (%s, %s, %s)"
-                               " ON CONFLICT (box, key) DO NOTHING RETURNING id", (self.box, own_key, line))
-                row = cursor.fetchone() or self.order_of_key(cursor, own_key, line)
-                ids.append(row[0])
-            return ids
+            return [self.queue_one(cursor, line, f"{key}.{place}") for place, line in enumerate(lines, 1)]
 
-    def order_of_key(self, cursor, key, line):
-        cursor.execute("SELECT id, line FROM orders WHERE box = %s AND key = %s", (self.box, key))
+    def queue_one(self, cursor: Cursor, line: str, key: str) -> int:
+        cursor.execute("INSERT INTO orders (box, key, line) VALUES (%s, %s, %s)"
+                       " ON CONFLICT (box, key) DO NOTHING RETURNING id", (self.box, key, line))
         row = cursor.fetchone()
-        if row[1] != line:
-            raise Disagreement(f"the key {key} is that of another order: {row[1]}")
-        return row
+        if row is None:
+            cursor.execute("SELECT id, line FROM orders WHERE box = %s AND key = %s", (self.box, key))
+            row = one(cursor)
+            if row[1] != line:
+                raise Disagreement(f"the key {key} is that of another order: {row[1]}")
+        return int(row[0])
 
-    def order(self, cursor, where, *values):
+    def order(self, cursor: Cursor, where: str, *values: object) -> Optional[Order]:
         """The first order of the box of which that is so, or None."""
         cursor.execute("SELECT id, line, confirms, number, state, answer FROM orders"
                        f" WHERE box = %s AND {where} ORDER BY id LIMIT 1", (self.box, *values))
         row = cursor.fetchone()
         return Order(*row) if row else None
 
-    def settle(self):
+    def settle(self) -> None:
         """Sends the pending order again, and then one queued order after the other."""
         while self.has_open_orders():
             order_id = self.numbered()
             if order_id is not None:
                 self.send(order_id)
 
-    def has_open_orders(self):
+    def has_open_orders(self) -> bool:
         with self.transaction() as cursor:
             return self.order(cursor, IS_OPEN) is not None
 
-    def numbered(self):
+    def numbered(self) -> Optional[int]:
         """The id of the order to be sent: the pending one, or the first queued one, which gets its number here."""
         with self.locked() as (cursor, link, known):
             pending = self.order(cursor, "state = 'pending'")
@@ -149,80 +142,140 @@ class Visit:
             queued = self.order(cursor, "state = 'queued'")
             if queued is None:
                 return None
-            if not self.is_checked:
-                known, _ = self.look(cursor, link, known)
-            self.number(cursor, queued.id, known.number + 1)
+            if self.is_checked and known.number is not None:
+                number = known.number
+            else:
+                number = self.look(cursor, link, known)[0].number
+            self.number(cursor, queued.id, number + 1)
             return queued.id
 
-    def number(self, cursor, order_id, number):
+    def number(self, cursor: Cursor, order_id: int, number: int) -> None:
         """Makes an order pending; it is committed before it is sent."""
         cursor.execute("UPDATE orders SET state = 'pending', number = %s WHERE id = %s", (number, order_id))
         self.is_checked, self.own = True, order_id
 
-    def send(self, order_id):
+    def send(self, order_id: int) -> None:
         """Sends a pending order, word for word as it stands in the table, and notes the answer."""
         with self.locked() as (cursor, link, known):
             order = self.order(cursor, "state = 'pending' AND id = %s", order_id)
             if order is None:
                 return  # another visit has sent it
-            if order.id != self.own:
-                self.check_before_sending(cursor, link, known, order)
+            if order.id != self.own and not self.is_to_be_sent(cursor, link, known, order):
+                return
             self.own = None
-            self.note(cursor, order, link.run([f"{order.number} {order.line}"])[0][-1])
+            self.note(cursor, link, order, link.run([f"{order.number} {order.line}"])[0][-1])
 
-    def check_before_sending(self, cursor, link, known, order):
-        """An order that another visit left pending: it was done, or the box is as the database knows it, and still
-        shows what a CONFIRM confirms.
+    def is_to_be_sent(self, cursor: Cursor, link: Link, known: Known, order: Order) -> bool:
+        """Checks an order that another visit left pending: it was done, or the box is as the database knows it, and
+        still shows what a CONFIRM confirms. False where a refused order took its number.
 
         Raises Disagreement."""
-        if known.number is None:
+        if known.number is None or known.confirmed is None or order.number is None:
             raise Disagreement(f"order {order.number} is pending, and the database doesn't know the box's last number")
-        seen = link.look(known.confirmed + 1)
+        seen, standing = link.look(known.confirmed + 1), Standing(known.number, known.confirmed)
+        if seen.number == order.number and self.took_its_number(cursor, link, order):
+            return False
         if seen.number == order.number:  # it was done, if that was its line: the box compares it
-            known = Known(order.number, order.confirms or known.confirmed)
-            self.check_state(cursor, known, seen, order.confirms is not None)
-            return
-        self.check_state(cursor, known, seen)
+            standing = Standing(order.number, order.confirms or known.confirmed)
+            self.check_state(cursor, standing, seen, order.confirms is not None)
+            return True
+        self.check_state(cursor, standing, seen)
         if order.confirms is not None:
             shown = {reading.serial: reading for reading in seen.readings if reading.serial <= order.confirms}
-            if self.stored(cursor, known.confirmed + 1, order.confirms) != shown:
+            if stored(cursor, self.box, known.confirmed + 1, order.confirms) != shown:
                 raise Disagreement(f"the box doesn't show the readings that order {order.number} {order.line} confirms")
+        return True
 
-    def note(self, cursor, order, answer):
+    def note(self, cursor: Cursor, link: Link, order: Order, answer: str) -> None:
         """Notes the answer to an order.
 
         Raises Disagreement where it is none that the box in the database can give."""
         refused = re.fullmatch(r"ERR (\w+)", answer)
         if answer == f"OK {order.number}":
-            state = "done"
-            cursor.execute("UPDATE boxes SET number = %s, confirmed = coalesce(%s, confirmed) WHERE name = %s",
-                           (order.number, order.confirms, self.box))
-            self.change_meters(cursor, *order.line.split(" "))
+            self.note_done(cursor, order)
         elif refused and refused[1] in REFUSALS and order.confirms is None:
-            state = "refused"
-        else:
-            raise Disagreement(f"order {order.number} {order.line}, after {order.number - 1}, was answered {answer}")
+            self.is_checked = False  # the number is given again only after another look
+            self.end(cursor, order.id, "refused", answer)
+        elif answer != f"ERR ORDER {order.number}" or not self.took_its_number(cursor, link, order):
+            raise Disagreement(f"order {order.number} {order.line} was answered {answer}")
+
+    def note_done(self, cursor: Cursor, order: Order) -> None:
+        """What an order that is done changes."""
+        cursor.execute("UPDATE boxes SET number = %s, confirmed = coalesce(%s, confirmed) WHERE name = %s",
+                       (order.number, order.confirms, self.box))
+        self.change_meters(cursor, *order.line.split(" "))
+        self.end(cursor, order.id, "done", f"OK {order.number}")
+
+    def end(self, cursor: Cursor, order_id: int, state: str, answer: str) -> None:
         cursor.execute("UPDATE orders SET state = %s, answer = %s, ended_at = now() WHERE id = %s",
-                       (state, answer, order.id))
+                       (state, answer, order_id))
+
+    # ---- a refused order that was done later: a copy of it was on its way, and the box could do it then
+
+    def took_its_number(self, cursor: Cursor, link: Link, order: Order) -> bool:
+        """Whether the box did a refused order under the number of a pending one. Then the pending one is queued again,
+        or, of a CONFIRM, given up: the next page makes another."""
+        late = self.done_late(cursor, link, order.number)
+        if late is None:
+            return False
+        if order.confirms is None:
+            cursor.execute("UPDATE orders SET state = 'queued', number = NULL WHERE id = %s", (order.id,))
+        else:
+            self.end(cursor, order.id, "given_up", "another order took its number")
+        self.note_done(cursor, late)
+        self.is_checked = False
+        return True
+
+    def done_late(self, cursor: Cursor, link: Link, number: Optional[int]) -> Optional[Order]:
+        """The refused order that the box did as its last one, of that number, or None. The box says which: it answers
+        the line of its last number OK again, and any other line of that number ERR ORDER."""
+        cursor.execute("SELECT id, line, confirms, number, state, answer FROM orders"
+                       " WHERE box = %s AND state = 'refused' AND number = %s ORDER BY id DESC", (self.box, number))
+        for order in [Order(*row) for row in cursor]:
+            if link.run([f"{number} {order.line}"])[0][-1] == f"OK {number}":
+                return order
+        return None
 
     # ---- the box's state
 
-    def look(self, cursor, link, known):
-        """What the box shows, and what is known; at the first contact the box says where its numbers go on.
+    def look(self, cursor: Cursor, link: Link, known: Known) -> Tuple[Standing, Seen]:
+        """What is known, and what the box shows; at the first contact the box says where its numbers go on.
 
         Raises Disagreement where it isn't as the database knows it."""
-        if known.number is not None:
-            seen = link.look(known.confirmed + 1)
-            self.check_state(cursor, known, seen)
-            return known, seen
+        if known.number is None or known.confirmed is None:
+            return self.first_look(cursor, link)
+        seen, standing = link.look(known.confirmed + 1), Standing(known.number, known.confirmed)
+        if seen.number == standing.number + 1:
+            late = self.done_late(cursor, link, seen.number)
+            if late is not None:
+                self.note_done(cursor, late)
+                standing = Standing(seen.number, known.confirmed)
+        self.check_state(cursor, standing, seen)
+        self.keep_identity(cursor, seen)
+        return standing, seen
+
+    def first_look(self, cursor: Cursor, link: Link) -> Tuple[Standing, Seen]:
         seen = link.look(1)
-        cursor.execute("UPDATE boxes SET number = %s, confirmed = %s WHERE name = %s",
-                       (seen.number, seen.confirmed, self.box))
+        cursor.execute("UPDATE boxes SET number = %s, confirmed = %s, stored = greatest(stored, %s) WHERE name = %s",
+                       (seen.number, seen.confirmed, seen.confirmed, self.box))
         cursor.execute("DELETE FROM meters WHERE box = %s", (self.box,))
         insert(cursor, "meters (box, identity, line, address, flat)", [(self.box, *meter) for meter in seen.meters])
-        return Known(seen.number, seen.confirmed), seen
+        cursor.execute("SELECT find_last_readings(%s)", (self.box,))
+        self.keep_identity(cursor, seen)
+        return Standing(seen.number, seen.confirmed), seen
 
-    def check_state(self, cursor, known, seen, has_register=True):
+    def keep_identity(self, cursor: Cursor, seen: Seen) -> None:
+        """Notes which box it is, where that isn't known yet.
+
+        Raises Disagreement where another name has it."""
+        cursor.execute("SELECT name FROM boxes WHERE identity = %s AND name <> %s AND active",
+                       (seen.identity, self.box))
+        row = cursor.fetchone()
+        if row is not None:
+            raise Disagreement(f"the box of {row[0]} answers")
+        cursor.execute("UPDATE boxes SET identity = %s WHERE name = %s AND identity IS NULL", (seen.identity, self.box))
+
+    def check_state(self, cursor: Cursor, known: Standing, seen: Seen, has_register: bool = True) -> None:
         """Raises Disagreement where the box's last number, confirmed serial or register is another one."""
         if seen.number != known.number:
             raise Disagreement(f"the box's last order is {seen.number}, the database's {known.number}")
@@ -234,7 +287,7 @@ class Visit:
             raise Disagreement(f"the box has another register than the database, {len(differing)} rows differ,"
                                f" the first {' '.join(map(str, min(differing)))}")
 
-    def change_meters(self, cursor, verb, *words):
+    def change_meters(self, cursor: Cursor, verb: str, *words: str) -> None:
         """What an order does to the register."""
         if verb == "FIT":
             cursor.execute("INSERT INTO meters (box, identity, line, address, flat) VALUES (%s, %s, %s, %s, %s)",
@@ -245,12 +298,13 @@ class Visit:
         elif verb == "OUT":
             cursor.execute("DELETE FROM meters WHERE box = %s AND identity = %s", (self.box, words[0]))
         elif verb == "SWAP":
-            cursor.execute("UPDATE meters SET identity = %s, address = %s, since = now()"
-                           " WHERE box = %s AND identity = %s", (words[1], words[2], self.box, words[0]))
+            cursor.execute("UPDATE meters SET identity = %s, address = %s, since = now(), serial = NULL, heard = NULL,"
+                           " stored_at = NULL, status = NULL WHERE box = %s AND identity = %s",
+                           (words[1], words[2], self.box, words[0]))
 
     # ---- readings
 
-    def collect(self):
+    def collect(self) -> int:
         """Stores all that the box shows, page by page, and confirms it; returns the serial up to which it has."""
         is_all = False
         while not is_all:
@@ -260,72 +314,37 @@ class Visit:
         self.settle()
         with self.transaction() as cursor:
             cursor.execute("SELECT confirmed FROM boxes WHERE name = %s", (self.box,))
-            return cursor.fetchone()[0]
+            return int(one(cursor)[0])
 
-    def take_page(self):
+    def take_page(self) -> Tuple[int, bool]:
         """Stores a page, and its CONFIRM with it; returns how many readings were new, and whether there are no more."""
         with self.locked() as (cursor, link, known):
             if self.order(cursor, IS_OPEN):
                 return 0, False  # came from another visit; it goes first
-            known, seen = self.look(cursor, link, known)
-            new = self.new_readings(cursor, seen, known.confirmed + 1)
-            self.store_readings(cursor, new)
+            standing, seen = self.look(cursor, link, known)
+            new = self.new_readings(cursor, seen, standing.confirmed + 1)
+            store_readings(cursor, self.box, new)
             if seen.readings:
-                self.store_confirm(cursor, known.number + 1, seen.readings[-1].serial)
+                self.store_confirm(cursor, standing.number + 1, seen.readings[-1].serial)
             if seen.is_all:
                 cursor.execute("UPDATE boxes SET collected_at = now(), fault = NULL WHERE name = %s", (self.box,))
             return len(new), seen.is_all
 
-    def store_confirm(self, cursor, number, serial):
+    def store_confirm(self, cursor: Cursor, number: int, serial: int) -> None:
         cursor.execute("INSERT INTO orders (box, line, confirms, number, state)"
                        " VALUES (%s, %s, %s, %s, 'pending') RETURNING id",
                        (self.box, f"CONFIRM {serial}", serial, number))
-        self.is_checked, self.own = True, cursor.fetchone()[0]
+        self.is_checked, self.own = True, one(cursor)[0]
 
-    def stored(self, cursor, first, last):
-        """The readings of the box that are in the database, by serial, of these serials."""
-        cursor.execute("SELECT serial, identity, flat, heard, bodies FROM readings"
-                       " WHERE box = %s AND serial BETWEEN %s AND %s", (self.box, first, last))
-        return {serial: Reading(serial, identity, flat, tuple(heard), tuple(bytes(body) for body in bodies))
-                for serial, identity, flat, heard, bodies in cursor}
-
-    def new_readings(self, cursor, seen, first):
+    def new_readings(self, cursor: Cursor, seen: Seen, first: int) -> List[Reading]:
         """The readings shown that aren't in the database.
 
         Raises Disagreement where one is there with another content, or is there and isn't shown."""
-        last = 2**63 - 1 if seen.is_all else seen.readings[-1].serial
-        stored = self.stored(cursor, first, last)
+        last = LAST_SERIAL if seen.is_all else seen.readings[-1].serial
+        there = stored(cursor, self.box, first, last)
         shown = {reading.serial: reading for reading in seen.readings}
-        for serial, reading in stored.items():
+        for serial, reading in there.items():
             if shown.get(serial) != reading:
                 what = "another" if serial in shown else "no"
                 raise Disagreement(f"the box shows {what} reading of serial {serial}, and the database has one")
-        return [reading for serial, reading in shown.items() if serial not in stored]
-
-    def store_readings(self, cursor, readings):
-        """Stores readings with their points. The key of `readings` refuses a second one of the same box and serial."""
-        parts = iter(points_of([body for reading in readings for body in reading.bodies]))
-        points = [(self.box, reading, *row) for reading in readings
-                  for row in numbered_points([next(parts) for _ in reading.bodies])]
-        rows = [(box, reading.serial, part, place, *point[:-1], point.value, day)
-                for box, reading, part, place, point, day in points]
-        due_rows = {(box, reading.identity, day): reading.serial for box, reading, *_, day in points if day}
-        insert(cursor, "readings (box, serial, identity, flat, heard, bodies)", [
-            (self.box, *reading[:3], list(reading.heard), [psycopg2.Binary(body) for body in reading.bodies])
-            for reading in readings])
-        insert(cursor, "points (box, serial, part, place, storage, function, tariff, subunit, vib, quantity, shown,"
-                       " unit, value, due)", rows)
-        insert(cursor, "due_readings (box, identity, due, serial)", [(*key, last) for key, last in due_rows.items()],
-               "ON CONFLICT (box, identity, due) DO UPDATE SET serial = excluded.serial"
-               " WHERE due_readings.serial < excluded.serial")
-
-
-def numbered_points(parts):
-    """The points of a reading's telegrams: part and place, both from 1, the point, and its due date or None."""
-    points = [(part, place, point) for part, of_part in enumerate(parts, 1) for place, point in enumerate(of_part, 1)]
-    return [(*row, day) for row, day in zip(points, due_days([point for *_, point in points]))]
-
-
-def insert(cursor, into, rows, conflict=""):
-    if rows:
-        psycopg2.extras.execute_values(cursor, f"INSERT INTO {into} VALUES %s {conflict}", rows, page_size=PAGE * 10)
+        return [reading for serial, reading in shown.items() if serial not in there]

@@ -1,4 +1,5 @@
-# Shell functions that poll and office-inbox share: the settings of a house, and the lock of its image.
+# Shell functions that poll, office-inbox and office-line share: the settings of a house, the lock of its image, and
+# what the office may send.
 # Sourced with `program` set to the name that messages begin with.
 # shellcheck shell=sh disable=SC2034,SC2154
 
@@ -12,6 +13,8 @@ LOCK_SECONDS=3000
 LOCKED=75
 USAGE=2
 CONFIGURATION=78
+# The longest file or script of the office, in bytes: mbdc takes no longer one.
+LARGEST=1048576
 
 say() {
     printf '%s: %s\n' "$program" "$1" >&2
@@ -52,9 +55,10 @@ set_value() {
     esac
 }
 
-# Reads /etc/mbdc/HOUSE.conf into image, lines (words N=LINK), baud, tries and patience.
+# Reads /etc/mbdc/HOUSE.conf into image, lines (words N=LINK), baud, tries and patience. (MBDC_SETTINGS names another
+# folder, for tries without the package; neither sudo nor a unit passes it on.)
 read_settings() {
-    settings=/etc/mbdc/$1.conf
+    settings=${MBDC_SETTINGS:-/etc/mbdc}/$1.conf
     image=/var/lib/mbdc/$1.image lines='' baud=2400 tries=2 patience=2000
     [ -r "$settings" ] || fail "$CONFIGURATION" "$settings: it can't be read"
     number=0
@@ -65,6 +69,12 @@ read_settings() {
         esac
         set_value "${line%%=*}" "${line#*=}" || fail "$CONFIGURATION" "$settings:$number: no setting: $line"
     done <"$settings"
+}
+
+# Prints the lines of a file as lines of a script. Only office lines get through: any other one becomes an office line
+# that is answered ERR SYNTAX.
+as_script() {
+    sed -e 's/\r$//' -e '/^$/d' -e 's/^OFFICE //' -e 's/^/OFFICE /' "$1"
 }
 
 # Waits until no other unit works on the image, and keeps it to this program until that ends. A mbdc that a person

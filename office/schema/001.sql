@@ -1,6 +1,5 @@
--- The office's database (PostgreSQL 13 and later): the readings of all boxes, each once, and the orders to them.
--- psql -v ON_ERROR_STOP=1 -f office/schema.sql
-BEGIN;
+-- Version 1 of the office's database (PostgreSQL 13 and later): the readings of all boxes, each once, and the orders to
+-- them. office/migrate runs it.
 
 -- A box: one image of `mbdc`. Its row is locked (FOR NO KEY UPDATE) by whoever talks to the box. A box whose image was
 -- formatted anew, or replaced by an older copy, gets a new name, since it gives the same serials again.
@@ -131,5 +130,3 @@ LANGUAGE sql STABLE AS $$
 $$;
 
 CREATE VIEW overdue AS SELECT * FROM overdue_at(now());
-
-COMMIT;

@@ -1,0 +1,184 @@
+"""A PostgreSQL server in a temporary folder, a database of the office for each test, and boxes."""
+
+import dataclasses
+import json
+import os
+import pathlib
+import shutil
+import subprocess
+import sys
+from typing import Any, Dict, Iterator, List, Tuple
+
+import psycopg2
+import psycopg2.extensions
+import pytest
+
+OFFICE = pathlib.Path(__file__).resolve().parent.parent
+TESTS = OFFICE / "tests"
+sys.path.insert(0, str(OFFICE))
+PROGRAMS = sorted(pathlib.Path("/usr/lib/postgresql").glob("*/bin/pg_ctl"), key=lambda path: int(path.parts[4]))
+OWNER, TEMPLATE = "office", "migrated"
+MOMENT = 1_735_689_600  # 2025-01-01, UTC
+Meter = Tuple[str, int, str, str]
+
+
+class Server:
+    """The server; it runs as the user of Debian's package, as PostgreSQL refuses to run as root."""
+
+    def __init__(self, folder: pathlib.Path) -> None:
+        self.folder, self.count = folder, 0
+        self.account: Dict[str, Any] = {}
+        if os.geteuid() == 0:
+            self.account = {"user": "postgres", "group": "postgres", "extra_groups": []}
+            shutil.chown(folder, "postgres", "postgres")
+        programs = PROGRAMS[-1].parent
+        self.run([programs / "initdb", "-D", folder / "data", "-A", "trust", "-U", OWNER, "--no-sync"])
+        self.ctl([programs / "pg_ctl", "-D", folder / "data", "-w", "-l", folder / "log", "-o",
+                  f"-k {folder} -c listen_addresses= -c fsync=off", "start"])
+
+    def run(self, words: List[Any]) -> None:
+        subprocess.run(words, cwd=self.folder, check=True, stdout=subprocess.DEVNULL, **self.account)
+
+    ctl = run
+
+    def stop(self) -> None:
+        self.ctl([PROGRAMS[-1], "-D", self.folder / "data", "-m", "immediate", "stop"])
+
+    def name(self, database: str) -> str:
+        return f"host={self.folder} user={OWNER} dbname={database}"
+
+    def connect(self, database: str) -> psycopg2.extensions.connection:
+        connection = psycopg2.connect(self.name(database), options="-c timezone=UTC")
+        connection.autocommit = True
+        return connection
+
+    def make(self, template: str = "template1") -> str:
+        self.count += 1
+        name = f"office_{self.count}"
+        connection = self.connect("postgres")
+        connection.cursor().execute(f"CREATE DATABASE {name} TEMPLATE {template}")
+        connection.close()
+        return name
+
+
+@dataclasses.dataclass
+class Ended:
+    status: int
+    printed: str
+
+
+class Office:
+    """The office's programs over one database, and the boxes that they reach."""
+
+    def __init__(self, server: Server, database: str, folder: pathlib.Path) -> None:
+        self.server, self.folder, self.name = server, folder, server.name(database)
+        self.connection = server.connect(database)
+        (folder / "bin").mkdir(exist_ok=True)
+        if not (folder / "bin/mbdc").exists():
+            (folder / "bin/mbdc").symlink_to(TESTS / "fake_mbdc")
+        self.environment = {**os.environ, "MBDC": str(TESTS / "fake_mbdc"), "PYTHONPATH": ""}
+
+    def sql(self, query: str, *values: Any) -> List[Tuple[Any, ...]]:
+        with self.connection.cursor() as cursor:
+            cursor.execute(query, values or None)
+            return cursor.fetchall() if cursor.description else []
+
+    def box(self, name: str, room: int = 100) -> "Box":
+        self.sql("INSERT INTO boxes (name, command) VALUES (%s, %s)", name, f"{TESTS}/way {self.folder} {{box}}")
+        return Box(self.folder, name, room)
+
+    def run(self, program: str, *words: str, **environment: str) -> Ended:
+        done = subprocess.run([OFFICE / program, "--database", self.name, *words], capture_output=True, text=True,
+                              check=False, env={**self.environment, **environment}, timeout=120)
+        assert "Traceback" not in done.stderr, done.stderr
+        return Ended(done.returncode, done.stdout + done.stderr)
+
+    def collect(self, *words: str, **environment: str) -> Ended:
+        return self.run("collect", "--pause", "0.01", "--timeout", "10", "--workers", "3", *words, **environment)
+
+    def order(self, *words: str) -> Ended:
+        return self.run("order", "--pause", "0.01", "--timeout", "10", *words)
+
+
+class Box:
+    """A simulated box, and what was done there."""
+
+    def __init__(self, folder: pathlib.Path, name: str, room: int) -> None:
+        self.folder, self.name, self.image = folder, name, folder / f"{name}.image"
+        (folder / f"{name}.conf").write_text(f"IMAGE={self.image}\n", encoding="ascii")
+        self.write({"number": 0, "line": "", "confirmed": 0, "serial": 0, "room": room, "meters": {}, "readings": []})
+
+    def state(self) -> Dict[str, Any]:
+        return dict(json.loads(self.image.read_text(encoding="ascii")))
+
+    def write(self, state: Dict[str, Any]) -> None:
+        self.image.write_text(json.dumps(state), encoding="ascii")
+
+    def done(self) -> List[str]:
+        """The commands that changed the image, with their numbers."""
+        path = self.folder / f"{self.image.name}.done"
+        return path.read_text(encoding="ascii").splitlines() if path.exists() else []
+
+    def faults(self, *words: str) -> None:
+        (self.folder / f"{self.name}.faults").write_text("".join(f"{it}\n" for it in words), encoding="ascii")
+
+    def says(self, *lines: str) -> List[str]:
+        """Does office lines at the box, as from another place."""
+        script = "".join(["BOX ?\n", *(f"OFFICE {line}\n" for line in lines), "END\n"])
+        done = subprocess.run([TESTS / "way", self.folder, self.name], input=script, capture_output=True, text=True,
+                              check=True)
+        return done.stdout.splitlines()[1:]
+
+    def hears(self, count: int, first: int = 1, moment: int = MOMENT) -> None:
+        """Readings of the registered meters, one after the other."""
+        state = self.state()
+        for litres in range(first, first + count):
+            state["serial"] += 1
+            identity = sorted(state["meters"])[litres % len(state["meters"])]
+            state["readings"].append([state["serial"], identity, state["meters"][identity][2],
+                                      [[moment + litres, telegram(litres)]]])
+        self.write(state)
+
+    def numbers(self) -> List[Tuple[int, str]]:
+        return [(int(number), rest) for number, _, rest in (line.partition(" ") for line in self.done())]
+
+
+def telegram(litres: int, status: int = 0, due: str = "") -> str:
+    """A telegram without its frame, in hex digits: header and volume, and a due date (type G) with a litre at it."""
+    header = bytes.fromhex("785634122440010701") + bytes([status, 0, 0])
+    stored = f"426C{due}4C1301000000" if due else ""
+    return (header + bytes.fromhex("0C13") + bytes.fromhex(f"{litres:08}")[::-1] + bytes.fromhex(stored)).hex().upper()
+
+
+@pytest.fixture(scope="session")
+def server(tmp_path_factory: pytest.TempPathFactory) -> Iterator[Server]:
+    folder = tmp_path_factory.mktemp("postgres")
+    for above in (folder, *folder.parents):  # the server's user has to get there
+        if above.stat().st_uid == os.geteuid() and above != above.parent:
+            above.chmod(above.stat().st_mode | 0o011)
+    running = Server(folder)
+    connection = running.connect("postgres")
+    connection.cursor().execute(f"CREATE DATABASE {TEMPLATE}")
+    connection.close()
+    subprocess.run([OFFICE / "migrate", "--database", running.name(TEMPLATE)], check=True, stdout=subprocess.DEVNULL)
+    yield running
+    running.stop()
+
+
+@pytest.fixture
+def office(server: Server, tmp_path: pathlib.Path) -> Iterator[Office]:
+    made = Office(server, server.make(TEMPLATE), tmp_path)
+    yield made
+    made.connection.close()
+
+
+FITS = ["FIT 11111111.PAD.01.07 1 1 A1", "FIT 22222222.PAD.01.07 1 2 A2"]
+
+
+@pytest.fixture
+def box(office: Office) -> Box:
+    """A box with two meters."""
+    made = office.box("house-1")
+    ended = office.order("house-1", *FITS)
+    assert ended.status == 0, ended.printed
+    return made

@@ -1,0 +1,167 @@
+"""What the database itself refuses and shows."""
+
+import datetime
+import re
+import time
+from typing import Any
+
+import psycopg2
+import pytest
+from conftest import FITS, Box, Office, telegram
+
+CONFIRM = "INSERT INTO orders (box, line, confirms, number, state) VALUES ('house-1', %s, %s, 3, 'pending')"
+ORDER = "INSERT INTO orders (box, key, line) VALUES ('house-1', 'k', %s)"
+DUE = "1F3C"  # 2024-12-31
+CROWD = 20_000
+
+
+def refused(office: Office, query: str, *values: Any, role: str = "office") -> str:
+    """The error that a statement ends with."""
+    with pytest.raises(psycopg2.Error) as caught:
+        office.sql(f"SET ROLE {role}")
+        office.sql(query, *values)
+    office.sql("RESET ROLE")
+    return str(caught.value)
+
+
+def test_a_confirm_needs_its_serial_and_its_readings(office: Office, box: Box) -> None:
+    assert "is_a_command" in refused(office, CONFIRM, "CONFIRM 5", None)
+    assert "are not stored" in refused(office, CONFIRM, "CONFIRM 5", 4)
+    assert "are not stored" in refused(office, CONFIRM, "CONFIRM 1", 1)
+    box.hears(2)
+    assert office.collect().status == 0
+    assert "is_a_command" in refused(office, CONFIRM, "OUT 11111111.PAD.01.07", 1)
+    assert "are not stored" in refused(office, "UPDATE orders SET state = 'pending', number = 9, answer = NULL,"
+                                       " line = 'CONFIRM 3', confirms = 3 WHERE confirms = 2")
+
+
+def test_lines_that_are_no_commands(office: Office, box: Box) -> None:
+    for line in ("CONFIRM 1", "HEAR 1 E5", "OUT x\nHEAR 1 E5", "OUT", "OUT  x", "FIT a 1 2 3 4", "OUT " + "x" * 97):
+        assert "is_a_command" in refused(office, ORDER, line), line
+
+
+def test_what_a_clerk_may_do(office: Office, box: Box) -> None:
+    office.sql("SET ROLE clerk")
+    office.sql(ORDER, "OUT 11111111.PAD.01.07")
+    assert office.sql("SELECT line, state::text, made_by FROM orders WHERE key = 'k'") == [
+        ("OUT 11111111.PAD.01.07", "queued", "office")]  # made_by is who logged in
+    office.sql("RESET ROLE")
+    for query in ("INSERT INTO orders (box, key, line, state, number) VALUES ('house-1', 'l', 'OUT x', 'pending', 9)",
+                  "INSERT INTO orders (box, key, line, made_by) VALUES ('house-1', 'l', 'OUT x', 'another')",
+                  "INSERT INTO orders (box, line, confirms) VALUES ('house-1', 'CONFIRM 1', 1)",
+                  "UPDATE orders SET state = 'queued'", "DELETE FROM readings", "UPDATE boxes SET command = 'x'",
+                  "SELECT take_as_it_is('house-1')", "SELECT drop_months_before('2030-01-01')"):
+        assert "permission denied" in refused(office, query, role="clerk"), query
+
+
+def test_what_a_collector_may_do(office: Office, box: Box) -> None:
+    """All that office/collect and office/order need, and neither the command of a box nor the loss of a reading."""
+    box.hears(3)
+    office.sql("ALTER ROLE office SET role = 'collector'")
+    try:
+        assert office.order("house-1", "OUT 11111111.PAD.01.07").status == 0
+        ended = office.collect()
+        assert ended.status == 0, ended.printed
+    finally:
+        office.sql("ALTER ROLE office RESET role")
+    assert box.state()["confirmed"] == 3
+    for query in ("UPDATE boxes SET command = 'x'", "DELETE FROM readings", "UPDATE readings SET flat = 'x'",
+                  "TRUNCATE readings", "DELETE FROM orders", "INSERT INTO boxes (name, command) VALUES ('x', 'x')",
+                  "INSERT INTO readings_2026_01 DEFAULT VALUES", "SELECT drop_months_before('2030-01-01')"):
+        assert re.search("permission denied|does not exist", refused(office, query, role="collector")), query
+
+
+def test_a_reading_is_stored_once_in_all_months(office: Office, box: Box) -> None:
+    box.hears(2)
+    assert office.collect().status == 0
+    again = ("INSERT INTO readings (month, box, serial, identity, flat, heard, bodies)"
+             " VALUES ((this_month() + interval '1 month')::date, 'house-1', 2, 'x', 'x', '{now}', '{a}')")
+    assert "stored before" in refused(office, again)
+    assert office.sql("SELECT stored FROM boxes") == [(2,)]
+
+
+def test_old_months_are_dropped(office: Office, box: Box) -> None:
+    box.hears(2)
+    assert office.collect().status == 0
+    assert office.sql("SELECT drop_months_before(this_month())") == []
+    dropped = office.sql("SELECT drop_months_before((this_month() + interval '1 month')::date)")
+    assert sorted(row[0].partition("_")[0] for row in dropped) == ["points", "readings"]
+    assert office.sql("SELECT count(*) FROM readings") == [(0,)]
+    box.hears(1, first=9)
+    assert office.collect().status == 0
+    assert office.sql("SELECT serial FROM readings") == [(3,)] and box.state()["confirmed"] == 3
+
+
+def test_open_orders_are_found_by_their_index(office: Office, box: Box) -> None:
+    query = ("SELECT id FROM orders WHERE box = 'house-1' AND state IN ('pending', 'queued') ORDER BY id LIMIT 1")
+               " 'done', 'OK' FROM generate_series(1, %s) n", CROWD)
+    office.sql(ORDER, "OUT 11111111.PAD.01.07")
+    office.sql("ANALYZE orders")
+    query = "SELECT id FROM orders WHERE box = 'house-1' AND state IN ('pending', 'queued') ORDER BY id LIMIT 1"
+    plan = "\n".join(row[0] for row in office.sql(f"EXPLAIN {query}"))
+    assert "using open_orders" in plan, plan
+    taken = []
+    for _ in range(20):
+        begun = time.monotonic()
+        office.sql(query)
+        taken.append(time.monotonic() - begun)
+    assert min(taken) < 0.001, taken
+
+
+def test_due_dates_energy_and_status(office: Office, box: Box) -> None:
+    state = box.state()
+    state["serial"] = 1
+    state["readings"] = [[1, "11111111.PAD.01.07", "A1", [[1735689600, telegram(7, 0x0C, DUE)]]]]
+    box.write(state)
+    ended = office.collect()
+    assert ended.status == 0, ended.printed
+    assert office.sql("SELECT due, flat, value = 0.001 FROM due_values") == [(datetime.date(2024, 12, 31), "A1", True)]
+    assert office.sql("SELECT says FROM meter_states WHERE identity LIKE '1%'") == [("power low, permanent error",)]
+    units = office.sql("SELECT kwh(218370, 'Wh'), kwh(3, 'MWh'), kwh(7200000, 'J'), kwh(18, 'GJ'), kwh(1, 'm3')")
+    assert [it if it is None else float(it) for it in units[0]] == [218.37, 3000, 2, 5000, None]
+
+
+def test_overdue_meters(office: Office, box: Box) -> None:
+    """Never heard, silent, and one whose stamp lies in the future."""
+    later = datetime.datetime.now(datetime.timezone.utc) + datetime.timedelta(days=3)
+    assert office.sql("SELECT * FROM overdue") == []
+    assert {row[5] for row in office.sql("SELECT * FROM overdue_at(%s)", later)} == {"never heard"}
+    box.hears(2, moment=int(later.timestamp()))
+    assert office.collect().status == 0
+    assert {row[5] for row in office.sql("SELECT * FROM overdue")} == {"stamp in the future"}
+    office.order("house-1", "SWAP 11111111.PAD.01.07 55555555.PAD.01.07 1")
+    box.hears(2, first=50, moment=int(time.time()) - 100)
+    assert office.collect().status == 0
+    assert office.sql("SELECT * FROM overdue") == []
+    shown = office.sql("SELECT identity, why, last_heard < stored_at FROM overdue_at(%s)", later)
+    assert {row[1:] for row in shown} == {("silent", True)} and len(shown) == 2
+
+
+def test_stale_boxes_and_watch(office: Office, box: Box) -> None:
+    """A box that was never reached, one that failed, one without meters; and that no collection came to its end."""
+    office.box("empty")
+    office.sql("INSERT INTO boxes (name, command, made_at) VALUES ('never', 'false', now() - interval '3 days')")
+    watched = office.run("watch")
+    assert watched.status == 1 and "collector: no collection of all boxes ended" in watched.printed
+    assert office.collect("--tries", "1").status == 1
+    assert office.sql("SELECT box, why FROM stale_boxes ORDER BY box") == [
+        ("empty", "no meters"), ("never", "never collected")]
+    office.sql("UPDATE boxes SET collected_at = now() - interval '2 days' WHERE name = 'house-1'")
+    watched = office.run("watch")
+    assert "collector:" not in watched.printed and "box: house-1 not collected" in watched.printed
+    office.sql("DELETE FROM boxes WHERE name = 'never'")
+    office.sql("UPDATE boxes SET active = false WHERE name = 'empty'")
+    assert office.collect().status == 0
+    assert office.run("watch") == office.run("watch", "--hours", "1") and office.run("watch").status == 0
+    office.sql("UPDATE collections SET ended_at = ended_at - interval '27 hours'")
+    watched = office.run("watch")
+    assert watched.status == 1 and watched.printed.startswith("collector: no collection of all boxes ended in 26")
+
+
+def test_orders_that_wait_are_watched(office: Office, box: Box) -> None:
+    assert office.collect().status == 0
+    office.sql(ORDER, FITS[0])
+    assert office.run("watch").status == 0
+    office.sql("UPDATE orders SET made_at = made_at - interval '2 days' WHERE key = 'k'")
+    watched = office.run("watch")
+    assert watched.status == 1 and f"order: house-1 {FITS[0]} queued" in watched.printed
