@@ -1,11 +1,12 @@
 -- The days after 1 January 1970 are those of the calendar (jiff's day numbers).
-use Rattle.std.proofs.Common.{◌≡◌, ℕ, zero, suc, ◌+◌, ◌<◌, ◌≤◌, ◌⊎◌, inl, inr, true, false, IsTrue, refl, sym, ap, ◌∙◌, subst, arith, rules, nat_tests, pos, ◌+ℤ◌}
+use Rattle.std.proofs.Common.{◌≡◌, ℕ, zero, suc, ◌+◌, ◌<◌, ◌≤◌, ◌⊎◌, inl, inr, true, false, IsTrue, refl, sym, ap, ◌∙◌, subst, arith, rules, pos, ◌+ℤ◌}
 use Rattle.std.proofs.lemmas.Bool.{cases_order}
+use Rattle.std.proofs.lemmas.Bool.Decides.{nat_tests}
 use Rattle.jiff_core.specs.declared.civil.date.Date.{Date}
 use Rattle.jiff_core.specs.Calendar.{day_count, days_from_civil, days_in_month, IsCivilDate}
 use Rattle.jiff_core.specs.Date.{epoch_day}
 use Rattle.jiff_core.proofs.SignedLemmas.{signed_arith}
-use Rattle.jiff_core.proofs.CalendarLemmas.{days_from_civil-day_count, day_count-lt_year, days_in_month_bounds}
+use Rattle.jiff_core.proofs.CalendarLemmas.{days_from_civil-day_count, day_count-epoch, day_count-lt_year, days_in_month_bounds}
 use Rattle.jiff_core.proofs.DateLemmas.{days_from_civil-day, days_from_civil-next_month, days_from_civil-next_year, days_from_civil-max, epoch_day_injective}
 use Rattle.dc_units.specs.Date.{Day, exists}
 use Rattle.dc_values.specs.Utc.{next_day, day_number, last_day}
@@ -55,7 +56,7 @@ next_is n d is = elim (cases_order d.day (days_in_month (pos d.year) d.month)) [
 pub counted : (n : ℕ) → IsDay n (day_number n)
 unfolding day_number
 counted zero = record {
-  number = omega (arith, signed_arith, days_from_civil-day_count);
+  number = omega (arith, signed_arith, days_from_civil-day_count, day_count-epoch);
   month = (omega arith, omega arith);
   day = (omega arith, search rules);
 }

@@ -56,15 +56,20 @@ abbrev pub value_lines : ReadingRow → List ℕ
 value_lines r = flat_map current_line (points_of r.parts)
 
 -- what a bit of the status byte says, where it is set
-abbrev pub bit_words : ℕ → List ℕ → List ℕ
+unfoldable pub bit_words : ℕ → List ℕ → List ℕ
 bit_words bit words = if bit % 2 == 1 then words else []
 
--- the status byte (EN 13757-3, long data header), in hex and in words
-unfoldable pub status_line : ℕ → List ℕ
-status_line status = codes "STATUS" ++ (byte_word status ++ (codes " " ++ (application_name status
-    ++ (bit_words (status / 4) (codes ", power low")
+-- the status byte (EN 13757-3, long data header) in hex, and what the application says of itself
+unfoldable pub state_words : ℕ → List ℕ
+state_words status = codes "STATUS" ++ (byte_word status ++ (codes " " ++ application_name status))
+
+unfoldable pub bits_words : ℕ → List ℕ
+bits_words status = bit_words (status / 4) (codes ", power low")
     ++ (bit_words (status / 8) (codes ", permanent error")
-    ++ (bit_words (status / 16) (codes ", temporary error") ++ codes "\n"))))))
+    ++ bit_words (status / 16) (codes ", temporary error"))
+
+unfoldable pub status_line : ℕ → List ℕ
+status_line status = state_words status ++ (bits_words status ++ codes "\n")
 
 abbrev pub status_read : Result Parsed BodyFault → List ℕ
 status_read (Ok telegram) = status_line telegram.header.status

@@ -59,7 +59,7 @@ fn put_place<W: Sink>(out: &mut W, place: &Place) -> Result<(), IoFault>
 // Writes the last reading, or that none is held.
 #[tactic(auto, using(dc_io::proofs::Pieces::written))]
 fn put_held<A: Allocator, W: Sink>(out: &mut W, reading: Option<&Reading<A>>) -> Result<(), IoFault>
-    ensures { Wrote W.Sink result out.old out.new (held_words (option_copied reading)) }
+    ensures { Wrote W.Sink result out.old out.new (held_words (option_copied reading.entry)) }
 {
     match reading {
         Some(reading) => put_reading(out, reading),

@@ -20,7 +20,7 @@ pub fn last_reading<'a, A: Allocator + Copy>(
 
 // The last of some serials.
 fn last(serials: Serials<'_, Identity>) -> Option<u64>
-    ensures { result ≡ last_of serials }
+    ensures { result ≡ last_of serials.entry }
 {
     let mut last = None;
     for serial in serials {
