@@ -23,7 +23,7 @@ use Rattle.dc_world.proofs.Moves.{no_frame_of_nothing, no_frame_of_zero, selecte
 use Rattle.dc_world.proofs.Exchanges.{own_goes_on, own_selected}
 use Rattle.dc_world.proofs.Replies.{answer_to-reset, answer_to-selection, heard_as_sent}
 use Rattle.dc_world.proofs.Commits.{suc_is}
-use Rattle.dc_late.proofs.Plainly.{LateWorld, LateEvent, Last, Listened, is_command, starts, passes, arrives_cut, exchanges, commits, stops, is_copy, last_after, and_sent, listened, heard_late, exchanged, exchanged_by, started_if, is_quiet, late_step, late_from, late_after, new_late_world, in_its_time, AreDifferent, NoAnswerIsACopy}
+use Rattle.dc_late.proofs.Plainly.{LateWorld, LateEvent, Last, Listened, is_command, starts, passes, arrives_cut, exchanges, commits, stops, is_copy, compared, last_after, and_sent, listened, heard_late, exchanged, exchanged_by, started_if, is_quiet, late_step, late_from, late_after, new_late_world, in_its_time, AreDifferent, NoAnswerIsACopy}
 use Rattle.dc_late.proofs.UnderWay.{answer_no, last_at, IsLast, IsRegularLate}
 use Rattle.dc_late.proofs.Sent.{request_answered}
 use Rattle.dc_late.proofs.LateWorlds.{follows_there, step_keeps, new_is_regular_late}
@@ -54,7 +54,7 @@ long_after (Some (long control sender ci body)) request answer last e is = recor
 long_by : (meters : List Meter) (w : LateWorld) (r : Running) (outcome : Outcome) (in_time : Bool) (asks : Option FrameSeen) → IsLongLast w.last → IsLongLast (exchanged_by meters outcome in_time asks r w).last
 long_by meters w r outcome in_time None is = is
 long_by meters w r outcome in_time (Some frame) is =
-    let l : Listened = listened in_time w.last (spelling frame) (and_sent (heard_in outcome frame meters w.world.positions) w.under_way) in
+    let l : Listened = listened in_time (compared w.clear w.last) (spelling frame) (and_sent (heard_in outcome frame meters w.world.positions) w.under_way) in
     long_after (frame_of l.heard) (spelling frame) l.heard w.last refl is
 
 long_in : (meters : List Meter) (w : LateWorld) (running : Option Running) (outcome : Outcome) (in_time : Bool) → IsLongLast w.last → IsLongLast (exchanged meters outcome in_time running w).last
@@ -82,6 +82,11 @@ no_copy (Some l) request x other = go (bytes_eq x l.answer) refl
     go : (b : Bool) → bytes_eq x l.answer ≡ b → (bytes_eq x l.answer && not (bytes_eq request l.request)) ≡ false
     go true e = absurd (other l refl ((bytes_eq-Decides x l.answer).0 e))
     go false e = rw e refl
+
+-- what is no copy of the last frame is none where answers aren't compared
+none_compared : (clear : Bool) (last : Option Last) (request x : List ℕ) → is_copy last request x ≡ false → is_copy (compared clear last) request x ≡ false
+none_compared true last request x e = refl
+none_compared false last request x e = e
 
 -- bytes that are no long frame are no copy
 not_long : (last : Option Last) (request x : List ℕ) → IsLongLast last → ((control sender ci : ℕ) (body : List ℕ) → frame_of x ≡ Some (long control sender ci body) → ⊥) → is_copy last request x ≡ false
@@ -162,9 +167,10 @@ no_answer meters different w is is_long r frame answer m p runs asks at stands e
     let one : a.meter ≡ m = cc in
     let there : a.position ≡ p = cc in
     let f = follows_there meters w r m p (is.follows r runs) at stands in
-    no_copy_at r.session.stage r.session.meter r.session.address r.session.settled r.meter frame answer m p w.world.positions w.last
+    none_compared w.clear w.last (spelling frame) (spelling answer)
+    (no_copy_at r.session.stage r.session.meter r.session.address r.session.settled r.meter frame answer m p w.world.positions w.last
     asks (ap (λ x. x.address) (sym one) ∙ sym a.whom.1) stands (subst (IsInStep r.session.stage r.session.settled) there a.step) a.alone
-    f.1 is_long (λ k x y s t. different r.meter k m x y at s t) e
+    f.1 is_long (λ k x y s t. different r.meter k m x y at s t) e)
 
 record IsSound (meters : List Meter) (w : LateWorld) : Type 0 where
   regular : IsRegularLate meters w
@@ -201,15 +207,15 @@ answer_or_silence last request (Some answer) other = inr (other answer refl)
 
 sent_no_copy : (meters : List Meter) (regular : AreRegular meters) (different : AreDifferent meters) (w : LateWorld) (r : Running) (outcome : Outcome) (frame : FrameSeen)
     → IsSound meters w → w.world.running ≡ Some r → asked_by r.session ≡ Some frame
-    → (heard_in outcome frame meters w.world.positions ≡ []) ⊎ (is_copy w.last (spelling frame) (heard_in outcome frame meters w.world.positions) ≡ false)
+    → (heard_in outcome frame meters w.world.positions ≡ []) ⊎ (is_copy (compared w.clear w.last) (spelling frame) (heard_in outcome frame meters w.world.positions) ≡ false)
 sent_no_copy meters regular different w r RequestLost frame is runs asks = inl refl
 sent_no_copy meters regular different w r ReplyLost frame is runs asks = inl refl
-sent_no_copy meters regular different w r ReplyUnreadable frame is runs asks = inr (noise_no_copy w.last (spelling frame) is.is_long)
+sent_no_copy meters regular different w r ReplyUnreadable frame is runs asks = inr (none_compared w.clear w.last (spelling frame) noise (noise_no_copy w.last (spelling frame) is.is_long))
 sent_no_copy meters regular different w r AsSent frame is runs asks =
     let a = is.regular.regular.agrees r runs in
     let says = heard_as_sent meters regular w.world r frame a.meter a.position a asks a.stands.0 a.stands.1 in
-    subst (λ s. (s ≡ []) ⊎ (is_copy w.last (spelling frame) s ≡ false)) (sym says)
-    (answer_or_silence w.last (spelling frame) (answer_to frame a.meter (moved_by frame a.meter a.position))
+    subst (λ s. (s ≡ []) ⊎ (is_copy (compared w.clear w.last) (spelling frame) s ≡ false)) (sym says)
+    (answer_or_silence (compared w.clear w.last) (spelling frame) (answer_to frame a.meter (moved_by frame a.meter a.position))
     (λ answer e. no_answer meters different w is.regular is.is_long r frame answer a.meter a.position runs asks a.stands.0 a.stands.1 e))
 
 -- the same world, and nothing is under way
@@ -225,8 +231,8 @@ same_by : (meters : List Meter) (regular : AreRegular meters) (different : AreDi
     → IsSound meters w → w.under_way ≡ [] → w.world.running ≡ Some r → asked_by r.session ≡ asks → Both (exchanged_by meters outcome true asks r w) (plainly_exchanged_by meters outcome asks r w.world)
 same_by meters regular different w r outcome None is quiet runs asks = (refl, quiet)
 same_by meters regular different w r outcome (Some frame) is quiet runs asks =
-    let l = ap (λ way. listened true w.last (spelling frame) (and_sent (heard_in outcome frame meters w.world.positions) way)) quiet
-    ∙ heard_whole w.last (spelling frame) (heard_in outcome frame meters w.world.positions) (sent_no_copy meters regular different w r outcome frame is runs asks) in (
+    let l = ap (λ way. listened true (compared w.clear w.last) (spelling frame) (and_sent (heard_in outcome frame meters w.world.positions) way)) quiet
+    ∙ heard_whole (compared w.clear w.last) (spelling frame) (heard_in outcome frame meters w.world.positions) (sent_no_copy meters regular different w r outcome frame is runs asks) in (
       ap (λ (x : Listened). (heard_late x frame (positions_after outcome frame meters w.world.positions) r w).world) l,
       ap (λ (x : Listened). x.left) l,
     )

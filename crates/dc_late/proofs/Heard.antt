@@ -59,6 +59,14 @@ own_copy address m k x is =
     go true e = absurd (requests_differ address k ((bytes_eq-Decides _ _).0 e))
     go false e = e
 
+-- ---- what is received where copies are dropped: no frame, no copy, or, where nothing old is under
+-- way, anything that was sent
+
+pub data IsFresh (last : Option Last) (request : List ℕ) (m : Meter) (n : ℕ) (p : Position) (left : List (List ℕ)) (x : List ℕ) : Type 0 where
+  is_none : frame_of x ≡ None → IsFresh last request m n p left x
+  is_other : is_copy last request x ≡ false → IsFresh last request m n p left x
+  is_new : AllByRecursion (IsNew m n p) (x ∷ left) → IsFresh last request m n p left x
+
 -- ---- what may be received when a telegram is requested
 
 -- no telegram, the acknowledgement if no telegram was acknowledged yet, or the next telegram
@@ -67,25 +75,29 @@ pub data Comes (m : Meter) (n : ℕ) (p : Position) (left : List (List ℕ)) : L
   first_ack : {x : List ℕ} → n ≡ 0 → frame_of x ≡ Some ack → Comes m n p left x
   next : {x : List ℕ} → x ≡ answer_no m (suc n) → HasGoneOn n p → AllByRecursion (IsNew m n p) left → Comes m n p left x
 
+new_comes : (m : Meter) (n : ℕ) (p : Position) (left : List (List ℕ)) (x : List ℕ) → AllByRecursion (IsNew m n p) (x ∷ left) → Comes m n p left x
+new_comes m n p left x all = go all.0
+  where
+    go : IsNew m n p x → Comes m n p left x
+    go (inl none) = nothing none
+    go (inr e) = next e.0 e.1 all.1
+
 old_comes : (address : Option ℕ) (m : Meter) (n : ℕ) (p : Position) (left : List (List ℕ)) (last : Option Last) (x : List ℕ)
-    → last ≡ last_at address m n → (frame_of x ≡ None) ⊎ (is_copy last (spelling (request_of address n)) x ≡ false) → IsOld m n x → Comes m n p left x
+    → last ≡ last_at address m n → IsFresh last (spelling (request_of address n)) m n p left x → IsOld m n x → Comes m n p left x
 old_comes address m n p left last x is fresh (inl none) = nothing none
-old_comes address m n p left last x is (inl none) (inr e) = nothing (ap is_long none)
-old_comes address m zero p left last x is (inr other) (inr e) = first_ack refl (ap frame_of e ∙ frame_of-spelling ack)
-old_comes address m (suc k) p left last x is (inr other) (inr e) =
+old_comes address m n p left last x is (is_none none) (inr e) = nothing (ap is_long none)
+old_comes address m n p left last x is (is_new all) (inr e) = new_comes m n p left x all
+old_comes address m zero p left last x is (is_other other) (inr e) = first_ack refl (ap frame_of e ∙ frame_of-spelling ack)
+old_comes address m (suc k) p left last x is (is_other other) (inr e) =
     absurd (let copy = own_copy address m k x e in
     let none : is_copy (last_at address m (suc k)) (spelling (request_of address (suc k))) x ≡ false = ap (λ l. is_copy l (spelling (request_of address (suc k))) x) (sym is) ∙ other in
     cc)
 
 pub comes : (address : Option ℕ) (m : Meter) (n : ℕ) (p : Position) (left : List (List ℕ)) (last : Option Last) (x : List ℕ)
-    → last ≡ last_at address m n → (frame_of x ≡ None) ⊎ (is_copy last (spelling (request_of address n)) x ≡ false)
+    → last ≡ last_at address m n → IsFresh last (spelling (request_of address n)) m n p left x
     → IsOrdered (IsOld m n) (IsNew m n p) (x ∷ left) → Comes m n p left x
 comes address m n p left last x is fresh (inl old) = old_comes address m n p left last x is fresh old.0
-comes address m n p left last x is fresh (inr all) = go all.0
-  where
-    go : IsNew m n p x → Comes m n p left x
-    go (inl none) = nothing none
-    go (inr e) = next e.0 e.1 all.1
+comes address m n p left last x is fresh (inr all) = new_comes m n p left x all
 
 -- ---- the telegram that is taken is the next one
 
@@ -177,14 +189,14 @@ asks_no_command address n frame same = ap is_command (frame_of-spelling frame �
 -- what was received is a failed try
 pub missed_keeps : (stage : Stage) (identity : Identity) (address : Option ℕ) (n i : ℕ) (frame : FrameSeen) (m : Meter) (p : Position) (positions : List Position) (left : List (List ℕ)) (last : Option Last) (x : List ℕ) (why : Why)
     → asked_at stage identity address n ≡ Some frame → m.address ≡ address
-    → IsUnderWay stage address n i m p positions (x ∷ left) → (frame_of x ≡ None) ⊎ (is_copy last (spelling frame) x ≡ false)
+    → IsUnderWay stage address n i m p positions (x ∷ left) → (stage ≡ Requests → IsFresh last (spelling frame) m n p left x)
     → meaning_at stage identity address n (frame_of x) ≡ missed why → IsLast stage address m n last → IsLast stage address m n (last_after (frame_of x) (spelling frame) x last)
 missed_keeps Resets identity address n i frame m p positions left last x why asks whom u fresh e is = tt
 missed_keeps Selects identity address n i frame m p positions left last x why asks whom u fresh e is = tt
 missed_keeps Requests identity address n i frame m p positions left last x why asks whom u fresh e is =
     let same : request_of address n ≡ frame = cc in
     kept_by identity address m n p left last (spelling frame) x why whom (asks_no_command address n frame same)
-    (comes address m n p left last x is (subst (λ f. (frame_of x ≡ None) ⊎ (is_copy last (spelling f) x ≡ false)) (sym same) fresh) u) e is
+    (comes address m n p left last x is (subst (λ f. IsFresh last (spelling f) m n p left x) (sym same) (fresh refl)) u) e is
 missed_keeps (Pending more) identity address n i frame m p positions left last x why asks whom u fresh e is = absurd cc
 missed_keeps Ended identity address n i frame m p positions left last x why asks whom u fresh e is = absurd cc
 
@@ -256,7 +268,7 @@ told_by address n i m p positions left last x t stands alone k = record {
 
 pub telegram_keeps : (stage : Stage) (identity : Identity) (address : Option ℕ) (n i : ℕ) (frame : FrameSeen) (m : Meter) (p : Position) (positions : List Position) (left : List (List ℕ)) (last : Option Last) (x : List ℕ) (t : Parsed)
     → stage ≡ Requests → asked_at stage identity address n ≡ Some frame → slice_get positions i ≡ Some p → IsAlone stage address i positions
-    → IsUnderWay stage address n i m p positions (x ∷ left) → (frame_of x ≡ None) ⊎ (is_copy last (spelling frame) x ≡ false)
+    → IsUnderWay stage address n i m p positions (x ∷ left) → (stage ≡ Requests → IsFresh last (spelling frame) m n p left x)
     → meaning_at stage identity address n (frame_of x) ≡ answered t → IsLast stage address m n last
     → Told address n i m positions left (last_after (frame_of x) (spelling frame) x last) t
 telegram_keeps Resets identity address n i frame m p positions left last x t stage asks stands alone u fresh e is = absurd cc
@@ -264,7 +276,7 @@ telegram_keeps Selects identity address n i frame m p positions left last x t st
 telegram_keeps Requests identity address n i frame m p positions left last x t stage asks stands alone u fresh e is =
     let same : request_of address n ≡ frame = cc in
     let l = telegram_long identity address (n + 1) (frame_of x) t e in
-    let c = comes address m n p left last x is (subst (λ f. (frame_of x ≡ None) ⊎ (is_copy last (spelling f) x ≡ false)) (sym same) fresh) u in
+    let c = comes address m n p left last x is (subst (λ f. IsFresh last (spelling f) m n p left x) (sym same) (fresh refl)) u in
     subst (λ f. Told address n i m positions left (last_after (frame_of x) (spelling f) x last) t) same
     (told_by address n i m p positions left last x t stands alone (takes identity address m n p left x t c l))
 telegram_keeps (Pending more) identity address n i frame m p positions left last x t stage asks stands alone u fresh e is = absurd cc

@@ -24,10 +24,10 @@ use Rattle.dc_world.proofs.Exchanges.{own_is, not_group}
 use Rattle.dc_world.proofs.Events.{ready_is, new_is, waits_none, waits_after, length-after, start_keeps, new_is_regular, stop_keeps, at_place}
 use Rattle.dc_world.proofs.Commits.{pends, suc_is, commit_keeps}
 use Rattle.dc_world.proofs.Worlds.{regular_goes_on}
-use Rattle.dc_late.proofs.Plainly.{LateWorld, LateEvent, Last, Listened, starts, passes, arrives_cut, cut_at, exchanges, commits, stops, is_copy, past_copies, last_after, and_sent, first_of, listened, heard_late, exchanged_as, exchanged_by, exchanged, started_if, is_quiet, has_answer, clear_after, late_step, late_from, late_after, new_late_world}
+use Rattle.dc_late.proofs.Plainly.{LateWorld, LateEvent, Last, Listened, starts, passes, arrives_cut, cut_at, exchanges, commits, stops, is_copy, past_copies, last_after, and_sent, first_of, listened, compared, is_wrong, heard_late, exchanged_as, exchanged_by, exchanged, started_if, is_quiet, has_answer, clear_after, late_step, late_from, late_after, new_late_world}
 use Rattle.dc_late.proofs.UnderWay.{IsUnderWay, IsUnreadable, cut_kept, unreadable_harmless, under_way_cut, all_map, all_sent, IsLast, IsOld, IsNew, Follows, IsRegularLate, old_ordered, last_at, under_way_tail, under_way_silence, drop_keeps, past_keeps, past_is_none}
-use Rattle.dc_late.proofs.Sent.{Line, sent_on}
-use Rattle.dc_late.proofs.Heard.{missed_keeps, command_keeps, telegram_keeps}
+use Rattle.dc_late.proofs.Sent.{Line, sent_on, new_on}
+use Rattle.dc_late.proofs.Heard.{IsFresh, is_none, is_other, is_new, missed_keeps, command_keeps, telegram_keeps}
 
 -- ---- what is received
 
@@ -37,7 +37,7 @@ again_is tries n (answered t) e = absurd cc
 again_is tries n (missed why) e = (why, refl)
 again_is tries n (broken why) e = absurd cc
 
-module _ (meters : List Meter) (w : LateWorld) (r : Running) (frame : FrameSeen) (a : Agrees meters w.world r) (asks : asked_by r.session ≡ Some frame) (l : Listened) (positions : List Position) (line : Line r.session.stage r.session.address r.session.settled r.meter a.meter positions (l.heard ∷ l.left)) (fresh : (frame_of l.heard ≡ None) ⊎ (is_copy w.last (spelling frame) l.heard ≡ false)) (last_is : IsLast r.session.stage r.session.address a.meter r.session.settled w.last) where
+module _ (meters : List Meter) (w : LateWorld) (r : Running) (frame : FrameSeen) (a : Agrees meters w.world r) (asks : asked_by r.session ≡ Some frame) (l : Listened) (positions : List Position) (line : Line r.session.stage r.session.address r.session.settled r.meter a.meter positions (l.heard ∷ l.left)) (fresh : r.session.stage ≡ Requests → IsFresh w.last (spelling frame) a.meter r.session.settled line.position l.left l.heard) (last_is : IsLast r.session.stage r.session.address a.meter r.session.settled w.last) where
   abbrev others_world : Option Running → World
   others_world others = record w.world { positions = positions; running = others }
 
@@ -227,8 +227,11 @@ group_sent meters AsSent frame positions silent = inl silent
 still_clear : (in_time : Bool) (last : Option Last) (frame : FrameSeen) (sent : List ℕ) (way : List (List ℕ)) (clear : Bool) → (clear ≡ true → AllByRecursion IsUnreadable way)
     → (has_answer frame ≡ false → (sent ≡ []) ⊎ IsUnreadable sent) → (found : Option FrameSeen) → frame_of (listened in_time last (spelling frame) (and_sent sent way)).heard ≡ found
     → clear_after frame found clear ≡ true → AllByRecursion IsUnreadable (listened in_time last (spelling frame) (and_sent sent way)).left
-still_clear in_time last frame sent way clear unanswered group (Some f) is e =
-    subst (AllByRecursion IsUnreadable) (sym (frame_heard in_time last (spelling frame) sent way f (unanswered e) is)) tt
+still_clear in_time last frame sent way clear unanswered group (Some f) is e = go (is_wrong frame f) e
+  where
+    go : (b : Bool) → cond b false clear ≡ true → AllByRecursion IsUnreadable (listened in_time last (spelling frame) (and_sent sent way)).left
+    go true e = absurd cc
+    go false e = subst (AllByRecursion IsUnreadable) (sym (frame_heard in_time last (spelling frame) sent way f (unanswered e) is)) tt
 still_clear in_time last frame sent way clear unanswered group None is e = go (has_answer frame) refl e
   where
     go : (b : Bool) → has_answer frame ≡ b → cond b false clear ≡ true → AllByRecursion IsUnreadable (listened in_time last (spelling frame) (and_sent sent way)).left
@@ -237,6 +240,25 @@ still_clear in_time last frame sent way clear unanswered group None is e = go (h
         let all = all_sent IsUnreadable sent way (group has) (unanswered e) in
         let c = listened_comes (AllByRecursion IsUnreadable) unreadable_tail unreadable_silence in_time last (spelling frame) (and_sent sent way) all in
         (c.from).1
+
+-- ---- what is received is fresh
+
+-- where nothing was missed, all that is under way are answers to the current request
+module _ (m : Meter) (n : ℕ) (q : Position) where
+  new_tail : (x : List ℕ) (xs : List (List ℕ)) → AllByRecursion (IsNew m n q) (x ∷ xs) → AllByRecursion (IsNew m n q) xs
+  new_tail x xs all = all.1
+
+  new_silence : (x : List ℕ) (xs : List (List ℕ)) → frame_of x ≡ None → AllByRecursion (IsNew m n q) xs → AllByRecursion (IsNew m n q) (x ∷ xs)
+  new_silence x xs none all = (inl (unreadable_harmless x none), all)
+
+  is_fresh : (in_time clear : Bool) (last : Option Last) (request sent : List ℕ) (way : List (List ℕ)) → (clear ≡ true → AllByRecursion IsUnreadable way) → (sent ≡ []) ⊎ IsNew m n q sent
+      → ((frame_of (listened in_time (compared clear last) request (and_sent sent way)).heard ≡ None) ⊎ (is_copy (compared clear last) request (listened in_time (compared clear last) request (and_sent sent way)).heard ≡ false))
+      → IsFresh last request m n q (listened in_time (compared clear last) request (and_sent sent way)).left (listened in_time (compared clear last) request (and_sent sent way)).heard
+  is_fresh in_time false last request sent way unanswered sends (inl none) = is_none none
+  is_fresh in_time false last request sent way unanswered sends (inr other) = is_other other
+  is_fresh in_time true last request sent way unanswered sends fresh =
+      let all = all_sent (IsNew m n q) sent way sends (all_map IsUnreadable (IsNew m n q) (λ x none. inl (unreadable_harmless x none)) way (unanswered refl)) in
+      is_new (listened_comes (AllByRecursion (IsNew m n q)) new_tail new_silence in_time None request (and_sent sent way) all).from
 
 -- ---- the exchange
 
@@ -267,11 +289,13 @@ exchange_keeps meters regular w r outcome in_time frame is runs asks =
     let c = listened_comes (IsUnderWay r.session.stage r.session.address r.session.settled r.meter a.meter line.position positions)
     (under_way_tail r.session.stage r.session.address r.session.settled r.meter a.meter line.position positions)
     (under_way_silence r.session.stage r.session.address r.session.settled r.meter a.meter line.position positions)
-    in_time w.last (spelling frame) way line.under_way in
-    heard_keeps meters w r frame a asks (listened in_time w.last (spelling frame) way) positions
+    in_time (compared w.clear w.last) (spelling frame) way line.under_way in
+    heard_keeps meters w r frame a asks (listened in_time (compared w.clear w.last) (spelling frame) way) positions
     (record { position = line.position; stands = line.stands; step = line.step; alone = line.alone; under_way = c.from })
-    c.fresh f.1 (length-after outcome frame meters w.world.positions is.regular.counted.0) is.regular
-    (still_clear in_time w.last frame (heard_in outcome frame meters w.world.positions) w.under_way w.clear is.unanswered
+    (λ requests. is_fresh a.meter r.session.settled line.position in_time w.clear w.last (spelling frame) (heard_in outcome frame meters w.world.positions) w.under_way is.unanswered
+    (new_on outcome meters r.session.stage r.session.meter r.session.address r.session.settled r.meter frame a.meter a.position line.position w.world.positions
+    requests asks a.stands.0 (sym a.whom.1) a.stands.1 a.step a.alone says line.stands) c.fresh) f.1 (length-after outcome frame meters w.world.positions is.regular.counted.0) is.regular
+    (still_clear in_time (compared w.clear w.last) frame (heard_in outcome frame meters w.world.positions) w.under_way w.clear is.unanswered
     (λ has. group_sent meters outcome frame w.world.positions (says ∙ ap (λ x. bytes_of (answer_to x a.meter (moved_by frame a.meter a.position))) (is_group_reset frame has)
     ∙ group_silent meters regular r.meter a.meter (moved_by frame a.meter a.position) a.stands.0)) _ refl)
 

@@ -17,7 +17,7 @@ use Rattle.dc_world.specs.World.{Running, noise, positions_after, heard_in, worl
 use Rattle.dc_world.specs.Reply.{bytes_of}
 use Rattle.dc_world.proofs.Moves.{no_frame_of_nothing, no_frame_of_zero}
 use Rattle.dc_world.proofs.Replies.{heard_as_sent}
-use Rattle.dc_late.specs.Late.{LateWorld, LateEvent, Last, Listened, Timely, body_with, frame_with, numbered_as, numbered, plain, is_long, are_no_telegrams, cut_at, starts, passes, arrives_cut, exchanges, commits, stops, is_copy, past_copies, last_after, clear_after, is_quiet, and_sent, first_of, listened, heard_late, exchanged_by, exchanged, started_if, late_step, late_from, late_after, new_late_world, at_access, in_its_time, events_of, ArePlain, AreDifferent, NoAnswerIsACopy}
+use Rattle.dc_late.specs.Late.{LateWorld, LateEvent, Last, Listened, Timely, body_with, frame_with, numbered_as, numbered, plain, is_long, compared, are_no_telegrams, cut_at, starts, passes, arrives_cut, exchanges, commits, stops, is_copy, past_copies, last_after, clear_after, is_quiet, and_sent, first_of, listened, heard_late, exchanged_by, exchanged, started_if, late_step, late_from, late_after, new_late_world, at_access, in_its_time, events_of, ArePlain, AreDifferent, NoAnswerIsACopy}
 use Rattle.dc_late.proofs.Plainly.{LateEvent as PlainEvent, starts as plainly_starts, passes as plainly_passes, arrives_cut as plainly_arrives_cut, exchanges as plainly_exchanges, commits as plainly_commits, stops as plainly_stops, is_copy as plainly_copy, past_copies as plainly_past, last_after as plainly_last, listened as plainly_listened, heard_late as plainly_heard, exchanged_by as plainly_exchanged_by, exchanged as plainly_exchanged, late_step as plainly_step, late_from as plainly_from, late_after as plainly_after, in_its_time as plainly_in_time}
 use Rattle.dc_late.proofs.UnderWay.{IsRegularLate}
 use Rattle.dc_late.proofs.LateWorlds.{step_keeps, new_is_regular_late, late_held_is_whole as plainly_whole, late_goes_on_from_committed as plainly_goes_on}
@@ -174,7 +174,9 @@ clear_same frame x clear = go (frame_of x) refl
   where
     go : (found : Option FrameSeen) → frame_of x ≡ found → clear_after frame found clear ≡ clear_after frame (frame_of (plain x)) clear
     go None e = sym (ap (λ (o : Option FrameSeen). clear_after frame o clear) (frame_numbered 0 x None e))
-    go (Some f) e = sym (ap (λ (o : Option FrameSeen). clear_after frame o clear) (frame_numbered 0 x (Some f) e))
+    go (Some ack) e = sym (ap (λ (o : Option FrameSeen). clear_after frame o clear) (frame_numbered 0 x (Some ack) e))
+    go (Some (short control address)) e = sym (ap (λ (o : Option FrameSeen). clear_after frame o clear) (frame_numbered 0 x (Some (short control address)) e))
+    go (Some (long control address ci body)) e = sym (ap (λ (o : Option FrameSeen). clear_after frame o clear) (frame_numbered 0 x (Some (long control address ci body)) e))
 
 -- the world without access numbers
 abbrev pub plain_world : LateWorld → LateWorld
@@ -241,13 +243,13 @@ same_by meters regular are w r outcome in_time access None is runs asks = refl
 same_by meters regular are w r outcome in_time access (Some frame) is runs asks =
     let positions : List Position = positions_after outcome frame meters w.world.positions in
     let sent : List ℕ = heard_in outcome frame meters w.world.positions in
-    let l : Listened = listened in_time w.last (spelling frame) (and_sent (numbered access sent) w.under_way) in
+    let l : Listened = listened in_time (compared w.clear w.last) (spelling frame) (and_sent (numbered access sent) w.under_way) in
     let way : map plain (and_sent (numbered access sent) w.under_way) ≡ and_sent sent (map plain w.under_way) =
     map_sent (numbered access sent) w.under_way
     ∙ ap (λ (y : List ℕ). and_sent y (map plain w.under_way)) (numbered_twice 0 access sent ∙ plain_sent meters regular are (plain_world w) r outcome frame is runs asks) in
     heard_same l frame positions r w
-    ∙ ap (λ (x : Listened). plainly_heard x frame positions r (plain_world w)) (listened_same in_time w.last (spelling frame) (and_sent (numbered access sent) w.under_way)
-    ∙ ap (plainly_listened in_time w.last (spelling frame)) way)
+    ∙ ap (λ (x : Listened). plainly_heard x frame positions r (plain_world w)) (listened_same in_time (compared w.clear w.last) (spelling frame) (and_sent (numbered access sent) w.under_way)
+    ∙ ap (plainly_listened in_time (compared w.clear w.last) (spelling frame)) way)
 
 same_in : (meters : List Meter) (regular : AreRegular meters) (are : ArePlain meters) (w : LateWorld) (running : Option Running) (outcome : Outcome) (in_time : Bool) (access : ℕ) → IsRegularLate meters (plain_world w)
     → w.world.running ≡ running → plain_world (exchanged meters outcome in_time access running w) ≡ plainly_exchanged meters outcome in_time running (plain_world w)
@@ -299,9 +301,9 @@ no_answer_is_a_copy meters regular are different events r frame answer m p acces
     let no = plainly_no_copy meters regular different (map erased events) r frame answer m p (sym (ap (λ (v : LateWorld). v.world.running) same) ∙ runs) asks at
     (sym (ap (λ (v : LateWorld). slice_get v.world.positions r.meter) same) ∙ stands) e in
     let told : plain (spelling answer) ≡ spelling answer = subst (λ (o : Option FrameSeen). plain (bytes_of o) ≡ bytes_of o) e (plain_answer frame m (moved_by frame m p) (λ j body there. are r.meter j m body at there)) in
-    sym (copy_same w.last (spelling frame) (numbered access (spelling answer)))
-    ∙ ap (plainly_copy w.last (spelling frame)) (numbered_twice 0 access (spelling answer) ∙ told)
-    ∙ ap (λ (v : LateWorld). plainly_copy v.last (spelling frame) (spelling answer)) same ∙ no
+    sym (copy_same (compared w.clear w.last) (spelling frame) (numbered access (spelling answer)))
+    ∙ ap (plainly_copy (compared w.clear w.last) (spelling frame)) (numbered_twice 0 access (spelling answer) ∙ told)
+    ∙ ap (λ (v : LateWorld). plainly_copy (compared v.clear v.last) (spelling frame) (spelling answer)) same ∙ no
 
 erased_timely : (event : WorldEvent) (access : ℕ) → erased (at_access event access) ≡ plainly_in_time event
 erased_timely (Start place) access = refl

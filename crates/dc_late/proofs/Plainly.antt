@@ -9,7 +9,7 @@ use Rattle.dc_world.specs.declared.event.WorldEvent.{WorldEvent}
 use Rattle.dc_world.specs.declared.event.WorldEvent.TheVariants.{Start, Exchange, Commit, Stop}
 use Rattle.dc_world.specs.Meter.{Meter, Position, moved_by, answer_to}
 use Rattle.dc_world.specs.World.{Running, world_step, positions_after, heard_in, running_after}
-pub use Rattle.dc_late.specs.Late.{LateWorld, Last, Listened, new_late_world, is_command, is_long, are_no_telegrams, cut_at, has_answer, clear_after, is_quiet, and_sent, first_of, started_if, AreDifferent}
+pub use Rattle.dc_late.specs.Late.{LateWorld, Last, Listened, new_late_world, is_command, is_wrong, compared, is_long, are_no_telegrams, cut_at, has_answer, clear_after, is_quiet, and_sent, first_of, started_if, AreDifferent}
 
 -- A readout begins; the oldest answers arrive and are dropped; the session's request goes out with
 -- this outcome, and an answer is received in time or not; the received telegram is committed; the
@@ -60,7 +60,7 @@ heard_late l frame positions r w = record {
 -- the answer goes onto the link after those under way
 abbrev pub exchanged_as : List Meter → Outcome → Bool → FrameSeen → Running → LateWorld → LateWorld
 exchanged_as meters outcome in_time frame r w =
-    heard_late (listened in_time w.last (spelling frame)
+    heard_late (listened in_time (compared w.clear w.last) (spelling frame)
     (and_sent (heard_in outcome frame meters w.world.positions) w.under_way))
     frame (positions_after outcome frame meters w.world.positions) r w
 
@@ -101,7 +101,7 @@ NoAnswerIsACopy meters w =
     → w.world.running ≡ Some r → asked_by r.session ≡ Some frame
     → slice_get meters r.meter ≡ Some meter → slice_get w.world.positions r.meter ≡ Some p
     → answer_to frame meter (moved_by frame meter p) ≡ Some answer
-    → is_copy w.last (spelling frame) (spelling answer) ≡ false
+    → is_copy (compared w.clear w.last) (spelling frame) (spelling answer) ≡ false
 
 -- an event of a line on which each answer comes in time
 abbrev pub in_its_time : WorldEvent → LateEvent

@@ -143,6 +143,40 @@ seen meters regular Requests identity address n i frame one p positions way sent
 seen meters regular (Pending more) identity address n i frame one p positions way sent who asks at whom stands step alone says u is = absurd cc
 seen meters regular Ended identity address n i frame one p positions way sent who asks at whom stands step alone says u is = absurd cc
 
+-- the answer to a request for a telegram is the next one
+answer_is_new : (meters : List Meter) (stage : Stage) (identity : Identity) (address : Option ℕ) (n i : ℕ) (frame : FrameSeen) (one : Meter) (p q : Position) (positions : List Position) (sent : List ℕ)
+    → stage ≡ Requests → asked_at stage identity address n ≡ Some frame → slice_get meters i ≡ Some one → one.address ≡ address → slice_get positions i ≡ Some p
+    → IsInStep stage n p → IsAlone stage address i positions → slice_get (all_moved frame meters positions) i ≡ Some q
+    → IsSent (bytes_of (answer_to frame one (moved_by frame one p))) sent → (sent ≡ []) ⊎ IsNew one n q sent
+answer_is_new meters Requests identity address n i frame one p q positions sent stage asks at whom stands step alone there is =
+    let same : request_of address n ≡ frame = cc in
+    let moved : List Position = all_moved frame meters positions in
+    let p' : Position = moved_by frame one p in
+    let gone : HasGoneOn n p' = subst (λ f. HasGoneOn n (moved_by f one p)) same (own_goes_on address n one p whom (own_selected address i positions alone p stands) step) in
+    let after = stays AsSent meters Requests identity address n i frame one p positions asks at whom stands step alone in
+    let here : slice_get moved i ≡ Some p' = moved_at frame meters positions i one p at stands in
+    let answers : bytes_of (answer_to frame one p') ≡ answer_no one (suc n) =
+    ap (λ f. bytes_of (answer_to f one p')) (sym same) ∙ request_answered address n one p' whom (own_selected address i moved after.alone p' here) gone in
+    let one_place : p' ≡ q = cc in
+    subst (λ x. (sent ≡ []) ⊎ IsNew one n x sent) one_place (tells one n p' _ sent answers gone is)
+answer_is_new meters Resets identity address n i frame one p q positions sent stage asks at whom stands step alone there is = absurd cc
+answer_is_new meters Selects identity address n i frame one p q positions sent stage asks at whom stands step alone there is = absurd cc
+answer_is_new meters (Pending more) identity address n i frame one p q positions sent stage asks at whom stands step alone there is = absurd cc
+answer_is_new meters Ended identity address n i frame one p q positions sent stage asks at whom stands step alone there is = absurd cc
+
+pub new_on : (outcome : Outcome) (meters : List Meter) (stage : Stage) (identity : Identity) (address : Option ℕ) (n i : ℕ) (frame : FrameSeen) (one : Meter) (p q : Position) (positions : List Position)
+    → stage ≡ Requests → asked_at stage identity address n ≡ Some frame → slice_get meters i ≡ Some one → one.address ≡ address → slice_get positions i ≡ Some p
+    → IsInStep stage n p → IsAlone stage address i positions
+    → heard_in AsSent frame meters positions ≡ bytes_of (answer_to frame one (moved_by frame one p))
+    → slice_get (positions_after outcome frame meters positions) i ≡ Some q
+    → (heard_in outcome frame meters positions ≡ []) ⊎ IsNew one n q (heard_in outcome frame meters positions)
+new_on RequestLost meters stage identity address n i frame one p q positions is asks at whom stands step alone says there = inl refl
+new_on ReplyLost meters stage identity address n i frame one p q positions is asks at whom stands step alone says there = inl refl
+new_on ReplyUnreadable meters stage identity address n i frame one p q positions is asks at whom stands step alone says there =
+    answer_is_new meters stage identity address n i frame one p q positions noise is asks at whom stands step alone there (inr (inl no_frame_of_zero))
+new_on AsSent meters stage identity address n i frame one p q positions is asks at whom stands step alone says there =
+    answer_is_new meters stage identity address n i frame one p q positions (heard_in AsSent frame meters positions) is asks at whom stands step alone there (inr (inr says))
+
 -- whatever the line does to the request and to its answer
 pub sent_on : (outcome : Outcome) (meters : List Meter) (regular : AreRegular meters) (stage : Stage) (identity : Identity) (address : Option ℕ) (n i : ℕ) (frame : FrameSeen) (one : Meter) (p : Position) (positions : List Position) (way : List (List ℕ))
     → identity ≡ one.identity → asked_at stage identity address n ≡ Some frame

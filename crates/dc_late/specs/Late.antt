@@ -1,5 +1,13 @@
 -- A line whose link may deliver answers late, first in first out, whose meters may count their
 -- access numbers at each answer, and the two rules of the line layer: copies and quiet.
+--
+-- THE PREMISES about the bus, by name, and where the model has each:
+--   one master                 no event but those of LateEvent
+--   first in, first out        and_sent: an answer comes after those under way
+--   lateness                   starts: after a missed answer only when none is under way
+--   no stray acknowledgement   what a link makes of an answer is no frame (noise of dc_world)
+--   repeats                    numbered: another access number, and the checksum that goes with it
+--   no telegram in a telegram  are_no_telegrams: no piece of a cut telegram is a long frame
 use Rattle.std.specs.Prelude.{◌≡◌, ◌≢◌, ℕ, ◌+◌, Bool, true, false, not, ◌&&◌, ◌||◌, List, [], ◌∷◌}
 use Rattle.std.specs.Prelude.{◌++◌, drop, Option, Some, None, slice_get, ◌==◌, bytes_eq}
 use Rattle.std.specs.Prelude.{if◌then◌else◌, slice_set, map, zero, suc}
@@ -89,8 +97,13 @@ pub data LateEvent : Type 0 where
   commits : LateEvent
   stops : LateEvent
 
--- ---- the rule of copies: an answer that equals the last long frame, but for the access number,
--- which answered another request, is dropped
+-- ---- the rule of copies: where an answer was missed, an answer that equals the last long frame,
+-- but for the access number, which answered another request, is dropped
+
+-- the frame with which answers are compared: none where no answer was missed, since nothing but
+-- the answer to the current request can come then
+abbrev pub compared : Bool → Option Last → Option Last
+compared clear last = if clear then None else last
 
 abbrev pub is_copy : Option Last → List ℕ → List ℕ → Bool
 is_copy None request answer = false
@@ -149,10 +162,21 @@ has_answer ack = true
 has_answer (short control address) = not (control == snd_nke && address == selected)
 has_answer (long control address ci body) = true
 
--- silence or bytes that are no frame, where an answer was expected
+-- an answer of another kind than the request has: a command is acknowledged, any other request is
+-- answered by a long frame
+abbrev pub is_wrong : FrameSeen → FrameSeen → Bool
+is_wrong request ack = not (is_command (Some request))
+is_wrong request (short control address) = true
+is_wrong request (long control address ci body) = is_command (Some request)
+
+abbrev pub is_wrong_answer : FrameSeen → Option FrameSeen → Bool
+is_wrong_answer request None = false
+is_wrong_answer request (Some frame) = is_wrong request frame
+
+-- silence, bytes that are no frame or an answer of the wrong kind, where an answer was expected
 abbrev pub clear_after : FrameSeen → Option FrameSeen → Bool → Bool
 clear_after request None clear = if has_answer request then false else clear
-clear_after request (Some frame) clear = clear
+clear_after request (Some frame) clear = if is_wrong request frame then false else clear
 
 abbrev pub is_quiet : List (List ℕ) → Bool
 is_quiet [] = true
@@ -196,7 +220,7 @@ heard_late l frame positions r w = record {
 abbrev pub exchanged_as : List Meter → Outcome → Bool → ℕ → FrameSeen → Running → LateWorld
     → LateWorld
 exchanged_as meters outcome in_time access frame r w =
-    heard_late (listened in_time w.last (spelling frame)
+    heard_late (listened in_time (compared w.clear w.last) (spelling frame)
     (and_sent (numbered access (heard_in outcome frame meters w.world.positions)) w.under_way))
     frame (positions_after outcome frame meters w.world.positions) r w
 
@@ -264,7 +288,7 @@ NoAnswerIsACopy meters w =
     → w.world.running ≡ Some r → asked_by r.session ≡ Some frame
     → slice_get meters r.meter ≡ Some meter → slice_get w.world.positions r.meter ≡ Some p
     → answer_to frame meter (moved_by frame meter p) ≡ Some answer
-    → is_copy w.last (spelling frame) (numbered access (spelling answer)) ≡ false
+    → is_copy (compared w.clear w.last) (spelling frame) (numbered access (spelling answer)) ≡ false
 
 -- an event of a line on which each answer comes in time, and the access number of its telegram
 pub record Timely : Type 0 where

@@ -1,9 +1,10 @@
 //! The theorems of dc_world over a link that delivers answers late: after the time-out, as the
 //! answer to a later request, first in first out.
 //!
-//! The line layer keeps two rules. Copies: an answer that equals the last long frame received on the
-//! line, but for the access number, and that answered another request, is dropped, and the line
-//! waits for the next answer. An acknowledgement clears that frame only where it answers SND_NKE or
+//! The line layer keeps two rules. Copies: once an answer was missed, an answer that equals the last
+//! long frame received on the line, but for the access number, and that answered another request, is
+//! dropped, and the line waits for the next answer. An answer of another kind than the request has
+//! counts as missed. An acknowledgement clears that frame only where it answers SND_NKE or
 //! SND_UD. Quiet: after a missed answer a session begins only when no answer is under way.
 //!
 //! A meter may count its access number at each answer, so that a repeat has another one. A late

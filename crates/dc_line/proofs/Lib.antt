@@ -4,6 +4,8 @@
 pub mod Echoes
 -- what is received, piece by piece
 pub mod Pieces
+-- late bytes that are dropped until a gap
+pub mod Drops
 -- waiting for answers
 pub mod Halves
 -- what a line receives in several steps

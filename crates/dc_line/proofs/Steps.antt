@@ -1,5 +1,5 @@
 -- What a line receives in several steps, and how it depends on the bytes.
-use Rattle.std.proofs.Common.{◌≡◌, ℕ, ◌-◌, ◌+◌, suc, ◌<◌, ◌≤◌, Bool, true, false, List, [], ◌∷◌, ◌++◌, length, take, drop, get_or, ◌==◌, refl, ap, sym, subst, ◌∙◌, arith, rules, if◌then◌else◌, append_assoc, append-nil, ◌⊎◌, inl, inr}
+use Rattle.std.proofs.Common.{◌≡◌, ℕ, ◌-◌, ◌+◌, suc, ◌<◌, ◌≤◌, Bool, true, false, List, [], ◌∷◌, ◌++◌, length, take, drop, get_or, ◌==◌, Option, Some, None, refl, ap, sym, subst, ◌∙◌, arith, rules, if◌then◌else◌, append_assoc, append-nil, ◌⊎◌, inl, inr}
 use Rattle.std.specs.List.{All, concat}
 use Rattle.std.proofs.lemmas.Bool.{false≢true}
 use Rattle.std.proofs.lemmas.Bool.Decides.{nat_tests}
@@ -11,8 +11,8 @@ use Rattle.dc_gateway.specs.Blocks.{most_answer}
 use Rattle.dc_line.specs.declared.line.Line.{Line}
 use Rattle.dc_line.specs.declared.wire.Wire.{Ghosts as WireGhosts}
 use Rattle.dc_line.specs.Wire.{Sound, AreHeard, bytes_in, bytes_of, piece, nothing, gap, silence, pieces}
-use Rattle.dc_line.specs.Heard.{Answers, ComesFrom, Ends, Heard, Hearing, IsByte, IsFrame, Lasts, Waits, and_bytes, answer_of, begins, past_echo, heard_of, front_by, is_over, missing_of, missing_by, is_whole, is_silent, has_gap, still, still_none}
-use Rattle.dc_line.specs.Line.{GivesOver, LineGives, LineWaits, gives_now, gives_then}
+use Rattle.dc_line.specs.Heard.{Answers, ComesFrom, Ends, Heard, Hearing, IsByte, IsFrame, Lasts, Waits, and_bytes, answer_of, begins, past_echo, heard_of, front_by, is_over, missing_of, missing_by, is_whole, is_silent, has_gap, still, still_none, Releases, goes_out, waits_on}
+use Rattle.dc_line.specs.Line.{GivesOver, IsHeardAfterGap, IsHeld, LineGives, LineWaits, WaitsBy, WaitsOn, gives_now, gives_then, released_by}
 use Rattle.dc_line.proofs.Echoes.{begins_front, begins_same, past_plain, past_echoed, shorter_front}
 use Rattle.dc_line.proofs.Pieces.{heard-append, stays_bad}
 
@@ -213,13 +213,15 @@ module _ {W : Type 0} (wire : WireGhosts W) where
         ends = o.ends;
       }
 
-  over_all : {old new : Line W} {answer : List ℕ} → GivesOver wire old answer new → new.lost ≡ false → Over wire.hears old.wire old.hearing answer new.wire
-  over_all {old} {new} {answer} (gives_now gives) well = over_now old new answer (gives.heard well)
-  over_all {old} {new} {answer} (gives_then {between = between} waits more) well = over_then old between new answer waits.waits (over_all more well)
+  over_all : {old new : Line W} {answer : List ℕ} → GivesOver wire old answer new → old.held ≡ None → new.lost ≡ false → Over wire.hears old.wire old.hearing answer new.wire
+  over_all {old} {new} {answer} (gives_now gives) none well = over_now old new answer (gives.heard well)
+  over_all {old} {new} {answer} (gives_then {between = between} waits more) none well =
+      let w : WaitsOn wire old between = subst (λ (h : Option (List ℕ)). WaitsBy wire h old between) none waits.waits in
+      over_then old between new answer w.waits (over_all more (ap (λ (l : Line W). l.held) w.kept ∙ none) well)
 
-  pub gives_heard : (old new : Line W) (answer : List ℕ) → old.hearing.bytes ≡ [] → GivesOver wire old answer new → new.lost ≡ false → (sounds : List Sound) × AreHeard wire.hears old.wire sounds new.wire × Heard old.hearing.request sounds answer
-  gives_heard old new answer none gives well =
-      let o = over_all gives well in (
+  pub gives_heard : (old new : Line W) (answer : List ℕ) → old.held ≡ None → old.hearing.bytes ≡ [] → GivesOver wire old answer new → new.lost ≡ false → (sounds : List Sound) × AreHeard wire.hears old.wire sounds new.wire × Heard old.hearing.request sounds answer
+  gives_heard old new answer sent none gives well =
+      let o = over_all gives sent well in (
         o.sounds,
         o.gave,
         record {
@@ -231,3 +233,44 @@ module _ {W : Type 0} (wire : WireGhosts W) where
           ends = o.ends;
         },
       )
+
+  -- after the gap
+  goes_on : (old between new : Line W) (request answer : List ℕ) (sent : Bool) → Releases wire.hears wire.sends old.wire request sent between.wire → between ≡ released_by sent request old between.wire
+      → old.held ≡ Some request → GivesOver wire between answer new → new.lost ≡ false
+      → (between.held ≡ Some request → IsHeardAfterGap wire between.wire request answer new.wire) → IsHeardAfterGap wire old.wire request answer new.wire
+  goes_on old between new request answer true (goes_out {between = passed} past sent) kept held more well rest =
+      let is : between.hearing ≡ record { request = request; bytes = [] } = ap (λ (l : Line W). l.hearing) kept in
+      let g = gives_heard between new answer (ap (λ (l : Line W). l.held) kept) (ap (λ (h : Hearing). h.bytes) is) more well in
+      record {
+        late = [];
+        waited = old.wire;
+        before = passed;
+        after = between.wire;
+        gave = refl;
+        past = past;
+        sent = sent;
+        sounds = g.0;
+        came = g.1;
+        heard = subst (λ (r : List ℕ). Heard r g.0 answer) (ap (λ (h : Hearing). h.request) is) g.2;
+      }
+  goes_on old between new request answer false (waits_on past) kept held more well rest =
+      let o = rest (ap (λ (l : Line W). l.held) kept ∙ held) in
+      let first : List Sound = pieces past.bursts ++ past.end in
+      record {
+        late = first ++ o.late;
+        waited = o.waited;
+        before = o.before;
+        after = o.after;
+        gave = heard-append wire.hears old.wire between.wire o.waited first o.late past.gave o.gave;
+        past = o.past;
+        sent = o.sent;
+        sounds = o.sounds;
+        came = o.came;
+        heard = o.heard;
+      }
+
+  pub held_heard : {old new : Line W} {answer : List ℕ} → (request : List ℕ) → old.held ≡ Some request → GivesOver wire old answer new → new.lost ≡ false → IsHeardAfterGap wire old.wire request answer new.wire
+  held_heard request held (gives_now gives) well = absurd (let none = gives.sent well in cc)
+  held_heard {old} {new} {answer} request held (gives_then {between = between} waits more) well =
+      let h : IsHeld wire request old between = subst (λ (h : Option (List ℕ)). WaitsBy wire h old between) held waits.waits in
+      goes_on old between new request answer h.sent h.releases h.kept held more well (λ e. held_heard request e more well)

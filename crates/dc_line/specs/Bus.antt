@@ -7,9 +7,14 @@ use Rattle.dc_gateway.specs.Blocks.{most_block}
 abbrev pub most_waits : ℕ
 most_waits = 65535
 
--- a count of waits, at most that many
+-- maximum number of times that nothing comes on a wire: so often before a request that waits for a
+-- gap is sent, and so often after it
+abbrev pub most_looks : ℕ
+most_looks = 32767
+
+-- a count of looks at a wire, at most that many
 abbrev pub waits_of : ℕ → ℕ
-waits_of count = min count most_waits
+waits_of count = min count most_looks
 
 -- maximum number of steps in which a bus settles: 64 answers or silences, each after that many
 -- waits at most

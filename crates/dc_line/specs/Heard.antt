@@ -118,13 +118,43 @@ pub record Waits {W : Type 0} (hears : W → Sound → W → Type 0) (old : W) (
   pub lasts : Lasts (answer_of after) last
   pub unfinished : is_over (answer_of after) ≡ false
 
--- late bytes were dropped, and then the request was sent
-pub record Sends {W : Type 0} (drops : W → W → Type 0) (sends : W → List ℕ → W → Type 0) (old : W)
-    (request : List ℕ)
-    (new : W) : Type 0 where
-  pub between : W
-  pub dropped : drops old between
-  pub sent : sends between request new
+-- ---- a request
+
+-- The request was sent, where no late bytes had arrived. Otherwise these were dropped, and nothing
+-- was sent.
+pub data Puts {W : Type 0} (drops : W → Bool → W → Type 0) (sends : W → List ℕ → W → Type 0)
+    (old : W) (request : List ℕ) : Bool → W → Type 0 where
+  at_once : {between new : W} → drops old false between → sends between request new
+      → Puts drops sends old request false new
+  held_back : {new : W} → drops old true new → Puts drops sends old request true new
+
+-- maximum number of pieces that are dropped at once before a request goes out without a gap
+abbrev pub most_drops : ℕ
+most_drops = 64
+
+-- whether a request may go out after these pieces: a gap or silence followed them, or as many came
+-- as are dropped; not yet, if nothing followed them
+pub data IsPast (bursts : List (List ℕ)) : Bool → List Sound → Type 0 where
+  not_yet : IsPast bursts false (nothing ∷ [])
+  at_gap : IsPast bursts true (gap ∷ [])
+  at_silence : IsPast bursts true (silence ∷ [])
+  never_quiet : length bursts ≡ most_drops → IsPast bursts true []
+
+-- LATE BYTES CAME, and were dropped until a gap, or until nothing more came.
+pub record Passes {W : Type 0} (hears : W → Sound → W → Type 0) (old : W) (past : Bool) (new : W)
+    : Type 0 where
+  pub bursts : List (List ℕ)
+  pub each : All HasByte bursts
+  pub end : List Sound
+  pub gave : AreHeard hears old (pieces bursts ++ end) new
+  pub ends : IsPast bursts past end
+
+-- the request that waits for a gap was sent after it, or still waits
+pub data Releases {W : Type 0} (hears : W → Sound → W → Type 0) (sends : W → List ℕ → W → Type 0)
+    (old : W) (request : List ℕ) : Bool → W → Type 0 where
+  goes_out : {between new : W} → Passes hears old true between → sends between request new
+      → Releases hears sends old request true new
+  waits_on : {new : W} → Passes hears old false new → Releases hears sends old request false new
 
 -- ---- the whole exchange, from the request on
 

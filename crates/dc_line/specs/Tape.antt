@@ -1,5 +1,5 @@
 -- A wire in memory, as contracts see it: the bytes that are still to come, and in which steps (this product).
-use Rattle.std.specs.Prelude.{◌≡◌, ℕ, List, ◌++◌, length}
+use Rattle.std.specs.Prelude.{◌≡◌, ℕ, Bool, not, ◌==◌, List, ◌++◌, length}
 use Rattle.dc_line.specs.Bus.{waits_of}
 use Rattle.dc_line.specs.Wire.{Sound, bytes_of}
 use Rattle.dc_line.specs.declared.tape.Event.{Event}
@@ -17,8 +17,10 @@ tape_waits tape = waits_of (length tape.events)
 abbrev pub TapeHears : Taped → Sound → Taped → Type 0
 TapeHears old sound new = old.bytes ≡ bytes_of sound ++ new.bytes
 
-abbrev pub TapeDrops : Taped → Taped → Type 0
-TapeDrops old new = (late : List ℕ) × (old.bytes ≡ late ++ new.bytes)
+-- a prefix of them is dropped, if there is one
+abbrev pub TapeDrops : Taped → Bool → Taped → Type 0
+TapeDrops old dropped new =
+    (late : List ℕ) × (old.bytes ≡ late ++ new.bytes) × (dropped ≡ not (length late == 0))
 
 abbrev pub TapeSends : Taped → List ℕ → Taped → Type 0
 TapeSends old request new = new ≡ old

@@ -46,6 +46,9 @@ impl<R: Source + Drop, W: Sink + Drop> HalfBus for BlockLink<R, W> {
 
     ghost gives = { LinkGives R.Source W.Sink };
 
+    // The exchange is taken whole, so nothing is dropped.
+    ghost dropped = { λ _. 0 };
+
     fn is_lost(&self) -> bool {
         self.gateway.is_lost()
     }
@@ -67,6 +70,10 @@ impl<R: Source + Drop, W: Sink + Drop> HalfBus for BlockLink<R, W> {
             }
             None => Some(AnswerBuf::new()),
         }
+    }
+
+    fn dropped(&self) -> u64 {
+        0
     }
 }
 

@@ -27,6 +27,9 @@ pub trait HalfBus {
 
     ghost gives: { Self → List ℕ → Self → Type 0 };
 
+    // Number of requests before which late bytes were dropped.
+    ghost dropped: { Self → ℕ };
+
     /// Whether the bus is lost.
     fn is_lost(&self) -> bool
         ensures lost { result ≡ lost self.now }
@@ -49,6 +52,10 @@ pub trait HalfBus {
         ensures silence { lost self.new ≡ true → IfSome result (λ answer. answer ≡ []) }
         ensures untouched { lost self.old ≡ true → self.new ≡ self.old }
         ensures at_once { lost self.old ≡ true → IfNone result ⊥ };
+
+    /// Number of requests before which late bytes were dropped.
+    fn dropped(&self) -> u64
+        ensures { result ≡ dropped self.now };
 }
 
 /// A bus on which answers may be late, so that a readout may begin only when no answer is under

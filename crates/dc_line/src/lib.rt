@@ -4,9 +4,10 @@
 //! A [`Wire`] sends bytes and returns what has arrived so far; no call waits. A [`Line`] is a wire
 //! until it fails. Its answer is the first whole frame, or all bytes before the silence, at most
 //! 300 ([`AnswerBuf`](dc_gateway::AnswerBuf)), without the echo of the request that some converters
-//! send. It is a [`HalfBus`], a bus on which a request is sent first, and its answer is taken once
-//! it is complete; so one thread can serve several. A [`BlockLink`] is a half bus over the block
-//! protocol.
+//! send. A request before which late bytes were dropped goes out after a gap, since the bytes that
+//! follow may be the rest of the same answer. A line is a [`HalfBus`], a bus on which a request is
+//! sent first, and its answer is taken once it is complete; so one thread can serve several. A
+//! [`BlockLink`] is a half bus over the block protocol.
 //!
 //! [`PollWire`] is the wire over a descriptor, of a TCP stream or a terminal; its bytes aren't
 //! known to contracts. [`Tape`] is a wire in memory. [`Both`] makes one bus of the halves, on which
@@ -30,7 +31,7 @@ pub use bus::{HalfBus, QuietBus};
 pub use hearing::Hearing;
 pub use laws::{what_a_line_gives_is_heard, what_is_heard_depends_on_the_bytes_alone};
 pub use line::Line;
-pub use listening::{hear, send};
+pub use listening::{hear, release, send};
 pub use poll_wire::{GAP, PollWire};
 pub use tape::{Event, Tape};
 pub use wire::{Came, Wire};

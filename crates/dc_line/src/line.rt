@@ -1,11 +1,11 @@
 //! A line over a wire, until it is lost.
 
-ghost use Rattle.std.specs.Prelude.{◌≡◌, ◌≤◌, ◌<◌, [], true, false, IfSome, IfNone};
+ghost use Rattle.std.specs.Prelude.{◌≡◌, ◌≤◌, ◌<◌, [], None, Some, true, false, IfSome, IfNone};
 ghost use Rattle.dc_line.specs.Line.{LineGives, LineSends, LineWaits, left_of};
 
 use crate::bus::HalfBus;
 use crate::hearing::Hearing;
-use crate::listening::{hear, send};
+use crate::listening::{hear, release, send};
 use crate::wire::Wire;
 use dc_gateway::AnswerBuf;
 use dc_linkframe::FrameBuf;
@@ -19,6 +19,10 @@ pub struct Line<W: Wire + Drop> {
     pub lost: bool,
     /// The request that was sent last, and the bytes received since.
     pub hearing: Hearing,
+    /// The request that isn't sent yet: late bytes came before it, and it waits for a gap.
+    pub held: Option<FrameBuf>,
+    /// Number of requests before which late bytes were dropped.
+    pub dropped: u64,
 }
 
 impl<W: Wire + Drop> Line<W> {
@@ -28,16 +32,21 @@ impl<W: Wire + Drop> Line<W> {
           wire = wire;
           lost = false;
           hearing = record { request = []; bytes = [] };
+          held = None;
+          dropped = 0;
         } }
     {
         Line {
             wire,
             lost: false,
             hearing: Hearing::new(&FrameBuf::new()),
+            held: None,
+            dropped: 0,
         }
     }
 
-    /// Sends a request. Once the line is lost, the wire isn't touched.
+    /// Sends a request. If late bytes had arrived, they are dropped, and it is sent after a gap, by
+    /// [`take`](Line::take). Once the line is lost, the wire isn't touched.
     pub fn put(&mut self, request: &FrameBuf)
         ensures { LineSends W.Wire self.old request.now self.new }
     {
@@ -45,28 +54,68 @@ impl<W: Wire + Drop> Line<W> {
             return;
         }
         match send(&mut self.wire, request) {
-            Ok(()) => self.hearing = Hearing::new(request),
+            Ok(false) => {
+                self.held = None;
+                self.hearing = Hearing::new(request);
+            }
+            Ok(true) => {
+                self.held = Some(*request);
+                self.dropped = self.dropped.saturating_add(1);
+            }
             Err(_) => self.lost = true,
         }
     }
 
-    /// Takes the answer, once it is complete. A lost line is silent, and the wire isn't touched.
+    /// Takes the answer, once it is complete. A request that is held is sent first, after a gap. A
+    /// lost line is silent, and the wire isn't touched.
     pub fn take(&mut self) -> Option<AnswerBuf>
         ensures heard { IfSome result (λ answer. LineGives W.Wire self.old answer self.new) }
         ensures waits { IfNone result (LineWaits W.Wire self.old self.new) }
         ensures running { IfNone result (self.new.lost ≡ false) }
-        ensures fewer { IfNone result (W.waits_left self.new.wire < W.waits_left self.old.wire) }
+        ensures fewer { IfNone result
+            (left_of W.waits_left self.new < left_of W.waits_left self.old) }
         ensures no_more { left_of W.waits_left self.new ≤ left_of W.waits_left self.old }
     {
         if self.lost {
             return Some(AnswerBuf::new());
         }
+        if let Some(request) = self.held {
+            return self.let_go(&request);
+        }
         match hear(&mut self.wire, &mut self.hearing) {
             Ok(answer) => answer,
-            Err(_) => {
-                self.lost = true;
-                Some(AnswerBuf::new())
+            Err(_) => Some(self.lose()),
+        }
+    }
+
+    // The wire failed: silence.
+    fn lose(&mut self) -> AnswerBuf
+        ensures lost { self.new ≡ record self.old { lost = true } }
+        ensures silence { result ≡ [] }
+    {
+        self.lost = true;
+        AnswerBuf::new()
+    }
+
+    // Sends the request that is held, after a gap; silence if the wire fails.
+    fn let_go(&mut self, request: &FrameBuf) -> Option<AnswerBuf>
+        requires running { self.old.lost ≡ false }
+        requires held { self.old.held ≡ Some request.now }
+        ensures heard { IfSome result (λ answer. LineGives W.Wire self.old answer self.new) }
+        ensures waits { IfNone result (LineWaits W.Wire self.old self.new) }
+        ensures running { IfNone result (self.new.lost ≡ false) }
+        ensures fewer { IfNone result
+            (left_of W.waits_left self.new < left_of W.waits_left self.old) }
+        ensures no_more { left_of W.waits_left self.new ≤ left_of W.waits_left self.old }
+    {
+        match release(&mut self.wire, request) {
+            Ok(true) => {
+                self.held = None;
+                self.hearing = Hearing::new(request);
+                None
             }
+            Ok(false) => None,
+            Err(_) => Some(self.lose()),
         }
     }
 }
@@ -84,6 +133,8 @@ impl<W: Wire + Drop> HalfBus for Line<W> {
 
     ghost gives = { LineGives W.Wire };
 
+    ghost dropped = { λ line. line.dropped };
+
     fn is_lost(&self) -> bool {
         self.lost
     }
@@ -94,5 +145,9 @@ impl<W: Wire + Drop> HalfBus for Line<W> {
 
     fn hear(&mut self) -> Option<AnswerBuf> {
         self.take()
+    }
+
+    fn dropped(&self) -> u64 {
+        self.dropped
     }
 }

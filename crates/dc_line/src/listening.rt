@@ -1,8 +1,8 @@
 //! The two halves of an exchange over a wire.
 
-ghost use Rattle.std.specs.Prelude.{◌≡◌, ◌≤◌, ◌<◌, IfOk, OnOk, OnErr, IfSome, IfNone};
+ghost use Rattle.std.specs.Prelude.{◌≡◌, ◌≤◌, ◌<◌, false, IfOk, OnOk, OnErr, IfSome, IfNone};
 ghost use Rattle.dc_io.specs.Failures.{HasRisen};
-ghost use Rattle.dc_line.specs.Heard.{Answers, Sends, Waits};
+ghost use Rattle.dc_line.specs.Heard.{Answers, Passes, Puts, Releases, Waits};
 
 use crate::hearing::Hearing;
 use crate::wire::{Came, Wire};
@@ -10,14 +10,63 @@ use dc_gateway::{AnswerBuf, MOST_ANSWER};
 use dc_io::IoFault;
 use dc_linkframe::FrameBuf;
 
-/// Drops late bytes, and sends a request.
-pub fn send<W: Wire>(wire: &mut W, request: &FrameBuf) -> Result<(), IoFault>
-    ensures sent { OnOk result (Sends W.drops W.sends wire.old request.now wire.new) }
+// Maximum number of pieces that are dropped at once before a request goes out without a gap.
+const MOST_DROPS: usize = 64;
+
+/// Drops late bytes, and sends a request if there were none: what follows them may be late too.
+/// Returns whether there were any.
+pub fn send<W: Wire>(wire: &mut W, request: &FrameBuf) -> Result<bool, IoFault>
+    ensures sent { IfOk result (λ late. Puts W.drops W.sends wire.old request.now late wire.new) }
     ensures well { OnOk result (W.failures wire.new ≡ W.failures wire.old) }
     ensures failed { OnErr result (HasRisen (W.failures wire.old) (W.failures wire.new)) }
 {
-    wire.discard()?;
-    wire.send(request.as_slice())
+    let late = wire.discard()?;
+    if late {
+        return Ok(true);
+    }
+    wire.send(request.as_slice())?;
+    Ok(false)
+}
+
+/// Drops what arrives until a gap or silence, and then sends the request that waits for it. Returns
+/// whether it was sent; nothing may have come yet.
+pub fn release<W: Wire>(wire: &mut W, request: &FrameBuf) -> Result<bool, IoFault>
+    ensures sent { IfOk result (λ sent.
+        Releases W.hears W.sends wire.old request.now sent wire.new) }
+    ensures fewer { IfOk result (λ sent. sent ≡ false
+        → W.waits_left wire.new < W.waits_left wire.old) }
+    ensures well { OnOk result (W.failures wire.new ≡ W.failures wire.old) }
+    ensures failed { OnErr result (HasRisen (W.failures wire.old) (W.failures wire.new)) }
+{
+    let past = is_past_gap(wire)?;
+    if !past {
+        return Ok(false);
+    }
+    wire.send(request.as_slice())?;
+    Ok(true)
+}
+
+// Drops what arrives until a gap or silence; false if neither came yet. After `MOST_DROPS` pieces it
+// is waited for no longer.
+fn is_past_gap<W: Wire>(wire: &mut W) -> Result<bool, IoFault>
+    ensures past { IfOk result (λ past. Passes W.hears wire.old past wire.new) }
+    ensures fewer { IfOk result (λ past. past ≡ false
+        → W.waits_left wire.new < W.waits_left wire.old) }
+    ensures well { OnOk result (W.failures wire.new ≡ W.failures wire.old) }
+    ensures failed { OnErr result (HasRisen (W.failures wire.old) (W.failures wire.new)) }
+{
+    let mut room = [0; MOST_ANSWER];
+    let mut count = 0;
+    'drops: while count < MOST_DROPS {
+        match wire.hear(&mut room)? {
+            Came::Bytes(_came) => {}
+            Came::Nothing => return Ok(false),
+            Came::Gap => return Ok(true),
+            Came::Silence => return Ok(true),
+        }
+        count += 1;
+    }
+    Ok(true)
 }
 
 /// Takes what has arrived so far, and returns the answer once it is complete.

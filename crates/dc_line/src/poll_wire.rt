@@ -27,7 +27,7 @@ const MOST_POLLS: usize = 1_000;
 
 // Maximum number of times that nothing may come after a request, before the wire itself waits for
 // the rest of its time-out.
-const MOST_WAITS: u16 = 65_535;
+const MOST_WAITS: u16 = 32_767;
 
 /// A TCP stream or a terminal as a wire, by polls that don't wait. A read that returns no byte when
 /// the descriptor is readable means the end of the stream.
@@ -36,7 +36,8 @@ pub struct PollWire<S: Read + Write + AsRawFd + Drop, C: Clock + Drop> {
     stream: S,
     clock: C,
     patience: Duration,
-    // The time at which the request was sent, the last byte came or the last silence was returned.
+    // The time at which the request was sent, the last byte came or was dropped, or the last silence
+    // was returned.
     since: Instant,
     // Whether a byte came since, and no gap after it was returned.
     begun: bool,
@@ -121,12 +122,25 @@ impl<S: Read + Write + AsRawFd + Drop, C: Clock + Drop> PollWire<S, C> {
             self.begun = false;
             return Ok(Came::Silence);
         }
-        self.waits -= 1;
+        self.waits = self.waits.min(MOST_WAITS) - 1;
         if self.begun && spent >= Duration::from_millis(GAP) {
             self.begun = false;
             return Ok(Came::Gap);
         }
         Ok(Came::Nothing)
+    }
+
+    // Drops what has arrived; then a gap is awaited, as after a byte that was heard.
+    fn drop_late(&mut self) -> Result<bool, IoFault>
+        ensures { self.new.failures ≡ self.old.failures }
+    {
+        let dropped = drop_late(&mut self.stream)?;
+        if dropped {
+            self.since = now(&self.clock)?;
+            self.begun = true;
+            self.waits = MOST_WAITS;
+        }
+        Ok(dropped)
     }
 
     fn put(&mut self, bytes: &[u8]) -> Result<(), IoFault>
@@ -146,19 +160,19 @@ impl<S: Read + Write + AsRawFd + Drop, C: Clock + Drop> PollWire<S, C> {
 
 impl<S: Read + Write + AsRawFd + Drop, C: Clock + Drop> Wire for PollWire<S, C> {
     ghost use Rattle.std.proofs.Math.Nat.{min-le_right};
-    ghost use Rattle.dc_line.specs.Bus.{most_waits, waits_of};
+    ghost use Rattle.dc_line.specs.Bus.{most_looks, waits_of};
 
     ghost failures = { λ wire. wire.failures };
 
     ghost waits_left = { λ wire. waits_of wire.waits };
 
-    ghost few = { λ wire. min-le_right wire.waits most_waits };
+    ghost few = { λ wire. min-le_right wire.waits most_looks };
 
     ghost sends = { λ _ _ _. Unit {0} };
 
     ghost hears = { λ _ _ _. Unit {0} };
 
-    ghost drops = { λ _ _. Unit {0} };
+    ghost drops = { λ _ _ _. Unit {0} };
 
     // The last clause states of the writer what the trait's clauses don't.
     fn send(&mut self, bytes: &[u8]) -> Result<(), IoFault>
@@ -192,8 +206,8 @@ impl<S: Read + Write + AsRawFd + Drop, C: Clock + Drop> Wire for PollWire<S, C> 
         came
     }
 
-    fn discard(&mut self) -> Result<(), IoFault> {
-        let dropped = drop_late(&mut self.stream);
+    fn discard(&mut self) -> Result<bool, IoFault> {
+        let dropped = self.drop_late();
         if dropped.is_err() {
             self.failures = one_failure_more(self.failures);
         }
@@ -251,13 +265,15 @@ fn read_within<S: Read + AsRawFd>(
     Err(IoFault)
 }
 
-// Drops what has arrived already.
-fn drop_late<S: Read + AsRawFd>(stream: &mut S) -> Result<(), IoFault> {
+// Drops what has arrived already, and returns whether there was anything.
+fn drop_late<S: Read + AsRawFd>(stream: &mut S) -> Result<bool, IoFault> {
     let mut room = [0; 300];
+    let mut dropped = false;
     for _ in 0..MOST_DISCARDS {
         if read_within(stream, 0, &mut room)? == 0 {
-            return Ok(());
+            return Ok(dropped);
         }
+        dropped = true;
     }
-    Ok(())
+    Ok(dropped)
 }

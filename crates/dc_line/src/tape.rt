@@ -2,7 +2,7 @@
 
 ghost use Rattle.std.specs.Prelude.{◌≡◌, ◌≤◌, ◌<◌, length};
 ghost use Rattle.dc_io.specs.Failures.{HasRisen};
-ghost use Rattle.dc_line.specs.Bus.{most_waits};
+ghost use Rattle.dc_line.specs.Bus.{most_looks};
 ghost use Rattle.dc_line.specs.Tape.{TapeHears, tape_waits};
 ghost use Rattle.dc_line.specs.Wire.{FitsRoom, Wanes, sound_of};
 
@@ -37,7 +37,7 @@ pub struct Tape<'a> {
 
 impl<'a> Model for Tape<'a> {
     ghost use Rattle.std.specs.Prelude.{◌≤◌, length};
-    ghost use Rattle.dc_line.specs.Bus.{most_waits};
+    ghost use Rattle.dc_line.specs.Bus.{most_looks};
     ghost use Rattle.dc_line.specs.Tape.{Taped};
 
     ghost Value = { Taped };
@@ -48,13 +48,13 @@ impl<'a> Model for Tape<'a> {
       failures = tape.failures;
     } };
 
-    ghost invariant = { λ tape. length tape.events.now ≤ most_waits };
+    ghost invariant = { λ tape. length tape.events.now ≤ most_looks };
 }
 
 impl<'a> Tape<'a> {
     /// Returns a tape of these bytes and events.
     pub fn new(bytes: &'a [u8], events: &'a [Event]) -> Tape<'a>
-        requires { length events.now ≤ most_waits }
+        requires { length events.now ≤ most_looks }
         ensures { result ≡ record { bytes = bytes.now; events = events.now; failures = 0 } }
     {
         Tape {
@@ -110,14 +110,14 @@ impl<'a> Tape<'a> {
 impl<'a> Wire for Tape<'a> {
     ghost use Rattle.std.specs.Prelude.{length};
     ghost use Rattle.std.proofs.Math.Nat.{min-le_right};
-    ghost use Rattle.dc_line.specs.Bus.{most_waits};
+    ghost use Rattle.dc_line.specs.Bus.{most_looks};
     ghost use Rattle.dc_line.specs.Tape.{TapeDrops, TapeHears, TapeSends, tape_waits};
 
     ghost failures = { λ tape. tape.failures };
 
     ghost waits_left = { tape_waits };
 
-    ghost few = { λ tape. min-le_right (length tape.events) most_waits };
+    ghost few = { λ tape. min-le_right (length tape.events) most_looks };
 
     ghost sends = { TapeSends };
 
@@ -154,7 +154,7 @@ impl<'a> Wire for Tape<'a> {
         }
     }
 
-    fn discard(&mut self) -> Result<(), IoFault> {
+    fn discard(&mut self) -> Result<bool, IoFault> {
         match self.events.split_first() {
             Some((Event::Loss, _)) => Err(self.fail()),
             Some((Event::Bytes(count), more)) => {
@@ -163,9 +163,9 @@ impl<'a> Wire for Tape<'a> {
                 self.bytes = left;
                 self.events = more;
                 self.came = 0;
-                Ok(())
+                Ok(late > 0)
             }
-            _ => Ok(()),
+            _ => Ok(false),
         }
     }
 }

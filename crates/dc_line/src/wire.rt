@@ -1,8 +1,8 @@
 //! A wire: bytes are sent on it, and bytes arrive on it.
 
-ghost use Rattle.std.specs.Prelude.{◌≡◌, ℕ, ◌≤◌, ◌<◌, List, length, IfOk, OnOk, OnErr};
+ghost use Rattle.std.specs.Prelude.{◌≡◌, ℕ, ◌≤◌, ◌<◌, Bool, List, length, IfOk, OnOk, OnErr};
 ghost use Rattle.dc_io.specs.Failures.{HasRisen};
-ghost use Rattle.dc_line.specs.Bus.{most_waits};
+ghost use Rattle.dc_line.specs.Bus.{most_looks};
 ghost use Rattle.dc_line.specs.Wire.{FitsRoom, Sound, Wanes, sound_of};
 
 use dc_io::IoFault;
@@ -29,15 +29,15 @@ pub trait Wire {
     // Number of times that nothing may still come.
     ghost waits_left: { Self → ℕ };
 
-    ghost few: { (wire : Self) → waits_left wire ≤ most_waits };
+    ghost few: { (wire : Self) → waits_left wire ≤ most_looks };
 
     // The effect of a call that succeeds on the wire: these bytes were sent; this arrived; late
-    // bytes were dropped.
+    // bytes were dropped, if there were any.
     ghost sends: { Self → List ℕ → Self → Type 0 };
 
     ghost hears: { Self → Sound → Self → Type 0 };
 
-    ghost drops: { Self → Self → Type 0 };
+    ghost drops: { Self → Bool → Self → Type 0 };
 
     /// Sends all of the bytes.
     fn send(&mut self, bytes: &[u8]) -> Result<(), IoFault>
@@ -55,9 +55,10 @@ pub trait Wire {
         ensures well { OnOk result (failures self.new ≡ failures self.old) }
         ensures failed { OnErr result (HasRisen (failures self.old) (failures self.new)) };
 
-    /// Drops late bytes that have arrived already.
-    fn discard(&mut self) -> Result<(), IoFault>
-        ensures step { OnOk result (drops self.old self.new) }
+    /// Drops late bytes that have arrived already, and returns whether there were any. A gap after
+    /// them is returned like one after a byte that was heard.
+    fn discard(&mut self) -> Result<bool, IoFault>
+        ensures step { IfOk result (λ dropped. drops self.old dropped self.new) }
         ensures well { OnOk result (failures self.new ≡ failures self.old) }
         ensures failed { OnErr result (HasRisen (failures self.old) (failures self.new)) };
 }

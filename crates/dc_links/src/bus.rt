@@ -30,6 +30,8 @@ impl<A: QuietBus + Drop, B: QuietBus + Drop> HalfBus for LinkBus<A, B> {
 
     ghost gives = { gives_by A.gives B.gives };
 
+    ghost dropped = { left_by A.dropped B.dropped };
+
     fn is_lost(&self) -> bool {
         match self {
             LinkBus::First(bus) => bus.is_lost(),
@@ -51,6 +53,14 @@ impl<A: QuietBus + Drop, B: QuietBus + Drop> HalfBus for LinkBus<A, B> {
             LinkBus::First(bus) => bus.hear(),
             LinkBus::Second(bus) => bus.hear(),
             LinkBus::Absent => Some(AnswerBuf::new()),
+        }
+    }
+
+    fn dropped(&self) -> u64 {
+        match self {
+            LinkBus::First(bus) => bus.dropped(),
+            LinkBus::Second(bus) => bus.dropped(),
+            LinkBus::Absent => 0,
         }
     }
 }

@@ -12,7 +12,7 @@ use Rattle.dc_world.specs.Meter.{Meter, Position}
 use Rattle.dc_world.specs.World.{AreRegular, GoesOnFromCommitted, IsWhole, Running, world_step, positions_after, heard_in}
 use Rattle.dc_world.specs.declared.event.WorldEvent.TheVariants.{Start}
 use Rattle.dc_world.proofs.Moves.{no_frame_of_nothing}
-use Rattle.dc_late.specs.Late.{LateWorld, LateEvent, Last, Listened, starts, passes, arrives_cut, exchanges, commits, stops, ArePlain, numbered, is_command, is_copy, past_copies, last_after, and_sent, first_of, listened, heard_late, exchanged_by, exchanged, started_if, is_quiet, clear_after, late_step, late_from, late_after, new_late_world}
+use Rattle.dc_late.specs.Late.{LateWorld, LateEvent, Last, Listened, starts, passes, arrives_cut, exchanges, commits, stops, ArePlain, numbered, is_command, is_copy, compared, past_copies, last_after, and_sent, first_of, listened, heard_late, exchanged_by, exchanged, started_if, is_quiet, clear_after, late_step, late_from, late_after, new_late_world}
 use Rattle.dc_late.proofs.Numbers.{late_held_is_whole, late_goes_on_from_committed, plain_nothing, plain_some}
 use Rattle.dc_steady.specs.declared.line.Steady.{Steady}
 use Rattle.dc_steady.specs.Life.{BecomesClear, Hears, is_clear, settles_first, takes, waits_first}
@@ -25,6 +25,10 @@ use Rattle.dc_steady.specs.Link.{LinkGives, LinkWaits, Happens, Lives, drops, cu
 abbrev pub HasText : Option Last → Type 0
 HasText None = Unit {0}
 HasText (Some l) = l.answer ≡ [] → ⊥
+
+pub text_compared : (clear : Bool) (last : Option Last) → HasText last → HasText (compared clear last)
+text_compared true last has = tt
+text_compared false last has = has
 
 pub text_long : (heard : Option FrameSeen) (request answer : List ℕ) (last : Option Last) → frame_of answer ≡ heard → HasText last → HasText (last_after heard request answer last)
 text_long None request answer last e is = is
@@ -97,7 +101,7 @@ module _ (last : Option Last) (request : List ℕ) (has : HasText last) where
 pub record IsHeardOver (old : Steady (List (List ℕ))) (heard : List ℕ) (new : Steady (List (List ℕ))) : Type 0 where
   pub answers : List (List ℕ)
   pub gave : IsRun LinkGives old.bus answers new.bus
-  pub first : first_of (past_copies old.last old.request answers) ≡ record { heard = heard; left = [] }
+  pub first : first_of (past_copies (compared old.clear old.last) old.request answers) ≡ record { heard = heard; left = [] }
   pub last : new.last ≡ last_after (frame_of heard) old.request heard old.last
   pub clear : new.clear ≡ clear_after (request_of (frame_of old.request)) (frame_of heard) old.clear
 
@@ -115,11 +119,12 @@ over_waits old between new heard w o =
     let same_last : between.last ≡ old.last = ap (λ (l : Steady (List (List ℕ))). l.last) w.kept in
     let same_request : between.request ≡ old.request = ap (λ (l : Steady (List (List ℕ))). l.request) w.kept in
     let same_clear : between.clear ≡ old.clear = ap (λ (l : Steady (List (List ℕ))). l.clear) w.kept in
+    let same_compared : compared between.clear between.last ≡ compared old.clear old.last = ap (λ (c : Bool). compared c between.last) same_clear ∙ ap (compared old.clear) same_last in
     record {
       answers = w.listens.copies ++ o.answers;
       gave = run-append LinkGives old.bus w.listens.between new.bus w.listens.copies o.answers w.listens.gave (subst (λ (b : List (List ℕ)). IsRun LinkGives b o.answers new.bus) w.listens.waited o.gave);
-      first = ap first_of (past_append old.last old.request w.listens.copies o.answers w.listens.are
-          ∙ ap (λ (l : Option Last). past_copies l old.request o.answers) (sym same_last) ∙ ap (λ (r : List ℕ). past_copies between.last r o.answers) (sym same_request))
+      first = ap first_of (past_append (compared old.clear old.last) old.request w.listens.copies o.answers w.listens.are
+          ∙ ap (λ (l : Option Last). past_copies l old.request o.answers) (sym same_compared) ∙ ap (λ (r : List ℕ). past_copies (compared between.clear between.last) r o.answers) (sym same_request))
           ∙ o.first;
       last = o.last ∙ ap (λ (l : Option Last). last_after (frame_of heard) between.request heard l) same_last ∙ ap (λ (r : List ℕ). last_after (frame_of heard) r heard old.last) same_request;
       clear = o.clear ∙ ap (λ (c : Bool). clear_after (request_of (frame_of between.request)) (frame_of heard) c) same_clear
@@ -155,7 +160,7 @@ pub record Leads (meters : List Meter) (w new : LateWorld) : Type 0 where
   pub events : List LateEvent
   pub lead : new ≡ late_from meters w events
 
-by_request : (frame : FrameSeen) → request_of (frame_of (spelling frame)) ≡ frame
+pub by_request : (frame : FrameSeen) → request_of (frame_of (spelling frame)) ≡ frame
 by_request frame = ap request_of (frame_of-spelling frame)
 
 module _ (meters : List Meter) (w : LateWorld) (outcome : Outcome) (access : ℕ) (r : Running) (frame : FrameSeen) (running : w.world.running ≡ Some r) (asks : asked_by r.session ≡ Some frame) where
@@ -165,7 +170,7 @@ module _ (meters : List Meter) (w : LateWorld) (outcome : Outcome) (access : ℕ
   abbrev pub way : List (List ℕ)
   way = and_sent (numbered access (heard_in outcome frame meters w.world.positions)) w.under_way
 
-  exchanged_is : (in_time : Bool) → late_step meters w (exchanges outcome in_time access) ≡ heard_late (listened in_time w.last (spelling frame) way) frame positions r w
+  exchanged_is : (in_time : Bool) → late_step meters w (exchanges outcome in_time access) ≡ heard_late (listened in_time (compared w.clear w.last) (spelling frame) way) frame positions r w
   exchanged_is in_time = ap (λ (x : Option Running). exchanged meters outcome in_time access x w) running ∙ ap (λ (f : Option FrameSeen). exchanged_by meters outcome in_time access f r w) asks
 
   judged_late : (heard : List ℕ) (line : Steady (List (List ℕ))) → IsHeardOver (line_of w way (spelling frame)) heard line
@@ -175,7 +180,7 @@ module _ (meters : List Meter) (w : LateWorld) (outcome : Outcome) (access : ℕ
       ap (λ (x : Option Last). record { world = judged meters outcome frame r heard w.world; under_way = line.bus; last = x; clear = line.clear }) over.last
       ∙ ap (λ (c : Bool). record { world = judged meters outcome frame r heard w.world; under_way = line.bus; last = last_after (frame_of heard) (spelling frame) heard w.last; clear = c }) clear
 
-  by_time : (heard : List ℕ) (left : List (List ℕ)) → IsHeardLate w.last (spelling frame) way left heard → Leads meters w (heard_late (record { heard = heard; left = left }) frame positions r w)
+  by_time : (heard : List ℕ) (left : List (List ℕ)) → IsHeardLate (compared w.clear w.last) (spelling frame) way left heard → Leads meters w (heard_late (record { heard = heard; left = left }) frame positions r w)
   by_time heard left (inl same) = record {
     events = exchanges outcome true access ∷ [];
     lead = ap (λ (l : Listened). heard_late l frame positions r w) same ∙ sym (exchanged_is true);
@@ -189,7 +194,7 @@ module _ (meters : List Meter) (w : LateWorld) (outcome : Outcome) (access : ℕ
 
   pub hears_lead : (heard : List ℕ) (line : Steady (List (List ℕ))) → HasText w.last → IsHeardOver (line_of w way (spelling frame)) heard line → Leads meters w (with_line (judged meters outcome frame r heard w.world) line)
   hears_lead heard line has over =
-      let late = by_time heard line.bus (link_heard w.last (spelling frame) has over.answers way line.bus heard over.gave over.first) in
+      let late = by_time heard line.bus (link_heard (compared w.clear w.last) (spelling frame) (text_compared w.clear w.last has) over.answers way line.bus heard over.gave over.first) in
       record { events = late.events; lead = judged_late heard line over ∙ late.lead }
 
   pub hears_text : (heard : List ℕ) (line : Steady (List (List ℕ))) → HasText w.last → IsHeardOver (line_of w way (spelling frame)) heard line → HasText line.last

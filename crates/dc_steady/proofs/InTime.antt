@@ -1,5 +1,5 @@
 -- Where each answer comes in time, what the concentrator does over the line layer is what it does in dc_world.
-use Rattle.std.proofs.Common.{◌≡◌, ℕ, Bool, true, false, ◌-◌, List, [], ◌∷◌, Option, Some, None, map, refl, ap, sym, subst, ◌∙◌, arith}
+use Rattle.std.proofs.Common.{◌≡◌, ℕ, Bool, true, false, ◌-◌, not, ◌⊎◌, inl, inr, List, [], ◌∷◌, Option, Some, None, map, refl, ap, sym, subst, ◌∙◌, arith}
 use Rattle.dc_linkframe.specs.Frame.{FrameSeen, spelling}
 use Rattle.dc_linkframe.specs.Reading.{frame_of}
 use Rattle.dc_readout.specs.Summary.{asked_by}
@@ -7,14 +7,14 @@ use Rattle.dc_world.specs.declared.event.Outcome.{Outcome}
 use Rattle.dc_world.specs.declared.event.WorldEvent.{WorldEvent}
 use Rattle.dc_world.specs.declared.event.WorldEvent.TheVariants.{Start, Exchange, Commit, Stop}
 use Rattle.dc_world.specs.Meter.{Meter}
-use Rattle.dc_world.specs.World.{AreRegular, World, Running, new_world, world_after, world_step, heard_in, positions_after}
-use Rattle.dc_late.specs.Late.{AreDifferent, ArePlain, Timely, events_of, numbered, LateWorld, Last, Listened, and_sent, clear_after, exchanged, exchanged_by, first_of, heard_late, in_its_time, is_copy, last_after, late_from, late_step, listened, past_copies}
+use Rattle.dc_world.specs.World.{AreRegular, committed, World, Running, new_world, world_after, world_step, heard_in, positions_after}
+use Rattle.dc_late.specs.Late.{AreDifferent, ArePlain, Timely, events_of, numbered, compared, LateWorld, Last, Listened, and_sent, clear_after, exchanged, exchanged_by, first_of, heard_late, in_its_time, is_copy, is_wrong_answer, last_after, late_from, late_step, listened, past_copies}
 use Rattle.dc_late.proofs.Numbers.{same_in_time}
 use Rattle.dc_steady.specs.declared.line.Steady.{Steady}
 use Rattle.dc_steady.specs.Life.{BecomesClear, is_clear, settles_first, takes}
-use Rattle.dc_steady.specs.Steady.{Listens, and_late, copies_in, drops_it, dropped, quiet, request_of}
+use Rattle.dc_steady.specs.Steady.{Listens, and_late, copies_in, drops_it, dropped, late_with, quiet, request_of}
 use Rattle.dc_steady.specs.Link.{LinkGives, LinkWaits, Lives, line_of, settles, hears, keeps, restarts, young, older, judged, with_line}
-use Rattle.dc_steady.proofs.Events.{HasText, past_copy, silence_no_copy, text_long}
+use Rattle.dc_steady.proofs.Events.{HasText, by_request, past_copy, silence_no_copy, text_compared, text_long}
 
 -- an event of a line on which each telegram has the access number 0
 abbrev at_zero : WorldEvent → Timely
@@ -79,6 +79,7 @@ record IsLived (meters : List Meter) (v : LateWorld) : Type 0 where
   calm : Bool
   life : Lives meters (at world last clear)
   text : HasText last
+  agree : (world.running ≡ None) ⊎ (clear ≡ calm)
   is : v ≡ at world last calm
 
 -- a line over which nothing is under way becomes clear
@@ -101,14 +102,21 @@ settled meters world last false place = record {
   is = refl;
 }
 
-module _ (meters : List Meter) (world : World) (last : Option Last) (clear calm : Bool) (life : Lives meters (at world last clear)) (text : HasText last) where
-  same : IsLived meters (at world last calm)
-  same = record { world = world; last = last; clear = clear; calm = calm; life = life; text = text; is = refl }
+-- a commit starts no readout
+commit_agrees : (running : Option Running) (world : World) (clear calm : Bool) → world.running ≡ running → (world.running ≡ None) ⊎ (clear ≡ calm) → ((committed running world).running ≡ None) ⊎ (clear ≡ calm)
+commit_agrees None world clear calm is agree = agree
+commit_agrees (Some r) world clear calm is (inl none) = absurd cc
+commit_agrees (Some r) world clear calm is (inr same) = inr same
 
-  lived_asked : (outcome : Outcome) (r : Running) (asks : Option FrameSeen) → world.running ≡ Some r → asked_by r.session ≡ asks → IsLived meters (exchanged_by meters outcome true 0 asks r (at world last calm))
-  lived_asked outcome r None running asked = same
-  lived_asked outcome r (Some frame) running asked =
-      let t : InTime last (spelling frame) (and_sent (numbered 0 (heard_in outcome frame meters world.positions)) []) = comes_in_time last (spelling frame) (numbered 0 (heard_in outcome frame meters world.positions)) text in
+module _ (meters : List Meter) (world : World) (last : Option Last) (clear calm : Bool) (life : Lives meters (at world last clear)) (text : HasText last) (agree : (world.running ≡ None) ⊎ (clear ≡ calm)) where
+  same : IsLived meters (at world last calm)
+  same = record { world = world; last = last; clear = clear; calm = calm; life = life; text = text; agree = agree; is = refl }
+
+  lived_asked : (outcome : Outcome) (r : Running) (asks : Option FrameSeen) → world.running ≡ Some r → asked_by r.session ≡ asks → clear ≡ calm → IsLived meters (exchanged_by meters outcome true 0 asks r (at world last calm))
+  lived_asked outcome r None running asked alike = same
+  lived_asked outcome r (Some frame) running asked alike =
+      let t : InTime (compared clear last) (spelling frame) (and_sent (numbered 0 (heard_in outcome frame meters world.positions)) []) =
+      comes_in_time (compared clear last) (spelling frame) (numbered 0 (heard_in outcome frame meters world.positions)) (text_compared clear last text) in
       let line : Steady (List (List ℕ)) = record {
         bus = [];
         request = spelling frame;
@@ -118,7 +126,7 @@ module _ (meters : List Meter) (world : World) (last : Option Last) (clear calm 
         copies = 0;
         settled = 0;
         silent = false;
-        late = and_late 0 (t.copies - 0);
+        late = late_with (and_late 0 (t.copies - 0)) (not (is_wrong_answer (request_of (frame_of (spelling frame))) (frame_of t.heard)));
       } in
       record {
         world = judged meters outcome frame r t.heard world;
@@ -127,12 +135,18 @@ module _ (meters : List Meter) (world : World) (last : Option Last) (clear calm 
         calm = clear_after frame (frame_of t.heard) calm;
         life = older life (hears outcome 0 r frame t.heard line running asked (takes (record { copies = t.copies; listens = t.listens; kept = refl })) refl);
         text = text_long (frame_of t.heard) (spelling frame) t.heard last refl text;
-        is = ap (λ (l : Listened). heard_late l frame (positions_after outcome frame meters world.positions) r (at world last calm)) t.is;
+        agree = inr (ap (λ (f : FrameSeen). clear_after f (frame_of t.heard) clear) (by_request frame) ∙ ap (clear_after frame (frame_of t.heard)) alike);
+        is = ap (λ (b : Bool). heard_late (listened true (compared b last) (spelling frame) (and_sent (numbered 0 (heard_in outcome frame meters world.positions)) [])) frame (positions_after outcome frame meters world.positions) r (at world last calm)) (sym alike)
+            ∙ ap (λ (l : Listened). heard_late l frame (positions_after outcome frame meters world.positions) r (at world last calm)) t.is;
       }
 
   lived_running : (outcome : Outcome) (running : Option Running) → world.running ≡ running → IsLived meters (exchanged meters outcome true 0 running (at world last calm))
   lived_running outcome None is = same
-  lived_running outcome (Some r) is = lived_asked outcome r (asked_by r.session) is refl
+  lived_running outcome (Some r) is = go agree
+    where
+      go : (world.running ≡ None) ⊎ (clear ≡ calm) → IsLived meters (exchanged meters outcome true 0 (Some r) (at world last calm))
+      go (inl none) = absurd cc
+      go (inr alike) = lived_asked outcome r (asked_by r.session) is refl alike
 
   lived_one : (event : WorldEvent) → IsLived meters (late_step meters (at world last calm) (in_its_time (at_zero event)))
   lived_one (Start place) =
@@ -144,20 +158,21 @@ module _ (meters : List Meter) (world : World) (last : Option Last) (clear calm 
         calm = true;
         life = older life (settles place [] cleared.line cleared.becomes cleared.bus cleared.is);
         text = text;
+        agree = inr refl;
         is = refl;
       }
   lived_one (Exchange outcome) = lived_running outcome world.running refl
-  lived_one Commit = record { world = world_step meters world Commit; last = last; clear = clear; calm = calm; life = older life (keeps refl); text = text; is = refl }
-  lived_one Stop = record { world = world_step meters world Stop; last = None; clear = false; calm = false; life = older life (restarts refl); text = tt; is = refl }
+  lived_one Commit = record { world = world_step meters world Commit; last = last; clear = clear; calm = calm; life = older life (keeps refl); text = text; agree = commit_agrees world.running world clear calm refl agree; is = refl }
+  lived_one Stop = record { world = world_step meters world Stop; last = None; clear = false; calm = false; life = older life (restarts refl); text = tt; agree = inr refl; is = refl }
 
-lived_all : (meters : List Meter) (events : List WorldEvent) (world : World) (last : Option Last) (clear calm : Bool) → Lives meters (at world last clear) → HasText last → IsLived meters (late_from meters (at world last calm) (map in_its_time (map at_zero events)))
-lived_all meters [] world last clear calm life text = same meters world last clear calm life text
-lived_all meters (event ∷ events) world last clear calm life text =
-    let one = lived_one meters world last clear calm life text event in
+lived_all : (meters : List Meter) (events : List WorldEvent) (world : World) (last : Option Last) (clear calm : Bool) → Lives meters (at world last clear) → HasText last → (world.running ≡ None) ⊎ (clear ≡ calm) → IsLived meters (late_from meters (at world last calm) (map in_its_time (map at_zero events)))
+lived_all meters [] world last clear calm life text agree = same meters world last clear calm life text agree
+lived_all meters (event ∷ events) world last clear calm life text agree =
+    let one = lived_one meters world last clear calm life text agree event in
     subst (λ (v : LateWorld). IsLived meters (late_from meters v (map in_its_time (map at_zero events)))) (sym one.is)
-    (lived_all meters events one.world one.last one.clear one.calm one.life one.text)
+    (lived_all meters events one.world one.last one.clear one.calm one.life one.text one.agree)
 
 pub lives_in_time : (meters : List Meter) (events : List WorldEvent) → AreRegular meters → ArePlain meters → AreDifferent meters → (w : LateWorld) × Lives meters w × (w.world ≡ world_after meters events)
 lives_in_time meters events regular are different =
-    let all = lived_all meters events (new_world meters) None false true (young refl) tt in
+    let all = lived_all meters events (new_world meters) None false true (young refl) tt (inl refl) in
     (at all.world all.last all.clear, all.life, sym (ap (λ (v : LateWorld). v.world) all.is) ∙ same_in_time meters regular are different (map at_zero events) ∙ ap (world_after meters) (events_at_zero events))

@@ -1,11 +1,12 @@
 -- What is received on a line whose link may deliver answers late, and when such a line is clear
 -- (this product).
-use Rattle.std.specs.Prelude.{◌≡◌, ℕ, ◌+◌, ◌-◌, ◌^◌, ◌≤◌, ◌<◌, Bool, true, false, ◌&&◌, List, []}
+use Rattle.std.specs.Prelude.{◌≡◌, ℕ, ◌+◌, ◌-◌, ◌^◌, ◌≤◌, ◌<◌, Bool, true, false, not, ◌&&◌, List, []}
 use Rattle.std.specs.Prelude.{◌∷◌, length, min, Option, Some, None, ◌==◌, if◌then◌else◌}
 use Rattle.dc_io.specs.Chain.{IsRun}
 use Rattle.dc_linkframe.specs.Frame.{FrameSeen, ack}
 use Rattle.dc_linkframe.specs.Reading.{frame_of}
-use Rattle.dc_late.specs.Late.{Last, clear_after, first_of, last_after, past_copies}
+use Rattle.dc_late.specs.Late.{Last, clear_after, compared, first_of, is_wrong_answer, last_after}
+use Rattle.dc_late.specs.Late.{past_copies}
 use Rattle.dc_steady.specs.declared.line.Steady.{Steady}
 
 -- the saturating count of late answers
@@ -65,25 +66,33 @@ pub record Sent {B : Type 0} (sends : B → List ℕ → B → Type 0) (old : St
     silent = false;
   }
 
--- this was received as its answer; the line updates its last frame, and counts the copies
+-- a late answer is counted, another isn't
+abbrev pub late_with : ℕ → Bool → ℕ
+late_with late in_time = if in_time then late else and_late late 1
+
+-- this was received as its answer; the line updates its last frame, and counts the copies and an
+-- answer of the wrong kind as late; copies are dropped only where an answer was missed
 pub record Takes {B : Type 0} (gives : B → List ℕ → B → Type 0) (old : Steady B) (heard : List ℕ)
     (new : Steady B)
     : Type 0 where
   pub copies : ℕ
-  pub listens : Listens gives old.last old.request old.copies old.bus heard copies new.bus
+  pub listens : Listens gives (compared old.clear old.last) old.request old.copies old.bus heard copies
+      new.bus
   pub kept : new ≡ record old {
     bus = new.bus;
     last = last_after (frame_of heard) old.request heard old.last;
     clear = clear_after (request_of (frame_of old.request)) (frame_of heard) old.clear;
     copies = 0;
-    late = and_late old.late (copies - old.copies);
+    late = late_with (and_late old.late (copies - old.copies))
+        (not (is_wrong_answer (request_of (frame_of old.request)) (frame_of heard)));
   }
 
 -- no answer was received yet, and the copies count
 pub record StillWaits {B : Type 0} (gives : B → List ℕ → B → Type 0) (waits : B → B → Type 0)
     (old new : Steady B)
     : Type 0 where
-  pub listens : Waits gives waits old.last old.request old.copies old.bus new.copies new.bus
+  pub listens : Waits gives waits (compared old.clear old.last) old.request old.copies old.bus
+      new.copies new.bus
   pub kept : new ≡ record old {
     bus = new.bus;
     copies = new.copies;
@@ -99,12 +108,9 @@ most_settling = 64
 abbrev pub is_silence : List ℕ → Bool
 is_silence answer = length answer == 0
 
--- an answer that is dropped while a line settles is late; silence isn't
-abbrev pub late_with : ℕ → Bool → ℕ
-late_with late silence = if silence then late else and_late late 1
-
 -- What a settling line drops, an answer or silence: with the second silence in a row it is clear,
--- and after the maximum number of answers and silences it is given up.
+-- and after the maximum number of answers and silences it is given up. An answer that is dropped is
+-- late; silence isn't.
 pub data Drops {B : Type 0} (silence : Bool) (old new : Steady B) : Type 0 where
   quiet : (old.silent && silence) ≡ true
       → new ≡ record old { clear = true; settled = 0; silent = false }

@@ -1,11 +1,11 @@
 //! The last long frame that was received, and copies of it.
 
-ghost use Rattle.std.specs.Prelude.{◌≡◌, ◌≤◌, Bool, Option, length};
+ghost use Rattle.std.specs.Prelude.{◌≡◌, ◌≤◌, Bool, Option, Some, length};
 ghost use Rattle.dc_gateway.specs.Blocks.{most_answer};
 ghost use Rattle.dc_linkframe.specs.Frame.{long, longest_body, spelling};
 ghost use Rattle.dc_linkframe.specs.Reading.{frame_of};
 ghost use Rattle.dc_late.specs.Late.{Last, body_with, clear_after, is_command, is_copy, last_after};
-ghost use Rattle.dc_late.specs.Late.{plain};
+ghost use Rattle.dc_late.specs.Late.{compared, is_wrong_answer, plain};
 ghost use Rattle.dc_steady.specs.Steady.{request_of};
 
 use dc_gateway::AnswerBuf;
@@ -32,10 +32,18 @@ impl Model for LastFrame {
 }
 
 // Whether an answer is a copy of the last long frame, but for its access number, which answered
-// another request.
-pub(crate) fn is_copy(last: &Option<LastFrame>, request: &FrameBuf, answer: &AnswerBuf) -> bool
-    ensures { result ≡ is_copy last.now request.now answer.now }
+// another request. Where no answer was missed none is.
+pub(crate) fn is_copy(
+    last: &Option<LastFrame>,
+    clear: bool,
+    request: &FrameBuf,
+    answer: &AnswerBuf,
+) -> bool
+    ensures { result ≡ is_copy (compared clear last.now) request.now answer.now }
 {
+    if clear {
+        return false;
+    }
     match last {
         Some(last) => {
             plain(answer).as_slice() == last.answer.as_slice()
@@ -67,7 +75,8 @@ pub(crate) fn next_last(
 
 // Whether an acknowledgement answers the request.
 fn is_command(request: &FrameBuf) -> bool
-    ensures { result ≡ is_command (frame_of request.now) }
+    ensures frame { result ≡ is_command (frame_of request.now) }
+    ensures asked { result ≡ is_command (Some (request_of (frame_of request.now))) }
 {
     match parse(request.as_slice()) {
         Ok(Frame::Short { control, .. }) => control == SND_NKE,
@@ -133,13 +142,26 @@ fn copy_of(bytes: &[u8]) -> AnswerBuf
     copy
 }
 
+// Whether an answer is a frame of another kind than the request has.
+pub(crate) fn is_wrong(request: &FrameBuf, answer: &AnswerBuf) -> bool
+    ensures { result
+        ≡ is_wrong_answer (request_of (frame_of request.now)) (frame_of answer.now) }
+{
+    match parse(answer.as_slice()) {
+        Ok(Frame::Ack) => !is_command(request),
+        Ok(Frame::Long { .. }) => is_command(request),
+        Ok(Frame::Short { .. }) => true,
+        Err(_) => false,
+    }
+}
+
 // Whether no answer was missed, after the answer to a request. The reset of all selected meters has
 // no answer.
 pub(crate) fn stays_clear(request: &FrameBuf, answer: &AnswerBuf, clear: bool) -> bool
     ensures { result ≡ clear_after (request_of (frame_of request.now)) (frame_of answer.now) clear }
 {
     if parse(answer.as_slice()).is_ok() {
-        return clear;
+        return clear && !is_wrong(request, answer);
     }
     match parse(request.as_slice()) {
         Ok(Frame::Short { control, address }) => {

@@ -8,7 +8,7 @@ ghost use Rattle.dc_steady.specs.Life.{SteadyGives, SteadySends, SteadySettles, 
 ghost use Rattle.dc_steady.specs.Life.{is_gone, is_ready};
 ghost use Rattle.dc_steady.specs.Steady.{Drops, late_with, most_settling};
 
-use crate::last::{LastFrame, next_last, stays_clear};
+use crate::last::{LastFrame, is_wrong, next_last, stays_clear};
 use crate::listening::listen;
 use dc_gateway::AnswerBuf;
 use dc_line::{HalfBus, QuietBus};
@@ -37,7 +37,8 @@ pub struct Steady<B: HalfBus + Drop> {
     pub settled: u8,
     /// Whether the last one was silence.
     pub silent: bool,
-    /// Number of late answers that were dropped.
+    /// Number of answers that were late: copies, answers of the wrong kind, and what was dropped
+    /// while the bus settled.
     pub late: u64,
 }
 
@@ -94,8 +95,8 @@ impl<B: HalfBus + Drop> Steady<B> {
         self.silent = false;
     }
 
-    /// Takes the answer: the first that is no copy, or silence; `None` if no answer is complete
-    /// yet. A line that is given up doesn't change.
+    /// Takes the answer, or silence; `None` if no answer is complete yet. Where an answer was missed,
+    /// it is the first that is no copy. A line that is given up doesn't change.
     pub fn take(&mut self) -> Option<AnswerBuf>
         ensures heard { IfSome result (λ heard. SteadyGives B.HalfBus self.old heard self.new) }
         ensures waits { IfNone result (SteadyWaits B.HalfBus self.old self.new) }
@@ -107,13 +108,21 @@ impl<B: HalfBus + Drop> Steady<B> {
             return Some(AnswerBuf::new());
         }
         let before = self.copies;
-        let heard = listen(&mut self.bus, &self.last, &self.request, &mut self.copies);
+        let clear = self.clear;
+        let heard = listen(
+            &mut self.bus,
+            &self.last,
+            clear,
+            &self.request,
+            &mut self.copies,
+        );
         let copies = u64::from(self.copies - before);
         self.late = self.late.saturating_add(copies);
         let Some(answer) = heard else {
             return None;
         };
         self.copies = 0;
+        self.late = with_late(self.late, !is_wrong(&self.request, &answer));
         self.clear = stays_clear(&self.request, &answer, self.clear);
         self.last = next_last(self.last.take(), &self.request, &answer);
         Some(answer)
@@ -156,11 +165,11 @@ impl<B: HalfBus + Drop> Steady<B> {
     }
 }
 
-// An answer that is dropped while the line settles is late.
-fn with_late(late: u64, silence: bool) -> u64
-    ensures { result ≡ late_with late silence }
+// The count of late answers after another one, which is late or not.
+fn with_late(late: u64, in_time: bool) -> u64
+    ensures { result ≡ late_with late in_time }
 {
-    if silence {
+    if in_time {
         late
     } else {
         late.saturating_add(1)
@@ -180,6 +189,8 @@ impl<B: HalfBus + Drop> HalfBus for Steady<B> {
 
     ghost gives = { SteadyGives B.HalfBus };
 
+    ghost dropped = { λ line. B.dropped line.bus };
+
     fn is_lost(&self) -> bool {
         self.is_given_up()
     }
@@ -191,12 +202,16 @@ impl<B: HalfBus + Drop> HalfBus for Steady<B> {
     fn hear(&mut self) -> Option<AnswerBuf> {
         self.take()
     }
+
+    fn dropped(&self) -> u64 {
+        self.bus.dropped()
+    }
 }
 
 impl<B: HalfBus + Drop> QuietBus for Steady<B> {
     ghost use Rattle.std.specs.Prelude.{◌+◌, ◌-◌};
     ghost use Rattle.dc_steady.specs.Life.{SteadySettles, is_ready};
-    ghost use Rattle.dc_steady.specs.Steady.{most_settling};
+    ghost use Rattle.dc_steady.specs.Steady.{and_late, most_settling};
 
     ghost ready = { is_ready B.lost };
 
@@ -204,7 +219,8 @@ impl<B: HalfBus + Drop> QuietBus for Steady<B> {
 
     ghost settles_left = { λ line. most_settling - line.settled + B.waits_left line.bus };
 
-    ghost late = { λ line. line.late };
+    // What the bus dropped before a request counts too.
+    ghost late = { λ line. and_late line.late (B.dropped line.bus) };
 
     fn is_ready(&self) -> bool {
         // The bus is asked in each case, so that its bound is known.
@@ -217,6 +233,6 @@ impl<B: HalfBus + Drop> QuietBus for Steady<B> {
     }
 
     fn late(&self) -> u64 {
-        self.late
+        self.late.saturating_add(self.bus.dropped())
     }
 }

@@ -72,6 +72,8 @@ impl HalfBus for SlowLine {
 
     ghost gives = { λ _ _ _. ⊤ };
 
+    ghost dropped = { λ _. 0 };
+
     fn is_lost(&self) -> bool {
         self.is_lost
     }
@@ -98,6 +100,10 @@ impl HalfBus for SlowLine {
             return None;
         }
         Some(mem::replace(&mut self.answer, AnswerBuf::new()))
+    }
+
+    fn dropped(&self) -> u64 {
+        0
     }
 }
 

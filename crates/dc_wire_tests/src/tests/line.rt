@@ -2,7 +2,7 @@
 
 ghost use Rattle.std.specs.Prelude.{◌≤◌, length};
 ghost use Rattle.dc_gateway.specs.Blocks.{most_block};
-ghost use Rattle.dc_line.specs.Bus.{most_waits};
+ghost use Rattle.dc_line.specs.Bus.{most_looks};
 
 use dc_gateway::{Bus, Gateway};
 use dc_io::{Bytes, FixedSink, Sink};
@@ -52,7 +52,7 @@ pub fn gives<B: HalfBus>(rt: &impl Abort, bus: &mut B, waits: usize, expected: &
 // What a line hears of a request where these bytes come as the events say. What the first event
 // says came before the request, if it is bytes.
 fn hears(rt: &impl Abort, bytes: &[u8], events: &[Event], waits: usize, expected: &[u8])
-    requires { length events.now ≤ most_waits }
+    requires { length events.now ≤ most_looks }
 {
     let mut line = Line::new(Tape::new(bytes, events));
     line.send(&request(false));
@@ -163,13 +163,39 @@ fn an_echo_is_no_answer(rt: HostRuntime) {
 }
 
 #[test]
-fn what_came_before_the_request_is_dropped(rt: HostRuntime) {
-    hears(&rt, &BOTH, &[Event::Bytes(9), Event::Bytes(10)], 0, &OTHER);
+fn a_request_after_late_bytes_waits_for_a_gap(rt: HostRuntime) {
+    let one = [Event::Bytes(9), Event::Gap, Event::Bytes(10)];
+    hears(&rt, &BOTH, &one, 1, &OTHER);
+    let pieces = [
+        Event::Bytes(4),
+        Event::Nothing,
+        Event::Bytes(5),
+        Event::Silence,
+        Event::Bytes(10),
+    ];
+    hears(&rt, &BOTH, &pieces, 2, &OTHER);
+    let mut line = Line::new(Tape::new(&BOTH, &one));
+    line.send(&request(false));
+    assert_eq!(rt; line.dropped(), 1);
+    gives(&rt, &mut line, 1, &OTHER);
+    line.send(&request(true));
+    assert_eq!(rt; line.dropped(), 1);
+}
+
+#[test]
+fn bytes_without_a_gap_hold_no_request_for_ever(rt: HostRuntime) {
+    let bytes = [0x33; 100];
+    let events = [Event::Bytes(1); 100];
+    let mut line = Line::new(Tape::new(&bytes, &events));
+    line.send(&request(false));
+    assert!(rt; line.hear().is_none());
+    assert_eq!(rt; line.wire.left(), 35);
+    gives(&rt, &mut line, 0, &bytes[..35]);
 }
 
 // A line whose wire fails is lost, and silent from then on.
 fn is_lost_at(rt: &impl Abort, events: &[Event], waits: usize)
-    requires { length events.now ≤ most_waits }
+    requires { length events.now ≤ most_looks }
 {
     let mut line = Line::new(Tape::new(&TELEGRAM, events));
     line.send(&request(false));
@@ -244,6 +270,9 @@ fn a_wire_polls_a_socket(rt: HostRuntime) -> Result<(), Fail> {
     far.write_all(&OTHER)?;
     line.send(&request(false));
     assert!(rt; line.hear().is_none());
+    rt.sleep(Duration::from_millis(40));
+    assert!(rt; line.hear().is_none());
+    assert_eq!(rt; line.dropped(), 1);
     assert!(rt; line.wire.left() <= Duration::from_millis(30));
     assert!(rt; line.wire.fd() >= 0);
     far.write_all(&TELEGRAM[..4])?;

@@ -1,8 +1,5 @@
 //! Late answers: copies while the bit is toggled, and lines that settle.
 
-ghost use Rattle.std.specs.Prelude.{◌≤◌, length};
-ghost use Rattle.dc_line.specs.Bus.{most_waits};
-
 use crate::tests::line::{OTHER, TELEGRAM, gives, request};
 use dc_line::{Event, HalfBus, Line, QuietBus, Tape};
 use dc_steady::Steady;
@@ -48,7 +45,7 @@ fn the_same_request_gets_the_same_answer(rt: HostRuntime) {
 }
 
 #[test]
-fn an_acknowledgement_makes_the_line_forget(rt: HostRuntime) {
+fn an_acknowledgement_of_no_command_is_late(rt: HostRuntime) {
     let bytes = [
         0x68, 0x03, 0x03, 0x68, 0x08, 0x01, 0x72, 0x7B, 0x16, 0xE5, 0x68, 0x03, 0x03, 0x68, 0x08,
         0x01, 0x72, 0x7B, 0x16,
@@ -59,6 +56,37 @@ fn an_acknowledgement_makes_the_line_forget(rt: HostRuntime) {
     gives(&rt, &mut line, 1, &TELEGRAM);
     gives(&rt, &mut line, 0, &[0xE5]);
     gives(&rt, &mut line, 0, &TELEGRAM);
+    assert_eq!(rt; line.late(), 1);
+}
+
+#[test]
+fn a_clear_line_compares_no_telegrams(rt: HostRuntime) {
+    let events = [
+        Event::Silence,
+        Event::Silence,
+        Event::Nothing,
+        Event::Bytes(9),
+        Event::Nothing,
+        Event::Bytes(9),
+    ];
+    let mut line = Steady::new(Line::new(Tape::new(&COPIES, &events)));
+    settles(&mut line, 2);
+    line.send(&request(false));
+    gives(&rt, &mut line, 1, &TELEGRAM);
+    line.send(&request(true));
+    gives(&rt, &mut line, 1, &TELEGRAM);
+    assert_eq!(rt; line.late(), 0);
+    assert!(rt; line.is_ready());
+}
+
+#[test]
+fn what_is_dropped_before_a_request_is_late(rt: HostRuntime) {
+    let events = [Event::Bytes(9), Event::Gap, Event::Bytes(9)];
+    let mut line = Steady::new(Line::new(Tape::new(&COPIES, &events)));
+    line.send(&request(false));
+    gives(&rt, &mut line, 1, &TELEGRAM);
+    assert_eq!(rt; line.late(), 1);
+    assert_eq!(rt; line.dropped(), 1);
 }
 
 #[test]
