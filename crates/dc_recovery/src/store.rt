@@ -126,10 +126,7 @@ impl<D: Disk + Drop> Store<D> {
     /// # Errors
     ///
     /// The first in the order of the steps: [`OpenFault`]. The disk is returned.
-    pub fn open<K: Kept>(
-        alloc: K::Alloc,
-        mut disk: D,
-    ) -> Result<(Store<D>, K), (OpenFault, D)>
+    pub fn open<K: Kept>(alloc: K::Alloc, mut disk: D) -> Result<(Store<D>, K), (OpenFault, D)>
         ensures small { D.sectors disk < fewest_sectors → result ≡ Err (NotImage, disk) }
 
         // Ok gives exactly the state that the image reads as, and a refusal is a fact of the image.
@@ -141,6 +138,12 @@ impl<D: Disk + Drop> Store<D> {
         ensures root { IfOk result (λ o. D.keeps o.0.disk → (root : Root) × (m : ℕ) × (place : ℕ)
             × ReadsBy K.Language (half_of D.Disk disk) root m place (K.state o.1) (D.reads disk)
             × IsOpenedRoot root (root.base_sequence + m) o.0.root) }
+
+        // What opens stands for its state, whatever wrote the image and whatever became of it since: the store keeps
+        // that state from here on.
+        ensures stands { IfOk result (λ o.
+            D.keeps o.0.disk → Stands K.Language (half_of D.Disk disk) (K.state o.1) (D.reads disk)) }
+        ensures keeps { IfOk result (λ o. D.keeps o.0.disk → Keeps K.Language D.Disk o.0 (K.state o.1)) }
 
         // Unless the device failed, a refusal wrote nothing: the disk reads as before, and so does each image of
         // every moment.
