@@ -1,5 +1,7 @@
 -- lemmas by topic
 
+-- sectors that are ahead of what an image reads as
+pub mod Ahead
 -- what an image stands for when a group of changes is written
 pub mod Append
 -- what an image stands for while a group of changes is written, and then

@@ -1,24 +1,16 @@
 -- What opening may leave at any moment, and on Ok.
-use Rattle.std.proofs.Common.{◌≤◌, ℕ}
+use Rattle.std.proofs.Common.{ℕ}
 use Rattle.dc_sectors.specs.Disk.{Image, Choices, IsImage}
 use Rattle.dc_sectors.specs.declared.device.Disk.{Ghosts}
 use Rattle.dc_sectors.specs.Runs.{LeavesOnly}
 use Rattle.dc_sectors.proofs.Moments.{weakened, followed}
-use Rattle.dc_roots.specs.declared.root.Root.{Root}
-use Rattle.dc_recovery.specs.Stands.{StandsBy, Stands, IsRead, EachStands, StandsForOne}
-use Rattle.dc_recovery.proofs.Once.{stands_as_read}
+use Rattle.dc_recovery.specs.Stands.{Stands, EachStands, StandsForOne}
 use Rattle.dc_kept.specs.declared.kept.Language.{Ghosts as Language}
 
 module _ {K : Type 0} (lang : Language K) where
   -- an image of the disk as it was
   stood : (half_len : ℕ) (choices : Choices) → EachStands lang half_len choices → (image : Image) → IsImage choices image → StandsForOne lang half_len choices image
   stood half_len choices each image is = let one = each image is in record { state = one.0; stands = one.1; was = image; was_image = is; stood = one.1 }
-
-  -- what is read stands for the state that was read
-  pub read_stands : (half_len : ℕ) → half_len ≤ 65536 → (root : Root) (place last : ℕ) (state : lang.State) (choices : Choices) (image : Image) → EachStands lang half_len choices → IsImage choices image
-      → (read : IsRead lang half_len root place last state image) → StandsBy lang half_len root read.m place state image
-  read_stands half_len most root place last state choices image each is read =
-      let one = each image is in stands_as_read lang half_len most root read.m place state one.0 image read.by one.1
 
   module _ {D : Type 0} (g : Ghosts D) (half_len : ℕ) (old : D) (each : EachStands lang half_len (g.choices old)) where
     -- nothing was written yet

@@ -1,5 +1,5 @@
 -- What calls that only read may leave at any moment: an image of the disk as it was.
-use Rattle.std.proofs.Common.{◌≡◌, ◌≤◌, ℕ, Result, Ok, Err, subst, sym, ◌∙◌}
+use Rattle.std.proofs.Common.{◌≡◌, ◌≤◌, ℕ, Result, Ok, Err, subst, sym, ◌∙◌, refl}
 use Rattle.std.specs.Prelude.{IfErr}
 use Rattle.dc_sectors.specs.Disk.{Image, Choices, IsImage, settled}
 use Rattle.dc_sectors.specs.Images.{settled_image}
@@ -56,3 +56,17 @@ module _ {D : Type 0} (g : Ghosts D) where
     any_moment = read_on g old mid new first.any_moment first.choices_same second.any_moment;
     before = λ kept. first.before (second.before kept);
   }
+
+  -- one call that only looked; the premise on the images is the trait's only_now
+  pub looked_once : (old new : D) → ((image : Image) → g.images_since old (g.moment old) image → IsImage (g.choices old) image)
+      → g.reads new ≡ g.reads old → g.choices new ≡ g.choices old → Passes g old new (IsImage (g.choices old)) → (g.keeps new → g.keeps old) → OnlyLooked g old new
+  looked_once old new only reads choices time before = record {
+    reads_same = reads;
+    choices_same = choices;
+    any_moment = synced g old only new time;
+    before = before;
+  }
+
+  -- no call
+  pub looked_never : (old : D) → ((image : Image) → g.images_since old (g.moment old) image → IsImage (g.choices old) image) → OnlyLooked g old old
+  looked_never old only = record { reads_same = refl; choices_same = refl; any_moment = not_read g old only; before = λ kept. kept }

@@ -1,6 +1,6 @@
 -- The state that an image reads as, and stands for: this product's image format.
 use Rattle.std.specs.Prelude.{◌≡◌, ◌⊎◌, ◌<◌, ℕ, zero, suc, ◌+◌, ◌*◌, ◌^◌, ◌≤◌, List, length, take}
-use Rattle.std.specs.Prelude.{replicate}
+use Rattle.std.specs.Prelude.{replicate, Option, Some, None}
 use Rattle.dc_sectors.specs.Disk.{Image, Choices, IsImage}
 use Rattle.dc_sectors.specs.declared.sector.Sector.{Sector}
 use Rattle.dc_sectors.specs.declared.sector.Sector.TheVariants.{Bytes, Unreadable}
@@ -29,6 +29,25 @@ abbrev pub IsFresh : ℕ → ℕ → ℕ → Image → Type 0
 IsFresh half_len session sequence image =
     (m s q : ℕ) → 3 ≤ m → m < 3 + 2 * half_len → Carries s q (image m) → (s ≤ session)
     × (q ≤ sequence)
+
+-- a page or commit sector with a greater session or a greater sequence
+pub record IsAhead (session sequence : ℕ) (sector : Sector) : Type 0 where
+  pub its_session : ℕ
+  pub its_sequence : ℕ
+  pub carries : Carries its_session its_sequence sector
+  pub ahead : (session < its_session) ⊎ (sequence < its_sequence)
+
+-- the first sector of the two halves that is ahead
+pub record IsFirst (half_len session sequence n : ℕ) (image : Image) : Type 0 where
+  pub from : 3 ≤ n
+  pub within : n < 3 + 2 * half_len
+  pub here : IsAhead session sequence (image n)
+  pub before : (k : ℕ) → 3 ≤ k → k < n → IsAhead session sequence (image k) → ⊥
+
+-- that sector is the first, or there is none
+abbrev pub IsFirstAhead : ℕ → ℕ → ℕ → Option ℕ → Image → Type 0
+IsFirstAhead half_len session sequence None image = IsFresh half_len session sequence image
+IsFirstAhead half_len session sequence (Some n) image = IsFirst half_len session sequence n image
 
 -- None of the two halves has that stamp.
 abbrev pub IsUnused : ℕ → ℕ → ℕ → Image → Type 0

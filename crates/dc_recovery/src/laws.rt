@@ -1,6 +1,6 @@
 //! Theorems about images. The functions have no effect; their contracts state the theorems.
 
-ghost use Rattle.dc_recovery.specs.Refusal.{OneRefusal, RefusedIsNotRead};
+ghost use Rattle.dc_recovery.specs.Refusal.{OneRefusal, RefusedIsNotRead, StandingIsOpened};
 ghost use Rattle.dc_recovery.specs.Stands.{ReadsOnce};
 
 use dc_kept::Kept;
@@ -16,7 +16,12 @@ pub fn one_refusal<K: Kept>()
     ensures { OneRefusal K.Language }
 {}
 
-/// A refused image reads as no state, unless a counter is exhausted.
+/// A refused image reads as no state, unless a counter is exhausted or a sector is ahead of that state.
 pub fn a_refused_image_is_not_read<K: Kept>()
     ensures { RefusedIsNotRead K.Language }
+{}
+
+/// An image that stands for a state is refused only where a counter is exhausted: none of its sectors is ahead.
+pub fn a_standing_image_is_opened<K: Kept>()
+    ensures { StandingIsOpened K.Language }
 {}

@@ -15,14 +15,19 @@
 //! An image of version 1 opens too: after the session's root it is compacted into an image of
 //! version 2, which is what every store keeps. It can't be converted back.
 //!
+//! What opens stands for its state, whatever became of the image before: a sector that was lost after its sync shows by
+//! one that was written after it, and then the image is `Damaged`. A lost last group can't be told from one that a
+//! crash kept from its sync.
+//!
 //! An append is a group and one sync. A compaction is the whole state as a base group in the other half, a
-//! sync, the next root and a sync. An open reads each sector that it needs once.
+//! sync, the next root and a sync. An open reads each sector that it needs once, and then both halves whole.
 #![tactic(auto)]
 
 mod appending;
 mod compacting;
 mod fault;
 mod formatting;
+mod freshness;
 mod halves;
 mod laws;
 mod opening;
@@ -34,7 +39,9 @@ mod writing;
 
 pub use fault::{FormatFault, OpenFault, StoreFault};
 pub use halves::{FEWEST_SECTORS, half_end, half_len_of, half_start};
-pub use laws::{a_refused_image_is_not_read, one_refusal, reads_as_one_state};
+pub use laws::{
+    a_refused_image_is_not_read, a_standing_image_is_opened, one_refusal, reads_as_one_state,
+};
 pub use opening::is_spent;
-pub use reading::{Found, read_image};
+pub use reading::{Found, read_chain, read_image};
 pub use store::Store;

@@ -138,7 +138,9 @@ pub(crate) fn open_on<K: Kept, D: Disk>(
         × IsOpenedRoot root (root.base_sequence + m) found.root) }
     ensures version { IfOk result (λ found. found.root.version ≡ image_version) }
     ensures not_worn { D.keeps disk.new → OnOk result (IsWorn K.Language half_len (D.reads disk.old) → ⊥) }
-    ensures ready { D.keeps disk.new → EachStands K.Language half_len (D.choices disk.old)
+    ensures stands { D.keeps disk.new
+        → IfOk result (λ found. Stands K.Language half_len (K.state found.house) (D.reads disk.old)) }
+    ensures ready { D.keeps disk.new
         → IfOk result (λ found. IsBegun K.Language half_len found.root found.place found.last (K.state found.house)
         (D.reads disk.new)) }
     ensures durable { OnOk result (IsSettled D.Disk disk.new) }

@@ -8,18 +8,19 @@ ghost use Rattle.dc_recovery.specs.declared.fault.OpenFault.{OpenFault};
 ghost use Rattle.dc_recovery.specs.declared.fault.OpenFault.TheVariants.{Device};
 ghost use Rattle.dc_recovery.specs.Halves.{half_start, half_end, budget_of, longest_half};
 ghost use Rattle.dc_recovery.specs.Stands.{IsSequence, IsCurrent, IsReached, IsRead, Holds};
-ghost use Rattle.dc_recovery.specs.Stands.{ReadsBy, Reads};
+ghost use Rattle.dc_recovery.specs.Stands.{ReadsBy, Reads, IsFresh};
 ghost use Rattle.dc_pages.specs.Group.{IsKnown, IsComplete};
 ghost use Rattle.dc_recovery.specs.Sites.{change_site};
 ghost use Rattle.dc_recovery.specs.Refusal.{IsRefused};
 
 use crate::OpenFault;
+use crate::freshness::first_ahead;
 use crate::halves::budget_of;
 use crate::sites::{base_site, change_site};
 use dc_kept::{DecodeFault, Kept};
 use dc_pages::{GroupFault, read_group};
 use dc_roots::{Root, RootFault, choose};
-use dc_sectors::Disk;
+use dc_sectors::{Disk, Failed};
 
 /// The version of the sectors that are written.
 pub(crate) const VERSION: u8 = 2;
@@ -190,8 +191,8 @@ fn read_groups<K: Kept, D: Disk>(
     Ok(())
 }
 
-/// Reads the whole image: from the root in force to the state.
-pub fn read_image<K: Kept, D: Disk>(
+/// Reads the root in force, its base group, and the groups of changes that follow.
+pub fn read_chain<K: Kept, D: Disk>(
     alloc: K::Alloc,
     disk: &mut D,
     half_len: u32,
@@ -214,4 +215,35 @@ pub fn read_image<K: Kept, D: Disk>(
     let mut found = read_base(alloc, disk, root, half_len)?;
     read_groups(alloc, disk, &mut found, half_len)?;
     Ok(found)
+}
+
+/// Reads the image: from the root in force to the state, and then every sector of both halves, of which none may be
+/// ahead of that state.
+pub fn read_image<K: Kept, D: Disk>(
+    alloc: K::Alloc,
+    disk: &mut D,
+    half_len: u32,
+) -> Result<Found<K>, OpenFault>
+    requires most { half_len ≤ longest_half }
+    requires fits { 3 + 2 * half_len ≤ D.sectors disk.old }
+    ensures all { D.keeps disk.new → IfOk result (λ found.
+        IsRead K.Language half_len found.root found.place found.last (K.state found.house) (D.reads disk.old)) }
+    ensures fresh { D.keeps disk.new → IfOk result (λ found.
+        IsFresh half_len found.root.session (found.last + 1) (D.reads disk.old)) }
+    ensures refused { D.keeps disk.new
+        → IfErr result (λ fault. IsRefused K.Language half_len (D.reads disk.old) fault) }
+    ensures budget { IfOk result (λ found. K.limit found.house ≡ budget_of half_len) }
+    ensures half { IfOk result (λ found. found.root.half ≤ 1) }
+    ensures known { IfOk result (λ found. IsKnown found.root.version) }
+    ensures from { IfOk result (λ found. half_start half_len found.root.half ≤ found.place) }
+    ensures within { IfOk result (λ found. found.place ≤ half_end half_len found.root.half) }
+    ensures looked { OnlyLooked D.Disk disk.old disk.new }
+    ensures counts { Counts D.Disk disk.old disk.new (IsErrOf result Device) }
+{
+    let found = read_chain(alloc, disk, half_len)?;
+    match first_ahead(disk, half_len, found.root.session, found.last) {
+        Ok(None) => Ok(found),
+        Ok(Some(sector)) => Err(OpenFault::Damaged(sector)),
+        Err(Failed) => Err(OpenFault::Device),
+    }
 }

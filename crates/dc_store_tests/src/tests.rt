@@ -12,6 +12,7 @@ mod leftovers;
 mod life;
 mod root_slots;
 mod roots;
+mod rotten;
 mod scripted;
 mod sectors;
 mod upgrades;

@@ -36,7 +36,7 @@ fn with_root(rt: &impl Abort, heap: Global, root: &Root) -> Result<MemoryDisk<Gl
 }
 
 /// Why the image isn't opened, and its disk.
-fn refusal(
+pub fn refusal(
     heap: Global,
     disk: MemoryDisk<Global>,
 ) -> Result<(OpenFault, MemoryDisk<Global>), Fail> {

@@ -64,9 +64,9 @@ fn numbered(front: &[u8], at: usize, number: u64) -> [u8; 512]
 #[test]
 fn an_image_of_version_1_at_its_last_generations_is_worn(rt: HostRuntime) -> Result<(), Fail> {
     let heap = rt.alloc();
-    let last = [(1, numbered(FIRST_ROOT, 8, u64::MAX - 1))];
+    let last = [(1, numbered(ROOT, 8, u64::MAX - 1))];
     assert!(rt; is_worn(&rt, heap, of_version_1(&rt, heap, &last)?)?);
-    let one_left = [(2, numbered(FIRST_ROOT, 8, u64::MAX - 2))];
+    let one_left = [(2, numbered(ROOT, 8, u64::MAX - 2))];
     let disk = of_version_1(&rt, heap, &one_left)?;
     assert!(rt; compacts_no_more(&rt, heap, disk.copy()?)?);
     assert!(rt; is_worn(&rt, heap, reopened(heap, disk)?)?);

@@ -4,10 +4,11 @@ use Rattle.dc_sectors.specs.Runs.{LeavesOnly, IsSettled}
 use Rattle.dc_recovery.specs.Halves.{SparesRest}
 use Rattle.dc_recovery.specs.Roots.{IsOpenedRoot}
 use Rattle.dc_recovery.specs.Refusal.{IsSpent}
-use Rattle.dc_recovery.specs.Stands.{IsRead, IsBegun, ReadsBy, Reads, StandsBy, EachStands, StandsForOne}
-use Rattle.dc_recovery.proofs.Opened.{before_writing, after_session, read_stands}
+use Rattle.dc_recovery.specs.Stands.{IsFresh, IsRead, IsBegun, ReadsBy, Reads, StandsBy, Stands, EachStands, StandsForOne}
+use Rattle.dc_recovery.proofs.Opened.{before_writing, after_session}
 use Rattle.dc_recovery.proofs.ReadMoments.{if_err, synced, synced_read}
 use Rattle.dc_recovery.proofs.Refusals.{not_worn}
+use Rattle.dc_recovery.proofs.Steps.{read_fresh}
 use Rattle.dc_recovery.proofs.Spared.{spared_same, spared_through}
 use Rattle.dc_recovery.proofs.opening.open_on.Given.{Over}
 use Rattle.dc_recovery.proofs.opening.open_on.Goals.{After-read_image, After-is_spent, After-begin}
@@ -29,6 +30,14 @@ read g c h =
     let found = c.in_ok-found.found in
     subst (λ (i : Image). IsRead g.K.Language c.args.half_len found.root found.place found.last (g.K.Language.state found.house) i) c.sync.ensures.reads (c.in_ok-found.ensures.all h)
 
+-- and it stands for the state
+stood : (g : Over) (c : After-is_spent g) (h : g.D.Disk.keeps c.read_image.new.disk)
+    → StandsBy g.K.Language c.args.half_len c.in_ok-found.found.root (read g c h).m c.in_ok-found.found.place (g.K.Language.state c.in_ok-found.found.house) (g.D.Disk.reads c.args.disk.now)
+stood g c h =
+    let found = c.in_ok-found.found in
+    read_fresh g.K.Language c.args.half_len found.root found.place found.last (g.K.Language.state found.house) (g.D.Disk.reads c.args.disk.now) (read g c h)
+    (subst (λ (i : Image). IsFresh c.args.half_len found.root.session (found.last + 1) i) c.sync.ensures.reads (c.in_ok-found.ensures.fresh h))
+
 -- WHAT THE SESSION BEGINS ON: a settled disk that stands for the state that was read, as the old one did.
 record IsFound (g : Over) (c : After-begin g) : Type 0 where
   is_settled : IsSettled g.D.Disk c.read_image.new.disk
@@ -37,30 +46,28 @@ record IsFound (g : Over) (c : After-begin g) : Type 0 where
   stands : StandsBy g.K.Language c.args.half_len c.in_ok-found.found.root m c.in_ok-found.found.place (g.K.Language.state c.in_ok-found.found.house) (g.D.Disk.reads c.read_image.new.disk)
   last_is : c.in_ok-found.found.last ≡ c.in_ok-found.found.root.base_sequence + m
 
-is_found : (g : Over) (c : After-begin g) → EachStands g.K.Language c.args.half_len (g.D.Disk.choices c.args.disk.now)
-    → IsRead g.K.Language c.args.half_len c.in_ok-found.found.root c.in_ok-found.found.place c.in_ok-found.found.last (g.K.Language.state c.in_ok-found.found.house) (g.D.Disk.reads c.args.disk.now) → IsFound g c
-is_found g c each was =
+is_found : (g : Over) (c : After-begin g) (m : ℕ)
+    → StandsBy g.K.Language c.args.half_len c.in_ok-found.found.root m c.in_ok-found.found.place (g.K.Language.state c.in_ok-found.found.house) (g.D.Disk.reads c.args.disk.now)
+    → c.in_ok-found.found.last ≡ c.in_ok-found.found.root.base_sequence + m → IsFound g c
+is_found g c m by last_is =
     let disk = c.args.disk.now in
     let found = c.in_ok-found.found in
     let same : g.D.Disk.reads c.read_image.new.disk ≡ g.D.Disk.reads disk = c.read_image.ensures.looked.reads_same ∙ c.sync.ensures.reads in
-    let by = read_stands g.K.Language c.args.half_len c.requires.most found.root found.place found.last (g.K.Language.state found.house) (g.D.Disk.choices disk) (g.D.Disk.reads disk) each (g.met.D.Disk.reads_a_choice disk) was in
     record {
       is_settled = c.read_image.ensures.looked.choices_same ∙ c.in-Ok.ensures.choices ∙ ap settled (sym same);
-      m = was.m;
+      m = m;
       stood = by;
-      stands = subst (λ (i : Image). StandsBy g.K.Language c.args.half_len found.root was.m found.place (g.K.Language.state found.house) i) (sym same) by;
-      last_is = was.last_is;
+      stands = subst (λ (i : Image). StandsBy g.K.Language c.args.half_len found.root m found.place (g.K.Language.state found.house) i) (sym same) by;
+      last_is = last_is;
     }
 
 -- whatever the beginning answers
-begun : (g : Over) (c : After-begin g) → EachStands g.K.Language c.args.half_len (g.D.Disk.choices c.args.disk.now)
-    → IsRead g.K.Language c.args.half_len c.in_ok-found.found.root c.in_ok-found.found.place c.in_ok-found.found.last (g.K.Language.state c.in_ok-found.found.house) (g.D.Disk.reads c.args.disk.now)
+begun : (g : Over) (c : After-begin g) → EachStands g.K.Language c.args.half_len (g.D.Disk.choices c.args.disk.now) → IsFound g c
     → LeavesOnly g.D.Disk c.args.disk.now c.read_image.new.disk (IsImage (g.D.Disk.choices c.args.disk.now))
     → LeavesOnly g.D.Disk c.args.disk.now c.begin.new.disk (StandsForOne g.K.Language c.args.half_len (g.D.Disk.choices c.args.disk.now))
-begun g c each was reading =
+begun g c each is reading =
     let disk = c.args.disk.now in
     let found = c.in_ok-found.found in
-    let is = is_found g c each was in
     after_session g.K.Language g.D.Disk c.args.half_len disk each c.read_image.new.disk c.begin.new.disk (g.K.Language.state found.house) (g.D.Disk.reads disk) (g.met.D.Disk.reads_a_choice disk)
     (record { root = found.root; m = is.m; place = found.place; by = is.stood }) reading (c.begin.ensures.any_moment is.is_settled is.m is.stands is.last_is)
 
@@ -81,17 +88,23 @@ returns-then-is_spent-clause-any_moment g c h each =
 pub returns-in_err-begin-clause-any_moment : goal.returns-in_err-begin-clause-any_moment
 returns-in_err-begin-clause-any_moment g c h each =
     let at = goal.at.returns-in_err-begin-clause-any_moment g c in
-    begun g at.After-begin each (read g at.After-is_spent (c.begin.ensures.before h)) (looked g at.After-read_image)
+    let kept = c.begin.ensures.before h in
+    let was = read g at.After-is_spent kept in
+    begun g at.After-begin each (is_found g at.After-begin was.m (stood g at.After-is_spent kept) was.last_is) (looked g at.After-read_image)
 
 pub returns-clause-any_moment : goal.returns-clause-any_moment
 returns-clause-any_moment g c h each =
     let at = goal.at.returns-clause-any_moment g c in
-    begun g at.After-begin each (read g at.After-is_spent (c.begin.ensures.before h)) (looked g at.After-read_image)
+    let kept = c.begin.ensures.before h in
+    let was = read g at.After-is_spent kept in
+    begun g at.After-begin each (is_found g at.After-begin was.m (stood g at.After-is_spent kept) was.last_is) (looked g at.After-read_image)
 
 pub returns-clause-ready : goal.returns-clause-ready
-returns-clause-ready g c h each =
+returns-clause-ready g c h =
     let at = goal.at.returns-clause-ready g c in
-    let is = is_found g at.After-begin each (read g at.After-is_spent (c.begin.ensures.before h)) in
+    let kept = c.begin.ensures.before h in
+    let was = read g at.After-is_spent kept in
+    let is = is_found g at.After-begin was.m (stood g at.After-is_spent kept) was.last_is in
     let house = c.begin.ensures.house in
     subst (λ (held : g.row.K.Denot). IsBegun g.K.Language c.args.half_len c.begin.new.found.root c.begin.new.found.place c.begin.new.found.last (g.K.Language.state held) (g.D.Disk.reads c.begin.new.disk)) (sym house)
     (c.in_ok-begin.ensures.ready is.is_settled is.m is.stands is.last_is)
@@ -119,6 +132,13 @@ returns-clause-reads g c h =
     let was = read g (goal.at.returns-clause-reads g c).After-is_spent (c.begin.ensures.before h) in
     subst (λ (held : g.row.K.Denot). Reads g.K.Language c.args.half_len (g.K.Language.state held) (g.D.Disk.reads c.args.disk.now)) (sym c.begin.ensures.house) (record { root = c.in_ok-found.found.root; m = was.m; place = c.in_ok-found.found.place; by = was.by })
 
+pub returns-clause-stands : goal.returns-clause-stands
+returns-clause-stands g c h =
+    let at = (goal.at.returns-clause-stands g c).After-is_spent in
+    let kept = c.begin.ensures.before h in
+    subst (λ (held : g.row.K.Denot). Stands g.K.Language c.args.half_len (g.K.Language.state held) (g.D.Disk.reads c.args.disk.now)) (sym c.begin.ensures.house)
+    (record { root = c.in_ok-found.found.root; m = (read g at kept).m; place = c.in_ok-found.found.place; by = stood g at kept })
+
 pub returns-in_err-found-clause-spares_images : goal.returns-in_err-found-clause-spares_images
 returns-in_err-found-clause-spares_images g c = if_err _ c.from_residual.result (λ fault other. looked g (goal.at.returns-in_err-found-clause-spares_images g c).After-read_image)
 
@@ -128,9 +148,10 @@ returns-then-is_spent-clause-spares_images g c other = looked g (goal.at.returns
 pub returns-then-is_spent-clause-refused : goal.returns-then-is_spent-clause-refused
 returns-then-is_spent-clause-refused g c h =
     let found = c.in_ok-found.found in
-    let was = read g (goal.at.returns-then-is_spent-clause-refused g c).After-is_spent h in
+    let at = (goal.at.returns-then-is_spent-clause-refused g c).After-is_spent in
+    let was = read g at h in
     let spent : IsSpent found.root found.last = c.if-is_spent.ensures.0 refl in
-    record { root = found.root; m = was.m; place = found.place; state = (g.K.Language.state found.house); by = was.by; spent = subst (λ (n : ℕ). IsSpent found.root n) was.last_is spent }
+    record { root = found.root; m = was.m; place = found.place; state = (g.K.Language.state found.house); by = stood g at h; spent = subst (λ (n : ℕ). IsSpent found.root n) was.last_is spent }
 
 -- the sectors outside stay: while the image is read, and when a session begins
 

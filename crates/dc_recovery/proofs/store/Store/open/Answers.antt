@@ -3,12 +3,33 @@ use Rattle.dc_sectors.specs.Runs.{LeavesOnly}
 use Rattle.dc_recovery.specs.Halves.{half_of, half_len_of, SparesRest}
 use Rattle.dc_roots.specs.declared.root.Root.{Root}
 use Rattle.dc_recovery.specs.Roots.{IsOpenedRoot}
-use Rattle.dc_recovery.specs.Stands.{EachStands, StandsForOne, IsReady, ReadsBy}
+use Rattle.dc_recovery.specs.Stands.{EachStands, Stands, StandsForOne, IsReady, ReadsBy}
 use Rattle.dc_recovery.specs.Refusal.{IsRefused, IsWorn}
 use Rattle.dc_recovery.proofs.Refusals.{stands_or_refused}
 use Rattle.dc_recovery.proofs.ReadMoments.{not_read}
 use Rattle.dc_recovery.proofs.Opened.{before_writing}
 use Rattle.dc_recovery.proofs.store.Store.open.Goals as goal
+
+pub returns-in-Ok-clause-stands : goal.returns-in-Ok-clause-stands
+returns-in-Ok-clause-stands g c h =
+    let at : c.half_len_of.result ≡ half_of g.D.Disk c.args.disk = c.half_len_of.ensures.exact ∙ ap half_len_of c.count-count.ensures in
+    subst (λ (n : ℕ). Stands g.K.Language n (g.K.Language.state c.in-Ok.found.house) (g.D.Disk.reads c.args.disk)) at (c.in-Ok.ensures.stands h)
+
+pub returns-in-Ok-clause-keeps : goal.returns-in-Ok-clause-keeps
+returns-in-Ok-clause-keeps g c h =
+    let found = c.in-Ok.found in
+    let disk = c.open_on.new.disk in
+    let at : c.half_len_of.result ≡ half_of g.D.Disk c.args.disk = c.half_len_of.ensures.exact ∙ ap half_len_of c.count-count.ensures in
+    let same : c.half_len_of.result ≡ half_of g.D.Disk disk = at ∙ ap half_len_of (sym c.open_on.ensures.counts.count) in
+    let ready = c.in-Ok.ensures.ready h in
+    record {
+      running = refl;
+      version = c.in-Ok.ensures.version;
+      is_settled = c.in-Ok.ensures.durable;
+      m = ready.m;
+      ready = subst (λ (n : ℕ). IsReady g.K.Language n found.root ready.m found.place (g.K.Language.state found.house) (g.D.Disk.reads disk)) same ready.ready;
+      last_is = ready.last_is;
+    }
 
 pub returns-in-Ok-clause-kept : goal.returns-in-Ok-clause-kept
 returns-in-Ok-clause-kept g c each h =
@@ -16,7 +37,7 @@ returns-in-Ok-clause-kept g c each h =
     let disk = c.open_on.new.disk in
     let at : c.half_len_of.result ≡ half_of g.D.Disk c.args.disk = c.half_len_of.ensures.exact ∙ ap half_len_of c.count-count.ensures in
     let same : c.half_len_of.result ≡ half_of g.D.Disk disk = at ∙ ap half_len_of (sym c.open_on.ensures.counts.count) in
-    let ready = c.in-Ok.ensures.ready h (subst (λ (n : ℕ). EachStands g.K.Language n (g.D.Disk.choices c.args.disk)) (sym at) each) in
+    let ready = c.in-Ok.ensures.ready h in
     record {
       running = refl;
       version = c.in-Ok.ensures.version;
