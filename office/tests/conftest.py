@@ -144,9 +144,10 @@ class Box:
 
 
 def telegram(litres: int, status: int = 0, due: str = "") -> str:
-    """A telegram without its frame, in hex digits: header and volume, and a due date with the volume at it."""
+    """A telegram without its frame, in hex digits: header and volume, and a due date (type G) with a litre at it."""
     header = bytes.fromhex("785634122440010701") + bytes([status, 0, 0])
-    return (header + litres.to_bytes(4, "little") + bytes.fromhex(due)).hex().upper()
+    stored = f"426C{due}4C1301000000" if due else ""
+    return (header + bytes.fromhex("0C13") + bytes.fromhex(f"{litres:08}")[::-1] + bytes.fromhex(stored)).hex().upper()
 
 
 @pytest.fixture(scope="session")

@@ -1,8 +1,9 @@
 """A kill at each line that a collection and an order execute: nothing is lost, doubled or done twice.
 
-Each life runs in a child process, which kills itself as it comes to one line of the office's modules, where that line is
-executed for the first time. Then the same is done again without a kill, and everything is compared. OFFICE_KILLS=last
-takes the last execution of each line too, OFFICE_KILLS=all every one, OFFICE_KILLS=10 each tenth of the first ones.
+Each life runs in a child process, which kills itself as it comes to one line of the office's modules, where that line
+is executed for the first time. Then the same is done again without a kill, and everything is compared.
+OFFICE_KILLS=last takes the last execution of each line too, OFFICE_KILLS=all every one, OFFICE_KILLS=10 each tenth of
+the first ones.
 """
 
 import os

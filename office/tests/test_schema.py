@@ -11,7 +11,7 @@ from conftest import FITS, Box, Office, telegram
 
 CONFIRM = "INSERT INTO orders (box, line, confirms, number, state) VALUES ('house-1', %s, %s, 3, 'pending')"
 ORDER = "INSERT INTO orders (box, key, line) VALUES ('house-1', 'k', %s)"
-DUE = "1F3C01000000"  # 2024-12-31, and one litre
+DUE = "1F3C"  # 2024-12-31
 CROWD = 20_000
 
 
@@ -93,11 +93,12 @@ def test_old_months_are_dropped(office: Office, box: Box) -> None:
 
 
 def test_open_orders_are_found_by_their_index(office: Office, box: Box) -> None:
-    office.sql("INSERT INTO orders (box, key, line, number, state, answer) SELECT 'house-1', 'old' || n, 'OUT x', n + 2,"
+    office.sql("INSERT INTO orders (box, key, line, number, state, answer)"
+               " SELECT 'house-1', 'old' || n, 'OUT x', n + 2,"
                " 'done', 'OK' FROM generate_series(1, %s) n", CROWD)
     office.sql(ORDER, "OUT 11111111.PAD.01.07")
     office.sql("ANALYZE orders")
-    query = ("SELECT id FROM orders WHERE box = 'house-1' AND state IN ('pending', 'queued') ORDER BY id LIMIT 1")
+    query = "SELECT id FROM orders WHERE box = 'house-1' AND state IN ('pending', 'queued') ORDER BY id LIMIT 1"
     plan = "\n".join(row[0] for row in office.sql(f"EXPLAIN {query}"))
     assert "using open_orders" in plan, plan
     taken = []
