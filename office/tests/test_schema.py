@@ -93,7 +93,8 @@ def test_old_months_are_dropped(office: Office, box: Box) -> None:
 
 
 def test_open_orders_are_found_by_their_index(office: Office, box: Box) -> None:
-    query = ("SELECT id FROM orders WHERE box = 'house-1' AND state IN ('pending', 'queued') ORDER BY id LIMIT 1")
+    office.sql("INSERT INTO orders (box, key, line, number, state, answer)"
+               " SELECT 'house-1', 'old' || n, 'OUT x', n + 2,"
                " 'done', 'OK' FROM generate_series(1, %s) n", CROWD)
     office.sql(ORDER, "OUT 11111111.PAD.01.07")
     office.sql("ANALYZE orders")
