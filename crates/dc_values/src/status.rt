@@ -11,11 +11,7 @@ use dc_names::application_name;
 fn put_bit<W: Sink>(out: &mut W, bit: u8, words: &[u8]) -> Result<(), IoFault>
     ensures { Wrote W.Sink result out.old out.new (bit_words bit words.now) }
 {
-    if bit % 2 == 1 {
-        out.put(words)
-    } else {
-        Ok(())
-    }
+    if bit % 2 == 1 { out.put(words) } else { Ok(()) }
 }
 
 // Writes the byte, and what the application says of itself.
