@@ -7,6 +7,7 @@ ghost use Rattle.dc_pending.specs.Images.{IsRefused, EachStands, StandsForOne};
 ghost use Rattle.dc_recovery.specs.Refusal.{TellsOfImage};
 ghost use Rattle.dc_recovery.specs.declared.fault.OpenFault.TheVariants.{NotImage, Worn, Device};
 ghost use Rattle.dc_io.specs.Written.{PutsInto};
+ghost use Rattle.dc_sectors.specs.Disk.{IsImage};
 ghost use Rattle.dc_sectors.specs.Runs.{LeavesOnly};
 ghost use Rattle.dc_poller.specs.Fault.{IfOpen, IsOfImage};
 ghost use Rattle.dc_inspect.specs.Report.{IsShown, table_lines};
@@ -47,6 +48,11 @@ pub fn report_json_on<D: Disk + Drop, A: Allocator + Copy, W: Sink>(
     ensures premise { D.keeps result.0 → fewest_sectors ≤ D.sectors disk
         → EachStands (half_of D.Disk disk) (D.choices disk)
         → IfErr result.1 (λ fault. IfOpen fault (λ e. TellsOfImage e → e ≡ Worn)) }
+    // An image that is refused isn't written: it reads as before, and so does each image of every moment.
+    ensures unwritten { IfErr result.1 (λ fault.
+        IfOpen fault (λ e. e ≢ Device → D.reads result.0 ≡ D.reads disk)) }
+    ensures spares_images { IfErr result.1 (λ fault. IfOpen fault (λ e. e ≢ Device
+        → LeavesOnly D.Disk disk result.0 (IsImage (D.choices disk)))) }
     ensures device { IfErr result.1 (λ fault.
         IfOpen fault (λ e. e ≡ Device → HasRisen (D.failures disk) (D.failures result.0))) }
 
