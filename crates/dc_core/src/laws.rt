@@ -57,7 +57,9 @@ pub fn what_a_power_cut_leaves_is_kept<E: Disk + Drop>()
 pub fn what_is_read_after_a_crash_is_kept<E: Disk + Drop>()
     ensures kept { (state : State) (done more : List Turn) (disk : E)
         → WasStopped E.Disk state done more disk
-        → IsSettled E.Disk disk × HoldsKept (half_of E.Disk disk) state done more (E.reads disk) }
+        → HoldsKept (half_of E.Disk disk) state done more (E.reads disk) }
+    ensures settled { (state : State) (done more : List Turn) (disk : E)
+        → WasStopped E.Disk state done more disk → IsSettled E.Disk disk }
 {}
 
 /// In every chain of steps from a newly opened concentrator, what is committed is the register
