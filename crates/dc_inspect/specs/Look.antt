@@ -16,7 +16,7 @@ abbrev pub AreHeld : Image → Slots → Type 0
 AreHeld image slots = IsHeld 1 (image 1) slots.first × IsHeld 2 (image 2) slots.second
 
 -- what was found, as contracts see it
-abbrev pub seen_of : Found Held → Seen
+abbrev pub seen_of : {A : Type 0} → Found Held A → Seen
 seen_of found = record {
   root = found.root;
   last = found.last;
@@ -24,7 +24,7 @@ seen_of found = record {
   state = found.house.state;
 }
 
-abbrev pub IsSeen : ℕ → Image → Option (Found Held) → Option OpenFault → Type 0
+abbrev pub IsSeen : {A : Type 0} → ℕ → Image → Option (Found Held A) → Option OpenFault → Type 0
 IsSeen half_len image found refusal = IsLook half_len image (option_map seen_of found) refusal
 
 -- the program fault for a reading fault that ends the inspection

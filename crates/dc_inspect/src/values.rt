@@ -14,6 +14,7 @@ ghost use Rattle.dc_inspect.specs.Values.{Shows, ShowsImage, seen_values};
 
 use crate::look::look_at;
 use dc_io::{Bytes, IoFault, Sink};
+use dc_meters::House;
 use dc_poller::ProgramFault;
 use dc_recovery::{FEWEST_SECTORS, Found, OpenFault, half_len_of};
 use dc_sectors::Disk;
@@ -24,7 +25,7 @@ use std::alloc::Allocator;
 #[tactic(auto, using(dc_io::proofs::Pieces::written))]
 fn put_found<A: Allocator + Copy, W: Sink>(
     out: &mut W,
-    found: &Option<Found<A>>,
+    found: &Option<Found<House<A>>>,
 ) -> Result<(), IoFault>
     ensures { Wrote W.Sink result out.old out.new (seen_values (option_map seen_of found.now)) }
 {

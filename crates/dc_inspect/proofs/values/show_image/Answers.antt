@@ -5,8 +5,8 @@ use Rattle.dc_inspect.specs.Look.{seen_of}
 use Rattle.dc_inspect.specs.Told.{IsLook}
 use Rattle.dc_inspect.proofs.values.show_image.Goals as goal
 
-pub returns-in-Ok-put_found-clause-told : goal.returns-in-Ok-put_found-clause-told
-returns-in-Ok-put_found-clause-told g c kept =
+pub returns-in-Ok-clause-told : goal.returns-in-Ok-clause-told
+returns-in-Ok-clause-told g c kept =
     let look = c.in_ok-look.look in
     let seen = option_map seen_of look.found in
     let reads : Image = g.D.Disk.reads c.args.disk.now in
