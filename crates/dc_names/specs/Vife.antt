@@ -143,9 +143,13 @@ rows_60 =
     ∷ (0x7F, codes "manufacturer specific")
     ∷ []
 
+-- codes 00 to 3F
+abbrev pub vife_below_40 : ℕ → List ℕ
+vife_below_40 code = if nat_lt code 0x20 then name_in rows_00 code else name_in rows_20 code
+
+-- codes 40 to 7F
+abbrev pub vife_from_40 : ℕ → List ℕ
+vife_from_40 code = if nat_lt code 0x60 then name_in rows_40 code else name_in rows_60 code
+
 abbrev pub vife_name : ℕ → List ℕ
-vife_name code =
-    if nat_lt code 0x20 then name_in rows_00 code
-    else if nat_lt code 0x40 then name_in rows_20 code
-    else if nat_lt code 0x60 then name_in rows_40 code
-    else name_in rows_60 code
+vife_name code = if nat_lt code 0x40 then vife_below_40 code else vife_from_40 code

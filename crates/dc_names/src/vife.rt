@@ -2,17 +2,41 @@
 
 ghost use Rattle.std.specs.Prelude.{◌≡◌, ◌<◌, ◌≤◌};
 ghost use Rattle.dc_names.specs.Codes.{name_in};
-ghost use Rattle.dc_names.specs.Vife.{rows_00, rows_20, rows_40, rows_60, vife_name};
+ghost use Rattle.dc_names.specs.Vife.{rows_00, rows_20, rows_40, rows_60};
+ghost use Rattle.dc_names.specs.Vife.{vife_below_40, vife_from_40, vife_name};
 
 /// The name of a combinable VIFE without its bit 7 (EN 13757-3, combinable VIFE codes).
 pub fn vife_name(code: u8) -> &'static str
     ensures { result.now ≡ vife_name code }
 {
-    match code {
-        0x00..=0x1F => errors(code),
-        0x20..=0x3F => relations(code),
-        0x40..=0x5F => limits(code),
-        _ => periods(code),
+    if code < 0x40 {
+        below_40(code)
+    } else {
+        from_40(code)
+    }
+}
+
+// The codes 00 to 3F.
+fn below_40(code: u8) -> &'static str
+    requires { code < 0x40 }
+    ensures { result.now ≡ vife_below_40 code }
+{
+    if code < 0x20 {
+        errors(code)
+    } else {
+        relations(code)
+    }
+}
+
+// The codes from 40 on.
+fn from_40(code: u8) -> &'static str
+    requires { 0x40 ≤ code }
+    ensures { result.now ≡ vife_from_40 code }
+{
+    if code < 0x60 {
+        limits(code)
+    } else {
+        periods(code)
     }
 }
 
