@@ -107,7 +107,7 @@ function quantityOf(vib) {
 
 function qualifiersOf(vib) {
   if (vib.length < 2 || vib[0] === 0x7C || vib[0] === 0xFF) return [];
-  const others = Array.from(vib.slice(vib[0] === 0xFB || vib[0] === 0xFD ? 2 : 1));
+  const others = Array.from(vib.slice([0xEF, 0xFB, 0xFD].includes(vib[0]) ? 2 : 1));
   const end = others.findIndex((vife) => vife === 0xFF || vife === 0xFC);
   return (end < 0 ? others : others.slice(0, end + 1)).map((vife) => nameIn(NAMES.vife, vife % 128));
 }

@@ -2,9 +2,12 @@
 //!
 //! Its text has no contract: it is proved safe, and its faults are those of `decode_lines`.
 
-ghost use Rattle.std.specs.Prelude.{◌≡◌, ◌≢◌, ◌<◌, ◌≤◌, length, IfSome, IfErr, OnOk, IsErrOf};
+ghost use Rattle.std.specs.Prelude.{◌≡◌, ◌≢◌, ◌<◌, ◌≤◌, length, IfSome, IfOk, IfErr, OnOk, IsErrOf};
 ghost use Rattle.dc_io.specs.Failures.{HasRisen};
 ghost use Rattle.dc_io.specs.Lines.{longest_input_line, most_input, most_spelled};
+ghost use Rattle.dc_linkframe.specs.Frame.{seen};
+ghost use Rattle.dc_decode.specs.Frames.{any_bad, frames_of, is_bad, is_bad_content, is_bad_frame};
+ghost use Rattle.dc_decode.specs.Text.{has_fault, is_bad_line};
 
 use crate::place::{body_place, frame_place};
 use crate::table::put_telegram_table;
@@ -40,9 +43,15 @@ fn put_link<W: Sink>(out: &mut W, control: u8, address: u8) -> Result<(), IoFaul
     put_number(out, u64::from(address))
 }
 
-// Writes a body in words, or its fault, and returns whether it has one. `start` is its place in the
-// line.
-fn put_body<W: Sink>(out: &mut W, start: usize, body: &[u8]) -> Result<bool, IoFault> {
+// Writes a body in words if the CI field states a telegram, or its fault, and returns whether it has
+// one. `start` is its place in the line.
+#[tactic(auto, unfolding(dc_decode::specs::Frames::is_bad_content))]
+fn put_body<W: Sink>(out: &mut W, start: usize, ci: u8, body: &[u8]) -> Result<bool, IoFault>
+    ensures { IfOk result (λ bad. bad ≡ is_bad_content ci body.now) }
+{
+    if ci != VARIABLE_DATA {
+        return Ok(false);
+    }
     match Telegram::parse(body) {
         Ok(telegram) => {
             put_telegram_table(out, &telegram)?;
@@ -58,39 +67,51 @@ fn put_body<W: Sink>(out: &mut W, start: usize, body: &[u8]) -> Result<bool, IoF
     }
 }
 
-// Writes a text that begins at this place of a line, and returns whether it has a fault.
-fn put_text_table<W: Sink>(out: &mut W, start: usize, text: &[u8]) -> Result<bool, IoFault> {
-    match read_frame(text) {
-        Ok(Frame::Ack) => {
+// Writes a frame that begins at this place of a line, and returns whether its body has a fault.
+fn put_frame<W: Sink>(out: &mut W, start: usize, frame: Frame<'_>) -> Result<bool, IoFault>
+    ensures { IfOk result (λ bad. bad ≡ is_bad_frame (seen frame.entry)) }
+{
+    match frame {
+        Frame::Ack => {
             out.put(b"acknowledgement\n")?;
             Ok(false)
         }
-        Ok(Frame::Short { control, address }) => {
+        Frame::Short { control, address } => {
             out.put(b"short frame, ")?;
             put_link(out, control, address)?;
             out.put(b"\n")?;
             Ok(false)
         }
-        Ok(
-            Frame::Long {
-                control,
-                address,
-                ci,
-                body,
-            },
-        ) => {
+        Frame::Long {
+            control,
+            address,
+            ci,
+            body,
+        } => {
             out.put(b"long frame, ")?;
             put_link(out, control, address)?;
-            out.put(b", ")?;
-            out.put(ci_name(ci).as_bytes())?;
-            out.put(b" (")?;
-            put_byte(out, ci)?;
-            out.put(b")\n")?;
-            if ci != VARIABLE_DATA {
-                return Ok(false);
-            }
-            put_body(out, start.saturating_add(BODY), body)
+            put_information(out, ci)?;
+            put_body(out, start.saturating_add(BODY), ci, body)
         }
+    }
+}
+
+// Writes a CI byte in words, and ends the line.
+fn put_information<W: Sink>(out: &mut W, ci: u8) -> Result<(), IoFault> {
+    out.put(b", ")?;
+    out.put(ci_name(ci).as_bytes())?;
+    out.put(b" (")?;
+    put_byte(out, ci)?;
+    out.put(b")\n")
+}
+
+// Writes a text that begins at this place of a line, and returns whether it has a fault.
+#[tactic(auto, unfolding(dc_decode::specs::Frames::is_bad))]
+fn put_text_table<W: Sink>(out: &mut W, start: usize, text: &[u8]) -> Result<bool, IoFault>
+    ensures { IfOk result (λ bad. bad ≡ is_bad text.now) }
+{
+    match read_frame(text) {
+        Ok(frame) => put_frame(out, start, frame),
         Err(fault) => {
             let (place, expected) = frame_place(text, fault);
             out.put(b"frame fault ")?;
@@ -102,7 +123,10 @@ fn put_text_table<W: Sink>(out: &mut W, start: usize, text: &[u8]) -> Result<boo
 }
 
 // Writes the frames of a line in words, and returns whether one has a fault.
-fn put_frames<W: Sink>(out: &mut W, number: u64, bytes: &[u8]) -> Result<bool, IoFault> {
+#[tactic(auto, using(dc_decode::proofs::Cuts::shows))]
+fn put_frames<W: Sink>(out: &mut W, number: u64, bytes: &[u8]) -> Result<bool, IoFault>
+    ensures { IfOk result (λ found. found ≡ any_bad (frames_of bytes.now)) }
+{
     let mut found = false;
     let mut rest = bytes;
     'frames: while !rest.is_empty() {
@@ -118,6 +142,7 @@ fn put_frames<W: Sink>(out: &mut W, number: u64, bytes: &[u8]) -> Result<bool, I
 }
 
 // Writes a line in words, and returns whether it has a fault.
+#[tactic(auto, unfolding(dc_decode::specs::Text::is_bad_line))]
 fn put_line<W: Sink>(
     out: &mut W,
     number: u64,
@@ -127,6 +152,7 @@ fn put_line<W: Sink>(
 ) -> Result<bool, IoFault>
     requires digits { longest_input_line ≤ length digits.old }
     requires bytes { most_spelled ≤ length bytes.old }
+    ensures { IfOk result (λ bad. bad ≡ is_bad_line line.now) }
 {
     match decode_line(line, digits, bytes) {
         Some(count) => put_frames(out, number, &bytes[..count]),
@@ -140,6 +166,7 @@ fn put_line<W: Sink>(
 }
 
 // Writes lines in words, and returns whether one has a fault.
+#[tactic(auto, using(dc_decode::proofs::Inputs::lines))]
 fn put_lines<W: Sink>(
     out: &mut W,
     input: &[u8],
@@ -148,6 +175,7 @@ fn put_lines<W: Sink>(
 ) -> Result<bool, IoFault>
     requires digits { longest_input_line ≤ length digits.old }
     requires bytes { most_spelled ≤ length bytes.old }
+    ensures { IfOk result (λ found. found ≡ has_fault input.now) }
 {
     let mut found = false;
     let mut number: u64 = 1;
@@ -177,6 +205,10 @@ pub fn explain_lines<A: Allocator + Copy, R: Source, W: Sink>(
     reader: &mut R,
     writer: &mut W,
 ) -> Result<bool, TextFault>
+    // The result is whether a line, a frame or a body of the whole input has a fault.
+    ensures fault { IfOk result (λ found.
+        IfSome (R.left reader.old) (λ input. found ≡ has_fault input)) }
+
     // Exactly the inputs over the limit are rejected for their length.
     ensures fits { OnOk result (IfSome (R.left reader.old) (λ input. length input ≤ most_input)) }
     ensures too_long { IsErrOf result TextFault.TooLong
@@ -187,6 +219,9 @@ pub fn explain_lines<A: Allocator + Copy, R: Source, W: Sink>(
         → HasRisen (R.take_failures reader.old) (R.take_failures reader.new) }
     ensures write { IsErrOf result TextFault.Write
         → HasRisen (W.put_failures writer.old) (W.put_failures writer.new) }
+
+    ensures ok { OnOk result ((R.take_failures reader.new ≡ R.take_failures reader.old)
+        × (W.put_failures writer.new ≡ W.put_failures writer.old)) }
 
     // After any fault but a failed write the writer is unchanged.
     ensures untouched { IfErr result (λ fault. fault ≢ TextFault.Write → writer.new ≡ writer.old) }

@@ -9,6 +9,9 @@ const HEADER: usize = 12;
 
 const MODE: usize = 11;
 
+// Number of bytes of a meter's number, two digits each; its manufacturer follows.
+const NUMBER: usize = 4;
+
 /// The place of a frame fault in a text, in bytes from its start, and what was expected there.
 pub(crate) fn frame_place(text: &[u8], fault: FrameFault) -> (usize, &'static str) {
     let last = text.len().saturating_sub(1);
@@ -28,7 +31,7 @@ pub(crate) fn body_place(body: &[u8], fault: BodyFault) -> (usize, &'static str)
     let item = whole_items(body);
     match fault {
         BodyFault::Short => (body.len(), "a header of 12 bytes"),
-        BodyFault::BadIdentity => (0, "eight digits and three letters"),
+        BodyFault::BadIdentity => identity_place(body),
         BodyFault::Encrypted => (MODE, "security mode 0"),
         BodyFault::ReservedDif => (item, "a DIF that isn't reserved"),
         BodyFault::TooManyDife => (item, "a record of at most ten DIFEs"),
@@ -37,6 +40,16 @@ pub(crate) fn body_place(body: &[u8], fault: BodyFault) -> (usize, &'static str)
         BodyFault::PlainTextExtension => (item, "a record whose VIF isn't FC"),
         BodyFault::Cut => (item, "a whole record"),
     }
+}
+
+// The first byte of the number that isn't two digits, else the manufacturer.
+fn identity_place(body: &[u8]) -> (usize, &'static str) {
+    for (place, byte) in body.iter().take(NUMBER).enumerate() {
+        if *byte / 16 > 9 || *byte % 16 > 9 {
+            return (place, "two digits of the meter's number");
+        }
+    }
+    (NUMBER, "three letters of the manufacturer")
 }
 
 // Number of bytes of a body's header and whole items: the longest prefix that is a telegram.

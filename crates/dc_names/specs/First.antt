@@ -18,7 +18,8 @@ rows_00 =
     ∷ (0x19, codes "mass")
     ∷ (0x1B, codes "relative humidity")
     ∷ (0x1F, codes "reserved")
-    ∷ (0x21, codes "volume")
+    ∷ (0x23, codes "volume")
+    ∷ (0x26, codes "volume flow")
     ∷ (0x27, codes "reserved")
     ∷ (0x29, codes "power")
     ∷ (0x2A, codes "phase between voltages")
@@ -32,7 +33,12 @@ rows_00 =
 -- codes 38 to 7F
 abbrev pub rows_38 : Rows
 rows_38 =
-    (0x73, codes "reserved")
+    (0x57, codes "reserved")
+    ∷ (0x5B, codes "flow temperature")
+    ∷ (0x5F, codes "return temperature")
+    ∷ (0x63, codes "temperature difference")
+    ∷ (0x67, codes "external temperature")
+    ∷ (0x6F, codes "reserved")
     ∷ (0x77, codes "temperature limit")
     ∷ (0x7F, codes "cumulative maximum power")
     ∷ []

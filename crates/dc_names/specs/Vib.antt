@@ -8,7 +8,7 @@ use Rattle.dc_names.specs.Second.{second_name}
 abbrev pub code_of : ℕ → ℕ
 code_of byte = byte % 128
 
--- FB and FD say that the next byte is of an extension
+-- FB and FD say that the next byte is of an extension. So does EF, whose extension has no codes yet.
 abbrev pub extended_name : ℕ → ℕ → List ℕ
 extended_name vif code =
     if vif == 0xFB then first_name (code_of code)
@@ -33,5 +33,5 @@ qualifiers [] = []
 qualifiers (vif ∷ []) = []
 qualifiers (vif ∷ code ∷ others) =
     if (vif == 0x7C) || (vif == 0xFF) then []
-    else if (vif == 0xFB) || (vif == 0xFD) then combinable others
+    else if (vif == 0xEF) || (vif == 0xFB) || (vif == 0xFD) then combinable others
     else combinable (code ∷ others)

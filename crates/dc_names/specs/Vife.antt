@@ -45,8 +45,10 @@ rows_20 =
     ∷ (0x25, codes "per month")
     ∷ (0x26, codes "per year")
     ∷ (0x27, codes "per revolution or measurement")
-    ∷ (0x29, codes "increment per input pulse")
-    ∷ (0x2B, codes "increment per output pulse")
+    ∷ (0x28, codes "increment per input pulse, channel 0")
+    ∷ (0x29, codes "increment per input pulse, channel 1")
+    ∷ (0x2A, codes "increment per output pulse, channel 0")
+    ∷ (0x2B, codes "increment per output pulse, channel 1")
     ∷ (0x2C, codes "per litre")
     ∷ (0x2D, codes "per m3")
     ∷ (0x2E, codes "per kg")
@@ -86,17 +88,35 @@ rows_40 =
     ∷ (0x4D, codes "reserved")
     ∷ (0x4E, codes "begin of last exceed of upper limit")
     ∷ (0x4F, codes "end of last exceed of upper limit")
-    ∷ (0x53, codes "duration of first exceed of lower limit")
-    ∷ (0x57, codes "duration of last exceed of lower limit")
-    ∷ (0x5B, codes "duration of first exceed of upper limit")
-    ∷ (0x5F, codes "duration of last exceed of upper limit")
+    ∷ (0x50, codes "duration of first exceed of lower limit, in s")
+    ∷ (0x51, codes "duration of first exceed of lower limit, in min")
+    ∷ (0x52, codes "duration of first exceed of lower limit, in h")
+    ∷ (0x53, codes "duration of first exceed of lower limit, in d")
+    ∷ (0x54, codes "duration of last exceed of lower limit, in s")
+    ∷ (0x55, codes "duration of last exceed of lower limit, in min")
+    ∷ (0x56, codes "duration of last exceed of lower limit, in h")
+    ∷ (0x57, codes "duration of last exceed of lower limit, in d")
+    ∷ (0x58, codes "duration of first exceed of upper limit, in s")
+    ∷ (0x59, codes "duration of first exceed of upper limit, in min")
+    ∷ (0x5A, codes "duration of first exceed of upper limit, in h")
+    ∷ (0x5B, codes "duration of first exceed of upper limit, in d")
+    ∷ (0x5C, codes "duration of last exceed of upper limit, in s")
+    ∷ (0x5D, codes "duration of last exceed of upper limit, in min")
+    ∷ (0x5E, codes "duration of last exceed of upper limit, in h")
+    ∷ (0x5F, codes "duration of last exceed of upper limit, in d")
     ∷ []
 
 -- codes 60 to 7F
 abbrev pub rows_60 : Rows
 rows_60 =
-    (0x63, codes "duration of first")
-    ∷ (0x67, codes "duration of last")
+    (0x60, codes "duration of first, in s")
+    ∷ (0x61, codes "duration of first, in min")
+    ∷ (0x62, codes "duration of first, in h")
+    ∷ (0x63, codes "duration of first, in d")
+    ∷ (0x64, codes "duration of last, in s")
+    ∷ (0x65, codes "duration of last, in min")
+    ∷ (0x66, codes "duration of last, in h")
+    ∷ (0x67, codes "duration of last, in d")
     ∷ (0x68, codes "during exceed of lower limit")
     ∷ (0x69, codes "leakage")
     ∷ (0x6A, codes "begin of first")
@@ -105,17 +125,31 @@ rows_60 =
     ∷ (0x6D, codes "overflow")
     ∷ (0x6E, codes "begin of last")
     ∷ (0x6F, codes "end of last")
-    ∷ (0x77, codes "multiplicative correction")
-    ∷ (0x7B, codes "additive correction")
+    ∷ (0x70, codes "multiplicative correction 10^-6")
+    ∷ (0x71, codes "multiplicative correction 10^-5")
+    ∷ (0x72, codes "multiplicative correction 10^-4")
+    ∷ (0x73, codes "multiplicative correction 10^-3")
+    ∷ (0x74, codes "multiplicative correction 10^-2")
+    ∷ (0x75, codes "multiplicative correction 10^-1")
+    ∷ (0x76, codes "multiplicative correction 10^0")
+    ∷ (0x77, codes "multiplicative correction 10^1")
+    ∷ (0x78, codes "additive correction 10^-3")
+    ∷ (0x79, codes "additive correction 10^-2")
+    ∷ (0x7A, codes "additive correction 10^-1")
+    ∷ (0x7B, codes "additive correction 10^0")
     ∷ (0x7C, codes "extension of combinable VIFEs")
     ∷ (0x7D, codes "multiplied by 1000")
     ∷ (0x7E, codes "future value")
     ∷ (0x7F, codes "manufacturer specific")
     ∷ []
 
+-- codes 00 to 3F
+abbrev pub vife_below_40 : ℕ → List ℕ
+vife_below_40 code = if nat_lt code 0x20 then name_in rows_00 code else name_in rows_20 code
+
+-- codes 40 to 7F
+abbrev pub vife_from_40 : ℕ → List ℕ
+vife_from_40 code = if nat_lt code 0x60 then name_in rows_40 code else name_in rows_60 code
+
 abbrev pub vife_name : ℕ → List ℕ
-vife_name code =
-    if nat_lt code 0x20 then name_in rows_00 code
-    else if nat_lt code 0x40 then name_in rows_20 code
-    else if nat_lt code 0x60 then name_in rows_40 code
-    else name_in rows_60 code
+vife_name code = if nat_lt code 0x40 then vife_below_40 code else vife_from_40 code

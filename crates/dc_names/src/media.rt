@@ -65,6 +65,7 @@ fn device(code: u8) -> &'static str
         0x28 => "waste-water",
         0x29 => "garbage",
         0x2A => "carbon-dioxide",
+        0x30 => "service-tool",
         0x31 => "communication-controller",
         0x32 => "unidirectional-repeater",
         0x33 => "bidirectional-repeater",

@@ -36,7 +36,9 @@ pub fn qualifiers(vib: &[u8]) -> &[u8]
 {
     match vib {
         [] | [0x7C, ..] | [0xFF, ..] => &[],
-        [0xFB, _, others @ ..] | [0xFD, _, others @ ..] => first_part(others),
+        [0xEF, _, others @ ..] | [0xFB, _, others @ ..] | [0xFD, _, others @ ..] => {
+            first_part(others)
+        }
         [_, others @ ..] => first_part(others),
     }
 }

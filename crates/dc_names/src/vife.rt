@@ -2,17 +2,41 @@
 
 ghost use Rattle.std.specs.Prelude.{◌≡◌, ◌<◌, ◌≤◌};
 ghost use Rattle.dc_names.specs.Codes.{name_in};
-ghost use Rattle.dc_names.specs.Vife.{rows_00, rows_20, rows_40, rows_60, vife_name};
+ghost use Rattle.dc_names.specs.Vife.{rows_00, rows_20, rows_40, rows_60};
+ghost use Rattle.dc_names.specs.Vife.{vife_below_40, vife_from_40, vife_name};
 
 /// The name of a combinable VIFE without its bit 7 (EN 13757-3, combinable VIFE codes).
 pub fn vife_name(code: u8) -> &'static str
     ensures { result.now ≡ vife_name code }
 {
-    match code {
-        0x00..=0x1F => errors(code),
-        0x20..=0x3F => relations(code),
-        0x40..=0x5F => limits(code),
-        _ => periods(code),
+    if code < 0x40 {
+        below_40(code)
+    } else {
+        from_40(code)
+    }
+}
+
+// The codes 00 to 3F.
+fn below_40(code: u8) -> &'static str
+    requires { code < 0x40 }
+    ensures { result.now ≡ vife_below_40 code }
+{
+    if code < 0x20 {
+        errors(code)
+    } else {
+        relations(code)
+    }
+}
+
+// The codes from 40 on.
+fn from_40(code: u8) -> &'static str
+    requires { 0x40 ≤ code }
+    ensures { result.now ≡ vife_from_40 code }
+{
+    if code < 0x60 {
+        limits(code)
+    } else {
+        periods(code)
     }
 }
 
@@ -64,8 +88,10 @@ fn relations(code: u8) -> &'static str
         0x25 => "per month",
         0x26 => "per year",
         0x27 => "per revolution or measurement",
-        0x28..=0x29 => "increment per input pulse",
-        0x2A..=0x2B => "increment per output pulse",
+        0x28 => "increment per input pulse, channel 0",
+        0x29 => "increment per input pulse, channel 1",
+        0x2A => "increment per output pulse, channel 0",
+        0x2B => "increment per output pulse, channel 1",
         0x2C => "per litre",
         0x2D => "per m3",
         0x2E => "per kg",
@@ -108,10 +134,22 @@ fn limits(code: u8) -> &'static str
         0x4B => "end of first exceed of upper limit",
         0x4E => "begin of last exceed of upper limit",
         0x4F => "end of last exceed of upper limit",
-        0x50..=0x53 => "duration of first exceed of lower limit",
-        0x54..=0x57 => "duration of last exceed of lower limit",
-        0x58..=0x5B => "duration of first exceed of upper limit",
-        0x5C..=0x5F => "duration of last exceed of upper limit",
+        0x50 => "duration of first exceed of lower limit, in s",
+        0x51 => "duration of first exceed of lower limit, in min",
+        0x52 => "duration of first exceed of lower limit, in h",
+        0x53 => "duration of first exceed of lower limit, in d",
+        0x54 => "duration of last exceed of lower limit, in s",
+        0x55 => "duration of last exceed of lower limit, in min",
+        0x56 => "duration of last exceed of lower limit, in h",
+        0x57 => "duration of last exceed of lower limit, in d",
+        0x58 => "duration of first exceed of upper limit, in s",
+        0x59 => "duration of first exceed of upper limit, in min",
+        0x5A => "duration of first exceed of upper limit, in h",
+        0x5B => "duration of first exceed of upper limit, in d",
+        0x5C => "duration of last exceed of upper limit, in s",
+        0x5D => "duration of last exceed of upper limit, in min",
+        0x5E => "duration of last exceed of upper limit, in h",
+        0x5F => "duration of last exceed of upper limit, in d",
         _ => "reserved",
     }
 }
@@ -122,8 +160,14 @@ fn periods(code: u8) -> &'static str
     ensures { result.now ≡ name_in rows_60 code }
 {
     match code {
-        0x60..=0x63 => "duration of first",
-        0x64..=0x67 => "duration of last",
+        0x60 => "duration of first, in s",
+        0x61 => "duration of first, in min",
+        0x62 => "duration of first, in h",
+        0x63 => "duration of first, in d",
+        0x64 => "duration of last, in s",
+        0x65 => "duration of last, in min",
+        0x66 => "duration of last, in h",
+        0x67 => "duration of last, in d",
         0x68 => "during exceed of lower limit",
         0x69 => "leakage",
         0x6A => "begin of first",
@@ -132,8 +176,18 @@ fn periods(code: u8) -> &'static str
         0x6D => "overflow",
         0x6E => "begin of last",
         0x6F => "end of last",
-        0x70..=0x77 => "multiplicative correction",
-        0x78..=0x7B => "additive correction",
+        0x70 => "multiplicative correction 10^-6",
+        0x71 => "multiplicative correction 10^-5",
+        0x72 => "multiplicative correction 10^-4",
+        0x73 => "multiplicative correction 10^-3",
+        0x74 => "multiplicative correction 10^-2",
+        0x75 => "multiplicative correction 10^-1",
+        0x76 => "multiplicative correction 10^0",
+        0x77 => "multiplicative correction 10^1",
+        0x78 => "additive correction 10^-3",
+        0x79 => "additive correction 10^-2",
+        0x7A => "additive correction 10^-1",
+        0x7B => "additive correction 10^0",
         0x7C => "extension of combinable VIFEs",
         0x7D => "multiplied by 1000",
         0x7E => "future value",
