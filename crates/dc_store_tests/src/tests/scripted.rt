@@ -170,6 +170,7 @@ fn a_sector_that_the_drive_cannot_read_is_unreadable(rt: HostRuntime) -> Result<
     let path = place(&rt, "denied")?;
     let script = Script::new();
     let mut disk = FileDisk::new(four_sectors(&rt, path.as_str(), &script)?)?;
+    assert_eq!(rt; disk.count(), 4);
     assert_eq!(rt; disk.write(2, &A), Ok(()));
     script.set(Step::Denied);
     assert!(rt; disk.read(2) == Err(ReadFault::Unreadable));
