@@ -10,6 +10,7 @@ whole half quiet = record {
   sends = half.sends;
   waits = half.waits;
   gives = half.gives;
+  dropped = half.dropped;
   ready = quiet.ready;
   settles = quiet.settles;
   settles_left = quiet.settles_left;

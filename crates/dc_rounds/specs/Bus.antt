@@ -9,6 +9,7 @@ Bus B = record {
   sends : B → List ℕ → B → Type 0;
   waits : B → B → Type 0;
   gives : B → List ℕ → B → Type 0;
+  dropped : B → ℕ;
   ready : B → Bool;
   settles : B → B → Type 0;
   settles_left : B → ℕ;
