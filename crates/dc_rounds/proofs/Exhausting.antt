@@ -2,6 +2,7 @@
 use Rattle.std.proofs.Common.{◌≡◌, ℕ, zero, suc, ◌+◌, ◌-◌, ◌*◌, ◌<◌, ◌≤◌, Bool, true, false, List, [], ◌∷◌, length, get_or, refl, ap, sym, subst, ◌∙◌, arith}
 use Rattle.std.specs.List.{All, list_all}
 use Rattle.std.specs.Prelude.{◌&&◌, ◌==◌}
+use Rattle.std.proofs.lemmas.Bool.{ne_eqb}
 use Rattle.std.proofs.lemmas.List.Folds.{list_all_at}
 use Rattle.dc_address.specs.declared.identity.Identity.{Identity}
 use Rattle.dc_rounds.specs.Waiting.{is_done, is_free}
@@ -110,7 +111,7 @@ done_over s is = by_phase s.phase s.left.now is
   where
     by_phase : (phase : Phase) (left : List Identity) → (is_free phase && length left == 0) ≡ true → (left ≡ []) × (phase ≡ Free)
     by_phase Free [] is = (refl, refl)
-    by_phase Free (m ∷ ms) is = absurd cc
+    by_phase Free (m ∷ ms) is = absurd (let none : (length (m ∷ ms) == 0) ≡ false = ne_eqb (length (m ∷ ms)) 0 (λ z. omega arith) in let some : (length (m ∷ ms) == 0) ≡ true = is in let both : true ≡ false = sym some ∙ none in cc)
     by_phase (Busy n) left is = absurd cc
     by_phase (Pending n) left is = absurd cc
     by_phase (Over end) left is = absurd cc

@@ -196,12 +196,13 @@ module _ {B T S : Type 0} (g : Bus B) (told : T → ℕ → T → Type 0) (passe
   })
 
   -- a later one does
-  pub polled_unkept : (tries : ℕ) (fault : CommitFault) (olds mids news : List (Station B)) (first between last : T) (old mid new : S) (was so_far counts : Counts) (now : Outcome) (core : Core) (happened more : List Happening) → length mids ≡ length olds
+  pub polled_unkept : (tries : ℕ) (answered : Option CommitFault) (fault : CommitFault) (olds mids news : List (Station B)) (first between last : T) (old mid new : S) (was so_far counts : Counts) (now : Outcome) (core : Core) (happened more : List Happening) → length mids ≡ length olds → answered ≡ Some fault
       → now ≡ record { read = counts.read; failed = counts.failed; fault = Some fault }
       → PollsTo g told passes tries all_kept olds mids first between (Puts (written old) (written mid)) was so_far core happened
-      → GoesRound g told passes tries (Some fault) mids news between last (Puts (written mid) (written new)) so_far counts (leads core (happened_turns happened)) more
+      → GoesRound g told passes tries answered mids news between last (Puts (written mid) (written new)) so_far counts (leads core (happened_turns happened)) more
       → Polled g told passes tries olds news first last (Puts (written old) (written new)) was now core (happened ++ more)
-  polled_unkept tries fault olds mids news first between last old mid new was so_far counts now core happened more same_count same a r =
+  polled_unkept tries answered fault olds mids news first between last old mid new was so_far counts now core happened more same_count is same a one =
+      let r = subst (λ (f : Option CommitFault). GoesRound g told passes tries f mids news between last (Puts (written mid) (written new)) so_far counts (leads core (happened_turns happened)) more) is one in
       subst (λ (o : Outcome). Polled g told passes tries olds news first last (Puts (written old) (written new)) was o core (happened ++ more)) (sym same) (record {
         counts = counts;
         polls = polls_on tries (Some fault) olds mids news first between last old mid new was so_far counts core happened more same_count a r;
