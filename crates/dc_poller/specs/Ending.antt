@@ -1,5 +1,6 @@
 -- How a run of the program ends: the exit status, and the line on standard error (this product).
 use Rattle.std.specs.Prelude.{ℕ, List, [], ◌++◌, codes, Option, None, Some}
+use Rattle.dc_core.specs.Fault.{commit_number, commit_name}
 use Rattle.dc_recovery.specs.Fault.{open_number, open_name, format_number, format_name}
 use Rattle.dc_recovery.specs.declared.fault.OpenFault.{OpenFault}
 use Rattle.dc_recovery.specs.declared.fault.OpenFault.TheVariants.{NotImage, Damaged, Version, Worn}
@@ -8,7 +9,7 @@ use Rattle.dc_io.specs.Words.{fault_text, number_word}
 use Rattle.dc_poller.specs.Escape.{escaped}
 use Rattle.dc_poller.specs.declared.ending.Ending.{Ending}
 use Rattle.dc_poller.specs.declared.ending.Ending.TheVariants.{Clean, Faulty, Words, Format, Open}
-use Rattle.dc_poller.specs.declared.ending.Ending.TheVariants.{File, Gateway, Clock, Memory}
+use Rattle.dc_poller.specs.declared.ending.Ending.TheVariants.{Disk, File, Gateway, Clock, Memory}
 
 abbrev pub status_of : Ending → ℕ
 status_of Clean = 0
@@ -16,6 +17,7 @@ status_of Faulty = 1
 status_of (Words what) = 2
 status_of (Format fault) = 3
 status_of (Open fault) = 3
+status_of (Disk fault) = 3
 status_of (File name) = 4
 status_of Gateway = 4
 status_of Clock = 4
@@ -53,6 +55,8 @@ line_of (Format fault) = fault_line (codes "mbdc: format: ") (format_number faul
     (format_name fault) None
 line_of (Open fault) = fault_line (codes "mbdc: open: ") (open_number fault) (open_name fault)
     (damaged_at fault)
+line_of (Disk fault) = fault_line (codes "mbdc: disk: ") (commit_number fault) (commit_name fault)
+    None
 line_of (File name) = named_line (codes "mbdc: file: ") name.now
 line_of Gateway = codes "mbdc: gateway\n"
 line_of Clock = codes "mbdc: clock: outside 1970 to 9999\n"

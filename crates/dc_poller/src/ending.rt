@@ -8,6 +8,7 @@ ghost use Rattle.dc_poller.specs.Outcome.{EndsAs};
 
 use crate::ProgramFault;
 use crate::escape::put_escaped;
+use dc_core::CommitFault;
 use dc_io::{IoFault, Sink, put_fault, put_number_word};
 use dc_recovery::{FormatFault, OpenFault};
 
@@ -27,6 +28,8 @@ pub enum Ending<'a> {
     Format(FormatFault),
     /// The image wasn't opened.
     Open(OpenFault),
+    /// A commit failed, which ended a poll.
+    Disk(CommitFault),
     /// The file of that name, or a stream, failed or was too long.
     File(&'a str),
     /// The gateway wasn't reached.
@@ -47,7 +50,7 @@ impl Ending<'_> {
             Ending::Clean => 0,
             Ending::Faulty => 1,
             Ending::Words(_) => 2,
-            Ending::Format(_) | Ending::Open(_) => 3,
+            Ending::Format(_) | Ending::Open(_) | Ending::Disk(_) => 3,
             Ending::File(_) | Ending::Gateway | Ending::Clock | Ending::Memory => 4,
         }
     }
@@ -73,6 +76,9 @@ impl Ending<'_> {
                 fault.name(),
                 sector_of(fault),
             ),
+            Ending::Disk(fault) => {
+                put_store(out, b"mbdc: disk: ", fault.number(), fault.name(), None)
+            }
             Ending::File(name) => put_named(out, b"mbdc: file: ", name),
             Ending::Gateway => out.put(b"mbdc: gateway\n"),
             Ending::Clock => out.put(b"mbdc: clock: outside 1970 to 9999\n"),

@@ -28,7 +28,7 @@ use Rattle.dc_rounds.specs.declared.phase.Request.{Request}
 use Rattle.dc_rounds.specs.declared.phase.Request.TheVariants.{Quiet, Sent, Answered}
 use Rattle.dc_rounds.specs.declared.station.Station.{Station}
 use Rattle.dc_rounds.proofs.Idling.{fewer_silent}
-use Rattle.dc_rounds.proofs.Counts.{pass_less, pass_put_off, start_count, refuse_count, settle_count, ask_count, end_count, free_count, pass_count}
+use Rattle.dc_rounds.proofs.Counting.{pass_less, pass_put_off, start_count, refuse_count, settle_count, ask_count, end_count, free_count, pass_count}
 use Rattle.dc_rounds.proofs.Queues.{line_by, line_stays, part_is, part_first, talk_is, part_after, talk_after, of_after, to_phase, from_phase}
 
 some_of : (xs : List Identity) (m : Identity) → xs ≡ m ∷ drop 1 xs → 0 < length xs

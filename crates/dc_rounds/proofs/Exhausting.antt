@@ -1,6 +1,11 @@
 -- Where no round is left, all lines are over.
-use Rattle.std.proofs.Common.{◌≡◌, ℕ, zero, suc, ◌+◌, ◌-◌, ◌*◌, ◌<◌, ◌≤◌, Bool, List, [], ◌∷◌, length, get_or, refl, ap, sym, subst, ◌∙◌, arith}
-use Rattle.std.specs.List.{All}
+use Rattle.std.proofs.Common.{◌≡◌, ℕ, zero, suc, ◌+◌, ◌-◌, ◌*◌, ◌<◌, ◌≤◌, Bool, true, false, List, [], ◌∷◌, length, get_or, refl, ap, sym, subst, ◌∙◌, arith}
+use Rattle.std.specs.List.{All, list_all}
+use Rattle.std.specs.Prelude.{◌&&◌, ◌==◌}
+use Rattle.std.proofs.lemmas.Bool.{ne_eqb}
+use Rattle.std.proofs.lemmas.List.Folds.{list_all_at}
+use Rattle.dc_address.specs.declared.identity.Identity.{Identity}
+use Rattle.dc_rounds.specs.Waiting.{is_done, is_free}
 use Rattle.std.proofs.Math.Nat.{mul-le-mul_left}
 use Rattle.std.proofs.lemmas.List.{nil_from_length}
 use Rattle.dc_line.specs.Bus.{most_settles}
@@ -12,7 +17,7 @@ use Rattle.dc_rounds.specs.declared.phase.Phase.TheVariants.{Free, Busy, Pending
 use Rattle.dc_rounds.specs.declared.phase.Request.{Request}
 use Rattle.dc_rounds.specs.declared.phase.Request.TheVariants.{Quiet}
 use Rattle.dc_rounds.specs.declared.station.Station.{Station}
-use Rattle.dc_rounds.proofs.Counts.{settling_few}
+use Rattle.dc_rounds.proofs.Counting.{settling_few}
 
 over_by : (tries count due pass waits settles : ℕ) (ready : Bool) (phase : Phase) (request : Request) → IsSoundIn tries count due pass phase request waits → rounds_in 1 1 1 tries count due pass phase request waits ready settles ≤ 0 → (count ≡ 0) × (phase ≡ Free)
 over_by tries zero due pass waits settles ready Free request sound none = (refl, refl)
@@ -99,3 +104,23 @@ module _ {B : Type 0} (g : Bus B) where
       let s : Station B = get_or stations k d in
       let is = fresh k d below in
       fresh_by tries (length s.left.now) s.due s.pass (g.waits_left s.bus) s.phase s.request some is.all is.first is.free is.quiet
+
+-- each line has nothing left
+done_over : {B : Type 0} (s : Station B) → is_done s ≡ true → IsOver s
+done_over s is = by_phase s.phase s.left.now is
+  where
+    by_phase : (phase : Phase) (left : List Identity) → (is_free phase && length left == 0) ≡ true → (left ≡ []) × (phase ≡ Free)
+    by_phase Free [] is = (refl, refl)
+    by_phase Free (m ∷ ms) is = absurd (let none : (length (m ∷ ms) == 0) ≡ false = ne_eqb (length (m ∷ ms)) 0 (λ z. omega arith) in let some : (length (m ∷ ms) == 0) ≡ true = is in let both : true ≡ false = sym some ∙ none in cc)
+    by_phase (Busy n) left is = absurd cc
+    by_phase (Pending n) left is = absurd cc
+    by_phase (Over end) left is = absurd cc
+
+holds_at : {X : Type 0} (p : X → Bool) (xs : List X) (k : ℕ) (d : X) → list_all p xs ≡ true → k < length xs → (b : Bool) → p (get_or xs k d) ≡ b → p (get_or xs k d) ≡ true
+holds_at p xs k d all below true is = is
+holds_at p xs k d all below false is = absurd (let none : list_all p xs ≡ false = list_all_at p xs k d below is in let both : true ≡ false = sym all ∙ none in cc)
+
+pub all_done : {B : Type 0} (stations : List (Station B)) → list_all (λ (s : Station B). is_done s) stations ≡ true → All IsOver stations
+all_done {B} stations are k d below =
+    let one : Station B → Bool = λ s. is_done s in
+    done_over (get_or stations k d) (holds_at one stations k d are below (one (get_or stations k d)) refl)

@@ -1,5 +1,5 @@
 -- In rounds, all is committed where a line has no request any more, and where a line of text is written.
-use Rattle.std.proofs.Common.{◌≡◌, ℕ, List, [], ◌∷◌, ◌++◌, None, Some, Result, Ok, Err, refl, sym, subst}
+use Rattle.std.proofs.Common.{◌≡◌, ℕ, Bool, List, [], ◌∷◌, ◌++◌, None, Some, Result, Ok, Err, refl, sym, subst}
 use Rattle.std.specs.List.{All}
 use Rattle.std.proofs.lemmas.List.Elements.{All-head, All-tail}
 use Rattle.dc_core.specs.Core.{Core}
@@ -67,7 +67,7 @@ round_reads moment store turns settled one =
     (reads_both store one.asking (one.hearing ++ one.last) (asking_reads store one.asking settled one.are_asking)
     (reads_both behind one.hearing one.last (hearing_reads moment behind one.hearing one.are_hearing) (commit_reads (store_behind behind one.hearing) one.last one.is_commit)))
 
-rounds_read : {T : Type 0} {told : T → ℕ → T → Type 0} {passes : T → T → Type 0} {first last : T} {turns : List Turn} → InRounds told passes first turns last → Reads some_wait turns
+rounds_read : {T : Type 0} {told : T → ℕ → T → Type 0} {passes : T → Bool → T → Type 0} {first last : T} {turns : List Turn} → InRounds told passes first turns last → Reads some_wait turns
 rounds_read (at_first {turns = turns} one) = commit_reads some_wait turns one
 rounds_read (and_round {moment = moment} {turns = turns} {more = more} a kept waits moment_is one) =
     reads_both some_wait turns more (rounds_read a) (subst (λ (s : Store). Reads s more) (sym kept) (round_reads moment all_kept more tt one))
@@ -76,7 +76,7 @@ reads_at : (store : Store) (front back : List Turn) (line : ℕ) → Reads store
 reads_at store [] back line reads = reads.0
 reads_at store (turn ∷ front) back line reads = reads_at (behind_answer store turn.1) front back line reads.1
 
-pub settled_at : {T : Type 0} (told : T → ℕ → T → Type 0) (passes : T → T → Type 0) (first last : T) (front back : List Turn) (line : ℕ) → InRounds told passes first (front ++ (asks line, asked None) ∷ back) last → IsSettled (store_behind some_wait front)
+pub settled_at : {T : Type 0} (told : T → ℕ → T → Type 0) (passes : T → Bool → T → Type 0) (first last : T) (front back : List Turn) (line : ℕ) → InRounds told passes first (front ++ (asks line, asked None) ∷ back) last → IsSettled (store_behind some_wait front)
 settled_at told passes first last front back line rounds = reads_at some_wait front back line (rounds_read rounds)
 
 -- and where a line of text is written

@@ -31,7 +31,7 @@ pub mod Writing
 -- how many rounds a line takes at most that takes no step
 pub mod Idling
 -- how many rounds a line takes at most, by what becomes of it
-pub mod Counts
+pub mod Counting
 -- rounds of a poll, one after the other
 pub mod Polling
 -- where no round is left, all lines are over

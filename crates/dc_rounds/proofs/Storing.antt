@@ -23,7 +23,7 @@ use Rattle.dc_rounds.specs.declared.phase.Phase.TheVariants.{Free, Busy, Pending
 use Rattle.dc_rounds.specs.declared.phase.Request.{Request}
 use Rattle.dc_rounds.specs.declared.phase.Request.TheVariants.{Quiet}
 use Rattle.dc_rounds.specs.declared.station.Station.{Station}
-use Rattle.dc_rounds.proofs.Counts.{left_count, pass_less}
+use Rattle.dc_rounds.proofs.Counting.{left_count, pass_less}
 use Rattle.dc_rounds.proofs.Queues.{part_after, talk_is, of_after}
 
 -- the part that such a next is

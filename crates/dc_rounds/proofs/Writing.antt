@@ -15,12 +15,12 @@ use Rattle.dc_rounds.specs.Round.{LineGoes, Moves, AreWritten, Tells, told_of, c
 use Rattle.dc_rounds.specs.Station.{IsSoundIn, IsSound, part_of, talk_of, rounds_in, rounds_of}
 use Rattle.dc_rounds.specs.declared.end.End.{End}
 use Rattle.dc_rounds.specs.declared.end.End.TheVariants.{Read, Failed, Refused}
-use Rattle.dc_rounds.specs.declared.outcome.Outcome.{Outcome}
+use Rattle.dc_rounds.specs.declared.outcome.Counts.{Counts}
 use Rattle.dc_rounds.specs.declared.phase.Phase.{Phase}
 use Rattle.dc_rounds.specs.declared.phase.Phase.TheVariants.{Free, Busy, Pending, Over}
 use Rattle.dc_rounds.specs.declared.phase.Request.{Request}
 use Rattle.dc_rounds.specs.declared.station.Station.{Station}
-use Rattle.dc_rounds.proofs.Counts.{settling_few}
+use Rattle.dc_rounds.proofs.Counting.{settling_few}
 use Rattle.dc_rounds.proofs.Happenings.{turns_append, text_append, reads_append, failures_append}
 use Rattle.dc_rounds.proofs.Queues.{line_stays, moves_both, told_on, told_off}
 
@@ -41,17 +41,17 @@ no_loss state (Read meter) e = absurd cc
 no_loss state (Failed meter why) e = absurd cc
 no_loss state (Refused meter refusal) e = absurd cc
 
-read_counted : (state : State) (end : End) (line : ℕ) (was : Outcome) → (counted end was).read ≡ was.read + reads_in (tells line (told_of state end) ∷ [])
+read_counted : (state : State) (end : End) (line : ℕ) (was : Counts) → (counted end was).read ≡ was.read + reads_in (tells line (told_of state end) ∷ [])
 read_counted state (Read meter) line was = omega arith
 read_counted state (Failed meter why) line was = omega arith
 read_counted state (Refused meter refusal) line was = omega arith
 
-failed_counted : (state : State) (end : End) (line : ℕ) (was : Outcome) → (counted end was).failed ≡ was.failed + failures_in (tells line (told_of state end) ∷ [])
+failed_counted : (state : State) (end : End) (line : ℕ) (was : Counts) → (counted end was).failed ≡ was.failed + failures_in (tells line (told_of state end) ∷ [])
 failed_counted state (Read meter) line was = omega arith
 failed_counted state (Failed meter why) line was = omega arith
 failed_counted state (Refused meter refusal) line was = omega arith
 
-pub few_counted : (end : End) (was : Outcome) → (counted end was).read + (counted end was).failed ≤ was.read + was.failed + 1
+pub few_counted : (end : End) (was : Counts) → (counted end was).read + (counted end was).failed ≤ was.read + was.failed + 1
 few_counted (Read meter) was = omega arith
 few_counted (Failed meter why) was = omega arith
 few_counted (Refused meter refusal) was = omega arith
@@ -59,7 +59,7 @@ few_counted (Refused meter refusal) was = omega arith
 -- ---- nothing, and one thing after the other
 
 module _ {S : Type 0} (written : S → Option (List ℕ)) where
-  pub written_none : (out : S) (outcome : Outcome) (core : Core) → AreWritten (Puts (written out) (written out)) outcome outcome core []
+  pub written_none : (out : S) (outcome : Counts) (core : Core) → AreWritten (Puts (written out) (written out)) outcome outcome core []
   written_none out outcome core = record { text = puts-none (written out); no_turns = refl; are_true = λ store settled. tt; read = omega arith; failed = omega arith }
 
   true_both : (core : Core) (store : Store) (happened more : List Happening) → happened_turns happened ≡ [] → AreTrue core store happened → AreTrue core store more → AreTrue core store (happened ++ more)
@@ -67,7 +67,7 @@ module _ {S : Type 0} (written : S → Option (List ℕ)) where
   true_both core store (does turn ∷ happened) more none a b = absurd cc
   true_both core store (tells line told ∷ happened) more none a b = (a.0, a.1, true_both core store happened more none a.2 b)
 
-  pub written_both : (old mid new : S) (was between now : Outcome) (core : Core) (happened more : List Happening) → AreWritten (Puts (written old) (written mid)) was between core happened → AreWritten (Puts (written mid) (written new)) between now core more
+  pub written_both : (old mid new : S) (was between now : Counts) (core : Core) (happened more : List Happening) → AreWritten (Puts (written old) (written mid)) was between core happened → AreWritten (Puts (written mid) (written new)) between now core more
       → AreWritten (Puts (written old) (written new)) was now core (happened ++ more)
   written_both old mid new was between now core happened more a b = record {
     text = subst (Puts (written old) (written new)) (sym (text_append happened more)) (puts-both (written old) (written mid) (written new) (happened_text happened) (happened_text more) a.text b.text);
@@ -77,13 +77,13 @@ module _ {S : Type 0} (written : S → Option (List ℕ)) where
     failed = let first = a.failed in let second = b.failed in let both = failures_append happened more in omega (arith, first, second, both);
   }
 
-  pub written_then : (old mid new : S) (was between now : Outcome) (core : Core) (happened more : List Happening) → AreWritten (Puts (written old) (written mid)) was between core happened → AreWritten (Puts (written mid) (written new)) between now (leads core (happened_turns happened)) more
+  pub written_then : (old mid new : S) (was between now : Counts) (core : Core) (happened more : List Happening) → AreWritten (Puts (written old) (written mid)) was between core happened → AreWritten (Puts (written mid) (written new)) between now (leads core (happened_turns happened)) more
       → AreWritten (Puts (written old) (written new)) was now core (happened ++ more)
   written_then old mid new was between now core happened more a b =
       written_both old mid new was between now core happened more a (subst (λ (ts : List Turn). AreWritten (Puts (written mid) (written new)) between now (leads core ts) more) a.no_turns b)
 
   -- one line of text
-  written_one : (old new : S) (line : ℕ) (told : Told) (was now : Outcome) (core : Core) → Puts (written old) (written new) (told_line line told) → IsNewest (present core) told
+  written_one : (old new : S) (line : ℕ) (told : Told) (was now : Counts) (core : Core) → Puts (written old) (written new) (told_line line told) → IsNewest (present core) told
       → now.read ≡ was.read + reads_in (tells line told ∷ []) → now.failed ≡ was.failed + failures_in (tells line told ∷ []) → AreWritten (Puts (written old) (written new)) was now core (tells line told ∷ [])
   written_one old new line told was now core put newest read failed = record {
     text = subst (Puts (written old) (written new)) (sym (append-nil (told_line line told))) put;
@@ -93,13 +93,13 @@ module _ {S : Type 0} (written : S → Option (List ℕ)) where
     failed = failed;
   }
 
-  pub written_end : (old new : S) (line : ℕ) (end : End) (was now : Outcome) (core : Core) (state : State) → state ≡ present core → Puts (written old) (written new) (told_line line (told_of state end)) → now ≡ counted end was
+  pub written_end : (old new : S) (line : ℕ) (end : End) (was now : Counts) (core : Core) (state : State) → state ≡ present core → Puts (written old) (written new) (told_line line (told_of state end)) → now ≡ counted end was
       → AreWritten (Puts (written old) (written new)) was now core (tells line (told_of state end) ∷ [])
   written_end old new line end was now core state is put same =
       written_one old new line (told_of state end) was now core put (subst (λ (x : State). IsNewest x (told_of state end)) is (newest_told state end))
-      (ap (λ (o : Outcome). o.read) same ∙ read_counted state end line was) (ap (λ (o : Outcome). o.failed) same ∙ failed_counted state end line was)
+      (ap (λ (o : Counts). o.read) same ∙ read_counted state end line was) (ap (λ (o : Counts). o.failed) same ∙ failed_counted state end line was)
 
-  pub written_loss : (old new : S) (line : ℕ) (was : Outcome) (core : Core) → Puts (written old) (written new) (told_line line is_lost) → AreWritten (Puts (written old) (written new)) was was core (tells line is_lost ∷ [])
+  pub written_loss : (old new : S) (line : ℕ) (was : Counts) (core : Core) → Puts (written old) (written new) (told_line line is_lost) → AreWritten (Puts (written old) (written new)) was was core (tells line is_lost ∷ [])
   written_loss old new line was core put = written_one old new line is_lost was was core put tt (omega arith) (omega arith)
 
 module _ {B : Type 0} (g : Bus B) where

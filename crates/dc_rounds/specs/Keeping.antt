@@ -82,13 +82,13 @@ pub record IsRound (moment : ℕ) (turns : List Turn) : Type 0 where
 
 -- One commit, and then round after round, as long as all is kept. In each round time passes after
 -- the requests, and the answers get the time stamp that the timer returns then.
-pub data InRounds {T : Type 0} (told : T → ℕ → T → Type 0) (passes : T → T → Type 0)
+pub data InRounds {T : Type 0} (told : T → ℕ → T → Type 0) (passes : T → Bool → T → Type 0)
     : T → List Turn → T → Type 0 where
   at_first : {first : T} {turns : List Turn} → IsCommit turns
       → InRounds told passes first turns first
-  and_round : {first old passed last : T} {moment : ℕ} {turns more : List Turn}
+  and_round : {first old passed last : T} {slept : Bool} {moment : ℕ} {turns more : List Turn}
       → InRounds told passes first turns old → store_behind some_wait turns ≡ all_kept
-      → passes old passed → told passed moment last
+      → passes old slept passed → told passed moment last
       → IsRound moment more → InRounds told passes first (turns ++ more) last
 
 -- ---- the lines of text

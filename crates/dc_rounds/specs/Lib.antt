@@ -14,6 +14,8 @@ pub mod Keeping
 pub mod Station
 -- what a round does
 pub mod Round
+-- when a poll may sleep
+pub mod Waiting
 -- what a poll does, round after round
 pub mod Polls
 -- the clock of a poll and the time stamps of the register

@@ -3,6 +3,7 @@ use Rattle.std.specs.Prelude.{◌≡◌, ℕ, ◌+◌, ◌-◌, ◌<◌, ◌^◌
 use Rattle.std.specs.Prelude.{◌==◌, List, [], map, filter, flat_map, length, take, slice_get}
 use Rattle.std.specs.Prelude.{slice_index_or, if◌then◌else◌, Option, None, Some, is_some}
 use Rattle.std.specs.List.{list_any}
+use Rattle.std.specs.Map.{keys_of}
 use Rattle.std.specs.Ordering.{is_eq}
 use Rattle.dc_address.specs.Identity.{identity_cmp}
 use Rattle.dc_address.specs.declared.identity.Identity.{Identity}
@@ -32,7 +33,11 @@ abbrev pub queue_on : State → List Identity → ℕ → Bool → List Identity
 queue_on state only line true = []
 queue_on state only line false = wanted_on state only line
 
--- ---- the meters that are named and can't be read
+-- ---- the meters that can't be read
+
+-- The meters that are to be read: those that are named, or if none is named all of the register, in order of identity.
+abbrev pub asked_for : List Identity → State → List Identity
+asked_for only state = if length only == 0 then keys_of state.meters else only
 
 abbrev pub is_live : {B : Type 0} → (B → Bool) → Option B → Bool
 is_live lost None = false
@@ -58,15 +63,15 @@ abbrev pub refusal_line : Identity → Option StartFault → List ℕ
 refusal_line meter None = []
 refusal_line meter (Some fault) = told_line 0 (was_refused meter (Start fault))
 
--- a line of text each time such a meter is named, in order
+-- a line of text for each of these meters that can't be read, in order
 abbrev pub refused_text : (ℕ → Bool) → State → List Identity → List ℕ
-refused_text connected state only =
-    flat_map (λ meter. refusal_line meter (refusal_of connected state meter)) only
+refused_text connected state meters =
+    flat_map (λ meter. refusal_line meter (refusal_of connected state meter)) meters
 
 -- number of these lines
 abbrev pub refused_count : (ℕ → Bool) → State → List Identity → ℕ
-refused_count connected state only =
-    length (filter (λ meter. is_some (refusal_of connected state meter)) only)
+refused_count connected state meters =
+    length (filter (λ meter. is_some (refusal_of connected state meter)) meters)
 
 -- ---- the lines
 

@@ -15,7 +15,7 @@ use Rattle.dc_rounds.specs.Happening.{tells, happened_on, happened_text, happene
 use Rattle.dc_rounds.specs.Happening.{failures_in, newest_serial, newest_parts}
 use Rattle.dc_rounds.specs.declared.end.End.{End}
 use Rattle.dc_rounds.specs.declared.end.End.TheVariants.{Read, Failed, Refused}
-use Rattle.dc_rounds.specs.declared.outcome.Outcome.{Outcome}
+use Rattle.dc_rounds.specs.declared.outcome.Counts.{Counts}
 use Rattle.dc_io.specs.Words.{number_word}
 use Rattle.dc_sectors.specs.declared.device.Disk.{Ghosts}
 use Rattle.dc_rounds.specs.Keeping.{AreTrue, IsHearing, IsSettled, Store}
@@ -171,13 +171,13 @@ told_of state (Read meter) = was_read meter (newest_serial meter state) (newest_
 told_of state (Failed meter why) = has_failed meter why
 told_of state (Refused meter refusal) = was_refused meter refusal
 
-abbrev pub counted : End → Outcome → Outcome
+abbrev pub counted : End → Counts → Counts
 counted (Read meter) outcome = record outcome { read = outcome.read + 1 }
 counted (Failed meter why) outcome = record outcome { failed = outcome.failed + 1 }
 counted (Refused meter refusal) outcome = record outcome { failed = outcome.failed + 1 }
 
 -- Lines of text are written, each of them true, after a commit, and no turn is taken.
-pub record AreWritten (wrote : List ℕ → Type 0) (was now : Outcome) (core : Core)
+pub record AreWritten (wrote : List ℕ → Type 0) (was now : Counts) (core : Core)
     (happened : List Happening)
     : Type 0 where
   pub text : wrote (happened_text happened)
@@ -188,14 +188,14 @@ pub record AreWritten (wrote : List ℕ → Type 0) (was now : Outcome) (core : 
 
 -- of one line
 pub record Tells {B : Type 0} (g : Bus B) (line : ℕ) (old new : Station B) (wrote : List ℕ → Type 0)
-    (was now : Outcome) (core : Core) (happened : List Happening) : Type 0 where
+    (was now : Counts) (core : Core) (happened : List Happening) : Type 0 where
   pub moves : (tries : ℕ) → Moves g tries line old new happened
   pub written : AreWritten wrote was now core happened
 
 -- of all
 pub record AllTells {B : Type 0} (g : Bus B) (olds news : List (Station B))
     (wrote : List ℕ → Type 0)
-    (was now : Outcome) (core : Core) (happened : List Happening) : Type 0 where
+    (was now : Counts) (core : Core) (happened : List Happening) : Type 0 where
   pub rounds : (tries : ℕ) → Rounds g tries olds news happened
   pub written : AreWritten wrote was now core happened
 

@@ -3,13 +3,15 @@
 ghost use Rattle.std.specs.Prelude.{◌≡◌, ◌<◌, ◌≤◌, ◌-◌, ◌^◌, IfErr, IfOk, IsErrOf, OnErr, OnOk, []};
 ghost use Rattle.std.specs.Prelude.{MatchResult, length, map, min};
 ghost use Rattle.dc_io.specs.Failures.{HasRisen};
-ghost use Rattle.dc_poller.specs.Fault.{IfOpen};
+ghost use Rattle.dc_poller.specs.Fault.{IfOpen, IsOfImage};
 ghost use Rattle.dc_recovery.specs.Halves.{half_of};
 ghost use Rattle.dc_pending.specs.Images.{IsRefused, EachStands, StandsForOne};
 ghost use Rattle.dc_recovery.specs.Refusal.{TellsOfImage};
 ghost use Rattle.dc_recovery.specs.declared.fault.OpenFault.TheVariants.{NotImage, Worn, Device};
 ghost use Rattle.dc_rounds.specs.ImagePoll.{ImageTurned, PlanPolled};
-ghost use Rattle.dc_rounds.specs.Planned.{AreQueues, AreStations, has_bus, is_wanted, queue_on};
+ghost use Rattle.std.specs.Map.{keys_of};
+ghost use Rattle.dc_rounds.specs.Planned.{AreQueues, AreStations, asked_for, has_bus, is_wanted};
+ghost use Rattle.dc_rounds.specs.Planned.{queue_on};
 ghost use Rattle.dc_rounds.specs.Planned.{refusal_line, refusal_of, refused_count, refused_text};
 ghost use Rattle.dc_rounds.specs.Planned.{wanted_on};
 ghost use Rattle.dc_rounds.specs.Round.{Runs, most_lines};
@@ -20,7 +22,7 @@ use crate::clock::compare_clock;
 use crate::end::Refusal;
 use crate::ending::put_refused;
 use crate::lines::line_at;
-use crate::outcome::Outcome;
+use crate::outcome::{Counts, Outcome};
 use crate::readout::read_on;
 use crate::station::Station;
 use crate::timer::Timer;
@@ -42,16 +44,17 @@ pub struct Plan<'a, A: Allocator, B: QuietBus + Drop> {
     /// The buses of lines 1, 2 and so on, of which eight are used. A bus that is lost from the
     /// start counts as none.
     pub buses: Vec<B, A>,
-    /// The meters to read; if empty, all meters of the lines that have a bus.
+    /// The meters to read; if empty, all of the register.
     pub only: &'a [Identity],
     /// Maximum number of starts of each meter, at least 1.
     pub tries: u8,
 }
 
 /// Opens the image, reads its registered meters over the buses of their lines, each line's in order of identity, and
-/// closes it. The text is that of [`read_all`](crate::read_all). Before it, for each meter that is named and can't be
-/// read, `REFUSED ident 2 Unknown` is written where it isn't registered, and `REFUSED ident 1 NoLine` where its line
-/// has no bus; these count as failed. A line without a bus is never written to be lost. Before anything is asked the
+/// closes it. The text is that of [`read_all`](crate::read_all). Before it, for each meter that is to be read and can't
+/// be, `REFUSED ident 2 Unknown` is written where it isn't registered, and `REFUSED ident 1 NoLine` where its line
+/// has no bus; these count as failed. To be read are the meters that are named, or if none is, all of the register. A
+/// line without a bus is never written to be lost. Before anything is asked the
 /// timer is warned where its moment lies before the newest time stamp of the register. The disk comes back whatever
 /// happens.
 ///
@@ -99,6 +102,7 @@ pub fn poll_image<D: Disk + Drop, A: Allocator + Copy, B: QuietBus + Drop, T: Ti
         (StandsForOne (half_of D.Disk disk) (D.choices disk)))) }
     ensures unopened { IfErr result.1 (λ fault.
         IfOpen fault (λ e. (out.new ≡ out.old) × (timer.new ≡ timer.old))) }
+    ensures faults { IfErr result.1 IsOfImage }
 
     ensures write { IsErrOf result.1 ProgramFault.Write
         → HasRisen (W.put_failures out.old) (W.put_failures out.new) }
@@ -129,6 +133,7 @@ fn poll<D: Disk + Drop, A: Allocator + Copy, B: QuietBus + Drop, T: Timer<B>, W:
     ensures write { IsErrOf result ProgramFault.Write
         → HasRisen (W.put_failures out.old) (W.put_failures out.new) }
     ensures opened { IfErr result (λ fault. IfOpen fault (λ e. ⊥)) }
+    ensures faults { IfErr result IsOfImage }
 {
     let Plan {
         mut buses,
@@ -144,12 +149,21 @@ fn poll<D: Disk + Drop, A: Allocator + Copy, B: QuietBus + Drop, T: Timer<B>, W:
         Ok(stations) => stations,
         Err(_) => return Err(ProgramFault::NoMemory),
     };
-    let failed = match refuse_others(concentrator.house(), stations.as_slice(), only, out) {
+    let wanted = match asked_for(alloc, concentrator.house(), only) {
+        Ok(wanted) => wanted,
+        Err(_) => return Err(ProgramFault::NoMemory),
+    };
+    let failed = match refuse_others(
+        concentrator.house(),
+        stations.as_slice(),
+        wanted.as_slice(),
+        out,
+    ) {
         Ok(failed) => failed,
         Err(_) => return Err(ProgramFault::Write),
     };
     compare_clock(concentrator.house(), timer);
-    let before = Outcome { read: 0, failed };
+    let before = Counts { read: 0, failed };
     match read_on(
         concentrator,
         stations.as_mut_slice(),
@@ -250,24 +264,50 @@ fn stations_of<'a, A: Allocator + Copy, B: QuietBus + Drop>(
     Ok(stations)
 }
 
-// For each naming of a meter that can't be read, a line of text is written. How many.
+// The meters that are to be read: those that are named, or all of the register.
+fn asked_for<A: Allocator + Copy>(
+    alloc: A,
+    house: &House<A>,
+    only: &[Identity],
+) -> Result<Vec<Identity, A>, NoMemory>
+    ensures { IfOk result (λ wanted. wanted.items ≡ asked_for only.now house.now.state) }
+{
+    if only.is_empty() {
+        return registered(alloc, house);
+    }
+    Ok(Vec::from_slice(alloc, only)?)
+}
+
+// The meters of the register, in order of identity.
+fn registered<A: Allocator + Copy>(alloc: A, house: &House<A>) -> Result<Vec<Identity, A>, NoMemory>
+    ensures { IfOk result (λ all. all.items ≡ keys_of house.now.state.meters) }
+{
+    let mut all = Vec::new(alloc);
+    'meters: for (meter, _) in house.meters() {
+        all.push(*meter)?;
+    }
+    Ok(all)
+}
+
+// For each of these meters that can't be read, a line of text is written. How many.
 #[tactic(auto, using(dc_io::proofs::Pieces::written))]
 fn refuse_others<A: Allocator + Copy, B: QuietBus + Drop, W: Sink>(
     house: &House<A>,
     stations: &[Station<'_, B>],
-    only: &[Identity],
+    wanted: &[Identity],
     out: &mut W,
 ) -> Result<u64, IoFault>
     ensures text { OnOk result (PutsInto W.Sink out.old out.new
-        (refused_text (has_bus B.lost (map (λ s. s.bus) stations.now)) house.now.state only.now)) }
+        (refused_text (has_bus B.lost (map (λ s. s.bus) stations.now)) house.now.state
+        wanted.now)) }
     ensures fault { OnErr result (HasRisen (W.put_failures out.old) (W.put_failures out.new)) }
     ensures well { OnOk result (W.put_failures out.new ≡ W.put_failures out.old) }
     ensures count { IfOk result (λ refused. refused
         ≡ min (2 ^ 32 - 1) (refused_count
-        (has_bus B.lost (map (λ s. s.bus) stations.now)) house.now.state only.now)) }
+        (has_bus B.lost (map (λ s. s.bus) stations.now)) house.now.state wanted.now)) }
 {
     let mut refused: u32 = 0;
-    'meters: for meter in only {
+    'meters: for meter in wanted {
         let refusal = refusal_of(house, stations, meter);
         put_refusal(out, meter, refusal)?;
         refused = refused.saturating_add(u32::from(refusal.is_some()));

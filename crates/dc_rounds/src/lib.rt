@@ -22,6 +22,7 @@ mod station;
 mod stepping;
 mod telling;
 mod timer;
+mod waiting;
 
 pub use end::{End, Refusal};
 pub use image::{Plan, poll_image};
@@ -30,8 +31,9 @@ pub use laws::{
     what_is_committed_waits_no_more, what_is_read_is_committed, what_is_read_is_not_begun_again,
     where_nothing_fails_every_meter_is_read,
 };
-pub use outcome::Outcome;
+pub use outcome::{Counts, Outcome};
 pub use phase::{Phase, Request};
 pub use readout::read_all;
 pub use station::Station;
 pub use timer::Timer;
+pub use waiting::is_awaited;

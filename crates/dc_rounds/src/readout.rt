@@ -1,23 +1,24 @@
 //! Many meters on several lines at once, round after round.
 
 ghost use Rattle.std.specs.Prelude.{◌≡◌, ◌⊎◌, ◌<◌, ◌≤◌, ◌-◌, ◌+◌, ◌^◌, ◌++◌, ℕ, List, [], length};
-ghost use Rattle.std.specs.Prelude.{OnOk, OnErr, IfOk, min, true};
-ghost use Rattle.std.specs.List.{All};
+ghost use Rattle.std.specs.Prelude.{OnOk, OnErr, IfOk, None, min, true};
+ghost use Rattle.std.specs.List.{All, list_all};
 ghost use Rattle.dc_io.specs.Failures.{HasRisen};
 ghost use Rattle.dc_io.specs.Written.{PutsInto, Wrote};
-ghost use Rattle.dc_rounds.specs.Polls.{GoesRound, Polled, PollsAll};
+ghost use Rattle.dc_rounds.specs.Polls.{GoesRound, Polled, PollsAll, fault_of};
 ghost use Rattle.dc_rounds.specs.Round.{EachFewer, HasFew, IsFresh, IsOver, Runs, end_line};
 ghost use Rattle.dc_rounds.specs.Round.{lates_from, meters_left, most_lines};
 ghost use Rattle.dc_rounds.specs.Station.{IsSound, rounds_of};
+ghost use Rattle.dc_rounds.specs.Waiting.{is_done as is_done_with};
 
 use crate::ending::{put_end, put_late};
 use crate::lines::{ask_all, commit_all, hear_and_commit, line_at};
-use crate::outcome::Outcome;
-use crate::phase::Phase;
+use crate::outcome::{Counts, Outcome};
 use crate::station::Station;
 use crate::telling::tell_all;
 use crate::timer::Timer;
-use dc_core::Concentrator;
+use crate::waiting::{is_done, may_sleep};
+use dc_core::{CommitFault, Concentrator};
 use dc_io::{IoFault, Sink};
 use dc_line::QuietBus;
 use dc_sectors::Disk;
@@ -29,46 +30,57 @@ const MOST_ROUNDS: u64 = 65_535 * 255 * ROUNDS_A_START + ROUNDS_A_START;
 // This many rounds one start takes at most: until its bus is ready, and for each request and its answer.
 const ROUNDS_A_START: u64 = 4_259_843 + 103 * 65_538 + 1;
 
-// One round. Whether all is kept.
+// One round. The fault of its commit, if there was one.
 fn round<D: Disk + Drop, A: Allocator + Copy, B: QuietBus + Drop, T: Timer<B>, W: Sink>(
     concentrator: &mut Concentrator<D, A>,
     stations: &mut [Station<'_, B>],
     tries: u8,
     timer: &mut T,
-    outcome: &mut Outcome,
+    counts: &mut Counts,
     out: &mut W,
-) -> Result<bool, IoFault>
+) -> Result<Option<CommitFault>, IoFault>
     requires lines { length stations.old ≤ most_lines }
     requires sound { All (IsSound B.QuietBus tries) stations.old }
-    requires few { outcome.old.read + outcome.old.failed + most_lines < 2 ^ 64 }
-    ensures went { Runs D.Disk (λ core happened. IfOk result (λ kept.
-        GoesRound B.QuietBus T.tells T.passes tries kept stations.old stations.new timer.old timer.new
-        (PutsInto W.Sink out.old out.new) outcome.old outcome.new core happened))
+    requires few { counts.old.read + counts.old.failed + most_lines < 2 ^ 64 }
+    ensures went { Runs D.Disk (λ core happened. IfOk result (λ fault.
+        GoesRound B.QuietBus T.tells T.passes tries fault stations.old stations.new
+        timer.old timer.new (PutsInto W.Sink out.old out.new) counts.old counts.new core happened))
         concentrator.old concentrator.new }
     ensures sound { OnOk result (All (IsSound B.QuietBus tries) stations.new) }
-    ensures fewer { IfOk result (λ kept. kept ≡ true → EachFewer (rounds_of B.QuietBus 1 1 1 tries)
-        (rounds_of B.QuietBus 1 1 1 tries) 1 stations.old stations.new) }
-    ensures few { OnOk result (outcome.new.read + outcome.new.failed
-        ≤ outcome.old.read + outcome.old.failed + most_lines) }
+    ensures fewer { IfOk result (λ fault. fault ≡ None
+        → EachFewer (rounds_of B.QuietBus 1 1 1 tries) (rounds_of B.QuietBus 1 1 1 tries) 1 stations.old stations.new) }
+    ensures few { OnOk result (counts.new.read + counts.new.failed
+        ≤ counts.old.read + counts.old.failed + most_lines) }
     ensures budget { concentrator.new.house.budget ≡ concentrator.old.house.budget }
     ensures fault { OnErr result (HasRisen (W.put_failures out.old) (W.put_failures out.new)) }
     ensures well { OnOk result (W.put_failures out.new ≡ W.put_failures out.old) }
 {
     ask_all(concentrator, stations, tries);
-    timer.pause(stations);
+    let sleeps = may_sleep(stations);
+    timer.pause(stations, sleeps);
     let moment = timer.now();
     let stored = hear_and_commit(concentrator, stations, tries, moment);
-    match tell_all(concentrator, stations, outcome, out) {
-        Ok(()) => Ok(stored.is_ok()),
+    match tell_all(concentrator, stations, counts, out) {
+        Ok(()) => Ok(fault_of(stored)),
         Err(fault) => Err(fault),
+    }
+}
+
+// The fault of a commit, if it returned one.
+fn fault_of(stored: Result<(), CommitFault>) -> Option<CommitFault>
+    ensures { result ≡ fault_of stored }
+{
+    match stored {
+        Ok(()) => None,
+        Err(fault) => Some(fault),
     }
 }
 
 // Whether no meter is left.
 fn is_over<B: QuietBus + Drop>(stations: &[Station<'_, B>]) -> bool
-    ensures { result ≡ true → All IsOver stations.now }
+    ensures { result ≡ list_all (λ s. is_done_with s) stations.now }
 {
-    stations.iter().all(|station| station.left.is_empty() && matches!(station.phase, Phase::Free))
+    stations.iter().all(|station| is_done(station))
 }
 
 // Round after round, until no meter is left, or a commit returned a fault.
@@ -77,7 +89,7 @@ fn read_rounds<D: Disk + Drop, A: Allocator + Copy, B: QuietBus + Drop, T: Timer
     stations: &mut [Station<'_, B>],
     tries: u8,
     timer: &mut T,
-    before: Outcome,
+    before: Counts,
     out: &mut W,
 ) -> Result<Outcome, IoFault>
     requires lines { length stations.old ≤ most_lines }
@@ -92,22 +104,33 @@ fn read_rounds<D: Disk + Drop, A: Allocator + Copy, B: QuietBus + Drop, T: Timer
     ensures fault { OnErr result (HasRisen (W.put_failures out.old) (W.put_failures out.new)) }
     ensures well { OnOk result (W.put_failures out.new ≡ W.put_failures out.old) }
 {
-    let mut outcome = before;
+    let mut counts = before;
     match commit_all(concentrator, stations) {
         Ok(()) => {}
-        Err(_) => return Ok(outcome),
+        Err(fault) => return Ok(outcome_of(counts, Some(fault))),
     }
     'rounds: for _ in 0..MOST_ROUNDS {
         if is_over(stations) {
-            return Ok(outcome);
+            return Ok(outcome_of(counts, None));
         }
-        match round(concentrator, stations, tries, timer, &mut outcome, out) {
-            Ok(true) => {}
-            Ok(false) => return Ok(outcome),
+        match round(concentrator, stations, tries, timer, &mut counts, out) {
+            Ok(None) => {}
+            Ok(Some(fault)) => return Ok(outcome_of(counts, Some(fault))),
             Err(fault) => return Err(fault),
         }
     }
-    Ok(outcome)
+    Ok(outcome_of(counts, None))
+}
+
+// These counts, and the fault of the commit that ended the poll.
+fn outcome_of(counts: Counts, fault: Option<CommitFault>) -> Outcome
+    ensures { result ≡ record { read = counts.read; failed = counts.failed; fault = fault } }
+{
+    Outcome {
+        read: counts.read,
+        failed: counts.failed,
+        fault,
+    }
 }
 
 // How many meters are left on these lines.
@@ -148,6 +171,7 @@ fn finish<B: QuietBus + Drop, W: Sink>(
     ensures counts { IfOk result (λ outcome. outcome ≡ record {
       read = between.read;
       failed = min (2 ^ 64 - 1) (between.failed + meters_left stations.now);
+      fault = between.fault;
     }) }
     ensures text { IfOk result (λ outcome. PutsInto W.Sink out.old out.new
         (lates_from B.QuietBus 1 stations.now ++ end_line outcome.read outcome.failed)) }
@@ -159,6 +183,7 @@ fn finish<B: QuietBus + Drop, W: Sink>(
         Ok(()) => Ok(Outcome {
             read: between.read,
             failed,
+            fault: between.fault,
         }),
         Err(fault) => Err(fault),
     }
@@ -186,8 +211,8 @@ fn put_finish<B: QuietBus + Drop, W: Sink>(
 /// the requests of the concentrator go out, and nothing else, and it hears what the bus gave. Each
 /// round commits its telegrams, and then writes how readouts ended: `READ`, `FAILED` or `REFUSED`,
 /// and `LINE n LOST` once for each line that became lost. If a commit returns a fault, the poll
-/// ends. At the end `LATE line n` is written for each line on which n late answers were dropped,
-/// and `END read failed`.
+/// ends, and the outcome has that fault. At the end `LATE line n` is written for each line on which
+/// n late answers were dropped, and `END read failed`.
 ///
 /// # Errors
 /// A write failed.
@@ -214,7 +239,7 @@ pub fn read_all<D: Disk + Drop, A: Allocator + Copy, B: QuietBus + Drop, T: Time
         stations,
         tries,
         timer,
-        Outcome { read: 0, failed: 0 },
+        Counts { read: 0, failed: 0 },
         out,
     )
 }
@@ -231,7 +256,7 @@ pub(crate) fn read_on<
     stations: &mut [Station<'_, B>],
     tries: u8,
     timer: &mut T,
-    before: Outcome,
+    before: Counts,
     out: &mut W,
 ) -> Result<Outcome, IoFault>
     requires lines { length stations.old ≤ most_lines }

@@ -7,6 +7,7 @@ ghost use Rattle.dc_line.specs.Bus.{most_waits};
 ghost use Rattle.dc_rounds.specs.Queue.{most_asks};
 ghost use Rattle.dc_rounds.specs.Station.{IsAfter, Listens, after_answer, ended, is_answered};
 ghost use Rattle.dc_rounds.specs.Station.{lost_by, next_pass, put_off, stored_by, taken_of};
+ghost use Rattle.dc_rounds.specs.Waiting.{is_sent};
 ghost use Rattle.dc_rounds.specs.declared.end.End.TheVariants.{Read, Refused};
 ghost use Rattle.dc_rounds.specs.declared.end.Refusal.TheVariants.{Start};
 ghost use Rattle.dc_rounds.specs.declared.phase.Phase.TheVariants.{Free, Busy};
@@ -66,7 +67,7 @@ impl<'a, B: QuietBus + Drop> Station<'a, B> {
 
     /// Whether a request is out without an answer yet.
     pub fn is_waiting(&self) -> bool
-        ensures { result ≡ true → self.now.request ≡ Sent }
+        ensures { result ≡ is_sent self.now.request }
     {
         matches!(self.request, Request::Sent)
     }

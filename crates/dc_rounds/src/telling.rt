@@ -8,13 +8,13 @@ ghost use Rattle.dc_rounds.specs.Happening.{told_line};
 ghost use Rattle.dc_rounds.specs.Round.{AllTells, EachFewer, Runs, Tells, counted, most_lines};
 ghost use Rattle.dc_rounds.specs.Round.{told_of};
 ghost use Rattle.dc_rounds.specs.Station.{IsSound, rounds_of};
-ghost use Rattle.dc_rounds.specs.declared.outcome.Outcome.{Outcome as Counts};
+ghost use Rattle.dc_rounds.specs.declared.outcome.Counts.{Counts as Counted};
 
 use crate::end::End;
 use crate::ending::{put_failed, put_lost, put_read, put_refused};
 use crate::lines::line_at;
 use crate::newest::{newest_parts, newest_serial};
-use crate::outcome::Outcome;
+use crate::outcome::Counts;
 use crate::phase::Phase;
 use crate::station::Station;
 use dc_core::Concentrator;
@@ -29,7 +29,7 @@ fn put_told<A: Allocator + Copy, W: Sink>(
     house: &House<A>,
     line: u8,
     end: &End,
-    outcome: &mut Outcome,
+    outcome: &mut Counts,
     out: &mut W,
 ) -> Result<(), IoFault>
     requires { outcome.old.read + outcome.old.failed < 2 ^ 64 - 1 }
@@ -59,7 +59,7 @@ fn tell_end<D: Disk + Drop, A: Allocator + Copy, B: QuietBus + Drop, W: Sink>(
     concentrator: &Concentrator<D, A>,
     station: &mut Station<'_, B>,
     line: u8,
-    outcome: &mut Outcome,
+    outcome: &mut Counts,
     out: &mut W,
 ) -> Result<(), IoFault>
     requires { outcome.old.read + outcome.old.failed < 2 ^ 64 - 1 }
@@ -90,7 +90,7 @@ fn tell_loss<D: Disk + Drop, A: Allocator + Copy, B: QuietBus + Drop, W: Sink>(
     line: u8,
     out: &mut W,
 ) -> Result<(), IoFault>
-    ensures went { (outcome : Counts)
+    ensures went { (outcome : Counted)
         → Runs D.Disk (λ core happened. OnOk result (Tells B.QuietBus line station.old station.new
         (PutsInto W.Sink out.old out.new) outcome outcome core happened))
         concentrator.now concentrator.now }
@@ -115,7 +115,7 @@ fn tell<D: Disk + Drop, A: Allocator + Copy, B: QuietBus + Drop, W: Sink>(
     concentrator: &Concentrator<D, A>,
     station: &mut Station<'_, B>,
     line: u8,
-    outcome: &mut Outcome,
+    outcome: &mut Counts,
     out: &mut W,
 ) -> Result<(), IoFault>
     requires { outcome.old.read + outcome.old.failed < 2 ^ 64 - 1 }
@@ -142,7 +142,7 @@ fn tell<D: Disk + Drop, A: Allocator + Copy, B: QuietBus + Drop, W: Sink>(
 pub fn tell_all<D: Disk + Drop, A: Allocator + Copy, B: QuietBus + Drop, W: Sink>(
     concentrator: &Concentrator<D, A>,
     stations: &mut [Station<'_, B>],
-    outcome: &mut Outcome,
+    outcome: &mut Counts,
     out: &mut W,
 ) -> Result<(), IoFault>
     requires lines { length stations.old ≤ most_lines }

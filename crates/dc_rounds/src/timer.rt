@@ -6,12 +6,12 @@ use dc_line::QuietBus;
 
 /// What tells the time of a poll, and lets time pass between two rounds.
 pub trait Timer<B: QuietBus + Drop> {
-    // That it told this moment, that time passed, and that it was warned.
-    ghost use Rattle.std.specs.Prelude.{ℕ};
+    // That it told this moment, that time passed, where it may have slept or not, and that it was warned.
+    ghost use Rattle.std.specs.Prelude.{ℕ, Bool};
 
     ghost tells: { Self → ℕ → Self → Type 0 };
 
-    ghost passes: { Self → Self → Type 0 };
+    ghost passes: { Self → Bool → Self → Type 0 };
 
     ghost warns: { Self → Self → Type 0 };
 
@@ -19,9 +19,10 @@ pub trait Timer<B: QuietBus + Drop> {
     fn now(&mut self) -> Moment
         ensures { tells self.old result.seconds self.new };
 
-    /// Waits until a bus may have more of an answer, or a short time where no request is out.
-    fn pause(&mut self, stations: &[Station<'_, B>])
-        ensures { passes self.old self.new };
+    /// The requests of a round are out. Where it may sleep, it waits until one of the buses that are
+    /// [awaited](crate::is_awaited) may have more; where it may not, a line goes on without that.
+    fn pause(&mut self, stations: &[Station<'_, B>], may_sleep: bool)
+        ensures { passes self.old may_sleep self.new };
 
     /// Its moment lies before the newest time stamp of the register: later telegrams will have a wrong one.
     fn warn(&mut self)

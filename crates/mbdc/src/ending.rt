@@ -52,7 +52,11 @@ fn put_line(rt: &HostRuntime, ending: &Ending) -> Result<(), IoFault> {
 
 /// Prints on a second line why the run failed, if the system gave a reason.
 pub fn told_why(rt: &HostRuntime, ending: &Ending, why: &Why) {
-    if let Ending::File(_) | Ending::Gateway | Ending::Format(_) | Ending::Open(_) = ending
+    if let Ending::File(_)
+    | Ending::Gateway
+    | Ending::Format(_)
+    | Ending::Open(_)
+    | Ending::Disk(_) = ending
         && let Some(reason) = why.last()
         && let Ok(line) = reason_line(rt.alloc(), &reason)
     {

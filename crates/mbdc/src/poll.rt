@@ -2,10 +2,11 @@
 
 ghost use Rattle.std.specs.Prelude.{◌<◌};
 
-use crate::connecting::connect_all;
 use crate::host::Host;
 use crate::image::open_image;
+use crate::lasting::Lasting;
 use crate::progress::{Counted, Progress};
+use crate::reaching::reach_all;
 use crate::why::Noted;
 use dc_changes::Moment;
 use dc_events::EventSink;
@@ -13,10 +14,11 @@ use dc_io::WriteSink;
 use dc_line::QuietBus;
 use dc_links::{LinkBus, Peer, SystemBus, Watch};
 use dc_poller::{Ending, ProgramFault, ending_of};
-use dc_rounds::{Outcome, Phase, Plan, Station, Timer, poll_image};
+use dc_rounds::{Outcome, Plan, Station, Timer, is_awaited, poll_image};
 use dc_sectors::FileDisk;
 use dc_words::PollTask;
 use std::alloc::Global;
+use std::cell::Cell;
 use std::fs::{File, OpenFile};
 use std::io;
 use std::io::LineWriter;
@@ -39,7 +41,7 @@ impl<C: Clock + Copy + Eprint> Timer<SystemBus<'_, C>> for SystemTimer<'_, '_, C
 
     ghost tells = { λ _ _ _. ⊤ };
 
-    ghost passes = { λ _ _. ⊤ };
+    ghost passes = { λ _ _ _. ⊤ };
 
     ghost warns = { λ _ _. ⊤ };
 
@@ -53,9 +55,9 @@ impl<C: Clock + Copy + Eprint> Timer<SystemBus<'_, C>> for SystemTimer<'_, '_, C
         self.last
     }
 
-    fn pause(&mut self, stations: &[Station<'_, SystemBus<'_, C>>]) {
+    fn pause(&mut self, stations: &[Station<'_, SystemBus<'_, C>>], may_sleep: bool) {
         self.progress.show(stations);
-        if !any_goes_on(stations) {
+        if may_sleep {
             awaited(stations).wait();
         }
     }
@@ -65,11 +67,6 @@ impl<C: Clock + Copy + Eprint> Timer<SystemBus<'_, C>> for SystemTimer<'_, '_, C
             .clock
             .eprint("mbdc: clock: behind the newest reading\n");
     }
-}
-
-// Whether a line has a request out, or isn't ready for one.
-fn is_awaited<B: QuietBus + Drop>(station: &Station<'_, B>) -> bool {
-    station.is_waiting() || !station.bus.is_ready()
 }
 
 // A bus that can be waited for.
@@ -95,17 +92,6 @@ fn awaited<B: QuietBus + Watched + Drop>(stations: &[Station<'_, B>]) -> Watch {
     watch
 }
 
-// Whether a line goes on without an answer: the end of a readout is printed, or the next one begins.
-fn any_goes_on<B: QuietBus + Drop>(stations: &[Station<'_, B>]) -> bool {
-    for station in stations {
-        let has_more = !station.left.is_empty() || matches!(station.phase, Phase::Over(_));
-        if has_more && !is_awaited(station) {
-            return true;
-        }
-    }
-    false
-}
-
 /// Reads the registered meters of the image in that file over the links of their lines, or only
 /// those that are named.
 pub fn poll_on_image<'a, R>(host: &Host<'_, R>, task: &PollTask<'a>) -> Ending<'a>
@@ -120,7 +106,7 @@ where
         Ok(disk) => disk,
         Err(error) => return host.why.file(task.image, error),
     };
-    let peers = match connect_all(host, &task.links) {
+    let peers = match reach_all(host, &task.links) {
         Ok(peers) => peers,
         Err(ending) => return ending,
     };
@@ -134,12 +120,18 @@ where
         tries: task.tries.max(1),
     };
     match poll(host, disk, plan, task.is_json) {
+        Ok(
+            Outcome {
+                fault: Some(fault),
+                ..
+            },
+        ) => Ending::Disk(fault),
         Ok(outcome) => ending_of(Ok(outcome.failed > 0), task.image),
         Err(fault) => ending_of(Err(fault), task.image),
     }
 }
 
-// Reads the meters of the plan. What is printed goes out line by line.
+// Reads the meters of the plan. What is printed goes out line by line; where it can't be, the poll goes on without.
 fn poll<D, R>(
     host: &Host<'_, R>,
     disk: FileDisk<D>,
@@ -156,8 +148,9 @@ where
         return Err(ProgramFault::NoMemory);
     };
     let progress = Progress::new(*host);
+    let has_failed = Cell::new(false);
     let mut out = WriteSink::new(Counted {
-        writer,
+        writer: Lasting::new(writer, &has_failed),
         progress: &progress,
         is_begin: true,
     });
@@ -174,10 +167,11 @@ where
         poll_image(alloc, disk, plan, &mut timer, &mut out)
     };
     progress.clear();
-    if !matches!(outcome, Err(ProgramFault::Write)) && out.flush().is_err() {
-        return Err(ProgramFault::Write);
+    let is_flushed = out.flush().is_ok() && !has_failed.get();
+    match outcome {
+        Ok(Outcome { fault: None, .. }) if !is_flushed => Err(ProgramFault::Write),
+        _ => outcome,
     }
-    outcome
 }
 
 // The bus of each line; one without a link is absent.

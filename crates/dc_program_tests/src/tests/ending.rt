@@ -1,5 +1,6 @@
 //! Each status and each line.
 
+use dc_core::CommitFault;
 use dc_io::{Bytes, FixedSink, IoFault, Sink};
 use dc_poller::{Ending, ProgramFault, ending_of};
 use dc_recovery::{FormatFault, OpenFault};
@@ -54,6 +55,12 @@ fn a_store_is_told_with_number_and_name(rt: HostRuntime) -> Result<(), Fail> {
     assert_eq!(rt;
         line_of(rt.alloc(), &ending)?.as_slice(),
         b"mbdc: open: 1 NotImage\n".as_slice()
+    );
+    let ending = Ending::Disk(CommitFault::Device);
+    assert_eq!(rt; ending.status(), 3);
+    assert_eq!(rt;
+        line_of(rt.alloc(), &ending)?.as_slice(),
+        b"mbdc: disk: 1 Device\n".as_slice()
     );
     Ok(())
 }

@@ -4,6 +4,7 @@ use super::house::{Kind, Row, SHORT, lines_of, registered};
 use super::polling::{NEW_YEAR, Polled, StayingClock, poll, poll_at, tells_all, text_of};
 use super::promises::holds_readings;
 use dc_changes::Moment;
+use dc_core::CommitFault;
 use dc_io::FixedSink;
 use dc_poller::ProgramFault;
 use dc_recovery::OpenFault;
@@ -32,7 +33,12 @@ pub fn goes_on(
 ) -> Result<(), Fail> {
     let before = holds_readings(rt, heap, disk.copy()?, &SMALL, text)?;
     let again = poll(heap, disk, lines_of(heap, heap, &SMALL)?)?;
-    assert_eq!(rt; again.outcome, Ok(Outcome { read: 4, failed: 0 }));
+    let all = Outcome {
+        read: 4,
+        failed: 0,
+        fault: None,
+    };
+    assert_eq!(rt; again.outcome, Ok(all));
     let held = holds_readings(rt, heap, again.disk.copy()?, &SMALL, text)?;
     assert_eq!(rt; held, before.saturating_add(4));
     Ok(())
@@ -58,6 +64,7 @@ fn is_stopped_by_the_disk(rt: &impl Abort, polled: &Polled) -> Result<(), Fail> 
     let text = text_of(polled)?;
     match polled.outcome {
         Ok(outcome) => {
+            assert_eq!(rt; outcome.fault, Some(CommitFault::Device));
             assert_eq!(rt; outcome.read.saturating_add(outcome.failed), 4);
             assert!(rt; outcome.failed > 0);
             says_only(rt, text, " 1 Device");

@@ -43,6 +43,7 @@ const HOUSE: [Row; 24] = [
 const ENDED: Outcome = Outcome {
     read: 15,
     failed: 9,
+    fault: None,
 };
 
 // Each answer is complete at the first to the fourth look.
@@ -109,6 +110,15 @@ const FIVE: [Row; 5] = [
     Row("00000051.PAD.01.07", 5, Some(1), ONE, SHORT),
 ];
 
+// Where no line has a bus, each meter of the register is refused.
+const WITHOUT_A_BUS: &str = "REFUSED 00000011.PAD.01.07 1 NoLine
+REFUSED 00000021.PAD.01.07 1 NoLine
+REFUSED 00000031.PAD.01.07 1 NoLine
+REFUSED 00000041.PAD.01.07 1 NoLine
+REFUSED 00000051.PAD.01.07 1 NoLine
+END 0 5
+";
+
 // A group of short telegrams is two sectors and one sync (docs/IMAGE.md).
 const CALLS_OF_TWO_GROUPS: u64 = 6;
 
@@ -119,7 +129,7 @@ fn telegrams_that_wait_at_once_are_one_group(rt: HostRuntime) -> Result<(), Fail
     let polled = poll(heap, disk.copy()?, lines_of(heap, heap, &FIVE)?)?;
     tells_all(&rt, heap, &FIVE, text_of(&polled)?)?;
     let idle = poll(heap, disk, Vec::new(heap))?;
-    assert_eq!(rt; text_of(&idle)?, "END 0 0\n");
+    assert_eq!(rt; text_of(&idle)?, WITHOUT_A_BUS);
     let calls = polled.disk.calls().saturating_sub(idle.disk.calls());
     assert_eq!(rt; calls, CALLS_OF_TWO_GROUPS);
     Ok(())

@@ -47,10 +47,11 @@ fn named_meters_alone_are_read(rt: HostRuntime) -> Result<(), Fail> {
 }
 
 // Line 2 is lost with its third request, after the first part; line 3 has no bus from the start.
-const LOST_TEXT: &str = "READ 00000011.PAD.01.07 1 1
+const LOST_TEXT: &str = "REFUSED 00000031.PAD.01.07 1 NoLine
+READ 00000011.PAD.01.07 1 1
 LINE 2 LOST
 FAILED 00000021.PAD.01.07 1 NoAnswer
-END 1 1
+END 1 2
 ";
 
 #[test]

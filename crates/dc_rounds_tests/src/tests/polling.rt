@@ -26,7 +26,7 @@ impl<B: QuietBus + Drop> Timer<B> for StayingClock {
 
     ghost tells = { λ _ _ _. ⊤ };
 
-    ghost passes = { λ _ _. ⊤ };
+    ghost passes = { λ _ _ _. ⊤ };
 
     ghost warns = { λ _ _. ⊤ };
 
@@ -34,7 +34,7 @@ impl<B: QuietBus + Drop> Timer<B> for StayingClock {
         self.moment
     }
 
-    fn pause(&mut self, _stations: &[Station<'_, B>]) {}
+    fn pause(&mut self, _stations: &[Station<'_, B>], _may_sleep: bool) {}
 
     fn warn(&mut self) {
         self.warnings = self.warnings.saturating_add(1);

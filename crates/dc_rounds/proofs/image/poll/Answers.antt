@@ -7,7 +7,7 @@ use Rattle.dc_changes.specs.State.{State}
 use Rattle.dc_core.specs.Core.{present}
 use Rattle.dc_io.specs.Stream.{Puts}
 use Rattle.dc_rounds.specs.Clock.{ComparesClock}
-use Rattle.dc_rounds.specs.Planned.{ArePlanned, AreQueues, AreStations, has_bus, refused_count, refused_text}
+use Rattle.dc_rounds.specs.Planned.{ArePlanned, AreQueues, AreStations, asked_for, has_bus, refused_count, refused_text}
 use Rattle.dc_rounds.specs.Polls.{PollsAll}
 use Rattle.dc_rounds.specs.Round.{IsFresh, most_lines}
 use Rattle.dc_rounds.specs.declared.station.Station.{Station}
@@ -28,6 +28,12 @@ returns-in-Err-stations_of-clause-went g c = runs_none g.D.Disk _ c.args.concent
 
 pub returns-in-Err-stations_of-clause-starved : goal.returns-in-Err-stations_of-clause-starved
 returns-in-Err-stations_of-clause-starved g c is = (refl, runs_none g.D.Disk _ c.args.concentrator.now (λ image left. g.met.D.Disk.only_now c.args.concentrator.now.store.disk image left) (λ core. refl))
+
+pub returns-in-Err-asked_for-clause-went : goal.returns-in-Err-asked_for-clause-went
+returns-in-Err-asked_for-clause-went g c = runs_none g.D.Disk _ c.args.concentrator.now (λ image left. g.met.D.Disk.only_now c.args.concentrator.now.store.disk image left) (λ core. tt)
+
+pub returns-in-Err-asked_for-clause-starved : goal.returns-in-Err-asked_for-clause-starved
+returns-in-Err-asked_for-clause-starved g c is = (refl, runs_none g.D.Disk _ c.args.concentrator.now (λ image left. g.met.D.Disk.only_now c.args.concentrator.now.store.disk image left) (λ core. refl))
 
 pub returns-in-Err-refuse_others-clause-went : goal.returns-in-Err-refuse_others-clause-went
 returns-in-Err-refuse_others-clause-went g c = runs_none g.D.Disk _ c.args.concentrator.now (λ image left. g.met.D.Disk.only_now c.args.concentrator.now.store.disk image left) (λ core. tt)
@@ -54,27 +60,32 @@ returns-in-Ok-read_on-clause-went g c =
     let each : AreStations (λ v. v.items) lost c.in-Ok.queues.items stations = subst (λ qs. AreStations (λ v. v.items) lost qs stations) lent c.in-Ok-stations_of.ensures.each in
     let planned : ArePlanned lost c.house.result.now.state only all stations =
     planned_by (λ v. v.items) lost c.house.result.now.state only all c.truncate.new.self.items c.in-Ok.queues.items stations cut queues count buses each in
-    let compared : ComparesClock g.T.Timer.tells g.T.Timer.warns c.house-3.result.now.state c.args.timer.now c.compare_clock.new.timer = c.compare_clock.ensures in
+    let wanted : c.as_slice-3.result.now ≡ asked_for only c.house-2.result.now.state = c.as_slice-3.ensures.value ∙ c.in-Ok-asked_for.ensures in
+    let compared : ComparesClock g.T.Timer.tells g.T.Timer.warns c.house-4.result.now.state c.args.timer.now c.compare_clock.new.timer = c.compare_clock.ensures in
     let old = g.W.Sink.written c.args.out.now in
     let between = g.W.Sink.written c.refuse_others.new.out in
     runs_from g.D.Disk _ _ c.args.concentrator.now c.read_on.new.concentrator c.in-Ok-read_on.ensures.went
     (λ core happened is p.
     let state : c.house.result.now.state ≡ present core = ap (λ h. h.state) c.house.ensures ∙ is in
-    let state' : c.house-2.result.now.state ≡ present core = ap (λ h. h.state) c.house-2.ensures ∙ is in
-    let state'' : c.house-3.result.now.state ≡ present core = ap (λ h. h.state) c.house-3.ensures ∙ is in
+    let state-2 : c.house-2.result.now.state ≡ present core = ap (λ h. h.state) c.house-2.ensures ∙ is in
+    let state-3 : c.house-3.result.now.state ≡ present core = ap (λ h. h.state) c.house-3.ensures ∙ is in
+    let state-4 : c.house-4.result.now.state ≡ present core = ap (λ h. h.state) c.house-4.ensures ∙ is in
+    let wanted_is : c.as_slice-3.result.now ≡ asked_for only (present core) = wanted ∙ ap (λ (s : State). asked_for only s) state-2 in
     record {
       olds = c.as_mut_slice-2.result.now;
       news = c.read_on.new.stations;
       between = between;
       begun = c.compare_clock.new.timer;
       planned = subst (λ (xs : List (Station g.row.B.Denot)). ArePlanned lost (present core) only all xs) (sym slice) (subst (λ (s : State). ArePlanned lost s only all stations) state planned);
-      compares = subst (λ (s : State). ComparesClock g.T.Timer.tells g.T.Timer.warns s c.args.timer.now c.compare_clock.new.timer) state'' compared;
-      refuses = subst (λ (s : State). Puts old between (refused_text (has_bus lost (take most_lines all)) s only)) state'
-          (subst (λ (bs : List g.row.B.Denot). Puts old between (refused_text (has_bus lost bs) c.house-2.result.now.state only)) seen c.in-Ok-refuse_others.ensures.text);
+      compares = subst (λ (s : State). ComparesClock g.T.Timer.tells g.T.Timer.warns s c.args.timer.now c.compare_clock.new.timer) state-4 compared;
+      refuses = subst (λ (ms : List Identity). Puts old between (refused_text (has_bus lost (take most_lines all)) (present core) ms)) wanted_is
+          (subst (λ (s : State). Puts old between (refused_text (has_bus lost (take most_lines all)) s c.as_slice-3.result.now)) state-3
+          (subst (λ (bs : List g.row.B.Denot). Puts old between (refused_text (has_bus lost bs) c.house-3.result.now.state c.as_slice-3.result.now)) seen c.in-Ok-refuse_others.ensures.text));
       polls = subst (λ (n : ℕ). PollsAll (whole g.B.HalfBus g.B.QuietBus) g.T.Timer.tells g.T.Timer.passes c.args.plan.tries c.as_mut_slice-2.result.now c.read_on.new.stations c.compare_clock.new.timer c.read_on.new.timer (Puts between (g.W.Sink.written c.read_on.new.out)) (record { read = 0; failed = n }) c.in-Ok-read_on.outcome core happened)
           (c.in-Ok-refuse_others.ensures.count
-          ∙ ap (λ (bs : List g.row.B.Denot). min 4294967295 (refused_count (has_bus lost bs) c.house-2.result.now.state only)) seen
-          ∙ ap (λ (s : State). min 4294967295 (refused_count (has_bus lost (take most_lines all)) s only)) state') p;
+          ∙ ap (λ (bs : List g.row.B.Denot). min 4294967295 (refused_count (has_bus lost bs) c.house-3.result.now.state c.as_slice-3.result.now)) seen
+          ∙ ap (λ (s : State). min 4294967295 (refused_count (has_bus lost (take most_lines all)) s c.as_slice-3.result.now)) state-3
+          ∙ ap (λ (ms : List Identity). min 4294967295 (refused_count (has_bus lost (take most_lines all)) (present core) ms)) wanted_is) p;
     })
 
 pub read_on-requires-clause-sound : goal.read_on-requires-clause-sound

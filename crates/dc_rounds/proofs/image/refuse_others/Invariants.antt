@@ -7,8 +7,8 @@ use Rattle.dc_rounds.proofs.image.refuse_others.Given as goal
 
 abbrev pub invariant-meters : goal.invariant-meters
 invariant-meters g l = record {
-  text : append_known (g.W.Sink.written l.out) (refused_text (has_bus g.B.HalfBus.lost (map (λ (s : Station g.row.B.Denot). s.bus) l.stations)) l.house.state (drop l.meter-index l.only)) ≡ append_known (g.W.Sink.written l.fn.out) (refused_text (has_bus g.B.HalfBus.lost (map (λ (s : Station g.row.B.Denot). s.bus) l.stations)) l.house.state l.only);
+  text : append_known (g.W.Sink.written l.out) (refused_text (has_bus g.B.HalfBus.lost (map (λ (s : Station g.row.B.Denot). s.bus) l.stations)) l.house.state (drop l.meter-index l.wanted)) ≡ append_known (g.W.Sink.written l.fn.out) (refused_text (has_bus g.B.HalfBus.lost (map (λ (s : Station g.row.B.Denot). s.bus) l.stations)) l.house.state l.wanted);
   well : g.W.Sink.put_failures l.out ≡ g.W.Sink.put_failures l.fn.out;
   small : l.refused ≤ 4294967295;
-  count : min 4294967295 (l.refused + refused_count (has_bus g.B.HalfBus.lost (map (λ (s : Station g.row.B.Denot). s.bus) l.stations)) l.house.state (drop l.meter-index l.only)) ≡ min 4294967295 (refused_count (has_bus g.B.HalfBus.lost (map (λ (s : Station g.row.B.Denot). s.bus) l.stations)) l.house.state l.only);
+  count : min 4294967295 (l.refused + refused_count (has_bus g.B.HalfBus.lost (map (λ (s : Station g.row.B.Denot). s.bus) l.stations)) l.house.state (drop l.meter-index l.wanted)) ≡ min 4294967295 (refused_count (has_bus g.B.HalfBus.lost (map (λ (s : Station g.row.B.Denot). s.bus) l.stations)) l.house.state l.wanted);
 }

@@ -17,8 +17,8 @@ invariant-rounds g l = record {
   count : length l.stations ≡ length l.fn.stations;
   sound : All (IsSound (whole g.B.HalfBus g.B.QuietBus) l.tries) l.stations;
   well : g.W.Sink.put_failures l.out ≡ g.W.Sink.put_failures l.fn.out;
-  few : l.outcome.read + l.outcome.failed ≤ l.fn.before.read + l.fn.before.failed + 8 * l.counter;
+  few : l.counts.read + l.counts.failed ≤ l.fn.before.read + l.fn.before.failed + 8 * l.counter;
   fewer : EachFewer (λ (s : Station g.row.B.Denot). rounds_of (whole g.B.HalfBus g.B.QuietBus) 1 1 1 l.tries s + 1) (rounds_of (whole g.B.HalfBus g.B.QuietBus) 1 1 1 l.tries) l.counter l.fn.stations l.stations;
   so_far : Runs g.D.Disk (λ (core : Core) (happened : List Happening). PollsTo (whole g.B.HalfBus g.B.QuietBus) g.T.Timer.tells g.T.Timer.passes l.tries all_kept l.fn.stations l.stations l.fn.timer l.timer
-      (Puts (g.W.Sink.written l.fn.out) (g.W.Sink.written l.out)) l.fn.before l.outcome core happened) l.fn.concentrator l.concentrator;
+      (Puts (g.W.Sink.written l.fn.out) (g.W.Sink.written l.out)) l.fn.before l.counts core happened) l.fn.concentrator l.concentrator;
 }

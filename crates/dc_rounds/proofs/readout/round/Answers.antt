@@ -1,6 +1,7 @@
-use Rattle.std.proofs.Common.{◌≡◌, ◌++◌, ℕ, Bool, List, Result, refl, sym, subst, ◌∙◌}
+use Rattle.std.proofs.Common.{◌≡◌, ◌++◌, ℕ, Bool, List, Option, Result, refl, sym, subst, ◌∙◌}
 use Rattle.std.specs.List.{All}
 use Rattle.dc_core.specs.Core.{Core}
+use Rattle.dc_core.specs.declared.fault.CommitFault.{CommitFault}
 use Rattle.dc_io.specs.Stream.{Puts}
 use Rattle.dc_rounds.specs.Happening.{Happening}
 use Rattle.dc_rounds.specs.Keeping.{IsAsking}
@@ -8,7 +9,7 @@ use Rattle.dc_rounds.specs.Polls.{GoesRound}
 use Rattle.dc_rounds.specs.Round.{AllSteps, EndsInCommit}
 use Rattle.dc_rounds.specs.Station.{rounds_of}
 use Rattle.dc_rounds.specs.declared.station.Station.{Station}
-use Rattle.dc_rounds.proofs.Polling.{RoundTurns, goes_round, round_turns, ok_of}
+use Rattle.dc_rounds.proofs.Polling.{Asked, goes_round, none_of}
 use Rattle.dc_rounds.proofs.Rounds.{all_then, fewer_both}
 use Rattle.dc_rounds.proofs.Running.{runs_then}
 use Rattle.dc_rounds.proofs.Whole.{whole}
@@ -23,15 +24,16 @@ returns-in-Ok-clause-went g c =
     let asked : List (Station g.row.B.Denot) = c.ask_all.new.stations in
     let mids : List (Station g.row.B.Denot) = c.hear_and_commit-stored.new.stations in
     let news : List (Station g.row.B.Denot) = c.tell_all.new.stations in
-    runs_then g.D.Disk (λ (core : Core) (happened : List Happening). AllSteps b c.args.tries (RoundTurns m stored) olds mids happened) _ _
+    runs_then g.D.Disk (λ (core : Core) (happened : List Happening). Asked b c.args.tries m stored olds asked mids happened) _ _
     c.args.concentrator.now c.hear_and_commit-stored.new.concentrator c.hear_and_commit-stored.new.concentrator
     (runs_then g.D.Disk _ _ _ c.args.concentrator.now c.ask_all.new.concentrator c.hear_and_commit-stored.new.concentrator c.ask_all.ensures.went c.ask_all.ensures.budget c.hear_and_commit-stored.ensures.went
-    (λ core happened more a h. all_then c.args.tries (All IsAsking) (EndsInCommit m stored) (RoundTurns m stored) olds asked mids happened more c.ask_all.auto.stations a h (round_turns m stored)))
+    (λ core happened more a h. record { asking = happened; rest = more; parts = refl; asks = a; hears = h }))
     (c.hear_and_commit-stored.ensures.budget ∙ c.ask_all.ensures.budget) c.in-Ok.ensures.went
-    (λ core happened more a t. subst (λ (kept : Bool). GoesRound b g.T.Timer.tells g.T.Timer.passes c.args.tries kept olds news c.args.timer.now c.now-moment.new.self (Puts (g.W.Sink.written c.args.out.now) (g.W.Sink.written c.tell_all.new.out)) c.args.outcome.now c.tell_all.new.outcome core (happened ++ more))
-    (sym c.is_ok.ensures.value)
-    (goes_round b g.T.Timer.tells g.T.Timer.passes g.W.Sink.written c.args.tries m stored olds mids news c.args.timer.now c.pause.new.self c.now-moment.new.self c.args.out.now c.tell_all.new.out c.args.outcome.now c.tell_all.new.outcome core happened more
-    (c.hear_and_commit-stored.auto.stations ∙ c.ask_all.auto.stations) c.pause.ensures c.now-moment.ensures a t))
+    (λ core happened more a t. subst (λ (fault : Option CommitFault). GoesRound b g.T.Timer.tells g.T.Timer.passes c.args.tries fault olds news c.args.timer.now c.now-moment.new.self (Puts (g.W.Sink.written c.args.out.now) (g.W.Sink.written c.tell_all.new.out)) c.args.counts.now c.tell_all.new.outcome core (happened ++ more))
+    (sym c.fault_of.ensures)
+    (goes_round b g.T.Timer.tells g.T.Timer.passes g.W.Sink.written c.args.tries m stored olds asked mids news c.args.timer.now c.pause.new.self c.now-moment.new.self c.args.out.now c.tell_all.new.out c.args.counts.now c.tell_all.new.outcome core happened more
+    c.ask_all.auto.stations c.hear_and_commit-stored.auto.stations
+    (subst (λ (may : Bool). g.T.Timer.passes c.args.timer.now may c.pause.new.self) c.may_sleep-sleeps.ensures c.pause.ensures) c.now-moment.ensures a t))
 
 pub returns-in-Err-clause-went : goal.returns-in-Err-clause-went
 returns-in-Err-clause-went g c =
@@ -52,5 +54,5 @@ returns-in-Ok-clause-fewer g c kept =
     let news : List (Station g.row.B.Denot) = c.tell_all.new.stations in
     fewer_both (rounds_of b 1 1 1 t) (rounds_of b 1 1 0 t) (rounds_of b 1 1 1 t) 1 0 olds mids news (c.hear_and_commit-stored.auto.stations ∙ c.ask_all.auto.stations)
     (fewer_both (rounds_of b 1 1 1 t) (rounds_of b 0 0 0 t) (rounds_of b 1 1 0 t) 1 0 olds asked mids c.ask_all.auto.stations c.ask_all.ensures.fewer
-    (ok_of c.hear_and_commit-stored.result _ c.hear_and_commit-stored.ensures.fewer (sym c.is_ok.ensures.value ∙ kept)))
+    (none_of c.hear_and_commit-stored.result _ c.hear_and_commit-stored.ensures.fewer (sym c.fault_of.ensures ∙ kept)))
     (c.in-Ok.ensures.fewer t)
