@@ -12,7 +12,6 @@ mod half_made;
 mod host;
 mod image;
 mod inspect;
-mod lasting;
 mod poll;
 mod progress;
 mod reaching;

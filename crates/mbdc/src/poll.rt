@@ -4,7 +4,6 @@ ghost use Rattle.std.specs.Prelude.{◌<◌};
 
 use crate::host::Host;
 use crate::image::open_image;
-use crate::lasting::Lasting;
 use crate::progress::{Counted, Progress};
 use crate::reaching::reach_all;
 use crate::why::Noted;
@@ -18,7 +17,6 @@ use dc_rounds::{Outcome, Plan, Station, Timer, is_awaited, poll_image};
 use dc_sectors::FileDisk;
 use dc_words::PollTask;
 use std::alloc::Global;
-use std::cell::Cell;
 use std::fs::{File, OpenFile};
 use std::io;
 use std::io::LineWriter;
@@ -148,9 +146,8 @@ where
         return Err(ProgramFault::NoMemory);
     };
     let progress = Progress::new(*host);
-    let has_failed = Cell::new(false);
     let mut out = WriteSink::new(Counted {
-        writer: Lasting::new(writer, &has_failed),
+        writer,
         progress: &progress,
         is_begin: true,
     });
@@ -167,7 +164,7 @@ where
         poll_image(alloc, disk, plan, &mut timer, &mut out)
     };
     progress.clear();
-    let is_flushed = out.flush().is_ok() && !has_failed.get();
+    let is_flushed = out.flush().is_ok() && !progress.has_lost();
     match outcome {
         Ok(Outcome { fault: None, .. }) if !is_flushed => Err(ProgramFault::Write),
         _ => outcome,

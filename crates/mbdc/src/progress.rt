@@ -24,6 +24,8 @@ pub struct Progress<'h, R> {
     failed: Cell<u64>,
     // The meters and the seconds that are on the terminal.
     shown: Cell<Option<(u64, u64)>>,
+    // Whether a line couldn't be written. What follows it is dropped.
+    has_lost: Cell<bool>,
 }
 
 impl<'h, R: Clock + Eprint> Progress<'h, R> {
@@ -37,7 +39,13 @@ impl<'h, R: Clock + Eprint> Progress<'h, R> {
             done: Cell::new(0),
             failed: Cell::new(0),
             shown: Cell::new(None),
+            has_lost: Cell::new(false),
         }
+    }
+
+    /// Whether a line couldn't be written.
+    pub fn has_lost(&self) -> bool {
+        self.has_lost.get()
     }
 
     /// Shows the progress, if it isn't what the terminal shows.
@@ -112,6 +120,7 @@ fn meters_of<B: QuietBus + Drop>(stations: &[Station<'_, B>]) -> u64 {
 }
 
 /// The text of a poll, whose lines are counted. The progress is cleared before each of them.
+/// After a write that failed, what follows is dropped: a full disk of a log stops no poll.
 #[derive(Drop)]
 pub struct Counted<'p, 'h, R, W: Write + Drop> {
     /// The writer of the text.
@@ -129,10 +138,23 @@ impl<R: Clock + Eprint, W: Write + Drop> Write for Counted<'_, '_, R, W> {
             self.progress.count(bytes);
         }
         self.is_begin = bytes.last() == Some(&b'\n');
-        self.writer.write(bytes)
+        if self.progress.has_lost.get() {
+            return Ok(bytes.len());
+        }
+        match self.writer.write(bytes) {
+            Ok(count) if count > 0 => Ok(count),
+            Err(error) if error.kind() == io::ErrorKind::Interrupted => Err(error),
+            _ => {
+                self.progress.has_lost.set(true);
+                Ok(bytes.len())
+            }
+        }
     }
 
     fn flush(&mut self) -> io::Result<()> {
-        self.writer.flush()
+        if !self.progress.has_lost.get() && self.writer.flush().is_err() {
+            self.progress.has_lost.set(true);
+        }
+        Ok(())
     }
 }
