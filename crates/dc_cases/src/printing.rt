@@ -2,8 +2,8 @@
 
 use crate::fault::CaseFault;
 use dc_io::{Sink, put_hex, put_number, put_number_word};
-use dc_meters::House;
-use dc_poller::Ending;
+use dc_register::House;
+use dc_script::Ending;
 use std::alloc::Global;
 
 /// Puts a line of hex digits.

@@ -3,10 +3,10 @@
 use crate::ends::{Input, Limits, NONE, Output};
 use crate::fault::CaseFault;
 use crate::words::bytes;
+use dc_frame::FrameBuf;
+use dc_frame::control::write_reset;
 use dc_gateway::{Talk, exchange};
 use dc_io::{Bytes, Sink, put_hex_word, put_number_word};
-use dc_linkframe::FrameBuf;
-use dc_linkframe::control::write_reset;
 use std::alloc::Global;
 use std::str;
 

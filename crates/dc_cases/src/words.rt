@@ -1,7 +1,7 @@
 //! Words of commands, numbers and bytes.
 
 use crate::fault::CaseFault;
-use dc_changes::parse_number;
+use dc_change::parse_number;
 use dc_io::{decode_hex, room};
 use std::alloc::Global;
 

@@ -9,16 +9,16 @@ use crate::talks::put_talks;
 use crate::words::{Word, bytes, number, small, split, word_of};
 use crate::{rows, sectors};
 use dc_address::Identity;
-use dc_core::Concentrator;
+use dc_concentrator::Concentrator;
 use dc_decode::decode_lines;
+use dc_disk::MemoryDisk;
 use dc_io::{Bytes, Sink, TextFault, first_line};
 use dc_json::{explain_lines, json_lines};
-use dc_meters::House;
-use dc_poller::{
+use dc_log::Store;
+use dc_register::House;
+use dc_script::{
     Ending, Halt, ProgramFault, Report, ending_of, fold_lines, report_on, run_script, search,
 };
-use dc_recovery::Store;
-use dc_sectors::MemoryDisk;
 use dc_world::ListedBus;
 use std::alloc::Global;
 

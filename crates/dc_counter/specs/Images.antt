@@ -1,9 +1,9 @@
 -- What an image of a counter reads as: the store's definitions, of a counter.
 use Rattle.std.specs.Prelude.{ℕ}
 use Rattle.byteorder.specs.Endian.{little_bytes}
-use Rattle.dc_sectors.specs.Disk.{Image}
+use Rattle.dc_disk.specs.Disk.{Image}
 use Rattle.dc_kept.specs.declared.kept.Language.{Ghosts as Language}
-use Rattle.dc_recovery.specs.Stands.{Reads}
+use Rattle.dc_log.specs.Stands.{Reads}
 use Rattle.dc_counter.specs.declared.counter.Counter.{Counter}
 use Rattle.dc_counter.specs.Counting.{SpellsNumber, SpellsStep, IsWithin, counted, zeros}
 use Rattle.dc_counter.specs.Laws.{one_number, one_step, wider_number, some_number, fits_number, zero_spelled, counted_append}

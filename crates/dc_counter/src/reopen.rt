@@ -1,14 +1,14 @@
 //! Opens an image of a counter.
 
 ghost use Rattle.std.specs.Prelude.{IfOk};
-ghost use Rattle.dc_recovery.specs.Halves.{half_of};
-ghost use Rattle.dc_recovery.specs.Stands.{Reads};
+ghost use Rattle.dc_log.specs.Halves.{half_of};
+ghost use Rattle.dc_log.specs.Stands.{Reads};
 ghost use Rattle.dc_counter.specs.Images.{ReadsCount};
 
 use crate::Counter;
+use dc_disk::Disk;
 use dc_kept::Language;
-use dc_recovery::{OpenFault, Store};
-use dc_sectors::Disk;
+use dc_log::{OpenFault, Store};
 use std::alloc::Global;
 
 /// Opens an image: by the impl's ghosts, and by those that a definition writes out.

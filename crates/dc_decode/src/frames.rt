@@ -1,16 +1,16 @@
 //! The frames of a line and their text.
 
 ghost use Rattle.std.specs.Prelude.{◌≡◌, ◌<◌, ◌∷◌, length, Ok, Err, MatchResult, IfOk, OnOk, OnErr};
-ghost use Rattle.dc_linkframe.specs.Frame.{seen};
+ghost use Rattle.dc_frame.specs.Frame.{seen};
 ghost use Rattle.dc_io.specs.Written.{Wrote};
 ghost use Rattle.dc_decode.specs.Frames.{front_len, frames_of, read_as, content_text};
 ghost use Rattle.dc_decode.specs.Frames.{is_bad_content, short_line, long_line, frame_text};
 ghost use Rattle.dc_decode.specs.Frames.{is_bad_frame, shown, is_bad, all_shown, any_bad};
 
 use crate::telegram::put_telegram;
+use dc_frame::{Frame, FrameFault, Need, need, parse};
 use dc_io::{IoFault, Sink, put_byte_word, put_fault_line, put_number_word};
-use dc_linkframe::{Frame, FrameFault, Need, need, parse};
-use dc_records::Telegram;
+use dc_record::Telegram;
 
 /// The CI field of a variable data structure (EN 13757-3).
 const VARIABLE_DATA: u8 = 0x72;

@@ -1,14 +1,14 @@
 //! Writes a line of a poll's text as a JSON object.
 
 ghost use Rattle.std.specs.Prelude.{◌≡◌, ◌⊎◌, ℕ, List, MatchOption, codes};
-ghost use Rattle.dc_changes.specs.Words.{IsWord};
+ghost use Rattle.dc_change.specs.Words.{IsWord};
 ghost use Rattle.dc_io.specs.Written.{Wrote};
 ghost use Rattle.dc_events.specs.Event.{came_late, fault_fields, field, kind_line, text_field, reading_fields};
 ghost use Rattle.dc_events.specs.Event.{has_ended, has_failed, line_of};
 ghost use Rattle.dc_events.specs.Event.{object_of, three_words, two_words, was_lost, was_read};
 ghost use Rattle.dc_events.specs.Event.{was_refused};
 
-use dc_changes::split_word;
+use dc_change::split_word;
 use dc_io::{IoFault, Sink};
 
 // Splits a line into its first word and what follows the space after it.

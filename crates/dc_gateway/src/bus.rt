@@ -9,8 +9,8 @@ ghost use Rattle.dc_search.specs.State.{SearchState, is_idle, step_of};
 
 use crate::answer_buf::AnswerBuf;
 use crate::gateway::Gateway;
+use dc_frame::FrameBuf;
 use dc_io::{NoMemory, Sink, Source};
-use dc_linkframe::FrameBuf;
 use dc_search::Search;
 use std::alloc::Allocator;
 

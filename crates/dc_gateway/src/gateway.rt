@@ -9,8 +9,8 @@ ghost use Rattle.dc_gateway.specs.Talk.{HasNoAnswer, TakesAnswer, TakesFront};
 
 use crate::answer_buf::AnswerBuf;
 use crate::talk::{Talk, exchange};
+use dc_frame::FrameBuf;
 use dc_io::{Sink, Source};
-use dc_linkframe::FrameBuf;
 
 /// A gateway's reader and writer, and whether it is lost.
 #[derive(Drop)]

@@ -10,8 +10,8 @@ ghost use Rattle.dc_gateway.specs.Talk.{HasNoAnswer, IfAnswer, OnLost, TakesAnsw
 use crate::answer::take_answer;
 use crate::answer_buf::AnswerBuf;
 use crate::block::put_block;
+use dc_frame::FrameBuf;
 use dc_io::{Sink, Source};
-use dc_linkframe::FrameBuf;
 
 /// The result of an exchange with the gateway.
 #[derive(Drop)]

@@ -1,13 +1,13 @@
 -- The result of reading an image: for the contracts of private functions.
 use Rattle.std.specs.Prelude.{◌≡◌, ◌⊎◌, ℕ, Option, option_map}
-use Rattle.dc_sectors.specs.Disk.{Image}
-use Rattle.dc_changes.specs.State.{Held}
+use Rattle.dc_disk.specs.Disk.{Image}
+use Rattle.dc_change.specs.State.{Held}
 use Rattle.dc_roots.specs.Held.{IsHeld}
-use Rattle.dc_poller.specs.declared.fault.ProgramFault.{ProgramFault}
-use Rattle.dc_poller.specs.declared.fault.ProgramFault.TheVariants.{Open, NoMemory as Refused}
-use Rattle.dc_recovery.specs.declared.fault.OpenFault.{OpenFault}
-use Rattle.dc_recovery.specs.declared.fault.OpenFault.TheVariants.{Device, NoMemory}
-use Rattle.dc_recovery.specs.declared.reading.Found.{Found}
+use Rattle.dc_script.specs.declared.fault.ProgramFault.{ProgramFault}
+use Rattle.dc_script.specs.declared.fault.ProgramFault.TheVariants.{Open, NoMemory as Refused}
+use Rattle.dc_log.specs.declared.fault.OpenFault.{OpenFault}
+use Rattle.dc_log.specs.declared.fault.OpenFault.TheVariants.{Device, NoMemory}
+use Rattle.dc_log.specs.declared.reading.Found.{Found}
 use Rattle.dc_inspect.specs.Told.{Seen, IsLook}
 use Rattle.dc_inspect.specs.declared.look.Slots.{Slots}
 

@@ -1,11 +1,11 @@
 -- A table of an image's contents, as JSON Lines (this product).
 use Rattle.std.specs.Prelude.{ℕ, List}
-use Rattle.dc_changes.specs.State.{State}
+use Rattle.dc_change.specs.State.{State}
 use Rattle.dc_json.specs.Report.{due_lines, register_lines}
-use Rattle.dc_poller.specs.declared.report.Report.{Report}
-use Rattle.dc_poller.specs.declared.report.Report.TheVariants.{Register, Due}
+use Rattle.dc_script.specs.declared.report.Report.{Report}
+use Rattle.dc_script.specs.declared.report.Report.TheVariants.{Register, Due}
 use Rattle.dc_pending.specs.Images.{Reads}
-use Rattle.dc_sectors.specs.Disk.{Image}
+use Rattle.dc_disk.specs.Disk.{Image}
 
 abbrev pub table_lines : Report → State → List ℕ
 table_lines Register state = register_lines state

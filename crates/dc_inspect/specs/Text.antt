@@ -2,16 +2,16 @@
 use Rattle.std.specs.Prelude.{ℕ, ◌-◌, List, [], ◌++◌, length, codes, slice_get, Option, Some, None}
 use Rattle.std.specs.Prelude.{option_map}
 use Rattle.dc_io.specs.Words.{number_word, fault_text}
-use Rattle.dc_changes.specs.State.{State, ReadingRow}
-use Rattle.dc_changes.specs.Size.{size_of}
+use Rattle.dc_change.specs.State.{State, ReadingRow}
+use Rattle.dc_change.specs.Size.{size_of}
 use Rattle.dc_roots.specs.declared.root.Root.{Root}
 use Rattle.dc_roots.specs.declared.chooser.Held.{Held}
 use Rattle.dc_roots.specs.declared.chooser.Held.TheVariants.{Valid, Other, Lost}
-use Rattle.dc_recovery.specs.Fault.{open_number, open_name}
-use Rattle.dc_recovery.specs.Halves.{half_start, half_end}
-use Rattle.dc_recovery.specs.declared.fault.OpenFault.{OpenFault}
-use Rattle.dc_recovery.specs.declared.fault.OpenFault.TheVariants.{NotImage, Damaged, Version, Worn}
-use Rattle.dc_recovery.specs.declared.fault.OpenFault.TheVariants.{Device, NoMemory}
+use Rattle.dc_log.specs.Fault.{open_number, open_name}
+use Rattle.dc_log.specs.Halves.{half_start, half_end}
+use Rattle.dc_log.specs.declared.fault.OpenFault.{OpenFault}
+use Rattle.dc_log.specs.declared.fault.OpenFault.TheVariants.{NotImage, Damaged, Version, Worn}
+use Rattle.dc_log.specs.declared.fault.OpenFault.TheVariants.{Device, NoMemory}
 use Rattle.dc_inspect.specs.declared.summary.Summary.{Summary}
 
 -- a line of a name and a number, and of a name and two

@@ -1,19 +1,19 @@
 -- What `inspect` prints of a disk's image (this product): the state that it reads as, by the
 -- definitions that opening follows, or its one refusal.
 use Rattle.std.specs.Prelude.{◌≡◌, ◌⊎◌, ◌<◌, ◌≤◌, ℕ, List, [], ◌++◌, codes, Option, Some, None}
-use Rattle.dc_sectors.specs.Disk.{Image}
-use Rattle.dc_changes.specs.State.{State}
+use Rattle.dc_disk.specs.Disk.{Image}
+use Rattle.dc_change.specs.State.{State}
 use Rattle.dc_roots.specs.declared.root.Root.{Root}
 use Rattle.dc_roots.specs.declared.chooser.Held.{Held}
 use Rattle.dc_roots.specs.Held.{IsHeld}
-use Rattle.dc_recovery.specs.Halves.{half_len_of, budget_of, fewest_sectors}
+use Rattle.dc_log.specs.Halves.{half_len_of, budget_of, fewest_sectors}
 use Rattle.dc_pending.specs.Images.{IsRefused, IsRead}
-use Rattle.dc_recovery.specs.Refusal.{IsSpent, TellsOfImage}
-use Rattle.dc_recovery.specs.declared.fault.OpenFault.{OpenFault}
-use Rattle.dc_recovery.specs.declared.fault.OpenFault.TheVariants.{NotImage, Worn, Device}
-use Rattle.dc_poller.specs.declared.fault.ProgramFault.{ProgramFault}
-use Rattle.dc_poller.specs.declared.fault.ProgramFault.TheVariants.{Read, TooLong, Write, NoMemory}
-use Rattle.dc_poller.specs.declared.fault.ProgramFault.TheVariants.{Open}
+use Rattle.dc_log.specs.Refusal.{IsSpent, TellsOfImage}
+use Rattle.dc_log.specs.declared.fault.OpenFault.{OpenFault}
+use Rattle.dc_log.specs.declared.fault.OpenFault.TheVariants.{NotImage, Worn, Device}
+use Rattle.dc_script.specs.declared.fault.ProgramFault.{ProgramFault}
+use Rattle.dc_script.specs.declared.fault.ProgramFault.TheVariants.{Read, TooLong, Write, NoMemory}
+use Rattle.dc_script.specs.declared.fault.ProgramFault.TheVariants.{Open}
 use Rattle.dc_inspect.specs.Text.{number_line, slot_line, place_text, summary_of, summary_text}
 use Rattle.dc_inspect.specs.Text.{refused_line, refusal_text}
 

@@ -1,10 +1,10 @@
 -- What `values` prints of a disk's image (this product): what the meters of the state that it reads as stand at.
 use Rattle.std.specs.Prelude.{◌≡◌, ◌⊎◌, ◌<◌, ◌≤◌, ℕ, List, [], Option, Some, None}
-use Rattle.dc_sectors.specs.Disk.{Image}
-use Rattle.dc_recovery.specs.Halves.{half_len_of, fewest_sectors}
-use Rattle.dc_recovery.specs.declared.fault.OpenFault.{OpenFault}
-use Rattle.dc_recovery.specs.declared.fault.OpenFault.TheVariants.{NotImage}
-use Rattle.dc_values.specs.Values.{values_text}
+use Rattle.dc_disk.specs.Disk.{Image}
+use Rattle.dc_log.specs.Halves.{half_len_of, fewest_sectors}
+use Rattle.dc_log.specs.declared.fault.OpenFault.{OpenFault}
+use Rattle.dc_log.specs.declared.fault.OpenFault.TheVariants.{NotImage}
+use Rattle.dc_latest.specs.Values.{values_text}
 use Rattle.dc_inspect.specs.Told.{Seen, IsLook}
 
 -- A disk that is too small for an image holds none, and nothing was printed.

@@ -5,25 +5,25 @@ ghost use Rattle.std.specs.Prelude.{IsErrOf, option_map};
 ghost use Rattle.dc_io.specs.Failures.{HasRisen};
 ghost use Rattle.dc_io.specs.Stream.{Puts};
 ghost use Rattle.dc_io.specs.Written.{PutsInto, Wrote};
-ghost use Rattle.dc_sectors.specs.Runs.{OnlyLooked, Counts};
-ghost use Rattle.dc_recovery.specs.Halves.{budget_of, fewest_sectors, half_start, half_end};
-ghost use Rattle.dc_recovery.specs.Halves.{longest_half};
+ghost use Rattle.dc_disk.specs.Runs.{OnlyLooked, Counts};
+ghost use Rattle.dc_log.specs.Halves.{budget_of, fewest_sectors, half_start, half_end};
+ghost use Rattle.dc_log.specs.Halves.{longest_half};
 ghost use Rattle.dc_inspect.specs.Look.{seen_of};
 ghost use Rattle.dc_inspect.specs.Text.{refused_line};
 ghost use Rattle.dc_inspect.specs.Told.{IsOfLook, Tells, TellsImage, TellsSmall, disk_line};
 ghost use Rattle.dc_inspect.specs.Told.{image_text, seen_text};
-ghost use Rattle.dc_recovery.specs.declared.fault.OpenFault.TheVariants.{NotImage, Device};
+ghost use Rattle.dc_log.specs.declared.fault.OpenFault.TheVariants.{NotImage, Device};
 
 use crate::look::{Look, Slots, look_at, read_slots};
 use crate::summary::summary_of;
 use crate::text::{
     put_number_line, put_place, put_refusal, put_refused_line, put_slot, put_summary,
 };
+use dc_disk::{Disk, Failed};
 use dc_io::{Bytes, IoFault, Sink};
-use dc_meters::House;
-use dc_poller::ProgramFault;
-use dc_recovery::{FEWEST_SECTORS, Found, OpenFault, half_len_of};
-use dc_sectors::{Disk, Failed};
+use dc_log::{FEWEST_SECTORS, Found, OpenFault, half_len_of};
+use dc_register::House;
+use dc_script::ProgramFault;
 use std::alloc::Allocator;
 
 // Writes the text of an image after the line of its disk.
@@ -179,7 +179,7 @@ fn tell_disk<A: Allocator + Copy, D: Disk>(
 /// nothing is synced, not even the next root. Returns why the image doesn't open, if it doesn't: a
 /// fact of the image, which the text states too.
 ///
-/// The image is read as [`Store::open`](dc_recovery::Store::open) reads it. The text is built whole
+/// The image is read as [`Store::open`](dc_log::Store::open) reads it. The text is built whole
 /// before it is written, in one put.
 ///
 /// # Errors

@@ -4,11 +4,11 @@
 //! groups, the register's contents; or why the image doesn't open, with the sector if it is known.
 //! Nothing is written to the disk and nothing is synced, not even the next root. Proved: it prints
 //! the state that the image reads as, by the definitions that
-//! [`Store::open`](dc_recovery::Store::open) follows, or the image's one refusal.
+//! [`Store::open`](dc_log::Store::open) follows, or the image's one refusal.
 //!
-//! [`show_values`] reads an image in the same way, and writes what its meters stand at (dc_values).
+//! [`show_values`] reads an image in the same way, and writes what its meters stand at (dc_latest).
 //!
-//! [`report_json_on`] opens an image as [`report_on`](dc_poller::report_on) does, and writes a JSON object for each
+//! [`report_json_on`] opens an image as [`report_on`](dc_script::report_on) does, and writes a JSON object for each
 //! row of a table.
 #![tactic(auto)]
 

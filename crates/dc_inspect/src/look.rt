@@ -2,18 +2,18 @@
 
 ghost use Rattle.std.specs.Prelude.{◌≡◌, ◌<◌, ◌≤◌, ◌+◌, ◌*◌, IfOk, IfErr, IfSome, IsErr, IsErrOf};
 ghost use Rattle.dc_io.specs.Failures.{HasRisen};
-ghost use Rattle.dc_sectors.specs.Runs.{OnlyLooked, Counts};
-ghost use Rattle.dc_recovery.specs.declared.fault.OpenFault.TheVariants.{Device};
-ghost use Rattle.dc_recovery.specs.Halves.{budget_of, half_start, half_end, longest_half};
-ghost use Rattle.dc_recovery.specs.Refusal.{TellsOfImage};
+ghost use Rattle.dc_disk.specs.Runs.{OnlyLooked, Counts};
+ghost use Rattle.dc_log.specs.declared.fault.OpenFault.TheVariants.{Device};
+ghost use Rattle.dc_log.specs.Halves.{budget_of, half_start, half_end, longest_half};
+ghost use Rattle.dc_log.specs.Refusal.{TellsOfImage};
 ghost use Rattle.dc_inspect.specs.Look.{AreHeld, IsSeen, IsStop};
 ghost use Rattle.dc_inspect.specs.Told.{IsOfLook, IsWearOf};
 
-use dc_meters::House;
-use dc_poller::ProgramFault;
-use dc_recovery::{Found, OpenFault, is_spent, read_image};
+use dc_disk::{Disk, Failed};
+use dc_log::{Found, OpenFault, is_spent, read_image};
+use dc_register::House;
 use dc_roots::{Held, Root, read_slot};
-use dc_sectors::{Disk, Failed};
+use dc_script::ProgramFault;
 use std::alloc::Allocator;
 
 /// The contents of the two root slots.

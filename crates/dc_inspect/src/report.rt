@@ -2,22 +2,22 @@
 
 ghost use Rattle.std.specs.Prelude.{◌≡◌, ◌≢◌, ◌≤◌, ◌<◌, Err, IfOk, IfErr, OnOk, IsErrOf};
 ghost use Rattle.dc_io.specs.Failures.{HasRisen};
-ghost use Rattle.dc_recovery.specs.Halves.{fewest_sectors, half_of};
+ghost use Rattle.dc_log.specs.Halves.{fewest_sectors, half_of};
 ghost use Rattle.dc_pending.specs.Images.{IsRefused, EachStands, StandsForOne};
-ghost use Rattle.dc_recovery.specs.Refusal.{TellsOfImage};
-ghost use Rattle.dc_recovery.specs.declared.fault.OpenFault.TheVariants.{NotImage, Worn, Device};
+ghost use Rattle.dc_log.specs.Refusal.{TellsOfImage};
+ghost use Rattle.dc_log.specs.declared.fault.OpenFault.TheVariants.{NotImage, Worn, Device};
 ghost use Rattle.dc_io.specs.Written.{PutsInto};
-ghost use Rattle.dc_sectors.specs.Disk.{IsImage};
-ghost use Rattle.dc_sectors.specs.Runs.{LeavesOnly};
-ghost use Rattle.dc_poller.specs.Fault.{IfOpen, IsOfImage};
+ghost use Rattle.dc_disk.specs.Disk.{IsImage};
+ghost use Rattle.dc_disk.specs.Runs.{LeavesOnly};
+ghost use Rattle.dc_script.specs.Fault.{IfOpen, IsOfImage};
 ghost use Rattle.dc_inspect.specs.Report.{IsShown, table_lines};
 
+use dc_disk::Disk;
 use dc_io::{IoFault, NoMemory, Sink};
 use dc_json::{due_json, register_json};
-use dc_meters::House;
-use dc_poller::{ProgramFault, Report};
-use dc_recovery::Store;
-use dc_sectors::Disk;
+use dc_log::Store;
+use dc_register::House;
+use dc_script::{ProgramFault, Report};
 use std::alloc::Allocator;
 
 /// Opens the image, writes a table of its contents as JSON Lines (RFC 8259) in one put, and closes

@@ -2,7 +2,7 @@
 
 ghost use Rattle.std.specs.Prelude.{◌≤◌, ◌++◌};
 ghost use Rattle.dc_io.specs.Written.{Wrote};
-ghost use Rattle.dc_recovery.specs.Halves.{half_start, half_end, longest_half};
+ghost use Rattle.dc_log.specs.Halves.{half_start, half_end, longest_half};
 ghost use Rattle.dc_inspect.specs.Text.{held_words, number_line, pair_line, place_text};
 ghost use Rattle.dc_inspect.specs.Text.{readings_words, fault_words, refused_line, refusal_text};
 ghost use Rattle.dc_inspect.specs.Text.{root_words, sector_word, serial_word, slot_line};
@@ -10,8 +10,8 @@ ghost use Rattle.dc_inspect.specs.Text.{summary_text};
 
 use crate::summary::Summary;
 use dc_io::{IoFault, Sink, put_fault, put_number_word};
-use dc_meters::House;
-use dc_recovery::{Found, OpenFault, half_end, half_start};
+use dc_log::{Found, OpenFault, half_end, half_start};
+use dc_register::House;
 use dc_roots::{Held, Root};
 use std::alloc::Allocator;
 

@@ -5,20 +5,20 @@ ghost use Rattle.std.specs.Prelude.{option_map};
 ghost use Rattle.dc_io.specs.Failures.{HasRisen};
 ghost use Rattle.dc_io.specs.Stream.{Puts};
 ghost use Rattle.dc_io.specs.Written.{PutsInto, Wrote};
-ghost use Rattle.dc_sectors.specs.Runs.{OnlyLooked, Counts};
-ghost use Rattle.dc_recovery.specs.Halves.{fewest_sectors};
-ghost use Rattle.dc_recovery.specs.declared.fault.OpenFault.TheVariants.{Device};
+ghost use Rattle.dc_disk.specs.Runs.{OnlyLooked, Counts};
+ghost use Rattle.dc_log.specs.Halves.{fewest_sectors};
+ghost use Rattle.dc_log.specs.declared.fault.OpenFault.TheVariants.{Device};
 ghost use Rattle.dc_inspect.specs.Look.{seen_of};
 ghost use Rattle.dc_inspect.specs.Told.{IsOfLook};
 ghost use Rattle.dc_inspect.specs.Values.{Shows, ShowsImage, seen_values};
 
 use crate::look::look_at;
+use dc_disk::Disk;
 use dc_io::{Bytes, IoFault, Sink};
-use dc_meters::House;
-use dc_poller::ProgramFault;
-use dc_recovery::{FEWEST_SECTORS, Found, OpenFault, half_len_of};
-use dc_sectors::Disk;
-use dc_values::put_values;
+use dc_latest::put_values;
+use dc_log::{FEWEST_SECTORS, Found, OpenFault, half_len_of};
+use dc_register::House;
+use dc_script::ProgramFault;
 use std::alloc::Allocator;
 
 // Writes the values of the state that was found.
@@ -83,7 +83,7 @@ fn show_disk<A: Allocator + Copy, D: Disk>(
 /// Reads the image and writes what its meters stand at. Nothing is written to the disk and nothing is synced, not even
 /// the next root. Returns why the image doesn't open, if it doesn't; of an image that can't be read nothing is written.
 ///
-/// The image is read as [`Store::open`](dc_recovery::Store::open) reads it. The text is built whole before it is
+/// The image is read as [`Store::open`](dc_log::Store::open) reads it. The text is built whole before it is
 /// written, in one put.
 ///
 /// # Errors

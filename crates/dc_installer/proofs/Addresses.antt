@@ -4,9 +4,9 @@ use Rattle.std.specs.List.{range_with_len}
 use Rattle.dc_address.specs.declared.identity.Identity.{Identity}
 use Rattle.dc_gateway.specs.Bus.{AreExchanged, Exchange}
 use Rattle.dc_gateway.proofs.Exchanges.{exchanged-both, exchanged-one}
-use Rattle.dc_linkframe.specs.Control.{request_to, reset_to}
-use Rattle.dc_linkframe.specs.Frame.{spelling}
-use Rattle.dc_linkframe.specs.Reading.{frame_of}
+use Rattle.dc_frame.specs.Control.{request_to, reset_to}
+use Rattle.dc_frame.specs.Frame.{spelling}
+use Rattle.dc_frame.specs.Reading.{frame_of}
 use Rattle.dc_search.specs.Answer.{answer_of}
 use Rattle.dc_installer.specs.Scan.{AsksEach, AsksOne, Identifies, address_line, answers, is_ack, is_silent, prints, prints_none, requests, resets}
 

@@ -1,7 +1,7 @@
 -- A readout, exchange by exchange.
 use Rattle.std.proofs.Common.{◌≡◌, ◌⊎◌, ℕ, ◌-◌, ◌≤◌, List, [], ◌∷◌, ◌++◌, Option, None, Some, refl, subst, inl, inr, arith}
 use Rattle.std.specs.Prelude.{option_map}
-use Rattle.dc_linkframe.specs.Frame.{spelling}
+use Rattle.dc_frame.specs.Frame.{spelling}
 use Rattle.dc_readout.specs.Summary.{Summary, asked_by, verdict_by}
 use Rattle.dc_io.specs.Stream.{Puts, PutsFront}
 use Rattle.dc_io.proofs.Pieces.{puts-both, puts-none, puts_front-first, puts_front-second}

@@ -1,10 +1,10 @@
 -- The readout of one meter on a bus, as its telegrams are printed (EN 13757-2, frame count bit; EN 13757-3).
 use Rattle.std.specs.Prelude.{◌≡◌, ◌⊎◌, ℕ, List, [], ◌∷◌, ◌++◌, None, Some, length, option_map}
-use Rattle.dc_linkframe.specs.Frame.{spelling}
+use Rattle.dc_frame.specs.Frame.{spelling}
 use Rattle.dc_readout.specs.Summary.{Summary, Verdict, again, ready, new, failed, asked_by}
 use Rattle.dc_readout.specs.Summary.{heard_by, settled_by, verdict_by}
 use Rattle.dc_gateway.specs.Bus.{AreExchanged, Exchange}
-use Rattle.dc_core.specs.Text.{failed_text}
+use Rattle.dc_concentrator.specs.Text.{failed_text}
 use Rattle.dc_decode.specs.Frames.{all_shown, frames_of}
 
 -- maximum number of requests of a readout: three tries at a reset, a selection and each of 32

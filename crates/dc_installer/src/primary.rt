@@ -5,18 +5,18 @@ ghost use Rattle.std.specs.List.{range_with_len};
 ghost use Rattle.dc_io.specs.Failures.{HasRisen};
 ghost use Rattle.dc_gateway.specs.Bus.{AreExchanged, Exchange};
 ghost use Rattle.dc_search.specs.Answer.{answer_of};
-ghost use Rattle.dc_linkframe.specs.Control.{request_to, reset_to};
-ghost use Rattle.dc_linkframe.specs.Frame.{spelling};
-ghost use Rattle.dc_linkframe.specs.Reading.{frame_of};
+ghost use Rattle.dc_frame.specs.Control.{request_to, reset_to};
+ghost use Rattle.dc_frame.specs.Frame.{spelling};
+ghost use Rattle.dc_frame.specs.Reading.{frame_of};
 ghost use Rattle.dc_io.specs.Written.{PutsInto, Wrote};
 ghost use Rattle.dc_installer.specs.Scan.{AsksEach, AsksOne, Identifies, address_line, greatest};
 ghost use Rattle.dc_installer.specs.Scan.{identity_word, is_ack};
 
 use dc_address::{Identity, Primary};
+use dc_frame::control::{write_request, write_reset};
+use dc_frame::{Frame, FrameBuf, parse};
 use dc_gateway::Bus;
 use dc_io::{IoFault, Sink, put_number_word};
-use dc_linkframe::control::{write_request, write_reset};
-use dc_linkframe::{Frame, FrameBuf, parse};
 use dc_search::meter_of;
 
 // The greatest primary address.

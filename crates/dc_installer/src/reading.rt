@@ -3,8 +3,8 @@
 ghost use Rattle.std.specs.Prelude.{◌≡◌, ◌≤◌, ℕ, List, None, Some, IfOk, OnOk, OnErr, length};
 ghost use Rattle.std.specs.Prelude.{option_map};
 ghost use Rattle.dc_io.specs.Failures.{HasRisen};
-ghost use Rattle.dc_core.specs.Step.{longest_request};
-ghost use Rattle.dc_linkframe.specs.Frame.{spelling};
+ghost use Rattle.dc_concentrator.specs.Step.{longest_request};
+ghost use Rattle.dc_frame.specs.Frame.{spelling};
 ghost use Rattle.dc_io.specs.Stream.{PutsFront};
 ghost use Rattle.dc_io.specs.Written.{PutsInto, Wrote};
 ghost use Rattle.dc_readout.specs.Summary.{asked_by, begun, verdict_by};
@@ -12,11 +12,11 @@ ghost use Rattle.dc_readout.specs.Seen.{verdict};
 ghost use Rattle.dc_installer.specs.Read.{IsCutOff, IsReadOn, after, most_requests, printed};
 
 use dc_address::{Identity, Primary};
-use dc_core::{LineHeard, put_heard};
+use dc_concentrator::{LineHeard, put_heard};
 use dc_decode::put_frames;
+use dc_frame::FrameBuf;
 use dc_gateway::Bus;
 use dc_io::{IoFault, Sink};
-use dc_linkframe::FrameBuf;
 use dc_readout::{Heard, Session};
 
 // Three tries at a reset, a selection and each of 32 parts, and one look more.

@@ -5,7 +5,7 @@ use Rattle.std.specs.List.{list_all}
 use Rattle.std.proofs.lemmas.Bool.{and_parts}
 use Rattle.std.proofs.lemmas.Bool.Decides.{nat_tests}
 use Rattle.std.proofs.lemmas.Str.Ascii.{IsAscii-nil, IsAscii-cons}
-use Rattle.dc_changes.specs.Flat.{IsFlat, is_flat_byte}
+use Rattle.dc_change.specs.Flat.{IsFlat, is_flat_byte}
 
 byte_ascii : (b : ℕ) → is_flat_byte b ≡ true → b < 128
 byte_ascii b is = grind (arith, nat_tests)

@@ -4,7 +4,7 @@ use Rattle.json.specs.Json.{Json}
 use Rattle.json.specs.Token.{Token}
 use Rattle.json.specs.Tree.{json_tokens, items_tokens, members_tokens}
 use Rattle.json.specs.Written.{Written}
-use Rattle.dc_records.specs.Record.{Entry}
+use Rattle.dc_record.specs.Record.{Entry}
 use Rattle.dc_json.specs.Record.{record_json}
 use Rattle.dc_json.specs.Object.{Field, members_of, items_of, fields_tokens, values_tokens}
 

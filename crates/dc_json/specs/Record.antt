@@ -3,15 +3,15 @@ use Rattle.std.specs.Prelude.{ℕ, ◌%◌, if◌then◌else◌, List, [], ◌�
 use Rattle.std.specs.Prelude.{Option, Some, None}
 use Rattle.hex.specs.Hex.{encode_upper}
 use Rattle.json.specs.Json.{Json, string, null}
-use Rattle.dc_records.specs.Record.{Entry}
-use Rattle.dc_units.specs.declared.point.Seen.{Seen}
-use Rattle.dc_units.specs.declared.point.Seen.TheVariants.{Point as Known, Other}
-use Rattle.dc_units.specs.declared.value.Value.{Value}
-use Rattle.dc_units.specs.declared.value.Value.TheVariants.{Number, Flags, Day as OnDay, Minute}
-use Rattle.dc_units.specs.declared.value.Value.TheVariants.{None as NoValue}
-use Rattle.dc_units.specs.Point.{seen_of}
-use Rattle.dc_units.specs.Quantity.{unit_of}
-use Rattle.dc_units.specs.Text.{value_text}
+use Rattle.dc_record.specs.Record.{Entry}
+use Rattle.dc_value.specs.declared.point.Seen.{Seen}
+use Rattle.dc_value.specs.declared.point.Seen.TheVariants.{Point as Known, Other}
+use Rattle.dc_value.specs.declared.value.Value.{Value}
+use Rattle.dc_value.specs.declared.value.Value.TheVariants.{Number, Flags, Day as OnDay, Minute}
+use Rattle.dc_value.specs.declared.value.Value.TheVariants.{None as NoValue}
+use Rattle.dc_value.specs.Point.{seen_of}
+use Rattle.dc_value.specs.Quantity.{unit_of}
+use Rattle.dc_value.specs.Text.{value_text}
 use Rattle.dc_names.specs.Fields.{function_name}
 use Rattle.dc_names.specs.Plain.{plain_at}
 use Rattle.dc_names.specs.Vib.{code_of, quantity_name, qualifiers}

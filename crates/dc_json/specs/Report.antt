@@ -3,16 +3,16 @@ use Rattle.std.specs.Prelude.{ℕ, List, [], ◌∷◌, ◌++◌, length, codes,
 use Rattle.std.specs.List.{flat_map}
 use Rattle.json.specs.Json.{Json, string, null}
 use Rattle.dc_address.specs.declared.identity.Identity.{Identity}
-use Rattle.dc_changes.specs.State.{State, MeterRow, row_of}
-use Rattle.dc_meters.specs.declared.place.Place.{Place}
-use Rattle.dc_meters.specs.Places.{by_flat}
+use Rattle.dc_change.specs.State.{State, MeterRow, row_of}
+use Rattle.dc_register.specs.declared.place.Place.{Place}
+use Rattle.dc_register.specs.Places.{by_flat}
 use Rattle.dc_names.specs.Fields.{function_name}
-use Rattle.dc_report.specs.declared.row.Row.{Row}
-use Rattle.dc_report.specs.DueTable.{due_rows}
-use Rattle.dc_units.specs.declared.point.Point.{Point}
-use Rattle.dc_units.specs.Date.{Day}
-use Rattle.dc_units.specs.Quantity.{unit_of}
-use Rattle.dc_units.specs.Text.{day_text}
+use Rattle.dc_table.specs.declared.row.Row.{Row}
+use Rattle.dc_table.specs.DueTable.{due_rows}
+use Rattle.dc_value.specs.declared.point.Point.{Point}
+use Rattle.dc_value.specs.Date.{Day}
+use Rattle.dc_value.specs.Quantity.{unit_of}
+use Rattle.dc_value.specs.Text.{day_text}
 use Rattle.dc_json.specs.Object.{Field, object_of, count}
 use Rattle.dc_json.specs.Meter.{identity_fields}
 use Rattle.dc_json.specs.Record.{value_json, unit_json}

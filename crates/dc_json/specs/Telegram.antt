@@ -2,10 +2,10 @@
 use Rattle.std.specs.Prelude.{ℕ, Bool, true, false, List, [], ◌∷◌, ◌++◌, codes, map}
 use Rattle.hex.specs.Hex.{encode_upper}
 use Rattle.json.specs.Json.{Json, string, boolean, null}
-use Rattle.dc_records.specs.declared.header.Header.{Header}
-use Rattle.dc_records.specs.Record.{Entry}
-use Rattle.dc_records.specs.Body.{Ending, plain, last, more}
-use Rattle.dc_records.specs.Telegram.{Parsed}
+use Rattle.dc_record.specs.declared.header.Header.{Header}
+use Rattle.dc_record.specs.Record.{Entry}
+use Rattle.dc_record.specs.Body.{Ending, plain, last, more}
+use Rattle.dc_record.specs.Telegram.{Parsed}
 use Rattle.dc_json.specs.Object.{Field, object_of, array_of, count}
 use Rattle.dc_json.specs.Meter.{identity_fields, status_fields}
 use Rattle.dc_json.specs.Record.{record_json}

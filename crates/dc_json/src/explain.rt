@@ -5,21 +5,21 @@
 ghost use Rattle.std.specs.Prelude.{◌≡◌, ◌≢◌, ◌<◌, ◌≤◌, length, IfSome, IfOk, IfErr, OnOk, IsErrOf};
 ghost use Rattle.dc_io.specs.Failures.{HasRisen};
 ghost use Rattle.dc_io.specs.Lines.{longest_input_line, most_input, most_spelled};
-ghost use Rattle.dc_linkframe.specs.Frame.{seen};
+ghost use Rattle.dc_frame.specs.Frame.{seen};
 ghost use Rattle.dc_decode.specs.Frames.{any_bad, frames_of, is_bad, is_bad_content, is_bad_frame};
 ghost use Rattle.dc_decode.specs.Text.{has_fault, is_bad_line};
 
 use crate::place::{body_place, frame_place};
 use crate::table::put_telegram_table;
 use dc_decode::{decode_line, first_frame, read_frame};
+use dc_frame::Frame;
+use dc_frame::control::VARIABLE_DATA;
 use dc_io::{
     Bytes, CHUNK, IoFault, LONGEST, MOST, Sink, Source, TextFault, first_line, put_byte, put_fault,
     put_number, read_input, room,
 };
-use dc_linkframe::Frame;
-use dc_linkframe::control::VARIABLE_DATA;
 use dc_names::{ci_name, control_name};
-use dc_records::Telegram;
+use dc_record::Telegram;
 use std::alloc::Allocator;
 
 // Number of bytes of a long frame before its body.

@@ -1,7 +1,7 @@
 //! A link frame or its fault.
 
 ghost use Rattle.std.specs.Prelude.{◌≡◌, ◌∷◌, [], ◌++◌, codes, Err, IfOk};
-ghost use Rattle.dc_linkframe.specs.Frame.{seen, long};
+ghost use Rattle.dc_frame.specs.Frame.{seen, long};
 ghost use Rattle.dc_decode.specs.Frames.{is_bad_content, is_bad_frame, is_bad};
 ghost use Rattle.dc_json.specs.Object.{Adds, fields_tokens};
 ghost use Rattle.dc_json.specs.Frame.{fault_fields, fault_field, place_fields, link_fields};
@@ -11,11 +11,11 @@ ghost use Rattle.dc_json.specs.Frame.{frame_fields, read_fields, text_fields};
 use crate::put::{begin_object, end_object, put_count, put_hex, put_name, put_text};
 use crate::telegram::put_telegram;
 use dc_decode::read_frame;
+use dc_frame::control::VARIABLE_DATA;
+use dc_frame::{Frame, FrameFault};
 use dc_io::NoMemory;
-use dc_linkframe::control::VARIABLE_DATA;
-use dc_linkframe::{Frame, FrameFault};
 use dc_names::{ci_name, control_name};
-use dc_records::{BodyFault, Telegram};
+use dc_record::{BodyFault, Telegram};
 use json::Writer;
 use std::alloc::Allocator;
 

@@ -147,7 +147,7 @@ fn add_lines<A: Allocator + Copy>(
 ///
 /// The whole input is read, and the whole text built, before anything is written. The text is
 /// defined by `specs/Text.antt`, over the frames of EN 13757-2 and the telegrams of EN 13757-3; the
-/// value of a record is that of [`point_of`](dc_units::point_of), as `decode` prints it.
+/// value of a record is that of [`point_of`](dc_value::point_of), as `decode` prints it.
 ///
 /// # Errors
 /// [`TextFault::Read`] and [`TextFault::Write`] if the reader or the writer failed,

@@ -3,7 +3,7 @@
 ghost use Rattle.std.specs.Prelude.{◌≡◌, ◌∷◌, [], map, option_map};
 ghost use Rattle.json.specs.Token.{key};
 ghost use Rattle.json.specs.Tree.{json_tokens};
-ghost use Rattle.dc_records.specs.Record.{view};
+ghost use Rattle.dc_record.specs.Record.{view};
 ghost use Rattle.dc_names.specs.Plain.{plain_view};
 ghost use Rattle.dc_json.specs.Object.{Adds, fields_tokens, values_tokens};
 ghost use Rattle.dc_json.specs.Record.{about_fields, sent_fields, quantity_fields, reading_fields};
@@ -16,8 +16,8 @@ use crate::put::{
 };
 use dc_io::NoMemory;
 use dc_names::{Plain, function_name, plain_of, qualifiers, quantity_name, vife_name};
-use dc_records::Record;
-use dc_units::{Seen, TEXT_ROOM, Value, point_of};
+use dc_record::Record;
+use dc_value::{Seen, TEXT_ROOM, Value, point_of};
 use json::Writer;
 use std::alloc::Allocator;
 

@@ -2,7 +2,7 @@
 
 ghost use Rattle.std.specs.Prelude.{◌≡◌, ◌++◌, IfOk};
 ghost use Rattle.std.specs.List.{flat_map};
-ghost use Rattle.dc_meters.specs.Places.{by_flat};
+ghost use Rattle.dc_register.specs.Places.{by_flat};
 ghost use Rattle.json.specs.Tree.{json_tokens};
 ghost use Rattle.dc_json.specs.Object.{Adds, fields_tokens};
 ghost use Rattle.dc_json.specs.Report.{address_json, date_fields, due_lines, line_at, meter_json};
@@ -14,12 +14,12 @@ use crate::meter::put_meter;
 use crate::put::{ascii, begin_object, end_object, put_count, put_name, put_text};
 use crate::record::{put_unit, put_value};
 use dc_address::{Identity, Primary};
-use dc_changes::Flat;
+use dc_change::Flat;
 use dc_io::NoMemory;
-use dc_meters::{House, Meter};
 use dc_names::function_name;
-use dc_report::{Row, rows};
-use dc_units::{Date, Point, TEXT_ROOM, Value};
+use dc_register::{House, Meter};
+use dc_table::{Row, rows};
+use dc_value::{Date, Point, TEXT_ROOM, Value};
 use json::Writer;
 use std::alloc::Allocator;
 
@@ -167,7 +167,7 @@ pub fn register_json<A: Allocator + Copy>(
 }
 
 /// Returns the due-date table for a date as JSON Lines (RFC 8259): an object for each row, in the
-/// order of [`due_table`](dc_report::due_table). The only error is out of memory.
+/// order of [`due_table`](dc_table::due_table). The only error is out of memory.
 pub fn due_json<A: Allocator + Copy>(
     alloc: A,
     house: &House<A>,

@@ -4,8 +4,8 @@ use dc_io::{IoFault, Sink, put_byte, put_hex, put_number};
 use dc_names::{
     application_name, function_name, medium_name, plain_of, qualifiers, quantity_name, vife_name,
 };
-use dc_records::{Header, Record, Telegram};
-use dc_units::{Seen, TEXT_ROOM, Value, point_of};
+use dc_record::{Header, Record, Telegram};
+use dc_value::{Seen, TEXT_ROOM, Value, point_of};
 
 // The widths of the columns, in characters.
 const QUANTITY: usize = 30;

@@ -3,8 +3,8 @@
 ghost use Rattle.std.specs.Prelude.{◌≡◌, ◌∷◌, [], false, map};
 ghost use Rattle.hex.specs.Hex.{encode_upper};
 ghost use Rattle.json.specs.Json.{string, null};
-ghost use Rattle.dc_records.specs.Seen.{ending};
-ghost use Rattle.dc_records.specs.Telegram.{parsed};
+ghost use Rattle.dc_record.specs.Seen.{ending};
+ghost use Rattle.dc_record.specs.Telegram.{parsed};
 ghost use Rattle.dc_json.specs.Object.{Adds, fields_tokens, values_tokens};
 ghost use Rattle.dc_json.specs.Record.{record_json};
 ghost use Rattle.dc_json.specs.Telegram.{header_fields, records_field, ending_fields, end_fields};
@@ -14,7 +14,7 @@ use crate::meter::{put_meter, put_status_object};
 use crate::put::{begin_array, end_array, put_count, put_flag, put_hex, put_name, put_null};
 use crate::record::put_record;
 use dc_io::NoMemory;
-use dc_records::{End, Header, Records, Telegram};
+use dc_record::{End, Header, Records, Telegram};
 use json::Writer;
 use std::alloc::Allocator;
 

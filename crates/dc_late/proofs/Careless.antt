@@ -3,14 +3,14 @@ use Rattle.std.proofs.Common.{◌≡◌, ◌≢◌, ℕ, zero, suc, Bool, true, 
 use Rattle.std.specs.Prelude.{slice_get, slice_index, ◌≤◌}
 use Rattle.std.specs.List.{AllByRecursion}
 use Rattle.std.proofs.lemmas.Bool.{eq-eqb}
-use Rattle.dc_linkframe.specs.Frame.{long, spelling, longest_body}
-use Rattle.dc_linkframe.specs.Reading.{frame_of}
+use Rattle.dc_frame.specs.Frame.{long, spelling, longest_body}
+use Rattle.dc_frame.specs.Reading.{frame_of}
 use Rattle.dc_address.specs.Identity.{is_identity}
 use Rattle.dc_address.proofs.Identities.{spelled_identity}
 use Rattle.dc_address.specs.declared.identity.Identity.{Identity}
-use Rattle.dc_records.specs.Header.{header_at}
-use Rattle.dc_records.specs.Body.{Ending, more, last, content_at, front_at}
-use Rattle.dc_records.specs.Telegram.{Parsed, telegram_at}
+use Rattle.dc_record.specs.Header.{header_at}
+use Rattle.dc_record.specs.Body.{Ending, more, last, content_at, front_at}
+use Rattle.dc_record.specs.Telegram.{Parsed, telegram_at}
 use Rattle.dc_readout.specs.declared.stage.Stage.{Stage}
 use Rattle.dc_readout.specs.declared.stage.Stage.TheVariants.{Resets, Requests, Pending}
 use Rattle.dc_world.specs.Meter.{Meter, moved_by, answer_to}

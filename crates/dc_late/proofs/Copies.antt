@@ -2,10 +2,10 @@
 use Rattle.std.proofs.Common.{◌≡◌, ◌≢◌, ℕ, zero, suc, ◌+◌, ◌⊎◌, inl, inr, Bool, true, false, not, ◌&&◌, ◌||◌, List, [], ◌∷◌, map, Option, Some, None, cond, bytes_eq, refl, sym, ◌∙◌, ap, subst}
 use Rattle.std.specs.Prelude.{slice_get, unwrap_or}
 use Rattle.std.proofs.lemmas.Slice.Eq.{bytes_eq-Decides}
-use Rattle.dc_linkframe.specs.Frame.{FrameSeen, ack, short, long, spelling}
-use Rattle.dc_linkframe.specs.Control.{variable_data}
-use Rattle.dc_linkframe.specs.Reading.{frame_of}
-use Rattle.dc_linkframe.proofs.Spellings.{frame_of-spelling}
+use Rattle.dc_frame.specs.Frame.{FrameSeen, ack, short, long, spelling}
+use Rattle.dc_frame.specs.Control.{variable_data}
+use Rattle.dc_frame.specs.Reading.{frame_of}
+use Rattle.dc_frame.proofs.Spellings.{frame_of-spelling}
 use Rattle.dc_address.specs.declared.identity.Identity.{Identity}
 use Rattle.dc_readout.specs.declared.stage.Stage.{Stage}
 use Rattle.dc_readout.specs.declared.stage.Stage.TheVariants.{Resets, Selects, Requests, Pending, Ended}

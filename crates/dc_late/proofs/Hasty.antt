@@ -4,17 +4,17 @@ use Rattle.std.proofs.Common.{◌≡◌, ◌≢◌, ℕ, zero, suc, ◌+◌, ◌
 use Rattle.std.specs.Prelude.{slice_get, slice_index, ◌≤◌}
 use Rattle.std.specs.List.{AllByRecursion}
 use Rattle.std.proofs.lemmas.Bool.{eq-eqb}
-use Rattle.dc_linkframe.specs.Frame.{ack, short, long, spelling, longest_body}
-use Rattle.dc_linkframe.specs.Reading.{frame_of}
+use Rattle.dc_frame.specs.Frame.{ack, short, long, spelling, longest_body}
+use Rattle.dc_frame.specs.Reading.{frame_of}
 use Rattle.dc_address.specs.Digits.{decimal_digits}
 use Rattle.dc_address.specs.Identity.{IsWire, is_identity, wire_of}
 use Rattle.dc_address.specs.Mask.{mask_of, matches}
 use Rattle.dc_address.proofs.Identities.{spelled_identity}
 use Rattle.dc_address.proofs.Masks.{same_from_matches}
 use Rattle.dc_address.specs.declared.identity.Identity.{Identity}
-use Rattle.dc_records.specs.Header.{header_at}
-use Rattle.dc_records.specs.Body.{more, last, content_at, front_at}
-use Rattle.dc_records.specs.Telegram.{telegram_at}
+use Rattle.dc_record.specs.Header.{header_at}
+use Rattle.dc_record.specs.Body.{more, last, content_at, front_at}
+use Rattle.dc_record.specs.Telegram.{telegram_at}
 use Rattle.dc_readout.specs.declared.stage.Stage.{Stage}
 use Rattle.dc_readout.specs.declared.stage.Stage.TheVariants.{Resets, Requests, Pending}
 use Rattle.dc_world.specs.Meter.{Meter, first_position, moved_by, answer_to}

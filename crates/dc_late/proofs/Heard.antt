@@ -5,14 +5,14 @@ use Rattle.std.specs.List.{AllByRecursion}
 use Rattle.std.proofs.lemmas.Bool.{eq-eqb}
 use Rattle.std.proofs.lemmas.Bool.Decides.{nat_tests}
 use Rattle.std.proofs.lemmas.Slice.Eq.{bytes_eq-Decides}
-use Rattle.dc_linkframe.specs.Frame.{FrameSeen, ack, short, long, spelling}
-use Rattle.dc_linkframe.specs.Control.{req_ud2, snd_nke, variable_data}
-use Rattle.dc_linkframe.specs.Reading.{frame_of}
-use Rattle.dc_linkframe.proofs.Spellings.{frame_of-spelling}
+use Rattle.dc_frame.specs.Frame.{FrameSeen, ack, short, long, spelling}
+use Rattle.dc_frame.specs.Control.{req_ud2, snd_nke, variable_data}
+use Rattle.dc_frame.specs.Reading.{frame_of}
+use Rattle.dc_frame.proofs.Spellings.{frame_of-spelling}
 use Rattle.dc_address.specs.declared.identity.Identity.{Identity}
-use Rattle.dc_records.specs.declared.fault.BodyFault.{BodyFault}
-use Rattle.dc_records.specs.Body.{continues}
-use Rattle.dc_records.specs.Telegram.{Parsed, telegram_at}
+use Rattle.dc_record.specs.declared.fault.BodyFault.{BodyFault}
+use Rattle.dc_record.specs.Body.{continues}
+use Rattle.dc_record.specs.Telegram.{Parsed, telegram_at}
 use Rattle.dc_readout.specs.declared.stage.Stage.{Stage}
 use Rattle.dc_readout.specs.declared.stage.Stage.TheVariants.{Resets, Selects, Requests, Pending, Ended}
 use Rattle.dc_readout.specs.declared.why.Why.{Why}

@@ -3,9 +3,9 @@ use Rattle.std.proofs.Common.{◌≡◌, ℕ, suc, ◌+◌, ◌⊎◌, inl, inr,
 use Rattle.std.specs.Prelude.{slice_get}
 use Rattle.std.specs.List.{AllByRecursion}
 use Rattle.std.proofs.lemmas.Bool.{eqb-true}
-use Rattle.dc_linkframe.specs.Frame.{FrameSeen, ack, short, long, spelling}
-use Rattle.dc_linkframe.specs.Control.{snd_nke, selected, reset_to}
-use Rattle.dc_linkframe.specs.Reading.{frame_of}
+use Rattle.dc_frame.specs.Frame.{FrameSeen, ack, short, long, spelling}
+use Rattle.dc_frame.specs.Control.{snd_nke, selected, reset_to}
+use Rattle.dc_frame.specs.Reading.{frame_of}
 use Rattle.dc_readout.specs.declared.stage.Stage.{Stage}
 use Rattle.dc_readout.specs.declared.stage.Stage.TheVariants.{Resets, Selects, Requests, Pending, Ended}
 use Rattle.dc_readout.specs.declared.why.Why.{Why}

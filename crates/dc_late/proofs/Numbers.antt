@@ -2,10 +2,10 @@
 use Rattle.std.proofs.Common.{◌≡◌, ℕ, zero, suc, Bool, true, false, not, ◌||◌, ◌&&◌, List, [], ◌∷◌, ◌++◌, map, drop, Option, Some, None, cond, ◌==◌, refl, sym, ◌∙◌, ap, subst}
 use Rattle.std.specs.Prelude.{slice_get, slice_set, option_map, unwrap_or, ◌-◌}
 use Rattle.std.specs.List.{AllByRecursion}
-use Rattle.dc_linkframe.specs.Frame.{FrameSeen, ack, short, long, spelling}
-use Rattle.dc_linkframe.specs.Control.{snd_nke, variable_data}
-use Rattle.dc_linkframe.specs.Reading.{frame_of}
-use Rattle.dc_linkframe.proofs.Spellings.{frame_of-spelling}
+use Rattle.dc_frame.specs.Frame.{FrameSeen, ack, short, long, spelling}
+use Rattle.dc_frame.specs.Control.{snd_nke, variable_data}
+use Rattle.dc_frame.specs.Reading.{frame_of}
+use Rattle.dc_frame.proofs.Spellings.{frame_of-spelling}
 use Rattle.dc_address.specs.Mask.{mask_at, matches}
 use Rattle.dc_readout.specs.Summary.{asked_by}
 use Rattle.dc_world.specs.Meter.{Meter, Position, moved_by, answer_to, response, rsp_ud, body_at, is_own, is_request, hears_at, is_selection}

@@ -1,8 +1,8 @@
 -- The line of specs/Late whose telegrams have no access numbers: what the one does, but for these, the other does.
 use Rattle.std.proofs.Common.{◌≡◌, ℕ, Bool, true, false, not, ◌&&◌, ◌||◌, List, [], ◌∷◌, drop, Option, Some, None, bytes_eq}
 use Rattle.std.specs.Prelude.{if◌then◌else◌, slice_get}
-use Rattle.dc_linkframe.specs.Frame.{FrameSeen, ack, short, long, spelling}
-use Rattle.dc_linkframe.specs.Reading.{frame_of}
+use Rattle.dc_frame.specs.Frame.{FrameSeen, ack, short, long, spelling}
+use Rattle.dc_frame.specs.Reading.{frame_of}
 use Rattle.dc_readout.specs.Summary.{asked_by, verdict_by}
 use Rattle.dc_world.specs.declared.event.Outcome.{Outcome}
 use Rattle.dc_world.specs.declared.event.WorldEvent.{WorldEvent}

@@ -2,9 +2,9 @@
 use Rattle.std.proofs.Common.{◌≡◌, ℕ, zero, suc, ◌⊎◌, inl, inr, Bool, true, false, not, ◌&&◌, List, [], ◌∷◌, ◌++◌, drop, Option, Some, None, cond, refl, sym, ◌∙◌, ap, subst}
 use Rattle.std.specs.Prelude.{slice_get}
 use Rattle.std.specs.List.{AllByRecursion}
-use Rattle.dc_linkframe.specs.Frame.{ack, spelling}
-use Rattle.dc_linkframe.specs.Reading.{frame_of}
-use Rattle.dc_linkframe.proofs.Spellings.{frame_of-spelling}
+use Rattle.dc_frame.specs.Frame.{ack, spelling}
+use Rattle.dc_frame.specs.Reading.{frame_of}
+use Rattle.dc_frame.proofs.Spellings.{frame_of-spelling}
 use Rattle.dc_readout.specs.declared.stage.Stage.{Stage}
 use Rattle.dc_readout.specs.declared.stage.Stage.TheVariants.{Resets, Selects, Requests, Pending, Ended}
 use Rattle.dc_readout.specs.Summary.{request_of}

@@ -4,20 +4,20 @@ use Rattle.std.specs.Prelude.{slice_index, option_map, nat_lt, Result, Err}
 use Rattle.std.proofs.lemmas.List.{length-set, take-set-le, drop-set-lt, get_or-set_other, get_or-set_same}
 use Rattle.std.proofs.lemmas.Bool.Decides.{nat_tests}
 use Rattle.byteorder.specs.Endian.{little_from}
-use Rattle.dc_linkframe.specs.Frame.{FrameSeen, ack, short, long}
-use Rattle.dc_linkframe.specs.Control.{variable_data, application_error, is_rsp_ud}
-use Rattle.dc_linkframe.specs.Reading.{frame_of}
+use Rattle.dc_frame.specs.Frame.{FrameSeen, ack, short, long}
+use Rattle.dc_frame.specs.Control.{variable_data, application_error, is_rsp_ud}
+use Rattle.dc_frame.specs.Reading.{frame_of}
 use Rattle.dc_address.specs.Identity.{is_identity}
 use Rattle.dc_address.proofs.Identities.{spelled_identity}
 use Rattle.dc_address.specs.declared.identity.Identity.{Identity}
-use Rattle.dc_records.specs.declared.fault.BodyFault.{BodyFault}
-use Rattle.dc_records.specs.declared.fault.BodyFault.TheVariants.{Short, BadIdentity, Encrypted}
-use Rattle.dc_records.specs.declared.header.Header.{Header}
-use Rattle.dc_records.specs.Header.{header_at, header_by, header_with, security_mode}
-use Rattle.dc_records.specs.Body.{Ending, content_at, continues}
-use Rattle.dc_records.specs.Record.{Entry}
-use Rattle.dc_records.specs.Telegram.{Parsed, telegram_at, parsed_of}
-use Rattle.dc_records.specs.Reading.{◌>>=◌}
+use Rattle.dc_record.specs.declared.fault.BodyFault.{BodyFault}
+use Rattle.dc_record.specs.declared.fault.BodyFault.TheVariants.{Short, BadIdentity, Encrypted}
+use Rattle.dc_record.specs.declared.header.Header.{Header}
+use Rattle.dc_record.specs.Header.{header_at, header_by, header_with, security_mode}
+use Rattle.dc_record.specs.Body.{Ending, content_at, continues}
+use Rattle.dc_record.specs.Record.{Entry}
+use Rattle.dc_record.specs.Telegram.{Parsed, telegram_at, parsed_of}
+use Rattle.dc_record.specs.Reading.{◌>>=◌}
 use Rattle.dc_readout.specs.declared.stage.Stage.{Stage}
 use Rattle.dc_readout.specs.declared.stage.Stage.TheVariants.{Resets, Selects, Requests, Pending, Ended}
 use Rattle.dc_readout.specs.declared.why.Why.TheVariants.{WrongFrame, WrongAddress, ApplicationError, Stranger, TooManyParts}

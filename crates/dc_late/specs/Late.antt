@@ -11,10 +11,10 @@
 use Rattle.std.specs.Prelude.{◌≡◌, ◌≢◌, ℕ, ◌+◌, Bool, true, false, not, ◌&&◌, ◌||◌, List, [], ◌∷◌}
 use Rattle.std.specs.Prelude.{◌++◌, drop, Option, Some, None, slice_get, ◌==◌, bytes_eq}
 use Rattle.std.specs.Prelude.{if◌then◌else◌, slice_set, map, zero, suc}
-use Rattle.dc_linkframe.specs.Frame.{FrameSeen, ack, short, long, spelling}
-use Rattle.dc_linkframe.specs.Control.{snd_nke, snd_ud, selected, variable_data}
-use Rattle.dc_linkframe.specs.Reading.{frame_of}
-use Rattle.dc_records.specs.Telegram.{Parsed}
+use Rattle.dc_frame.specs.Frame.{FrameSeen, ack, short, long, spelling}
+use Rattle.dc_frame.specs.Control.{snd_nke, snd_ud, selected, variable_data}
+use Rattle.dc_frame.specs.Reading.{frame_of}
+use Rattle.dc_record.specs.Telegram.{Parsed}
 use Rattle.dc_readout.specs.Summary.{Verdict, again, ready, new, failed, asked_by, verdict_by}
 use Rattle.dc_world.specs.declared.event.Outcome.{Outcome}
 use Rattle.dc_world.specs.declared.event.WorldEvent.{WorldEvent}

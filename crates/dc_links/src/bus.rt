@@ -2,9 +2,9 @@
 
 ghost use Rattle.std.specs.Prelude.{◌≡◌, true};
 
+use dc_frame::FrameBuf;
 use dc_gateway::AnswerBuf;
-use dc_line::{HalfBus, QuietBus};
-use dc_linkframe::FrameBuf;
+use dc_raw::{HalfBus, QuietBus};
 
 /// A bus of one of two kinds, or none.
 #[derive(Drop)]

@@ -5,7 +5,7 @@ use crate::connection::{Connection, connect};
 use crate::socket::{Tcp, Terminal};
 use dc_gateway::Gateway;
 use dc_io::{ReadSource, WriteSink};
-use dc_line::{BlockLink, Line, PollWire};
+use dc_raw::{BlockLink, Line, PollWire};
 use dc_steady::Steady;
 use dc_words::LinkName;
 use std::fs::{File, OpenOptions};

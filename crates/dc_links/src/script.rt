@@ -2,10 +2,10 @@
 
 ghost use Rattle.std.specs.Prelude.{◌≡◌, true};
 
+use dc_frame::FrameBuf;
 use dc_gateway::{AnswerBuf, Bus};
-use dc_line::{Both, Pause, QuietBus};
-use dc_linkframe::FrameBuf;
-use dc_poller::ScriptBus;
+use dc_raw::{Both, Pause, QuietBus};
+use dc_script::ScriptBus;
 
 /// The bus of a script's line, over the two halves. The answer to a request by which the link is
 /// lost is silence.

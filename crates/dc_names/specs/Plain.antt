@@ -1,11 +1,11 @@
 -- The values of records that the due-date table leaves as other and whose data are plain numbers (EN 13757-3).
 use Rattle.std.specs.Prelude.{ℕ, List, [], ◌∷◌, Option, Some, None, ℤ}
-use Rattle.dc_records.specs.Record.{Entry}
-use Rattle.dc_units.specs.declared.point.Seen.{Seen}
-use Rattle.dc_units.specs.declared.point.Seen.TheVariants.{Point as Known, Other}
-use Rattle.dc_units.specs.declared.value.Value.{Value}
-use Rattle.dc_units.specs.declared.value.Value.TheVariants.{Number, Flags, Day, Minute, None as NoValue}
-use Rattle.dc_units.specs.Point.{seen_of}
+use Rattle.dc_record.specs.Record.{Entry}
+use Rattle.dc_value.specs.declared.point.Seen.{Seen}
+use Rattle.dc_value.specs.declared.point.Seen.TheVariants.{Point as Known, Other}
+use Rattle.dc_value.specs.declared.value.Value.{Value}
+use Rattle.dc_value.specs.declared.value.Value.TheVariants.{Number, Flags, Day, Minute, None as NoValue}
+use Rattle.dc_value.specs.Point.{seen_of}
 use Rattle.dc_names.specs.Scale.{scale_of}
 use Rattle.dc_names.specs.declared.plain.Plain.{Plain}
 

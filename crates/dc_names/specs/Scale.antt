@@ -1,6 +1,6 @@
 -- The codes whose data are plain numbers, with their units (EN 13757-3, tables of primary VIFs and of both extensions).
 use Rattle.std.specs.Prelude.{ℕ, ◌-◌, ◌&&◌, ◌==◌, nat_le, nat_lt, if◌then◌else◌, List, [], ◌∷◌, codes, Option, Some, None, ℤ, pos, ◌+ℤ◌}
-use Rattle.dc_units.specs.Number.{minus}
+use Rattle.dc_value.specs.Number.{minus}
 use Rattle.dc_names.specs.declared.scale.Scale.{Scale}
 
 -- Codes of one unit: the first and the last, and the power of ten of the first. Each further code stands for the next

@@ -1,12 +1,12 @@
 //! Values of records whose data are plain numbers.
 
 ghost use Rattle.std.specs.Prelude.{◌≡◌, option_map};
-ghost use Rattle.dc_records.specs.Record.{view};
+ghost use Rattle.dc_record.specs.Record.{view};
 ghost use Rattle.dc_names.specs.Plain.{plain_at, plain_view, to_power};
 
 use crate::scale::scale_of;
-use dc_records::Record;
-use dc_units::{Decimal, Seen, Value, point_of};
+use dc_record::Record;
+use dc_value::{Decimal, Seen, Value, point_of};
 
 // The VIF of a count without a unit or a power of ten (EN 13757-3, units for heat cost allocators).
 const COUNT: u8 = 0x6E;

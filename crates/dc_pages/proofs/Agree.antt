@@ -2,12 +2,12 @@
 use Rattle.std.proofs.Common.{◌≡◌, ⊎_elim, ℕ, zero, suc, ◌<◌, ◌≤◌, ◌+◌, ◌*◌, List, ◌++◌, length, take, drop, slice_index, arith, ap, sym, subst, ◌∙◌, ◌≢◌}
 use Rattle.std.proofs.lemmas.Bool.{cases_lt}
 use Rattle.std.proofs.lemmas.List.{take-append-drop, drop-drop, length-drop, nil_from_length}
-use Rattle.dc_sectors.specs.declared.sector.Sector.{Sector}
-use Rattle.dc_sectors.specs.declared.sector.Sector.TheVariants.{Bytes, Unreadable}
-use Rattle.dc_sectors.specs.Disk.{Image}
+use Rattle.dc_disk.specs.declared.sector.Sector.{Sector}
+use Rattle.dc_disk.specs.declared.sector.Sector.TheVariants.{Bytes, Unreadable}
+use Rattle.dc_disk.specs.Disk.{Image}
 use Rattle.dc_pages.specs.Group.{IsPage, IsCommit, IsGroup, IsComplete, commit_kind, piece}
-use Rattle.dc_sectors.specs.Fields.{field}
-use Rattle.dc_sectors.proofs.Texts.{one_text}
+use Rattle.dc_disk.specs.Fields.{field}
+use Rattle.dc_disk.proofs.Texts.{one_text}
 use Rattle.dc_pages.specs.declared.site.Site.{Site}
 
 -- what agrees up to its end has the same group

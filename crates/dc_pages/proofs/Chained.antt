@@ -4,9 +4,9 @@ use Rattle.std.proofs.lemmas.Bool.{cases_lt}
 use Rattle.std.proofs.lemmas.List.{append-nil}
 use Rattle.dc_io.specs.Failures.{HasRisen}
 use Rattle.dc_io.specs.Chain.{IsRun, IsChain, IsBroken, joined}
-use Rattle.dc_sectors.specs.declared.device.Disk.{Ghosts}
-use Rattle.dc_sectors.specs.Runs.{LeavesOnly}
-use Rattle.dc_sectors.proofs.Moments.{counted_on}
+use Rattle.dc_disk.specs.declared.device.Disk.{Ghosts}
+use Rattle.dc_disk.specs.Runs.{LeavesOnly}
+use Rattle.dc_disk.proofs.Moments.{counted_on}
 use Rattle.dc_pages.specs.Draft.{Draft}
 use Rattle.dc_pages.specs.Writing.{SameOutside, IsPartOf, IsGoing}
 use Rattle.dc_pages.specs.Streaming.{GoesInto, BreaksOff}

@@ -1,8 +1,8 @@
 -- The commit sector goes to the disk.
 use Rattle.std.proofs.Common.{◌≡◌, ℕ, ◌<◌, ◌≤◌, ◌+◌, ◌^◌, List, ◌++◌, length, drop, replicate, arith, refl, sym, subst}
-use Rattle.dc_sectors.specs.Disk.{IsImage, put, added}
-use Rattle.dc_sectors.specs.declared.device.Disk.{Ghosts}
-use Rattle.dc_sectors.specs.Runs.{Passes}
+use Rattle.dc_disk.specs.Disk.{IsImage, put, added}
+use Rattle.dc_disk.specs.declared.device.Disk.{Ghosts}
+use Rattle.dc_disk.specs.Runs.{Passes}
 use Rattle.dc_pages.specs.Draft.{Draft}
 use Rattle.dc_pages.specs.Group.{commit_kind, head_bytes, page_bytes, commit_bytes}
 use Rattle.dc_pages.proofs.Stamped.{commit_bytes-is_commit}

@@ -2,8 +2,8 @@
 use Rattle.std.proofs.Common.{Result, Bool, ◌≡◌, ◌⊎◌, inl, inr, ⊎_elim, ℕ, ◌<◌, ◌≤◌, ◌+◌, ◌*◌, ◌≢◌, List, [], ◌++◌, length, take, drop, arith, ap, sym, subst, ◌∙◌, refl}
 use Rattle.std.proofs.lemmas.Bool.{cases_eq, cases_lt}
 use Rattle.std.proofs.lemmas.List.{take_all, drop_at, length-append, length-drop, length-take-le}
-use Rattle.dc_sectors.specs.declared.sector.Sector.TheVariants.{Bytes, Unreadable}
-use Rattle.dc_sectors.specs.Disk.{Image}
+use Rattle.dc_disk.specs.declared.sector.Sector.TheVariants.{Bytes, Unreadable}
+use Rattle.dc_disk.specs.Disk.{Image}
 use Rattle.dc_pages.specs.Group.{IsHead, IsPage, IsCommit, IsGroup, commit_kind, piece}
 use Rattle.dc_pages.specs.Reading.{IsBegun, IsCutAt}
 use Rattle.dc_pages.specs.Judging.{IsStep}

@@ -2,7 +2,7 @@
 use Rattle.std.proofs.Common.{◌≡◌, inl, inr, ⊎_elim, ℕ, ◌<◌, ◌≤◌, ◌+◌, ◌*◌, ◌-◌, List, length, drop, arith, ap, sym, subst, ◌∙◌, ◌≢◌, min}
 use Rattle.std.proofs.lemmas.Bool.{cases_eq, cases_lt}
 use Rattle.std.proofs.lemmas.List.{length-take, length-drop}
-use Rattle.dc_sectors.specs.Disk.{Image}
+use Rattle.dc_disk.specs.Disk.{Image}
 use Rattle.dc_pages.specs.Group.{IsPage, IsCommit, IsComplete, commit_kind, piece}
 use Rattle.dc_pages.specs.Reading.{IsCutAt}
 use Rattle.dc_pages.proofs.Agree.{page_or_commit, one_content}

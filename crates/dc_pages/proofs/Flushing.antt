@@ -1,11 +1,11 @@
 -- The page in the buffer goes to the disk.
 use Rattle.std.proofs.Common.{⊎_elim, ◌≡◌, ◌≢◌, ℕ, ◌<◌, ◌≤◌, ◌+◌, ◌^◌, List, ◌++◌, length, take, drop, arith, ap, sym, subst}
 use Rattle.std.proofs.lemmas.List.{length-drop, length-take-le}
-use Rattle.dc_sectors.specs.declared.sector.Sector.{Sector}
-use Rattle.dc_sectors.specs.declared.sector.Sector.TheVariants.{Bytes}
-use Rattle.dc_sectors.specs.Disk.{Image, IsImage, put, added}
-use Rattle.dc_sectors.specs.declared.device.Disk.{Ghosts}
-use Rattle.dc_sectors.specs.Runs.{Passes, LeavesOnly}
+use Rattle.dc_disk.specs.declared.sector.Sector.{Sector}
+use Rattle.dc_disk.specs.declared.sector.Sector.TheVariants.{Bytes}
+use Rattle.dc_disk.specs.Disk.{Image, IsImage, put, added}
+use Rattle.dc_disk.specs.declared.device.Disk.{Ghosts}
+use Rattle.dc_disk.specs.Runs.{Passes, LeavesOnly}
 use Rattle.dc_pages.specs.Buffer.{IsBuffer}
 use Rattle.dc_pages.specs.Draft.{Draft}
 use Rattle.dc_pages.specs.Group.{IsPage, piece, head_bytes, page_bytes}

@@ -1,7 +1,7 @@
 -- A group on the way, from one call to the next.
 use Rattle.std.proofs.Common.{◌≡◌, ℕ, ◌≤◌, ◌+◌, ◌*◌, List, [], ◌++◌, length, drop, Result, Ok, Err, OnErr, subst, sym, arith, ap, ◌∙◌, refl}
 use Rattle.std.proofs.lemmas.List.{length-append, length-drop, drop-append-le, drop_all, take_all}
-use Rattle.dc_sectors.specs.declared.device.Disk.{Ghosts}
+use Rattle.dc_disk.specs.declared.device.Disk.{Ghosts}
 use Rattle.dc_pages.specs.Draft.{Draft}
 use Rattle.dc_pages.specs.Group.{piece}
 use Rattle.dc_pages.specs.Writing.{IsOnDisk, IsGoing}

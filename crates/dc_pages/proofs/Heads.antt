@@ -1,8 +1,8 @@
 -- A head written over the first bytes of a sector.
 use Rattle.std.proofs.Common.{◌≡◌, ℕ, ◌≤◌, List, [], ◌∷◌, ◌++◌, length, take, drop, set, refl, ap, ◌∙◌, arith, length-append}
 use Rattle.std.proofs.lemmas.List.{drop-drop}
-use Rattle.dc_sectors.specs.Fields.{number_bytes}
-use Rattle.dc_sectors.proofs.Numbers.{length-number_bytes, written_behind}
+use Rattle.dc_disk.specs.Fields.{number_bytes}
+use Rattle.dc_disk.proofs.Numbers.{length-number_bytes, written_behind}
 use Rattle.dc_pages.specs.Group.{head_bytes}
 
 pub set_two : (sector : List ℕ) (a b : ℕ) → 2 ≤ length sector → set (set sector 0 a) 1 b ≡ (a ∷ b ∷ []) ++ drop 2 sector

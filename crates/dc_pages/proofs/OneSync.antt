@@ -2,14 +2,14 @@
 -- sync makes the whole group durable.
 use Rattle.std.proofs.Common.{◌≡◌, ◌⊎◌, inl, inr, ⊎_elim, ℕ, ◌<◌, ◌≤◌, ◌+◌, ◌-◌, List, arith, ap, sym, subst, ◌∙◌, ◌≢◌}
 use Rattle.std.proofs.lemmas.Bool.{cases_eq, cases_lt}
-use Rattle.dc_sectors.specs.declared.sector.Sector.{Sector}
-use Rattle.dc_sectors.specs.declared.sector.Sector.TheVariants.{Unreadable}
-use Rattle.dc_sectors.specs.Disk.{Image}
+use Rattle.dc_disk.specs.declared.sector.Sector.{Sector}
+use Rattle.dc_disk.specs.declared.sector.Sector.TheVariants.{Unreadable}
+use Rattle.dc_disk.specs.Disk.{Image}
 use Rattle.dc_pages.specs.Group.{IsPage, IsCommit, IsGroup, IsComplete, Carries, IsPageKind, IsKnown, commit_kind, piece}
 use Rattle.dc_pages.specs.Writing.{IsTorn, IsPartOf}
-use Rattle.dc_sectors.specs.Fields.{field}
+use Rattle.dc_disk.specs.Fields.{field}
 use Rattle.dc_pages.proofs.Agree.{same_group, page_or_commit}
-use Rattle.dc_sectors.proofs.Texts.{one_text}
+use Rattle.dc_disk.proofs.Texts.{one_text}
 use Rattle.dc_pages.specs.declared.site.Site.{Site}
 
 pub not_commit : (kind : ℕ) → IsPageKind kind → kind ≢ commit_kind

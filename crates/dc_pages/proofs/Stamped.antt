@@ -1,9 +1,9 @@
 -- What is written for a page or a commit sector reads as it (this product's image format).
 use Rattle.std.proofs.Common.{◌≡◌, ℕ, ◌-◌, ◌^◌, ◌<◌, ◌≤◌, List, [], ◌∷◌, ◌++◌, length, take, replicate, refl, ap, ◌∙◌, arith, length-append}
 use Rattle.std.proofs.lemmas.List.{drop_at, take_at}
-use Rattle.dc_sectors.specs.declared.sector.Sector.TheVariants.{Bytes}
-use Rattle.dc_sectors.specs.Fields.{number_bytes}
-use Rattle.dc_sectors.proofs.Numbers.{length-number_bytes, field-number_bytes, field-append}
+use Rattle.dc_disk.specs.declared.sector.Sector.TheVariants.{Bytes}
+use Rattle.dc_disk.specs.Fields.{number_bytes}
+use Rattle.dc_disk.proofs.Numbers.{length-number_bytes, field-number_bytes, field-append}
 use Rattle.dc_pages.specs.Group.{IsHead, IsPage, IsCommit, commit_kind, head_bytes, page_bytes, commit_bytes}
 use Rattle.dc_pages.specs.declared.site.Site.{Site}
 

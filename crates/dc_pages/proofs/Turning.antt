@@ -3,13 +3,13 @@ use Rattle.std.proofs.Common.{◌≡◌, ◌⊎◌, inl, inr, ⊎_elim, ℕ, ◌
 use Rattle.std.proofs.lemmas.Bool.{cases_eq, cases_lt}
 use Rattle.std.proofs.lemmas.List.{take-append-le, drop-append-le, length-drop}
 use Rattle.std.proofs.lemmas.List.Elements.{Contains-append_cases, Contains-push_cases}
-use Rattle.dc_sectors.specs.declared.sector.Sector.{Sector}
-use Rattle.dc_sectors.specs.declared.sector.Sector.TheVariants.{Bytes, Unreadable}
-use Rattle.dc_sectors.specs.Disk.{Image, Choices, IsImage, put, added}
-use Rattle.dc_sectors.specs.Images.{put_elsewhere, put_here, added_here, added_elsewhere}
-use Rattle.dc_sectors.specs.declared.device.Disk.{Ghosts}
-use Rattle.dc_sectors.specs.Runs.{Passes, LeavesOnly}
-use Rattle.dc_sectors.proofs.Moments.{goes_on, weakened}
+use Rattle.dc_disk.specs.declared.sector.Sector.{Sector}
+use Rattle.dc_disk.specs.declared.sector.Sector.TheVariants.{Bytes, Unreadable}
+use Rattle.dc_disk.specs.Disk.{Image, Choices, IsImage, put, added}
+use Rattle.dc_disk.specs.Images.{put_elsewhere, put_here, added_here, added_elsewhere}
+use Rattle.dc_disk.specs.declared.device.Disk.{Ghosts}
+use Rattle.dc_disk.specs.Runs.{Passes, LeavesOnly}
+use Rattle.dc_disk.proofs.Moments.{goes_on, weakened}
 use Rattle.dc_pages.specs.Group.{IsPage, IsCommit, piece, commit_bytes}
 use Rattle.dc_pages.specs.Writing.{IsPageWritten, IsPartOf, IsTorn, IsOnDisk, IsClosed, TornAt, PartOrTorn}
 use Rattle.dc_pages.specs.declared.site.Site.{Site}

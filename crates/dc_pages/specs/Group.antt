@@ -1,10 +1,10 @@
 -- Groups of stamped sectors: this product's image format.
 use Rattle.std.specs.Prelude.{◌≡◌, ◌⊎◌, ◌<◌, ℕ, ◌+◌, ◌-◌, ◌*◌, ◌≤◌, List, [], ◌∷◌, ◌++◌, length}
 use Rattle.std.specs.Prelude.{take, drop, replicate, slice_index}
-use Rattle.dc_sectors.specs.declared.sector.Sector.{Sector}
-use Rattle.dc_sectors.specs.declared.sector.Sector.TheVariants.{Bytes}
-use Rattle.dc_sectors.specs.Disk.{Image}
-use Rattle.dc_sectors.specs.Fields.{field, number_bytes}
+use Rattle.dc_disk.specs.declared.sector.Sector.{Sector}
+use Rattle.dc_disk.specs.declared.sector.Sector.TheVariants.{Bytes}
+use Rattle.dc_disk.specs.Disk.{Image}
+use Rattle.dc_disk.specs.Fields.{field, number_bytes}
 use Rattle.dc_pages.specs.declared.site.Site.{Site}
 
 -- a page's sector: the bytes of its head, and the bytes of payload after it

@@ -1,8 +1,8 @@
 -- Whether a sector continues the pages that were read (this product's image format).
 use Rattle.std.specs.Prelude.{◌≡◌, ◌⊎◌, ◌<◌, ◌≤◌, ℕ, Bool, true, false, List, length, take, drop}
 use Rattle.std.specs.Prelude.{Result, Ok, Err}
-use Rattle.dc_sectors.specs.declared.sector.Sector.TheVariants.{Bytes}
-use Rattle.dc_sectors.specs.Disk.{Image}
+use Rattle.dc_disk.specs.declared.sector.Sector.TheVariants.{Bytes}
+use Rattle.dc_disk.specs.Disk.{Image}
 use Rattle.dc_pages.specs.Group.{IsPage, IsCommit, IsGroup, page_payload, head_len}
 use Rattle.dc_pages.specs.Reading.{IsBegun, IsCutAt}
 use Rattle.dc_pages.specs.declared.fault.GroupFault.{GroupFault}

@@ -1,7 +1,7 @@
 -- The theorems about groups and images (this product's image format), each proved by the lemma that
 -- is named beside it.
 use Rattle.std.specs.Prelude.{◌≡◌, ◌≢◌, ◌⊎◌, ◌<◌, ℕ, ◌+◌, ◌≤◌, List}
-use Rattle.dc_sectors.specs.Disk.{Image}
+use Rattle.dc_disk.specs.Disk.{Image}
 use Rattle.dc_pages.specs.Group.{IsGroup, IsComplete, Carries, IsPageKind, IsKnown, commit_kind}
 use Rattle.dc_pages.specs.Reading.{IsCutAt}
 use Rattle.dc_pages.specs.Writing.{IsTorn, IsPartOf}

@@ -1,6 +1,6 @@
 -- How much of a group is there, and where it is cut off (this product's image format).
 use Rattle.std.specs.Prelude.{◌≡◌, ◌⊎◌, ◌<◌, ℕ, ◌+◌, ◌-◌, ◌*◌, ◌≤◌, List, length}
-use Rattle.dc_sectors.specs.Disk.{Image}
+use Rattle.dc_disk.specs.Disk.{Image}
 use Rattle.dc_pages.specs.Group.{IsPage, IsCommit, piece, page_payload}
 use Rattle.dc_pages.specs.declared.site.Site.{Site}
 

@@ -1,6 +1,6 @@
 -- The stamp of a sector (this product's image format).
 use Rattle.std.specs.Prelude.{ℕ, Option, Some, None}
-use Rattle.dc_sectors.specs.declared.sector.Sector.{Sector}
+use Rattle.dc_disk.specs.declared.sector.Sector.{Sector}
 use Rattle.dc_pages.specs.Group.{Carries}
 use Rattle.dc_pages.specs.declared.stamp.Stamp.{Stamp}
 

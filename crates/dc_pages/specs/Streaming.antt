@@ -1,8 +1,8 @@
 -- A group's payload that is put piece by piece, seen with the group's disk (this product).
 use Rattle.std.specs.Prelude.{◌≡◌, ◌<◌, ◌≤◌, ℕ, ◌+◌, List, ◌++◌, length}
 use Rattle.dc_io.specs.Failures.{HasRisen}
-use Rattle.dc_sectors.specs.declared.device.Disk.{Ghosts}
-use Rattle.dc_sectors.specs.Runs.{LeavesOnly, Counts}
+use Rattle.dc_disk.specs.declared.device.Disk.{Ghosts}
+use Rattle.dc_disk.specs.Runs.{LeavesOnly, Counts}
 use Rattle.dc_pages.specs.Draft.{Draft, draft_len, HasRoom}
 use Rattle.dc_pages.specs.Writing.{SameOutside, IsPartOf, IsGoing}
 

@@ -1,10 +1,10 @@
 -- A group that is being written, and what a crash may leave of it (this product's image format).
 use Rattle.std.specs.Prelude.{◌≡◌, ◌⊎◌, ◌<◌, ◌≤◌, ℕ, ◌+◌, ◌*◌, List, length, drop, Contains}
-use Rattle.dc_sectors.specs.declared.sector.Sector.{Sector}
-use Rattle.dc_sectors.specs.declared.sector.Sector.TheVariants.{Bytes, Unreadable}
-use Rattle.dc_sectors.specs.Disk.{Image}
-use Rattle.dc_sectors.specs.declared.device.Disk.{Ghosts}
-use Rattle.dc_sectors.specs.Runs.{LeavesOnly}
+use Rattle.dc_disk.specs.declared.sector.Sector.{Sector}
+use Rattle.dc_disk.specs.declared.sector.Sector.TheVariants.{Bytes, Unreadable}
+use Rattle.dc_disk.specs.Disk.{Image}
+use Rattle.dc_disk.specs.declared.device.Disk.{Ghosts}
+use Rattle.dc_disk.specs.Runs.{LeavesOnly}
 use Rattle.dc_pages.specs.Draft.{Draft, draft_len}
 use Rattle.dc_pages.specs.Group.{IsPage, IsGroup, piece, page_bytes, commit_bytes, page_payload}
 use Rattle.dc_pages.specs.declared.site.Site.{Site}

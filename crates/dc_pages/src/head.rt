@@ -3,7 +3,7 @@
 ghost use Rattle.std.specs.Prelude.{◌≡◌, ◌++◌, drop};
 ghost use Rattle.dc_pages.specs.Group.{IsHead, head_bytes, head_len};
 
-use dc_sectors::{put_u16, put_u32, put_u64, u16_at, u32_at, u64_at};
+use dc_disk::{put_u16, put_u32, put_u64, u16_at, u32_at, u64_at};
 
 /// The kind of a page of a whole state.
 pub const BASE: u8 = 0x42;

@@ -3,16 +3,16 @@
 ghost use Rattle.std.specs.Prelude.{◌≡◌, ◌≢◌, ◌⊎◌, ◌<◌, ◌≤◌, ◌↔◌, ◌+◌, ◌-◌, ◌^◌, ◌++◌};
 ghost use Rattle.std.specs.Prelude.{if◌then◌else◌, ℕ, IfOk, OnOk, IsErrOf, IsTrue, length, take};
 ghost use Rattle.std.specs.Prelude.{drop};
-ghost use Rattle.dc_sectors.specs.Disk.{IsImage};
-ghost use Rattle.dc_sectors.specs.Runs.{Passes, LeavesOnly, Counts};
+ghost use Rattle.dc_disk.specs.Disk.{IsImage};
+ghost use Rattle.dc_disk.specs.Runs.{Passes, LeavesOnly, Counts};
 ghost use Rattle.dc_pages.specs.Group.{IsGroup, commit_kind, page_payload, head_len};
 ghost use Rattle.dc_pages.specs.Judging.{Judged, IsStep};
 ghost use Rattle.dc_pages.specs.Reading.{IsBegun, IsCutAt};
 
 use crate::head::{COMMIT, HEAD, Head, PAYLOAD, read_head};
 use crate::{GroupFault, Site};
+use dc_disk::{Disk, ReadFault};
 use dc_io::NoMemory;
-use dc_sectors::{Disk, ReadFault};
 use std::alloc::Allocator;
 
 /// A group that was read.

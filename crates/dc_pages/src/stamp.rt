@@ -1,6 +1,6 @@
 //! The stamp of a sector.
 
-ghost use Rattle.dc_sectors.specs.declared.sector.Sector.TheVariants.{Bytes};
+ghost use Rattle.dc_disk.specs.declared.sector.Sector.TheVariants.{Bytes};
 ghost use Rattle.dc_pages.specs.Stamp.{IsStampOf};
 
 use crate::head::{BASE, CHANGES, COMMIT, read_head};

@@ -6,8 +6,8 @@ ghost use Rattle.dc_pages.specs.Draft.{HasRoom};
 ghost use Rattle.dc_pages.specs.Streaming.{GoesInto, BreaksOff};
 
 use crate::GroupWriter;
+use dc_disk::{Disk, Failed};
 use dc_io::{IoFault, Sink, one_failure_more};
-use dc_sectors::{Disk, Failed};
 
 /// A group writer and its disk, as one sink: bytes that are put go into the group. It uses no
 /// memory and doesn't sync.

@@ -2,15 +2,15 @@
 
 ghost use Rattle.std.specs.Prelude.{◌≡◌, ◌⊎◌, ◌<◌, ◌≤◌, ◌+◌, ◌-◌, ◌*◌, ◌++◌, [], List, ℕ, take, IsErr};
 ghost use Rattle.std.specs.Prelude.{length, min, OnOk, OnErr, IfOk, IsTrue, ◌↔◌};
-ghost use Rattle.dc_sectors.specs.Disk.{Image};
-ghost use Rattle.dc_sectors.specs.Runs.{LeavesOnly, Counts};
+ghost use Rattle.dc_disk.specs.Disk.{Image};
+ghost use Rattle.dc_disk.specs.Runs.{LeavesOnly, Counts};
 ghost use Rattle.dc_pages.specs.Draft.{draft_len, HasRoom};
 ghost use Rattle.dc_pages.specs.Group.{piece, page_payload};
 ghost use Rattle.dc_pages.specs.Writing.{SameOutside, IsPartOf, IsOnDisk, IsGoing, IsClosed};
 
 use crate::Site;
 use crate::head::{COMMIT, HEAD, Head, PAYLOAD, write_head};
-use dc_sectors::{Disk, Failed};
+use dc_disk::{Disk, Failed};
 use std::marker::Model;
 
 /// A group that is being written. It holds one page, and uses no memory.

@@ -1,6 +1,6 @@
 -- The changes that aren't committed yet (this product).
 use Rattle.std.specs.Prelude.{ℕ, ◌≤◌, ◌*◌, List, length}
-use Rattle.dc_changes.specs.Encoding.{longest_change}
+use Rattle.dc_change.specs.Encoding.{longest_change}
 use Rattle.dc_io.specs.Bytes.{Filled}
 
 -- the encodings of the pending changes, one after the other, and their number

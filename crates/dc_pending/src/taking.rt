@@ -1,16 +1,16 @@
 //! Takes a telegram: into the register, and among the pending changes.
 
 ghost use Rattle.std.specs.Prelude.{◌≡◌, ◌⊎◌, ◌≤◌, length, None, Some, Ok, Err, OnOk, OnErr};
-ghost use Rattle.dc_changes.specs.Body.{longest_body};
-ghost use Rattle.dc_records.specs.Telegram.{parsed};
+ghost use Rattle.dc_change.specs.Body.{longest_body};
+ghost use Rattle.dc_record.specs.Telegram.{parsed};
 ghost use Rattle.dc_pending.specs.declared.fault.TakeFault.TheVariants.{NoMemory};
 ghost use Rattle.dc_pending.specs.Taking.{change_of, refuses, IsTaken};
 
 use crate::TakeFault;
 use crate::waiting::Waiting;
-use dc_changes::{Body, Change, Moment};
-use dc_meters::House;
-use dc_records::Telegram;
+use dc_change::{Body, Change, Moment};
+use dc_record::Telegram;
+use dc_register::House;
 use std::alloc::Allocator;
 
 /// Takes a telegram: applies it to the register, and adds its change to the pending changes. The body is copied once,

@@ -1,12 +1,12 @@
 //! The pending changes, in the encoding in which they are written.
 
 ghost use Rattle.std.specs.Prelude.{◌≡◌, ◌+◌, ◌≤◌, ◌<◌, ◌++◌, [], length, nat_le};
-ghost use Rattle.dc_changes.specs.declared.change.Change.{Change};
-ghost use Rattle.dc_changes.specs.Encoding.{change_bytes};
-ghost use Rattle.dc_changes.specs.Valid.{IsChange};
+ghost use Rattle.dc_change.specs.declared.change.Change.{Change};
+ghost use Rattle.dc_change.specs.Encoding.{change_bytes};
+ghost use Rattle.dc_change.specs.Valid.{IsChange};
 ghost use Rattle.dc_pending.specs.Waiting.{Waiting, most_waiting};
 
-use dc_changes::{Change, encode_change};
+use dc_change::{Change, encode_change};
 use dc_io::{FixedSink, IoFault};
 use std::marker::Model;
 

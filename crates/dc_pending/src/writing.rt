@@ -1,21 +1,21 @@
 //! Writes the pending changes.
 
 ghost use Rattle.std.specs.Prelude.{◌≡◌, ◌⊎◌, ◌<◌, List, true, false, length, IsErrOf, OnOk};
-ghost use Rattle.dc_sectors.specs.Runs.{LeavesOnly, Counts};
-ghost use Rattle.dc_changes.specs.declared.change.Change.{Change};
-ghost use Rattle.dc_changes.specs.State.{State};
-ghost use Rattle.dc_changes.specs.History.{after, AcceptsAll};
-ghost use Rattle.dc_changes.specs.Spelled.{SpellsChanges};
-ghost use Rattle.dc_recovery.specs.Halves.{half_of, budget_of};
+ghost use Rattle.dc_disk.specs.Runs.{LeavesOnly, Counts};
+ghost use Rattle.dc_change.specs.declared.change.Change.{Change};
+ghost use Rattle.dc_change.specs.State.{State};
+ghost use Rattle.dc_change.specs.History.{after, AcceptsAll};
+ghost use Rattle.dc_change.specs.Spelled.{SpellsChanges};
+ghost use Rattle.dc_log.specs.Halves.{half_of, budget_of};
 ghost use Rattle.dc_pending.specs.Images.{StandsForEither, Keeps};
-ghost use Rattle.dc_recovery.specs.Store.{Fits};
-ghost use Rattle.dc_recovery.specs.declared.fault.StoreFault.TheVariants.{Device, Worn, Stopped};
+ghost use Rattle.dc_log.specs.Store.{Fits};
+ghost use Rattle.dc_log.specs.declared.fault.StoreFault.TheVariants.{Device, Worn, Stopped};
 ghost use Rattle.dc_pending.specs.Writing.{IsWornFor};
 
 use crate::waiting::Waiting;
-use dc_meters::House;
-use dc_recovery::{Store, StoreFault};
-use dc_sectors::Disk;
+use dc_disk::Disk;
+use dc_log::{Store, StoreFault};
+use dc_register::House;
 use std::alloc::Allocator;
 
 /// Writes the pending changes after the existing groups, or, if they don't fit in the half, the

@@ -1,4 +1,4 @@
 -- the definitions that contracts cite
 
--- a poll over a line that loses little, and what it comes to
-pub mod Polled
+-- a readout within the talk on a bus, and what it comes to
+pub mod Talked

@@ -1,16 +1,14 @@
-//! Theorems about polls. The functions have no effect; their contracts state the theorems.
+//! The theorem about the readouts of a poll. The function has no effect; its contract states the
+//! theorem.
 
-ghost use Rattle.dc_poll_progress.specs.Polled.{PollsAreServed, PollsEnd};
+ghost use Rattle.dc_poll_progress.specs.Talked.{ReadoutsOfAPollEnd};
 
-/// A poll over a line that loses nothing three times in a row ends in one whole reading.
+use dc_raw::QuietBus;
+
+/// Each readout of a poll ends in one whole reading, while the talk on its bus is served.
 ///
-/// The meter follows the standard, and nothing is pending when the poll begins. It takes at most
-/// three requests for each part and each command of the readout.
-pub fn a_poll_ends_in_a_reading()
-    ensures { PollsEnd }
-{}
-
-/// Such a poll exists of each meter that may be read.
-pub fn a_poll_may_be_served()
-    ensures { PollsAreServed }
+/// The meters of its line follow the standard, nothing is lost three times in a row, no answer is
+/// refused, and no commit fails. What the other lines do is free.
+pub fn each_readout_of_a_poll_ends_in_a_reading<B: QuietBus>()
+    ensures { ReadoutsOfAPollEnd B.QuietBus }
 {}

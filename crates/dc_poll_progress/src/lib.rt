@@ -1,13 +1,12 @@
-//! Theorems: a `POLL` of a meter that follows the standard ends in one whole reading.
+//! Theorem: in the poll of a house, each readout of a meter that follows the standard ends in one
+//! whole reading.
 //!
-//! Each `POLL` of a script is a poll of the definitions and ends, whatever its bus answers (the
-//! contract of `poll` in dc_poller). Where the meters of the line follow the standard, the bus
-//! isn't lost, nothing is lost three times in a row, the disk doesn't fail and memory is available,
-//! it ends in one reading more, with the meter's telegrams, whole and in order
-//! ([`a_poll_ends_in_a_reading`]). Such a poll exists of each meter that may be read
-//! ([`a_poll_may_be_served`]).
+//! The contract of `poll_image` in dc_poll names what happens in a poll, and the talk on the bus
+//! of each line. Where the meters of a line follow the standard, nothing is lost three times in a
+//! row, no answer is refused and no commit fails, a readout that was started on it ends in one
+//! reading more, whatever the other lines do ([`each_readout_of_a_poll_ends_in_a_reading`]).
 #![tactic(auto)]
 
 mod laws;
 
-pub use laws::{a_poll_ends_in_a_reading, a_poll_may_be_served};
+pub use laws::each_readout_of_a_poll_ends_in_a_reading;

@@ -2,15 +2,15 @@
 use Rattle.std.proofs.Common.{◌≡◌, ◌⊎◌, ℕ, ◌+◌, ◌-◌, ◌≤◌, ◌<◌, Bool, true, false, not, ◌&&◌, List, Option, Some, None, Ok, cond, ◌==◌, arith, refl, sym, ◌∙◌, ap, subst}
 use Rattle.std.specs.Prelude.{slice_get, unwrap_or, if◌then◌else◌}
 use Rattle.std.proofs.lemmas.Bool.{eq-eqb, eqb-true, lt-ltb}
-use Rattle.dc_linkframe.specs.Control.{variable_data}
-use Rattle.dc_linkframe.specs.Frame.{FrameSeen, ack, long}
-use Rattle.dc_linkframe.specs.Reading.{frame_of}
-use Rattle.dc_linkframe.proofs.Spellings.{frame_of-spelling}
+use Rattle.dc_frame.specs.Control.{variable_data}
+use Rattle.dc_frame.specs.Frame.{FrameSeen, ack, long}
+use Rattle.dc_frame.specs.Reading.{frame_of}
+use Rattle.dc_frame.proofs.Spellings.{frame_of-spelling}
 use Rattle.dc_address.specs.declared.identity.Identity.{Identity}
 use Rattle.dc_address.specs.Mask.{mask_of, matches}
 use Rattle.dc_address.proofs.Masks.{matches-mask_of}
-use Rattle.dc_records.specs.Body.{continues}
-use Rattle.dc_records.specs.Telegram.{Parsed, telegram_at}
+use Rattle.dc_record.specs.Body.{continues}
+use Rattle.dc_record.specs.Telegram.{Parsed, telegram_at}
 use Rattle.dc_readout.specs.declared.stage.Stage.{Stage}
 use Rattle.dc_readout.specs.declared.stage.Stage.TheVariants.{Resets, Selects, Requests}
 use Rattle.dc_readout.specs.declared.why.Why.TheVariants.{NoAnswer, Stranger, TooManyParts}

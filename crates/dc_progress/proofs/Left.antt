@@ -5,7 +5,7 @@ use Rattle.dc_readout.specs.declared.stage.Stage.TheVariants.{Resets, Selects, R
 use Rattle.dc_readout.specs.Session.{commands}
 use Rattle.dc_world.specs.declared.event.Outcome.{Outcome}
 use Rattle.dc_progress.specs.Rounds.{losses_by, row_after}
-use Rattle.dc_linkframe.specs.Frame.{FrameSeen}
+use Rattle.dc_frame.specs.Frame.{FrameSeen}
 use Rattle.dc_address.specs.declared.identity.Identity.{Identity}
 use Rattle.dc_readout.specs.Summary.{reset_of, selection_of, request_of, asked_at}
 

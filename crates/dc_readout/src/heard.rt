@@ -1,7 +1,7 @@
 //! What `hear` answers.
 
 use crate::why::Why;
-use dc_records::Telegram;
+use dc_record::Telegram;
 
 /// What an answer was.
 #[derive(Clone, Copy, Debug, PartialEq, Eq)]

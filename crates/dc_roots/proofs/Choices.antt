@@ -2,14 +2,14 @@
 use Rattle.std.proofs.Common.{◌≡◌, ◌≢◌, ◌⊎◌, inl, inr, ⊎_elim, ◌≤◌, ◌+◌, ℕ, List, sym, ap, subst, ◌∙◌, arith}
 use Rattle.std.specs.Prelude.{slice_index}
 use Rattle.std.proofs.lemmas.Bool.{cases_eq}
-use Rattle.dc_sectors.specs.declared.sector.Sector.{Sector}
-use Rattle.dc_sectors.specs.declared.sector.Sector.TheVariants.{Unreadable}
-use Rattle.dc_sectors.specs.Disk.{Image}
+use Rattle.dc_disk.specs.declared.sector.Sector.{Sector}
+use Rattle.dc_disk.specs.declared.sector.Sector.TheVariants.{Unreadable}
+use Rattle.dc_disk.specs.Disk.{Image}
 use Rattle.dc_roots.specs.declared.root.Root.{Root}
-use Rattle.dc_sectors.specs.Fields.{field}
+use Rattle.dc_disk.specs.Fields.{field}
 use Rattle.dc_roots.specs.Root.{IsRoot, slot}
 use Rattle.dc_roots.specs.Choice.{IsChosen, IsRootWrite}
-use Rattle.dc_sectors.proofs.Texts.{one_text}
+use Rattle.dc_disk.proofs.Texts.{one_text}
 
 -- the next generation has the other slot
 pub other_slot : (generation : ℕ) → slot (generation + 1) ≢ slot generation

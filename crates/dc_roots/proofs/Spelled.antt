@@ -1,8 +1,8 @@
 -- What is written for a root reads as that root.
 use Rattle.std.proofs.Common.{◌≡◌, ℕ, ◌^◌, ◌<◌, ◌≤◌, List, ◌++◌, length, replicate, refl, ◌∙◌, arith, length-append}
-use Rattle.dc_sectors.specs.declared.sector.Sector.TheVariants.{Bytes}
-use Rattle.dc_sectors.specs.Fields.{number_bytes}
-use Rattle.dc_sectors.proofs.Numbers.{length-number_bytes, field-number_bytes, field-append}
+use Rattle.dc_disk.specs.declared.sector.Sector.TheVariants.{Bytes}
+use Rattle.dc_disk.specs.Fields.{number_bytes}
+use Rattle.dc_disk.proofs.Numbers.{length-number_bytes, field-number_bytes, field-append}
 use Rattle.dc_roots.specs.declared.root.Root.{Root}
 use Rattle.dc_roots.specs.Root.{IsRoot, root_front, root_bytes}
 

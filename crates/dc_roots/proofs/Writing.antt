@@ -1,10 +1,10 @@
 -- What a write of one sector leaves.
 use Rattle.std.proofs.Common.{◌≡◌, ℕ, List, subst}
-use Rattle.dc_sectors.specs.Disk.{Image, Choices, IsImage, added}
-use Rattle.dc_sectors.specs.Images.{image_within, within_added}
-use Rattle.dc_sectors.specs.declared.device.Disk.{Ghosts}
-use Rattle.dc_sectors.specs.Runs.{Passes, LeavesOnly}
-use Rattle.dc_sectors.proofs.Moments.{started, goes_on}
+use Rattle.dc_disk.specs.Disk.{Image, Choices, IsImage, added}
+use Rattle.dc_disk.specs.Images.{image_within, within_added}
+use Rattle.dc_disk.specs.declared.device.Disk.{Ghosts}
+use Rattle.dc_disk.specs.Runs.{Passes, LeavesOnly}
+use Rattle.dc_disk.proofs.Moments.{started, goes_on}
 
 module _ {D : Type 0} (g : Ghosts D) (old : D) (choices : Choices)
     (now : (image : Image) → g.images_since old (g.moment old) image → IsImage choices image) (n : ℕ) (bytes : List ℕ) where

@@ -1,8 +1,8 @@
 -- The choice of the root in force: this product's image format.
 use Rattle.std.proofs.Common.{◌≡◌, ◌≢◌, ◌⊎◌, ◌≤◌, ℕ, Option, Some, None, Result, Ok, Err}
-use Rattle.dc_sectors.specs.declared.sector.Sector.{Sector}
-use Rattle.dc_sectors.specs.declared.sector.Sector.TheVariants.{Bytes, Unreadable}
-use Rattle.dc_sectors.specs.Disk.{Image}
+use Rattle.dc_disk.specs.declared.sector.Sector.{Sector}
+use Rattle.dc_disk.specs.declared.sector.Sector.TheVariants.{Bytes, Unreadable}
+use Rattle.dc_disk.specs.Disk.{Image}
 use Rattle.dc_roots.specs.declared.root.Root.{Root}
 use Rattle.dc_roots.specs.declared.fault.RootFault.{RootFault}
 use Rattle.dc_roots.specs.declared.fault.RootFault.TheVariants.{NoRoot, Worn, Device}

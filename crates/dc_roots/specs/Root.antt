@@ -1,9 +1,9 @@
 -- Root sectors: this product's image format.
 use Rattle.std.proofs.Common.{◌≡◌, ℕ, ◌+◌, ◌%◌, ◌≤◌, List, [], ◌∷◌, ◌++◌, take, replicate}
 use Rattle.std.specs.Prelude.{slice_index}
-use Rattle.dc_sectors.specs.declared.sector.Sector.{Sector}
-use Rattle.dc_sectors.specs.declared.sector.Sector.TheVariants.{Bytes}
-use Rattle.dc_sectors.specs.Fields.{field, number_bytes}
+use Rattle.dc_disk.specs.declared.sector.Sector.{Sector}
+use Rattle.dc_disk.specs.declared.sector.Sector.TheVariants.{Bytes}
+use Rattle.dc_disk.specs.Fields.{field, number_bytes}
 use Rattle.dc_roots.specs.declared.root.Root.{Root}
 
 -- the bytes with which a root sector begins

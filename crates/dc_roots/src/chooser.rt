@@ -1,15 +1,15 @@
 //! Chooses the root in force.
 
 ghost use Rattle.std.specs.Prelude.{◌≡◌, ◌<◌, ◌≤◌, IfOk, IsErrOf, IsErr};
-ghost use Rattle.dc_sectors.specs.declared.sector.Sector.TheVariants.{Bytes};
-ghost use Rattle.dc_sectors.specs.Disk.{Image, IsImage};
-ghost use Rattle.dc_sectors.specs.Runs.{Passes, LeavesOnly, Counts};
+ghost use Rattle.dc_disk.specs.declared.sector.Sector.TheVariants.{Bytes};
+ghost use Rattle.dc_disk.specs.Disk.{Image, IsImage};
+ghost use Rattle.dc_disk.specs.Runs.{Passes, LeavesOnly, Counts};
 ghost use Rattle.dc_roots.specs.Choice.{IsChoice};
 ghost use Rattle.dc_roots.specs.Held.{IsHeld, NamesHalf};
 
 use crate::format::root_of;
 use crate::{Root, RootFault};
-use dc_sectors::{Disk, Failed, ReadFault};
+use dc_disk::{Disk, Failed, ReadFault};
 
 /// The contents of a root slot.
 #[derive(Clone, Copy)]

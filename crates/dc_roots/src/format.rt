@@ -1,12 +1,12 @@
 //! Encodes and decodes a root sector.
 
 ghost use Rattle.std.specs.Prelude.{◌≡◌, MatchOption};
-ghost use Rattle.dc_sectors.specs.declared.sector.Sector.TheVariants.{Bytes};
+ghost use Rattle.dc_disk.specs.declared.sector.Sector.TheVariants.{Bytes};
 ghost use Rattle.dc_roots.specs.declared.root.Root.{Root};
 ghost use Rattle.dc_roots.specs.Root.{IsRoot, root_bytes};
 
 use crate::Root;
-use dc_sectors::{put_u32, put_u64, u32_at, u64_at};
+use dc_disk::{put_u32, put_u64, u32_at, u64_at};
 
 const MAGIC: [u8; 4] = [0x4D, 0x42, 0x44, 0x43];
 

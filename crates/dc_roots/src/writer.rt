@@ -2,14 +2,14 @@
 
 ghost use Rattle.std.specs.Prelude.{◌≡◌, ◌≢◌, ◌<◌, ◌≤◌, ◌-◌, ◌^◌, ◌↔◌, ℕ, Option, IfOk, OnOk};
 ghost use Rattle.std.specs.Prelude.{IsErrOf};
-ghost use Rattle.dc_sectors.specs.declared.sector.Sector.TheVariants.{Bytes};
-ghost use Rattle.dc_sectors.specs.Disk.{IsImage, put, added};
-ghost use Rattle.dc_sectors.specs.Runs.{LeavesOnly, Counts};
+ghost use Rattle.dc_disk.specs.declared.sector.Sector.TheVariants.{Bytes};
+ghost use Rattle.dc_disk.specs.Disk.{IsImage, put, added};
+ghost use Rattle.dc_disk.specs.Runs.{LeavesOnly, Counts};
 ghost use Rattle.dc_roots.specs.Root.{IsRoot, next_of, root_bytes, slot};
 
 use crate::format::sector_of;
 use crate::{Root, RootFault};
-use dc_sectors::{Disk, Failed};
+use dc_disk::{Disk, Failed};
 
 /// Writes that root with its generation + 1 into the slot of that generation, and returns it. It
 /// doesn't sync, and no other sector is written.

@@ -3,9 +3,9 @@ use Rattle.std.proofs.Common.{◌≡◌, ℕ, suc, Bool, true, false, List, [], 
 use Rattle.std.specs.List.{AllByRecursion}
 use Rattle.dc_io.specs.Chain.{IsRun}
 use Rattle.dc_io.proofs.Chains.{run-append}
-use Rattle.dc_linkframe.specs.Frame.{FrameSeen, ack, short, long, spelling}
-use Rattle.dc_linkframe.specs.Reading.{frame_of}
-use Rattle.dc_linkframe.proofs.Spellings.{frame_of-spelling}
+use Rattle.dc_frame.specs.Frame.{FrameSeen, ack, short, long, spelling}
+use Rattle.dc_frame.specs.Reading.{frame_of}
+use Rattle.dc_frame.proofs.Spellings.{frame_of-spelling}
 use Rattle.dc_readout.specs.Summary.{asked_by}
 use Rattle.dc_world.specs.declared.event.Outcome.{Outcome}
 use Rattle.dc_world.specs.Meter.{Meter, Position}

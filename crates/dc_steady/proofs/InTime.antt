@@ -1,7 +1,7 @@
 -- Where each answer comes in time, what the concentrator does over the line layer is what it does in dc_world.
 use Rattle.std.proofs.Common.{◌≡◌, ℕ, Bool, true, false, ◌-◌, not, ◌⊎◌, inl, inr, List, [], ◌∷◌, Option, Some, None, map, refl, ap, sym, subst, ◌∙◌, arith}
-use Rattle.dc_linkframe.specs.Frame.{FrameSeen, spelling}
-use Rattle.dc_linkframe.specs.Reading.{frame_of}
+use Rattle.dc_frame.specs.Frame.{FrameSeen, spelling}
+use Rattle.dc_frame.specs.Reading.{frame_of}
 use Rattle.dc_readout.specs.Summary.{asked_by}
 use Rattle.dc_world.specs.declared.event.Outcome.{Outcome}
 use Rattle.dc_world.specs.declared.event.WorldEvent.{WorldEvent}

@@ -3,7 +3,7 @@ use Rattle.std.proofs.Common.{◌≡◌, ℕ, zero, suc, ◌-◌, ◌<◌, ◌�
 use Rattle.std.specs.Prelude.{slice_set}
 use Rattle.std.proofs.lemmas.List.{take_all, length-take, length-drop, length-append}
 use Rattle.dc_gateway.specs.Blocks.{most_answer}
-use Rattle.dc_linkframe.specs.Frame.{longest_body}
+use Rattle.dc_frame.specs.Frame.{longest_body}
 use Rattle.dc_late.specs.Late.{body_with}
 
 set_parts : (n v : ℕ) (xs : List ℕ) → n < length xs → take n xs ++ v ∷ drop (suc n) xs ≡ slice_set xs n v

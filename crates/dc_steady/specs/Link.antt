@@ -1,7 +1,7 @@
 -- The line layer over a first-in-first-out link, and a concentrator's readouts on it (this
 -- product).
 use Rattle.std.specs.Prelude.{◌≡◌, ℕ, true, false, List, [], ◌∷◌, Some}
-use Rattle.dc_linkframe.specs.Frame.{FrameSeen, spelling}
+use Rattle.dc_frame.specs.Frame.{FrameSeen, spelling}
 use Rattle.dc_readout.specs.Summary.{asked_by, verdict_by}
 use Rattle.dc_world.specs.declared.event.Outcome.{Outcome}
 use Rattle.dc_world.specs.declared.event.WorldEvent.TheVariants.{Start}

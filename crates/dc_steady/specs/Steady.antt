@@ -3,8 +3,8 @@
 use Rattle.std.specs.Prelude.{◌≡◌, ℕ, ◌+◌, ◌-◌, ◌^◌, ◌≤◌, ◌<◌, Bool, true, false, not, ◌&&◌, List, []}
 use Rattle.std.specs.Prelude.{◌∷◌, length, min, Option, Some, None, ◌==◌, if◌then◌else◌}
 use Rattle.dc_io.specs.Chain.{IsRun}
-use Rattle.dc_linkframe.specs.Frame.{FrameSeen, ack}
-use Rattle.dc_linkframe.specs.Reading.{frame_of}
+use Rattle.dc_frame.specs.Frame.{FrameSeen, ack}
+use Rattle.dc_frame.specs.Reading.{frame_of}
 use Rattle.dc_late.specs.Late.{Last, clear_after, compared, first_of, is_wrong_answer, last_after}
 use Rattle.dc_late.specs.Late.{past_copies}
 use Rattle.dc_steady.specs.declared.line.Steady.{Steady}

@@ -2,15 +2,15 @@
 use Rattle.std.proofs.Common.{◌≡◌, ℕ, ◌+◌, ◌-◌, ◌⊎◌, inl, inr, Bool, true, false, ◌||◌, List, Option, Some, None, Ok, cond, ◌==◌, arith, refl, sym, ◌∙◌, ap, subst}
 use Rattle.std.specs.Prelude.{slice_get}
 use Rattle.std.proofs.lemmas.Bool.{eq-eqb, eqb-true, ne_eqb, false≢true}
-use Rattle.dc_linkframe.specs.Frame.{FrameSeen, ack, short, long}
-use Rattle.dc_linkframe.specs.Control.{selected}
-use Rattle.dc_linkframe.specs.Reading.{frame_of}
+use Rattle.dc_frame.specs.Frame.{FrameSeen, ack, short, long}
+use Rattle.dc_frame.specs.Control.{selected}
+use Rattle.dc_frame.specs.Reading.{frame_of}
 use Rattle.dc_address.specs.declared.identity.Identity.{Identity}
 use Rattle.dc_address.specs.Mask.{mask_of, matches}
 use Rattle.dc_address.proofs.Masks.{matches-mask_of}
-use Rattle.dc_records.specs.Body.{continues}
-use Rattle.dc_records.specs.Telegram.{Parsed, telegram_at}
-use Rattle.dc_records.proofs.Spellings.Telegrams.{telegram_takes}
+use Rattle.dc_record.specs.Body.{continues}
+use Rattle.dc_record.specs.Telegram.{Parsed, telegram_at}
+use Rattle.dc_record.proofs.Spellings.Telegrams.{telegram_takes}
 use Rattle.dc_readout.specs.declared.stage.Stage.{Stage}
 use Rattle.dc_readout.specs.declared.stage.Stage.TheVariants.{Resets, Selects, Requests, Pending, Ended}
 use Rattle.dc_readout.specs.Answer.{acknowledged, answered, to_command, to_request}

@@ -3,8 +3,8 @@
 use Rattle.std.proofs.Common.{◌≡◌, ℕ, zero, suc, ◌+◌, ◌≤◌, ◌⊎◌, inl, inr, Bool, true, false, List, [], ◌∷◌, Option, Some, None, cond, arith, refl, sym, ◌∙◌, ap, subst}
 use Rattle.std.specs.Prelude.{slice_get}
 use Rattle.std.specs.List.{cons_option}
-use Rattle.dc_linkframe.specs.Control.{selected, reset_to}
-use Rattle.dc_linkframe.specs.Frame.{FrameSeen, ack}
+use Rattle.dc_frame.specs.Control.{selected, reset_to}
+use Rattle.dc_frame.specs.Frame.{FrameSeen, ack}
 use Rattle.dc_address.specs.declared.identity.Identity.{Identity}
 use Rattle.dc_address.specs.Mask.{mask_of, matches}
 use Rattle.dc_readout.specs.declared.stage.Stage.{Stage}

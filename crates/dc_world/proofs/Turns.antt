@@ -1,8 +1,8 @@
 -- A loop over the meters of a line that moves each in turn.
 use Rattle.std.proofs.Common.{◌≡◌, ℕ, zero, suc, ◌+◌, ◌≤◌, ◌<◌, List, [], ◌∷◌, length, get_or, arith, refl, ◌∙◌, ap}
 use Rattle.std.specs.Prelude.{slice_set}
-use Rattle.dc_linkframe.specs.Control.{reset_to}
-use Rattle.dc_linkframe.specs.Frame.{FrameSeen}
+use Rattle.dc_frame.specs.Control.{reset_to}
+use Rattle.dc_frame.specs.Frame.{FrameSeen}
 use Rattle.dc_world.specs.Meter.{Meter, Position, moved_by, at_reset}
 use Rattle.dc_world.specs.World.{all_moved}
 

@@ -1,6 +1,6 @@
 -- The bytes of the answer to a request.
 use Rattle.std.specs.Prelude.{ℕ, List, [], Option, Some, None}
-use Rattle.dc_linkframe.specs.Frame.{FrameSeen, ack, spelling}
+use Rattle.dc_frame.specs.Frame.{FrameSeen, ack, spelling}
 use Rattle.dc_world.specs.declared.reply.Reply.{Reply}
 use Rattle.dc_world.specs.declared.reply.Reply.TheVariants.{Silence, Noise, Acknowledged, Telegram}
 use Rattle.dc_world.specs.World.{noise}

@@ -1,7 +1,7 @@
 -- The frame that a session sends, and when a meter may take it.
 use Rattle.std.specs.Prelude.{◌≡◌, ◌<◌, ◌≤◌, ℕ, true, List, Option, Some}
-use Rattle.dc_linkframe.specs.Control.{reset_to, request_to}
-use Rattle.dc_linkframe.specs.Frame.{FrameSeen}
+use Rattle.dc_frame.specs.Control.{reset_to, request_to}
+use Rattle.dc_frame.specs.Frame.{FrameSeen}
 use Rattle.dc_readout.specs.Answer.{max_parts}
 use Rattle.dc_readout.specs.Summary.{selection_of, asked_by}
 use Rattle.dc_world.specs.declared.request.Request.{Request}

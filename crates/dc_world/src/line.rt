@@ -1,16 +1,16 @@
 //! Several meters on one line.
 
 ghost use Rattle.std.specs.Prelude.{◌≡◌, ◌++◌, ◌∷◌, [], OnOk, OnErr, None, Some, bytes_eq, map};
-ghost use Rattle.dc_linkframe.specs.Frame.{FrameSeen, ack, spelling};
-ghost use Rattle.dc_linkframe.specs.Reading.{frame_of};
+ghost use Rattle.dc_frame.specs.Frame.{FrameSeen, ack, spelling};
+ghost use Rattle.dc_frame.specs.Reading.{frame_of};
 ghost use Rattle.dc_world.specs.Reply.{bytes_heard};
 ghost use Rattle.dc_world.specs.Standing.{SelectsByMask};
 ghost use Rattle.dc_world.specs.Line.{AreAble, Hears, heard_both, heard_of, seen_by};
 
 use crate::{Reply, SimulatedMeter};
+use dc_frame::{ACK, FrameBuf};
 use dc_gateway::{AnswerBuf, Bus};
 use dc_io::NoMemory;
-use dc_linkframe::{ACK, FrameBuf};
 use std::alloc::Allocator;
 use std::marker::Model;
 

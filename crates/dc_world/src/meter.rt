@@ -2,8 +2,8 @@
 
 ghost use Rattle.std.specs.Prelude.{◌≡◌, ◌<◌, ◌&&◌, ℕ, [], Some, None, if◌then◌else◌};
 ghost use Rattle.dc_address.specs.Mask.{mask_at, matches};
-ghost use Rattle.dc_linkframe.specs.Frame.{FrameSeen, ack, seen, short};
-ghost use Rattle.dc_linkframe.specs.Reading.{frame_of};
+ghost use Rattle.dc_frame.specs.Frame.{FrameSeen, ack, seen, short};
+ghost use Rattle.dc_frame.specs.Reading.{frame_of};
 ghost use Rattle.dc_world.specs.Meter.{at_request, at_reset, at_selection, body_at, first_position};
 ghost use Rattle.dc_world.specs.Meter.{frame_count_bit, hears_at, is_own, is_request, is_selection};
 ghost use Rattle.dc_world.specs.Meter.{response};
@@ -15,8 +15,8 @@ use crate::position::Position;
 use crate::reply::{Reply, acknowledged_if, is_own, respond};
 use crate::script::MeterScript;
 use dc_address::{Identity, Mask};
-use dc_linkframe::control::{SELECTED, SELECTION, SND_NKE, SND_UD, req_ud2};
-use dc_linkframe::{Frame, parse};
+use dc_frame::control::{SELECTED, SELECTION, SND_NKE, SND_UD, req_ud2};
+use dc_frame::{Frame, parse};
 use std::alloc::Allocator;
 use std::marker::Model;
 

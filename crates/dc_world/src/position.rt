@@ -13,7 +13,7 @@ ghost use Rattle.dc_world.specs.World.{all_moved};
 use crate::request::Request;
 use crate::script::MeterScript;
 use dc_address::{Mask, Primary};
-use dc_linkframe::control::SELECTED;
+use dc_frame::control::SELECTED;
 use std::alloc::Allocator;
 use std::marker::Model;
 

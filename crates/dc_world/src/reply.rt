@@ -1,8 +1,8 @@
 //! A meter's answer, and what is received of it.
 
 ghost use Rattle.std.specs.Prelude.{◌≡◌, ◌≤◌, length, Some, None, unwrap_or, if◌then◌else◌};
-ghost use Rattle.dc_linkframe.specs.Buffer.{capacity};
-ghost use Rattle.dc_linkframe.specs.Frame.{ack};
+ghost use Rattle.dc_frame.specs.Buffer.{capacity};
+ghost use Rattle.dc_frame.specs.Frame.{ack};
 ghost use Rattle.dc_world.specs.Meter.{answer_to, response, body_at, is_own};
 ghost use Rattle.dc_world.specs.Request.{frame_asked};
 ghost use Rattle.dc_world.specs.Reply.{bytes_heard, bytes_of};
@@ -12,8 +12,8 @@ use crate::position::Position;
 use crate::request::Request;
 use crate::script::{MAX_BODY, MeterScript};
 use dc_address::{Mask, Primary};
-use dc_linkframe::control::{RSP_UD, VARIABLE_DATA};
-use dc_linkframe::{ACK, FrameBuf, write_long};
+use dc_frame::control::{RSP_UD, VARIABLE_DATA};
+use dc_frame::{ACK, FrameBuf, write_long};
 use std::alloc::Allocator;
 
 // A byte that is no frame.

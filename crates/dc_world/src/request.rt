@@ -6,8 +6,8 @@ ghost use Rattle.dc_readout.specs.Summary.{asked_by};
 ghost use Rattle.dc_world.specs.Request.{frame_asked};
 
 use dc_address::Identity;
-use dc_linkframe::control::{SND_NKE, req_ud2};
-use dc_linkframe::{Frame, parse};
+use dc_frame::control::{SND_NKE, req_ud2};
+use dc_frame::{Frame, parse};
 use dc_readout::Session;
 
 /// A request, as the meters read it.

@@ -6,7 +6,7 @@ ghost use Rattle.dc_world.specs.Regular.{Fits, IsFitting, IsOwnOnly, StandsApart
 
 use crate::body::Bodies;
 use dc_address::{Identity, Mask, Primary};
-use dc_linkframe::control::SELECTED;
+use dc_frame::control::SELECTED;
 use std::alloc::Allocator;
 use std::marker::Model;
 

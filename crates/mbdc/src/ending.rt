@@ -1,4 +1,4 @@
-//! Reports how a run ended: the line on standard error and the exit status, which `dc_poller`
+//! Reports how a run ended: the line on standard error and the exit status, which `dc_script`
 //! decides.
 
 ghost use Rattle.std.specs.Prelude.{◌≡◌, ◌≢◌, ◌⊎◌};
@@ -6,14 +6,14 @@ ghost use Rattle.std.specs.Process.{exit_status};
 ghost use Rattle.clap.specs.Values.{kind_of};
 ghost use Rattle.clap.specs.declared.error.kind.ErrorKind.TheVariants.{DisplayHelp, DisplayVersion};
 ghost use Rattle.clap.specs.declared.error.kind.ErrorKind.TheVariants.{OutOfMemory};
-ghost use Rattle.dc_poller.specs.Ending.{status_of};
+ghost use Rattle.dc_script.specs.Ending.{status_of};
 ghost use Rattle.dc_words.specs.Fault.{IfMistake};
 
 use crate::why::{DiskReason, Reason, Why};
 use clap::Error;
 use clap::error::ErrorKind;
 use dc_io::{Buffered, IoFault, WriteSink};
-use dc_poller::{Ending, STREAM};
+use dc_script::{Ending, STREAM};
 use dc_words::WordsFault;
 use std::alloc::{AllocError, Global};
 use std::io;

@@ -2,7 +2,7 @@
 
 use crate::host::Host;
 use dc_links::Peer;
-use dc_poller::Ending;
+use dc_script::Ending;
 use dc_words::Links;
 use std::fs::File;
 use std::net::{Net, TcpStream};

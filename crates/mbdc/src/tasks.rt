@@ -12,7 +12,7 @@ use crate::{clock, demo};
 use dc_decode::decode_lines;
 use dc_io::{Buffered, ReadSource, Source, WriteSink};
 use dc_json::{explain_lines, json_lines};
-use dc_poller::{Ending, ProgramFault, STREAM, ending_of, fold_lines};
+use dc_script::{Ending, ProgramFault, STREAM, ending_of, fold_lines};
 use dc_words::{Engine, Form, Task};
 use std::alloc::Allocator;
 use std::fs::File;

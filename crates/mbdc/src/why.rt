@@ -2,7 +2,7 @@
 
 ghost use Rattle.std.specs.Prelude.{◌≡◌};
 
-use dc_poller::Ending;
+use dc_script::Ending;
 use libc::EIO;
 use std::cell::Cell;
 use std::fs::{File, Metadata, OpenFile};

@@ -1,10 +1,10 @@
 //! Images that the tests share.
 
+use dc_disk::{Disk, MemoryDisk};
 use dc_io::Bytes;
-use dc_meters::House;
-use dc_poller::run_script;
-use dc_recovery::Store;
-use dc_sectors::{Disk, MemoryDisk};
+use dc_log::Store;
+use dc_register::House;
+use dc_script::run_script;
 use std::alloc::Global;
 use std::test::Fail;
 

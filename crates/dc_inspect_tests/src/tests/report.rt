@@ -1,11 +1,11 @@
 //! The tables of `report` as JSON.
 
 use super::images::{LIFE, after, formatted};
+use dc_disk::MemoryDisk;
 use dc_inspect::report_json_on;
 use dc_io::Bytes;
-use dc_poller::{ProgramFault, Report};
-use dc_recovery::OpenFault;
-use dc_sectors::MemoryDisk;
+use dc_log::OpenFault;
+use dc_script::{ProgramFault, Report};
 use refusing_alloc::Refusing;
 use std::alloc::Global;
 use std::process::Abort;

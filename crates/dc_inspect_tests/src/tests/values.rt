@@ -1,11 +1,11 @@
 //! The lines of `values`, along a house's life and on images that don't open.
 
 use super::images::{LIFE, after, formatted, with_sector};
+use dc_disk::MemoryDisk;
 use dc_inspect::show_values;
 use dc_io::{Bytes, FixedSink};
-use dc_poller::ProgramFault;
-use dc_recovery::OpenFault;
-use dc_sectors::MemoryDisk;
+use dc_log::OpenFault;
+use dc_script::ProgramFault;
 use refusing_alloc::Refusing;
 use std::alloc::Global;
 use std::process::Abort;

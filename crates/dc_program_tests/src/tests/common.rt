@@ -1,8 +1,8 @@
 //! What the tests share: texts put together, and a fresh image.
 
-use dc_meters::House;
-use dc_recovery::Store;
-use dc_sectors::MemoryDisk;
+use dc_disk::MemoryDisk;
+use dc_log::Store;
+use dc_register::House;
 use std::alloc::{AllocError, Global};
 use std::test::Fail;
 

@@ -3,7 +3,7 @@
 use super::decode::spaces;
 use super::streams::{FailingSink, FailingSource};
 use dc_io::{Bytes, TextFault};
-use dc_poller::fold_lines;
+use dc_script::fold_lines;
 use refusing_alloc::Refusing;
 use std::alloc::{AllocError, Allocator, Global};
 use std::process::Abort;

@@ -1,14 +1,14 @@
 //! Talks with gateways that answer, lie, stall or go away.
 
 ghost use Rattle.std.specs.Prelude.{◌≡◌};
-ghost use Rattle.dc_linkframe.specs.Control.{reset_to};
-ghost use Rattle.dc_linkframe.specs.Frame.{spelling};
+ghost use Rattle.dc_frame.specs.Control.{reset_to};
+ghost use Rattle.dc_frame.specs.Frame.{spelling};
 
 use dc_address::Identity;
+use dc_frame::FrameBuf;
+use dc_frame::control::write_reset;
 use dc_gateway::{AnswerBuf, Gateway, Talk, exchange, search_over};
 use dc_io::{Bytes, FixedSink, IoFault, Sink, Source};
-use dc_linkframe::FrameBuf;
-use dc_linkframe::control::write_reset;
 use dc_search::{Step, sweep};
 use dc_world::ListedBus;
 use refusing_alloc::Refusing;

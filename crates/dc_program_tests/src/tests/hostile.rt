@@ -2,7 +2,7 @@
 use super::common::{FIT, blank, joined};
 use super::streams::{FailingSink, FailingSource};
 use dc_io::{Bytes, Sink, Source};
-use dc_poller::run_script;
+use dc_script::run_script;
 use std::alloc::Global;
 use std::process::Abort;
 use std::test::Fail;

@@ -3,13 +3,13 @@
 ghost use Rattle.std.specs.Prelude.{None};
 
 use super::streams::FailingSink;
-use dc_changes::{Body, Change};
+use dc_change::{Body, Change};
 use dc_io::{Bytes, Sink};
-use dc_meters::House;
-use dc_upload::{
+use dc_office::{
     Code, ReplyFault, Verdict, a_done_command_is_repeated, judge, parse_line, write_refusal,
     write_reply,
 };
+use dc_register::House;
 use refusing_alloc::Refusing;
 use std::alloc::{Allocator, Global};
 use std::process::Abort;

@@ -2,10 +2,10 @@
 use super::common::{blank, joined};
 use super::run::{FIRST, LAST, run};
 use super::streams::FailingSink;
+use dc_disk::MemoryDisk;
 use dc_io::Bytes;
-use dc_poller::{ProgramFault, Report, report_on};
-use dc_recovery::OpenFault;
-use dc_sectors::MemoryDisk;
+use dc_log::OpenFault;
+use dc_script::{ProgramFault, Report, report_on};
 use refusing_alloc::Refusing;
 use std::alloc::{Allocator, Global};
 use std::process::Abort;

@@ -1,11 +1,11 @@
 //! What no clause and no case says of a script: what fails.
 use super::common::{blank, joined};
 use super::streams::{FailingSink, FailingSource};
+use dc_disk::{Disk, MemoryDisk};
 use dc_io::{Bytes, Sink, Source};
-use dc_meters::House;
-use dc_poller::{ProgramFault, run_script};
-use dc_recovery::Store;
-use dc_sectors::{Disk, MemoryDisk};
+use dc_log::Store;
+use dc_register::House;
+use dc_script::{ProgramFault, run_script};
 use refusing_alloc::Refusing;
 use std::alloc::{Allocator, Global};
 use std::test::Fail;

@@ -2,9 +2,9 @@
 
 use super::told::{BUDGET, FIRST, FIT, LAST, Told, all_done, behind, tell};
 use dc_address::{Identity, Primary};
-use dc_changes::{Change, ChangeFault, Command, Flat};
-use dc_meters::{House, Place, Reading, Serials};
-use dc_units::Date;
+use dc_change::{Change, ChangeFault, Command, Flat};
+use dc_register::{House, Place, Reading, Serials};
+use dc_value::Date;
 use refusing_alloc::Refusing;
 use std::alloc::{Allocator, Global};
 use std::process::Abort;

@@ -2,7 +2,7 @@
 
 use super::growths::{EACH, spelled};
 use super::told::{BUDGET, FIRST, FIT, LAST, decoded, encoded, replayed, spelled_behind};
-use dc_changes::DecodeFault;
+use dc_change::DecodeFault;
 use std::alloc::Global;
 use std::process::Abort;
 use std::test::Fail;

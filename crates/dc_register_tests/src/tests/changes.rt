@@ -1,8 +1,8 @@
 //! A full register, and the text of a fault.
 
 use super::told::{FIT, Told, behind, tell};
-use dc_changes::ChangeFault;
-use dc_meters::House;
+use dc_change::ChangeFault;
+use dc_register::House;
 use std::alloc::Global;
 use std::process::Abort;
 use std::test::Fail;

@@ -1,6 +1,6 @@
 //! Changes that are read back from their bytes.
 
-use dc_changes::{Body, Change, Command, DecodeFault, decode_changes, encode_change};
+use dc_change::{Body, Change, Command, DecodeFault, decode_changes, encode_change};
 use dc_io::Bytes;
 use refusing_alloc::Refusing;
 use std::alloc::Allocator;

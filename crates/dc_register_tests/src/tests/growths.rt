@@ -3,10 +3,10 @@
 use super::told::{
     BUDGET, FIRST, FIT, LAST, Told, behind, decodes, encoded, replayed, spelled_behind, tell,
 };
-use dc_changes::{Change, DecodeFault, encode_change};
+use dc_change::{Change, DecodeFault, encode_change};
 use dc_io::{Bytes, NoMemory};
-use dc_meters::{House, Reading, StorageDates};
-use dc_units::Date;
+use dc_register::{House, Reading, StorageDates};
+use dc_value::Date;
 use refusing_alloc::Refusing;
 use std::alloc::{Allocator, Global};
 use std::process::Abort;

@@ -1,6 +1,6 @@
 //! Lines of commands that a file of cases can't hold, and the words of lines.
 
-use dc_changes::{Command, parse_number, split_word};
+use dc_change::{Command, parse_number, split_word};
 use std::test::Fail;
 
 // A carriage return is no line end, and belongs to the line.

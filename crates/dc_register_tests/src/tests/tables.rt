@@ -1,11 +1,11 @@
 //! The growths of the tables.
 
-ghost use Rattle.dc_changes.specs.Valid.{IsChange};
+ghost use Rattle.dc_change.specs.Valid.{IsChange};
 
-use dc_changes::{Body, Change, Command};
+use dc_change::{Body, Change, Command};
 use dc_io::NoMemory;
-use dc_meters::House;
-use dc_report::{Date, due_rows, due_table, register_rows, register_table};
+use dc_register::House;
+use dc_table::{Date, due_rows, due_table, register_rows, register_table};
 use refusing_alloc::Refusing;
 use std::alloc::Allocator;
 use std::process::Abort;

@@ -1,10 +1,10 @@
 //! Changes that a house is given as lines.
 
-ghost use Rattle.dc_changes.specs.Valid.{IsChange};
+ghost use Rattle.dc_change.specs.Valid.{IsChange};
 
-use dc_changes::{Change, ChangeFault, DecodeFault};
+use dc_change::{Change, ChangeFault, DecodeFault};
 use dc_io::{Bytes, NoMemory};
-use dc_meters::House;
+use dc_register::House;
 use std::alloc::{Allocator, Global};
 use std::process::Abort;
 use std::test::Fail;

@@ -2,8 +2,8 @@
 
 use super::images::stop_at;
 use dc_counter::{Counter, reopened};
-use dc_recovery::Store;
-use dc_sectors::MemoryDisk;
+use dc_disk::MemoryDisk;
+use dc_log::Store;
 use std::alloc::Global;
 use std::process::Abort;
 use std::test::Fail;

@@ -1,7 +1,7 @@
 //! Reads and failures of the disk in memory, and disks over files: that calls succeed where there
 //! is memory, and what a real file does.
 
-use dc_sectors::{Disk, Failed, FileDisk, MemoryDisk, ReadFault};
+use dc_disk::{Disk, Failed, FileDisk, MemoryDisk, ReadFault};
 use refusing_alloc::Refusing;
 use std::alloc::Global;
 use std::fs::File;
@@ -65,7 +65,7 @@ fn place(rt: &HostRuntime, name: &str) -> Result<String, Fail> {
     let folder = env::temp_dir(rt)?;
     let folder = folder.as_str();
     let id = std::process::id(rt.process());
-    Ok(format!(in rt.alloc(); "{folder}/dc_sectors_{id}_{name}")?)
+    Ok(format!(in rt.alloc(); "{folder}/dc_disk_{id}_{name}")?)
 }
 
 #[test]

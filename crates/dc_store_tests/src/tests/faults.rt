@@ -4,9 +4,9 @@ use super::life::{
     FIT, Life, accept, accept_all, calls_of_open, closed, compact, formatted, opened, read_as,
     written,
 };
-use dc_meters::House;
-use dc_recovery::{FormatFault, OpenFault, Store, StoreFault};
-use dc_sectors::MemoryDisk;
+use dc_disk::MemoryDisk;
+use dc_log::{FormatFault, OpenFault, Store, StoreFault};
+use dc_register::House;
 use refusing_alloc::Refusing;
 use std::alloc::{Allocator, Global};
 use std::process::Abort;

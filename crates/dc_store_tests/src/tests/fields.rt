@@ -1,6 +1,6 @@
 //! Numbers are put and read at their places.
 
-use dc_sectors::{put_u16, put_u32, put_u64, u16_at, u32_at, u64_at};
+use dc_disk::{put_u16, put_u32, put_u64, u16_at, u32_at, u64_at};
 
 #[test]
 fn numbers_are_kept_low_byte_first(rt: HostRuntime) {

@@ -1,10 +1,10 @@
 //! The store over a file: formatted once, written, compacted and opened again.
 
-use dc_changes::{Change, encode_change};
+use dc_change::{Change, encode_change};
+use dc_disk::FileDisk;
 use dc_io::Bytes;
-use dc_meters::House;
-use dc_recovery::{FormatFault, Store};
-use dc_sectors::FileDisk;
+use dc_log::{FormatFault, Store};
+use dc_register::House;
 use std::alloc::Global;
 use std::fs::File;
 use std::process::Abort;

@@ -3,9 +3,9 @@
 ghost use Rattle.std.specs.Prelude.{◌≡◌, ◌<◌, ◌≤◌, ◌+◌, ◌*◌, [], ◌∷◌, length};
 
 use super::images::{OLD, UNREADABLE, WRITTEN, stop_at};
+use dc_disk::{Disk, Failed, MemoryDisk};
 use dc_io::{IoFault, Sink};
 use dc_pages::{GroupFault, GroupSink, GroupWriter, Site, read_group};
-use dc_sectors::{Disk, Failed, MemoryDisk};
 use refusing_alloc::Refusing;
 use std::alloc::Global;
 use std::process::Abort;

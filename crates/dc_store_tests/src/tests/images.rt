@@ -1,10 +1,10 @@
 //! The images that a crash may leave, by their numbers.
 ghost use Rattle.std.specs.Prelude.{ℕ, IfOk};
 ghost use Rattle.std.specs.List.{AllZip};
-ghost use Rattle.dc_sectors.specs.Memory.{IsPickFor};
+ghost use Rattle.dc_disk.specs.Memory.{IsPickFor};
 
+use dc_disk::{MemoryDisk, Pick};
 use dc_io::NoMemory;
-use dc_sectors::{MemoryDisk, Pick};
 use std::alloc::Global;
 
 /// The contents of a sector after a crash: as before, unreadable, or as its first write left it;

@@ -6,11 +6,11 @@ use super::life::{
     state_of,
 };
 use super::sectors::read;
-use dc_changes::{Change, encode_change};
+use dc_change::{Change, encode_change};
+use dc_disk::MemoryDisk;
 use dc_io::Bytes;
-use dc_meters::House;
-use dc_recovery::StoreFault;
-use dc_sectors::MemoryDisk;
+use dc_log::StoreFault;
+use dc_register::House;
 use std::alloc::Global;
 use std::process::Abort;
 use std::test::Fail;

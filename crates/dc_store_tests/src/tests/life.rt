@@ -1,12 +1,12 @@
 //! A store that is open, and the house beside it.
 
-ghost use Rattle.dc_changes.specs.Valid.{IsChange};
+ghost use Rattle.dc_change.specs.Valid.{IsChange};
 
-use dc_changes::{Change, encode_change};
+use dc_change::{Change, encode_change};
+use dc_disk::MemoryDisk;
 use dc_io::Bytes;
-use dc_meters::House;
-use dc_recovery::{OpenFault, Store, StoreFault};
-use dc_sectors::MemoryDisk;
+use dc_log::{OpenFault, Store, StoreFault};
+use dc_register::House;
 use std::alloc::Global;
 use std::process::Abort;
 use std::test::Fail;

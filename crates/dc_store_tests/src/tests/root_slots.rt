@@ -2,8 +2,8 @@
 
 ghost use Rattle.std.specs.Prelude.{◌<◌};
 
+use dc_disk::{Disk, MemoryDisk, ReadFault};
 use dc_roots::{Root, RootFault, choose, write_next};
-use dc_sectors::{Disk, MemoryDisk, ReadFault};
 use std::alloc::Global;
 use std::process::Abort;
 use std::test::Fail;

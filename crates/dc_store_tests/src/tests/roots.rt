@@ -2,10 +2,10 @@
 
 use super::life::{FIT, accept, closed, compact, formatted, opened, reopened, written};
 use super::sectors::{put, read, reads_alike};
-use dc_meters::House;
-use dc_recovery::{OpenFault, Store, StoreFault};
+use dc_disk::{Disk, MemoryDisk};
+use dc_log::{OpenFault, Store, StoreFault};
+use dc_register::House;
 use dc_roots::{Root, write_next};
-use dc_sectors::{Disk, MemoryDisk};
 use std::alloc::Global;
 use std::process::Abort;
 use std::test::Fail;

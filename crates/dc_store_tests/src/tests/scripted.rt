@@ -1,6 +1,6 @@
 //! A disk over a file of which one call goes wrong: a part, a failure, and a sync that fails.
 
-use dc_sectors::{Disk, Failed, FileDisk, ReadFault};
+use dc_disk::{Disk, Failed, FileDisk, ReadFault};
 use std::cell::Cell;
 use std::fs::{File, Metadata, OpenFile};
 use std::os::fd::{AsRawFd, RawFd};

@@ -1,7 +1,7 @@
 //! The sectors of an image, by hand.
 ghost use Rattle.std.specs.Prelude.{◌≤◌, length};
 
-use dc_sectors::{Disk, MemoryDisk};
+use dc_disk::{Disk, MemoryDisk};
 use std::alloc::Global;
 use std::process::Abort;
 use std::test::Fail;

@@ -4,7 +4,7 @@ ghost use Rattle.std.specs.Prelude.{◌≤◌, length};
 use super::life::reopened;
 use super::roots::{compacts_no_more, is_worn};
 use super::sectors::{put, sector};
-use dc_sectors::{Disk, MemoryDisk, put_u64};
+use dc_disk::{Disk, MemoryDisk, put_u64};
 use std::alloc::Global;
 use std::process::Abort;
 use std::test::Fail;

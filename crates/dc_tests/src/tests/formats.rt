@@ -4,9 +4,9 @@
 use super::images::{images_of, rested, stopped};
 use super::life::{blank, state_of};
 use super::stops::Tried;
-use dc_meters::House;
-use dc_recovery::{FormatFault, OpenFault, Store};
-use dc_sectors::{Disk, MemoryDisk};
+use dc_disk::{Disk, MemoryDisk};
+use dc_log::{FormatFault, OpenFault, Store};
+use dc_register::House;
 use std::alloc::Global;
 use std::ops::Range;
 use std::process::Abort;

@@ -4,10 +4,10 @@
 use super::life::{Life, blank_on, state_of, states_of};
 use super::stops::{Span, is_in, span_at};
 use super::turns::{Told, Way, go, turn};
-use dc_core::Concentrator;
+use dc_concentrator::Concentrator;
+use dc_disk::MemoryDisk;
 use dc_io::Bytes;
-use dc_recovery::OpenFault;
-use dc_sectors::MemoryDisk;
+use dc_log::OpenFault;
 use refusing_alloc::Refusing;
 use std::alloc::Global;
 use std::process::Abort;

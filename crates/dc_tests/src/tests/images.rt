@@ -2,10 +2,10 @@
 
 ghost use Rattle.std.specs.Prelude.{ℕ, IfOk};
 ghost use Rattle.std.specs.List.{AllZip};
-ghost use Rattle.dc_sectors.specs.Memory.{IsPickFor};
+ghost use Rattle.dc_disk.specs.Memory.{IsPickFor};
 
+use dc_disk::{MemoryDisk, Pick};
 use dc_io::NoMemory;
-use dc_sectors::{MemoryDisk, Pick};
 use std::alloc::{Allocator, Global};
 
 /// With at most that many pending sectors, each choice of them is an image.

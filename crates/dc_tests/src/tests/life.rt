@@ -2,12 +2,12 @@
 
 use super::images::rested;
 use dc_address::Identity;
-use dc_changes::{Change, Moment};
-use dc_core::Event;
+use dc_change::{Change, Moment};
+use dc_concentrator::Event;
+use dc_disk::{Disk, MemoryDisk};
 use dc_io::Bytes;
-use dc_meters::House;
-use dc_recovery::Store;
-use dc_sectors::{Disk, MemoryDisk};
+use dc_log::Store;
+use dc_register::House;
 use std::alloc::{Allocator, Global};
 use std::test::Fail;
 
@@ -109,7 +109,7 @@ fn replay(heap: Global, house: &mut House<Global>, line: &[u8]) -> Result<(), Fa
     let mut room = [0; 2048];
     let change = Change::parse_line(line, &mut room).ok_or("no change")?;
     let mut bytes = Bytes::new(heap);
-    dc_changes::encode_change(&change, &mut bytes)?;
+    dc_change::encode_change(&change, &mut bytes)?;
     house.replay(bytes.as_slice())?;
     Ok(())
 }

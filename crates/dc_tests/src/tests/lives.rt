@@ -3,9 +3,9 @@
 
 use super::images::rested;
 use super::life::{Deed, Life, Step, blank};
-use dc_core::Concentrator;
+use dc_concentrator::Concentrator;
+use dc_disk::{Disk, MemoryDisk};
 use dc_io::FixedSink;
-use dc_sectors::{Disk, MemoryDisk};
 use std::alloc::Global;
 use std::process::Abort;
 use std::test::Fail;

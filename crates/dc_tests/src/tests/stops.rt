@@ -4,10 +4,10 @@
 use super::images::{images_of, stopped};
 use super::life::{Life, Step, state_of, states_of};
 use super::turns::{Way, go};
-use dc_core::Concentrator;
+use dc_concentrator::Concentrator;
+use dc_disk::MemoryDisk;
 use dc_io::Bytes;
-use dc_recovery::OpenFault;
-use dc_sectors::MemoryDisk;
+use dc_log::OpenFault;
 use std::alloc::Global;
 use std::process::Abort;
 use std::test::Fail;

@@ -2,13 +2,13 @@
 
 ghost use Rattle.std.specs.Prelude.{◌≤◌, length};
 ghost use Rattle.dc_gateway.specs.Blocks.{most_block};
-ghost use Rattle.dc_line.specs.Bus.{most_looks};
+ghost use Rattle.dc_raw.specs.Bus.{most_looks};
 
+use dc_frame::FrameBuf;
+use dc_frame::control::write_request;
 use dc_gateway::{Bus, Gateway};
 use dc_io::{Bytes, FixedSink, Sink};
-use dc_line::{BlockLink, Both, Event, HalfBus, Line, Pause, PollWire, QuietBus, Tape, Wire};
-use dc_linkframe::FrameBuf;
-use dc_linkframe::control::write_request;
+use dc_raw::{BlockLink, Both, Event, HalfBus, Line, Pause, PollWire, QuietBus, Tape, Wire};
 use std::io::Write;
 use std::os::unix::net::UnixStream;
 use std::process::Abort;

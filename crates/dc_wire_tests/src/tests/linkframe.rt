@@ -1,6 +1,6 @@
 //! The number and the name of a fault of a frame.
 
-use dc_linkframe::FrameFault;
+use dc_frame::FrameFault;
 use std::test::Fail;
 
 #[test]

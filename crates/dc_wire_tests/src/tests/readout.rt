@@ -2,7 +2,7 @@
 
 use dc_address::{Identity, Primary};
 use dc_readout::{Heard, Session, Why};
-use dc_records::BodyFault;
+use dc_record::BodyFault;
 use std::process::Abort;
 use std::test::Fail;
 

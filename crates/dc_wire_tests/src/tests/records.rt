@@ -1,9 +1,9 @@
 //! Telegrams and records with their bytes.
 
 ghost use Rattle.std.specs.Prelude.{◌≡◌, ◌==◌, count_by, length};
-ghost use Rattle.dc_records.specs.Telegram.{parsed};
+ghost use Rattle.dc_record.specs.Telegram.{parsed};
 
-use dc_records::{BodyFault, End, Header, Record, Telegram};
+use dc_record::{BodyFault, End, Header, Record, Telegram};
 use std::fmt::Write;
 use std::test::Fail;
 

@@ -1,6 +1,6 @@
 //! Printed texts of values, up to the longest.
 
-use dc_units::{Date, Decimal, Quantity, Value};
+use dc_value::{Date, Decimal, Quantity, Value};
 use std::test::Fail;
 
 #[test]

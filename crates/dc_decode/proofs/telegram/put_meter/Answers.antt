@@ -1,6 +1,6 @@
 use Rattle.std.proofs.Common.{◌≡◌, ◌++◌, ℕ, List, codes, refl, ap, ◌∙◌, subst, arith}
 use Rattle.dc_address.specs.Text.{text_of}
-use Rattle.dc_records.specs.declared.header.Header.{Header}
+use Rattle.dc_record.specs.declared.header.Header.{Header}
 use Rattle.dc_io.specs.Stream.{PutsFront}
 use Rattle.dc_io.proofs.Pieces.{puts_front-first, puts_front-second}
 use Rattle.dc_io.specs.Words.{number_word}

@@ -1,5 +1,5 @@
 use Rattle.std.proofs.Common.{◌++◌, codes, arith}
-use Rattle.dc_records.specs.Record.{Entry, view}
+use Rattle.dc_record.specs.Record.{Entry, view}
 use Rattle.dc_io.specs.Stream.{PutsFront}
 use Rattle.dc_io.proofs.Pieces.{puts_front-first, puts_front-second}
 use Rattle.dc_io.specs.Words.{hex_word}

@@ -1,7 +1,7 @@
 use Rattle.std.proofs.Common.{ℕ, ◌++◌, Some, subst}
 use Rattle.std.specs.Prelude.{option_map}
-use Rattle.dc_sectors.specs.Disk.{Image}
-use Rattle.dc_recovery.proofs.ReadMoments.{looked_on}
+use Rattle.dc_disk.specs.Disk.{Image}
+use Rattle.dc_log.proofs.ReadMoments.{looked_on}
 use Rattle.dc_inspect.specs.Look.{seen_of}
 use Rattle.dc_io.specs.Stream.{Puts}
 use Rattle.dc_inspect.specs.Told.{IsLook, disk_line, image_text}

@@ -1,6 +1,6 @@
 use Rattle.std.proofs.Common.{ℕ, ◌-◌, List, Option, length, ap, ◌∙◌}
 use Rattle.std.specs.Prelude.{option_map, slice_get}
-use Rattle.dc_changes.specs.State.{ReadingRow}
+use Rattle.dc_change.specs.State.{ReadingRow}
 use Rattle.dc_inspect.proofs.Sums.{same_sum}
 use Rattle.dc_inspect.proofs.summary.summary_of.Goals as goal
 

@@ -1,6 +1,6 @@
 use Rattle.std.proofs.Common.{ℕ, Some, subst}
 use Rattle.std.specs.Prelude.{option_map}
-use Rattle.dc_sectors.specs.Disk.{Image}
+use Rattle.dc_disk.specs.Disk.{Image}
 use Rattle.dc_inspect.specs.Look.{seen_of}
 use Rattle.dc_inspect.specs.Told.{IsLook}
 use Rattle.dc_inspect.proofs.values.show_image.Goals as goal

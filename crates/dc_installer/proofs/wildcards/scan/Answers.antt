@@ -1,7 +1,7 @@
 use Rattle.std.proofs.Common.{ℕ, ◌-◌, ◌∙◌, subst, sym}
 use Rattle.dc_io.specs.Stream.{Puts}
-use Rattle.dc_poller.specs.Search.{search_text_after}
-use Rattle.dc_poller.proofs.LineRuns.{on_ok}
+use Rattle.dc_script.specs.Search.{search_text_after}
+use Rattle.dc_script.proofs.LineRuns.{on_ok}
 use Rattle.dc_installer.specs.Scan.{IsLook, at_once, once_more}
 use Rattle.dc_installer.proofs.wildcards.scan.Goals as goal
 

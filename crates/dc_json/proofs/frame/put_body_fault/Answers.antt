@@ -1,5 +1,5 @@
 use Rattle.std.proofs.Common.{[], ◌∷◌, append-nil, Err}
-use Rattle.dc_records.specs.Fault as records
+use Rattle.dc_record.specs.Fault as records
 use Rattle.dc_json.specs.Object.{Field, fields_tokens}
 use Rattle.dc_json.specs.Frame.{body_fields, bytes_field, fault_field}
 use Rattle.std.proofs.Common.{codes}

@@ -1,6 +1,6 @@
 use Rattle.std.proofs.Common.{List, ℕ, append-nil, map}
 use Rattle.json.specs.Tree.{items_tokens}
-use Rattle.dc_records.specs.Record.{view}
+use Rattle.dc_record.specs.Record.{view}
 use Rattle.dc_names.specs.Vib.{qualifiers}
 use Rattle.dc_json.specs.Object.{fields_tokens, items_of}
 use Rattle.dc_json.specs.Record.{quantity_fields, qualifier}

@@ -1,6 +1,6 @@
 use Rattle.std.proofs.Common.{append_assoc, append-nil}
 use Rattle.json.specs.Tree.{json_tokens}
-use Rattle.dc_records.specs.Record.{view}
+use Rattle.dc_record.specs.Record.{view}
 use Rattle.dc_json.specs.Record.{record_json, record_fields}
 use Rattle.dc_json.proofs.Objects.{members_are, items_are, fields-append}
 use Rattle.dc_json.proofs.Adding.{◌>>◌, unchanged, said}

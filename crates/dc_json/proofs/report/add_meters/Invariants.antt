@@ -1,6 +1,6 @@
 use Rattle.std.proofs.Common.{◌≡◌, ◌++◌}
 use Rattle.std.specs.List.{flat_map}
-use Rattle.dc_meters.specs.Places.{by_flat}
+use Rattle.dc_register.specs.Places.{by_flat}
 use Rattle.dc_json.specs.Report.{line_at}
 use Rattle.dc_json.proofs.report.add_meters.Given as goal
 

@@ -1,5 +1,5 @@
 use Rattle.std.proofs.Common.{◌∙◌}
-use Rattle.dc_records.specs.Record.{view}
+use Rattle.dc_record.specs.Record.{view}
 use Rattle.dc_json.proofs.Objects.{one_record_more, no_record_more}
 use Rattle.dc_json.proofs.telegram.put_records.Goals as goal
 

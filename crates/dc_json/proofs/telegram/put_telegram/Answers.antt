@@ -1,5 +1,5 @@
 use Rattle.std.proofs.Common.{append-nil}
-use Rattle.dc_records.specs.Telegram.{Parsed, parsed}
+use Rattle.dc_record.specs.Telegram.{Parsed, parsed}
 use Rattle.dc_json.specs.Object.{fields_tokens}
 use Rattle.dc_json.specs.Telegram.{header_fields, records_field, end_fields, telegram_fields}
 use Rattle.dc_json.proofs.Objects.{fields-around}

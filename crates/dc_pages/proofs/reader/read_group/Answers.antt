@@ -1,8 +1,8 @@
 use Rattle.std.proofs.Common.{◌≡◌, ◌+◌, Bool, false, Ok, Err, arith, subst, ap, ◌∙◌, refl}
 use Rattle.std.specs.Prelude.{if◌then◌else◌}
 use Rattle.std.proofs.lemmas.Result.{err_from_is_err_and}
-use Rattle.dc_sectors.specs.Disk.{Choices, IsImage}
-use Rattle.dc_sectors.proofs.Moments.{goes_on}
+use Rattle.dc_disk.specs.Disk.{Choices, IsImage}
+use Rattle.dc_disk.proofs.Moments.{goes_on}
 use Rattle.dc_pages.specs.Judging.{IsStep}
 use Rattle.dc_pages.specs.declared.fault.GroupFault.{GroupFault}
 use Rattle.dc_pages.specs.declared.fault.GroupFault.TheVariants.{Incomplete}

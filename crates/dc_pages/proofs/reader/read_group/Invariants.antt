@@ -1,6 +1,6 @@
 use Rattle.std.proofs.Common.{◌≡◌, ◌+◌}
-use Rattle.dc_sectors.specs.Disk.{IsImage}
-use Rattle.dc_sectors.specs.Runs.{LeavesOnly}
+use Rattle.dc_disk.specs.Disk.{IsImage}
+use Rattle.dc_disk.specs.Runs.{LeavesOnly}
 use Rattle.dc_pages.specs.Reading.{IsBegun}
 use Rattle.dc_pages.proofs.reader.read_group.Given as goal
 

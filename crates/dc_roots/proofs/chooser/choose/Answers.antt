@@ -1,6 +1,6 @@
 use Rattle.std.proofs.Common.{subst}
-use Rattle.dc_sectors.specs.Disk.{Image, Choices, IsImage}
-use Rattle.dc_sectors.proofs.Moments.{started, goes_on}
+use Rattle.dc_disk.specs.Disk.{Image, Choices, IsImage}
+use Rattle.dc_disk.proofs.Moments.{started, goes_on}
 use Rattle.dc_roots.specs.Held.{IsHeld}
 use Rattle.dc_roots.proofs.chooser.choose.Goals as goal
 

@@ -1,6 +1,6 @@
 use Rattle.std.proofs.Common.{◌≡◌, ◌++◌, arith, refl, replicate, length, length-append}
-use Rattle.dc_sectors.proofs.Numbers.{written_behind, length-number_bytes}
-use Rattle.dc_sectors.specs.Fields.{number_bytes}
+use Rattle.dc_disk.proofs.Numbers.{written_behind, length-number_bytes}
+use Rattle.dc_disk.specs.Fields.{number_bytes}
 use Rattle.dc_roots.specs.Root.{root_bytes, root_front}
 use Rattle.dc_roots.proofs.format.sector_of.Goals as goal
 

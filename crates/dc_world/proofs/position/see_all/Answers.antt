@@ -1,5 +1,5 @@
 use Rattle.std.proofs.Common.{◌≡◌, ◌<◌, ◌+◌, length, get_or, slice_set, arith, refl, sym, ◌∙◌, ap, subst}
-use Rattle.dc_linkframe.specs.Frame.{FrameSeen}
+use Rattle.dc_frame.specs.Frame.{FrameSeen}
 use Rattle.dc_world.specs.Meter.{Position, moved_by}
 use Rattle.dc_world.specs.Request.{frame_asked, MayGoOn}
 use Rattle.dc_world.proofs.Lists.{there}

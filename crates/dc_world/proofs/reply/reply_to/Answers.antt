@@ -1,5 +1,5 @@
 use Rattle.std.proofs.Common.{◌≡◌, true, false, cond, Some, None, sym, ◌∙◌, ap}
-use Rattle.dc_linkframe.specs.Frame.{ack}
+use Rattle.dc_frame.specs.Frame.{ack}
 use Rattle.dc_address.specs.Mask.{mask_of, matches}
 use Rattle.dc_world.specs.Meter.{Meter, Position, answer_to, body_at, hears_at, is_own, response}
 use Rattle.dc_world.specs.Reply.{bytes_of}

@@ -1,7 +1,7 @@
 use Rattle.std.proofs.Common.{◌-◌, ◌<◌, length, arith, sym, ◌∙◌, ap}
 use Rattle.std.specs.Prelude.{slice_get, unwrap_or}
-use Rattle.dc_linkframe.specs.Control.{variable_data}
-use Rattle.dc_linkframe.specs.Frame.{long, spelling}
+use Rattle.dc_frame.specs.Control.{variable_data}
+use Rattle.dc_frame.specs.Frame.{long, spelling}
 use Rattle.dc_world.specs.Meter.{Meter, response, rsp_ud}
 use Rattle.dc_world.specs.Reply.{bytes_of}
 use Rattle.dc_world.proofs.Asked.{body_there}

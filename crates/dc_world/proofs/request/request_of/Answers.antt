@@ -1,8 +1,8 @@
 use Rattle.std.proofs.Common.{◌≡◌, Some, sym, ◌∙◌, ap, nat_eq}
 use Rattle.std.specs.Prelude.{option_map}
-use Rattle.dc_linkframe.specs.Control.{request_to}
-use Rattle.dc_linkframe.specs.Frame.{ack, short, seen}
-use Rattle.dc_linkframe.specs.Reading.{frame_of}
+use Rattle.dc_frame.specs.Control.{request_to}
+use Rattle.dc_frame.specs.Frame.{ack, short, seen}
+use Rattle.dc_frame.specs.Reading.{frame_of}
 use Rattle.dc_readout.specs.Summary.{asked_by}
 use Rattle.dc_world.specs.Request.{frame_asked}
 use Rattle.dc_world.proofs.Asked.{sent_frame, data_asked, never_ack}

@@ -2,7 +2,7 @@ use Rattle.std.proofs.Common.{◌≡◌, ◌<◌, ◌≤◌, ℕ, List, length, 
 use Rattle.std.specs.Prelude.{slice_get}
 use Rattle.std.proofs.lemmas.Option.{slice_get_within}
 use borrow.Author.Count.{below_more}
-use Rattle.dc_linkframe.specs.Frame.{longest_body}
+use Rattle.dc_frame.specs.Frame.{longest_body}
 use Rattle.dc_world.proofs.Lists.{there, get_there}
 use Rattle.dc_world.proofs.script.are_short.Goals as goal
 

@@ -1,6 +1,6 @@
 use Rattle.std.proofs.Common.{◌≡◌, ◌<◌, ◌≤◌, ℕ, List, length, Some}
 use Rattle.std.specs.Prelude.{slice_get}
-use Rattle.dc_linkframe.specs.Frame.{longest_body}
+use Rattle.dc_frame.specs.Frame.{longest_body}
 use Rattle.dc_world.proofs.script.are_short.Given as goal
 
 abbrev pub invariant-loop-place : goal.invariant-loop-place

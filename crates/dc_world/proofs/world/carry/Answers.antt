@@ -1,5 +1,5 @@
 use Rattle.std.proofs.Common.{◌<◌, List, length, get_or, arith, sym, ◌∙◌, ap}
-use Rattle.dc_linkframe.specs.Frame.{FrameSeen}
+use Rattle.dc_frame.specs.Frame.{FrameSeen}
 use Rattle.dc_world.specs.Meter.{Position, answer_to}
 use Rattle.dc_world.specs.Reply.{bytes_of}
 use Rattle.dc_world.specs.Request.{frame_asked}

@@ -1,5 +1,5 @@
 use Rattle.std.proofs.Common.{refl}
-use Rattle.dc_sectors.proofs.Moments.{all_passed}
+use Rattle.dc_disk.proofs.Moments.{all_passed}
 use Rattle.dc_pages.proofs.streaming.GroupSinkSink.put.Goals as goal
 
 pub returns-in-Ok-clause-step : goal.returns-in-Ok-clause-step

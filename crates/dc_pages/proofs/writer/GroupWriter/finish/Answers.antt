@@ -1,5 +1,5 @@
 use Rattle.std.proofs.Common.{◌≡◌, ◌+◌, ◌++◌, List, ℕ, drop, replicate, inl, inr, arith, ap, subst, sym, ◌∙◌}
-use Rattle.dc_sectors.specs.Disk.{Image, put}
+use Rattle.dc_disk.specs.Disk.{Image, put}
 use Rattle.dc_pages.specs.Draft.{Draft}
 use Rattle.dc_pages.specs.Group.{commit_kind, piece, head_bytes, commit_bytes}
 use Rattle.dc_pages.specs.Writing.{SameOutside, IsGoing, IsClosed}

@@ -1,5 +1,5 @@
 use Rattle.std.proofs.Common.{◌<◌, ◌+◌, take, drop, arith, refl, sym, subst}
-use Rattle.dc_sectors.specs.declared.sector.Sector.TheVariants.{Bytes}
+use Rattle.dc_disk.specs.declared.sector.Sector.TheVariants.{Bytes}
 use Rattle.dc_pages.specs.Draft.{Draft}
 use Rattle.dc_pages.specs.Writing.{SameOutside, IsPageWritten}
 use Rattle.dc_pages.proofs.Buffers.{headed_buffer}

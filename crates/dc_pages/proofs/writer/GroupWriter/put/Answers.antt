@@ -1,6 +1,6 @@
 use Rattle.std.proofs.Common.{◌≡◌, ◌+◌, ◌-◌, ◌++◌, List, ℕ, length, take, drop, arith, ap, subst, sym, ◌∙◌}
 use Rattle.std.proofs.lemmas.List.{take_all, append_assoc, length-append}
-use Rattle.dc_sectors.specs.Runs.{LeavesOnly}
+use Rattle.dc_disk.specs.Runs.{LeavesOnly}
 use Rattle.dc_pages.specs.Draft.{Draft}
 use Rattle.dc_pages.specs.Writing.{SameOutside, IsGoing, IsPartOf}
 use Rattle.dc_pages.proofs.Buffers.{part_taken, take-further}

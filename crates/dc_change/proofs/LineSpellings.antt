@@ -1,0 +1,288 @@
+-- The first space of a text, and numbers as their digits.
+use Rattle.std.proofs.Common.{◌≡◌, ◌≢◌, ℕ, ◌+◌, ◌/◌, ◌%◌, ◌<◌, ◌≤◌, ◌^◌, Bool, true, not, cond, List, [], ◌∷◌, ◌++◌, length, length-append, length-take, map, drop-cons, take-append-drop, take, drop, get_or, eqb-true, Option, None, Some, refl, sym, ap, subst, ◌∙◌, arith, suc, zero, codes}
+use Rattle.std.proofs.lemmas.Bool.{and_parts, and_from, lt-ltb, ne_eqb}
+use Rattle.std.proofs.lemmas.Bool.Decides.{nat_tests}
+use Rattle.std.proofs.lemmas.Grind.{common_steps}
+use Rattle.std.specs.Prelude.{Result, Ok, nat_lt}
+use Rattle.std.specs.List.{position, position_or_len, AllPass, prefix_len, list_all}
+use Rattle.std.specs.Fmt.{decimal}
+use Rattle.std.specs.Str.{IsUtf8}
+use Rattle.std.specs.Str.Parse.{AllDigits, digits_value, ParsesUnsigned}
+use Rattle.std.proofs.lemmas.Fmt.{decimal_injective, decimal_is_IsNumeral, length-decimal-le, decimal_digit, decimal-digits_value, first_decimal, IsAscii-decimal, parse-decimal}
+use Rattle.std.proofs.lemmas.Str.{IsUtf8-from_ascii}
+use Rattle.std.proofs.lemmas.Str.Parse.{IsNumeralModel, numerals_by_value, tells_digits, digit_at, parse_plain}
+use Rattle.std.proofs.lemmas.List.Sums.{fails_before_first, passes_at_first, list_all-from_AllPass}
+use Rattle.std.proofs.lemmas.List.Folds.{list_all-append}
+use Rattle.std.proofs.Math.Seq.{take-append_seam, drop-append_seam}
+use Rattle.dc_change.specs.Words.{IsWord, BeginsNumber, is_space, is_inside}
+use Rattle.dc_change.proofs.Decimals.{decimal_is_word}
+use Rattle.dc_address.specs.Digits.{decimal_digits}
+use Rattle.dc_address.specs.Maker.{first_letter, second_letter, third_letter}
+use Rattle.dc_address.specs.Text.{text_of, decimal_code, hex_code}
+use Rattle.dc_address.proofs.Texts.{length-text_of, same_from_text, text_rest}
+use Rattle.dc_address.specs.declared.identity.Identity.{Identity}
+use Rattle.dc_change.specs.Line.{IsOfBytes, NamesMeters, address_word, arguments_of, command_text, line_of, verb_of}
+use Rattle.dc_change.specs.Valid.{IsAddress, IsBusLine, IsCommand, IsNumber}
+use Rattle.dc_change.specs.declared.command.Command.{Command}
+use Rattle.dc_change.specs.declared.command.Command.TheVariants.{Fit, Move, Out, Confirm, Swap}
+
+-- ---- numbers
+
+digits_are : IsNumeralModel (AllDigits 10) (digits_value 10)
+digits_are = numerals_by_value (AllDigits 10) tells_digits
+
+lone_zero : (number : ℕ) → number < 2 ^ 64 → get_or (decimal number) 0 0 ≡ 48 → length (decimal number) ≡ 1
+lone_zero zero fits is_zero = ap length (decimal_digit 0 (omega arith))
+lone_zero (suc n) fits is_zero = absurd (omega (arith, first_decimal (suc n) (omega arith) fits))
+
+decimal_begins : (number : ℕ) → number < 2 ^ 64 → BeginsNumber (decimal number)
+decimal_begins number fits =
+    let digits = decimal_is_IsNumeral number fits in
+    record {
+      some = digits.0.0;
+      unsigned = λ plus. omega (arith, digit_at (decimal number) 0 digits.0.1 digits.0.0);
+      alone = lone_zero number fits;
+    }
+
+pub number_begins : (word : List ℕ) (number : ℕ) → number < 10 ^ 18 → word ≡ decimal number → BeginsNumber word
+number_begins word number fits is = subst BeginsNumber (sym is) (decimal_begins number (omega arith))
+
+pub number_is_text : (word : List ℕ) (number : ℕ) → number < 10 ^ 18 → word ≡ decimal number → IsUtf8 word
+number_is_text word number fits is = subst IsUtf8 (sym is) (IsUtf8-from_ascii (decimal number) (IsAscii-decimal number (omega arith)))
+
+-- what std's `parse` says of a word that spells a number, and of one that begins as a number does
+pub number_parsed : {E : Type 0} (word text : List ℕ) (number : ℕ) (parsed : Result ℕ E) → number < 10 ^ 18 → word ≡ decimal number
+    → text ≡ word → ParsesUnsigned 64 10 text parsed → parsed ≡ Ok number
+number_parsed word text number parsed fits is same parses =
+    parse-decimal 64 number text parsed (omega arith) (omega arith) (same ∙ is) parses
+
+pub number_read : {E : Type 0} (word text : List ℕ) (number : ℕ) (parsed : Result ℕ E) → BeginsNumber word
+    → text ≡ word → ParsesUnsigned 64 10 text parsed → parsed ≡ Ok number → word ≡ decimal number
+number_read {E} word text number parsed begins same parses is =
+    let plain : ParsesUnsigned {E = E} 64 10 word (Ok number) = subst (λ r. ParsesUnsigned 64 10 word r) is (subst (λ t. ParsesUnsigned 64 10 t parsed) same parses) in
+    let read = parse_plain digits_are {E = E} 64 word (Ok number) plain begins.unsigned in
+    sym (ap decimal read.1 ∙ decimal-digits_value digits_are word read.0.0 read.0.1 begins.alone read.0.2)
+
+-- ---- words
+
+word_ends_at_space : (word rest : List ℕ) → IsWord word → prefix_len is_inside (word ++ 32 ∷ rest) ≡ length word
+word_ends_at_space [] rest is = refl
+word_ends_at_space (byte ∷ word) rest is =
+    let parts = and_parts (is_inside byte) (list_all is_inside word) is in
+    ap (λ (test : Bool). cond test (1 + prefix_len is_inside (word ++ 32 ∷ rest)) 0) parts.0
+    ∙ omega (arith, word_ends_at_space word rest parts.1)
+
+-- a word with a space after it ends at the text's first space
+pub first_space_ends : (text word rest : List ℕ) → IsWord word → text ≡ word ++ 32 ∷ rest → position is_space text ≡ Some (length word)
+first_space_ends text word rest is whole =
+    let ends : prefix_len is_inside (word ++ 32 ∷ rest) ≡ length word = word_ends_at_space word rest is in
+    let below : prefix_len is_inside (word ++ 32 ∷ rest) < length (word ++ 32 ∷ rest) = omega (arith, length-append word (32 ∷ rest)) in
+    subst (λ t. position is_space t ≡ Some (length word)) (sym whole)
+    (ap (λ (test : Bool). cond test (Some (prefix_len is_inside (word ++ 32 ∷ rest))) None) (lt-ltb _ _ below) ∙ ap Some ends)
+
+-- the text before the first space, and the text after it
+pub record PartsAt (space : ℕ) (text : List ℕ) : Type 0 where
+  pub is_word : IsWord (take space text)
+  pub whole : text ≡ take space text ++ 32 ∷ drop 1 (drop space text)
+
+placed : (n len space : ℕ) → cond (nat_lt n len) (Some n) None ≡ Some space → (n < len) × (n ≡ space)
+placed n len space is = grind (arith, nat_tests)
+
+starts : (text : List ℕ) (space : ℕ) → space < length text → get_or text space 0 ≡ 32 → drop space text ≡ 32 ∷ drop 1 (drop space text)
+starts text space below byte =
+    let front : drop space text ≡ 32 ∷ drop (suc space) text = drop-cons text space 0 below ∙ rw byte refl in
+    front ∙ ap (λ (back : List ℕ). 32 ∷ back) (sym (ap (drop 1) front))
+
+pub parts_at : (text : List ℕ) (space : ℕ) → position is_space text ≡ Some space → PartsAt space text
+parts_at text space is =
+    let place = placed (position_or_len is_space text) (length text) space is in
+    let byte : get_or text space 0 ≡ 32 = eqb-true _ _ (subst (λ n. is_space (get_or text n 0) ≡ true) place.1 (passes_at_first is_space text 0 place.0)) in
+    let below : space < length text = omega arith in
+    let inside : AllPass is_inside (take space text) = λ k d low.
+    let fails = fails_before_first is_space text k d (omega (arith, length-take space text)) in
+    let same : get_or (take space text) k d ≡ get_or text k d = grind (arith, common_steps) in
+    rw same (ap not fails) in
+    record {
+      is_word = list_all-from_AllPass is_inside (take space text) inside;
+      whole = sym (take-append-drop space text) ∙ ap (λ (back : List ℕ). take space text ++ back) (starts text space below byte);
+    }
+
+-- there is one such pair of parts
+pub same_parts : (text word rest : List ℕ) (space : ℕ) → position is_space text ≡ Some space → IsWord word → text ≡ word ++ 32 ∷ rest
+    → (take space text ≡ word) × (drop 1 (drop space text) ≡ rest)
+same_parts text word rest space is is_word whole =
+    let ends : Some (length word) ≡ Some space = sym (first_space_ends text word rest is_word whole) ∙ is in
+    let place : space ≡ length word = cc in
+    rw (whole, place) (take-append_seam word (32 ∷ rest), ap (drop 1) (drop-append_seam word (32 ∷ rest)))
+
+-- a text has one first word
+pub one_word : (word other rest more : List ℕ) → IsWord word → IsWord other → word ++ 32 ∷ rest ≡ other ++ 32 ∷ more → (word ≡ other) × (rest ≡ more)
+one_word word other rest more is is_other same =
+    let ends = first_space_ends (word ++ 32 ∷ rest) word rest is refl in
+    let parts = same_parts (word ++ 32 ∷ rest) word rest (length word) ends is refl in
+    let others = same_parts (word ++ 32 ∷ rest) other more (length word) ends is_other same in
+    (sym parts.0 ∙ others.0, sym parts.1 ∙ others.1)
+
+above_space : (code : ℕ) → 32 < code → is_inside code ≡ true
+above_space code above = let other : code ≢ 32 = omega arith in ap not (ne_eqb code 32 other)
+
+digits_inside : (digits : List ℕ) → list_all is_inside (map decimal_code digits) ≡ true
+digits_inside [] = refl
+digits_inside (digit ∷ digits) = and_from _ _ (above_space (48 + digit) (omega arith)) (digits_inside digits)
+
+hex_inside : (digit : ℕ) → is_inside (hex_code digit) ≡ true
+hex_inside digit = above_space (hex_code digit) (grind (arith, nat_tests))
+
+rest_inside : (meter : Identity) → list_all is_inside (text_rest meter) ≡ true
+rest_inside meter =
+    and_from _ _ (above_space (first_letter meter.maker) (omega arith))
+    (and_from _ _ (above_space (second_letter meter.maker) (omega arith))
+    (and_from _ _ (above_space (third_letter meter.maker) (omega arith))
+    (and_from _ _ (hex_inside (meter.version / 16))
+    (and_from _ _ (hex_inside (meter.version % 16))
+    (and_from _ _ (hex_inside (meter.kind / 16))
+    (and_from _ _ (hex_inside (meter.kind % 16)) refl))))))
+
+pub meter_is_word : (meter : Identity) → IsWord (text_of meter)
+unfolding text_of
+meter_is_word meter =
+    list_all-append is_inside (map decimal_code (decimal_digits 8 meter.number)) (text_rest meter)
+    ∙ and_from _ _ (digits_inside (decimal_digits 8 meter.number)) (rest_inside meter)
+
+pub number_is_word : (number : ℕ) → IsNumber number → IsWord (decimal number)
+number_is_word number is = decimal_is_word number is.high
+
+pub line_is_word : (line : ℕ) → IsBusLine line → IsWord (decimal line)
+line_is_word line is = decimal_is_word line (omega arith)
+
+pub address_is_word : (address : Option ℕ) → IsAddress address → IsWord (address_word address)
+address_is_word None is = refl
+address_is_word (Some address) is = decimal_is_word address (omega arith)
+
+pub verb_is_word : (command : Command) → IsWord (verb_of command)
+verb_is_word (Fit meter line address flat) = refl
+verb_is_word (Move meter flat) = refl
+verb_is_word (Out meter) = refl
+verb_is_word (Confirm serial) = refl
+verb_is_word (Swap old new address) = refl
+
+-- what begins with S is the address of no number
+pub s_is_secondary : (address : Option ℕ) (word : List ℕ) → get_or word 0 0 ≡ 83 → IsAddress address → word ≡ address_word address → address ≡ None
+s_is_secondary None word s is spelled = refl
+s_is_secondary (Some address) word s is spelled =
+    let digits = decimal_is_IsNumeral address (omega arith) in
+    let digit = digit_at (decimal address) 0 digits.0.1 digits.0.0 in
+    let first : get_or (decimal address) 0 0 ≡ 83 = ap (λ (w : List ℕ). get_or w 0 0) (sym spelled) ∙ s in
+    absurd (omega (arith, digit))
+
+-- ---- lengths
+
+number_len : (number : ℕ) → number < 10 ^ 18 → length (decimal number) ≤ 18
+number_len number fits = length-decimal-le 18 number (omega arith) fits (omega arith)
+
+address_len : (address : Option ℕ) → IsAddress address → length (address_word address) ≤ 3
+address_len None is = omega arith
+address_len (Some address) is = length-decimal-le 3 address (omega arith) (omega arith) (omega arith)
+
+text_len : (command : Command) → IsCommand command → length (command_text command) ≤ 60
+text_len (Fit meter line address flat) is =
+    simp length-append (omega (arith, length-text_of meter, length-decimal-le 1 line (omega arith) (omega arith) (omega arith), address_len address is.1, is.2.fits))
+text_len (Move meter flat) is = simp length-append (omega (arith, length-text_of meter))
+text_len (Out meter) is = simp length-append (omega (arith, length-text_of meter))
+text_len (Confirm serial) is = omega (arith, number_len serial is)
+text_len (Swap old new address) is = simp length-append (omega (arith, length-text_of old, length-text_of new, address_len address is))
+
+pub line_fits : (line : List ℕ) (number : ℕ) (command : Command) → IsNumber number → IsCommand command → line ≡ line_of number command → length line ≤ 120
+unfolding line_of
+line_fits line number command is_number is_command is =
+    omega (arith, ap length is, length-append (decimal number) (32 ∷ command_text command), number_len number is_number.high, text_len command is_command)
+
+-- ---- a line spells one command
+
+one_meter : (meter other : Identity) → IsOfBytes meter → IsOfBytes other → text_of meter ≡ text_of other → meter ≡ other
+one_meter meter other is is_other same =
+    same_from_text (text_of other) meter other is.version is.kind is_other.version is_other.kind (sym same) refl
+
+one_address : (address other : Option ℕ) → IsAddress address → IsAddress other → address_word address ≡ address_word other → address ≡ other
+one_address None None is is_other same = refl
+one_address None (Some other) is is_other same = sym (s_is_secondary (Some other) (codes "S") refl is_other same)
+one_address (Some address) None is is_other same = s_is_secondary (Some address) (codes "S") refl is (sym same)
+one_address (Some address) (Some other) is is_other same = ap Some (decimal_injective address other (omega arith) (omega arith) same)
+
+pub record IsOneCommand (command other : Command) : Type 0 where
+  pub command_is : IsCommand command
+  pub other_is : IsCommand other
+  pub command_names : NamesMeters command
+  pub other_names : NamesMeters other
+  pub verbs : verb_of command ≡ verb_of other
+  pub arguments : arguments_of command ≡ arguments_of other
+
+-- verbs with other first letters are other words
+apart : {verb other : List ℕ} → verb ≡ other → get_or verb 0 0 ≡ get_or other 0 0
+apart same = ap (λ (word : List ℕ). get_or word 0 0) same
+
+one_command : (command other : Command) → IsOneCommand command other → command ≡ other
+one_command (Fit meter line address flat) (Fit meter_2 line_2 address_2 flat_2) is =
+    let first = one_word (text_of meter) (text_of meter_2) _ _ (meter_is_word meter) (meter_is_word meter_2) is.arguments in
+    let second = one_word (decimal line) (decimal line_2) _ _ (line_is_word line is.command_is.0) (line_is_word line_2 is.other_is.0) first.1 in
+    let third = one_word (address_word address) (address_word address_2) _ _ (address_is_word address is.command_is.1) (address_is_word address_2 is.other_is.1) second.1 in
+    let meters = one_meter meter meter_2 is.command_names is.other_names first.0 in
+    let lines = decimal_injective line line_2 (omega arith) (omega arith) second.0 in
+    let addresses = one_address address address_2 is.command_is.1 is.other_is.1 third.0 in
+    cc third.1
+one_command (Fit meter line address flat) (Move meter_2 flat_2) is = absurd (omega (arith, apart is.verbs))
+one_command (Fit meter line address flat) (Out meter_2) is = absurd (omega (arith, apart is.verbs))
+one_command (Fit meter line address flat) (Confirm serial_2) is = absurd (omega (arith, apart is.verbs))
+one_command (Fit meter line address flat) (Swap old_2 new_2 address_2) is = absurd (omega (arith, apart is.verbs))
+one_command (Move meter flat) (Fit meter_2 line_2 address_2 flat_2) is = absurd (omega (arith, apart is.verbs))
+one_command (Move meter flat) (Move meter_2 flat_2) is =
+    let first = one_word (text_of meter) (text_of meter_2) _ _ (meter_is_word meter) (meter_is_word meter_2) is.arguments in
+    let meters = one_meter meter meter_2 is.command_names is.other_names first.0 in
+    cc first.1
+one_command (Move meter flat) (Out meter_2) is = absurd (omega (arith, apart is.verbs))
+one_command (Move meter flat) (Confirm serial_2) is = absurd (omega (arith, apart is.verbs))
+one_command (Move meter flat) (Swap old_2 new_2 address_2) is = absurd (omega (arith, apart is.verbs))
+one_command (Out meter) (Fit meter_2 line_2 address_2 flat_2) is = absurd (omega (arith, apart is.verbs))
+one_command (Out meter) (Move meter_2 flat_2) is = absurd (omega (arith, apart is.verbs))
+one_command (Out meter) (Out meter_2) is =
+    let meters = one_meter meter meter_2 is.command_names is.other_names is.arguments in
+    cc
+one_command (Out meter) (Confirm serial_2) is = absurd (omega (arith, apart is.verbs))
+one_command (Out meter) (Swap old_2 new_2 address_2) is = absurd (omega (arith, apart is.verbs))
+one_command (Confirm serial) (Fit meter_2 line_2 address_2 flat_2) is = absurd (omega (arith, apart is.verbs))
+one_command (Confirm serial) (Move meter_2 flat_2) is = absurd (omega (arith, apart is.verbs))
+one_command (Confirm serial) (Out meter_2) is = absurd (omega (arith, apart is.verbs))
+one_command (Confirm serial) (Confirm serial_2) is =
+    ap Confirm (decimal_injective serial serial_2 (omega arith) (omega arith) is.arguments)
+one_command (Confirm serial) (Swap old_2 new_2 address_2) is = absurd (omega (arith, apart is.verbs))
+one_command (Swap old new address) (Fit meter_2 line_2 address_2 flat_2) is = absurd (omega (arith, apart is.verbs))
+one_command (Swap old new address) (Move meter_2 flat_2) is = absurd (omega (arith, apart is.verbs))
+one_command (Swap old new address) (Out meter_2) is = absurd (omega (arith, apart is.verbs))
+one_command (Swap old new address) (Confirm serial_2) is = absurd (omega (arith, apart is.verbs))
+one_command (Swap old new address) (Swap old_2 new_2 address_2) is =
+    let first = one_word (text_of old) (text_of old_2) _ _ (meter_is_word old) (meter_is_word old_2) is.arguments in
+    let second = one_word (text_of new) (text_of new_2) _ _ (meter_is_word new) (meter_is_word new_2) first.1 in
+    let olds = one_meter old old_2 is.command_names.0 is.other_names.0 first.0 in
+    let news = one_meter new new_2 is.command_names.1 is.other_names.1 second.0 in
+    let addresses = one_address address address_2 is.command_is is.other_is second.1 in
+    cc
+
+-- the word after the number, and what follows it
+text_is : (command : Command) → command_text command ≡ verb_of command ++ 32 ∷ arguments_of command
+text_is (Fit meter line address flat) = refl
+text_is (Move meter flat) = refl
+text_is (Out meter) = refl
+text_is (Confirm serial) = refl
+text_is (Swap old new address) = refl
+
+pub one_line : (m n : ℕ) (a b : Command) → IsNumber m → IsCommand a → NamesMeters a → IsNumber n → IsCommand b → NamesMeters b → line_of m a ≡ line_of n b → (m ≡ n) × (a ≡ b)
+unfolding line_of
+one_line m n a b is_m is_a names_a is_n is_b names_b same =
+    let number = one_word (decimal m) (decimal n) (command_text a) (command_text b) (number_is_word m is_m) (number_is_word n is_n) same in
+    let verb = one_word (verb_of a) (verb_of b) (arguments_of a) (arguments_of b) (verb_is_word a) (verb_is_word b) (sym (text_is a) ∙ number.1 ∙ text_is b) in (
+      decimal_injective m n (omega (arith, is_m.high)) (omega (arith, is_n.high)) number.0,
+      one_command a b (record { command_is = is_a; other_is = is_b; command_names = names_a; other_names = names_b; verbs = verb.0; arguments = verb.1 }),
+    )
+
+-- the line of a command is read back
+pub ruleset line_read = (number_is_word, line_fits)

@@ -1,0 +1,92 @@
+-- The encoding of changes and states (this product): numbers little-endian, identities as they are
+-- sent, texts and bodies after a length byte.
+use Rattle.std.specs.Prelude.{ℕ, Option, None, Some, List, [], ◌∷◌, ◌++◌, length}
+use Rattle.std.specs.List.{flat_map}
+use Rattle.byteorder.specs.Endian.{little_bytes}
+use Rattle.dc_address.specs.declared.identity.Identity.{Identity}
+use Rattle.dc_address.specs.Identity.{wire_of}
+use Rattle.dc_change.specs.declared.change.Change.{Change}
+use Rattle.dc_change.specs.declared.change.Change.TheVariants.{Telegram, Command as Numbered}
+use Rattle.dc_change.specs.declared.command.Command.{Command}
+use Rattle.dc_change.specs.declared.command.Command.TheVariants.{Fit, Move, Out, Confirm, Swap}
+use Rattle.dc_change.specs.State.{State, MeterRow, PartRow, ReadingRow}
+
+-- ---- pieces
+
+-- a number in eight bytes
+unfoldable pub long_bytes : ℕ → List ℕ
+long_bytes number = little_bytes 8 number
+
+-- a number in four bytes
+unfoldable pub count_bytes : ℕ → List ℕ
+count_bytes number = little_bytes 4 number
+
+-- a byte
+unfoldable pub byte : ℕ → List ℕ
+byte value = value ∷ []
+
+-- a length byte, then that many bytes
+unfoldable pub counted : List ℕ → List ℕ
+counted bytes = byte (length bytes) ++ bytes
+
+-- the primary address; 0 for secondary addressing
+abbrev pub address_byte : Option ℕ → ℕ
+address_byte None = 0
+address_byte (Some address) = address
+
+unfoldable pub part_bytes : PartRow → List ℕ
+part_bytes part = long_bytes part.moment ++ counted part.body
+
+unfoldable pub parts_bytes : List PartRow → List ℕ
+parts_bytes parts = byte (length parts) ++ flat_map part_bytes parts
+
+-- ---- a change: a tag, and its fields
+
+abbrev pub telegram_bytes : ℕ → ℕ → List ℕ → List ℕ
+telegram_bytes part moment body =
+    (byte 1 ++ byte part) ++ part_bytes (record { moment = moment; body = body })
+
+abbrev pub command_bytes : ℕ → Command → List ℕ
+command_bytes number (Fit meter line address flat) =
+    ((((byte 2 ++ long_bytes number) ++ wire_of meter) ++ byte line) ++ byte (address_byte address))
+    ++ counted flat
+command_bytes number (Move meter flat) =
+    ((byte 3 ++ long_bytes number) ++ wire_of meter) ++ counted flat
+command_bytes number (Out meter) = (byte 4 ++ long_bytes number) ++ wire_of meter
+command_bytes number (Confirm serial) = (byte 5 ++ long_bytes number) ++ long_bytes serial
+command_bytes number (Swap old new address) =
+    (((byte 6 ++ long_bytes number) ++ wire_of old) ++ wire_of new) ++ byte (address_byte address)
+
+-- the length of the longest change in bytes: a telegram with the longest body
+abbrev pub longest_change : ℕ
+longest_change = 263
+
+abbrev pub change_bytes : Change → List ℕ
+change_bytes (Telegram part moment body) = telegram_bytes part moment body.bytes
+change_bytes (Numbered number command) = command_bytes number command
+
+abbrev pub changes_bytes : List Change → List ℕ
+changes_bytes changes = flat_map change_bytes changes
+
+-- ---- a state
+
+unfoldable pub meter_bytes : Identity × MeterRow → List ℕ
+meter_bytes e = (((wire_of e.0 ++ byte e.1.line) ++ byte (address_byte e.1.address))
+    ++ counted e.1.flat) ++ parts_bytes e.1.parts
+
+unfoldable pub reading_bytes : ReadingRow → List ℕ
+reading_bytes r = ((long_bytes r.serial ++ wire_of r.meter) ++ counted r.flat)
+    ++ parts_bytes r.parts
+
+abbrev pub head_bytes : State → List ℕ
+head_bytes s = ((long_bytes s.next_serial ++ long_bytes s.confirmed) ++ long_bytes s.last_number)
+    ++ counted s.last_line
+
+abbrev pub meters_bytes : List (Identity × MeterRow) → List ℕ
+meters_bytes meters = count_bytes (length meters) ++ flat_map meter_bytes meters
+
+abbrev pub readings_bytes : List ReadingRow → List ℕ
+readings_bytes readings = count_bytes (length readings) ++ flat_map reading_bytes readings
+
+abbrev pub state_bytes : State → List ℕ
+state_bytes s = (head_bytes s ++ meters_bytes s.meters) ++ readings_bytes s.readings

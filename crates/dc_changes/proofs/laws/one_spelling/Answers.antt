@@ -1,5 +1,0 @@
-use Rattle.dc_changes.proofs.ChangeSpellings.{spells_push}
-use Rattle.dc_changes.proofs.laws.one_spelling.Goals as goal
-
-pub returns-clause-push : goal.returns-clause-push
-returns-clause-push c = spells_push

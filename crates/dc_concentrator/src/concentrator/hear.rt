@@ -1,0 +1,67 @@
+//! Takes the answers on a line.
+
+ghost use Rattle.std.specs.Prelude.{◌≡◌};
+ghost use Rattle.dc_concentrator.specs.Core.{Core};
+ghost use Rattle.dc_concentrator.specs.Event.{hears, heard};
+ghost use Rattle.dc_concentrator.specs.Step.{May, next};
+ghost use Rattle.dc_concentrator.specs.Images.{IsAt};
+
+use super::Concentrator;
+use crate::{HearFault, LineHeard};
+use dc_change::Moment;
+use dc_disk::Disk;
+use dc_pending::{is_line, take};
+use dc_readout::Heard;
+use std::alloc::Allocator;
+
+impl<D: Disk + Drop, A: Allocator + Copy> Concentrator<D, A> {
+    /// Takes an answer received on a line, with its time stamp. No byte is silence. A telegram is
+    /// added to the register and is pending until a commit; a failed session leaves its line. Only
+    /// a telegram uses memory.
+    ///
+    /// # Errors
+    /// The first of `NoLine`, `Stopped`, `Idle`, and for a telegram `PendingFull`, `Full`,
+    /// `NoMemory` that applies; nothing has changed, and the request can be answered again.
+    pub fn hear(&mut self, line: u8, moment: Moment, answer: &[u8]) -> Result<LineHeard, HearFault>
+        ensures may { (origin : D) (core : Core) → IsAt D.Disk origin self.old core
+            → May self.old.house.budget core (hears line moment.seconds answer.now) (heard result) }
+        ensures at { (origin : D) (core : Core) → IsAt D.Disk origin self.old core
+            → IsAt D.Disk origin self.new
+            (next core (hears line moment.seconds answer.now) (heard result)) }
+        ensures store { self.new.store ≡ self.old.store }
+        ensures budget { self.new.house.budget ≡ self.old.house.budget }
+    {
+        if !is_line(line) {
+            return Err(HearFault::NoLine);
+        }
+        if self.store.is_stopped() {
+            return Err(HearFault::Stopped);
+        }
+        let Some(mut session) = self.lines.get(line) else {
+            return Err(HearFault::Idle);
+        };
+        if !session.is_asking() {
+            return Err(HearFault::Idle);
+        }
+        match session.hear(answer) {
+            Heard::Again => {
+                self.lines.put(line, Some(session));
+                Ok(LineHeard::Again)
+            }
+            Heard::Ready => {
+                self.lines.put(line, Some(session));
+                Ok(LineHeard::Ready)
+            }
+            Heard::Failed(why) => {
+                self.lines.put(line, None);
+                Ok(LineHeard::Failed(why))
+            }
+            Heard::New { part, telegram } => {
+                take(&mut self.house, &mut self.waiting, part, moment, &telegram)?;
+                self.lines.put(line, Some(session));
+                let more = telegram.more_follows();
+                Ok(LineHeard::Accepted { part, more })
+            }
+        }
+    }
+}

@@ -1,5 +1,0 @@
-use Rattle.dc_core.proofs.Requests.{request_is_short}
-use Rattle.dc_core.proofs.concentrator.Concentrator.ask.Goals as goal
-
-pub returns-clause-short : goal.returns-clause-short
-returns-clause-short g c = request_is_short c.in_ok-session.session c.ask.result c.ask.ensures.exact

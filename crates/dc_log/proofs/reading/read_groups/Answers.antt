@@ -1,0 +1,42 @@
+use Rattle.std.proofs.Common.{arith, ap, subst, sym, ◌∙◌, Ok}
+use Rattle.dc_disk.specs.Disk.{Image}
+use Rattle.dc_pages.specs.Group.{IsComplete}
+use Rattle.dc_log.specs.Sites.{change_site}
+use Rattle.dc_log.specs.Stands.{IsReached}
+use Rattle.dc_log.proofs.ReadMoments.{looked_on}
+use Rattle.dc_log.proofs.Steps.{all_read}
+use Rattle.dc_log.proofs.reading.read_groups.Goals as goal
+use Rattle.dc_disk.proofs.Moments.{counted_on}
+
+pub returns-clause-all : goal.returns-clause-all
+returns-clause-all g c h budget reached =
+    let H = c.args.half_len in
+    let so_far = c.groups.invariant.reached (c.in_ok-read_next.ensures.looked.before h) budget reached in
+    let same = c.groups.invariant.looked.reads_same in
+    let found = c.groups.found in
+    let now = c.read_next.new.found in
+    let before = subst (λ (i : Image). IsReached g.K.Language H found.root found.place found.last (g.K.Language.state found.house) i) (sym same) so_far in
+    let after = subst (λ (i : Image). IsReached g.K.Language H now.root now.place now.last (g.K.Language.state now.house) i) same (c.in_ok-read_next.ensures.more h (c.groups.invariant.budget ∙ budget) before) in
+    all_read g.K.Language H now.root now.place now.last (g.K.Language.state now.house) (g.D.Disk.reads c.args.disk.now) after
+    (λ sequence next small complete. c.in_ok-read_next.ensures.none h (ap Ok c.if-branch.false) sequence next small
+    (subst (λ (i : Image). IsComplete (change_site H now.root sequence now.place) i) (sym same) complete))
+
+pub groups-preserved : goal.groups-preserved
+groups-preserved g c =
+    let H = c.args.half_len in
+    let so_far = c.groups.invariant in
+    let next = c.in_ok-read_next.ensures in
+    let found = c.groups.found in
+    let now = c.read_next.new.found in
+    record {
+      reached = λ h budget reached.
+          let same = so_far.looked.reads_same in
+          let before = subst (λ (i : Image). IsReached g.K.Language H found.root found.place found.last (g.K.Language.state found.house) i) (sym same) (so_far.reached (next.looked.before h) budget reached) in
+          subst (λ (i : Image). IsReached g.K.Language H now.root now.place now.last (g.K.Language.state now.house) i) same (next.more h (so_far.budget ∙ budget) before);
+      root = next.kept.0 ∙ so_far.root;
+      budget = next.kept.1 ∙ so_far.budget;
+      from = (let first = so_far.from in let second = next.from in omega arith);
+      within = next.within;
+      looked = looked_on g.D.Disk c.args.disk.now c.groups.disk c.read_next.new.disk so_far.looked next.looked;
+      counts = counted_on g.D.Disk c.args.disk.now c.groups.disk c.read_next.new.disk ⊥ _ ⊥ so_far.counts (λ is. is) next.counts (λ is. cc is) (λ is. absurd is);
+    }

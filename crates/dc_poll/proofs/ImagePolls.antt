@@ -1,0 +1,20 @@
+-- A life of the concentrator from the disk to the disk.
+use Rattle.std.proofs.Common.{◌≡◌, List, [], Result, Ok, Err}
+use Rattle.std.specs.Prelude.{IfOk}
+use Rattle.dc_change.specs.State.{State}
+use Rattle.dc_concentrator.specs.Core.{Core}
+use Rattle.dc_concentrator.specs.Images.{Machine}
+use Rattle.dc_script.specs.ImageRun.{IsOpenedOn}
+use Rattle.dc_disk.specs.declared.device.Disk.{Ghosts}
+use Rattle.dc_poll.specs.Happening.{Happening}
+use Rattle.dc_poll.specs.ImagePoll.{ImageTurned}
+use Rattle.dc_poll.specs.Round.{Happens}
+
+module _ {D : Type 0} (g : Ghosts D) (disk new : D) (state : State) (first last : Machine D) where
+  pub turned : (such : Core → List Happening → Type 0) → IsOpenedOn g disk state first → Happens g first.store.disk state [] such first last → new ≡ last.store.disk → ImageTurned g such disk new
+  turned such opening happens is = record { state = state; first = first; last = last; opening = opening; happens = happens; disk_is = is }
+
+  pub turned_ok : {X E : Type 0} (result : Result X E) (such : X → Core → List Happening → Type 0) → IsOpenedOn g disk state first → Happens g first.store.disk state [] (λ core happened. IfOk result (λ x. such x core happened)) first last → new ≡ last.store.disk
+      → IfOk result (λ x. ImageTurned g (such x) disk new)
+  turned_ok (Ok x) such opening happens is = turned (such x) opening happens is
+  turned_ok (Err e) such opening happens is = tt

@@ -1,0 +1,118 @@
+-- What a round commits (this product).
+use Rattle.std.specs.Prelude.{◌≡◌, ◌≢◌, ℕ, Bool, false, List, [], ◌∷◌, ◌++◌, None, Some, Result, Ok}
+use Rattle.std.specs.Prelude.{Err}
+use Rattle.std.specs.List.{All}
+use Rattle.dc_change.specs.State.{State}
+use Rattle.dc_concentrator.specs.Core.{Core, present, session_of}
+use Rattle.dc_concentrator.specs.Event.{Event, Answer, starts, asks, hears, commits, started, asked, heard}
+use Rattle.dc_concentrator.specs.Event.{committed, replied, unread, unstored, uncommitted}
+use Rattle.dc_concentrator.specs.Step.{next}
+use Rattle.dc_concentrator.specs.Transcript.{Turn}
+use Rattle.dc_concentrator.specs.declared.fault.CommitFault.{CommitFault}
+use Rattle.dc_concentrator.specs.declared.line_heard.LineHeard.{LineHeard}
+use Rattle.dc_concentrator.specs.declared.line_heard.LineHeard.TheVariants.{Accepted}
+use Rattle.dc_poll.specs.Happening.{Told, was_read, has_failed, was_refused, is_lost, Happening}
+use Rattle.dc_poll.specs.Happening.{does, tells, newest_serial, newest_parts}
+
+-- ---- whether something is pending
+
+-- The last commit after the last accepted telegram: it returned a number; no commit followed; or it
+-- returned a fault. A line of the office is judged after a commit of its own, so this applies to
+-- any run.
+pub data Store : Type 0 where
+  all_kept : Store
+  some_wait : Store
+  unkept : Store
+
+abbrev pub behind_answer : Store → Answer → Store
+behind_answer store (heard (Ok (Accepted number more))) = some_wait
+behind_answer store (committed (Ok count)) = all_kept
+behind_answer store (committed (Err fault)) = unkept
+behind_answer store (replied unread) = store
+behind_answer store (replied (unstored fault)) = unkept
+behind_answer store (replied (uncommitted change fault)) = unkept
+behind_answer store (replied reply) = all_kept
+behind_answer store answer = store
+
+abbrev pub store_behind : Store → List Turn → Store
+store_behind store [] = store
+store_behind store (turn ∷ turns) = store_behind (behind_answer store turn.1) turns
+
+-- nothing is pending, unless a commit returned a fault
+abbrev pub IsSettled : Store → Type 0
+IsSettled all_kept = Unit {0}
+IsSettled some_wait = ⊥
+IsSettled unkept = Unit {0}
+
+-- ---- a round
+
+-- its first half: lines begin and are asked
+abbrev pub IsAskingBy : Event → Answer → Type 0
+IsAskingBy (starts line meter) (started answer) = Unit {0}
+IsAskingBy (asks line) (asked request) = Unit {0}
+IsAskingBy event answer = ⊥
+
+abbrev pub IsAsking : Turn → Type 0
+IsAsking turn = IsAskingBy turn.0 turn.1
+
+-- its second half: answers are received, at one time, and if the maximum number of telegrams is
+-- pending, they are committed
+abbrev pub IsHearingBy : ℕ → Event → Answer → Type 0
+IsHearingBy moment (hears line at bytes) (heard answer) = at ≡ moment
+IsHearingBy moment commits (committed (Ok count)) = Unit {0}
+IsHearingBy moment event answer = ⊥
+
+abbrev pub IsHearing : ℕ → Turn → Type 0
+IsHearing moment turn = IsHearingBy moment turn.0 turn.1
+
+-- one commit
+abbrev pub IsCommit : List Turn → Type 0
+IsCommit turns = (stored : Result ℕ CommitFault) × (turns ≡ (commits, committed stored) ∷ [])
+
+-- A ROUND: first its lines begin and send requests, then answers are taken, and then all that was
+-- accepted is committed.
+pub record IsRound (moment : ℕ) (turns : List Turn) : Type 0 where
+  pub asking : List Turn
+  pub hearing : List Turn
+  pub last : List Turn
+  pub turns_are : turns ≡ asking ++ (hearing ++ last)
+  pub are_asking : All IsAsking asking
+  pub are_hearing : All (IsHearing moment) hearing
+  pub is_commit : IsCommit last
+
+-- One commit, and then round after round, as long as all is kept. In each round time passes after
+-- the requests, and the answers get the time stamp that the timer returns then.
+pub data InRounds {T : Type 0} (told : T → ℕ → T → Type 0) (passes : T → Bool → T → Type 0)
+    : T → List Turn → T → Type 0 where
+  at_first : {first : T} {turns : List Turn} → IsCommit turns
+      → InRounds told passes first turns first
+  and_round : {first old passed last : T} {slept : Bool} {moment : ℕ} {turns more : List Turn}
+      → InRounds told passes first turns old → store_behind some_wait turns ≡ all_kept
+      → passes old slept passed → told passed moment last
+      → IsRound moment more → InRounds told passes first (turns ++ more) last
+
+-- ---- the lines of text
+
+-- the reading that is written is the newest one of its meter in the register
+abbrev pub IsNewest : State → Told → Type 0
+IsNewest state (was_read meter serial parts) =
+    (serial ≡ newest_serial meter state) × (parts ≡ newest_parts meter state)
+IsNewest state (has_failed meter why) = Unit {0}
+IsNewest state (was_refused meter refusal) = Unit {0}
+IsNewest state is_lost = Unit {0}
+
+-- Each line of text is written after the commit, and each reading in it is the newest one of its meter then.
+abbrev pub AreTrue : Core → Store → List Happening → Type 0
+AreTrue core store [] = Unit {0}
+AreTrue core store (does turn ∷ more) =
+    AreTrue (next core turn.0 turn.1) (behind_answer store turn.1) more
+AreTrue core store (tells line told ∷ more) =
+    IsSettled store × IsNewest (present core) told × AreTrue core store more
+
+-- ---- where a run may begin
+
+-- nothing is pending, nothing has stopped, and nobody is on a line
+pub record IsIdle (core : Core) : Type 0 where
+  pub empty : core.pending ≡ []
+  pub running : core.stopped ≡ false
+  pub nobody : (line : ℕ) → session_of core line ≡ None

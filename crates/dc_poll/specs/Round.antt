@@ -1,0 +1,213 @@
+-- What a poll does on all lines (this product).
+use Rattle.std.specs.Prelude.{◌≡◌, ◌≢◌, ◌⊎◌, ℕ, zero, suc, ◌+◌, ◌-◌, ◌<◌, ◌≤◌, List, [], ◌∷◌, ◌++◌}
+use Rattle.std.specs.Prelude.{codes, length, sum, map, slice_index_or, Result, Ok, Err}
+use Rattle.std.specs.List.{All}
+use Rattle.dc_change.specs.State.{State}
+use Rattle.dc_concentrator.specs.Core.{Core, opened}
+use Rattle.dc_concentrator.specs.Event.{Event, Answer, commits, committed}
+use Rattle.dc_concentrator.specs.declared.fault.CommitFault.{CommitFault}
+use Rattle.dc_concentrator.specs.Images.{Machine}
+use Rattle.dc_concentrator.specs.Transcript.{Turn, leads}
+use Rattle.dc_poll.specs.Bus.{Bus}
+use Rattle.dc_script.specs.Went.{BehindAnyRun, Went}
+use Rattle.dc_poll.specs.Happening.{Told, was_read, has_failed, was_refused, Happening, does}
+use Rattle.dc_poll.specs.Happening.{tells, happened_on, happened_text, happened_turns, reads_in}
+use Rattle.dc_poll.specs.Happening.{failures_in, newest_serial, newest_parts}
+use Rattle.dc_poll.specs.declared.end.End.{End}
+use Rattle.dc_poll.specs.declared.end.End.TheVariants.{Read, Failed, Refused}
+use Rattle.dc_poll.specs.declared.outcome.Counts.{Counts}
+use Rattle.dc_io.specs.Words.{number_word}
+use Rattle.dc_disk.specs.declared.device.Disk.{Ghosts}
+use Rattle.dc_poll.specs.Keeping.{AreTrue, IsHearing, IsSettled, Store}
+use Rattle.dc_poll.specs.Queue.{Goes}
+use Rattle.dc_poll.specs.Talking.{Talks}
+use Rattle.dc_poll.specs.Station.{IsAfter, part_of, stored_by, talk_of}
+use Rattle.dc_poll.specs.declared.phase.Phase.TheVariants.{Free}
+use Rattle.dc_poll.specs.declared.phase.Request.TheVariants.{Quiet}
+use Rattle.dc_poll.specs.declared.station.Station.{Station}
+
+-- Such things happen, and their turns are run, after the turns before. What they are may speak of where those led.
+pub record Happens {D : Type 0} (g : Ghosts D) (origin : D) (state : State) (before : List Turn)
+    (such : Core → List Happening → Type 0) (first new : Machine D) : Type 0 where
+  pub happened : List Happening
+  pub are_such : such (leads (opened state) before) happened
+  pub went : Went g origin first.house.budget state before (happened_turns happened) first new
+
+-- after any run, such things happen
+abbrev pub Runs : {D : Type 0} → Ghosts D → (Core → List Happening → Type 0) → Machine D → Machine D
+    → Type 0
+Runs g such first new = BehindAnyRun g first
+    (λ origin state before. Happens g origin state before such first new)
+
+-- ---- one line's part
+
+-- A LINE GOES ON by what happens on it: its queue does, and this is the talk on its bus.
+pub record LineGoes {B : Type 0} (g : Bus B) (tries line : ℕ)
+    (old new : Station B) (happened : List Happening) : Type 0 where
+  pub queue : Goes tries line (part_of old) happened (part_of new)
+  pub talk : Talks g line (talk_of old) happened (talk_of new)
+
+-- this happens on this line alone, which goes on by it
+pub record Moves {B : Type 0} (g : Bus B) (tries line : ℕ)
+    (old new : Station B) (happened : List Happening) : Type 0 where
+  pub goes : LineGoes g tries line old new (happened_on line happened)
+  pub alone : (other : ℕ) → other ≢ line → happened_on other happened ≡ []
+
+-- ---- all lines
+
+abbrev pub IsCommitTurn : Happening → Type 0
+IsCommitTurn (does turn) = turn.0 ≡ commits
+IsCommitTurn (tells line told) = ⊥
+
+-- Line k + 1 is that of the station at k: each goes on by what happens on it, and on another there are commits alone.
+pub record Rounds {B : Type 0} (g : Bus B) (tries : ℕ)
+    (olds news : List (Station B)) (happened : List Happening) : Type 0 where
+  pub goes : (k : ℕ) (d : Station B) → k < length olds
+      → LineGoes g tries (k + 1) (slice_index_or olds k d) (slice_index_or news k d)
+      (happened_on (k + 1) happened)
+  pub alone : (other : ℕ) → ((k : ℕ) → k < length olds → other ≢ k + 1)
+      → All IsCommitTurn (happened_on other happened)
+
+-- ---- what happens that isn't a line of text
+
+abbrev pub AreTurns : List Happening → Type 0
+AreTurns [] = Unit {0}
+AreTurns (does turn ∷ more) = AreTurns more
+AreTurns (tells line told ∷ more) = ⊥
+
+-- on this line alone turns are taken, each of them such a one, and the line goes on by them
+pub record Steps {B : Type 0} (g : Bus B) (tries line : ℕ)
+    (such : Turn → Type 0) (old new : Station B) (happened : List Happening) : Type 0 where
+  pub moves : Moves g tries line old new happened
+  pub are_such : All such (happened_turns happened)
+  pub are_turns : AreTurns happened
+
+-- the same on all lines, where all turns together are such
+pub record AllSteps {B : Type 0} (g : Bus B) (tries : ℕ) (such : List Turn → Type 0)
+    (olds news : List (Station B)) (happened : List Happening) : Type 0 where
+  pub rounds : Rounds g tries olds news happened
+  pub are_such : such (happened_turns happened)
+  pub are_turns : AreTurns happened
+
+-- a commit with this result
+abbrev pub IsStoredAs : Result (Unit {0}) CommitFault → List Turn → Type 0
+IsStoredAs (Ok done) turns = (count : ℕ) × (turns ≡ (commits, committed (Ok count)) ∷ [])
+IsStoredAs (Err fault) turns = turns ≡ (commits, committed (Err fault)) ∷ []
+
+-- a commit's result without its count
+abbrev pub uncounted : Result ℕ CommitFault → Result (Unit {0}) CommitFault
+uncounted (Ok count) = Ok tt
+uncounted (Err fault) = Err fault
+
+-- maximum number of pending telegrams
+abbrev pub most_pending : ℕ
+most_pending = 4
+
+-- a commit, where one was due
+abbrev pub IsRoom : Result ℕ CommitFault → List Turn → Type 0
+IsRoom (Ok pending) turns = (turns ≡ []) ⊎ IsStoredAs (Ok tt) turns
+IsRoom (Err fault) turns = IsStoredAs (Err fault) turns
+
+-- answers are received; if a commit among them returned a fault, that is the last turn
+abbrev pub AreHeardAs : ℕ → Result (Unit {0}) CommitFault → List Turn → Type 0
+AreHeardAs moment (Ok done) turns = All (IsHearing moment) turns
+AreHeardAs moment (Err fault) turns = (front last : List Turn) × (turns ≡ front ++ last)
+    × All (IsHearing moment) front × IsStoredAs (Err fault) last
+
+-- answers are received, and the last turn is the commit with this result
+abbrev pub EndsInCommit : ℕ → Result (Unit {0}) CommitFault → List Turn → Type 0
+EndsInCommit moment stored turns = (front last : List Turn) × (turns ≡ front ++ last)
+    × All (IsHearing moment) front × IsStoredAs stored last
+
+abbrev pub IsStored : {B : Type 0} → Result ℕ CommitFault → Station B → Station B → Type 0
+IsStored stored old new =
+    IsAfter (stored_by old.left.now old.due old.pass old.phase stored) old.bus old.request old.said
+    new
+
+-- what becomes of each line by a commit
+pub record AreStored {B : Type 0} (stored : Result ℕ CommitFault)
+    (olds news : List (Station B)) : Type 0 where
+  pub count : length news ≡ length olds
+  pub each : (k : ℕ) (d : Station B) → k < length olds
+      → IsStored stored (slice_index_or olds k d) (slice_index_or news k d)
+
+-- number of lines
+abbrev pub most_lines : ℕ
+most_lines = 8
+
+-- what one count says of each line afterwards is so much less than what the other said before
+abbrev pub EachFewer : {B : Type 0} → (Station B → ℕ) → (Station B → ℕ) → ℕ
+    → List (Station B) → List (Station B) → Type 0
+EachFewer {B} before behind count olds news = (k : ℕ) (d : Station B) → k < length olds
+    → behind (slice_index_or news k d) ≤ before (slice_index_or olds k d) - count
+
+-- a queue has no more meters than a register
+abbrev pub HasFew : {B : Type 0} → Station B → Type 0
+HasFew station = length station.left.now ≤ 65535
+
+-- no meter is left, and how the last one ended is written
+abbrev pub IsOver : {B : Type 0} → Station B → Type 0
+IsOver station = (station.left.now ≡ []) × (station.phase ≡ Free)
+
+-- no request is out without an answer
+abbrev pub IsSilent : {B : Type 0} → Station B → Type 0
+IsSilent station = station.request ≡ Quiet
+
+-- no meter was started
+pub record IsFresh {B : Type 0} (station : Station B) : Type 0 where
+  pub first : station.pass ≡ 1
+  pub all : station.due ≡ length station.left.now
+  pub free : station.phase ≡ Free
+  pub quiet : station.request ≡ Quiet
+
+abbrev pub meters_left : {B : Type 0} → List (Station B) → ℕ
+meters_left {B} stations = sum (map (λ (s : Station B). length s.left.now) stations)
+
+-- ---- the lines of text
+
+-- what is written of an end, by the register
+abbrev pub told_of : State → End → Told
+told_of state (Read meter) = was_read meter (newest_serial meter state) (newest_parts meter state)
+told_of state (Failed meter why) = has_failed meter why
+told_of state (Refused meter refusal) = was_refused meter refusal
+
+abbrev pub counted : End → Counts → Counts
+counted (Read meter) outcome = record outcome { read = outcome.read + 1 }
+counted (Failed meter why) outcome = record outcome { failed = outcome.failed + 1 }
+counted (Refused meter refusal) outcome = record outcome { failed = outcome.failed + 1 }
+
+-- Lines of text are written, each of them true, after a commit, and no turn is taken.
+pub record AreWritten (wrote : List ℕ → Type 0) (was now : Counts) (core : Core)
+    (happened : List Happening)
+    : Type 0 where
+  pub text : wrote (happened_text happened)
+  pub no_turns : happened_turns happened ≡ []
+  pub are_true : (store : Store) → IsSettled store → AreTrue core store happened
+  pub read : now.read ≡ was.read + reads_in happened
+  pub failed : now.failed ≡ was.failed + failures_in happened
+
+-- of one line
+pub record Tells {B : Type 0} (g : Bus B) (line : ℕ) (old new : Station B) (wrote : List ℕ → Type 0)
+    (was now : Counts) (core : Core) (happened : List Happening) : Type 0 where
+  pub moves : (tries : ℕ) → Moves g tries line old new happened
+  pub written : AreWritten wrote was now core happened
+
+-- of all
+pub record AllTells {B : Type 0} (g : Bus B) (olds news : List (Station B))
+    (wrote : List ℕ → Type 0)
+    (was now : Counts) (core : Core) (happened : List Happening) : Type 0 where
+  pub rounds : (tries : ℕ) → Rounds g tries olds news happened
+  pub written : AreWritten wrote was now core happened
+
+-- the number of late answers that were dropped on a line, if any
+abbrev pub late_line : ℕ → ℕ → List ℕ
+late_line line zero = []
+late_line line (suc n) = codes "LATE" ++ number_word line ++ number_word (suc n) ++ codes "\n"
+
+abbrev pub end_line : ℕ → ℕ → List ℕ
+end_line read failed = codes "END" ++ number_word read ++ number_word failed ++ codes "\n"
+
+abbrev pub lates_from : {B : Type 0} → Bus B → ℕ → List (Station B) → List ℕ
+lates_from g line [] = []
+lates_from g line (station ∷ stations) =
+    late_line line (g.late station.bus) ++ lates_from g (line + 1) stations

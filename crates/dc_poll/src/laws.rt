@@ -1,0 +1,87 @@
+//! What holds of the definitions alone.
+
+ghost use Rattle.std.specs.Prelude.{◌≡◌, ◌<◌, ◌≤◌, ◌*◌, ◌++◌, ◌∷◌, ℕ, Bool, List, []};
+ghost use Rattle.std.specs.Prelude.{length};
+ghost use Rattle.std.specs.List.{AllByRecursion};
+ghost use Rattle.std.specs.List.Sorted.{IsStrictlySortedBy};
+ghost use Rattle.std.specs.Map.{keys_of};
+ghost use Rattle.dc_address.specs.Identity.{identity_cmp};
+ghost use Rattle.dc_address.specs.declared.identity.Identity.{Identity};
+ghost use Rattle.dc_change.specs.State.{State};
+ghost use Rattle.dc_concentrator.specs.Core.{Core};
+ghost use Rattle.dc_concentrator.specs.Transcript.{Turn, IsChain, leads};
+ghost use Rattle.dc_poll.specs.Committed.{IsCommittedWhereNoneIsAsked};
+ghost use Rattle.dc_poll.specs.Happening.{Happening, Told, happened_turns, tells};
+ghost use Rattle.dc_poll.specs.Keeping.{AreTrue, IsSettled, Store, all_kept, store_behind};
+ghost use Rattle.dc_poll.specs.Planned.{queue_on};
+ghost use Rattle.dc_poll.specs.Queue.{Part, part, AreApart, Goes, GoesWell, IsToldAs, IsTried};
+ghost use Rattle.dc_poll.specs.Queue.{Lacks, meter_of, most_asks, read_in, requests_in};
+ghost use Rattle.dc_poll.specs.Queue.{starts_in};
+ghost use Rattle.dc_poll.specs.declared.end.End.{End};
+ghost use Rattle.dc_poll.specs.declared.phase.Phase.{Phase};
+ghost use Rattle.dc_poll.specs.declared.phase.Phase.TheVariants.{Free};
+
+use crate::timer::Timer;
+use dc_raw::QuietBus;
+
+/// A queue that is at its end went through all its meters, in passes: in the first each was started, in order, and in
+/// each later one those that failed in the one before it. There are no more passes than tries, so each was started once
+/// at least and no more often than the tries.
+pub fn every_meter_of_a_queue_is_started()
+    ensures { (tries line : ℕ) (meters : List Identity) (happened : List Happening) (pass : ℕ)
+        (stop : Phase) →
+        Goes tries line (part meters [] 1 Free) happened (part [] [] pass stop) →
+        IsTried tries meters (starts_in happened) }
+{}
+
+/// However far a queue went, no more starts were made than its meters times the tries, and in each no more requests
+/// were sent than any readout sends.
+pub fn a_queue_comes_to_its_end()
+    ensures { (tries line : ℕ) (meters : List Identity) (happened : List Happening) (last : Part) →
+        0 < tries → Goes tries line (part meters [] 1 Free) happened last →
+        (length (starts_in happened) ≤ tries * length meters)
+        × (requests_in happened ≤ most_asks * (tries * length meters)) }
+{}
+
+/// Once it is written how a meter ended, that it was read, that its last try failed or that it was refused, it isn't
+/// started again.
+pub fn what_is_read_is_not_begun_again()
+    ensures { (tries line : ℕ) (meters : List Identity) (front back : List Happening) (end : End)
+        (told : Told) (last : Part) →
+        AreApart meters → IsToldAs end told →
+        Goes tries line (part meters [] 1 Free) (front ++ tells line told ∷ back) last →
+        Lacks (meter_of end) (starts_in back) }
+{}
+
+/// The queues of a plan have each meter once, where those of the register ascend.
+pub fn the_meters_of_a_queue_are_apart()
+    ensures { (state : State) (only : List Identity) (line : ℕ) (lost : Bool) →
+        IsStrictlySortedBy identity_cmp (keys_of state.meters) →
+        AreApart (queue_on state only line lost) }
+{}
+
+/// Where no start, answer or commit of a line is refused and no readout of it fails, every meter of its queue is
+/// started once and read, in order.
+pub fn where_nothing_fails_every_meter_is_read()
+    ensures { (tries line : ℕ) (meters : List Identity) (happened : List Happening) (pass : ℕ) →
+        AllByRecursion GoesWell happened →
+        Goes tries line (part meters [] 1 Free) happened (part [] [] pass Free) →
+        (starts_in happened ≡ meters) × (read_in happened ≡ meters) }
+{}
+
+/// Where the turns of a run say that all is committed, nothing is pending in the concentrator.
+pub fn what_is_committed_waits_no_more()
+    ensures { (budget : ℕ) (core : Core) (turns : List Turn) →
+        core.pending ≡ [] → IsChain budget core turns →
+        store_behind all_kept turns ≡ all_kept → (leads core turns).pending ≡ [] }
+{}
+
+/// Where a line has no request any more, all that was accepted is committed, unless a commit answered a fault; and so
+/// it is where a line of text is written.
+pub fn what_is_read_is_committed<B: QuietBus + Drop, T: Timer<B>>()
+    ensures asked { IsCommittedWhereNoneIsAsked T.tells T.passes }
+    ensures written { (core : Core) (store : Store) (front back : List Happening) (line : ℕ)
+        (told : Told) →
+        AreTrue core store (front ++ tells line told ∷ back) →
+        IsSettled (store_behind store (happened_turns front)) }
+{}

@@ -1,0 +1,277 @@
+//! Many meters on several lines at once, round after round.
+
+ghost use Rattle.std.specs.Prelude.{◌≡◌, ◌⊎◌, ◌<◌, ◌≤◌, ◌-◌, ◌+◌, ◌^◌, ◌++◌, ℕ, List, [], length};
+ghost use Rattle.std.specs.Prelude.{OnOk, OnErr, IfOk, None, min, true};
+ghost use Rattle.std.specs.List.{All, list_all};
+ghost use Rattle.dc_io.specs.Failures.{HasRisen};
+ghost use Rattle.dc_io.specs.Written.{PutsInto, Wrote};
+ghost use Rattle.dc_poll.specs.Polls.{GoesRound, Polled, PollsAll, fault_of};
+ghost use Rattle.dc_poll.specs.Round.{EachFewer, HasFew, IsFresh, IsOver, Runs, end_line};
+ghost use Rattle.dc_poll.specs.Round.{lates_from, meters_left, most_lines};
+ghost use Rattle.dc_poll.specs.Station.{IsSound, rounds_of};
+ghost use Rattle.dc_poll.specs.Waiting.{is_done as is_done_with};
+
+use crate::ending::{put_end, put_late};
+use crate::lines::{ask_all, commit_all, hear_and_commit, line_at};
+use crate::outcome::{Counts, Outcome};
+use crate::station::Station;
+use crate::telling::tell_all;
+use crate::timer::Timer;
+use crate::waiting::{is_done, may_sleep};
+use dc_concentrator::{CommitFault, Concentrator};
+use dc_disk::Disk;
+use dc_io::{IoFault, Sink};
+use dc_raw::QuietBus;
+use std::alloc::Allocator;
+
+// More rounds than are ever needed: of as many meters as a queue has, each tried as often as a byte says.
+const MOST_ROUNDS: u64 = 65_535 * 255 * ROUNDS_A_START + ROUNDS_A_START;
+
+// This many rounds one start takes at most: until its bus is ready, and for each request and its answer.
+const ROUNDS_A_START: u64 = 4_259_843 + 103 * 65_538 + 1;
+
+// One round. The fault of its commit, if there was one.
+fn round<D: Disk + Drop, A: Allocator + Copy, B: QuietBus + Drop, T: Timer<B>, W: Sink>(
+    concentrator: &mut Concentrator<D, A>,
+    stations: &mut [Station<'_, B>],
+    tries: u8,
+    timer: &mut T,
+    counts: &mut Counts,
+    out: &mut W,
+) -> Result<Option<CommitFault>, IoFault>
+    requires lines { length stations.old ≤ most_lines }
+    requires sound { All (IsSound B.QuietBus tries) stations.old }
+    requires few { counts.old.read + counts.old.failed + most_lines < 2 ^ 64 }
+    ensures went { Runs D.Disk (λ core happened. IfOk result (λ fault.
+        GoesRound B.QuietBus T.tells T.passes tries fault stations.old stations.new
+        timer.old timer.new (PutsInto W.Sink out.old out.new) counts.old counts.new core happened))
+        concentrator.old concentrator.new }
+    ensures sound { OnOk result (All (IsSound B.QuietBus tries) stations.new) }
+    ensures fewer { IfOk result (λ fault. fault ≡ None
+        → EachFewer (rounds_of B.QuietBus 1 1 1 tries) (rounds_of B.QuietBus 1 1 1 tries) 1 stations.old stations.new) }
+    ensures few { OnOk result (counts.new.read + counts.new.failed
+        ≤ counts.old.read + counts.old.failed + most_lines) }
+    ensures budget { concentrator.new.house.budget ≡ concentrator.old.house.budget }
+    ensures fault { OnErr result (HasRisen (W.put_failures out.old) (W.put_failures out.new)) }
+    ensures well { OnOk result (W.put_failures out.new ≡ W.put_failures out.old) }
+{
+    ask_all(concentrator, stations, tries);
+    let sleeps = may_sleep(stations);
+    timer.pause(stations, sleeps);
+    let moment = timer.now();
+    let stored = hear_and_commit(concentrator, stations, tries, moment);
+    match tell_all(concentrator, stations, counts, out) {
+        Ok(()) => Ok(fault_of(stored)),
+        Err(fault) => Err(fault),
+    }
+}
+
+// The fault of a commit, if it returned one.
+fn fault_of(stored: Result<(), CommitFault>) -> Option<CommitFault>
+    ensures { result ≡ fault_of stored }
+{
+    match stored {
+        Ok(()) => None,
+        Err(fault) => Some(fault),
+    }
+}
+
+// Whether no meter is left.
+fn is_over<B: QuietBus + Drop>(stations: &[Station<'_, B>]) -> bool
+    ensures { result ≡ list_all (λ s. is_done_with s) stations.now }
+{
+    stations.iter().all(|station| is_done(station))
+}
+
+// Round after round, until no meter is left, or a commit returned a fault.
+fn read_rounds<D: Disk + Drop, A: Allocator + Copy, B: QuietBus + Drop, T: Timer<B>, W: Sink>(
+    concentrator: &mut Concentrator<D, A>,
+    stations: &mut [Station<'_, B>],
+    tries: u8,
+    timer: &mut T,
+    before: Counts,
+    out: &mut W,
+) -> Result<Outcome, IoFault>
+    requires lines { length stations.old ≤ most_lines }
+    requires sound { All (IsSound B.QuietBus tries) stations.old }
+    requires few { before.read + before.failed < 2 ^ 63 }
+    ensures went { Runs D.Disk (λ core happened.
+        IfOk result (λ outcome. Polled B.QuietBus T.tells T.passes tries
+        stations.old stations.new timer.old timer.new (PutsInto W.Sink out.old out.new) before outcome
+        core happened)) concentrator.old concentrator.new }
+    ensures few { IfOk result (λ outcome. outcome.read + outcome.failed < 2 ^ 63 + 2 ^ 62) }
+    ensures budget { concentrator.new.house.budget ≡ concentrator.old.house.budget }
+    ensures fault { OnErr result (HasRisen (W.put_failures out.old) (W.put_failures out.new)) }
+    ensures well { OnOk result (W.put_failures out.new ≡ W.put_failures out.old) }
+{
+    let mut counts = before;
+    match commit_all(concentrator, stations) {
+        Ok(()) => {}
+        Err(fault) => return Ok(outcome_of(counts, Some(fault))),
+    }
+    'rounds: for _ in 0..MOST_ROUNDS {
+        if is_over(stations) {
+            return Ok(outcome_of(counts, None));
+        }
+        match round(concentrator, stations, tries, timer, &mut counts, out) {
+            Ok(None) => {}
+            Ok(Some(fault)) => return Ok(outcome_of(counts, Some(fault))),
+            Err(fault) => return Err(fault),
+        }
+    }
+    Ok(outcome_of(counts, None))
+}
+
+// These counts, and the fault of the commit that ended the poll.
+fn outcome_of(counts: Counts, fault: Option<CommitFault>) -> Outcome
+    ensures { result ≡ record { read = counts.read; failed = counts.failed; fault = fault } }
+{
+    Outcome {
+        read: counts.read,
+        failed: counts.failed,
+        fault,
+    }
+}
+
+// How many meters are left on these lines.
+fn meters_left<B: QuietBus + Drop>(stations: &[Station<'_, B>]) -> u64
+    ensures { result ≡ min (2 ^ 64 - 1) (meters_left stations.now) }
+{
+    match stations.split_first() {
+        None => 0,
+        Some((station, others)) => meters_left(others).saturating_add(station.left.len() as u64),
+    }
+}
+
+// How many late answers were dropped on each of these lines, of which the first has that number.
+#[tactic(auto, using(dc_io::proofs::Pieces::written))]
+fn put_lates<B: QuietBus + Drop, W: Sink>(
+    stations: &[Station<'_, B>],
+    line: u8,
+    out: &mut W,
+) -> Result<(), IoFault>
+    requires { line + length stations.now ≤ 255 }
+    ensures { Wrote W.Sink result out.old out.new
+        (lates_from B.QuietBus line stations.now) }
+{
+    let Some((station, others)) = stations.split_first() else {
+        return Ok(());
+    };
+    put_late(out, line, station.bus.late())?;
+    put_lates(others, line + 1, out)
+}
+
+// The end of the text. The meters that are left count as not read.
+fn finish<B: QuietBus + Drop, W: Sink>(
+    stations: &[Station<'_, B>],
+    between: Outcome,
+    out: &mut W,
+) -> Result<Outcome, IoFault>
+    requires { length stations.now ≤ most_lines }
+    ensures counts { IfOk result (λ outcome. outcome ≡ record {
+      read = between.read;
+      failed = min (2 ^ 64 - 1) (between.failed + meters_left stations.now);
+      fault = between.fault;
+    }) }
+    ensures text { IfOk result (λ outcome. PutsInto W.Sink out.old out.new
+        (lates_from B.QuietBus 1 stations.now ++ end_line outcome.read outcome.failed)) }
+    ensures fault { OnErr result (HasRisen (W.put_failures out.old) (W.put_failures out.new)) }
+    ensures well { OnOk result (W.put_failures out.new ≡ W.put_failures out.old) }
+{
+    let failed = between.failed.saturating_add(meters_left(stations));
+    match put_finish(stations, between.read, failed, out) {
+        Ok(()) => Ok(Outcome {
+            read: between.read,
+            failed,
+            fault: between.fault,
+        }),
+        Err(fault) => Err(fault),
+    }
+}
+
+#[tactic(auto, using(dc_io::proofs::Pieces::written))]
+fn put_finish<B: QuietBus + Drop, W: Sink>(
+    stations: &[Station<'_, B>],
+    read: u64,
+    failed: u64,
+    out: &mut W,
+) -> Result<(), IoFault>
+    requires { length stations.now ≤ most_lines }
+    ensures { Wrote W.Sink result out.old out.new
+        (lates_from B.QuietBus 1 stations.now ++ end_line read failed) }
+{
+    put_lates(stations, 1, out)?;
+    put_end(out, read, failed)
+}
+
+/// Reads the meters of up to eight lines, of which line k + 1 is that of the station at k.
+///
+/// A line's meters are read in passes, at most `tries` of them: a meter whose readout failed is
+/// started again after the line's other meters. The poll ends whatever the lines give. On each line
+/// the requests of the concentrator go out, and nothing else, and it hears what the bus gave. Each
+/// round commits its telegrams, and then writes how readouts ended: `READ`, `FAILED` or `REFUSED`,
+/// and `LINE n LOST` once for each line that became lost. If a commit returns a fault, the poll
+/// ends, and the outcome has that fault. At the end `LATE line n` is written for each line on which
+/// n late answers were dropped, and `END read failed`.
+///
+/// # Errors
+/// A write failed.
+pub fn read_all<D: Disk + Drop, A: Allocator + Copy, B: QuietBus + Drop, T: Timer<B>, W: Sink>(
+    concentrator: &mut Concentrator<D, A>,
+    stations: &mut [Station<'_, B>],
+    tries: u8,
+    timer: &mut T,
+    out: &mut W,
+) -> Result<Outcome, IoFault>
+    requires lines { length stations.old ≤ most_lines }
+    requires fresh { All IsFresh stations.old }
+    requires tries { 0 < tries }
+    ensures went { Runs D.Disk (λ core happened. IfOk result (λ outcome.
+        PollsAll B.QuietBus T.tells T.passes tries stations.old stations.new timer.old timer.new
+        (PutsInto W.Sink out.old out.new) (record { read = 0; failed = 0 }) outcome core happened))
+        concentrator.old concentrator.new }
+    ensures budget { concentrator.new.house.budget ≡ concentrator.old.house.budget }
+    ensures fault { OnErr result (HasRisen (W.put_failures out.old) (W.put_failures out.new)) }
+    ensures well { OnOk result (W.put_failures out.new ≡ W.put_failures out.old) }
+{
+    read_on(
+        concentrator,
+        stations,
+        tries,
+        timer,
+        Counts { read: 0, failed: 0 },
+        out,
+    )
+}
+
+/// The same, after this many meters were counted.
+pub(crate) fn read_on<
+    D: Disk + Drop,
+    A: Allocator + Copy,
+    B: QuietBus + Drop,
+    T: Timer<B>,
+    W: Sink,
+>(
+    concentrator: &mut Concentrator<D, A>,
+    stations: &mut [Station<'_, B>],
+    tries: u8,
+    timer: &mut T,
+    before: Counts,
+    out: &mut W,
+) -> Result<Outcome, IoFault>
+    requires lines { length stations.old ≤ most_lines }
+    requires sound { All (IsSound B.QuietBus tries) stations.old }
+    requires few { before.read + before.failed < 2 ^ 63 }
+    ensures went { Runs D.Disk (λ core happened. IfOk result (λ outcome.
+        PollsAll B.QuietBus T.tells T.passes tries stations.old stations.new timer.old timer.new
+        (PutsInto W.Sink out.old out.new) before outcome core happened))
+        concentrator.old concentrator.new }
+    ensures budget { concentrator.new.house.budget ≡ concentrator.old.house.budget }
+    ensures fault { OnErr result (HasRisen (W.put_failures out.old) (W.put_failures out.new)) }
+    ensures well { OnOk result (W.put_failures out.new ≡ W.put_failures out.old) }
+{
+    match read_rounds(concentrator, stations, tries, timer, before, out) {
+        Ok(between) => finish(stations, between, out),
+        Err(fault) => Err(fault),
+    }
+}

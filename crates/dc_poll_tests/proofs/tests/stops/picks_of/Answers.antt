@@ -1,0 +1,17 @@
+use Rattle.std.proofs.Common.{◌≡◌, ◌∷◌, [], ℕ, List, length, take, get_or, sym, subst, rules}
+use Rattle.std.specs.List.{AllZip}
+use Rattle.std.proofs.lemmas.List.{take_all}
+use Rattle.dc_disk.specs.declared.pick.Pick.{Pick}
+use Rattle.dc_disk.specs.Memory.{IsPickFor}
+use Rattle.dc_poll_tests.proofs.Picks.{zip_more}
+use Rattle.dc_poll_tests.proofs.tests.stops.picks_of.Goals as goal
+
+pub loop-writes-init : goal.loop-writes-init
+loop-writes-init c = rw c.new-picks.ensures.items tt
+
+pub loop-writes-preserved : goal.loop-writes-preserved
+loop-writes-preserved c = rw c.in_ok-push.ensures.items
+    (zip_more IsPickFor c.args.pending.now c.loop-writes.picks.items c.loop-writes.writes-index (0, 0) c.pick_of.result c.loop-writes-test.true c.loop-writes.invariant (c.pick_of.ensures (get_or c.args.pending.now c.loop-writes.writes-index (0, 0)).0))
+
+pub returns : goal.returns
+returns c = subst (λ (l : List (ℕ × ℕ)). AllZip IsPickFor l c.loop-writes.picks.items) (take_all c.loop-writes.writes-index c.args.pending.now c.loop-writes-test.false) c.loop-writes.invariant

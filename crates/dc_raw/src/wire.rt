@@ -1,0 +1,64 @@
+//! A wire: bytes are sent on it, and bytes arrive on it.
+
+ghost use Rattle.std.specs.Prelude.{◌≡◌, ℕ, ◌≤◌, ◌<◌, Bool, List, length, IfOk, OnOk, OnErr};
+ghost use Rattle.dc_io.specs.Failures.{HasRisen};
+ghost use Rattle.dc_raw.specs.Bus.{most_looks};
+ghost use Rattle.dc_raw.specs.Wire.{FitsRoom, Sound, Wanes, sound_of};
+
+use dc_io::IoFault;
+
+/// What has arrived on a wire so far.
+#[derive(Clone, Copy, Debug, PartialEq, Eq)]
+pub enum Came {
+    /// This many bytes, at least one.
+    Bytes(usize),
+    /// Nothing yet.
+    Nothing,
+    /// Nothing since the last byte for as long as ends an answer that has begun. It is returned
+    /// once after a byte.
+    Gap,
+    /// Nothing for the wire's whole time-out since the request, the last byte or the last silence.
+    Silence,
+}
+
+/// The wire of a line. No call waits.
+pub trait Wire {
+    // Number of calls that failed.
+    ghost failures: { Self → ℕ };
+
+    // Number of times that nothing may still come.
+    ghost waits_left: { Self → ℕ };
+
+    ghost few: { (wire : Self) → waits_left wire ≤ most_looks };
+
+    // The effect of a call that succeeds on the wire: these bytes were sent; this arrived; late
+    // bytes were dropped, if there were any.
+    ghost sends: { Self → List ℕ → Self → Type 0 };
+
+    ghost hears: { Self → Sound → Self → Type 0 };
+
+    ghost drops: { Self → Bool → Self → Type 0 };
+
+    /// Sends all of the bytes.
+    fn send(&mut self, bytes: &[u8]) -> Result<(), IoFault>
+        ensures step { OnOk result (sends self.old bytes.now self.new) }
+        ensures well { OnOk result (failures self.new ≡ failures self.old) }
+        ensures failed { OnErr result (HasRisen (failures self.old) (failures self.new)) };
+
+    /// Takes what has arrived so far into the first bytes of `room`.
+    fn hear(&mut self, room: &mut [u8]) -> Result<Came, IoFault>
+        requires { 0 < length room.old }
+        ensures fits { IfOk result (λ came. FitsRoom came (length room.old)) }
+        ensures step { IfOk result (λ came. hears self.old (sound_of came room.new) self.new) }
+        ensures fewer { IfOk result (λ came. Wanes came
+            (waits_left self.old) (waits_left self.new)) }
+        ensures well { OnOk result (failures self.new ≡ failures self.old) }
+        ensures failed { OnErr result (HasRisen (failures self.old) (failures self.new)) };
+
+    /// Drops late bytes that have arrived already, and returns whether there were any. A gap after
+    /// them is returned like one after a byte that was heard.
+    fn discard(&mut self) -> Result<bool, IoFault>
+        ensures step { IfOk result (λ dropped. drops self.old dropped self.new) }
+        ensures well { OnOk result (failures self.new ≡ failures self.old) }
+        ensures failed { OnErr result (HasRisen (failures self.old) (failures self.new)) };
+}

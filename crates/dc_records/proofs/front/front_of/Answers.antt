@@ -1,5 +1,0 @@
-use Rattle.dc_records.proofs.Spellings.Turns.{reads_given}
-use Rattle.dc_records.proofs.front.front_of.Goals as goal
-
-pub returns : goal.returns
-returns c = reads_given _ _ c.exact_front.ensures

@@ -1,5 +1,0 @@
-use Rattle.dc_rounds.proofs.Leaving.{settled_at, settled_told}
-use Rattle.dc_rounds.proofs.laws.what_is_read_is_committed.Goals as goal
-
-pub returns : goal.returns
-returns g c = record { asked = settled_at g.T.Timer.tells g.T.Timer.passes; written = settled_told }

@@ -1,0 +1,31 @@
+use Rattle.std.proofs.Common.{ℕ, [], ◌∷◌, refl, sym, subst, Bool, Result, Ok, Err}
+use Rattle.std.specs.Prelude.{is_ok}
+use Rattle.dc_io.specs.Stream.{Puts}
+use Rattle.dc_concentrator.specs.Event.{Answer, commits, committed}
+use Rattle.dc_concentrator.specs.declared.fault.CommitFault.{CommitFault}
+use Rattle.dc_script.specs.Link.{Link}
+use Rattle.dc_script.specs.Poll.{does, to_commit, behind_turn, told_text}
+use Rattle.dc_script.specs.Way.{IsRound}
+use Rattle.dc_script.proofs.Ways.{way_turn, fails_in_one}
+use Rattle.dc_script.proofs.poll.commit_part.Goals as goal
+
+round : (link : Link) (told : Result ℕ CommitFault) → IsRound (is_ok told) link 0 (does (commits, committed told) ∷ []) (record { due = behind_turn to_commit commits (committed told); link = link })
+round link (Ok count) = record { last_is = refl; rounds_are = refl }
+round link (Err fault) = record { last_is = refl; rounds_are = refl }
+
+pub returns-in-Ok-clause-went : goal.returns-in-Ok-clause-went
+returns-in-Ok-clause-went g c port moment meter link origin state before chain at =
+    way_turn g.D.Disk origin c.args.concentrator.now.house.budget state before port moment meter to_commit link commits _ _ _ c.args.concentrator.now c.told_commit.new.concentrator
+    refl (c.in-Ok.ensures.went origin state before chain at)
+    (λ answer is. (
+      subst (λ (a : Answer). IsRound c.is_ok.result link 0 (does (commits, a) ∷ []) (record { due = behind_turn to_commit commits a; link = link })) (sym is.0)
+          (subst (λ (more : Bool). IsRound more link 0 (does (commits, committed c.in-Ok.answer) ∷ []) (record { due = behind_turn to_commit commits (committed c.in-Ok.answer); link = link })) (sym c.is_ok.ensures.value) (round link c.in-Ok.answer)),
+      tt,
+      refl,
+    ))
+    (λ answer is. subst (λ (a : Answer). Puts (g.W.Sink.written c.args.out.now) (g.W.Sink.written c.told_commit.new.out) (told_text a)) (sym is.0) is.1)
+
+pub returns-in-Err-clause-went : goal.returns-in-Err-clause-went
+returns-in-Err-clause-went g c port moment meter link origin state before chain at =
+    way_turn g.D.Disk origin c.args.concentrator.now.house.budget state before port moment meter to_commit link commits _ _ _ c.args.concentrator.now c.told_commit.new.concentrator
+    refl (c.told_commit.ensures.went origin state before chain at) (λ answer is. (tt, fails_in_one g.W.Sink port c.args.out.now c.told_commit.new.out (does (commits, answer)) c.in-Err.ensures.fault, refl)) (λ answer is. tt)

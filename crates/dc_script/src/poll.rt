@@ -1,0 +1,389 @@
+//! `POLL`: the readout of a meter over a bus line.
+
+ghost use Rattle.std.specs.Prelude.{◌≡◌, ◌≤◌, ℕ, true, false, [], IfOk, OnOk, OnErr, length};
+ghost use Rattle.dc_address.specs.declared.identity.Identity.{Identity as Meter};
+ghost use Rattle.dc_io.specs.Failures.{HasRisen};
+ghost use Rattle.dc_concentrator.specs.Step.{longest_request};
+ghost use Rattle.dc_gateway.specs.Blocks.{most_answer};
+ghost use Rattle.dc_gateway.specs.Bus.{AreExchanged};
+ghost use Rattle.dc_io.specs.Written.{PutsInto, Wrote};
+ghost use Rattle.dc_script.specs.Link.{Link, link_by, loss_text, IsHeardOver};
+ghost use Rattle.dc_script.specs.Poll.{IsEnd, IsPolled, to_start, to_ask, to_send, to_hear};
+ghost use Rattle.dc_script.specs.Poll.{to_commit, to_make_room, to_hear_again, behind_heard};
+ghost use Rattle.dc_script.specs.Poll.{happened_exchanges};
+ghost use Rattle.dc_script.specs.Way.{FailsInLast, IsRound, Way};
+ghost use Rattle.dc_script.specs.Went.{BehindAnyRun};
+ghost use Rattle.dc_script.specs.declared.port.Port.{Port};
+
+use crate::port::{Port, put_lost};
+use crate::script_bus::ScriptBus;
+use crate::told::{told_ask, told_commit, told_hear, told_start};
+use dc_address::Identity;
+use dc_change::Moment;
+use dc_concentrator::{Concentrator, HearFault, LineHeard};
+use dc_disk::Disk;
+use dc_frame::FrameBuf;
+use dc_gateway::AnswerBuf;
+use dc_io::{IoFault, Sink};
+use std::alloc::Allocator;
+
+// Maximum number of requests of a readout: three tries at a reset, a selection and each of 32
+// parts, and one more look.
+const MOST_ROUNDS: usize = 103;
+
+/// Reads a meter over a bus line, with this time stamp. The bus settles first, so that no answer is
+/// under way when the readout begins.
+pub fn poll<D: Disk + Drop, A: Allocator + Copy, B: ScriptBus, W: Sink>(
+    port: Port,
+    concentrator: &mut Concentrator<D, A>,
+    bus: &mut B,
+    meter: &Identity,
+    moment: Moment,
+    out: &mut W,
+) -> Result<(), IoFault>
+    ensures went { BehindAnyRun D.Disk concentrator.old (λ origin state before.
+        Way D.Disk origin concentrator.old.house.budget state before port moment.seconds meter.now
+        (record { due = to_start; link = link_by (B.lost bus.old) })
+        (λ happened last. OnOk result (IsEnd happened last.due
+        × (last.link ≡ link_by (B.lost bus.new)))
+        × OnErr result (FailsInLast W.Sink port out.old out.new happened)
+        × IsPolled B.settles B.ready B.asks port bus.old (happened_exchanges happened) bus.new)
+        (λ text. OnOk result (PutsInto W.Sink out.old out.new text)) concentrator.old
+        concentrator.new) }
+    ensures fault { OnErr result (HasRisen (W.put_failures out.old) (W.put_failures out.new)) }
+    ensures well { OnOk result (W.put_failures out.new ≡ W.put_failures out.old) }
+    ensures budget { concentrator.new.house.budget ≡ concentrator.old.house.budget }
+    ensures untouched { B.lost bus.old ≡ true → bus.new ≡ bus.old }
+{
+    match settle_bus(port, bus, out) {
+        Ok(()) => start_and_read(port, concentrator, bus, meter, moment, out),
+        Err(fault) => Err(fault),
+    }
+}
+
+// Blocks mark the end of a gateway's answer, so none is under way. If another bus is lost, that is
+// printed.
+fn settle_bus<B: ScriptBus, W: Sink>(port: Port, bus: &mut B, out: &mut W) -> Result<(), IoFault>
+    ensures gateway { port.is_gateway ≡ true → bus.new ≡ bus.old }
+    ensures settled { port.is_gateway ≡ false
+        → B.settles bus.old bus.new × (B.ready bus.new ≡ true) }
+    ensures lost { B.lost bus.old ≡ true → B.lost bus.new ≡ true }
+    ensures untouched { B.lost bus.old ≡ true → bus.new ≡ bus.old }
+    ensures told { Wrote W.Sink result out.old out.new
+        (loss_text port (link_by (B.lost bus.old)) (link_by (B.lost bus.new))) }
+    ensures unwritten { OnErr result ((port.is_gateway ≡ false)
+        × (B.lost bus.old ≡ false) × (B.lost bus.new ≡ true)) }
+{
+    if port.is_gateway {
+        return Ok(());
+    }
+    let was = bus.is_lost();
+    bus.settle();
+    if was || !bus.is_lost() {
+        return Ok(());
+    }
+    put_lost(port, out)
+}
+
+// Reads a meter, over a bus that has settled.
+fn start_and_read<D: Disk + Drop, A: Allocator + Copy, B: ScriptBus, W: Sink>(
+    port: Port,
+    concentrator: &mut Concentrator<D, A>,
+    bus: &mut B,
+    meter: &Identity,
+    moment: Moment,
+    out: &mut W,
+) -> Result<(), IoFault>
+    ensures went { BehindAnyRun D.Disk concentrator.old (λ origin state before.
+        Way D.Disk origin concentrator.old.house.budget state before port moment.seconds meter.now
+        (record { due = to_start; link = link_by (B.lost bus.old) })
+        (λ happened last. OnOk result (IsEnd happened last.due
+        × (last.link ≡ link_by (B.lost bus.new)))
+        × OnErr result (FailsInLast W.Sink port out.old out.new happened)
+        × AreExchanged B.asks bus.old (happened_exchanges happened) bus.new)
+        (λ text. OnOk result (PutsInto W.Sink out.old out.new text)) concentrator.old
+        concentrator.new) }
+    ensures fault { OnErr result (HasRisen (W.put_failures out.old) (W.put_failures out.new)) }
+    ensures well { OnOk result (W.put_failures out.new ≡ W.put_failures out.old) }
+    ensures budget { concentrator.new.house.budget ≡ concentrator.old.house.budget }
+    ensures untouched { B.lost bus.old ≡ true → bus.new ≡ bus.old }
+{
+    match told_start(concentrator, port.line, meter, out) {
+        Ok(started) => match started {
+            Ok(()) => read_parts(port, concentrator, bus, moment, out),
+            Err(_) => Ok(()),
+        },
+        Err(fault) => Err(fault),
+    }
+}
+
+// Goes from round to round.
+fn read_parts<D: Disk + Drop, A: Allocator + Copy, B: ScriptBus, W: Sink>(
+    port: Port,
+    concentrator: &mut Concentrator<D, A>,
+    bus: &mut B,
+    moment: Moment,
+    out: &mut W,
+) -> Result<(), IoFault>
+    ensures went { (meter : Meter) → BehindAnyRun D.Disk concentrator.old (λ origin state before.
+        Way D.Disk origin concentrator.old.house.budget state before port moment.seconds meter
+        (record { due = to_ask; link = link_by (B.lost bus.old) })
+        (λ happened last. OnOk result (IsEnd happened last.due
+        × (last.link ≡ link_by (B.lost bus.new)))
+        × OnErr result (FailsInLast W.Sink port out.old out.new happened)
+        × AreExchanged B.asks bus.old (happened_exchanges happened) bus.new)
+        (λ text. OnOk result (PutsInto W.Sink out.old out.new text)) concentrator.old
+        concentrator.new) }
+    ensures fault { OnErr result (HasRisen (W.put_failures out.old) (W.put_failures out.new)) }
+    ensures well { OnOk result (W.put_failures out.new ≡ W.put_failures out.old) }
+    ensures budget { concentrator.new.house.budget ≡ concentrator.old.house.budget }
+    ensures untouched { B.lost bus.old ≡ true → bus.new ≡ bus.old }
+{
+    'rounds: for _ in 0..MOST_ROUNDS {
+        match ask_and_hear(port, concentrator, bus, moment, out) {
+            Ok(more) => {
+                if !more {
+                    return Ok(());
+                }
+            }
+            Err(fault) => return Err(fault),
+        }
+    }
+    Ok(())
+}
+
+// One round: a request and its answer, which is committed if it is a part. Returns whether the poll
+// goes on.
+fn ask_and_hear<D: Disk + Drop, A: Allocator + Copy, B: ScriptBus, W: Sink>(
+    port: Port,
+    concentrator: &mut Concentrator<D, A>,
+    bus: &mut B,
+    moment: Moment,
+    out: &mut W,
+) -> Result<bool, IoFault>
+    ensures went { (meter : Meter) → BehindAnyRun D.Disk concentrator.old (λ origin state before.
+        Way D.Disk origin concentrator.old.house.budget state before port moment.seconds meter
+        (record { due = to_ask; link = link_by (B.lost bus.old) })
+        (λ happened last. IfOk result (λ more.
+        IsRound more (link_by (B.lost bus.new)) 1 happened last)
+        × OnErr result (FailsInLast W.Sink port out.old out.new happened)
+        × AreExchanged B.asks bus.old (happened_exchanges happened) bus.new)
+        (λ text. OnOk result (PutsInto W.Sink out.old out.new text)) concentrator.old
+        concentrator.new) }
+    ensures fault { OnErr result (HasRisen (W.put_failures out.old) (W.put_failures out.new)) }
+    ensures well { OnOk result (W.put_failures out.new ≡ W.put_failures out.old) }
+    ensures budget { concentrator.new.house.budget ≡ concentrator.old.house.budget }
+    ensures untouched { B.lost bus.old ≡ true → bus.new ≡ bus.old }
+{
+    match told_ask(concentrator, port.line, out) {
+        Ok(asked) => match asked {
+            Some(request) => exchange(port, concentrator, bus, &request, moment, out),
+            None => Ok(false),
+        },
+        Err(fault) => Err(fault),
+    }
+}
+
+// Sends a request over the bus, and takes the answer.
+fn exchange<D: Disk + Drop, A: Allocator + Copy, B: ScriptBus, W: Sink>(
+    port: Port,
+    concentrator: &mut Concentrator<D, A>,
+    bus: &mut B,
+    request: &FrameBuf,
+    moment: Moment,
+    out: &mut W,
+) -> Result<bool, IoFault>
+    requires { length request.now ≤ longest_request }
+    ensures went { (meter : Meter) → BehindAnyRun D.Disk concentrator.old (λ origin state before.
+        Way D.Disk origin concentrator.old.house.budget state before port moment.seconds meter
+        (record { due = to_send request.now; link = link_by (B.lost bus.old) })
+        (λ happened last. IfOk result (λ more.
+        IsRound more (link_by (B.lost bus.new)) 0 happened last)
+        × OnErr result (FailsInLast W.Sink port out.old out.new happened)
+        × AreExchanged B.asks bus.old (happened_exchanges happened) bus.new)
+        (λ text. OnOk result (PutsInto W.Sink out.old out.new text)) concentrator.old
+        concentrator.new) }
+    ensures fault { OnErr result (HasRisen (W.put_failures out.old) (W.put_failures out.new)) }
+    ensures well { OnOk result (W.put_failures out.new ≡ W.put_failures out.old) }
+    ensures budget { concentrator.new.house.budget ≡ concentrator.old.house.budget }
+    ensures untouched { B.lost bus.old ≡ true → bus.new ≡ bus.old }
+{
+    match ask_bus(port, bus, request, out) {
+        Ok(answer) => hear(port, concentrator, moment, answer.as_slice(), out),
+        Err(fault) => Err(fault),
+    }
+}
+
+// Sends the request, and returns the bus's answer. If the bus is lost, that is printed.
+fn ask_bus<B: ScriptBus, W: Sink>(
+    port: Port,
+    bus: &mut B,
+    request: &FrameBuf,
+    out: &mut W,
+) -> Result<AnswerBuf, IoFault>
+    requires { length request.now ≤ longest_request }
+    ensures lost { B.lost bus.old ≡ true → B.lost bus.new ≡ true }
+    ensures untouched { B.lost bus.old ≡ true → bus.new ≡ bus.old }
+    ensures heard { IfOk result (λ answer. (length answer ≤ most_answer)
+        × IsHeardOver (link_by (B.lost bus.new)) answer) }
+    // The request goes out as it is, and the answer is what came to it; also where the loss isn't written.
+    ensures asked { IfOk result (λ answer. B.asks bus.old request.now answer bus.new) }
+    ensures unwritten { OnErr result ((B.lost bus.old ≡ false) × (B.lost bus.new ≡ true)
+        × B.asks bus.old request.now [] bus.new) }
+    ensures told { Wrote W.Sink result out.old out.new
+        (loss_text port (link_by (B.lost bus.old)) (link_by (B.lost bus.new))) }
+{
+    let was = bus.is_lost();
+    let answer = bus.ask(request);
+    if was || !bus.is_lost() {
+        return Ok(answer);
+    }
+    match put_lost(port, out) {
+        Ok(()) => Ok(answer),
+        Err(fault) => Err(fault),
+    }
+}
+
+// Takes an answer. If the maximum number of changes is pending, they are committed, and the answer
+// is taken again.
+fn hear<D: Disk + Drop, A: Allocator + Copy, W: Sink>(
+    port: Port,
+    concentrator: &mut Concentrator<D, A>,
+    moment: Moment,
+    bytes: &[u8],
+    out: &mut W,
+) -> Result<bool, IoFault>
+    ensures went { (meter : Meter) (link : Link)
+        → BehindAnyRun D.Disk concentrator.old (λ origin state before.
+        Way D.Disk origin concentrator.old.house.budget state before port moment.seconds meter
+        (record { due = to_hear bytes.now; link = link })
+        (λ happened last. IfOk result (λ more. IsRound more link 0 happened last)
+        × OnErr result (FailsInLast W.Sink port out.old out.new happened)
+        × (happened_exchanges happened ≡ []))
+        (λ text. OnOk result (PutsInto W.Sink out.old out.new text)) concentrator.old
+        concentrator.new) }
+    ensures fault { OnErr result (HasRisen (W.put_failures out.old) (W.put_failures out.new)) }
+    ensures well { OnOk result (W.put_failures out.new ≡ W.put_failures out.old) }
+    ensures budget { concentrator.new.house.budget ≡ concentrator.old.house.budget }
+{
+    match told_hear(concentrator, port.line, moment, bytes, out) {
+        Ok(answer) => match answer {
+            Ok(heard) => after_heard(concentrator, Ok(heard), out),
+            Err(fault) => match fault {
+                HearFault::PendingFull => hear_again(port, concentrator, moment, bytes, out),
+                _ => Ok(false),
+            },
+        },
+        Err(fault) => Err(fault),
+    }
+}
+
+// Makes room, and takes the answer again.
+fn hear_again<D: Disk + Drop, A: Allocator + Copy, W: Sink>(
+    port: Port,
+    concentrator: &mut Concentrator<D, A>,
+    moment: Moment,
+    bytes: &[u8],
+    out: &mut W,
+) -> Result<bool, IoFault>
+    ensures went { (meter : Meter) (link : Link)
+        → BehindAnyRun D.Disk concentrator.old (λ origin state before.
+        Way D.Disk origin concentrator.old.house.budget state before port moment.seconds meter
+        (record { due = to_make_room bytes.now; link = link })
+        (λ happened last. IfOk result (λ more. IsRound more link 0 happened last)
+        × OnErr result (FailsInLast W.Sink port out.old out.new happened)
+        × (happened_exchanges happened ≡ []))
+        (λ text. OnOk result (PutsInto W.Sink out.old out.new text)) concentrator.old
+        concentrator.new) }
+    ensures fault { OnErr result (HasRisen (W.put_failures out.old) (W.put_failures out.new)) }
+    ensures well { OnOk result (W.put_failures out.new ≡ W.put_failures out.old) }
+    ensures budget { concentrator.new.house.budget ≡ concentrator.old.house.budget }
+{
+    match told_commit(concentrator, out) {
+        Ok(committed) => match committed {
+            Ok(_) => hear_once_more(port, concentrator, moment, bytes, out),
+            Err(_) => Ok(false),
+        },
+        Err(fault) => Err(fault),
+    }
+}
+
+// Takes the answer for which room was made.
+fn hear_once_more<D: Disk + Drop, A: Allocator + Copy, W: Sink>(
+    port: Port,
+    concentrator: &mut Concentrator<D, A>,
+    moment: Moment,
+    bytes: &[u8],
+    out: &mut W,
+) -> Result<bool, IoFault>
+    ensures went { (meter : Meter) (link : Link)
+        → BehindAnyRun D.Disk concentrator.old (λ origin state before.
+        Way D.Disk origin concentrator.old.house.budget state before port moment.seconds meter
+        (record { due = to_hear_again bytes.now; link = link })
+        (λ happened last. IfOk result (λ more. IsRound more link 0 happened last)
+        × OnErr result (FailsInLast W.Sink port out.old out.new happened)
+        × (happened_exchanges happened ≡ []))
+        (λ text. OnOk result (PutsInto W.Sink out.old out.new text)) concentrator.old
+        concentrator.new) }
+    ensures fault { OnErr result (HasRisen (W.put_failures out.old) (W.put_failures out.new)) }
+    ensures well { OnOk result (W.put_failures out.new ≡ W.put_failures out.old) }
+    ensures budget { concentrator.new.house.budget ≡ concentrator.old.house.budget }
+{
+    match told_hear(concentrator, port.line, moment, bytes, out) {
+        Ok(answer) => after_heard(concentrator, answer, out),
+        Err(fault) => Err(fault),
+    }
+}
+
+// Commits a part that was accepted. Returns whether the poll goes on.
+fn after_heard<D: Disk + Drop, A: Allocator + Copy, W: Sink>(
+    concentrator: &mut Concentrator<D, A>,
+    answer: Result<LineHeard, HearFault>,
+    out: &mut W,
+) -> Result<bool, IoFault>
+    ensures went { (port : Port) (moment : ℕ) (meter : Meter) (link : Link)
+        → BehindAnyRun D.Disk concentrator.old (λ origin state before.
+        Way D.Disk origin concentrator.old.house.budget state before port moment meter
+        (record { due = behind_heard answer; link = link })
+        (λ happened last. IfOk result (λ more. IsRound more link 0 happened last)
+        × OnErr result (FailsInLast W.Sink port out.old out.new happened)
+        × (happened_exchanges happened ≡ []))
+        (λ text. OnOk result (PutsInto W.Sink out.old out.new text)) concentrator.old
+        concentrator.new) }
+    ensures fault { OnErr result (HasRisen (W.put_failures out.old) (W.put_failures out.new)) }
+    ensures well { OnOk result (W.put_failures out.new ≡ W.put_failures out.old) }
+    ensures budget { concentrator.new.house.budget ≡ concentrator.old.house.budget }
+{
+    match answer {
+        Ok(heard) => match heard {
+            LineHeard::Again => Ok(true),
+            LineHeard::Ready => Ok(true),
+            LineHeard::Accepted { .. } => commit_part(concentrator, out),
+            LineHeard::Failed(_) => Ok(false),
+        },
+        Err(_) => Ok(false),
+    }
+}
+
+fn commit_part<D: Disk + Drop, A: Allocator + Copy, W: Sink>(
+    concentrator: &mut Concentrator<D, A>,
+    out: &mut W,
+) -> Result<bool, IoFault>
+    ensures went { (port : Port) (moment : ℕ) (meter : Meter) (link : Link)
+        → BehindAnyRun D.Disk concentrator.old (λ origin state before.
+        Way D.Disk origin concentrator.old.house.budget state before port moment meter
+        (record { due = to_commit; link = link })
+        (λ happened last. IfOk result (λ more. IsRound more link 0 happened last)
+        × OnErr result (FailsInLast W.Sink port out.old out.new happened)
+        × (happened_exchanges happened ≡ []))
+        (λ text. OnOk result (PutsInto W.Sink out.old out.new text)) concentrator.old
+        concentrator.new) }
+    ensures fault { OnErr result (HasRisen (W.put_failures out.old) (W.put_failures out.new)) }
+    ensures well { OnOk result (W.put_failures out.new ≡ W.put_failures out.old) }
+    ensures budget { concentrator.new.house.budget ≡ concentrator.old.house.budget }
+{
+    match told_commit(concentrator, out) {
+        Ok(answer) => Ok(answer.is_ok()),
+        Err(fault) => Err(fault),
+    }
+}

@@ -1,0 +1,34 @@
+//! Single events of a concentrator whose answers aren't written.
+
+ghost use Rattle.std.specs.Prelude.{◌≡◌};
+ghost use Rattle.dc_concentrator.specs.Event.{asks, commits, asked, committed};
+ghost use Rattle.dc_script.specs.Went.{BehindAnyRun, TurnWent};
+
+use dc_concentrator::{CommitFault, Concentrator};
+use dc_disk::Disk;
+use dc_frame::FrameBuf;
+use std::alloc::Allocator;
+
+/// Commits the pending changes.
+pub fn quiet_commit<D: Disk + Drop, A: Allocator + Copy>(
+    concentrator: &mut Concentrator<D, A>,
+) -> Result<usize, CommitFault>
+    ensures went { BehindAnyRun D.Disk concentrator.old (λ origin state before.
+        TurnWent D.Disk origin concentrator.old.house.budget state before commits
+        (λ answer. answer ≡ committed result) concentrator.old concentrator.new) }
+    ensures budget { concentrator.new.house.budget ≡ concentrator.old.house.budget }
+{
+    concentrator.commit()
+}
+
+/// Asks for a line's request.
+pub fn quiet_ask<D: Disk + Drop, A: Allocator + Copy>(
+    concentrator: &Concentrator<D, A>,
+    line: u8,
+) -> Option<FrameBuf>
+    ensures went { BehindAnyRun D.Disk concentrator.now (λ origin state before.
+        TurnWent D.Disk origin concentrator.now.house.budget state before (asks line)
+        (λ answer. answer ≡ asked result) concentrator.now concentrator.now) }
+{
+    concentrator.ask(line)
+}

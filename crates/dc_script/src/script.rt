@@ -1,0 +1,384 @@
+//! Executes the lines of a script on a concentrator.
+
+ghost use Rattle.std.specs.Prelude.{◌≡◌, ◌⊎◌, ◌≤◌, ◌<◌, ◌*◌, ◌++◌, ℕ, suc, List, codes, length};
+ghost use Rattle.std.specs.Prelude.{IfOk, IfSome, IfNone, OnOk, OnErr};
+ghost use Rattle.dc_io.specs.Failures.{HasRisen};
+ghost use Rattle.dc_concentrator.specs.Run.{event_of};
+ghost use Rattle.dc_concentrator.specs.Text.{answer_text};
+ghost use Rattle.dc_io.specs.Written.{PutsInto, Wrote};
+ghost use Rattle.dc_io.specs.Words.{number_word};
+ghost use Rattle.dc_io.specs.Lines.{lines_of, longest_input_line};
+ghost use Rattle.dc_script.specs.Halt.{IsCounted, OnNoMemory, OnWrite};
+ghost use Rattle.dc_script.specs.Link.{AreAbsent, LineLink, absent, line_in, line_of, links_of};
+ghost use Rattle.dc_script.specs.Link.{with_link};
+ghost use Rattle.dc_script.specs.Slots.{IsKept};
+ghost use Rattle.dc_script.specs.Script.{ScriptCut, ScriptRan, LineCut, LineRan, moment_behind};
+ghost use Rattle.dc_script.specs.Script.{no_gateway};
+ghost use Rattle.dc_script.specs.ScriptLine.{IsPlain, poll as polls, search as searches, seen};
+ghost use Rattle.dc_script.specs.Starved.{LineStarved, ScriptStarved};
+ghost use Rattle.dc_script.specs.Traffic.{AreCarried, IsCarried, PollsOver, SearchesOver};
+ghost use Rattle.dc_script.specs.Went.{BehindAnyRun, TurnWent};
+
+use crate::halt::{Halt, written};
+use crate::poll::poll;
+use crate::port::Port;
+use crate::script_bus::{ScriptBus, Slot};
+use crate::script_line::ScriptLine;
+use crate::searching::search_on;
+use dc_address::Identity;
+use dc_change::Moment;
+use dc_concentrator::{Concentrator, Event, WriteFault};
+use dc_disk::Disk;
+use dc_io::{IoFault, Sink, first_line, put_number_word};
+use std::alloc::Allocator;
+
+/// Executes the lines of an input, up to the first that spells nothing, and returns whether there
+/// was one. `bytes` is room for an answer.
+pub fn run_lines<D: Disk + Drop, A: Allocator + Copy, B: ScriptBus + Drop, W: Sink>(
+    alloc: A,
+    concentrator: &mut Concentrator<D, A>,
+    slots: &mut [Option<Slot<B>>],
+    input: &[u8],
+    bytes: &mut [u8],
+    out: &mut W,
+) -> Result<bool, Halt>
+    requires { longest_input_line ≤ 2 * length bytes.old }
+    ensures ran { BehindAnyRun D.Disk concentrator.old (λ origin state before.
+        IfOk result (λ faulty. ScriptRan D.Disk origin concentrator.old.house.budget state before
+        (links_of B.lost slots.old) (lines_of input.now) faulty (PutsInto W.Sink out.old out.new)
+        (AreCarried B.lost B.asks B.settles B.ready slots.old slots.new) concentrator.old
+        concentrator.new)) }
+    ensures cut { BehindAnyRun D.Disk concentrator.old (λ origin state before.
+        OnWrite result (ScriptCut D.Disk origin concentrator.old.house.budget state before
+        (links_of B.lost slots.old) (lines_of input.now)
+        (AreCarried B.lost B.asks B.settles B.ready slots.old slots.new) concentrator.old
+        concentrator.new)) }
+    ensures starved { BehindAnyRun D.Disk concentrator.old (λ origin state before.
+        OnNoMemory result (ScriptStarved D.Disk origin concentrator.old.house.budget state before
+        (links_of B.lost slots.old) (lines_of input.now) (PutsInto W.Sink out.old out.new)
+        (AreCarried B.lost B.asks B.settles B.ready slots.old slots.new) concentrator.old
+        concentrator.new)) }
+    // Memory is refused to a search alone, which needs a line that has a bus.
+    ensures through { OnNoMemory result (¬ (AreAbsent (links_of B.lost slots.old))) }
+    ensures counted { IsCounted result (W.put_failures out.old) (W.put_failures out.new) }
+{
+    let mut rest = input;
+    let mut moment = Moment { seconds: 0 };
+    let mut count = 0;
+    'lines: while !rest.is_empty() {
+        let (line, after) = first_line(rest);
+        let Some(asked) = ScriptLine::parse(line, bytes) else {
+            return match put_syntax(out, count + 1) {
+                Ok(()) => Ok(true),
+                Err(IoFault) => Err(Halt::Write),
+            };
+        };
+        if let Err(halt) = run_line(alloc, concentrator, slots, &asked, moment, out) {
+            return Err(halt);
+        }
+        moment = moment_behind(&asked, moment);
+        count += 1;
+        rest = after;
+    }
+    Ok(false)
+}
+
+// Executes a line, at the script's time.
+fn run_line<D: Disk + Drop, A: Allocator + Copy, B: ScriptBus + Drop, W: Sink>(
+    alloc: A,
+    concentrator: &mut Concentrator<D, A>,
+    slots: &mut [Option<Slot<B>>],
+    asked: &ScriptLine<'_>,
+    moment: Moment,
+    out: &mut W,
+) -> Result<(), Halt>
+    ensures ran { BehindAnyRun D.Disk concentrator.old (λ origin state before.
+        OnOk result (LineRan D.Disk origin concentrator.old.house.budget state before moment.seconds
+        (seen asked.now) (links_of B.lost slots.old) (links_of B.lost slots.new)
+        (PutsInto W.Sink out.old out.new)
+        (IsCarried B.lost B.asks B.settles B.ready (seen asked.now) slots.old slots.new)
+        concentrator.old concentrator.new)) }
+    ensures cut { BehindAnyRun D.Disk concentrator.old (λ origin state before.
+        OnWrite result (LineCut D.Disk origin concentrator.old.house.budget state before
+        moment.seconds (seen asked.now) (links_of B.lost slots.old)
+        (IsCarried B.lost B.asks B.settles B.ready (seen asked.now) slots.old slots.new)
+        concentrator.old concentrator.new)) }
+    ensures starved { BehindAnyRun D.Disk concentrator.old (λ origin state before.
+        OnNoMemory result (LineStarved D.Disk origin concentrator.old.house.budget state before
+        (seen asked.now) (links_of B.lost slots.old) (PutsInto W.Sink out.old out.new)
+        (IsCarried B.lost B.asks B.settles B.ready (seen asked.now) slots.old slots.new)
+        concentrator.old concentrator.new)) }
+    ensures through { OnNoMemory result (¬ (AreAbsent (links_of B.lost slots.old))) }
+    ensures absent { AreAbsent (links_of B.lost slots.old) → AreAbsent (links_of B.lost slots.new) }
+    ensures counted { IsCounted result (W.put_failures out.old) (W.put_failures out.new) }
+    ensures budget { concentrator.new.house.budget ≡ concentrator.old.house.budget }
+{
+    match *asked {
+        ScriptLine::Search { budget, line } => {
+            search_line(alloc, concentrator, slots, budget, line, out)
+        }
+        _ => written(run_plain(concentrator, slots, asked, moment, out)),
+    }
+}
+
+// Executes a line that is no search, at the script's time.
+fn run_plain<D: Disk + Drop, A: Allocator + Copy, B: ScriptBus + Drop, W: Sink>(
+    concentrator: &mut Concentrator<D, A>,
+    slots: &mut [Option<Slot<B>>],
+    asked: &ScriptLine<'_>,
+    moment: Moment,
+    out: &mut W,
+) -> Result<(), IoFault>
+    requires { IsPlain (seen asked.now) }
+    ensures ran { BehindAnyRun D.Disk concentrator.old (λ origin state before.
+        OnOk result (LineRan D.Disk origin concentrator.old.house.budget state before moment.seconds
+        (seen asked.now) (links_of B.lost slots.old) (links_of B.lost slots.new)
+        (PutsInto W.Sink out.old out.new)
+        (IsCarried B.lost B.asks B.settles B.ready (seen asked.now) slots.old slots.new)
+        concentrator.old concentrator.new)) }
+    ensures cut { BehindAnyRun D.Disk concentrator.old (λ origin state before.
+        OnErr result (LineCut D.Disk origin concentrator.old.house.budget state before
+        moment.seconds (seen asked.now) (links_of B.lost slots.old)
+        (IsCarried B.lost B.asks B.settles B.ready (seen asked.now) slots.old slots.new)
+        concentrator.old concentrator.new)) }
+    ensures fault { OnErr result (HasRisen (W.put_failures out.old) (W.put_failures out.new)) }
+    ensures well { OnOk result (W.put_failures out.new ≡ W.put_failures out.old) }
+    ensures absent { AreAbsent (links_of B.lost slots.old) → AreAbsent (links_of B.lost slots.new) }
+    ensures budget { concentrator.new.house.budget ≡ concentrator.old.house.budget }
+{
+    match *asked {
+        ScriptLine::Nothing | ScriptLine::At { .. } | ScriptLine::Search { .. } => Ok(()),
+        ScriptLine::Poll { line, meter } => {
+            poll_line(concentrator, slots, line, &meter, moment, out)
+        }
+        ScriptLine::Start { line, meter } => {
+            run_event(concentrator, &Event::Start { line, meter }, out)
+        }
+        ScriptLine::Ask { line } => run_event(concentrator, &Event::Ask { line }, out),
+        ScriptLine::Hear { line, answer } => {
+            let heard = Event::Hear {
+                line,
+                moment,
+                answer,
+            };
+            run_event(concentrator, &heard, out)
+        }
+        ScriptLine::Commit => run_event(concentrator, &Event::Commit, out),
+        ScriptLine::Office { text } => run_event(concentrator, &Event::Office { text }, out),
+    }
+}
+
+// ---- over the bus of a line
+
+// Executes a `POLL`.
+fn poll_line<D: Disk + Drop, A: Allocator + Copy, B: ScriptBus + Drop, W: Sink>(
+    concentrator: &mut Concentrator<D, A>,
+    slots: &mut [Option<Slot<B>>],
+    line: u8,
+    meter: &Identity,
+    moment: Moment,
+    out: &mut W,
+) -> Result<(), IoFault>
+    ensures ran { BehindAnyRun D.Disk concentrator.old (λ origin state before.
+        OnOk result (LineRan D.Disk origin concentrator.old.house.budget state before moment.seconds
+        (polls line meter.now) (links_of B.lost slots.old) (links_of B.lost slots.new)
+        (PutsInto W.Sink out.old out.new)
+        (IsCarried B.lost B.asks B.settles B.ready (polls line meter.now) slots.old slots.new)
+        concentrator.old concentrator.new)) }
+    ensures cut { BehindAnyRun D.Disk concentrator.old (λ origin state before.
+        OnErr result (LineCut D.Disk origin concentrator.old.house.budget state before
+        moment.seconds (polls line meter.now) (links_of B.lost slots.old)
+        (IsCarried B.lost B.asks B.settles B.ready (polls line meter.now) slots.old slots.new)
+        concentrator.old concentrator.new)) }
+    ensures fault { OnErr result (HasRisen (W.put_failures out.old) (W.put_failures out.new)) }
+    ensures well { OnOk result (W.put_failures out.new ≡ W.put_failures out.old) }
+    ensures absent { AreAbsent (links_of B.lost slots.old) → AreAbsent (links_of B.lost slots.new) }
+    ensures budget { concentrator.new.house.budget ≡ concentrator.old.house.budget }
+{
+    match index_of(line, slots.len()) {
+        Some(at) => poll_slot(concentrator, &mut slots[at], line, meter, moment, out),
+        None => put_no_bus(out),
+    }
+}
+
+// Executes a `POLL` over a line that may have a bus.
+fn poll_slot<D: Disk + Drop, A: Allocator + Copy, B: ScriptBus + Drop, W: Sink>(
+    concentrator: &mut Concentrator<D, A>,
+    slot: &mut Option<Slot<B>>,
+    line: u8,
+    meter: &Identity,
+    moment: Moment,
+    out: &mut W,
+) -> Result<(), IoFault>
+    ensures ran { (links : List LineLink) → line_in links line ≡ line_of B.lost slot.old
+        → BehindAnyRun D.Disk concentrator.old (λ origin state before.
+        OnOk result (LineRan D.Disk origin concentrator.old.house.budget state before moment.seconds
+        (polls line meter.now) links (with_link links line (line_of B.lost slot.new).link)
+        (PutsInto W.Sink out.old out.new)
+        (λ exchanges. PollsOver B.lost B.asks B.settles B.ready line exchanges slot.old slot.new)
+        concentrator.old concentrator.new)) }
+    ensures cut { (links : List LineLink) → line_in links line ≡ line_of B.lost slot.old
+        → BehindAnyRun D.Disk concentrator.old (λ origin state before.
+        OnErr result (LineCut D.Disk origin concentrator.old.house.budget state before
+        moment.seconds (polls line meter.now) links
+        (λ exchanges. PollsOver B.lost B.asks B.settles B.ready line exchanges slot.old slot.new)
+        concentrator.old concentrator.new)) }
+    ensures fault { OnErr result (HasRisen (W.put_failures out.old) (W.put_failures out.new)) }
+    ensures well { OnOk result (W.put_failures out.new ≡ W.put_failures out.old) }
+    ensures kept { IsKept B.lost slot.old slot.new }
+    ensures budget { concentrator.new.house.budget ≡ concentrator.old.house.budget }
+{
+    match slot {
+        Some(slot) => {
+            let port = Port {
+                line,
+                is_gateway: slot.is_gateway,
+            };
+            poll(port, concentrator, &mut slot.bus, meter, moment, out)
+        }
+        None => put_no_bus(out),
+    }
+}
+
+// Executes a `SEARCH`.
+fn search_line<D: Disk + Drop, A: Allocator + Copy, B: ScriptBus + Drop, W: Sink>(
+    alloc: A,
+    concentrator: &mut Concentrator<D, A>,
+    slots: &mut [Option<Slot<B>>],
+    budget: u32,
+    line: u8,
+    out: &mut W,
+) -> Result<(), Halt>
+    ensures ran { (moment : ℕ) → BehindAnyRun D.Disk concentrator.old (λ origin state before.
+        OnOk result (LineRan D.Disk origin concentrator.old.house.budget state before moment
+        (searches budget line) (links_of B.lost slots.old) (links_of B.lost slots.new)
+        (PutsInto W.Sink out.old out.new)
+        (IsCarried B.lost B.asks B.settles B.ready (searches budget line) slots.old slots.new)
+        concentrator.old concentrator.new)) }
+    ensures cut { (moment : ℕ) → BehindAnyRun D.Disk concentrator.old (λ origin state before.
+        OnWrite result (LineCut D.Disk origin concentrator.old.house.budget state before moment
+        (searches budget line) (links_of B.lost slots.old)
+        (IsCarried B.lost B.asks B.settles B.ready (searches budget line) slots.old slots.new)
+        concentrator.old concentrator.new)) }
+    ensures starved { BehindAnyRun D.Disk concentrator.old (λ origin state before.
+        OnNoMemory result (LineStarved D.Disk origin concentrator.old.house.budget state before
+        (searches budget line) (links_of B.lost slots.old) (PutsInto W.Sink out.old out.new)
+        (IsCarried B.lost B.asks B.settles B.ready (searches budget line) slots.old slots.new)
+        concentrator.old concentrator.new)) }
+    ensures through { OnNoMemory result (¬ (AreAbsent (links_of B.lost slots.old))) }
+    ensures absent { AreAbsent (links_of B.lost slots.old) → AreAbsent (links_of B.lost slots.new) }
+    ensures counted { IsCounted result (W.put_failures out.old) (W.put_failures out.new) }
+    ensures budget { concentrator.new.house.budget ≡ concentrator.old.house.budget }
+{
+    match index_of(line, slots.len()) {
+        Some(at) => search_slot(alloc, concentrator, &mut slots[at], budget, line, out),
+        None => written(put_no_bus(out)),
+    }
+}
+
+// Executes a `SEARCH` over a line that may have a bus.
+fn search_slot<D: Disk + Drop, A: Allocator + Copy, B: ScriptBus + Drop, W: Sink>(
+    alloc: A,
+    concentrator: &mut Concentrator<D, A>,
+    slot: &mut Option<Slot<B>>,
+    budget: u32,
+    line: u8,
+    out: &mut W,
+) -> Result<(), Halt>
+    ensures ran { (links : List LineLink) (moment : ℕ)
+        → line_in links line ≡ line_of B.lost slot.old
+        → BehindAnyRun D.Disk concentrator.old (λ origin state before.
+        OnOk result (LineRan D.Disk origin concentrator.old.house.budget state before moment
+        (searches budget line) links (with_link links line (line_of B.lost slot.new).link)
+        (PutsInto W.Sink out.old out.new)
+        (λ exchanges. SearchesOver B.lost B.asks exchanges slot.old slot.new) concentrator.old
+        concentrator.new)) }
+    ensures cut { (links : List LineLink) (moment : ℕ)
+        → line_in links line ≡ line_of B.lost slot.old
+        → BehindAnyRun D.Disk concentrator.old (λ origin state before.
+        OnWrite result (LineCut D.Disk origin concentrator.old.house.budget state before moment
+        (searches budget line) links (λ exchanges.
+        SearchesOver B.lost B.asks exchanges slot.old slot.new) concentrator.old
+        concentrator.new)) }
+    ensures starved { (links : List LineLink) → line_in links line ≡ line_of B.lost slot.old
+        → BehindAnyRun D.Disk concentrator.old (λ origin state before.
+        OnNoMemory result (LineStarved D.Disk origin concentrator.old.house.budget state before
+        (searches budget line) links (PutsInto W.Sink out.old out.new)
+        (λ exchanges. SearchesOver B.lost B.asks exchanges slot.old slot.new) concentrator.old
+        concentrator.new)) }
+    ensures through { OnNoMemory result (¬ ((line_of B.lost slot.old).link ≡ absent)) }
+    ensures kept { IsKept B.lost slot.old slot.new }
+    ensures counted { IsCounted result (W.put_failures out.old) (W.put_failures out.new) }
+    ensures budget { concentrator.new.house.budget ≡ concentrator.old.house.budget }
+{
+    match slot {
+        Some(slot) => {
+            let port = Port {
+                line,
+                is_gateway: slot.is_gateway,
+            };
+            search_on(alloc, port, concentrator, &mut slot.bus, budget, out)
+        }
+        None => written(put_no_bus(out)),
+    }
+}
+
+// Writes that a line has no bus.
+fn put_no_bus<W: Sink>(out: &mut W) -> Result<(), IoFault>
+    ensures { Wrote W.Sink result out.old out.new no_gateway }
+{
+    out.put(b"NO GATEWAY\n")
+}
+
+// The index of a line's slot among this many. Lines are numbered from 1.
+fn index_of(line: u8, count: usize) -> Option<usize>
+    ensures found { IfSome result (λ at. (at < count) × (line ≡ suc at)) }
+    ensures none { IfNone result ((line ≡ 0) ⊎ (count < line)) }
+{
+    if line == 0 || usize::from(line) > count {
+        return None;
+    }
+    Some(usize::from(line) - 1)
+}
+
+// ---- events
+
+// Executes one event, and writes the text of its answer.
+fn run_event<D: Disk + Drop, A: Allocator + Copy, W: Sink>(
+    concentrator: &mut Concentrator<D, A>,
+    event: &Event<'_>,
+    out: &mut W,
+) -> Result<(), IoFault>
+    ensures went { BehindAnyRun D.Disk concentrator.old (λ origin state before.
+        TurnWent D.Disk origin concentrator.old.house.budget state before (event_of event.now)
+        (λ answer. OnOk result (PutsInto W.Sink out.old out.new (answer_text answer)))
+        concentrator.old concentrator.new) }
+    ensures fault { OnErr result (HasRisen (W.put_failures out.old) (W.put_failures out.new)) }
+    ensures well { OnOk result (W.put_failures out.new ≡ W.put_failures out.old) }
+    ensures budget { concentrator.new.house.budget ≡ concentrator.old.house.budget }
+{
+    match concentrator.run(&[*event], out) {
+        Ok(()) => Ok(()),
+        Err(WriteFault) => Err(IoFault),
+    }
+}
+
+// The script's time after a line.
+fn moment_behind(asked: &ScriptLine<'_>, moment: Moment) -> Moment
+    ensures { result.seconds ≡ moment_behind moment.seconds (seen asked.now) }
+{
+    match *asked {
+        ScriptLine::At { moment } => moment,
+        _ => moment,
+    }
+}
+
+#[tactic(auto, using(dc_io::proofs::Pieces::written))]
+fn put_syntax<W: Sink>(out: &mut W, line: usize) -> Result<(), IoFault>
+    ensures { Wrote W.Sink result out.old out.new
+        (codes "LINE" ++ number_word line ++ codes " SYNTAX\n") }
+{
+    out.put(b"LINE")?;
+    put_number_word(out, line as u64)?;
+    out.put(b" SYNTAX\n")
+}

@@ -1,0 +1,135 @@
+//! `SEARCH`: searches for meters over a bus line.
+
+ghost use Rattle.std.specs.Prelude.{◌≡◌, ◌++◌, true};
+ghost use Rattle.dc_gateway.specs.Bus.{AreExchanged};
+ghost use Rattle.dc_io.specs.Written.{PutsInto, Wrote};
+ghost use Rattle.dc_script.specs.Halt.{IsCounted};
+ghost use Rattle.dc_script.specs.Link.{gateway_port, link_by};
+ghost use Rattle.dc_script.specs.Search.{Comes, Talked, late_by, late_text, search_text};
+ghost use Rattle.dc_script.specs.Went.{BehindAnyRun, TurnsWent};
+
+use crate::found::{put_late, put_search};
+use crate::halt::{Halt, written};
+use crate::port::{GATEWAY, Port, put_loss};
+use crate::quiet::{quiet_ask, quiet_commit};
+use crate::script_bus::ScriptBus;
+use dc_concentrator::{Concentrator, StartFault, put_committed, put_started};
+use dc_disk::Disk;
+use dc_gateway::search_over;
+use dc_io::{IoFault, NoMemory, Sink};
+use dc_search::Search;
+use std::alloc::Allocator;
+
+/// Searches for meters over a bus, with at most `budget` selections. The pending changes are
+/// committed first, and while a readout of the bus's line is pending nothing is selected, since a
+/// selection would restart that readout.
+pub fn search<D: Disk + Drop, A: Allocator + Copy, B: ScriptBus, W: Sink>(
+    alloc: A,
+    concentrator: &mut Concentrator<D, A>,
+    bus: &mut B,
+    budget: u32,
+    out: &mut W,
+) -> Result<(), Halt>
+    ensures went { BehindAnyRun D.Disk concentrator.old (λ origin state before.
+        TurnsWent D.Disk origin concentrator.old.house.budget state before
+        (Comes (B.meters bus.old) gateway_port budget
+        (late_by gateway_port.is_gateway (B.late bus.old) (B.late bus.new))
+        (link_by (B.lost bus.old)) (link_by (B.lost bus.new))
+        (λ exchanges. AreExchanged B.asks bus.old exchanges bus.new)
+        (PutsInto W.Sink out.old out.new) result) concentrator.old
+        concentrator.new) }
+    ensures counted { IsCounted result (W.put_failures out.old) (W.put_failures out.new) }
+    ensures budget { concentrator.new.house.budget ≡ concentrator.old.house.budget }
+    ensures untouched { B.lost bus.old ≡ true → bus.new ≡ bus.old }
+{
+    search_on(alloc, GATEWAY, concentrator, bus, budget, out)
+}
+
+/// Searches for meters over the bus of a line, as [`search`] does.
+pub fn search_on<D: Disk + Drop, A: Allocator + Copy, B: ScriptBus, W: Sink>(
+    alloc: A,
+    port: Port,
+    concentrator: &mut Concentrator<D, A>,
+    bus: &mut B,
+    budget: u32,
+    out: &mut W,
+) -> Result<(), Halt>
+    ensures went { BehindAnyRun D.Disk concentrator.old (λ origin state before.
+        TurnsWent D.Disk origin concentrator.old.house.budget state before
+        (Comes (B.meters bus.old) port budget
+        (late_by port.is_gateway (B.late bus.old) (B.late bus.new)) (link_by (B.lost bus.old))
+        (link_by (B.lost bus.new))
+        (λ exchanges. AreExchanged B.asks bus.old exchanges bus.new)
+        (PutsInto W.Sink out.old out.new) result) concentrator.old
+        concentrator.new) }
+    ensures counted { IsCounted result (W.put_failures out.old) (W.put_failures out.new) }
+    ensures budget { concentrator.new.house.budget ≡ concentrator.old.house.budget }
+    ensures untouched { B.lost bus.old ≡ true → bus.new ≡ bus.old }
+{
+    match quiet_commit(concentrator) {
+        Ok(_) => match quiet_ask(concentrator, port.line) {
+            Some(_) => written(put_started(out, Err(StartFault::Busy))),
+            None => search_bus(alloc, port, bus, budget, out),
+        },
+        Err(fault) => written(put_committed(out, Err(fault))),
+    }
+}
+
+// Runs the search and writes its result. A loss of the bus is printed before it, and the number of
+// late answers after it.
+fn search_bus<A: Allocator + Copy, B: ScriptBus, W: Sink>(
+    alloc: A,
+    port: Port,
+    bus: &mut B,
+    budget: u32,
+    out: &mut W,
+) -> Result<(), Halt>
+    ensures talked { Talked (B.meters bus.old) port budget
+        (late_by port.is_gateway (B.late bus.old) (B.late bus.new))
+        (link_by (B.lost bus.old)) (link_by (B.lost bus.new))
+        (λ exchanges. AreExchanged B.asks bus.old exchanges bus.new)
+        (PutsInto W.Sink out.old out.new) result }
+    ensures counted { IsCounted result (W.put_failures out.old) (W.put_failures out.new) }
+    ensures untouched { B.lost bus.old ≡ true → bus.new ≡ bus.old }
+{
+    let was_lost = bus.is_lost();
+    let before = bus.late();
+    let searched = search_over(alloc, budget, bus);
+    match put_loss(port, was_lost, bus.is_lost(), out) {
+        Ok(()) => match searched {
+            Ok(search) => written(put_found_late(
+                &search,
+                port,
+                late_since(port, before, bus.late()),
+                out,
+            )),
+            Err(NoMemory) => Err(Halt::NoMemory),
+        },
+        Err(IoFault) => Err(Halt::Write),
+    }
+}
+
+// Number of late answers, by the counts of the bus before and after.
+fn late_since(port: Port, before: u64, after: u64) -> u64
+    ensures { result ≡ late_by port.is_gateway before after }
+{
+    if port.is_gateway {
+        0
+    } else {
+        after.saturating_sub(before)
+    }
+}
+
+#[tactic(auto, using(dc_io::proofs::Pieces::written))]
+fn put_found_late<A: Allocator + Copy, W: Sink>(
+    search: &Search<A>,
+    port: Port,
+    late: u64,
+    out: &mut W,
+) -> Result<(), IoFault>
+    ensures { Wrote W.Sink result out.old out.new
+        (search_text search.now ++ late_text port late) }
+{
+    put_search(search, out)?;
+    put_late(port, late, out)
+}
