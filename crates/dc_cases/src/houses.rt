@@ -4,9 +4,9 @@ use crate::fault::CaseFault;
 use crate::printing::{put_house, put_line};
 use crate::words::{bytes, small, split};
 use dc_change::Change;
+use dc_inspect::Report;
 use dc_io::{Bytes, Sink, first_line, put_fault};
 use dc_register::House;
-use dc_script::Report;
 use dc_table::{due_table, register_table};
 use std::alloc::Global;
 

@@ -1,9 +1,9 @@
 //! What commands print: hex digits, a word with its number, a register's numbers, how a program ends.
 
 use crate::fault::CaseFault;
+use dc_ending::Ending;
 use dc_io::{Sink, put_hex, put_number, put_number_word};
 use dc_register::House;
-use dc_script::Ending;
 use std::alloc::Global;
 
 /// Puts a line of hex digits.

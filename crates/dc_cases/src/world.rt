@@ -12,13 +12,13 @@ use dc_address::Identity;
 use dc_concentrator::Concentrator;
 use dc_decode::decode_lines;
 use dc_disk::MemoryDisk;
+use dc_ending::{Ending, ProgramFault, ending_of};
+use dc_inspect::{Report, report_on};
 use dc_io::{Bytes, Sink, TextFault, first_line};
 use dc_json::{explain_lines, json_lines};
 use dc_log::Store;
 use dc_register::House;
-use dc_script::{
-    Ending, Halt, ProgramFault, Report, ending_of, fold_lines, report_on, run_script, search,
-};
+use dc_script::{Halt, fold_lines, run_script, search};
 use dc_world::ListedBus;
 use std::alloc::Global;
 

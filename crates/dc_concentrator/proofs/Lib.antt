@@ -26,3 +26,7 @@ pub mod Told
 pub mod Requests
 -- stopped at any moment and opened again (the clause `the_headline` of `Concentrator::open`)
 pub mod Headline
+-- turns that were run, one after the other
+pub mod Wents
+-- single events, by the calls that they are
+pub mod SingleTurns

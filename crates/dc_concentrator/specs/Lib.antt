@@ -31,3 +31,7 @@ pub mod Text
 pub mod Run
 -- the headline: how a concentrator crashed, and what it holds when it is opened again
 pub mod Headline
+-- turns of a concentrator that were run
+pub mod Went
+-- a concentrator that was opened on a disk
+pub mod OpenedOn

@@ -2,3 +2,5 @@
 
 -- summaries, field by field
 mod Sums
+-- no date is spelled as the word for the register
+mod Reports

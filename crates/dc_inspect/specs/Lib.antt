@@ -10,3 +10,5 @@ pub mod Values
 pub mod Report
 -- the result of reading an image: for the contracts of private functions
 pub mod Look
+-- a table of what an image holds, and its word
+pub mod Table

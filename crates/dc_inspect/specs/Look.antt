@@ -3,8 +3,8 @@ use Rattle.std.specs.Prelude.{◌≡◌, ◌⊎◌, ℕ, Option, option_map}
 use Rattle.dc_disk.specs.Disk.{Image}
 use Rattle.dc_change.specs.State.{Held}
 use Rattle.dc_roots.specs.Held.{IsHeld}
-use Rattle.dc_script.specs.declared.fault.ProgramFault.{ProgramFault}
-use Rattle.dc_script.specs.declared.fault.ProgramFault.TheVariants.{Open, NoMemory as Refused}
+use Rattle.dc_ending.specs.declared.fault.ProgramFault.{ProgramFault}
+use Rattle.dc_ending.specs.declared.fault.ProgramFault.TheVariants.{Open, NoMemory as Refused}
 use Rattle.dc_log.specs.declared.fault.OpenFault.{OpenFault}
 use Rattle.dc_log.specs.declared.fault.OpenFault.TheVariants.{Device, NoMemory}
 use Rattle.dc_log.specs.declared.reading.Found.{Found}

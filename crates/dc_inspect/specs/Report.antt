@@ -2,8 +2,8 @@
 use Rattle.std.specs.Prelude.{ℕ, List}
 use Rattle.dc_change.specs.State.{State}
 use Rattle.dc_json.specs.Report.{due_lines, register_lines}
-use Rattle.dc_script.specs.declared.report.Report.{Report}
-use Rattle.dc_script.specs.declared.report.Report.TheVariants.{Register, Due}
+use Rattle.dc_inspect.specs.declared.table.Report.{Report}
+use Rattle.dc_inspect.specs.declared.table.Report.TheVariants.{Register, Due}
 use Rattle.dc_pending.specs.Images.{Reads}
 use Rattle.dc_disk.specs.Disk.{Image}
 

@@ -11,9 +11,9 @@ use Rattle.dc_pending.specs.Images.{IsRefused, IsRead}
 use Rattle.dc_log.specs.Refusal.{IsSpent, TellsOfImage}
 use Rattle.dc_log.specs.declared.fault.OpenFault.{OpenFault}
 use Rattle.dc_log.specs.declared.fault.OpenFault.TheVariants.{NotImage, Worn, Device}
-use Rattle.dc_script.specs.declared.fault.ProgramFault.{ProgramFault}
-use Rattle.dc_script.specs.declared.fault.ProgramFault.TheVariants.{Read, TooLong, Write, NoMemory}
-use Rattle.dc_script.specs.declared.fault.ProgramFault.TheVariants.{Open}
+use Rattle.dc_ending.specs.declared.fault.ProgramFault.{ProgramFault}
+use Rattle.dc_ending.specs.declared.fault.ProgramFault.TheVariants.{Read, TooLong, Write, NoMemory}
+use Rattle.dc_ending.specs.declared.fault.ProgramFault.TheVariants.{Open}
 use Rattle.dc_inspect.specs.Text.{number_line, slot_line, place_text, summary_of, summary_text}
 use Rattle.dc_inspect.specs.Text.{refused_line, refusal_text}
 

@@ -20,10 +20,10 @@ use crate::text::{
     put_number_line, put_place, put_refusal, put_refused_line, put_slot, put_summary,
 };
 use dc_disk::{Disk, Failed};
+use dc_ending::ProgramFault;
 use dc_io::{Bytes, IoFault, Sink};
 use dc_log::{FEWEST_SECTORS, Found, OpenFault, half_len_of};
 use dc_register::House;
-use dc_script::ProgramFault;
 use std::alloc::Allocator;
 
 // Writes the text of an image after the line of its disk.

@@ -1,4 +1,4 @@
-//! Inspects an image without opening it, and writes its tables as JSON.
+//! Inspects an image without opening it, and writes its tables as text and as JSON.
 //!
 //! [`inspect`] reads an image and writes one fact per line: the root slots, the place of the
 //! groups, the register's contents; or why the image doesn't open, with the sector if it is known.
@@ -8,7 +8,8 @@
 //!
 //! [`show_values`] reads an image in the same way, and writes what its meters stand at (dc_latest).
 //!
-//! [`report_json_on`] opens an image as [`report_on`](dc_script::report_on) does, and writes a JSON object for each
+//! [`report_on`] opens an image and writes a table of its contents ([`Report`]), built whole before
+//! it is written. [`report_json_on`] opens one in the same way, and writes a JSON object for each
 //! row of a table.
 #![tactic(auto)]
 
@@ -16,9 +17,11 @@ mod inspecting;
 mod look;
 mod report;
 mod summary;
+mod table;
 mod text;
 mod values;
 
 pub use inspecting::inspect;
 pub use report::report_json_on;
+pub use table::{Report, report_on};
 pub use values::show_values;

@@ -10,10 +10,10 @@ ghost use Rattle.dc_inspect.specs.Look.{AreHeld, IsSeen, IsStop};
 ghost use Rattle.dc_inspect.specs.Told.{IsOfLook, IsWearOf};
 
 use dc_disk::{Disk, Failed};
+use dc_ending::ProgramFault;
 use dc_log::{Found, OpenFault, is_spent, read_image};
 use dc_register::House;
 use dc_roots::{Held, Root, read_slot};
-use dc_script::ProgramFault;
 use std::alloc::Allocator;
 
 /// The contents of the two root slots.

@@ -9,15 +9,16 @@ ghost use Rattle.dc_log.specs.declared.fault.OpenFault.TheVariants.{NotImage, Wo
 ghost use Rattle.dc_io.specs.Written.{PutsInto};
 ghost use Rattle.dc_disk.specs.Disk.{IsImage};
 ghost use Rattle.dc_disk.specs.Runs.{LeavesOnly};
-ghost use Rattle.dc_script.specs.Fault.{IfOpen, IsOfImage};
+ghost use Rattle.dc_ending.specs.Fault.{IfOpen, IsOfImage};
 ghost use Rattle.dc_inspect.specs.Report.{IsShown, table_lines};
 
+use crate::table::Report;
 use dc_disk::Disk;
+use dc_ending::ProgramFault;
 use dc_io::{IoFault, NoMemory, Sink};
 use dc_json::{due_json, register_json};
 use dc_log::Store;
 use dc_register::House;
-use dc_script::{ProgramFault, Report};
 use std::alloc::Allocator;
 
 /// Opens the image, writes a table of its contents as JSON Lines (RFC 8259) in one put, and closes

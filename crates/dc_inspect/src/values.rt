@@ -14,11 +14,11 @@ ghost use Rattle.dc_inspect.specs.Values.{Shows, ShowsImage, seen_values};
 
 use crate::look::look_at;
 use dc_disk::Disk;
+use dc_ending::ProgramFault;
 use dc_io::{Bytes, IoFault, Sink};
 use dc_latest::put_values;
 use dc_log::{FEWEST_SECTORS, Found, OpenFault, half_len_of};
 use dc_register::House;
-use dc_script::ProgramFault;
 use std::alloc::Allocator;
 
 // Writes the values of the state that was found.

@@ -2,8 +2,8 @@
 use Rattle.std.proofs.Common.{◌≡◌, ℕ, zero, suc, ◌+◌, ◌-◌, ◌≤◌, Bool, true, false, List, [], ◌∷◌, ◌++◌, Option, None, refl, sym, ◌∙◌, subst, arith}
 use Rattle.std.specs.List.{range_with_len}
 use Rattle.dc_address.specs.declared.identity.Identity.{Identity}
-use Rattle.dc_gateway.specs.Bus.{AreExchanged, Exchange}
-use Rattle.dc_gateway.proofs.Exchanges.{exchanged-both, exchanged-one}
+use Rattle.dc_bus.specs.Bus.{AreExchanged, Exchange}
+use Rattle.dc_bus.proofs.Exchanges.{exchanged-both, exchanged-one}
 use Rattle.dc_frame.specs.Control.{request_to, reset_to}
 use Rattle.dc_frame.specs.Frame.{spelling}
 use Rattle.dc_frame.specs.Reading.{frame_of}

@@ -3,3 +3,5 @@
 mod Addresses
 -- a readout, exchange by exchange
 mod Readouts
+-- what is said of a result where it is Ok
+mod Results

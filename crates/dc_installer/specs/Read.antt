@@ -3,7 +3,7 @@ use Rattle.std.specs.Prelude.{◌≡◌, ◌⊎◌, ℕ, List, [], ◌∷◌, �
 use Rattle.dc_frame.specs.Frame.{spelling}
 use Rattle.dc_readout.specs.Summary.{Summary, Verdict, again, ready, new, failed, asked_by}
 use Rattle.dc_readout.specs.Summary.{heard_by, settled_by, verdict_by}
-use Rattle.dc_gateway.specs.Bus.{AreExchanged, Exchange}
+use Rattle.dc_bus.specs.Bus.{AreExchanged, Exchange}
 use Rattle.dc_concentrator.specs.Text.{failed_text}
 use Rattle.dc_decode.specs.Frames.{all_shown, frames_of}
 

@@ -3,11 +3,11 @@ use Rattle.std.specs.Prelude.{◌≡◌, ℕ, ◌-◌, ◌≤◌, Bool, true, fa
 use Rattle.std.specs.Prelude.{IsTrue, List, [], ◌∷◌, ◌++◌, codes, Option, None, Some, IfSome}
 use Rattle.dc_address.specs.Text.{text_of}
 use Rattle.dc_address.specs.declared.identity.Identity.{Identity}
-use Rattle.dc_gateway.specs.Bus.{Exchange, HasAsked, IsSearched}
+use Rattle.dc_bus.specs.Bus.{Exchange, HasAsked, IsSearched}
 use Rattle.dc_frame.specs.Control.{request_to, reset_to}
 use Rattle.dc_frame.specs.Frame.{FrameSeen, ack, short, long, spelling}
 use Rattle.dc_frame.specs.Reading.{frame_of}
-use Rattle.dc_script.specs.Search.{search_text, search_text_after}
+use Rattle.dc_search.specs.Found.{search_text, search_text_after}
 use Rattle.dc_search.specs.Answer.{answer_of}
 use Rattle.dc_search.specs.State.{SearchState, is_idle, step_of}
 use Rattle.dc_io.specs.Words.{number_word}

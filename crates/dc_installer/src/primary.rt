@@ -3,7 +3,7 @@
 ghost use Rattle.std.specs.Prelude.{◌≡◌, ◌≤◌, ◌-◌, true, List, ℕ, OnOk, OnErr};
 ghost use Rattle.std.specs.List.{range_with_len};
 ghost use Rattle.dc_io.specs.Failures.{HasRisen};
-ghost use Rattle.dc_gateway.specs.Bus.{AreExchanged, Exchange};
+ghost use Rattle.dc_bus.specs.Bus.{AreExchanged, Exchange};
 ghost use Rattle.dc_search.specs.Answer.{answer_of};
 ghost use Rattle.dc_frame.specs.Control.{request_to, reset_to};
 ghost use Rattle.dc_frame.specs.Frame.{spelling};
@@ -13,9 +13,9 @@ ghost use Rattle.dc_installer.specs.Scan.{AsksEach, AsksOne, Identifies, address
 ghost use Rattle.dc_installer.specs.Scan.{identity_word, is_ack};
 
 use dc_address::{Identity, Primary};
+use dc_bus::Bus;
 use dc_frame::control::{write_request, write_reset};
 use dc_frame::{Frame, FrameBuf, parse};
-use dc_gateway::Bus;
 use dc_io::{IoFault, Sink, put_number_word};
 use dc_search::meter_of;
 

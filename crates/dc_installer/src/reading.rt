@@ -12,10 +12,10 @@ ghost use Rattle.dc_readout.specs.Seen.{verdict};
 ghost use Rattle.dc_installer.specs.Read.{IsCutOff, IsReadOn, after, most_requests, printed};
 
 use dc_address::{Identity, Primary};
+use dc_bus::Bus;
 use dc_concentrator::{LineHeard, put_heard};
 use dc_decode::put_frames;
 use dc_frame::FrameBuf;
-use dc_gateway::Bus;
 use dc_io::{IoFault, Sink};
 use dc_readout::{Heard, Session};
 

@@ -3,14 +3,13 @@
 ghost use Rattle.std.specs.Prelude.{◌≡◌, ◌+◌, ◌≤◌, IfOk, OnOk, IsErrOf};
 ghost use Rattle.dc_io.specs.Failures.{HasRisen};
 ghost use Rattle.dc_io.specs.Written.{PutsInto};
-ghost use Rattle.dc_script.specs.ScriptLine.{greatest_budget};
-ghost use Rattle.dc_script.specs.Search.{search_text, search_text_after};
+ghost use Rattle.dc_search.specs.Found.{greatest_budget};
+ghost use Rattle.dc_search.specs.Found.{search_text, search_text_after};
 ghost use Rattle.dc_installer.specs.Scan.{IsLook, Scanned, finds_nobody, is_enough};
 
-use dc_gateway::search_over;
+use dc_bus::{ScriptBus, search_over};
 use dc_io::{IoFault, NoMemory, Sink};
-use dc_script::{ScriptBus, put_search, put_search_after};
-use dc_search::Search;
+use dc_search::{Search, put_search, put_search_after};
 use std::alloc::Allocator;
 use thiserror::Error;
 

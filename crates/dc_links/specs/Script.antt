@@ -1,7 +1,7 @@
 -- The effect of a script's request on its link (this product).
 use Rattle.std.specs.Prelude.{◌≡◌, ℕ, true, false, List, []}
-use Rattle.dc_raw.specs.Both.{BothAsk}
-use Rattle.dc_raw.specs.declared.bus.HalfBus.{Ghosts as HalfGhosts}
+use Rattle.dc_bus.specs.Both.{BothAsk}
+use Rattle.dc_bus.specs.declared.half.HalfBus.{Ghosts as HalfGhosts}
 use Rattle.dc_links.specs.declared.script.ScriptLink.{ScriptLink}
 
 -- A lost link is untouched. Otherwise this is the answer to the request, or silence if the link is

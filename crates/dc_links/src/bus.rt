@@ -2,9 +2,8 @@
 
 ghost use Rattle.std.specs.Prelude.{◌≡◌, true};
 
+use dc_bus::{AnswerBuf, HalfBus, QuietBus};
 use dc_frame::FrameBuf;
-use dc_gateway::AnswerBuf;
-use dc_raw::{HalfBus, QuietBus};
 
 /// A bus of one of two kinds, or none.
 #[derive(Drop)]

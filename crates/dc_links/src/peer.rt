@@ -3,9 +3,9 @@
 use crate::bus::LinkBus;
 use crate::connection::{Connection, connect};
 use crate::socket::{Tcp, Terminal};
-use dc_gateway::Gateway;
+use dc_blocks::{BlockLink, Gateway};
 use dc_io::{ReadSource, WriteSink};
-use dc_raw::{BlockLink, Line, PollWire};
+use dc_raw::{Line, PollWire};
 use dc_steady::Steady;
 use dc_words::LinkName;
 use std::fs::{File, OpenOptions};

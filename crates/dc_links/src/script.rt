@@ -2,10 +2,8 @@
 
 ghost use Rattle.std.specs.Prelude.{◌≡◌, true};
 
+use dc_bus::{AnswerBuf, Both, Bus, Pause, QuietBus, ScriptBus};
 use dc_frame::FrameBuf;
-use dc_gateway::{AnswerBuf, Bus};
-use dc_raw::{Both, Pause, QuietBus};
-use dc_script::ScriptBus;
 
 /// The bus of a script's line, over the two halves. The answer to a request by which the link is
 /// lost is silence.

@@ -2,7 +2,7 @@
 
 use crate::bus::LinkBus;
 use crate::peer::{ByteBus, SystemBus};
-use dc_raw::{HalfBus, Pause};
+use dc_bus::{HalfBus, Pause};
 use libc::net::{POLLIN, poll};
 use libc::types::pollfd;
 use std::rt::Clock;

@@ -2,7 +2,7 @@
 use Rattle.std.proofs.Common.{◌≡◌, ◌⊎◌, ℕ, zero, suc, ◌+◌, ◌-◌, ◌*◌, ◌<◌, ◌≤◌, inl, inr, Bool, true, false, List, [], ◌∷◌, ◌++◌, length, length-append, take, drop, refl, ap, arith}
 use Rattle.std.specs.Prelude.{min}
 use Rattle.dc_address.specs.declared.identity.Identity.{Identity}
-use Rattle.dc_raw.specs.Bus.{most_settles, most_waits}
+use Rattle.dc_bus.specs.Halves.{most_settles, most_waits}
 use Rattle.dc_poll.specs.Queue.{most_asks}
 use Rattle.dc_poll.specs.Station.{IsPass, rounds_in, rounds_a_start, rounds_a_request, rounds_to_settle, rounds_by_phase, rounds_by_request, settling, starts_left}
 use Rattle.dc_poll.specs.declared.end.End.{End}

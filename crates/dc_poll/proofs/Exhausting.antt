@@ -8,7 +8,7 @@ use Rattle.dc_address.specs.declared.identity.Identity.{Identity}
 use Rattle.dc_poll.specs.Waiting.{is_done, is_free}
 use Rattle.std.proofs.Math.Nat.{mul-le-mul_left}
 use Rattle.std.proofs.lemmas.List.{nil_from_length}
-use Rattle.dc_raw.specs.Bus.{most_settles}
+use Rattle.dc_bus.specs.Halves.{most_settles}
 use Rattle.dc_poll.specs.Bus.{Bus}
 use Rattle.dc_poll.specs.Round.{HasFew, IsFresh, IsOver, IsSilent}
 use Rattle.dc_poll.specs.Station.{IsSoundIn, IsSound, rounds_a_start, rounds_in, rounds_of, settling, starts_left}

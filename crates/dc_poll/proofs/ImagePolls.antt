@@ -4,7 +4,7 @@ use Rattle.std.specs.Prelude.{IfOk}
 use Rattle.dc_change.specs.State.{State}
 use Rattle.dc_concentrator.specs.Core.{Core}
 use Rattle.dc_concentrator.specs.Images.{Machine}
-use Rattle.dc_script.specs.ImageRun.{IsOpenedOn}
+use Rattle.dc_concentrator.specs.OpenedOn.{IsOpenedOn}
 use Rattle.dc_disk.specs.declared.device.Disk.{Ghosts}
 use Rattle.dc_poll.specs.Happening.{Happening}
 use Rattle.dc_poll.specs.ImagePoll.{ImageTurned}

@@ -8,8 +8,8 @@ use Rattle.dc_concentrator.specs.Event.{Event, Answer}
 use Rattle.dc_concentrator.specs.Images.{Machine, IsAt}
 use Rattle.dc_concentrator.specs.Transcript.{Turn, leads, IsChain}
 use Rattle.dc_concentrator.proofs.Going.{leads_append}
-use Rattle.dc_script.specs.Went.{Went, BehindAnyRun, TurnWent}
-use Rattle.dc_script.proofs.Wents.{went_chain, went_at, went_none, went_both}
+use Rattle.dc_concentrator.specs.Went.{Went, BehindAnyRun, TurnWent}
+use Rattle.dc_concentrator.proofs.Wents.{went_chain, went_at, went_none, went_both}
 use Rattle.dc_poll.specs.Happening.{Happening, does, happened_turns}
 use Rattle.dc_poll.specs.Round.{Happens, Runs}
 use Rattle.dc_poll.proofs.Happenings.{turns_append}

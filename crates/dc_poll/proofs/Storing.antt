@@ -13,7 +13,7 @@ use Rattle.dc_poll.specs.Talking.{Talk, Talks, rests, stands_by as talk_stands_b
 use Rattle.dc_poll.specs.Round.{LineGoes, Rounds, AllSteps, IsStored, AreStored, EachFewer, IsCommitTurn, IsRoom, IsStoredAs, uncounted}
 use Rattle.dc_poll.specs.Keeping.{IsHearing}
 use Rattle.std.specs.Prelude.{OnOk}
-use Rattle.dc_raw.specs.Bus.{most_settles}
+use Rattle.dc_bus.specs.Halves.{most_settles}
 use Rattle.dc_poll.specs.Station.{IsSoundIn, IsSound, IsAfter, Next, part_of, talk_of, rounds_a_start, rounds_a_request, rounds_to_settle, rounds_in, rounds_of, stored_by}
 use Rattle.dc_poll.specs.declared.end.End.{End}
 use Rattle.dc_poll.specs.declared.end.End.TheVariants.{Refused}

@@ -1,6 +1,6 @@
 -- The ghost members of a bus, from those of its two traits.
-use Rattle.dc_raw.specs.declared.bus.HalfBus.{Ghosts as HalfGhosts}
-use Rattle.dc_raw.specs.declared.bus.QuietBus.{Ghosts as QuietGhosts}
+use Rattle.dc_bus.specs.declared.half.HalfBus.{Ghosts as HalfGhosts}
+use Rattle.dc_bus.specs.declared.half.QuietBus.{Ghosts as QuietGhosts}
 use Rattle.dc_poll.specs.Bus.{Bus}
 
 abbrev pub whole : {B : Type 0} → HalfGhosts B → QuietGhosts B → Bus B

@@ -4,7 +4,7 @@ use Rattle.dc_address.specs.declared.identity.Identity.{Identity}
 use Rattle.dc_change.specs.State.{State}
 use Rattle.dc_concentrator.specs.Core.{Core, present}
 use Rattle.dc_concentrator.specs.Images.{Machine}
-use Rattle.dc_script.specs.ImageRun.{IsOpenedOn}
+use Rattle.dc_concentrator.specs.OpenedOn.{IsOpenedOn}
 use Rattle.dc_disk.specs.declared.device.Disk.{Ghosts}
 use Rattle.dc_io.specs.Stream.{Puts}
 use Rattle.dc_poll.specs.Bus.{Bus}

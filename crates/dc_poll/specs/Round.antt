@@ -9,7 +9,7 @@ use Rattle.dc_concentrator.specs.declared.fault.CommitFault.{CommitFault}
 use Rattle.dc_concentrator.specs.Images.{Machine}
 use Rattle.dc_concentrator.specs.Transcript.{Turn, leads}
 use Rattle.dc_poll.specs.Bus.{Bus}
-use Rattle.dc_script.specs.Went.{BehindAnyRun, Went}
+use Rattle.dc_concentrator.specs.Went.{BehindAnyRun, Went}
 use Rattle.dc_poll.specs.Happening.{Told, was_read, has_failed, was_refused, Happening, does}
 use Rattle.dc_poll.specs.Happening.{tells, happened_on, happened_text, happened_turns, reads_in}
 use Rattle.dc_poll.specs.Happening.{failures_in, newest_serial, newest_parts}

@@ -5,8 +5,8 @@ ghost use Rattle.std.specs.List.{list_any};
 ghost use Rattle.dc_poll.specs.Clock.{ComparesClock, has_later, is_behind};
 
 use crate::timer::Timer;
+use dc_bus::QuietBus;
 use dc_change::Moment;
-use dc_raw::QuietBus;
 use dc_register::{House, Part};
 use std::alloc::Allocator;
 

@@ -3,7 +3,7 @@
 ghost use Rattle.std.specs.Prelude.{◌≡◌, ◌<◌, ◌≤◌, ◌-◌, ◌^◌, IfErr, IfOk, IsErrOf, OnErr, OnOk, []};
 ghost use Rattle.std.specs.Prelude.{MatchResult, length, map, min};
 ghost use Rattle.dc_io.specs.Failures.{HasRisen};
-ghost use Rattle.dc_script.specs.Fault.{IfOpen, IsOfImage};
+ghost use Rattle.dc_ending.specs.Fault.{IfOpen, IsOfImage};
 ghost use Rattle.dc_log.specs.Halves.{half_of};
 ghost use Rattle.dc_pending.specs.Images.{IsRefused, EachStands, StandsForOne};
 ghost use Rattle.dc_log.specs.Refusal.{TellsOfImage};
@@ -27,12 +27,12 @@ use crate::readout::read_on;
 use crate::station::Station;
 use crate::timer::Timer;
 use dc_address::Identity;
+use dc_bus::QuietBus;
 use dc_concentrator::{Concentrator, StartFault};
 use dc_disk::Disk;
+use dc_ending::ProgramFault;
 use dc_io::{IoFault, NoMemory, Sink};
-use dc_raw::QuietBus;
 use dc_register::House;
-use dc_script::ProgramFault;
 use std::alloc::Allocator;
 
 // There are eight lines.

@@ -22,7 +22,7 @@ ghost use Rattle.dc_poll.specs.declared.phase.Phase.{Phase};
 ghost use Rattle.dc_poll.specs.declared.phase.Phase.TheVariants.{Free};
 
 use crate::timer::Timer;
-use dc_raw::QuietBus;
+use dc_bus::QuietBus;
 
 /// A queue that is at its end went through all its meters, in passes: in the first each was started, in order, and in
 /// each later one those that failed in the one before it. There are no more passes than tries, so each was started once

@@ -11,10 +11,10 @@ ghost use Rattle.dc_poll.specs.Station.{IsSound, rounds_of};
 use crate::calls;
 use crate::station::Station;
 use crate::stepping::{hear, step};
+use dc_bus::QuietBus;
 use dc_change::Moment;
 use dc_concentrator::{CommitFault, Concentrator};
 use dc_disk::Disk;
-use dc_raw::QuietBus;
 use std::alloc::Allocator;
 
 // Maximum number of pending telegrams.

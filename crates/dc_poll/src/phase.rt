@@ -1,7 +1,7 @@
 //! The phase of a line's readout between two steps.
 
 use crate::end::End;
-use dc_gateway::AnswerBuf;
+use dc_bus::AnswerBuf;
 
 /// The phase of the readout of a line's current meter.
 #[derive(Clone, Copy, Debug, PartialEq, Eq)]

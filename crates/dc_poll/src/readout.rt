@@ -18,10 +18,10 @@ use crate::station::Station;
 use crate::telling::tell_all;
 use crate::timer::Timer;
 use crate::waiting::{is_done, may_sleep};
+use dc_bus::QuietBus;
 use dc_concentrator::{CommitFault, Concentrator};
 use dc_disk::Disk;
 use dc_io::{IoFault, Sink};
-use dc_raw::QuietBus;
 use std::alloc::Allocator;
 
 // More rounds than are ever needed: of as many meters as a queue has, each tried as often as a byte says.

@@ -3,7 +3,7 @@
 ghost use Rattle.std.specs.Prelude.{◌≡◌, ◌⊎◌, ◌<◌, ◌≤◌, ◌+◌, ◌-◌, ℕ, List, IfNone, IfSome, OnOk};
 ghost use Rattle.std.specs.Prelude.{IfErr, length, nat_lt, slice_get, true, false};
 ghost use Rattle.dc_concentrator.specs.Step.{longest_request};
-ghost use Rattle.dc_raw.specs.Bus.{most_waits};
+ghost use Rattle.dc_bus.specs.Halves.{most_waits};
 ghost use Rattle.dc_poll.specs.Queue.{most_asks};
 ghost use Rattle.dc_poll.specs.Station.{IsAfter, Listens, after_answer, ended, is_answered};
 ghost use Rattle.dc_poll.specs.Station.{lost_by, next_pass, put_off, stored_by, taken_of};
@@ -16,9 +16,9 @@ ghost use Rattle.dc_poll.specs.declared.phase.Request.TheVariants.{Quiet, Sent};
 use crate::end::{End, Refusal};
 use crate::phase::{Phase, Request};
 use dc_address::Identity;
+use dc_bus::QuietBus;
 use dc_concentrator::{CommitFault, HearFault, LineHeard, StartFault};
 use dc_frame::FrameBuf;
-use dc_raw::QuietBus;
 use std::mem;
 
 // No readout asks more often: three tries at a reset, a selection and each of 32 parts, and once more where nothing

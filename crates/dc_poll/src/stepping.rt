@@ -13,10 +13,10 @@ use crate::end::End;
 use crate::phase::{Phase, Request};
 use crate::station::{MOST_ASKS, Station};
 use dc_address::Identity;
+use dc_bus::QuietBus;
 use dc_change::Moment;
 use dc_concentrator::{Concentrator, HearFault, LineHeard};
 use dc_disk::Disk;
-use dc_raw::QuietBus;
 use dc_readout::Why;
 use std::alloc::Allocator;
 

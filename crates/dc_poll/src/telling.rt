@@ -17,10 +17,10 @@ use crate::newest::{newest_parts, newest_serial};
 use crate::outcome::Counts;
 use crate::phase::Phase;
 use crate::station::Station;
+use dc_bus::QuietBus;
 use dc_concentrator::Concentrator;
 use dc_disk::Disk;
 use dc_io::{IoFault, Sink};
-use dc_raw::QuietBus;
 use dc_register::House;
 use std::alloc::Allocator;
 

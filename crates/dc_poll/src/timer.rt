@@ -1,8 +1,8 @@
 //! The clock of a poll.
 
 use crate::station::Station;
+use dc_bus::QuietBus;
 use dc_change::Moment;
-use dc_raw::QuietBus;
 
 /// What tells the time of a poll, and lets time pass between two rounds.
 pub trait Timer<B: QuietBus + Drop> {

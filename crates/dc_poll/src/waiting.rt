@@ -7,7 +7,7 @@ ghost use Rattle.dc_poll.specs.Waiting.{may_sleep};
 
 use crate::phase::Phase;
 use crate::station::Station;
-use dc_raw::QuietBus;
+use dc_bus::QuietBus;
 
 /// Whether a line waits for its bus: a request is out, or a meter is to be begun and the bus isn't ready for that. A line
 /// that has nothing left waits for nothing.

@@ -3,7 +3,7 @@
 
 ghost use Rattle.dc_poll_progress.specs.Talked.{ReadoutsOfAPollEnd};
 
-use dc_raw::QuietBus;
+use dc_bus::QuietBus;
 
 /// Each readout of a poll ends in one whole reading, while the talk on its bus is served.
 ///

@@ -6,7 +6,5 @@ pub mod Echoes
 pub mod Pieces
 -- late bytes that are dropped until a gap
 pub mod Drops
--- waiting for answers
-pub mod Halves
 -- what a line receives in several steps
 pub mod Steps

@@ -8,7 +8,7 @@ use Rattle.std.proofs.lemmas.List.{length-append, take_all, take-append-le, leng
 use Rattle.dc_frame.specs.declared.needs.Need.{Need}
 use Rattle.dc_frame.specs.declared.needs.Need.TheVariants.{More, Whole, Bad}
 use Rattle.dc_frame.specs.Need.{need_of, up_to}
-use Rattle.dc_gateway.specs.Blocks.{most_answer}
+use Rattle.dc_bus.specs.Limits.{most_answer}
 use Rattle.dc_raw.specs.Wire.{Sound, AreHeard, piece, nothing, gap, silence, pieces, bytes_in}
 use Rattle.dc_raw.specs.Heard.{Answers, Ends, Hearing, HasByte, Lasts, Waits, answer_of, and_bytes, heard_of, front_by, is_over, missing_of, missing_by, is_whole, is_silent, has_gap, still, still_none}
 

@@ -7,7 +7,7 @@ use Rattle.std.proofs.lemmas.List.{length-append, take_all, take-append-le, leng
 use Rattle.dc_frame.specs.declared.needs.Need.{Need}
 use Rattle.dc_frame.specs.declared.needs.Need.TheVariants.{More, Whole, Bad}
 use Rattle.dc_frame.specs.Need.{need_of}
-use Rattle.dc_gateway.specs.Blocks.{most_answer}
+use Rattle.dc_bus.specs.Limits.{most_answer}
 use Rattle.dc_raw.specs.declared.line.Line.{Line}
 use Rattle.dc_raw.specs.declared.wire.Wire.{Ghosts as WireGhosts}
 use Rattle.dc_raw.specs.Wire.{Sound, AreHeard, bytes_in, bytes_of, piece, nothing, gap, silence, pieces}

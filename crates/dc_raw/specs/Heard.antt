@@ -6,7 +6,7 @@ use Rattle.std.specs.List.{All, concat, starts_with}
 use Rattle.dc_frame.specs.declared.needs.Need.{Need}
 use Rattle.dc_frame.specs.declared.needs.Need.TheVariants.{More, Whole, Bad}
 use Rattle.dc_frame.specs.Need.{need_of}
-use Rattle.dc_gateway.specs.Blocks.{most_answer}
+use Rattle.dc_bus.specs.Limits.{most_answer}
 use Rattle.dc_raw.specs.Wire.{Sound, piece, nothing, gap, silence, pieces, bytes_in, AreHeard}
 
 -- ---- the bytes

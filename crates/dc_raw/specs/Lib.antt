@@ -6,11 +6,7 @@ pub mod Wire
 pub mod Heard
 -- a line over a wire
 pub mod Line
--- a bus in two halves
-pub mod Bus
--- a whole bus over its two halves
-pub mod Both
--- a link of the block protocol as a bus in two halves
-pub mod Link
 -- a wire in memory, as contracts see it
 pub mod Tape
+-- how long a wire is looked at
+pub mod Looks

@@ -2,7 +2,7 @@
 use Rattle.std.specs.Prelude.{◌≡◌, ℕ, ◌+◌, ◌-◌, ◌^◌, min, Bool, true, false, List, [], Option, Some}
 use Rattle.std.specs.Prelude.{None, if◌then◌else◌}
 use Rattle.dc_io.specs.Failures.{HasRisen}
-use Rattle.dc_raw.specs.Bus.{most_looks}
+use Rattle.dc_raw.specs.Looks.{most_looks}
 use Rattle.dc_raw.specs.Heard.{Hearing, Answers, Heard, Passes, Puts, Releases, Waits}
 use Rattle.dc_raw.specs.Wire.{Sound, AreHeard}
 use Rattle.dc_raw.specs.declared.line.Line.{Line}

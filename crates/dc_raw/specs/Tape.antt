@@ -1,6 +1,6 @@
 -- A wire in memory, as contracts see it: the bytes that are still to come, and in which steps (this product).
 use Rattle.std.specs.Prelude.{◌≡◌, ℕ, Bool, not, ◌==◌, List, ◌++◌, length}
-use Rattle.dc_raw.specs.Bus.{waits_of}
+use Rattle.dc_raw.specs.Looks.{waits_of}
 use Rattle.dc_raw.specs.Wire.{Sound, bytes_of}
 use Rattle.dc_raw.specs.declared.tape.Event.{Event}
 

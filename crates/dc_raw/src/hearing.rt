@@ -1,11 +1,11 @@
 //! An answer that is being received.
 
 ghost use Rattle.std.specs.Prelude.{◌≡◌, ◌+◌, ◌<◌, ◌≤◌, ◌++◌, ◌==◌, [], length, not};
-ghost use Rattle.dc_gateway.specs.Blocks.{most_answer};
+ghost use Rattle.dc_bus.specs.Limits.{most_answer};
 ghost use Rattle.dc_raw.specs.Heard.{answer_of, heard_of, missing_of, wanted_of};
 
+use dc_bus::{AnswerBuf, MOST_ANSWER};
 use dc_frame::{FrameBuf, Need, need};
-use dc_gateway::{AnswerBuf, MOST_ANSWER};
 use std::marker::Model;
 use std::mem;
 

@@ -3,20 +3,15 @@
 //!
 //! A [`Wire`] sends bytes and returns what has arrived so far; no call waits. A [`Line`] is a wire
 //! until it fails. Its answer is the first whole frame, or all bytes before the silence, at most
-//! 300 ([`AnswerBuf`](dc_gateway::AnswerBuf)), without the echo of the request that some converters
+//! 300 ([`AnswerBuf`](dc_bus::AnswerBuf)), without the echo of the request that some converters
 //! send. A request before which late bytes were dropped goes out after a gap, since the bytes that
-//! follow may be the rest of the same answer. A line is a [`HalfBus`], a bus on which a request is
-//! sent first, and its answer is taken once it is complete; so one thread can serve several. A
-//! [`BlockLink`] is a half bus over the block protocol.
+//! follow may be the rest of the same answer. A line is a [`HalfBus`](dc_bus::HalfBus), so one thread
+//! can serve several.
 //!
 //! [`PollWire`] is the wire over a descriptor, of a TCP stream or a terminal; its bytes aren't
-//! known to contracts. [`Tape`] is a wire in memory. [`Both`] makes one bus of the halves, on which
-//! a search runs.
+//! known to contracts. [`Tape`] is a wire in memory.
 #![tactic(auto)]
 
-mod block_link;
-mod both;
-mod bus;
 mod hearing;
 mod laws;
 mod line;
@@ -25,9 +20,6 @@ mod poll_wire;
 mod tape;
 mod wire;
 
-pub use block_link::BlockLink;
-pub use both::{Both, Pause};
-pub use bus::{HalfBus, QuietBus};
 pub use hearing::Hearing;
 pub use laws::{what_a_line_gives_is_heard, what_is_heard_depends_on_the_bytes_alone};
 pub use line::Line;

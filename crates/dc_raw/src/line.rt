@@ -3,12 +3,11 @@
 ghost use Rattle.std.specs.Prelude.{◌≡◌, ◌≤◌, ◌<◌, [], None, Some, true, false, IfSome, IfNone};
 ghost use Rattle.dc_raw.specs.Line.{LineGives, LineSends, LineWaits, left_of};
 
-use crate::bus::HalfBus;
 use crate::hearing::Hearing;
 use crate::listening::{hear, release, send};
 use crate::wire::Wire;
+use dc_bus::{AnswerBuf, HalfBus};
 use dc_frame::FrameBuf;
-use dc_gateway::AnswerBuf;
 
 /// A line over a wire, and whether it is lost.
 #[derive(Drop)]

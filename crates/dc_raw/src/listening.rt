@@ -6,8 +6,8 @@ ghost use Rattle.dc_raw.specs.Heard.{Answers, Passes, Puts, Releases, Waits};
 
 use crate::hearing::Hearing;
 use crate::wire::{Came, Wire};
+use dc_bus::{AnswerBuf, MOST_ANSWER};
 use dc_frame::FrameBuf;
-use dc_gateway::{AnswerBuf, MOST_ANSWER};
 use dc_io::IoFault;
 
 // Maximum number of pieces that are dropped at once before a request goes out without a gap.

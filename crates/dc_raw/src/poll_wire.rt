@@ -3,7 +3,7 @@
 ghost use Rattle.std.specs.Prelude.{◌≡◌, ◌≤◌, ◌<◌, length, take, IfOk, OnOk, OnErr};
 ghost use Rattle.std.specs.Io.KnownBytes.{Appends, Consumes};
 ghost use Rattle.dc_io.specs.Failures.{HasRisen};
-ghost use Rattle.dc_raw.specs.Bus.{waits_of};
+ghost use Rattle.dc_raw.specs.Looks.{waits_of};
 ghost use Rattle.dc_raw.specs.Wire.{FitsRoom, Wanes, bytes_of, sound_of};
 
 use crate::wire::{Came, Wire};
@@ -160,7 +160,7 @@ impl<S: Read + Write + AsRawFd + Drop, C: Clock + Drop> PollWire<S, C> {
 
 impl<S: Read + Write + AsRawFd + Drop, C: Clock + Drop> Wire for PollWire<S, C> {
     ghost use Rattle.std.proofs.Math.Nat.{min-le_right};
-    ghost use Rattle.dc_raw.specs.Bus.{most_looks, waits_of};
+    ghost use Rattle.dc_raw.specs.Looks.{most_looks, waits_of};
 
     ghost failures = { λ wire. wire.failures };
 

@@ -2,7 +2,7 @@
 
 ghost use Rattle.std.specs.Prelude.{◌≡◌, ◌≤◌, ◌<◌, length};
 ghost use Rattle.dc_io.specs.Failures.{HasRisen};
-ghost use Rattle.dc_raw.specs.Bus.{most_looks};
+ghost use Rattle.dc_raw.specs.Looks.{most_looks};
 ghost use Rattle.dc_raw.specs.Tape.{TapeHears, tape_waits};
 ghost use Rattle.dc_raw.specs.Wire.{FitsRoom, Wanes, sound_of};
 
@@ -37,7 +37,7 @@ pub struct Tape<'a> {
 
 impl<'a> Model for Tape<'a> {
     ghost use Rattle.std.specs.Prelude.{◌≤◌, length};
-    ghost use Rattle.dc_raw.specs.Bus.{most_looks};
+    ghost use Rattle.dc_raw.specs.Looks.{most_looks};
     ghost use Rattle.dc_raw.specs.Tape.{Taped};
 
     ghost Value = { Taped };
@@ -110,7 +110,7 @@ impl<'a> Tape<'a> {
 impl<'a> Wire for Tape<'a> {
     ghost use Rattle.std.specs.Prelude.{length};
     ghost use Rattle.std.proofs.Math.Nat.{min-le_right};
-    ghost use Rattle.dc_raw.specs.Bus.{most_looks};
+    ghost use Rattle.dc_raw.specs.Looks.{most_looks};
     ghost use Rattle.dc_raw.specs.Tape.{TapeDrops, TapeHears, TapeSends, tape_waits};
 
     ghost failures = { λ tape. tape.failures };

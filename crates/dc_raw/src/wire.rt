@@ -2,7 +2,7 @@
 
 ghost use Rattle.std.specs.Prelude.{◌≡◌, ℕ, ◌≤◌, ◌<◌, Bool, List, length, IfOk, OnOk, OnErr};
 ghost use Rattle.dc_io.specs.Failures.{HasRisen};
-ghost use Rattle.dc_raw.specs.Bus.{most_looks};
+ghost use Rattle.dc_raw.specs.Looks.{most_looks};
 ghost use Rattle.dc_raw.specs.Wire.{FitsRoom, Sound, Wanes, sound_of};
 
 use dc_io::IoFault;

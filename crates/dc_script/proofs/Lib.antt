@@ -2,33 +2,21 @@
 pub mod Lines
 -- lines of a script, done one after the other
 pub mod LineRuns
--- no date is spelled as the word for the register
-pub mod Reports
 -- a line of a script asks for one thing
 pub mod Scripts
 -- the turns of a run are one life
 pub mod Lives
--- turns that were run, one after the other
-pub mod Wents
 -- what happens in a poll, one thing after the other
 pub mod Ways
--- single events, by the calls that they are
-pub mod Tolds
 -- what goes over the buses, one line after the other
 pub mod Traffics
 -- what ends a script, by what a put gave
 pub mod Halts
--- two pieces of what a search found
-pub mod Founds
 -- a search, by the calls that it makes
 pub mod Searches
 -- lines of a script up to a search that found no memory
 pub mod Starvings
--- a prefix of one piece of a text is one of the text
-mod Prefixes
 -- a line of `fold` is read as one thing
 pub mod Readings
 -- the lines of `fold`, answered one after the other
 pub mod Steps
--- the characters escaped so far, and one more
-mod Escapes

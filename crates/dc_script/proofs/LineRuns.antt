@@ -13,16 +13,16 @@ use Rattle.dc_script.specs.Halt.{OnNoMemory, OnWrite}
 use Rattle.dc_script.specs.declared.halt.Halt.{Halt}
 use Rattle.dc_script.specs.declared.halt.Halt.TheVariants.{Write, NoMemory}
 use Rattle.dc_script.specs.Link.{Link, LineLink, HasBus, line_in, port_in, with_link}
-use Rattle.dc_gateway.specs.Bus.{Exchange}
+use Rattle.dc_bus.specs.Bus.{Exchange}
 use Rattle.dc_script.specs.Poll.{Phase, Happening, IsEnd, to_start, happened_exchanges, happened_turns, happened_text}
 use Rattle.dc_script.specs.Way.{Way}
 use Rattle.dc_script.specs.Script.{AskFor, FailsAt, ScriptCut, LinesRan, LineRan, LineCut, Deed, Does, DoesPart, IsOneTurn, IsTurnOf, AreDone, deeds_turns, deeds_text, links_after, traffic_of, moment_behind, moment_after}
 use Rattle.dc_script.specs.ScriptLine.{LineSeen, poll, IsLineOf}
 use Rattle.dc_script.specs.Starved.{LineStarved}
 use Rattle.dc_script.specs.Traffic.{Traffic}
-use Rattle.dc_script.specs.Went.{Went, TurnWent}
+use Rattle.dc_concentrator.specs.Went.{Went, TurnWent}
 use Rattle.dc_script.proofs.Traffics.{traffic_push}
-use Rattle.dc_script.proofs.Wents.{went_both, went_chain, went_at}
+use Rattle.dc_concentrator.proofs.Wents.{went_both, went_chain, went_at}
 
 -- ---- one line more
 

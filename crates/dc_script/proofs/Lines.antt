@@ -3,7 +3,7 @@ use Rattle.std.proofs.Common.{◌≡◌, ◌<◌, ◌⊎◌, ℕ, zero, suc, Boo
 use Rattle.std.proofs.lemmas.List.{set-get_or}
 use Rattle.dc_script.specs.Link.{AreAbsent, HasBus, LineLink, Link, absent, line_in, line_of, link_by, link_in, links_of, unlinked, with_link}
 use Rattle.dc_script.specs.Slots.{IsKept}
-use Rattle.dc_script.specs.declared.script_bus.Slot.{Slot}
+use Rattle.dc_script.specs.declared.slot.Slot.{Slot}
 
 -- ---- links
 

@@ -9,7 +9,7 @@ use Rattle.dc_concentrator.specs.Run.{DidAll}
 use Rattle.dc_concentrator.specs.Step.{next}
 use Rattle.dc_concentrator.specs.Transcript.{Turn, leads}
 use Rattle.dc_script.specs.ImageRun.{IsOneLife}
-use Rattle.dc_script.specs.Went.{Went}
+use Rattle.dc_concentrator.specs.Went.{Went}
 
 module _ {D : Type 0} (g : Ghosts D) where
   -- turns that were done may be split anywhere

@@ -13,7 +13,8 @@ use Rattle.dc_change.specs.Words.{IsWord, is_inside}
 use Rattle.dc_change.proofs.Decimals.{decimal_is_word}
 use Rattle.dc_change.proofs.LineSpellings.{one_word}
 use Rattle.dc_io.specs.Hex.{bytes_of}
-use Rattle.dc_script.specs.ScriptLine.{LineSeen, nothing, at, start, ask, hear, commit, office, poll, search, IsLineOf, Spells, SpellsSearch, greatest_budget, greatest_line}
+use Rattle.dc_script.specs.ScriptLine.{LineSeen, nothing, at, start, ask, hear, commit, office, poll, search, IsLineOf, Spells, SpellsSearch, greatest_line}
+use Rattle.dc_search.specs.Found.{greatest_budget}
 
 pub line_is_word : (line : ℕ) → line ≤ greatest_line → IsWord (decimal line)
 line_is_word line fits = decimal_is_word line (omega arith)

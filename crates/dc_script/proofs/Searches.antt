@@ -10,7 +10,7 @@ use Rattle.dc_concentrator.specs.Text.{answer_text}
 use Rattle.dc_concentrator.specs.Transcript.{Turn, leads, IsChain}
 use Rattle.dc_concentrator.specs.declared.fault.CommitFault.{CommitFault}
 use Rattle.dc_concentrator.specs.declared.fault.StartFault.TheVariants.{Busy}
-use Rattle.dc_gateway.specs.Bus.{AreAskedBy, Exchange}
+use Rattle.dc_bus.specs.Bus.{AreAskedBy, Exchange}
 use Rattle.dc_search.specs.State.{SearchState, new_search}
 use Rattle.dc_io.specs.declared.stream.IoFault.{IoFault}
 use Rattle.dc_disk.specs.declared.device.Disk.{Ghosts}
@@ -18,13 +18,14 @@ use Rattle.dc_script.specs.Halt.{OnNoMemory, OnWrite, halted_by}
 use Rattle.dc_script.specs.Link.{HasBus, LineLink, Link, line_in, link_by, link_in, loss_text, lost, port_in, with_link}
 use Rattle.dc_script.specs.Script.{LineRan, LineCut}
 use Rattle.dc_script.specs.ScriptLine.{search}
-use Rattle.dc_script.specs.Search.{Comes, IsLeft, IsOver, Searches, Talked, late_by, late_text, looked_turns, refused_turns, search_text}
+use Rattle.dc_script.specs.Search.{Comes, IsLeft, IsOver, Searches, Talked, late_by, late_text, looked_turns, refused_turns}
+use Rattle.dc_search.specs.Found.{search_text}
 use Rattle.dc_script.specs.Starved.{LineStarved}
-use Rattle.dc_script.specs.Went.{TurnWent, TurnsWent, Went}
+use Rattle.dc_concentrator.specs.Went.{TurnWent, TurnsWent, Went}
 use Rattle.dc_script.specs.declared.halt.Halt.{Halt}
 use Rattle.dc_script.specs.declared.port.Port.{Port}
 use Rattle.dc_script.specs.declared.halt.Halt.TheVariants.{Write, NoMemory}
-use Rattle.dc_script.proofs.Wents.{went_both, went_chain, went_at}
+use Rattle.dc_concentrator.proofs.Wents.{went_both, went_chain, went_at}
 
 -- ---- what a call comes to, with its turns
 

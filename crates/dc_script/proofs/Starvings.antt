@@ -6,13 +6,13 @@ use Rattle.dc_concentrator.specs.Core.{opened}
 use Rattle.dc_concentrator.specs.Images.{Machine, IsAt}
 use Rattle.dc_concentrator.specs.Transcript.{Turn, leads, IsChain}
 use Rattle.dc_script.specs.Link.{LineLink}
-use Rattle.dc_gateway.specs.Bus.{Exchange}
+use Rattle.dc_bus.specs.Bus.{Exchange}
 use Rattle.dc_script.specs.Script.{deeds_turns, deeds_text, traffic_of}
 use Rattle.dc_script.specs.ScriptLine.{LineSeen, IsLineOf}
 use Rattle.dc_script.specs.Starved.{LineStarved, ScriptStarved, StarvesAt}
 use Rattle.dc_script.specs.Traffic.{Traffic}
 use Rattle.dc_script.proofs.LineRuns.{SoFar}
-use Rattle.dc_script.proofs.Wents.{went_both}
+use Rattle.dc_concentrator.proofs.Wents.{went_both}
 
 module _ {D : Type 0} (g : Ghosts D) (origin : D) where
   -- the next line is that search

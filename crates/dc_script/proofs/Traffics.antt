@@ -2,13 +2,13 @@
 use Rattle.std.proofs.Common.{◌≡◌, ◌⊎◌, ◌<◌, ℕ, zero, suc, Bool, true, Result, Ok, Err, Option, None, Some, List, [], ◌∷◌, ◌++◌, length, get_or, set, refl, ap, sym, subst, ◌∙◌, arith, ⊎_elim}
 use Rattle.std.specs.Prelude.{IfOk}
 use Rattle.std.proofs.lemmas.List.{get_or-set_same, get_or-set_other}
-use Rattle.dc_gateway.specs.Bus.{AreExchanged, Exchange}
+use Rattle.dc_bus.specs.Bus.{AreExchanged, Exchange}
 use Rattle.dc_script.specs.Link.{LineLink}
 use Rattle.dc_script.specs.Poll.{IsPolled}
 use Rattle.dc_script.specs.Script.{Deed, AreDone, traffic_of, moment_behind}
 use Rattle.dc_script.specs.ScriptLine.{LineSeen}
 use Rattle.dc_script.specs.Traffic.{AreCarried, Carries, CarriesAll, GoesOver, IsCarried, OnNamed, PollsOver, SearchesOver, Traffic}
-use Rattle.dc_script.specs.declared.script_bus.Slot.{Slot}
+use Rattle.dc_script.specs.declared.slot.Slot.{Slot}
 use Rattle.dc_script.proofs.Lines.{get_any}
 
 -- ---- one line more

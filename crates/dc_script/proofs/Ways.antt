@@ -17,13 +17,13 @@ use Rattle.dc_concentrator.specs.declared.fault.HearFault.TheVariants.{NoLine, I
 use Rattle.dc_concentrator.specs.declared.line_heard.LineHeard.{LineHeard}
 use Rattle.dc_script.specs.Link.{Link, linked, lost, link_by, loss_line, loss_text, IsHeardOver}
 use Rattle.dc_script.specs.Poll.{Happening, does, talks, loses, Due, to_start, to_send, to_hear, Phase, IsDueEvent, IsWay, behind, behind_turn, turns_of, exchanges_of, told_text, happening_text, happened_turns, happened_exchanges, happened_text, rounds_in, count_of, IsEnd, behind_first_heard, is_over}
-use Rattle.dc_gateway.specs.Blocks.{most_answer}
-use Rattle.dc_gateway.specs.Bus.{AreExchanged, Exchange}
-use Rattle.dc_gateway.proofs.Exchanges.{exchanged-both, exchanged-one}
+use Rattle.dc_bus.specs.Limits.{most_answer}
+use Rattle.dc_bus.specs.Bus.{AreExchanged, Exchange}
+use Rattle.dc_bus.proofs.Exchanges.{exchanged-both, exchanged-one}
 use Rattle.dc_script.specs.Way.{Way, IsRound, FailsInLast}
-use Rattle.dc_script.specs.Went.{Went, TurnWent}
+use Rattle.dc_concentrator.specs.Went.{Went, TurnWent}
 use Rattle.dc_script.specs.declared.port.Port.{Port}
-use Rattle.dc_script.proofs.Wents.{went_both, went_chain, went_at}
+use Rattle.dc_concentrator.proofs.Wents.{went_both, went_chain, went_at}
 
 way_append : (port : Port) (moment : ℕ) (meter : Identity) (phase mid last : Phase) (one more : List Happening) → IsWay port moment meter phase one mid → IsWay port moment meter mid more last → IsWay port moment meter phase (one ++ more) last
 way_append port moment meter phase mid last [] more front back = subst (λ (p : Phase). IsWay port moment meter p more last) front back

@@ -9,24 +9,10 @@ use Rattle.dc_concentrator.specs.Transcript.{Turn}
 use Rattle.dc_io.specs.Lines.{lines_of}
 use Rattle.dc_disk.specs.declared.device.Disk.{Ghosts}
 use Rattle.dc_disk.specs.Runs.{LeavesOnly, WasLeft}
+use Rattle.dc_concentrator.specs.OpenedOn.{IsOpenedOn}
 use Rattle.dc_script.specs.Link.{LineLink}
 use Rattle.dc_script.specs.Script.{ScriptRan, ScriptCut}
 use Rattle.dc_script.specs.Traffic.{Traffic}
-
--- The concentrator that was opened on the disk has the state that the image reads as. A crash
--- within the opening leaves an image that stands for a state that one of the disk's images stood
--- for. If the disk is what was left of an earlier life that crashed, the state is what is kept of
--- that life.
-pub record IsOpenedOn {D : Type 0} (g : Ghosts D) (disk : D) (state : State)
-    (first : Machine D) : Type 0 where
-  pub budget_is : first.house.budget ≡ budget_of (half_of g disk)
-  pub count : g.sectors first.store.disk ≡ g.sectors disk
-  pub at : IsOpened g state first
-  pub reads_as : g.keeps first.store.disk → Reads (half_of g disk) state (g.reads disk)
-  pub leaves : g.keeps first.store.disk
-      → LeavesOnly g disk first.store.disk (StandsForOne (half_of g disk) (g.choices disk))
-  pub kept : (was : State) (done more : List Turn) → WasStopped g was done more disk
-      → g.keeps first.store.disk → IsKept was done more state
 
 -- A run from the disk to the disk: `left` is what the reader had left, where it says that, and `script` what the
 -- lines of the input did to the concentrator that was opened. The turns of the script are one life (law

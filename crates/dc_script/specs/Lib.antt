@@ -1,8 +1,4 @@
 -- the definitions that contracts cite
--- which faults are of reading, and how they are numbered and named
-pub mod Fault
--- theorems about the buses of a script
-pub mod Buses
 -- what ends a script early
 pub mod Halt
 -- what `run` does to an image
@@ -11,8 +7,6 @@ pub mod ImageRun
 pub mod Link
 -- the readout of a meter over a bus line
 pub mod Poll
--- a table of what an image holds, and its word
-pub mod Report
 -- what a script does, line after line
 pub mod Script
 -- what a line of a script asks for
@@ -27,15 +21,7 @@ pub mod Starved
 pub mod Traffic
 -- what is known of a poll between two of its calls
 pub mod Way
--- turns of a concentrator that were run
-pub mod Went
 -- what `fold` writes for an input
 pub mod Fold
 -- the register, as text
 pub mod Register
--- exit status and line of an ending
-pub mod Ending
--- a text on one line
-pub mod Escape
--- the ending of a run, by its engine's result
-pub mod Outcome

@@ -3,7 +3,7 @@ use Rattle.std.specs.Prelude.{◌≡◌, ℕ, zero, suc, Bool, true, false, Opti
 use Rattle.std.specs.Prelude.{◌∷◌, ◌++◌, codes, get_or, map, set, if◌then◌else◌}
 use Rattle.dc_io.specs.Words.{number_word}
 use Rattle.dc_script.specs.declared.port.Port.{Port}
-use Rattle.dc_script.specs.declared.script_bus.Slot.{Slot}
+use Rattle.dc_script.specs.declared.slot.Slot.{Slot}
 
 -- No bus; a bus that answers; or a lost bus, which is silent.
 pub data Link : Type 0 where

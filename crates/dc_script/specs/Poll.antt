@@ -11,8 +11,8 @@ use Rattle.dc_concentrator.specs.declared.fault.HearFault.{HearFault}
 use Rattle.dc_concentrator.specs.declared.fault.HearFault.TheVariants.{PendingFull}
 use Rattle.dc_concentrator.specs.declared.line_heard.LineHeard.{LineHeard}
 use Rattle.dc_concentrator.specs.declared.line_heard.LineHeard.TheVariants.{Again, Ready, Accepted, Failed}
-use Rattle.dc_gateway.specs.Blocks.{most_answer}
-use Rattle.dc_gateway.specs.Bus.{AreExchanged, Exchange}
+use Rattle.dc_bus.specs.Limits.{most_answer}
+use Rattle.dc_bus.specs.Bus.{AreExchanged, Exchange}
 use Rattle.dc_script.specs.Link.{Link, linked, lost, IsHeardOver, loss_line}
 use Rattle.dc_script.specs.declared.port.Port.{Port}
 

@@ -6,14 +6,14 @@ use Rattle.dc_concentrator.specs.Event.{Event, Answer, starts, asks, hears, comm
 use Rattle.dc_concentrator.specs.Images.{Machine}
 use Rattle.dc_concentrator.specs.Text.{answer_text}
 use Rattle.dc_concentrator.specs.Transcript.{Turn}
-use Rattle.dc_gateway.specs.Bus.{Exchange}
+use Rattle.dc_bus.specs.Bus.{Exchange}
 use Rattle.dc_io.specs.Words.{number_word}
 use Rattle.dc_disk.specs.declared.device.Disk.{Ghosts}
 use Rattle.dc_script.specs.Link.{LineLink, HasBus, Through, link_in, port_in}
 use Rattle.dc_script.specs.Poll.{Polls, PollsPart}
 use Rattle.dc_script.specs.Search.{SearchesOn, SearchesPart}
 use Rattle.dc_script.specs.Traffic.{Traffic}
-use Rattle.dc_script.specs.Went.{Went}
+use Rattle.dc_concentrator.specs.Went.{Went}
 use Rattle.dc_script.specs.ScriptLine.{LineSeen, nothing, at, start, ask, hear, commit, office}
 use Rattle.dc_script.specs.ScriptLine.{poll, search, IsLineOf}
 

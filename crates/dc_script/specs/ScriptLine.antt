@@ -8,6 +8,7 @@ use Rattle.dc_change.specs.Line.{IsOfBytes}
 use Rattle.dc_change.specs.Valid.{last_moment}
 use Rattle.dc_io.specs.Hex.{bytes_of}
 use Rattle.dc_io.specs.Lines.{longest_input_line}
+use Rattle.dc_search.specs.Found.{greatest_budget}
 use Rattle.dc_script.specs.declared.script_line.ScriptLine.{ScriptLine}
 use Rattle.dc_script.specs.declared.script_line.ScriptLine.TheVariants.{Nothing, At, Start, Ask}
 use Rattle.dc_script.specs.declared.script_line.ScriptLine.TheVariants.{Hear, Commit, Office, Poll}
@@ -48,12 +49,9 @@ IsPlain (office line) = Unit {0}
 IsPlain (poll line meter) = Unit {0}
 IsPlain (search budget line) = ⊥
 
--- the greatest numbers of a bus line and of a budget
+-- the greatest number of a bus line
 abbrev pub greatest_line : ℕ
 greatest_line = 255
-
-abbrev pub greatest_budget : ℕ
-greatest_budget = 4294967295
 
 -- its numbers are within their bounds
 abbrev pub HasBounds : LineSeen → Type 0

@@ -11,7 +11,7 @@ use Rattle.dc_concentrator.specs.Text.{answer_text}
 use Rattle.dc_concentrator.specs.Transcript.{Turn}
 use Rattle.dc_concentrator.specs.declared.fault.CommitFault.{CommitFault}
 use Rattle.dc_concentrator.specs.declared.fault.StartFault.TheVariants.{Busy}
-use Rattle.dc_gateway.specs.Bus.{AreAskedBy, Exchange, IsSearched}
+use Rattle.dc_bus.specs.Bus.{AreAskedBy, Exchange, IsSearched}
 use Rattle.dc_search.specs.State.{SearchState, is_idle, new_search, step_of}
 use Rattle.dc_search.specs.declared.step.Step.{Step}
 use Rattle.dc_search.specs.declared.step.Step.TheVariants.{Select, Request, Done, Budget}
@@ -21,35 +21,7 @@ use Rattle.dc_script.specs.declared.halt.Halt.TheVariants.{Write, NoMemory}
 use Rattle.dc_script.specs.Link.{Link, absent, linked, lost, loss_text}
 use Rattle.dc_script.specs.declared.port.Port.{Port}
 
--- ---- its text
-
-abbrev pub found_line : Identity → List ℕ
-found_line meter = codes "FOUND " ++ text_of meter ++ codes "\n"
-
--- a number that more than one meter has, in eight digits
-abbrev pub shared_line : ℕ → List ℕ
-shared_line number = codes "SHARED " ++ map decimal_code (decimal_digits 8 number) ++ codes "\n"
-
--- a selection was due, and the budget was spent
-abbrev pub budget_line : Step → List ℕ
-budget_line (Select mask) = []
-budget_line Request = []
-budget_line Done = []
-budget_line Budget = codes "BUDGET\n"
-
-abbrev pub selections_line : ℕ → List ℕ
-selections_line count = codes "SELECTIONS" ++ number_word count ++ codes "\n"
-
-abbrev pub search_text : SearchState → List ℕ
-search_text search = flat_map found_line search.found ++ (flat_map shared_line search.shared
-    ++ (budget_line (step_of search) ++ selections_line search.selections))
-
--- the text of a search that follows another of this many selections, which are counted too
-abbrev pub search_text_after : ℕ → SearchState → List ℕ
-search_text_after before search =
-    flat_map found_line search.found
-    ++ (flat_map shared_line search.shared
-    ++ (budget_line (step_of search) ++ selections_line (before + search.selections)))
+-- ---- its late answers
 
 -- the number of late answers during the search, if any
 abbrev pub late_text : Port → ℕ → List ℕ

@@ -5,14 +5,16 @@ use Rattle.dc_change.specs.State.{State}
 use Rattle.dc_concentrator.specs.Images.{Machine}
 use Rattle.dc_concentrator.specs.Transcript.{Turn}
 use Rattle.dc_script.specs.ImageRun.{ImageWent}
-use Rattle.dc_script.specs.Link.{LineLink, Through}
+use Rattle.dc_ending.specs.declared.fault.ProgramFault.{ProgramFault}
+use Rattle.dc_ending.specs.declared.fault.ProgramFault.TheVariants.{NoMemory}
+use Rattle.dc_script.specs.Link.{AreAbsent, LineLink, Through}
 use Rattle.dc_script.specs.Script.{AskFor, AreDone, Deed, deeds_text, deeds_turns, links_after}
 use Rattle.dc_script.specs.Script.{traffic_of}
 use Rattle.dc_script.specs.ScriptLine.{LineSeen, search, IsLineOf}
-use Rattle.dc_gateway.specs.Bus.{Exchange}
+use Rattle.dc_bus.specs.Bus.{Exchange}
 use Rattle.dc_script.specs.Search.{Starves}
 use Rattle.dc_script.specs.Traffic.{Traffic}
-use Rattle.dc_script.specs.Went.{Went}
+use Rattle.dc_concentrator.specs.Went.{Went}
 
 -- the line is a search over a line with a bus, of which this was done
 pub record SearchStarves (asked : LineSeen) (links : List LineLink) (deed : Deed) : Type 0 where
@@ -65,3 +67,7 @@ ImageStarved g links left wrote carries =
     ImageWent g left (λ lines state first last.
     ScriptStarved g first.store.disk first.house.budget state [] links lines wrote carries first
     last)
+
+-- a search ran out of memory, on a line that has a bus
+abbrev pub IsOfSearch : List LineLink → ProgramFault → Type 0
+IsOfSearch links fault = (fault ≡ NoMemory) × ¬ (AreAbsent links)

@@ -1,15 +1,15 @@
 -- What goes over the buses of a script's lines (this product).
 use Rattle.std.specs.Prelude.{◌≡◌, ℕ, suc, Bool, true, false, Option, None, Some, List, [], ◌∷◌}
 use Rattle.std.specs.Prelude.{get_or}
-use Rattle.dc_gateway.specs.Asking.{Asks}
-use Rattle.dc_gateway.specs.Bus.{AreExchanged, Exchange}
-use Rattle.dc_gateway.specs.declared.gateway.Gateway.{Gateway}
+use Rattle.dc_blocks.specs.Asking.{Asks}
+use Rattle.dc_bus.specs.Bus.{AreExchanged, Exchange}
+use Rattle.dc_blocks.specs.declared.gateway.Gateway.{Gateway}
 use Rattle.dc_io.specs.declared.stream.Sink.{Ghosts as SinkGhosts}
 use Rattle.dc_io.specs.declared.stream.Source.{Ghosts as SourceGhosts}
 use Rattle.dc_script.specs.Poll.{IsPolled}
 use Rattle.dc_script.specs.ScriptLine.{LineSeen, nothing, at, start, ask, hear, commit, office}
 use Rattle.dc_script.specs.ScriptLine.{poll, search}
-use Rattle.dc_script.specs.declared.script_bus.Slot.{Slot}
+use Rattle.dc_script.specs.declared.slot.Slot.{Slot}
 
 -- what a line of a script asks for, and its exchanges over the bus of the bus line that it names
 pub record Traffic : Type 0 where

@@ -12,7 +12,7 @@ use Rattle.dc_script.specs.Poll.{Phase, Due, Happening, IsWay, happened_turns, h
 use Rattle.dc_script.specs.Poll.{rounds_in, to_ask, is_over}
 use Rattle.dc_script.specs.Link.{Link}
 use Rattle.dc_script.specs.declared.port.Port.{Port}
-use Rattle.dc_script.specs.Went.{Went}
+use Rattle.dc_concentrator.specs.Went.{Went}
 
 -- From this phase of a poll on that happened, and it ended so: its turns are run, and its text was written.
 pub record Way {D : Type 0} (g : Ghosts D) (origin : D) (budget : ℕ)

@@ -9,7 +9,7 @@ ghost use Rattle.dc_concentrator.specs.Transcript.{Turn};
 ghost use Rattle.dc_script.specs.Fold.{IsFolded, IsReadAs};
 ghost use Rattle.dc_script.specs.ImageRun.{IsOneLife};
 ghost use Rattle.dc_script.specs.ScriptLine.{LineSeen, IsLineOf};
-ghost use Rattle.dc_script.specs.Went.{Went};
+ghost use Rattle.dc_concentrator.specs.Went.{Went};
 
 use dc_change::a_line_has_one_change;
 use dc_disk::Disk;

@@ -4,26 +4,25 @@ ghost use Rattle.std.specs.Prelude.{◌≡◌, ◌≤◌, ℕ, true, false, [], 
 ghost use Rattle.dc_address.specs.declared.identity.Identity.{Identity as Meter};
 ghost use Rattle.dc_io.specs.Failures.{HasRisen};
 ghost use Rattle.dc_concentrator.specs.Step.{longest_request};
-ghost use Rattle.dc_gateway.specs.Blocks.{most_answer};
-ghost use Rattle.dc_gateway.specs.Bus.{AreExchanged};
+ghost use Rattle.dc_bus.specs.Limits.{most_answer};
+ghost use Rattle.dc_bus.specs.Bus.{AreExchanged};
 ghost use Rattle.dc_io.specs.Written.{PutsInto, Wrote};
 ghost use Rattle.dc_script.specs.Link.{Link, link_by, loss_text, IsHeardOver};
 ghost use Rattle.dc_script.specs.Poll.{IsEnd, IsPolled, to_start, to_ask, to_send, to_hear};
 ghost use Rattle.dc_script.specs.Poll.{to_commit, to_make_room, to_hear_again, behind_heard};
 ghost use Rattle.dc_script.specs.Poll.{happened_exchanges};
 ghost use Rattle.dc_script.specs.Way.{FailsInLast, IsRound, Way};
-ghost use Rattle.dc_script.specs.Went.{BehindAnyRun};
+ghost use Rattle.dc_concentrator.specs.Went.{BehindAnyRun};
 ghost use Rattle.dc_script.specs.declared.port.Port.{Port};
 
 use crate::port::{Port, put_lost};
-use crate::script_bus::ScriptBus;
 use crate::told::{told_ask, told_commit, told_hear, told_start};
 use dc_address::Identity;
+use dc_bus::{AnswerBuf, ScriptBus};
 use dc_change::Moment;
 use dc_concentrator::{Concentrator, HearFault, LineHeard};
 use dc_disk::Disk;
 use dc_frame::FrameBuf;
-use dc_gateway::AnswerBuf;
 use dc_io::{IoFault, Sink};
 use std::alloc::Allocator;
 

@@ -2,7 +2,7 @@
 
 ghost use Rattle.std.specs.Prelude.{◌≡◌};
 ghost use Rattle.dc_concentrator.specs.Event.{asks, commits, asked, committed};
-ghost use Rattle.dc_script.specs.Went.{BehindAnyRun, TurnWent};
+ghost use Rattle.dc_concentrator.specs.Went.{BehindAnyRun, TurnWent};
 
 use dc_concentrator::{CommitFault, Concentrator};
 use dc_disk::Disk;

@@ -11,19 +11,21 @@ ghost use Rattle.dc_io.specs.Stream.{IsAtEnd};
 ghost use Rattle.dc_io.specs.Written.{PutsInto};
 ghost use Rattle.dc_io.specs.Lines.{longest_input_line, most_input};
 ghost use Rattle.dc_disk.specs.Runs.{LeavesOnly};
-ghost use Rattle.dc_script.specs.Fault.{IfOpen, IsOfReading, IsOfSearch};
+ghost use Rattle.dc_ending.specs.Fault.{IfOpen, IsOfReading};
+ghost use Rattle.dc_script.specs.Starved.{IsOfSearch};
 ghost use Rattle.dc_script.specs.ImageRun.{ImageRan, ImageCut};
 ghost use Rattle.dc_script.specs.Link.{link_at_first, links_of, only_gateway};
 ghost use Rattle.dc_script.specs.Starved.{ImageStarved};
 ghost use Rattle.dc_script.specs.Traffic.{AreCarried, OverGateway, gateway_slot};
 
-use crate::fault::ProgramFault;
 use crate::halt::Halt;
 use crate::script::run_lines;
-use crate::script_bus::{ScriptBus, Slot};
+use crate::slot::Slot;
+use dc_blocks::Gateway;
+use dc_bus::{Bus, ScriptBus};
 use dc_concentrator::Concentrator;
 use dc_disk::Disk;
-use dc_gateway::{Bus, Gateway};
+use dc_ending::ProgramFault;
 use dc_io::{CHUNK, LONGEST, MOST, NoMemory, Sink, Source, read_input, room};
 use std::alloc::Allocator;
 
@@ -161,7 +163,7 @@ pub fn run_script_over<
 }
 
 /// Runs a script as [`run_script_over`] does, where only line 1 may have a bus: a gateway over this
-/// reader and writer of blocks (their form is dc_gateway's). They aren't returned.
+/// reader and writer of blocks (their form is dc_blocks's). They aren't returned.
 ///
 /// # Errors
 /// Those of [`run_script_over`].

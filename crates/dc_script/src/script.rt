@@ -17,15 +17,16 @@ ghost use Rattle.dc_script.specs.Script.{no_gateway};
 ghost use Rattle.dc_script.specs.ScriptLine.{IsPlain, poll as polls, search as searches, seen};
 ghost use Rattle.dc_script.specs.Starved.{LineStarved, ScriptStarved};
 ghost use Rattle.dc_script.specs.Traffic.{AreCarried, IsCarried, PollsOver, SearchesOver};
-ghost use Rattle.dc_script.specs.Went.{BehindAnyRun, TurnWent};
+ghost use Rattle.dc_concentrator.specs.Went.{BehindAnyRun, TurnWent};
 
 use crate::halt::{Halt, written};
 use crate::poll::poll;
 use crate::port::Port;
-use crate::script_bus::{ScriptBus, Slot};
 use crate::script_line::ScriptLine;
 use crate::searching::search_on;
+use crate::slot::Slot;
 use dc_address::Identity;
+use dc_bus::ScriptBus;
 use dc_change::Moment;
 use dc_concentrator::{Concentrator, Event, WriteFault};
 use dc_disk::Disk;

@@ -10,7 +10,8 @@ ghost use Rattle.dc_change.specs.Valid.{end_of_numbers};
 ghost use Rattle.dc_io.specs.Hex.{bytes_of};
 ghost use Rattle.dc_io.specs.Lines.{longest_input_line};
 ghost use Rattle.dc_script.specs.ScriptLine.{LineSeen, IsLineOf, at, start, ask, hear, poll};
-ghost use Rattle.dc_script.specs.ScriptLine.{search, seen, greatest_budget, greatest_line};
+ghost use Rattle.dc_script.specs.ScriptLine.{search, seen, greatest_line};
+ghost use Rattle.dc_search.specs.Found.{greatest_budget};
 
 use dc_address::Identity;
 use dc_change::{Moment, parse_number, split_word};

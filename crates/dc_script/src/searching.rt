@@ -1,23 +1,23 @@
 //! `SEARCH`: searches for meters over a bus line.
 
 ghost use Rattle.std.specs.Prelude.{◌≡◌, ◌++◌, true};
-ghost use Rattle.dc_gateway.specs.Bus.{AreExchanged};
+ghost use Rattle.dc_bus.specs.Bus.{AreExchanged};
 ghost use Rattle.dc_io.specs.Written.{PutsInto, Wrote};
 ghost use Rattle.dc_script.specs.Halt.{IsCounted};
 ghost use Rattle.dc_script.specs.Link.{gateway_port, link_by};
-ghost use Rattle.dc_script.specs.Search.{Comes, Talked, late_by, late_text, search_text};
-ghost use Rattle.dc_script.specs.Went.{BehindAnyRun, TurnsWent};
+ghost use Rattle.dc_script.specs.Search.{Comes, Talked, late_by, late_text};
+ghost use Rattle.dc_search.specs.Found.{search_text};
+ghost use Rattle.dc_concentrator.specs.Went.{BehindAnyRun, TurnsWent};
 
-use crate::found::{put_late, put_search};
 use crate::halt::{Halt, written};
+use crate::late::put_late;
 use crate::port::{GATEWAY, Port, put_loss};
 use crate::quiet::{quiet_ask, quiet_commit};
-use crate::script_bus::ScriptBus;
+use dc_bus::{ScriptBus, search_over};
 use dc_concentrator::{Concentrator, StartFault, put_committed, put_started};
 use dc_disk::Disk;
-use dc_gateway::search_over;
 use dc_io::{IoFault, NoMemory, Sink};
-use dc_search::Search;
+use dc_search::{Search, put_search};
 use std::alloc::Allocator;
 
 /// Searches for meters over a bus, with at most `budget` selections. The pending changes are

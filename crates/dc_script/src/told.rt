@@ -7,7 +7,7 @@ ghost use Rattle.dc_concentrator.specs.Event.{committed};
 ghost use Rattle.dc_concentrator.specs.Step.{longest_request};
 ghost use Rattle.dc_io.specs.Written.{PutsInto};
 ghost use Rattle.dc_script.specs.Poll.{told_text};
-ghost use Rattle.dc_script.specs.Went.{BehindAnyRun, TurnWent};
+ghost use Rattle.dc_concentrator.specs.Went.{BehindAnyRun, TurnWent};
 
 use dc_address::Identity;
 use dc_change::Moment;

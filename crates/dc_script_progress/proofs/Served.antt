@@ -10,8 +10,8 @@ use Rattle.dc_world.specs.Reply.{bytes_of}
 use Rattle.dc_world.specs.World.{heard_in}
 use Rattle.dc_world.proofs.Asked.{sent_frame}
 use Rattle.dc_world.proofs.Replies.{heard_as_sent}
-use Rattle.dc_gateway.specs.Blocks.{most_answer}
-use Rattle.dc_gateway.specs.Bus.{Exchange}
+use Rattle.dc_bus.specs.Limits.{most_answer}
+use Rattle.dc_bus.specs.Bus.{Exchange}
 use Rattle.dc_change.specs.State.{MeterRow}
 use Rattle.dc_concentrator.specs.declared.line_heard.LineHeard.{LineHeard}
 use Rattle.dc_concentrator.specs.declared.line_heard.LineHeard.TheVariants.{Again, Ready, Accepted, Failed}

@@ -7,7 +7,7 @@ use Rattle.dc_frame.specs.Reading.{frame_of}
 use Rattle.dc_world.specs.declared.event.Outcome.{Outcome}
 use Rattle.dc_world.specs.Meter.{Meter, Position}
 use Rattle.dc_world.specs.World.{positions_after, heard_in}
-use Rattle.dc_gateway.specs.Bus.{Exchange}
+use Rattle.dc_bus.specs.Bus.{Exchange}
 use Rattle.dc_change.specs.State.{MeterRow}
 use Rattle.dc_concentrator.specs.declared.fault.HearFault.TheVariants.{NoMemory}
 use Rattle.dc_concentrator.specs.Core.{Core}

@@ -18,3 +18,7 @@ pub mod Sweeps
 pub mod Walks
 -- a search ends
 pub mod Rounds
+-- a prefix of one piece of a text is one of the text
+mod TextFronts
+-- two pieces of what a search found
+mod Founds

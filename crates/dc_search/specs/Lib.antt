@@ -16,3 +16,5 @@ pub mod Request
 pub mod State
 -- what a search finds on a bus
 pub mod Walk
+-- its result as text
+pub mod Found

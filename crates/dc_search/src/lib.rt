@@ -11,6 +11,8 @@
 //! the budget it finds every meter whose number is unique and every number of several meters, both
 //! ascending, with at most forty selections a meter and one more.
 //!
+//! [`put_search`] writes the result of a search as text.
+//!
 //! Memory grows with the depth of the walk and the number of meters found, not with the selections.
 #![tactic(auto)]
 
@@ -18,6 +20,7 @@ mod answer;
 mod branch;
 pub mod bus;
 mod fault;
+mod found;
 mod laws;
 mod search;
 mod step;
@@ -25,6 +28,7 @@ mod step;
 pub use answer::meter_of;
 pub use bus::sweep;
 pub use fault::SearchFault;
+pub use found::{put_search, put_search_after};
 pub use laws::searches_end;
 pub use search::Search;
 pub use step::Step;

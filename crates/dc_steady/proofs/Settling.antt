@@ -2,7 +2,7 @@
 use Rattle.std.proofs.Common.{◌≡◌, ℕ, Bool, true, false, ◌||◌, ◌&&◌, List, [], ◌∷◌, ◌++◌, length, ◌==◌, ◌⊎◌, inl, inr, arith, refl, ap, sym, subst, ◌∙◌}
 use Rattle.dc_steady.specs.declared.line.Steady.{Steady}
 use Rattle.std.proofs.lemmas.Bool.{false≢true, ne_eqb}
-use Rattle.dc_raw.specs.Bus.{Runs, gave, rests, waited}
+use Rattle.dc_bus.specs.Halves.{Runs, gave, rests, waited}
 use Rattle.dc_steady.specs.Life.{BecomesClear, is_clear, settles_first}
 use Rattle.dc_steady.specs.Steady.{Drops, not_yet, Settles, drops_it, dropped, given_up, is_silence, quiet}
 

@@ -2,7 +2,7 @@
 use Rattle.std.proofs.Common.{◌≡◌, ℕ, zero, suc, ◌-◌, ◌<◌, ◌≤◌, List, [], ◌∷◌, ◌++◌, length, take, drop, refl, ap, ◌∙◌, arith}
 use Rattle.std.specs.Prelude.{slice_set}
 use Rattle.std.proofs.lemmas.List.{take_all, length-take, length-drop, length-append}
-use Rattle.dc_gateway.specs.Blocks.{most_answer}
+use Rattle.dc_bus.specs.Limits.{most_answer}
 use Rattle.dc_frame.specs.Frame.{longest_body}
 use Rattle.dc_late.specs.Late.{body_with}
 

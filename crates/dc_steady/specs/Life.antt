@@ -1,6 +1,6 @@
 -- Repeated steps of a steady line (this product).
 use Rattle.std.specs.Prelude.{◌≡◌, ℕ, Bool, true, false, ◌||◌, List, []}
-use Rattle.dc_raw.specs.declared.bus.HalfBus.{Ghosts as HalfGhosts}
+use Rattle.dc_bus.specs.declared.half.HalfBus.{Ghosts as HalfGhosts}
 use Rattle.dc_steady.specs.declared.line.Steady.{Steady}
 use Rattle.dc_steady.specs.Steady.{Sent, Settles, StillWaits, Takes}
 

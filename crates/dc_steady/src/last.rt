@@ -1,16 +1,16 @@
 //! The last long frame that was received, and copies of it.
 
 ghost use Rattle.std.specs.Prelude.{◌≡◌, ◌≤◌, Bool, Option, Some, length};
-ghost use Rattle.dc_gateway.specs.Blocks.{most_answer};
+ghost use Rattle.dc_bus.specs.Limits.{most_answer};
 ghost use Rattle.dc_frame.specs.Frame.{long, longest_body, spelling};
 ghost use Rattle.dc_frame.specs.Reading.{frame_of};
 ghost use Rattle.dc_late.specs.Late.{Last, body_with, clear_after, is_command, is_copy, last_after};
 ghost use Rattle.dc_late.specs.Late.{compared, is_wrong_answer, plain};
 ghost use Rattle.dc_steady.specs.Steady.{request_of};
 
+use dc_bus::AnswerBuf;
 use dc_frame::control::{SELECTED, SND_NKE, SND_UD, VARIABLE_DATA};
 use dc_frame::{Frame, FrameBuf, parse, write_long};
-use dc_gateway::AnswerBuf;
 use std::marker::Model;
 
 // The access number's place in a telegram's body.

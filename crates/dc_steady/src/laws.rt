@@ -6,12 +6,12 @@ ghost use Rattle.dc_world.specs.Meter.{Meter};
 ghost use Rattle.dc_world.specs.World.{AreRegular, GoesOnFromCommitted, IsWhole, world_after};
 ghost use Rattle.dc_world.specs.declared.event.WorldEvent.{WorldEvent};
 ghost use Rattle.dc_late.specs.Late.{AreDifferent, ArePlain, LateWorld};
-ghost use Rattle.dc_raw.specs.Bus.{Runs};
+ghost use Rattle.dc_bus.specs.Halves.{Runs};
 ghost use Rattle.dc_steady.specs.Life.{BecomesClear};
 ghost use Rattle.dc_steady.specs.Link.{Lives};
 ghost use Rattle.dc_steady.specs.declared.line.Steady.{Steady};
 
-use dc_raw::HalfBus;
+use dc_bus::HalfBus;
 
 /// Over a first-in-first-out link that may lose, garble and delay answers, each readout held after
 /// any life is whole: the bodies of one meter from the first to the first after which no more

@@ -2,17 +2,16 @@
 
 ghost use Rattle.std.specs.Prelude.{◌≡◌, ◌+◌, ◌-◌, ◌≤◌, ◌<◌, ◌⊎◌, [], None, true, false, IfSome};
 ghost use Rattle.std.specs.Prelude.{IfNone, length};
-ghost use Rattle.dc_gateway.specs.Blocks.{most_block};
-ghost use Rattle.dc_raw.specs.Bus.{most_waits};
+ghost use Rattle.dc_bus.specs.Limits.{most_request};
+ghost use Rattle.dc_bus.specs.Halves.{most_waits};
 ghost use Rattle.dc_steady.specs.Life.{SteadyGives, SteadySends, SteadySettles, SteadyWaits};
 ghost use Rattle.dc_steady.specs.Life.{is_gone, is_ready};
 ghost use Rattle.dc_steady.specs.Steady.{Drops, late_with, most_settling};
 
 use crate::last::{LastFrame, is_wrong, next_last, stays_clear};
 use crate::listening::listen;
+use dc_bus::{AnswerBuf, HalfBus, QuietBus};
 use dc_frame::FrameBuf;
-use dc_gateway::AnswerBuf;
-use dc_raw::{HalfBus, QuietBus};
 
 // Maximum number of answers and silences taken of a line that settles.
 const MOST_SETTLING: u8 = 64;
@@ -81,7 +80,7 @@ impl<B: HalfBus + Drop> Steady<B> {
 
     /// Sends a request. A line that is given up doesn't change.
     pub fn put(&mut self, request: &FrameBuf)
-        requires { length request.now ≤ most_block }
+        requires { length request.now ≤ most_request }
         ensures step { SteadySends B.HalfBus self.old request.now self.new }
         ensures few { B.waits_left self.new.bus ≤ most_waits }
     {

@@ -5,9 +5,8 @@ ghost use Rattle.dc_late.specs.Late.{compared};
 ghost use Rattle.dc_steady.specs.Steady.{Listens, Waits};
 
 use crate::last::{LastFrame, is_copy};
+use dc_bus::{AnswerBuf, HalfBus};
 use dc_frame::FrameBuf;
-use dc_gateway::AnswerBuf;
-use dc_raw::HalfBus;
 
 // Maximum number of answers taken for one request.
 const MOST_COPIES: u8 = 8;

@@ -22,3 +22,5 @@ pub mod Line
 pub mod Serving
 -- a bus in memory, as the list of its meters
 pub mod Listed
+-- a bus that is never lost
+pub mod NeverLost

@@ -8,8 +8,8 @@ ghost use Rattle.dc_world.specs.Standing.{SelectsByMask};
 ghost use Rattle.dc_world.specs.Line.{AreAble, Hears, heard_both, heard_of, seen_by};
 
 use crate::{Reply, SimulatedMeter};
+use dc_bus::{AnswerBuf, Bus};
 use dc_frame::{ACK, FrameBuf};
-use dc_gateway::{AnswerBuf, Bus};
 use dc_io::NoMemory;
 use std::alloc::Allocator;
 use std::marker::Model;

@@ -1,14 +1,14 @@
 //! A bus in memory: a list of meters, each with one telegram.
 
 ghost use Rattle.std.specs.Prelude.{◌≡◌, None, Some};
-ghost use Rattle.dc_gateway.specs.Bus.{Acknowledge, IsHeard, Respond};
+ghost use Rattle.dc_bus.specs.Bus.{Acknowledge, IsHeard, Respond};
 ghost use Rattle.dc_world.specs.Listed.{chosen};
 ghost use Rattle.dc_search.specs.Bus.{IsMatching};
 
 use crate::order::{Order, order_of};
 use dc_address::{Identity, Mask};
+use dc_bus::{AnswerBuf, Bus, ScriptBus};
 use dc_frame::{ACK, FrameBuf};
-use dc_gateway::{AnswerBuf, Bus};
 use dc_search::bus::{Matching, matches_on, telegram_of};
 use std::marker::Model;
 
@@ -106,5 +106,24 @@ impl<'a> Bus for ListedBus<'a> {
             Order::Data => self.respond(),
             Order::Other => AnswerBuf::new(),
         }
+    }
+}
+
+// A bus in memory answers at once.
+impl<'a> ScriptBus for ListedBus<'a> {
+    ghost use Rattle.dc_world.specs.NeverLost.{never_lost};
+
+    ghost ready = { λ _. true };
+
+    ghost settles = { λ old new. new ≡ old };
+
+    ghost late = { λ _. 0 };
+
+    ghost silent = { λ old new request answer asked is_lost. never_lost answer is_lost };
+
+    fn settle(&mut self) {}
+
+    fn late(&self) -> u64 {
+        0
     }
 }

@@ -2,12 +2,11 @@
 
 use crate::host::Host;
 use crate::why::{Noted, Why};
-use dc_gateway::Bus;
+use dc_bus::{Both, Bus, QuietBus};
+use dc_ending::{Ending, STREAM};
 use dc_installer::{Readout, ScanFault, identify, read, scan, scan_primary};
 use dc_io::{IoFault, Sink, WriteSink, put_number_word};
 use dc_links::{Peer, ScriptLink, SystemBus, Waiter};
-use dc_raw::{Both, QuietBus};
-use dc_script::{Ending, STREAM};
 use dc_words::{LinkName, MeterName, Scan};
 use std::fs::File;
 use std::io;

@@ -6,14 +6,14 @@ ghost use Rattle.std.specs.Process.{exit_status};
 ghost use Rattle.clap.specs.Values.{kind_of};
 ghost use Rattle.clap.specs.declared.error.kind.ErrorKind.TheVariants.{DisplayHelp, DisplayVersion};
 ghost use Rattle.clap.specs.declared.error.kind.ErrorKind.TheVariants.{OutOfMemory};
-ghost use Rattle.dc_script.specs.Ending.{status_of};
+ghost use Rattle.dc_ending.specs.Ending.{status_of};
 ghost use Rattle.dc_words.specs.Fault.{IfMistake};
 
 use crate::why::{DiskReason, Reason, Why};
 use clap::Error;
 use clap::error::ErrorKind;
+use dc_ending::{Ending, STREAM};
 use dc_io::{Buffered, IoFault, WriteSink};
-use dc_script::{Ending, STREAM};
 use dc_words::WordsFault;
 use std::alloc::{AllocError, Global};
 use std::io;

@@ -21,7 +21,7 @@ mod streams;
 mod tasks;
 mod why;
 
-use dc_script::Ending;
+use dc_ending::Ending;
 use dc_words::{Call, call_of};
 use ending::{told, told_disk, told_why, told_words};
 use host::Host;

@@ -1,8 +1,8 @@
 //! The progress of a poll, on a terminal.
 
 use crate::host::Host;
+use dc_bus::QuietBus;
 use dc_poll::{Phase, Station};
-use dc_raw::QuietBus;
 use std::cell::Cell;
 use std::io;
 use std::io::Write;

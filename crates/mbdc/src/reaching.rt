@@ -1,8 +1,8 @@
 //! Connecting the links of a poll, which goes on without those that can't be connected.
 
 use crate::host::Host;
+use dc_ending::Ending;
 use dc_links::Peer;
-use dc_script::Ending;
 use dc_words::Links;
 use std::fs::File;
 use std::net::{Net, TcpStream};

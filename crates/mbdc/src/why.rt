@@ -2,7 +2,7 @@
 
 ghost use Rattle.std.specs.Prelude.{◌≡◌};
 
-use dc_script::Ending;
+use dc_ending::Ending;
 use libc::EIO;
 use std::cell::Cell;
 use std::fs::{File, Metadata, OpenFile};

@@ -2,10 +2,10 @@
 
 use super::images::{LIFE, after, formatted};
 use dc_disk::MemoryDisk;
-use dc_inspect::report_json_on;
+use dc_ending::ProgramFault;
+use dc_inspect::{Report, report_json_on};
 use dc_io::Bytes;
 use dc_log::OpenFault;
-use dc_script::{ProgramFault, Report};
 use refusing_alloc::Refusing;
 use std::alloc::Global;
 use std::process::Abort;

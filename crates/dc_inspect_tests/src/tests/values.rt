@@ -2,10 +2,10 @@
 
 use super::images::{LIFE, after, formatted, with_sector};
 use dc_disk::MemoryDisk;
+use dc_ending::ProgramFault;
 use dc_inspect::show_values;
 use dc_io::{Bytes, FixedSink};
 use dc_log::OpenFault;
-use dc_script::ProgramFault;
 use refusing_alloc::Refusing;
 use std::alloc::Global;
 use std::process::Abort;

@@ -2,9 +2,9 @@
 
 use super::line::{Numbers, SlowLine};
 use dc_address::{Identity, Primary};
+use dc_bus::AnswerBuf;
 use dc_concentrator::Concentrator;
 use dc_disk::MemoryDisk;
-use dc_gateway::AnswerBuf;
 use dc_io::Bytes;
 use dc_log::Store;
 use dc_register::House;

@@ -1,8 +1,7 @@
 //! A bus line of simulated meters, whose answers take as many looks as a seed picks.
 
+use dc_bus::{AnswerBuf, HalfBus, QuietBus};
 use dc_frame::FrameBuf;
-use dc_gateway::AnswerBuf;
-use dc_raw::{HalfBus, QuietBus};
 use dc_world::SimulatedBus;
 use std::alloc::Global;
 use std::mem;

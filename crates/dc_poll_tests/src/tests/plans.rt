@@ -4,8 +4,8 @@ use super::house::{Kind, Row, SHORT, lines_of, registered};
 use super::polling::{NEW_YEAR, poll, poll_at, text_of};
 use dc_address::Identity;
 use dc_disk::MemoryDisk;
+use dc_ending::ProgramFault;
 use dc_log::OpenFault;
-use dc_script::ProgramFault;
 use std::test::Fail;
 
 const ROWS: [Row; 3] = [

@@ -3,12 +3,12 @@
 use super::house::{Kind, Row};
 use super::line::SlowLine;
 use dc_address::Identity;
+use dc_bus::QuietBus;
 use dc_change::Moment;
 use dc_disk::MemoryDisk;
+use dc_ending::ProgramFault;
 use dc_io::Bytes;
 use dc_poll::{Outcome, Plan, Station, Timer, poll_image};
-use dc_raw::QuietBus;
-use dc_script::ProgramFault;
 use std::alloc::{AllocError, Allocator, Global};
 use std::process::Abort;
 use std::str;

@@ -1,9 +1,9 @@
 //! Each status and each line.
 
 use dc_concentrator::CommitFault;
+use dc_ending::{Ending, ProgramFault, ending_of};
 use dc_io::{Bytes, FixedSink, IoFault, Sink};
 use dc_log::{FormatFault, OpenFault};
-use dc_script::{Ending, ProgramFault, ending_of};
 use std::alloc::Global;
 use std::test::Fail;
 

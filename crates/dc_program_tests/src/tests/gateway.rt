@@ -5,9 +5,10 @@ ghost use Rattle.dc_frame.specs.Control.{reset_to};
 ghost use Rattle.dc_frame.specs.Frame.{spelling};
 
 use dc_address::Identity;
+use dc_blocks::{Gateway, Talk, exchange};
+use dc_bus::{AnswerBuf, search_over};
 use dc_frame::FrameBuf;
 use dc_frame::control::write_reset;
-use dc_gateway::{AnswerBuf, Gateway, Talk, exchange, search_over};
 use dc_io::{Bytes, FixedSink, IoFault, Sink, Source};
 use dc_search::{Step, sweep};
 use dc_world::ListedBus;

@@ -2,10 +2,11 @@
 use super::common::{blank, joined};
 use super::streams::{FailingSink, FailingSource};
 use dc_disk::{Disk, MemoryDisk};
+use dc_ending::ProgramFault;
 use dc_io::{Bytes, Sink, Source};
 use dc_log::Store;
 use dc_register::House;
-use dc_script::{ProgramFault, run_script};
+use dc_script::run_script;
 use refusing_alloc::Refusing;
 use std::alloc::{Allocator, Global};
 use std::test::Fail;

@@ -1,9 +1,10 @@
 //! Scripts over several bus lines, which answer, are lost, or have answers that come late.
 use super::common::blank;
+use dc_blocks::Gateway;
+use dc_bus::{AnswerBuf, Bus, ScriptBus};
 use dc_frame::FrameBuf;
-use dc_gateway::{AnswerBuf, Bus, Gateway};
 use dc_io::{Bytes, Sink};
-use dc_script::{ScriptBus, Slot, run_script_over};
+use dc_script::{Slot, run_script_over};
 use std::alloc::Global;
 use std::test::Fail;
 

@@ -1,7 +1,8 @@
 //! Searches that are out of memory.
 use super::common::blank;
+use dc_ending::ProgramFault;
 use dc_io::{Bytes, IoFault, Source};
-use dc_script::{ProgramFault, run_script};
+use dc_script::run_script;
 use refusing_alloc::Refusing;
 use std::alloc::Allocator;
 use std::test::Fail;

@@ -1,14 +1,15 @@
 //! What a line receives: frames in pieces, noise, echoes, and a wire that fails.
 
 ghost use Rattle.std.specs.Prelude.{◌≤◌, length};
-ghost use Rattle.dc_gateway.specs.Blocks.{most_block};
-ghost use Rattle.dc_raw.specs.Bus.{most_looks};
+ghost use Rattle.dc_bus.specs.Limits.{most_request};
+ghost use Rattle.dc_raw.specs.Looks.{most_looks};
 
+use dc_blocks::{BlockLink, Gateway};
+use dc_bus::{Both, Bus, HalfBus, Pause, QuietBus};
 use dc_frame::FrameBuf;
 use dc_frame::control::write_request;
-use dc_gateway::{Bus, Gateway};
 use dc_io::{Bytes, FixedSink, Sink};
-use dc_raw::{BlockLink, Both, Event, HalfBus, Line, Pause, PollWire, QuietBus, Tape, Wire};
+use dc_raw::{Event, Line, PollWire, Tape, Wire};
 use std::io::Write;
 use std::os::unix::net::UnixStream;
 use std::process::Abort;
@@ -33,7 +34,7 @@ const ECHOED: [u8; 14] = [
 
 /// REQ_UD2 to address 1.
 pub fn request(bit: bool) -> FrameBuf
-    ensures { length result ≤ most_block }
+    ensures { length result ≤ most_request }
 {
     let mut frame = FrameBuf::new();
     write_request(bit, 1, &mut frame);

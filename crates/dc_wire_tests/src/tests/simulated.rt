@@ -1,9 +1,10 @@
 //! Simulated meters are read, selected and found.
 
 use dc_address::{Identity, Primary};
+use dc_blocks::{Talk, exchange};
+use dc_bus::search_over;
 use dc_frame::FrameBuf;
 use dc_frame::control::write_request;
-use dc_gateway::{Talk, exchange, search_over};
 use dc_io::{Bytes, Sink};
 use dc_search::Step;
 use dc_world::{Bodies, Body, MeterScript, Reply, SimulatedBus, SimulatedMeter, serve};

@@ -1,7 +1,8 @@
 //! Late answers: copies while the bit is toggled, and lines that settle.
 
 use crate::tests::line::{OTHER, TELEGRAM, gives, request};
-use dc_raw::{Event, HalfBus, Line, QuietBus, Tape};
+use dc_bus::{HalfBus, QuietBus};
+use dc_raw::{Event, Line, Tape};
 use dc_steady::Steady;
 use std::test::Fail;
 

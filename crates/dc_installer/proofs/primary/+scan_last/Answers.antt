@@ -2,11 +2,12 @@ use Rattle.std.proofs.Common.{◌≡◌, ℕ, ◌-◌, ◌≤◌, ◌++◌, List
 use Rattle.std.proofs.lemmas.Grind.{common_steps}
 use Rattle.std.specs.List.{range_with_len}
 use Rattle.std.specs.Result.{OnOk}
-use Rattle.dc_gateway.specs.Bus.{AreExchanged, Exchange}
+use Rattle.dc_bus.specs.Bus.{AreExchanged, Exchange}
 use Rattle.dc_io.specs.Stream.{Puts}
 use Rattle.dc_io.proofs.Pieces.{puts-both, puts-none}
 use Rattle.dc_installer.specs.Scan.{AsksEach}
 use Rattle.dc_installer.proofs.Addresses.{and_others, last_addresses}
+use Rattle.dc_installer.proofs.Results.{on_ok}
 use Rattle.dc_installer.proofs.primary.+scan_last.Goals as goal
 
 pub returns-then-left-eq0-clause-asked : goal.returns-then-left-eq0-clause-asked
@@ -14,10 +15,6 @@ returns-then-left-eq0-clause-asked g t c =
     let none : c.args.left ≡ 0 = search rules in
     let P : ℕ → Type 0 = λ left. AsksEach (range_with_len (251 - left) left) [] [] in
     ([], [], refl, subst P (sym none) (refl, refl), puts-none (g.W.Sink.written c.args.out.now))
-
-on_ok : {X E P Q : Type 0} (r : Result X E) → (P → Q) → OnOk r P → OnOk r Q
-on_ok (Ok x) then p = then p
-on_ok (Err e) then p = tt
 
 pub returns-in-Ok-clause-asked : goal.returns-in-Ok-clause-asked
 returns-in-Ok-clause-asked g t c =

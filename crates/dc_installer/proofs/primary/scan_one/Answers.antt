@@ -3,16 +3,13 @@ use Rattle.std.specs.Result.{OnOk}
 use Rattle.dc_io.proofs.Pieces.{puts-none}
 use Rattle.dc_installer.specs.Scan.{address_line}
 use Rattle.dc_installer.proofs.Addresses.{acknowledged, unacknowledged}
+use Rattle.dc_installer.proofs.Results.{on_ok}
 use Rattle.dc_installer.proofs.primary.scan_one.Goals as goal
 
 pub returns-then-not-resets-clause-asked : goal.returns-then-not-resets-clause-asked
 returns-then-not-resets-clause-asked g c =
     let none = (unacknowledged g.B.Bus.asks c.args.bus.now c.resets.new.bus c.args.address c.resets.result c.resets.ensures (search rules)).1 in
     (none.0, [], none.1, none.2, puts-none (g.W.Sink.written c.args.out.now))
-
-on_ok : {X E P Q : Type 0} (r : Result X E) → (P → Q) → OnOk r P → OnOk r Q
-on_ok (Ok x) then p = then p
-on_ok (Err e) then p = tt
 
 pub returns-clause-asked : goal.returns-clause-asked
 returns-clause-asked g c =

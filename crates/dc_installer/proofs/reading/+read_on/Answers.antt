@@ -6,6 +6,7 @@ use Rattle.dc_concentrator.proofs.Requests.{request_is_short}
 use Rattle.dc_frame.specs.Frame.{spelling}
 use Rattle.dc_readout.specs.Summary.{asked_by}
 use Rattle.dc_installer.proofs.Readouts.{ends_at_once, fails, goes_on, is_cut_off, is_cut_off_later}
+use Rattle.dc_installer.proofs.Results.{on_ok}
 use Rattle.dc_installer.proofs.reading.+read_on.Goals as goal
 
 pub returns-then-left-eq0-clause-read : goal.returns-then-left-eq0-clause-read
@@ -30,10 +31,6 @@ returns-in-Ok-Failed-clause-read g t c =
     let so = c.in-Ok-Failed.ensures in
     fails g.B.Bus.asks c.args.bus.now c.exchange.new.bus c.args.session c.in-Some.request so.0 c.args.left (g.W.Sink.written c.args.out.now) (g.W.Sink.written c.exchange.new.out)
     so.1 (sym c.in-Some.ensures.exact) so.3.0 (ap asked_by (sym so.2.0) ∙ so.2.1 c.in-Ok-Failed.field-0-is)
-
-on_ok : {X E P Q : Type 0} (r : Result X E) → (P → Q) → OnOk r P → OnOk r Q
-on_ok (Ok x) then p = then p
-on_ok (Err e) then p = tt
 
 on_err : {X E P Q : Type 0} (r : Result X E) → (P → Q) → OnErr r P → OnErr r Q
 on_err (Ok x) then p = tt

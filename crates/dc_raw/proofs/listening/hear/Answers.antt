@@ -1,6 +1,6 @@
 use Rattle.std.proofs.Common.{◌≡◌, ◌<◌, ◌≤◌, Bool, true, false, not, ℕ, List, length, take, refl, ap, sym, ◌∙◌, subst, arith, ◌==◌}
 use Rattle.std.proofs.lemmas.List.{take-append-le}
-use Rattle.dc_gateway.specs.Blocks.{most_answer}
+use Rattle.dc_bus.specs.Limits.{most_answer}
 use Rattle.dc_raw.specs.Wire.{FitsRoom, Wanes, Sound, sound_of, piece, nothing, gap, silence}
 use Rattle.dc_raw.specs.declared.wire.Came.{Came}
 use Rattle.dc_raw.specs.declared.wire.Came.TheVariants.{Bytes, Nothing, Gap, Silence}

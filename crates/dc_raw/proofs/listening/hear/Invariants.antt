@@ -1,5 +1,5 @@
 use Rattle.std.proofs.Common.{◌≡◌, ◌+◌, ◌-◌, ◌≤◌, length}
-use Rattle.dc_gateway.specs.Blocks.{most_answer}
+use Rattle.dc_bus.specs.Limits.{most_answer}
 use Rattle.dc_raw.specs.Heard.{wanted_of}
 use Rattle.dc_raw.proofs.Pieces.{SoFar}
 use Rattle.dc_raw.proofs.listening.hear.Given as goal

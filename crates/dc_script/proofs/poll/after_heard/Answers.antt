@@ -6,7 +6,7 @@ use Rattle.dc_io.specs.Stream.{Puts}
 use Rattle.dc_script.specs.Poll.{Due, behind_heard}
 use Rattle.dc_script.specs.Way.{IsRound, goes_on}
 use Rattle.dc_script.proofs.Ways.{way_none}
-use Rattle.dc_script.proofs.Wents.{went_none}
+use Rattle.dc_concentrator.proofs.Wents.{went_none}
 use Rattle.dc_script.proofs.poll.after_heard.Goals as goal
 
 at_rest : (link : Link) (more : Bool) (due : Due) → due ≡ goes_on more → IsRound more link 0 [] (record { due = due; link = link })

@@ -1,11 +1,11 @@
 use Rattle.std.proofs.Common.{ℕ, List, [], ◌≤◌, length, arith, ap, sym, subst, ◌∙◌, refl}
 use Rattle.dc_io.specs.Stream.{Puts}
 use Rattle.dc_io.proofs.Pieces.{puts-both}
-use Rattle.dc_gateway.specs.Blocks.{most_answer}
+use Rattle.dc_bus.specs.Limits.{most_answer}
 use Rattle.dc_script.specs.Link.{link_by, IsHeardOver}
 use Rattle.dc_script.specs.Poll.{to_hear, rounds_in}
 use Rattle.dc_script.proofs.LineRuns.{on_ok}
-use Rattle.dc_script.proofs.Wents.{went_none}
+use Rattle.dc_concentrator.proofs.Wents.{went_none}
 use Rattle.dc_script.proofs.Ways.{way_as, way_exchange, way_then, if_fails_after, if_round_after, exchanged_alone, exchanged_over, loss_fails, no_round, silence_over}
 use Rattle.dc_script.proofs.poll.exchange.Goals as goal
 

@@ -1,12 +1,12 @@
 use Rattle.std.proofs.Common.{List, ◌++◌, ap, sym, subst, ◌∙◌, refl}
-use Rattle.dc_gateway.specs.Bus.{AreExchanged, Exchange}
+use Rattle.dc_bus.specs.Bus.{AreExchanged, Exchange}
 use Rattle.dc_io.specs.Stream.{Puts}
 use Rattle.dc_io.proofs.Pieces.{puts-both}
 use Rattle.dc_script.specs.Link.{link_by}
 use Rattle.dc_script.specs.Poll.{to_start, rounds_in, happened_exchanges}
 use Rattle.dc_script.proofs.LineRuns.{on_ok}
 use Rattle.dc_script.proofs.Traffics.{untouched_both}
-use Rattle.dc_script.proofs.Wents.{went_none}
+use Rattle.dc_concentrator.proofs.Wents.{went_none}
 use Rattle.dc_script.proofs.Ways.{way_as, way_settled, way_then, if_fails_after, end_after, exchanges_append, settles_unasked, settles_in_no_round, settle_fails, not_a_gateway}
 use Rattle.dc_script.proofs.poll.poll.Goals as goal
 

@@ -3,7 +3,7 @@ use Rattle.dc_io.proofs.Pieces.{puts-both, puts-none}
 use Rattle.dc_script.specs.Link.{link_by}
 use Rattle.dc_script.specs.Poll.{Phase}
 use Rattle.dc_script.specs.Way.{goes_on}
-use Rattle.dc_script.proofs.Wents.{went_none}
+use Rattle.dc_concentrator.proofs.Wents.{went_none}
 use Rattle.dc_io.specs.Failures.{HasRisen}
 use Rattle.dc_script.proofs.Traffics.{untouched_both}
 use Rattle.dc_script.proofs.Ways.{way_none, way_as, way_then, rounds_append, exchanged_after, fails_after}

@@ -4,7 +4,7 @@ use Rattle.dc_change.specs.State.{State}
 use Rattle.dc_concentrator.specs.Core.{opened}
 use Rattle.dc_concentrator.specs.Images.{IsAt}
 use Rattle.dc_concentrator.specs.Transcript.{Turn, leads, IsChain}
-use Rattle.dc_gateway.specs.Bus.{AreExchanged}
+use Rattle.dc_bus.specs.Bus.{AreExchanged}
 use Rattle.dc_io.specs.Stream.{Puts}
 use Rattle.dc_script.specs.Link.{link_by}
 use Rattle.dc_script.specs.Poll.{to_ask, happened_exchanges, rounds_in}

@@ -8,7 +8,7 @@ use Rattle.dc_script.specs.Traffic.{PollsOver}
 use Rattle.dc_script.proofs.LineRuns.{cut_as, ran_as, said_ran, said_cut}
 use Rattle.dc_script.proofs.Lines.{no_line, none_absent, slot_found, slot_left, still_absent}
 use Rattle.dc_script.proofs.Traffics.{is_one, named_none, named_set}
-use Rattle.dc_script.proofs.Wents.{went_none}
+use Rattle.dc_concentrator.proofs.Wents.{went_none}
 use Rattle.dc_script.proofs.script.poll_line.Goals as goal
 
 pub returns-in-Some-clause-ran : goal.returns-in-Some-clause-ran

@@ -7,7 +7,7 @@ use Rattle.dc_script.specs.ScriptLine.{poll as polls}
 use Rattle.dc_script.proofs.LineRuns.{polled_ran, polled_cut, said_ran, said_cut}
 use Rattle.dc_script.proofs.Lines.{has_bus_by, never_absent, none_absent, with_same}
 use Rattle.dc_script.proofs.Traffics.{goes_nowhere, polls_over}
-use Rattle.dc_script.proofs.Wents.{went_none}
+use Rattle.dc_concentrator.proofs.Wents.{went_none}
 use Rattle.dc_script.proofs.script.poll_slot.Goals as goal
 
 pub returns-in-Some-clause-ran : goal.returns-in-Some-clause-ran

@@ -2,7 +2,7 @@ use Rattle.std.proofs.Common.{◌≡◌, ◌+◌, ◌∷◌, [], ℕ, List, take
 use Rattle.dc_io.specs.Stream.{Puts}
 use Rattle.dc_concentrator.specs.Run.{event_of, Ran}
 use Rattle.dc_concentrator.specs.Text.{answer_text}
-use Rattle.dc_script.proofs.Wents.{event_went}
+use Rattle.dc_concentrator.proofs.Wents.{event_went}
 use Rattle.dc_script.proofs.script.run_event.Goals as goal
 
 pub returns-in-Ok-clause-went : goal.returns-in-Ok-clause-went

@@ -17,7 +17,7 @@ use Rattle.dc_script.specs.Traffic.{AreCarried, IsCarried}
 use Rattle.dc_script.proofs.LineRuns.{SoFar, one_more, cut_here, lines_none}
 use Rattle.dc_script.proofs.Starvings.{starved_here}
 use Rattle.dc_script.proofs.Traffics.{carried_both}
-use Rattle.dc_script.proofs.Wents.{went_none, went_chain, went_at}
+use Rattle.dc_concentrator.proofs.Wents.{went_none, went_chain, went_at}
 use Rattle.dc_script.proofs.script.run_lines.Given.{Over}
 use Rattle.dc_script.proofs.script.run_lines.Goals.{After-first_line}
 use Rattle.dc_script.proofs.script.run_lines.Goals as goal

@@ -6,11 +6,11 @@ use Rattle.dc_script.specs.Link.{LineLink, links_of}
 use Rattle.dc_script.specs.Script.{Does}
 use Rattle.dc_script.specs.ScriptLine.{IsPlain, nothing, at as at_moment, start, ask, hear, commit, office, seen}
 use Rattle.dc_script.specs.Traffic.{IsCarried}
-use Rattle.dc_script.specs.declared.script_bus.Slot.{Slot}
+use Rattle.dc_script.specs.declared.slot.Slot.{Slot}
 use Rattle.dc_script.specs.declared.script_line.ScriptLine.{ScriptLine}
 use Rattle.dc_script.proofs.LineRuns.{event_ran, event_cut}
 use Rattle.dc_script.proofs.Traffics.{is_one}
-use Rattle.dc_script.proofs.Wents.{went_none}
+use Rattle.dc_concentrator.proofs.Wents.{went_none}
 use Rattle.dc_script.proofs.script.run_plain.Goals as goal
 
 -- the line is no event, and writes this

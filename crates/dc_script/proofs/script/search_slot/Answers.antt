@@ -8,7 +8,7 @@ use Rattle.dc_script.proofs.LineRuns.{halted_as, ran_as, said_ran, said_cut, sta
 use Rattle.dc_script.proofs.Lines.{has_bus_by, never_absent, none_absent, with_same}
 use Rattle.dc_script.proofs.Searches.{prompt_by, searched_ran, searched_cut, searched_starved}
 use Rattle.dc_script.proofs.Traffics.{goes_nowhere, searches_over}
-use Rattle.dc_script.proofs.Wents.{went_none}
+use Rattle.dc_concentrator.proofs.Wents.{went_none}
 use Rattle.dc_script.proofs.script.search_slot.Goals as goal
 
 pub returns-in-Some-clause-ran : goal.returns-in-Some-clause-ran

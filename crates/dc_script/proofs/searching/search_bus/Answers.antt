@@ -1,9 +1,10 @@
 use Rattle.std.proofs.Common.{◌++◌, ◌∙◌, ap, subst}
-use Rattle.dc_gateway.specs.Bus.{AreExchanged}
+use Rattle.dc_bus.specs.Bus.{AreExchanged}
 use Rattle.dc_io.specs.Stream.{Puts}
 use Rattle.dc_io.proofs.Pieces.{puts-both}
 use Rattle.dc_script.specs.Link.{link_by, loss_text}
-use Rattle.dc_script.specs.Search.{late_by, late_text, search_text}
+use Rattle.dc_script.specs.Search.{late_by, late_text}
+use Rattle.dc_search.specs.Found.{search_text}
 use Rattle.dc_script.proofs.LineRuns.{on_ok}
 use Rattle.dc_script.proofs.Searches.{left_by, lost_by, told_talked}
 use Rattle.dc_script.proofs.searching.search_bus.Goals as goal

@@ -1,7 +1,7 @@
 use Rattle.std.proofs.Common.{◌≡◌, List, ℕ, [], ◌∷◌, Some, None, Err, refl, ap, sym, subst, ◌∙◌}
 use Rattle.dc_io.specs.Stream.{Puts}
 use Rattle.dc_concentrator.specs.Event.{Answer, commits, committed}
-use Rattle.dc_gateway.specs.Bus.{AreExchanged, Exchange}
+use Rattle.dc_bus.specs.Bus.{AreExchanged, Exchange}
 use Rattle.dc_script.specs.Link.{link_by}
 use Rattle.dc_script.specs.Search.{Comes, late_by}
 use Rattle.dc_script.proofs.Searches.{commit_and_look, busy_halts, refused_halts, talked_comes}

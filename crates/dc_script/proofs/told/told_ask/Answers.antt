@@ -1,7 +1,7 @@
 use Rattle.std.proofs.Common.{refl, ap}
 use Rattle.dc_io.proofs.Pieces.{puts-none}
 use Rattle.dc_concentrator.specs.Event.{asks, asked}
-use Rattle.dc_script.proofs.Tolds.{rested}
+use Rattle.dc_concentrator.proofs.SingleTurns.{rested}
 use Rattle.dc_script.proofs.told.told_ask.Goals as goal
 
 pub returns-in-None-clause-went : goal.returns-in-None-clause-went

@@ -1,6 +1,6 @@
 use Rattle.std.proofs.Common.{refl}
 use Rattle.dc_concentrator.specs.Event.{hears, heard}
-use Rattle.dc_script.proofs.Tolds.{rested}
+use Rattle.dc_concentrator.proofs.SingleTurns.{rested}
 use Rattle.dc_script.proofs.told.told_hear.Goals as goal
 
 pub returns-in-Err-clause-went : goal.returns-in-Err-clause-went

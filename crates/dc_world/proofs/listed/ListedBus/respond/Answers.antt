@@ -3,8 +3,8 @@ use Rattle.std.proofs.lemmas.List.{take_all}
 use Rattle.dc_address.specs.declared.identity.Identity.{Identity}
 use Rattle.dc_search.specs.Answer.{answer_of}
 use Rattle.dc_search.proofs.Sweeps.{noise}
-use Rattle.dc_gateway.specs.Blocks.{most_answer}
-use Rattle.dc_gateway.specs.Bus.{Respond}
+use Rattle.dc_bus.specs.Limits.{most_answer}
+use Rattle.dc_bus.specs.Bus.{Respond}
 use Rattle.dc_world.specs.Listed.{chosen}
 use Rattle.dc_world.proofs.listed.ListedBus.respond.Goals as goal
 

@@ -1,0 +1,47 @@
+//! A gateway as a bus, and as a bus of a script.
+
+use crate::gateway::Gateway;
+use dc_bus::{AnswerBuf, Bus, ScriptBus};
+use dc_frame::FrameBuf;
+use dc_io::{Sink, Source};
+
+impl<R: Source + Drop, W: Sink + Drop> Bus for Gateway<R, W> {
+    ghost use Rattle.std.specs.Prelude.{None, []};
+    ghost use Rattle.dc_blocks.specs.Asking.{Asks};
+
+    // The meters at the other end of a gateway aren't known.
+    ghost meters = { λ _. None };
+
+    ghost selected = { λ _. [] };
+
+    ghost lost = { λ gateway. gateway.lost };
+
+    ghost asks = { Asks R.Source W.Sink };
+
+    fn is_lost(&self) -> bool {
+        Gateway::is_lost(self)
+    }
+
+    fn ask(&mut self, request: &FrameBuf) -> AnswerBuf {
+        Gateway::ask(self, request)
+    }
+}
+
+// Blocks mark the end of a gateway's answer, so none is late.
+impl<R: Source + Drop, W: Sink + Drop> ScriptBus for Gateway<R, W> {
+    ghost use Rattle.dc_blocks.specs.Silence.{gateway_is_silent};
+
+    ghost ready = { λ _. true };
+
+    ghost settles = { λ old new. new ≡ old };
+
+    ghost late = { λ _. 0 };
+
+    ghost silent = { gateway_is_silent R.Source W.Sink };
+
+    fn settle(&mut self) {}
+
+    fn late(&self) -> u64 {
+        0
+    }
+}

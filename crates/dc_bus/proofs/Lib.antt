@@ -1,0 +1,16 @@
+-- lemmas by topic
+
+-- the first bytes of what came in pieces
+pub mod Keeping
+-- the masks of a walk are masks
+pub mod Digits
+-- a search on a bus that states its meters
+pub mod Searching
+-- a search within its budget
+pub mod Budgets
+-- exchanges one after the other
+pub mod Exchanges
+-- a search asks once more
+pub mod Asked
+-- waiting for answers
+pub mod Halves

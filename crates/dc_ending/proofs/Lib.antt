@@ -1,0 +1,4 @@
+-- lemmas of this crate alone
+
+-- the characters escaped so far, and one more
+mod Escapes

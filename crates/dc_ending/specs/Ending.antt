@@ -1,0 +1,63 @@
+-- How a run of the program ends: the exit status, and the line on standard error (this product).
+use Rattle.std.specs.Prelude.{ℕ, List, [], ◌++◌, codes, Option, None, Some}
+use Rattle.dc_concentrator.specs.Fault.{commit_number, commit_name}
+use Rattle.dc_log.specs.Fault.{open_number, open_name, format_number, format_name}
+use Rattle.dc_log.specs.declared.fault.OpenFault.{OpenFault}
+use Rattle.dc_log.specs.declared.fault.OpenFault.TheVariants.{NotImage, Damaged, Version, Worn}
+use Rattle.dc_log.specs.declared.fault.OpenFault.TheVariants.{Device, NoMemory}
+use Rattle.dc_io.specs.Words.{fault_text, number_word}
+use Rattle.dc_ending.specs.Escape.{escaped}
+use Rattle.dc_ending.specs.declared.ending.Ending.{Ending}
+use Rattle.dc_ending.specs.declared.ending.Ending.TheVariants.{Clean, Faulty, Words, Format, Open}
+use Rattle.dc_ending.specs.declared.ending.Ending.TheVariants.{Disk, File, Gateway, Clock, Memory}
+
+abbrev pub status_of : Ending → ℕ
+status_of Clean = 0
+status_of Faulty = 1
+status_of (Words what) = 2
+status_of (Format fault) = 3
+status_of (Open fault) = 3
+status_of (Disk fault) = 3
+status_of (File name) = 4
+status_of Gateway = 4
+status_of Clock = 4
+status_of Memory = 4
+
+-- a name after what is at fault with it
+unfoldable pub named_line : List ℕ → List ℕ → List ℕ
+named_line what name = what ++ escaped name ++ codes "\n"
+
+-- the sector at which an image is damaged
+abbrev pub damaged_at : OpenFault → Option ℕ
+damaged_at NotImage = None
+damaged_at (Damaged sector) = Some sector
+damaged_at Version = None
+damaged_at Worn = None
+damaged_at Device = None
+damaged_at NoMemory = None
+
+-- a sector, if there is one
+abbrev pub sector_word : Option ℕ → List ℕ
+sector_word None = []
+sector_word (Some sector) = number_word sector
+
+-- a fault's number and name after what it is a fault of, and the damaged sector
+unfoldable pub fault_line : List ℕ → ℕ → List ℕ → Option ℕ → List ℕ
+fault_line what number name sector =
+    what ++ fault_text number name ++ sector_word sector ++ codes "\n"
+
+-- the line, with its line feed
+abbrev pub line_of : Ending → List ℕ
+line_of Clean = []
+line_of Faulty = []
+line_of (Words what) = named_line (codes "mbdc: ") what.now
+line_of (Format fault) = fault_line (codes "mbdc: format: ") (format_number fault)
+    (format_name fault) None
+line_of (Open fault) = fault_line (codes "mbdc: open: ") (open_number fault) (open_name fault)
+    (damaged_at fault)
+line_of (Disk fault) = fault_line (codes "mbdc: disk: ") (commit_number fault) (commit_name fault)
+    None
+line_of (File name) = named_line (codes "mbdc: file: ") name.now
+line_of Gateway = codes "mbdc: gateway\n"
+line_of Clock = codes "mbdc: clock: outside 1970 to 9999\n"
+line_of Memory = codes "mbdc: memory\n"

@@ -1,8 +1,0 @@
-use Rattle.dc_raw.proofs.Halves.{HasHeard, and_open}
-use Rattle.dc_raw.proofs.both.Both.await_answer.Given as goal
-
-abbrev pub invariant-waits : goal.invariant-waits
-invariant-waits g l = HasHeard g.B.HalfBus.gives g.B.HalfBus.waits l.fn.self.bus l.heard l.self.bus
-
-abbrev pub decreases-waits : goal.decreases-waits
-decreases-waits g l = and_open l.heard (g.B.HalfBus.waits_left l.self.bus)

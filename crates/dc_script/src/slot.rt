@@ -1,0 +1,12 @@
+//! A bus line of a script.
+
+use dc_bus::ScriptBus;
+
+/// A bus line that has a bus.
+#[derive(Drop)]
+pub struct Slot<B: ScriptBus + Drop> {
+    /// The bus.
+    pub bus: B,
+    /// Whether it is the line of `--gateway`, on which no answer is late.
+    pub is_gateway: bool,
+}
