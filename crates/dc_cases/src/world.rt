@@ -13,7 +13,7 @@ use dc_concentrator::Concentrator;
 use dc_decode::decode_lines;
 use dc_disk::MemoryDisk;
 use dc_ending::{Ending, ProgramFault, ending_of};
-use dc_inspect::{Report, report_on};
+use dc_inspect::{Form, Report, report_on};
 use dc_io::{Bytes, Sink, TextFault, first_line};
 use dc_json::{explain_lines, json_lines};
 use dc_log::Store;
@@ -187,7 +187,7 @@ impl World {
         };
         let disk = self.disk.take().ok_or(CaseFault::Syntax)?;
         let mut writer = Output::new(self.heap, self.limits);
-        let (disk, outcome) = report_on(self.heap, disk, report, &mut writer);
+        let (disk, outcome) = report_on(self.heap, disk, report, Form::Csv, &mut writer);
         self.disk = Some(disk);
         self.ends(writer.as_slice(), outcome.map(|_| false), out)
     }

@@ -6,8 +6,6 @@ pub mod Text
 pub mod Told
 -- what `values` prints of an image
 pub mod Values
--- a table of an image's contents, as JSON
-pub mod Report
 -- the result of reading an image: for the contracts of private functions
 pub mod Look
 -- a table of what an image holds, and its word

@@ -9,19 +9,16 @@
 //! [`show_values`] reads an image in the same way, and writes what its meters stand at (dc_latest).
 //!
 //! [`report_on`] opens an image and writes a table of its contents ([`Report`]), built whole before
-//! it is written. [`report_json_on`] opens one in the same way, and writes a JSON object for each
-//! row of a table.
+//! it is written, as CSV or as JSON Lines ([`Form`]).
 #![tactic(auto)]
 
 mod inspecting;
 mod look;
-mod report;
 mod summary;
 mod table;
 mod text;
 mod values;
 
 pub use inspecting::inspect;
-pub use report::report_json_on;
-pub use table::{Report, report_on};
+pub use table::{Form, Report, report_on};
 pub use values::show_values;

@@ -1,4 +1,4 @@
-//! The engine of `report`: a table of an image's contents.
+//! The engine of `report`: a table of an image's contents, as CSV or as JSON Lines.
 
 ghost use Rattle.std.specs.Prelude.{◌≡◌, ◌≢◌, ◌≤◌, ◌<◌, ◌⊎◌, IsTrue, Some, Err, codes, IfSome};
 ghost use Rattle.std.specs.Prelude.{IfOk, IfErr, OnOk, OnErr, IsErrOf};
@@ -18,6 +18,7 @@ ghost use Rattle.dc_inspect.specs.Table.{IsTold, report_word, table_text};
 use dc_disk::Disk;
 use dc_ending::ProgramFault;
 use dc_io::{IoFault, NoMemory, Sink};
+use dc_json::{due_json, register_json};
 use dc_log::Store;
 use dc_register::House;
 use dc_table::{due_table, register_table};
@@ -31,6 +32,15 @@ pub enum Report {
     Register,
     /// The due-date values for a date, by flat.
     Due(Date),
+}
+
+/// How a table is written.
+#[derive(Clone, Copy)]
+pub enum Form {
+    /// Comma-separated values, under a header.
+    Csv,
+    /// A JSON object for each row (RFC 8259).
+    Json,
 }
 
 impl Report {
@@ -60,11 +70,12 @@ pub fn report_on<D: Disk + Drop, A: Allocator + Copy, W: Sink>(
     alloc: A,
     disk: D,
     report: Report,
+    form: Form,
     writer: &mut W,
 ) -> (D, Result<(), ProgramFault>)
     // The table is that of the state which the image reads as.
     ensures told { D.keeps result.0 → OnOk result.1
-        (IsTold (half_of D.Disk disk) report (D.reads disk)
+        (IsTold (half_of D.Disk disk) form report (D.reads disk)
         (PutsInto W.Sink writer.old writer.new)) }
     ensures well { OnOk result.1 (W.put_failures writer.new ≡ W.put_failures writer.old) }
 
@@ -100,7 +111,7 @@ pub fn report_on<D: Disk + Drop, A: Allocator + Copy, W: Sink>(
         Ok((store, house)) => (store, house),
         Err((fault, disk)) => return (disk, Err(ProgramFault::Open(fault))),
     };
-    let table = match table_of(alloc, house, report) {
+    let table = match table_of(alloc, &house, report, form) {
         Ok(table) => table,
         Err(NoMemory) => return (store.close(), Err(ProgramFault::NoMemory)),
     };
@@ -110,16 +121,19 @@ pub fn report_on<D: Disk + Drop, A: Allocator + Copy, W: Sink>(
     }
 }
 
-// The table of a house that isn't used any more.
+// The table of a house.
 fn table_of<A: Allocator + Copy>(
     alloc: A,
-    house: House<A>,
+    house: &House<A>,
     report: Report,
+    form: Form,
 ) -> Result<Vec<u8, A>, NoMemory>
-    ensures { IfOk result (λ table. table.items ≡ table_text report house.state) }
+    ensures { IfOk result (λ table. table.items ≡ table_text form report house.now.state) }
 {
-    match report {
-        Report::Register => register_table(alloc, &house),
-        Report::Due(date) => due_table(alloc, &house, date),
+    match (form, report) {
+        (Form::Csv, Report::Register) => register_table(alloc, house),
+        (Form::Csv, Report::Due(date)) => due_table(alloc, house, date),
+        (Form::Json, Report::Register) => register_json(alloc, house),
+        (Form::Json, Report::Due(date)) => due_json(alloc, house, date),
     }
 }

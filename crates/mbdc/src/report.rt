@@ -6,7 +6,7 @@ use crate::tasks::{ROOM, flushed};
 use crate::why::Noted;
 use dc_disk::FileDisk;
 use dc_ending::{Ending, ProgramFault, ending_of};
-use dc_inspect::{Report, report_json_on, report_on};
+use dc_inspect::{Form, Report, report_on};
 use dc_io::{Buffered, WriteSink};
 use std::fs::{File, OpenFile};
 use std::io;
@@ -34,8 +34,9 @@ where
         Ok(file) => file,
         Err(error) => return host.why.file(image, error),
     };
+    let form = if is_json { Form::Json } else { Form::Csv };
     match FileDisk::new(Noted::new(file, host.why)) {
-        Ok(disk) => ending_of(work(host, disk, report, is_json), image),
+        Ok(disk) => ending_of(work(host, disk, report, form), image),
         Err(error) => host.why.file(image, error),
     }
 }
@@ -45,16 +46,11 @@ fn work<D: FileExt + OpenFile + Drop, R: Print + AllocGlobal>(
     host: &Host<'_, R>,
     disk: FileDisk<D>,
     report: Report,
-    is_json: bool,
+    form: Form,
 ) -> Result<bool, ProgramFault> {
     let printer = Noted::new(io::writer(host.rt), host.why);
     let mut writer = Buffered::new(host.rt.alloc(), ROOM, WriteSink::new(printer))?;
-    let alloc = host.rt.alloc();
-    let (_, outcome) = if is_json {
-        report_json_on(alloc, disk, report, &mut writer)
-    } else {
-        report_on(alloc, disk, report, &mut writer)
-    };
+    let (_, outcome) = report_on(host.rt.alloc(), disk, report, form, &mut writer);
     outcome?;
     flushed(writer)?;
     Ok(false)

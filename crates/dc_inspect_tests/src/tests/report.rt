@@ -3,7 +3,7 @@
 use super::images::{LIFE, after, formatted};
 use dc_disk::MemoryDisk;
 use dc_ending::ProgramFault;
-use dc_inspect::{Report, report_json_on};
+use dc_inspect::{Form, Report, report_on};
 use dc_io::Bytes;
 use dc_log::OpenFault;
 use refusing_alloc::Refusing;
@@ -35,7 +35,7 @@ fn is_shown(
     text: &[u8],
 ) -> Result<(), Fail> {
     let mut writer = Bytes::new(rt.alloc());
-    let (_, outcome) = report_json_on(rt.alloc(), disk, report, &mut writer);
+    let (_, outcome) = report_on(rt.alloc(), disk, report, Form::Json, &mut writer);
     assert_eq!(rt; outcome, Ok(()));
     assert_eq!(rt; writer.as_slice(), text);
     Ok(())
@@ -65,7 +65,13 @@ fn refused_memory_shows_nothing(rt: HostRuntime) -> Result<(), Fail> {
     for k in 1..200 {
         heap.refuse(k);
         let mut writer = Bytes::new(rt.alloc());
-        let (_, outcome) = report_json_on(&heap, disk.copy()?, Report::Register, &mut writer);
+        let (_, outcome) = report_on(
+            &heap,
+            disk.copy()?,
+            Report::Register,
+            Form::Json,
+            &mut writer,
+        );
         if heap.is_waiting() {
             assert_eq!(rt; outcome, Ok(()));
             return Ok(());

@@ -4,7 +4,7 @@ use super::run::{FIRST, LAST, run};
 use super::streams::FailingSink;
 use dc_disk::MemoryDisk;
 use dc_ending::ProgramFault;
-use dc_inspect::{Report, report_on};
+use dc_inspect::{Form, Report, report_on};
 use dc_io::Bytes;
 use dc_log::OpenFault;
 use refusing_alloc::Refusing;
@@ -32,7 +32,7 @@ fn told<A: Allocator + Copy>(
     puts: u64,
 ) -> (Result<(), ProgramFault>, usize) {
     let mut writer = FailingSink::after(puts);
-    let (_, outcome) = report_on(alloc, disk, report, &mut writer);
+    let (_, outcome) = report_on(alloc, disk, report, Form::Csv, &mut writer);
     (outcome, writer.bytes())
 }
 
