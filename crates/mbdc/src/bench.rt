@@ -1,9 +1,8 @@
 //! The commands `scan` and `read`: one bus, without an image.
 
-use crate::host::Host;
-use crate::why::{Noted, Why};
 use dc_bus::{Both, Bus, QuietBus};
 use dc_ending::{Ending, STREAM};
+use dc_files::{Host, Noted, Why};
 use dc_installer::{Readout, ScanFault, identify, read, scan, scan_primary};
 use dc_io::{IoFault, Sink, WriteSink, put_number_word};
 use dc_links::{Peer, ScriptLink, SystemBus, Waiter};

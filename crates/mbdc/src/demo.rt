@@ -1,11 +1,10 @@
 //! The command `demo`: a gateway, a meter and the concentrator in one process, over a loopback socket to itself.
 
-use crate::host::Host;
 use crate::tasks::{ROOM, flushed};
-use crate::why::Noted;
 use dc_address::{Identity, Primary};
 use dc_disk::MemoryDisk;
 use dc_ending::{Ending, ProgramFault, STREAM, ending_of};
+use dc_files::{Host, Noted};
 use dc_io::{Buffered, Bytes, NoMemory, ReadSource, WriteSink};
 use dc_log::Store;
 use dc_register::House;

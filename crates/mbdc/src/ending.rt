@@ -9,10 +9,10 @@ ghost use Rattle.clap.specs.declared.error.kind.ErrorKind.TheVariants.{OutOfMemo
 ghost use Rattle.dc_ending.specs.Ending.{status_of};
 ghost use Rattle.dc_words.specs.Fault.{IfMistake};
 
-use crate::why::{DiskReason, Reason, Why};
 use clap::Error;
 use clap::error::ErrorKind;
 use dc_ending::{Ending, STREAM};
+use dc_files::{DiskReason, Reason, Why};
 use dc_io::{Buffered, IoFault, WriteSink};
 use dc_words::WordsFault;
 use std::alloc::{AllocError, Global};

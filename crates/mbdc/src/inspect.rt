@@ -1,11 +1,9 @@
 //! The commands `inspect` and `values`: an image in a file, which is only read.
 
-use crate::host::Host;
-use crate::image::open_to_look;
 use crate::tasks::{ROOM, flushed};
-use crate::why::Noted;
 use dc_disk::FileDisk;
 use dc_ending::{Ending, ProgramFault, STREAM, ending_of};
+use dc_files::{Host, Noted, open_to_look};
 use dc_inspect::{inspect, show_values};
 use dc_io::{Buffered, WriteSink};
 use dc_log::OpenFault;

@@ -7,29 +7,22 @@ mod clock;
 mod connecting;
 mod demo;
 mod ending;
-mod format;
-mod half_made;
-mod host;
-mod image;
 mod inspect;
 mod poll;
 mod progress;
 mod reaching;
 mod report;
 mod script;
-mod streams;
 mod tasks;
-mod why;
 
 use dc_ending::Ending;
+use dc_files::{Host, NOWHERE, Why, hold};
 use dc_words::{Call, call_of};
 use ending::{told, told_disk, told_why, told_words};
-use host::Host;
 use std::io::{ErrorKind, IsTerminal};
 use std::process::ExitCode;
 use std::rt::Env;
 use std::{env, io};
-use why::Why;
 
 fn words_of(rt: &(impl Env + AllocGlobal)) -> io::Result<Vec<String>> {
     let mut words = Vec::new(rt.alloc());
@@ -40,8 +33,8 @@ fn words_of(rt: &(impl Env + AllocGlobal)) -> io::Result<Vec<String>> {
 }
 
 fn main(rt: HostRuntime) -> ExitCode {
-    if streams::hold(&rt).is_err() {
-        return told(&rt, &Ending::File(streams::NOWHERE));
+    if hold(&rt).is_err() {
+        return told(&rt, &Ending::File(NOWHERE));
     }
     let words = match words_of(&rt) {
         Ok(words) => words,

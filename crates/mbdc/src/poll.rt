@@ -2,16 +2,14 @@
 
 ghost use Rattle.std.specs.Prelude.{◌<◌};
 
-use crate::host::Host;
-use crate::image::open_image;
 use crate::progress::{Counted, Progress};
 use crate::reaching::reach_all;
-use crate::why::Noted;
 use dc_bus::QuietBus;
 use dc_change::Moment;
 use dc_disk::FileDisk;
 use dc_ending::{Ending, ProgramFault, ending_of};
 use dc_events::EventSink;
+use dc_files::{Host, Noted, open_image};
 use dc_io::WriteSink;
 use dc_links::{LinkBus, Peer, SystemBus, Watch};
 use dc_poll::{Outcome, Plan, Station, Timer, is_awaited, poll_image};

@@ -1,7 +1,7 @@
 //! The progress of a poll, on a terminal.
 
-use crate::host::Host;
 use dc_bus::QuietBus;
+use dc_files::Host;
 use dc_poll::{Phase, Station};
 use std::cell::Cell;
 use std::io;

@@ -1,7 +1,7 @@
 //! Connecting the links of a poll, which goes on without those that can't be connected.
 
-use crate::host::Host;
 use dc_ending::Ending;
+use dc_files::Host;
 use dc_links::Peer;
 use dc_words::Links;
 use std::fs::File;

@@ -1,11 +1,9 @@
 //! The command `report`: a table of the contents of an image in a file.
 
-use crate::host::Host;
-use crate::image::open_image;
 use crate::tasks::{ROOM, flushed};
-use crate::why::Noted;
 use dc_disk::FileDisk;
 use dc_ending::{Ending, ProgramFault, ending_of};
+use dc_files::{Host, Noted, open_image};
 use dc_inspect::{Form, Report, report_on};
 use dc_io::{Buffered, WriteSink};
 use std::fs::{File, OpenFile};

@@ -1,13 +1,11 @@
 //! The command `run`: a script over an image in a file.
 
 use crate::connecting::connect_all;
-use crate::host::Host;
-use crate::image::open_image;
 use crate::tasks::ended;
-use crate::why::Noted;
 use dc_bus::Both;
 use dc_disk::FileDisk;
 use dc_ending::{Ending, ProgramFault};
+use dc_files::{Host, Noted, open_image};
 use dc_io::{ReadSource, WriteSink};
 use dc_links::{Connection, Ends, Peer, ScriptLink, SystemBus, Waiter};
 use dc_script::{Slot, run_script, run_script_over};

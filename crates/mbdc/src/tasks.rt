@@ -1,16 +1,14 @@
 //! The commands: an engine of a library between the files and links that the words name.
 
 use crate::bench::{read_on_bus, scan_bus};
-use crate::format::format_image;
-use crate::host::Host;
 use crate::inspect::{Look, look_into};
 use crate::poll::poll_on_image;
 use crate::report::report_on_image;
 use crate::script::run_on_image;
-use crate::why::{Noted, Why};
 use crate::{clock, demo};
 use dc_decode::decode_lines;
 use dc_ending::{Ending, ProgramFault, STREAM, ending_of};
+use dc_files::{Host, Noted, Why, format_image};
 use dc_io::{Buffered, ReadSource, Source, WriteSink};
 use dc_json::{explain_lines, json_lines};
 use dc_script::fold_lines;

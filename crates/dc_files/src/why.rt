@@ -1,6 +1,7 @@
 //! Why a run failed: the system's message for the failed call.
 
 ghost use Rattle.std.specs.Prelude.{◌≡◌};
+ghost use Rattle.dc_ending.specs.Outcome.{IsOfFile};
 
 use dc_ending::Ending;
 use libc::EIO;
@@ -83,13 +84,17 @@ impl Why {
     }
 
     /// The ending of a run by a fault of a file.
-    pub fn file<'a>(&self, name: &'a str, error: io::Error) -> Ending<'a> {
+    pub fn file<'a>(&self, name: &'a str, error: io::Error) -> Ending<'a>
+        ensures { IsOfFile result name.now }
+    {
         self.note(error);
         Ending::File(name)
     }
 
     /// The ending of a run by a fault of a link, of that bus line.
-    pub fn link<'a>(&self, line: Option<u8>, error: io::Error) -> Ending<'a> {
+    pub fn link<'a>(&self, line: Option<u8>, error: io::Error) -> Ending<'a>
+        ensures { result ≡ Ending.Gateway }
+    {
         self.last.set(Some(Reason { line, error }));
         Ending::Gateway
     }

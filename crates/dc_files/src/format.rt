@@ -1,5 +1,7 @@
 //! The command `format`: an image in a file.
 
+ghost use Rattle.dc_files.specs.Formatted.{IsOfFormat};
+
 use crate::half_made::{HalfMade, is_same_file};
 use crate::host::Host;
 use crate::image::{lock, no_file, open_image, within_limit};
@@ -16,9 +18,6 @@ use std::os::unix::fs::FileExt;
 use std::rt::Files;
 use std::{fs, io};
 
-/// Minimum and maximum number of sectors of an image.
-pub const SECTORS: (i64, i64) = (131, 131_075);
-
 /// Formats an image of that many sectors in the file of that name.
 ///
 /// Where nothing has the name, the image is made in a file of its own, and gets the name once it is whole. A regular
@@ -28,7 +27,9 @@ pub fn format_image<'a, R: Files<File = File> + AllocGlobal>(
     host: &Host<'_, R>,
     name: &'a str,
     sectors: u32,
-) -> Ending<'a> {
+) -> Ending<'a>
+    ensures { IsOfFormat result name.now }
+{
     let length = 512 * u64::from(sectors);
     if let Err(error) = within_limit(length) {
         return host.why.file(name, error);
@@ -45,7 +46,9 @@ fn format_in_place<'a, R: Files<File = File>>(
     name: &'a str,
     seen: &Metadata,
     length: u64,
-) -> Ending<'a> {
+) -> Ending<'a>
+    ensures { IsOfFormat result name.now }
+{
     let formatted = match open_seen(host.rt, name, seen) {
         Ok(file) => format_blank(host.why, file, length),
         Err(error) => Err(error),
@@ -58,7 +61,9 @@ fn formatted_as<'a>(
     why: &Why,
     name: &'a str,
     formatted: io::Result<Option<FormatFault>>,
-) -> Ending<'a> {
+) -> Ending<'a>
+    ensures { IsOfFormat result name.now }
+{
     match formatted {
         Ok(None) => Ending::Clean,
         Ok(Some(fault)) => Ending::Format(fault),
@@ -122,7 +127,9 @@ fn make_image<'a, R: Files<File = File> + AllocGlobal>(
     host: &Host<'_, R>,
     name: &'a str,
     length: u64,
-) -> Ending<'a> {
+) -> Ending<'a>
+    ensures { IsOfFormat result name.now }
+{
     // `format ""` and `format folder/` name no file.
     if name.is_empty() || name.ends_with('/') {
         host.why.say("it is no name of a file");

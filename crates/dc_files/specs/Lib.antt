@@ -1,0 +1,4 @@
+-- the definitions that contracts cite
+
+-- how `format` may end
+pub mod Formatted

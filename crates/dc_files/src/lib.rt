@@ -1,0 +1,27 @@
+//! The files of images, as the commands open and make them, and what failed on the way.
+//!
+//! [`open_image`] opens an image for one program that changes it, [`open_to_look`] for programs that
+//! look at it; their first read goes to the drive. [`format_image`] makes an image in a file of its
+//! own ([`HalfMade`]), which gets the name once it is whole; no file that holds anything but zeros is
+//! touched. [`hold`] gives each closed standard stream to `/dev/null`, so that no image gets its
+//! number.
+//!
+//! A [`Host`] is the system as the commands see it, with the record of its failed calls ([`Why`]). A
+//! [`Noted`] file or stream puts its failed calls there.
+//!
+//! What a file holds and what a lock does is in no contract; the tests use real files.
+#![tactic(auto)]
+
+mod format;
+mod half_made;
+mod host;
+mod image;
+mod streams;
+mod why;
+
+pub use format::format_image;
+pub use half_made::{HalfMade, is_same_file};
+pub use host::Host;
+pub use image::{lock, no_file, open_image, open_to_look, within_limit};
+pub use streams::{NOWHERE, hold};
+pub use why::{DiskReason, Noted, Reason, Why};

@@ -1,0 +1,5 @@
+//! Each kind of file has a module.
+
+mod formats;
+mod locks;
+mod places;
