@@ -5,7 +5,8 @@ import datetime
 import decimal
 
 from fleet_houses import LINE
-from simulated import DUE, STORED_DATE, STORED_VOLUME, VOLUME, type_g
+from world.frames import type_g
+from world.meters import DUE, STORED_DATE, STORED_VOLUME, VOLUME
 
 PROBE = "OFFICE 999999999999999999 CONFIRM 0"
 REFUSED, DONE = "refused", "done"
@@ -13,7 +14,7 @@ OVERDUE = datetime.timedelta(days=2)  # the default of boxes.overdue_after
 
 
 def litres(body, before):
-    """The volume behind a record's DIF and VIF, or None."""
+    """The volume after a record's DIF and VIF, or None."""
     at = body.find(before, 12)
     return int(body[at + len(before):at + len(before) + 4][::-1].hex()) if at >= 0 else None
 

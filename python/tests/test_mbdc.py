@@ -11,6 +11,7 @@ import mbdc
 import mbdc._library
 import mbdc._records
 import pytest
+from world.frames import REQ_UD2, Identity, answer, digits, header, short_frame
 
 TELEGRAM = ("68 1F 1F 68 08 02 72 78 56 34 12 24 40 01 07 55 00 00 00 03 13 15 31 00 DA 02 3B 13 01 8B 60 04 37 18 02 18 16")
 TEXT = ("LONG 08 02 72 28\nMETER 12345678.PAD.01.07 85 0\nRECORD 0 0 0 0 13 153100 = 12.565 m3\n"
@@ -19,9 +20,8 @@ TEXT = ("LONG 08 02 72 28\nMETER 12345678.PAD.01.07 85 0\nRECORD 0 0 0 0 13 1531
 
 def telegram_of(records: str) -> mbdc.Telegram:
     """The telegram with these records, in hex digits."""
-    content = bytes.fromhex("080272 78563412 2440 01 07 55 00 0000" + records)
-    frame = bytes([0x68, len(content), len(content), 0x68, *content, sum(content) % 256, 0x16])
-    found = mbdc.decode(frame.hex())[0].telegram
+    body = header(Identity(12345678), access=0x55) + bytes.fromhex(records)
+    found = mbdc.decode(digits(answer(2, body)))[0].telegram
     assert found
     return found
 
@@ -89,7 +89,7 @@ def test_a_text_longer_than_the_first_room() -> None:
 
 
 def test_threads() -> None:
-    inputs = [f"10 5B {address:02X} {(0x5B + address) % 256:02X} 16\n" * (1 + address) for address in range(200)]
+    inputs = [f"{digits(short_frame(REQ_UD2[0], address))}\n" * (1 + address) for address in range(200)]
     with concurrent.futures.ThreadPoolExecutor(8) as pool:
         texts = list(pool.map(mbdc.decode_text, inputs * 20))
     assert texts == [f"SHORT 5B {address:02X}\n" * (1 + address) for address in range(200)] * 20

@@ -1,0 +1,116 @@
+"""Faults of a transparent way to a bus: what a level converter, a network or the bus itself does to answers.
+
+A fault says for each exchange which pieces come back, and when: seconds after the request, and bytes, or CLOSE for the
+end of the connection. The way is first in, first out: a piece waits for those before it. What is under way when a
+connection ends goes to the next one, as it does with ser2net.
+"""
+
+import contextlib
+import functools
+import operator
+import queue
+import random
+import threading
+import time
+from collections.abc import Callable, Sequence
+from typing import Optional
+
+from world.bus import Bus, Port
+from world.frames import ACK
+from world.meters import Meter
+
+CLOSE = None
+STALL = 0.8  # seconds: longer than the gap that ends an answer
+SHARE = 0.3  # of the answers
+SILENT_BYTE = 0xFF  # what an idle line adds to others' bits
+
+Piece = tuple[float, Optional[bytes]]
+Fault = Callable[[random.Random, bytes, bytes], list[Piece]]
+
+
+def whole(rng: random.Random, request: bytes, answer: bytes) -> list[Piece]:
+    """No fault."""
+    return [(0, answer)]
+
+
+def closes(share: float, otherwise: Fault = whole) -> Fault:
+    """The connection ends within this share of the telegrams."""
+    def fault(rng: random.Random, request: bytes, answer: bytes) -> list[Piece]:
+        if len(answer) <= len(ACK) or rng.random() >= share:
+            return otherwise(rng, request, answer)
+        return [(0, answer[:rng.randrange(1, len(answer))]), (0.05, CLOSE)]
+    return fault
+
+
+def stalls(rng: random.Random, request: bytes, answer: bytes) -> list[Piece]:
+    """A frame stops in the middle; the rest comes too late, or never."""
+    if len(answer) <= len(ACK) or rng.random() >= SHARE:
+        return [(0, answer)]
+    cut = rng.randrange(1, len(answer))
+    return [(0, answer[:cut]), (STALL, answer[cut:] if rng.random() < 0.5 else b"")]
+
+
+def echoes(rng: random.Random, request: bytes, answer: bytes) -> list[Piece]:
+    """The converter sends back what it is given, in one piece with the answer or before it."""
+    return [(0, request + answer)] if rng.random() < 0.5 else [(0, request), (0.03, answer)]
+
+
+def late(longest: float) -> Fault:
+    """An answer comes at any moment up to so many seconds after its request."""
+    return lambda rng, request, answer: [(rng.uniform(0, longest) if rng.random() < SHARE else 0, answer)]
+
+
+def always_late(seconds: float) -> Fault:
+    """Each answer comes so many seconds after its request."""
+    return lambda rng, request, answer: [(seconds, answer)]
+
+
+def one_of(*faults: Fault) -> Fault:
+    """One of these faults at each exchange."""
+    return lambda rng, request, answer: rng.choice(faults)(rng, request, answer)
+
+
+class FaultyBus(Bus):
+    """A bus whose answers have a fault on their way. Answers of several meters at once are received bit by bit."""
+
+    def __init__(self, meters: Sequence[Meter], rng: random.Random, fault: Fault = whole) -> None:
+        super().__init__(meters, rng)
+        self.fault = fault
+        self.port: Optional[Port] = None  # the newest connection
+        self.under_way: queue.Queue[tuple[float, Optional[bytes]]] = queue.Queue()
+        threading.Thread(target=self.send, daemon=True).start()
+
+    def connect(self, port: Port) -> None:
+        super().connect(port)
+        self.port = port
+
+    def together(self, answers: list[bytes]) -> bytes:
+        """A meter holds the line at 0 against the others' 1."""
+        longest = max(map(len, answers))
+        columns = zip(*(it.ljust(longest, bytes([SILENT_BYTE])) for it in answers))
+        return bytes(functools.reduce(operator.and_, column) for column in columns)
+
+    def reply(self, request: bytes, port: Port) -> None:
+        """Puts the pieces of the answer on their way."""
+        self.take()
+        received, now = self.carry(request), time.monotonic()
+        self.port, self.delivered = port, None  # a late answer may come after the next request, which then shows nothing
+        for seconds, piece in self.fault(self.rng, request, received):
+            self.counts["late"] += seconds > 0
+            self.under_way.put((now + seconds, piece))
+
+    def send(self) -> None:
+        """Sends each piece at its moment to whoever is connected then."""
+        while True:
+            moment, piece = self.under_way.get()
+            time.sleep(max(0, moment - time.monotonic()))
+            with contextlib.suppress(OSError):  # the program may be killed
+                self.deliver(piece)
+
+    def deliver(self, piece: Optional[bytes]) -> None:
+        """Sends a piece, or ends the connection."""
+        if piece is CLOSE and self.port:
+            self.counts["closed"] += 1
+            self.port.close()
+        elif piece and self.port:
+            self.port.write(piece)

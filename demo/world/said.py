@@ -1,0 +1,51 @@
+"""The lines of `mbdc decode` that say what an object of `mbdc decode --json`, or of the web page, says."""
+
+from collections.abc import Iterator
+from typing import Any
+
+FUNCTIONS = ("instantaneous", "maximum", "minimum", "error state")
+
+Object = dict[str, Any]
+
+
+def value_of(record: Object) -> str:
+    """What is after `=` in the line of a record."""
+    if record["reading"] != "point":
+        return "other"
+    if record["value"] is None:
+        return "none"
+    return f"{record['value']} {record['unit']}" if record["unit"] else str(record["value"])
+
+
+def telegram_lines(found: Object) -> Iterator[str]:
+    """The lines of a telegram."""
+    yield f"METER {found['meter']['id']} {found['access']} {found['status']['code']}"
+    for one in found["records"]:
+        about = f"{one['storage']} {one['tariff']} {one['subunit']} {FUNCTIONS.index(one['function'])}"
+        yield f"RECORD {about} {one['vib'] or '-'} {one['data'] or '-'} = {value_of(one)}"
+    rest = found["manufacturer_data"]
+    yield "END" if rest is None else f"{'MORE' if found['more'] else 'LAST'} {len(rest) // 2}"
+
+
+def fault_line(fault: Object) -> str:
+    """The line of a fault."""
+    is_hex = fault["kind"] == "hex"
+    return "HEX FAULT" if is_hex else f"{fault['kind'].upper()} FAULT {fault['number']} {fault['name']}"
+
+
+def lines_of(found: Object) -> Iterator[str]:
+    """The lines that say what an object says; a long frame's without the body's length."""
+    if found["frame"] == "ack":
+        yield "ACK"
+    elif found["frame"] != "none":
+        ci = f" {found['ci']:02X}" if "ci" in found else ""
+        yield f"{found['frame'].upper()} {found['control']:02X} {found['address']:02X}{ci}"
+    if "fault" in found:
+        yield fault_line(found["fault"])
+    if "meter" in found:
+        yield from telegram_lines(found)
+
+
+def without_length(line: str) -> str:
+    """A long frame's line without the body's length."""
+    return " ".join(line.split()[:4]) if line.startswith("LONG") else line
