@@ -1,5 +1,7 @@
 //! A gateway as a bus, and as a bus of a script.
 
+ghost use Rattle.std.specs.Prelude.{◌≡◌, true};
+
 use crate::gateway::Gateway;
 use dc_bus::{AnswerBuf, Bus, ScriptBus};
 use dc_frame::FrameBuf;

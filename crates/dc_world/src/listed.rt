@@ -1,6 +1,6 @@
 //! A bus in memory: a list of meters, each with one telegram.
 
-ghost use Rattle.std.specs.Prelude.{◌≡◌, None, Some};
+ghost use Rattle.std.specs.Prelude.{◌≡◌, None, Some, true};
 ghost use Rattle.dc_bus.specs.Bus.{Acknowledge, IsHeard, Respond};
 ghost use Rattle.dc_world.specs.Listed.{chosen};
 ghost use Rattle.dc_search.specs.Bus.{IsMatching};
