@@ -1,11 +1,12 @@
-# What `mbdc decode` prints, in plain Python: bench/decode times the program against it. It reads standard input.
+"""What `mbdc decode` prints, in plain Python: bench/decode times the program against it. It reads standard input."""
 import sys
 from datetime import date
+from typing import Optional
 
 WIDTHS = [0, 1, 2, 3, 4, 4, 6, 8, 0, 1, 2, 3, 4, None, 6, 0]
 
 
-def length(body, at):
+def length(body: bytes, at: int) -> tuple[int, int]:
     n = body[at]
     return (n if n < 0xC0 else n % 16), at + 1
 
@@ -19,7 +20,7 @@ FAMILIES = [
 UNITS = {code: (exponent + code - first, unit) for first, last, exponent, unit in FAMILIES for code in range(first, last + 1)}
 
 
-def decimal(mantissa, exponent):
+def decimal(mantissa: int, exponent: int) -> str:
     sign, digits = "-" if mantissa < 0 else "", str(abs(mantissa))
     if exponent >= 0:
         return sign + (digits + "0" * exponent if mantissa else "0")
@@ -27,7 +28,7 @@ def decimal(mantissa, exponent):
     return f"{sign}{digits[:exponent]}.{digits[exponent:]}"
 
 
-def number(field, data):
+def number(field: int, data: bytes) -> Optional[int]:
     if field < 8:
         n = int.from_bytes(data, "little", signed=True)
         return None if n == -1 << 8 * len(data) - 1 else n
@@ -36,7 +37,7 @@ def number(field, data):
     return sign * int(digits) if digits.isdigit() else None
 
 
-def day(data):
+def day(data: bytes) -> str:
     low, high = data
     year = low >> 5 | high >> 4 << 3
     try:
@@ -46,7 +47,7 @@ def day(data):
 
 
 # Dates with a time aren't in the bench.
-def seen(field, vib, data):
+def seen(field: int, vib: bytes, data: bytes) -> str:
     if vib == b"\x6C" and field == 2:
         return day(data)
     if vib == b"\xFD\x17" and field in (1, 2, 3, 4, 6, 7):
@@ -58,7 +59,7 @@ def seen(field, vib, data):
     return "other"
 
 
-def record(body, at):
+def record(body: bytes, at: int) -> tuple[str, int]:
     dif = last = body[at]
     storage, tariff, subunit, k = dif >> 6 & 1, 0, 0, 0
     at += 1
@@ -85,7 +86,7 @@ def record(body, at):
     return f"RECORD {fields} = {seen(dif % 16, vib, data)}", at + width
 
 
-def telegram(body):
+def telegram(body: bytes) -> list[str]:
     maker = body[4] | body[5] << 8
     letters = "".join(chr(64 + (maker >> shift & 31)) for shift in (10, 5, 0))
     number = body[3::-1].hex()
@@ -105,7 +106,7 @@ def telegram(body):
     return lines
 
 
-def frames(text):
+def frames(text: bytes) -> list[str]:
     lines = []
     while text:
         if text[0] == 0xE5:
@@ -131,7 +132,7 @@ def frames(text):
     return lines
 
 
-def main():
+def main() -> None:
     shown = []
     for line in sys.stdin.buffer:
         try:

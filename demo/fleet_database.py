@@ -1,11 +1,17 @@
 """A PostgreSQL server of Debian's package in a temporary folder, for demo/fleet: on a unix socket, crashed at will."""
 
+import importlib.util
 import os
 import pathlib
+import random
 import shutil
 import signal
 import subprocess
 import time
+from collections.abc import Sequence
+from typing import Any, Optional
+
+from world.box import Word
 
 OWNER, DATABASE = "office", "postgres"
 START_SECONDS = 60
@@ -13,17 +19,13 @@ PROGRAMS = sorted(pathlib.Path("/usr/lib/postgresql").glob("*/bin/postgres"), ke
 PACKAGES = ["postgresql", "python3-psycopg2"]
 
 
-def missing():
+def missing() -> list[str]:
     """The packages that aren't installed."""
-    try:
-        import psycopg2  # noqa: F401
-        found = ["python3-psycopg2"]
-    except ImportError:
-        found = []
+    found = ["python3-psycopg2"] * bool(importlib.util.find_spec("psycopg2"))
     return [name for name in PACKAGES if name not in found + ["postgresql"] * bool(PROGRAMS)]
 
 
-def install(packages):
+def install(packages: Sequence[str]) -> None:
     sudo = [] if os.geteuid() == 0 else ["sudo"]
     subprocess.run([*sudo, "apt-get", "update"], check=True)
     subprocess.run([*sudo, "apt-get", "install", "-y", "--no-install-recommends", *packages], check=True)
@@ -32,33 +34,34 @@ def install(packages):
 class Server:
     """The server; `name` is its DSN."""
 
-    def __init__(self, folder):
-        self.folder, self.process, self.crashes = folder / "database", None, 0
+    def __init__(self, folder: pathlib.Path) -> None:
+        self.folder, self.crashes = folder / "database", 0
+        self.process: Optional[subprocess.Popen[bytes]] = None
         self.folder.mkdir()
         # PostgreSQL refuses to run as root: then it runs as the user of Debian's package
-        self.account = {"user": "postgres", "group": "postgres", "extra_groups": []} if os.geteuid() == 0 else {}
+        self.account: dict[str, Any] = {"user": "postgres", "group": "postgres", "extra_groups": []} if os.geteuid() == 0 else {}
         if self.account:
             shutil.chown(self.folder, "postgres", "postgres")
         self.name = f"host={self.folder} dbname={DATABASE} user={OWNER}"
         program = PROGRAMS[-1].parent
         self.run([program / "initdb", "-D", self.folder / "data", "-A", "trust", "-U", OWNER, "--no-sync"])
-        self.words = [program / "postgres", "-D", self.folder / "data", "-k", self.folder, "-c", "listen_addresses="]
+        self.words: list[Word] = [program / "postgres", "-D", self.folder / "data", "-k", self.folder, "-c", "listen_addresses="]
 
-    def run(self, words):
-        done = subprocess.run(words, cwd=self.folder, capture_output=True, text=True, check=False, **self.account)
+    def run(self, words: Sequence[Word]) -> None:
+        done = subprocess.run(list(map(str, words)), cwd=self.folder, capture_output=True, text=True, check=False, **self.account)
         if done.returncode != 0:
             raise SystemExit(f"fleet: {words[0]}: {done.stderr}")
 
-    def connect(self):
+    def connect(self) -> Any:
         import psycopg2
         connection = psycopg2.connect(self.name, options="-c timezone=UTC")
         connection.autocommit = True
         return connection
 
-    def start(self):
+    def start(self) -> None:
         import psycopg2
         with (self.folder / "log").open("ab") as log:
-            self.process = subprocess.Popen(self.words, cwd=self.folder, stdout=log, stderr=log, **self.account)
+            self.process = subprocess.Popen(list(map(str, self.words)), cwd=self.folder, stdout=log, stderr=log, **self.account)
         for _ in range(START_SECONDS * 20):
             try:
                 self.connect().close()
@@ -67,17 +70,17 @@ class Server:
                 time.sleep(0.05)
         raise SystemExit(f"fleet: the database doesn't start, see {self.folder / 'log'}")
 
-    def crash(self, rng):
+    def crash(self, rng: random.Random) -> None:
         """Without a checkpoint: all processes end at once, or one is killed and the server recovers by itself."""
         self.crashes += 1
-        if rng.random() < 0.5:
+        if rng.random() < 0.5 and self.process:
             self.process.send_signal(signal.SIGQUIT)
             self.process.wait()
             self.start()
         else:
             self.kill_backend()
 
-    def kill_backend(self):
+    def kill_backend(self) -> None:
         import psycopg2
         try:
             with self.connect().cursor() as cursor:
@@ -87,7 +90,7 @@ class Server:
         except (psycopg2.OperationalError, ProcessLookupError):
             pass  # it is recovering already, or that process has ended
 
-    def stop(self):
+    def stop(self) -> None:
         if self.process is not None and self.process.poll() is None:
             self.process.send_signal(signal.SIGINT)
             self.process.wait()

@@ -3,55 +3,61 @@
 import collections
 import datetime
 import decimal
+from collections.abc import Sequence
+from typing import Any
 
-from fleet_houses import LINE
+from fleet_houses import House, Sent
 from world.frames import type_g
 from world.meters import DUE, STORED_DATE, STORED_VOLUME, VOLUME
 
+Row = tuple[Any, ...]
 PROBE = "OFFICE 999999999999999999 CONFIRM 0"
 REFUSED, DONE = "refused", "done"
 OVERDUE = datetime.timedelta(days=2)  # the default of boxes.overdue_after
 
 
-def litres(body, before):
-    """The volume after a record's DIF and VIF, or None."""
-    at = body.find(before, 12)
-    return int(body[at + len(before):at + len(before) + 4][::-1].hex()) if at >= 0 else None
+def litres(body: bytes, before: bytes) -> int:
+    """The volume after a record's DIF and VIF."""
+    at = body.index(before, 12) + len(before)
+    return int(body[at:at + 4][::-1].hex())
 
 
 class Truth:
     """Collects what is true, and compares the database with it."""
 
-    def __init__(self, fleet):
-        self.fleet, self.problems, self.orders, self.retired = fleet, [], [], []
+    def __init__(self, fleet: Any) -> None:
+        self.fleet = fleet  # the one of demo/fleet
+        self.problems: list[str] = []
+        self.orders: list[tuple[str, str, str, bool]] = []
+        self.retired: list[House] = []
 
-    def check(self, is_so, text):
+    def check(self, is_so: object, text: str) -> None:
         if not is_so:
             self.problems.append(text)
 
-    def order(self, house, key, lines, status):
+    def order(self, house: House, key: str, lines: Sequence[str], status: int) -> None:
         """Orders that have ended, as office/order said."""
         for place, line in enumerate(lines, 1):
             self.orders.append((house.box, f"{key}.{place}", line, status == 0))
 
-    def retire(self, house):
+    def retire(self, house: House) -> None:
         """A house whose image is gone; what it sent stays true."""
         self.retired.append(house)
 
-    def rows(self, query, *values):
+    def rows(self, query: str, *values: object) -> list[Row]:
         with self.fleet.server.connect().cursor() as cursor:
             cursor.execute(query, values)
-            return cursor.fetchall()
+            return list(cursor.fetchall())
 
-    def count_of(self, box):
-        return self.rows("SELECT count(*) FROM readings WHERE box LIKE %s", box)[0][0]
+    def count_of(self, box: str) -> int:
+        return int(self.rows("SELECT count(*) FROM readings WHERE box LIKE %s", box)[0][0])
 
-    def bytes_a_reading(self):
+    def bytes_a_reading(self) -> float:
         sizes = [self.rows("SELECT sum(pg_total_relation_size(relid)) FROM pg_partition_tree(%s)", table)[0][0]
                  for table in ("readings", "points")]
-        return sum(sizes) / self.count_of("%")
+        return float(sum(sizes) / self.count_of("%"))
 
-    def problems_found(self):
+    def problems_found(self) -> list[str]:
         """Everything that isn't as it has to be."""
         houses = [*self.fleet.houses, *self.retired]
         readings = self.rows("SELECT box, serial, identity, flat, heard, bodies FROM readings")
@@ -60,7 +66,7 @@ class Truth:
             moments = {int(moment.timestamp()) for moment in heard}
             stored[box, identity, tuple(bytes(body) for body in bodies)].append((serial, flat, moments))
         sent = [(house.box, readout) for house in houses for readout in house.sent]
-        counts = collections.Counter()
+        counts: collections.Counter[str] = collections.Counter()
         for box, readout in sent:
             self.compare(counts, readout, stored.pop((box, readout.identity, tuple(readout.bodies)), []))
         self.check(not stored, f"{len(stored)} readings in the database were never sent, as {next(iter(stored), None)}")
@@ -74,7 +80,7 @@ class Truth:
               f" in the database: {counts['lost']} lost, {counts['doubled']} doubled, {len(stored)} of none")
         return self.problems
 
-    def compare(self, counts, readout, rows):
+    def compare(self, counts: collections.Counter[str], readout: Sent, rows: list[Any]) -> None:
         """A readout with its rows: one, if the box said that it was committed; else one or none."""
         counts["promised"] += readout.is_promised
         counts["lost"] += readout.is_promised and not rows
@@ -83,7 +89,7 @@ class Truth:
         self.check(len(rows) <= 1, f"doubled {readout}: {rows}")
         self.check(all(row[1:] == (readout.flat, {readout.moment}) for row in rows), f"{readout} is stored as {rows}")
 
-    def compare_box(self, house):
+    def compare_box(self, house: House) -> None:
         """The box did each order that is done, has the register that they make, and nothing that isn't confirmed."""
         numbers = [row[0] for row in self.rows(
             "SELECT number FROM orders WHERE box = %s AND state = 'done' ORDER BY number", house.box)]
@@ -98,14 +104,14 @@ class Truth:
         meters = self.rows("SELECT identity, line, address, flat FROM meters WHERE box = %s", house.box)
         self.check(set(meters) == register, f"{house.box}: the database's register is {meters}")
 
-    def compare_serials(self):
+    def compare_serials(self) -> None:
         gaps = self.rows("SELECT box FROM readings GROUP BY box HAVING min(serial) <> 1 OR max(serial) <> count(*)")
         self.check(not gaps, f"the serials of {gaps} have gaps")
         late = self.rows("SELECT box FROM boxes b JOIN readings r ON r.box = b.name WHERE active"
                          " GROUP BY box, confirmed HAVING max(serial) <> confirmed")
         self.check(not late, f"not all of {late} is confirmed")
 
-    def compare_orders(self):
+    def compare_orders(self) -> None:
         """Each order that was asked for stands once, as it was answered, and there is no other one."""
         rows = self.rows("SELECT box, key, line, state FROM orders WHERE key IS NOT NULL ORDER BY box, key")
         asked = sorted((box, key, line, DONE if is_done else REFUSED) for box, key, line, is_done in self.orders)
@@ -116,7 +122,7 @@ class Truth:
         confirms = self.rows("SELECT count(*) FROM orders WHERE confirms IS NOT NULL AND state = 'done'")[0][0]
         print(f"{len(asked)} orders, {refused} of them refused, and {confirms} confirmations: each done once")
 
-    def compare_points(self, readings):
+    def compare_points(self, readings: list[Row]) -> None:
         """The points of each reading: the current volume, the due date, and the volume at it."""
         points = collections.defaultdict(list)
         for box, serial, *point in self.rows("SELECT box, serial, storage, vib, value, unit FROM points"
@@ -129,7 +135,7 @@ class Truth:
             self.check(points.pop((box, serial), None) == right, f"the points of {box} {serial} aren't {right}")
         self.check(not points, f"{len(points)} readings have points and don't exist")
 
-    def compare_views(self):
+    def compare_views(self) -> None:
         """The due-date table of all houses, and the meters that are overdue."""
         sent = {}
         for house in [*self.fleet.houses, *self.retired]:
@@ -142,7 +148,7 @@ class Truth:
         last = max((it.moment for house in self.fleet.houses for it in house.sent), default=0)
         moment = datetime.datetime.fromtimestamp(last, datetime.timezone.utc) + datetime.timedelta(hours=1)
         overdue = {row[0] for row in self.rows("SELECT identity FROM overdue_at(%s)", moment)}
-        heard = collections.defaultdict(int)
+        heard: dict[str, int] = collections.defaultdict(int)
         for house in self.fleet.houses:
             for it in house.sent:
                 heard[it.identity] = max(heard[it.identity], it.moment if it.is_promised else 0)

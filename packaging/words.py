@@ -10,6 +10,8 @@ import re
 import shlex
 import subprocess
 import sys
+from collections.abc import Iterator
+from typing import Optional
 
 LIST = pathlib.Path(__file__).with_name("commands.txt")
 OF_THE_PROGRAM = ["--verbose", "--help", "--version"]
@@ -24,11 +26,12 @@ USAGE = 2
 class Command:
     """A command: its name, its words, its group, and the options among its words with the name of their value (None: a flag)."""
 
-    def __init__(self, line, group):
+    def __init__(self, line: str, group: str) -> None:
         self.name, _, self.words = line.partition(" ")
         self.group = group
         plain = re.sub(r"[\[\]|]|\.\.\.", " ", self.words).split()
-        self.options, self.arguments = {}, []
+        self.options: dict[str, Optional[str]] = {}
+        self.arguments: list[tuple[str, bool]] = []
         for word, after in zip(plain, [*plain[1:], ""]):
             if word.startswith("--"):
                 is_flag = not after or after.startswith("--") or f"{word}]" in self.words or f"{word} |" in self.words
@@ -41,8 +44,8 @@ class Command:
                 self.arguments.append((word, f"[{word}]" not in self.words))
 
 
-def listed():
-    commands, group = [], None
+def listed() -> list[Command]:
+    commands, group = [], ""
     for line in LIST.read_text().splitlines():
         if line.endswith(":"):
             group = line
@@ -54,10 +57,14 @@ def listed():
 class Help:
     """What the help of the program or of one of its commands lists, each with its text."""
 
-    def __init__(self, program, *command):
+    def __init__(self, program: str, *command: str) -> None:
         done = subprocess.run([program, *command, "--help"], capture_output=True, text=True, check=True)
         self.about = done.stdout.split("\n", 1)[0]
-        self.commands, self.arguments, self.options, self.examples, section = {}, [], {}, [], ""
+        self.commands: dict[str, tuple[str, str]] = {}
+        self.arguments: list[tuple[str, bool]] = []
+        self.options: dict[str, tuple[Optional[str], str]] = {}
+        self.examples: list[str] = []
+        section = ""
         for line in done.stdout.splitlines():
             if not line.startswith(" "):
                 section = line
@@ -71,16 +78,16 @@ class Help:
                 self.read_option(line)
 
     @staticmethod
-    def is_group(section):
+    def is_group(section: str) -> bool:
         return section.endswith(":") and section not in NO_GROUPS
 
-    def read_option(self, line):
+    def read_option(self, line: str) -> None:
         found = re.match(r"  (?:-\w,|   ) (--[\w-]+)(?: <([^>]+)>)?(?:\.\.\.)?(?:  +(.*))?$", line)
         if found and found[1] not in OF_THE_PROGRAM:
             self.options[found[1]] = (found[2], found[3] or "")
 
 
-def differences(program):
+def differences(program: str) -> Iterator[str]:
     commands = {it.name: it for it in listed()}
     of_program = Help(program)
     in_help = of_program.commands
@@ -99,7 +106,7 @@ def differences(program):
                 yield f"{what} of {name}: the list has {in_list}, the help has {shown}"
 
 
-def bash_case(command):
+def bash_case(command: Command) -> str:
     """One arm: what follows each option, and else the arguments or the options."""
     values = [f"            {option}) kind={kind_of(value)} ;;" for option, value in command.options.items() if value]
     kinds = dict.fromkeys(kind_of(argument) for argument, _ in command.arguments)
@@ -108,7 +115,7 @@ def bash_case(command):
                       *(['        case $before in', *values, "        esac"] if values else []), "        ;;"])
 
 
-def kind_of(value):
+def kind_of(value: str) -> str:
     """How a value is completed: the function of the completion that does it has this name."""
     return {"N=LINK": "line", "LINK": "link", "TABLE": "table"}.get(value, "file" if value in FILES else "none")
 
@@ -149,24 +156,24 @@ complete -F _mbdc mbdc
 """
 
 
-def bash(program):
+def bash(program: str) -> str:
     commands = listed()
     return BASH.format(names=" ".join(it.name for it in commands), own=" ".join(OF_THE_PROGRAM),
                        cases="\n".join(bash_case(it) for it in commands), schemes=" ".join(SCHEMES),
                        lines=" ".join(f"{n}=" for n in BUS_LINES))
 
 
-def zsh_text(text):
+def zsh_text(text: str) -> str:
     """A text within the brackets of an _arguments specification."""
     return text.replace("\\", "\\\\").replace("[", "\\[").replace("]", "\\]").replace(":", "\\:").replace("'", "'\\''")
 
 
-def zsh_action(value):
+def zsh_action(value: str) -> str:
     actions = {"file": "_files", "link": "_mbdc_links", "line": "_mbdc_lines", "table": "(register)"}
     return actions.get(kind_of(value), "")
 
 
-def zsh_case(program, command):
+def zsh_case(program: str, command: Command) -> str:
     of_command, specs = Help(program, command.name), []
     for option, value in command.options.items():
         text = zsh_text(of_command.options.get(option, ("", ""))[1])
@@ -215,30 +222,30 @@ _mbdc "$@"
 """
 
 
-def zsh(program):
+def zsh(program: str) -> str:
     commands, texts = listed(), Help(program).commands
     about = (f"        '{it.name}:{zsh_text(texts.get(it.name, ('', ''))[1])}'" for it in commands)
     return ZSH.format(commands="\n".join(about), cases="\n".join(zsh_case(program, it) for it in commands),
                       schemes=" ".join(SCHEMES), lines=" ".join(map(str, BUS_LINES)), own=" ".join(OF_THE_PROGRAM))
 
 
-def roff(text):
+def roff(text: str) -> str:
     """A text as a manual page prints it: with hyphens that can be copied, and without its last period."""
     return text.rstrip(".").replace("\\", "\\e").replace("-", "\\-")
 
 
-def roff_words(words):
+def roff_words(words: str) -> str:
     """The words of a command: options bold, values in italics."""
     shown = re.sub(r"--[a-z-]+|[A-Z]+(?:[=:][A-Z]+)?", lambda it: f"\\fB{roff(it[0])}\\fR" if it[0].startswith("-")
                    else f"\\fI{it[0]}\\fR", words)
     return shown.replace("...", " ...")
 
 
-def synopsis(program):
+def synopsis(program: str) -> str:
     return "\n.br\n".join(f".B mbdc {it.name}\n{roff_words(it.words)}".rstrip() for it in listed()) + "\n"
 
 
-def commands_of(program):
+def commands_of(program: str) -> str:
     """A paragraph for each command, by the texts of its help."""
     texts = []
     for command in listed():
@@ -258,7 +265,7 @@ where its line on standard error names a file, a bus line or a disk, a second li
 has what the system said of it."""
 
 
-def main():
+def main() -> int:
     makers = {"bash": bash, "zsh": zsh, "synopsis": synopsis, "commands": commands_of}
     if len(sys.argv) != 3 or sys.argv[1] not in [*makers, "check"]:
         print(__doc__, file=sys.stderr)

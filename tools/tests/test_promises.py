@@ -1,0 +1,65 @@
+"""tools/promises reads functions, their clauses and their owners from sources."""
+
+import pathlib
+import types
+from collections.abc import Callable
+
+import pytest
+
+SOURCE = '''//! A test.
+ghost use Rattle.dc_io.specs.Stream.{Stream, Written as Wrote};
+
+impl<D: Disk> Store<D> {
+    /// Appends.
+    ///
+    /// # Errors
+    ///
+    /// Full, where there is no room.
+    pub fn append(&mut self, data: &[u8]) -> Result<(), Fault>
+        requires open { self.is_open }
+        ensures done { Stream data (Wrote self.now) }
+        ensures same {
+            '{' ≡ "{"
+        }
+    {
+        if data.is_empty() { return Ok(()); }
+        self.write(data)
+    }
+}
+
+impl Display for Fault {
+    fn fmt(&self) -> usize {
+        7
+    }
+}
+
+pub fn law()
+    ensures { true }
+{}
+'''
+
+
+@pytest.fixture
+def promises(tool: Callable[[str], types.ModuleType]) -> types.ModuleType:
+    return tool("promises")
+
+
+def test_functions_with_their_owners_and_clauses(promises: types.ModuleType, tmp_path: pathlib.Path) -> None:
+    file = tmp_path / "store.rt"
+    file.write_text(SOURCE)
+    append, shown, law = promises.functions_of("dc_x", file)
+    assert append.label() == "Store::append" and append.is_public
+    assert [clause.name for clause in append.clauses] == ["done", "same"]
+    assert append.errors(SOURCE.splitlines()) == ["Full, where there is no room."]
+    assert append.definitions(["done"]) == [("dc_io", "Stream", "Stream"), ("dc_io", "Stream", "Written")]
+    assert shown.names() == ["Fault::fmt", "Display::fmt"] and law.is_theorem() and not append.is_theorem()
+
+
+@pytest.mark.parametrize("line, depth", [("fn f() {", 1), ("'{'", 0), ('"{" }', -1), ("{ // {", 1), (r'"\"{" {', 1)])
+def test_braces(promises: types.ModuleType, line: str, depth: int) -> None:
+    assert promises.braces(line) == depth
+
+
+def test_carriers(promises: types.ModuleType) -> None:
+    found = list(promises.carriers("dc_x", "parse: found only; dc_io/Lines::next; law"))
+    assert found == [("dc_x", "parse", ["found", "only"]), ("dc_io", "Lines::next", []), ("dc_x", "law", [])]
