@@ -47,7 +47,7 @@ class Sums(NamedTuple):
     category: str
     amount: decimal.Decimal
     share: Optional[decimal.Decimal]
-    count: int
+    places: int
     with_area: int
 
 
@@ -100,6 +100,6 @@ def fitting_at(place: Place, period: Period) -> object:
 def mean_of(sums: List[Sums], area: Optional[decimal.Decimal]) -> decimal.Decimal:
     """The mean amount of a place, by area where all areas are known."""
     amount = sum((it.amount for it in sums), decimal.Decimal())
-    if area is None or any(it.with_area < it.count for it in sums):
-        return amount / sum(it.count for it in sums)
+    if area is None or any(it.with_area < it.places for it in sums):
+        return amount / sum(it.places for it in sums)
     return amount / sum((it.share for it in sums if it.share is not None), decimal.Decimal()) * area

@@ -66,10 +66,10 @@ class Supplied:
 
     def values(self, fitting: int, values: Dict[str, Any], unit: str = "Wh") -> None:
         """Values at the ends of days, as if the meter had stored them."""
-        for day, value in values.items():
-            self.office.sql("INSERT INTO day_values (fitting, day, at, value, unit, source, month, serial, part) VALUES"
-                            " (%s, %s, day_begins(%s::date + 1, 'Europe/Berlin'), %s, %s, 'stored', '2025-01-01', 1, 1)",
-                            fitting, day, day, value, unit)
+        self.office.sql("INSERT INTO day_values (fitting, day, at, value, unit, source, month, serial, part)"
+                        " SELECT %s, day, day_begins(day + 1, 'Europe/Berlin'), value, %s, 'stored', '2025-01-01', 1, 1"
+                        " FROM unnest(%s::date[], %s::numeric[]) AS k (day, value)",
+                        fitting, unit, list(values), [str(value) for value in values.values()])
 
     def days(self, fitting: int, first: str, count: int, begin: int, step: int, unit: str = "Wh") -> None:
         """A value a day that grows by as much each day."""
