@@ -25,8 +25,10 @@ class Split(NamedTuple):
     periods: List[Period]
 
 
-def split(place: Place, first: datetime.date, after: datetime.date, tenancies: List[Tenancy]) -> Split:
-    """The periods of the days from the first one to the one before `after` in which the place had a meter."""
+def split(place: Place, first: datetime.date, after: datetime.date, tenancies: List[Tenancy],
+          at_exchanges: bool = False) -> Split:
+    """The periods of the days from the first one to the one before `after` in which the place had a meter: by users and,
+    if wanted, by meters."""
     last = place.fittings[-1].ends
     begins = max(begin_of(first, place.zone), place.fittings[0].begins)
     ends = begin_of(after, place.zone)
@@ -36,6 +38,8 @@ def split(place: Place, first: datetime.date, after: datetime.date, tenancies: L
     cuts = {begins, ends}
     for tenancy in users:
         cuts |= {begin_of(day, place.zone) for day in (tenancy.begins, tenancy.ends) if day is not None}
+    if at_exchanges:
+        cuts |= {fitting.begins for fitting in place.fittings}
     moments = [moment for moment in sorted(cuts) if begins <= moment <= ends]
     parts = [Period(number, one, other, user_at(users, one, place.zone))
              for number, (one, other) in enumerate(zip(moments, moments[1:]), 1)]
@@ -78,11 +82,11 @@ def graded_periods(splits: List[Split]) -> Iterator[Tuple[Split, Period, Graded]
 
 
 def splits_of(cursor: Cursor, houses: List[str], first: datetime.date, after: datetime.date,
-              flat: Optional[str] = None) -> List[Split]:
+              at_exchanges: bool = False) -> List[Split]:
     """The places of these houses with their periods from a day to the day before another."""
     tenancies = tenancies_of(cursor, houses, first, after)
-    return [split(place, first, after, tenancies.get((place.house, place.flat), []))
-            for place in places_of(cursor, houses, first, after, flat)]
+    return [split(place, first, after, tenancies.get((place.house, place.flat), []), at_exchanges)
+            for place in places_of(cursor, houses, first, after)]
 
 
 def write_month(cursor: Cursor, month: datetime.date, houses: List[str]) -> "collections.Counter[str]":

@@ -102,7 +102,7 @@ PLACES = """
 SELECT p.id, p.house, p.flat, p.use, p.number, h.zone, f.id, f.box, f.identity, lower(f.during), upper(f.during), f.unit,
        f.first_value, f.last_value, f.first_amount, f.last_amount, f.is_estimated
 FROM places p JOIN houses h ON h.house = p.house JOIN fittings f ON f.place = p.id
-WHERE p.house = ANY (%(houses)s) AND (%(flat)s IS NULL OR p.flat = %(flat)s) AND EXISTS (
+WHERE p.house = ANY (%(houses)s) AND EXISTS (
     SELECT FROM fittings o WHERE o.place = p.id
     AND o.during && tstzrange(day_begins(%(first)s, h.zone), day_begins(%(after)s, h.zone)))
 ORDER BY p.id, lower(f.during)"""
@@ -115,10 +115,9 @@ WHERE house = ANY (%s) AND days && daterange(%s, %s) ORDER BY house, flat, days"
 FIRST_DAY, LAST_DAY = datetime.date(1, 1, 1), datetime.date(9999, 12, 31)
 
 
-def places_of(cursor: Cursor, houses: List[str], first: datetime.date, after: datetime.date,
-              flat: Optional[str] = None) -> List[Place]:
+def places_of(cursor: Cursor, houses: List[str], first: datetime.date, after: datetime.date) -> List[Place]:
     """The places that had a meter on a day from the first one to the one before `after`, with the values around."""
-    cursor.execute(PLACES, {"houses": houses, "first": first, "after": after, "flat": flat})
+    cursor.execute(PLACES, {"houses": houses, "first": first, "after": after})
     places: List[Place] = []
     for row in cursor:
         if not places or places[-1].id != row[0]:
