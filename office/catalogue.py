@@ -105,7 +105,8 @@ class Catalogue(NamedTuple):
         return self.marked(f"{rounded:,f}")
 
     def exact(self, number: decimal.Decimal) -> str:
-        return self.marked(f"{number:,f}")
+        """With the decimals that it has, and no zeros after them."""
+        return self.marked(f"{number.normalize():,f}" if number else "0")
 
     def marked(self, text: str) -> str:
         thousands, point = MARKS[self.language]
@@ -120,5 +121,5 @@ class Catalogue(NamedTuple):
         number = decimal.Decimal(shown)
         if unit in ("Wh", "MWh"):
             number, unit = number.scaleb(-3 if unit == "Wh" else 3), "kWh"
-        text = self.exact(number + 0 if number else decimal.Decimal(0))
+        text = self.exact(number)
         return f"{text}{NARROW}{self.word('HCA') if unit == 'HCA' else 'm³' if unit == 'm3' else unit}"

@@ -28,7 +28,8 @@ SELECT tenancy, month, use, number, begins, ends, grade, kwh, units, basis FROM 
     FROM month_kwh WHERE tenancy = ANY (%(tenancies)s) AND month BETWEEN %(first)s AND %(month)s) AS of_each
 ORDER BY tenancy, use, month, number, begins"""
 AVERAGES = """
-SELECT category, use, sum(kwh) / sum(area_m2), sum(units) / sum(area_m2), count(*) FROM (
+SELECT category, use, sum(kwh) / sum(area_m2) FILTER (WHERE kwh IS NOT NULL), count(kwh),
+       sum(units) / sum(area_m2) FILTER (WHERE units IS NOT NULL), count(units) FROM (
     SELECT h.category, u.use, f.area_m2, sum(u.kwh) AS kwh, sum(u.units) AS units
     FROM month_kwh u JOIN houses h ON h.house = u.house JOIN flats f ON f.house = u.house AND f.flat = u.flat
     WHERE u.month = %s AND u.part = 0 AND f.area_m2 IS NOT NULL
@@ -44,10 +45,11 @@ TelegramKey = Tuple[str, str, int, int]  # month, box, serial, part
 
 
 class Average(NamedTuple):
-    """Of the flats of a category, per square metre."""
+    """Of the flats of a category, per square metre, and of how many."""
     kwh: Optional[decimal.Decimal]
+    with_kwh: int
     units: Optional[decimal.Decimal]
-    flats: int
+    with_units: int
 
 
 Averages = Dict[Tuple[str, str], Average]  # by category and use
@@ -87,7 +89,6 @@ class Use:
     months: Dict[datetime.date, Number]
     places: List[PlaceUse]
     average: Optional[decimal.Decimal]
-    compared: int
 
 
 class User(NamedTuple):
@@ -139,7 +140,7 @@ WORST = ("zero", "measured", "estimated", NO_FACTOR, "unclear", "backwards", "mi
 
 def averages_of(cursor: Cursor, month: datetime.date) -> Averages:
     cursor.execute(AVERAGES, (month,))
-    return {(category, use): Average(kwh, units, count) for category, use, kwh, units, count in cursor}
+    return {(row[0], row[1]): Average(*row[2:]) for row in cursor}
 
 
 def sheets_of(cursor: Cursor, houses: List[str], month: datetime.date, averages: Averages) -> List[Sheet]:
@@ -173,7 +174,7 @@ def uses_of(user: User, month: datetime.date, amounts: List[Amount], averages: A
         places = [PlaceUse(row.number, number_of([row], unit), [reading_of(it, frames) for it in row.basis or []])
                   for row in of_month]
         average = averages.get((user.category, name))
-        found.append(Use(name, unit, numbers, places, average_of(user, unit, average), average.flats if average else 0))
+        found.append(Use(name, unit, numbers, places, average_of(user, unit, average)))
     return found
 
 
@@ -196,10 +197,10 @@ def number_of(rows: List[Amount], unit: str) -> Number:
 
 def average_of(user: User, unit: str, average: Optional[Average]) -> Optional[decimal.Decimal]:
     """The average of the user's category for an area as large as the user's."""
-    if average is None or average.flats < FEWEST_COMPARED or user.area_m2 is None:
+    if average is None or user.area_m2 is None:
         return None
-    a_square_metre = average.kwh if unit == "kWh" else average.units
-    return None if a_square_metre is None else a_square_metre * user.area_m2
+    a_square_metre, flats = average[:2] if unit == "kWh" else average[2:]
+    return a_square_metre * user.area_m2 if a_square_metre is not None and flats >= FEWEST_COMPARED else None
 
 
 def key_of(basis: Dict[str, Any]) -> Optional[TelegramKey]:
