@@ -6,6 +6,7 @@ from typing import List, NamedTuple, Optional
 WIDTH, HEIGHT = 650, 200  # user units
 TOP, BOTTOM, LEFT = 24, 36, 8
 GAP = 8
+PLACES = 13
 
 
 class Bar(NamedTuple):
@@ -15,6 +16,7 @@ class Bar(NamedTuple):
     value: Optional[decimal.Decimal]
     shown: str
     is_estimated: bool
+    is_january: bool
 
 
 class Shape(NamedTuple):
@@ -35,9 +37,9 @@ class Chart(NamedTuple):
 
 
 def chart_of(bars: List[Bar]) -> Chart:
-    """The bars, the highest as high as the chart."""
+    """The bars, the highest as high as the chart; as wide as for thirteen of them."""
     most = max((bar.value for bar in bars if bar.value is not None), default=decimal.Decimal())
-    step = (WIDTH - 2 * LEFT) / max(len(bars), 1)
+    step = (WIDTH - 2 * LEFT) / PLACES
     room = HEIGHT - TOP - BOTTOM
     shapes = []
     for place, bar in enumerate(bars):

@@ -1,6 +1,8 @@
 """QR codes as SVG paths, by Debian's python3-qrcode; none where it isn't installed."""
 
 import datetime
+import importlib
+import importlib.util
 from typing import Any, List, NamedTuple, Optional
 
 QUIET = 4  # modules around a code
@@ -15,20 +17,12 @@ class Code(NamedTuple):
     at: datetime.datetime
 
 
-def is_there() -> bool:
-    try:
-        import qrcode  # noqa: F401
-    except ImportError:
-        return False
-    return True
-
-
 def code_of(link: str, meter: str, at: datetime.datetime) -> Optional[Code]:
     """The code of a link; None where there is no library or the link is too long."""
-    if len(link) > MOST or not is_there():
+    if len(link) > MOST or importlib.util.find_spec("qrcode") is None:
         return None
-    import qrcode
-    made: Any = qrcode.QRCode(error_correction=qrcode.constants.ERROR_CORRECT_L, border=0)
+    qrcode: Any = importlib.import_module("qrcode")
+    made = qrcode.QRCode(error_correction=qrcode.constants.ERROR_CORRECT_L, border=0)
     made.add_data(link)
     made.make(fit=True)
     rows: List[List[bool]] = made.get_matrix()

@@ -13,7 +13,7 @@ from catalogue import Catalogue
 from chart import Bar, Chart, chart_of
 from codes import Code, code_of
 from database import plain
-from periods import begin_of, later_month, next_month
+from periods import begin_of, day_before, later_month, next_month
 from sheet_data import MONTHS, Number, Sheet, Use
 
 TEMPLATES = pathlib.Path(__file__).resolve().parent / "templates"
@@ -53,7 +53,7 @@ def sheet_html(sheet: Sheet, options: Options, with_codes: bool = False) -> str:
     numbers = [use.months[sheet.month] for use in sheet.uses]
     return html_of("sheet.html", words, sheet=sheet, user=user, months=compared(sheet.month),
                    begins=min(number.begins for number in numbers), ends=max(number.ends for number in numbers),
-                   charts=charts_of(sheet, words), first_label=words.short_month(sheet.month.replace(month=1)),
+                   charts=charts_of(sheet, words), last_of=lambda month: day_before(next_month(month)),
                    is_estimated=any(number.grade == "estimated" for number in numbers),
                    is_whole=lambda number, month: is_whole(number, month, user.zone), decoder=options.decoder,
                    codes=codes_of(sheet, options) if with_codes else [])
@@ -70,15 +70,22 @@ def is_whole(number: Number, month: datetime.date, zone: str) -> bool:
 
 def charts_of(sheet: Sheet, words: Catalogue) -> List[Tuple[Use, Chart]]:
     """A chart of heat and of warm water, where the sheet has them."""
-    months = [later_month(sheet.month, number - MONTHS + 1) for number in range(MONTHS)]
-    return [(use, chart_of([bar_of(use, month, words) for month in months])) for use in sheet.uses if use.use in CHARTED]
+    return [(use, chart_of([bar_of(use, month, words) for month in charted(use, sheet.month)])) for use in sheet.uses
+            if use.use in CHARTED]
+
+
+def charted(use: Use, last: datetime.date) -> List[datetime.date]:
+    """The last thirteen months, from the first on of which there is something to say."""
+    months = [later_month(last, number - MONTHS + 1) for number in range(MONTHS)]
+    return [month for month in months if month >= min(use.months)]
 
 
 def bar_of(use: Use, month: datetime.date, words: Catalogue) -> Bar:
     number: Optional[Number] = use.months.get(month)
     value: Optional[decimal.Decimal] = None if number is None else number.value
     said = words.word("none") if value is None else words.number(value, 0 if value >= 100 else 1)
-    return Bar(words.short_month(month), str(month.year), value, said, number is not None and number.grade == "estimated")
+    return Bar(words.short_month(month), str(month.year), value, said, number is not None and number.grade == "estimated",
+               month.month == 1)
 
 
 def codes_of(sheet: Sheet, options: Options) -> List[Code]:

@@ -18,7 +18,7 @@ ORDER = ("heat", "allocator", "warm water", "cold water", "electricity")
 
 USERS = """
 SELECT t.id, t.person, t.language, t.wants, t.token, t.house, t.flat, h.address, h.postcode, h.zone, h.category, h.contact,
-       h.fuel_mix, h.co2_g_per_kwh, h.primary_factor, f.area_m2
+       h.fuel_mix, h.co2_g_per_kwh, h.primary_factor, f.area_m2, lower(t.days)
 FROM tenancies t JOIN houses h ON h.house = t.house JOIN flats f ON f.house = t.house AND f.flat = t.flat
 WHERE t.house = ANY (%s) AND t.days && daterange(%s, %s) ORDER BY t.house, t.flat, t.days"""
 AMOUNTS = """
@@ -109,6 +109,7 @@ class User(NamedTuple):
     co2_g_per_kwh: Optional[decimal.Decimal]
     primary_factor: Optional[decimal.Decimal]
     area_m2: Optional[decimal.Decimal]
+    begins: datetime.date
 
 
 class Sheet(NamedTuple):

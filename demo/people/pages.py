@@ -4,13 +4,16 @@ import datetime
 import html.parser
 import pathlib
 import re
+from fractions import Fraction
 from typing import Any, Dict, Iterator, List, Optional, Tuple
 
 from people.houses import BERLIN, House, Place, User, begin_of, next_month
 from people.truth import BACKWARDS, DECIMALS, MISSING, Number, Truth, places_of, written
 
-WORDS = {"de": {"estimated": "geschätzt", MISSING: "fehlt", BACKWARDS: "rückwärts", "none": "eingezogen", "only": "nur"},
-         "en": {"estimated": "estimated", MISSING: "missing", BACKWARDS: "backwards", "none": "moved in", "only": "only"}}
+WORDS = {"de": {"estimated": "geschätzt", MISSING: "fehlt", BACKWARDS: "rückwärts", "before": "eingezogen",
+                "none": "kein Wert", "only": "nur"},
+         "en": {"estimated": "estimated", MISSING: "missing", BACKWARDS: "backwards", "before": "moved in", "none": "no value",
+          "only": "only"}}
 MONTHS = {"de": "Jan Feb Mär Apr Mai Jun Jul Aug Sep Okt Nov Dez".split(),
           "en": "Jan Feb Mar Apr May Jun Jul Aug Sep Oct Nov Dec".split()}
 CHARTED, CHART_MONTHS = ("heat", "allocator", "warm water"), 13
@@ -69,7 +72,7 @@ class Checker:
         """What a cell has to say; None where it has a number that only the office knows, marked as estimated."""
         words = WORDS[user.language]
         if number is None:
-            return words["none"]
+            return words["before" if user.begins >= next_month(month) else "none"]
         if number.state != "value":
             return words[number.state]
         is_part = (number.begins, number.ends) != (begin_of(month), begin_of(next_month(month)))
@@ -118,6 +121,8 @@ class Checker:
                 number = self.truth.of_user(house, flat, use, user, shown) if shown >= self.first_month else None
                 label = f"{MONTHS[user.language][shown.month - 1]} {shown.year}"
                 found = said.get(label, "")
+                if number is None and label not in said:
+                    continue  # the chart begins later
                 if number is None or number.state != "value":
                     self.same(f"{where} chart {label}", found, "kein Wert" if user.language == "de" else "no value")
                 elif number.value is not None:
@@ -147,7 +152,7 @@ class Checker:
             places = [place for place in house.places if place.use == use]
             values = [self.truth.of_place(place, begins, ends) for place in places]
             if not any(number.is_estimated and number.value is None for number in values):
-                total = sum(number.value for number in values if number.value is not None)
+                total = sum((number.value for number in values if number.value is not None), Fraction())
                 self.same(f"{house.name} {use} {month}", page.cells.get((use, ""), "").split()[0],
                           written(total, DECIMALS[unit], "de"))
 

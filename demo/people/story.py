@@ -37,7 +37,7 @@ class Office:
     def sql(self, query: str, *values: Any) -> List[Tuple[Any, ...]]:
         with self.connection.cursor() as cursor:
             cursor.execute(query, values or None)
-            return cursor.fetchall() if cursor.description else []
+            return list(cursor.fetchall()) if cursor.description else []
 
     # ---- the houses
 
@@ -99,7 +99,7 @@ class Office:
 
     def store(self, until: Moment) -> int:
         """Stores the telegrams up to a moment, as office/collect does, in the partition of their month."""
-        import storing
+        import storing  # what office/ has, by the path set above
         from link import Reading
         count = 0
         for name, coming in self.coming.items():
