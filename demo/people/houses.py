@@ -1,0 +1,300 @@
+"""Simulated houses: the places of their flats, what is consumed there, and what their meters tell of it and when.
+
+What a place consumed is known at *knots*: moments at which its meter told a value that counts. Between two of them it
+grows evenly. A meter that dies tells nothing; one that is disturbed tells a value that is false.
+"""
+
+import bisect
+import dataclasses
+import datetime
+import random
+import zoneinfo
+from typing import Dict, Iterator, List, NamedTuple, Optional, Tuple
+
+from world.frames import bcd, type_g
+
+ZONE = "Europe/Berlin"
+BERLIN = zoneinfo.ZoneInfo(ZONE)
+UTC = datetime.timezone.utc
+Moment = datetime.datetime
+
+
+class Kind(NamedTuple):
+    """A kind of meter: use, device type, VIF, the smallest units of its last digit, and digits a day at its place."""
+    use: str
+    medium: int
+    vif: int
+    unit: str
+    digit: int
+    a_day: int
+    is_seasonal: bool
+
+
+WATT_HOUR = 3_600_000  # millijoules
+KINDS = {
+    "heat": Kind("heat", 0x04, 0x03, "Wh", WATT_HOUR, 9_000, True),
+    "heat in joules": Kind("heat", 0x04, 0x0E, "J", 1_000_000_000, 32, True),
+    "warm water": Kind("warm water", 0x06, 0x13, "m3", 1_000, 60, False),
+    "cold water": Kind("cold water", 0x07, 0x13, "m3", 1_000, 130, False),
+    "allocator": Kind("allocator", 0x08, 0x6E, "HCA", 1_000, 9, True),
+}
+SHOWN_DIGIT = {0x03: ("Wh", 1, 0), 0x0E: ("J", 1_000_000, 0), 0x13: ("m3", 1, 3), 0x6E: ("HCA", 1, 0)}
+GAP_DAYS = 6
+COMPANY = bytes([0x24, 0x40])
+STATUS = bytes([0, 0, 0, 0])  # access number, status, configuration
+
+
+def begin_of(day: datetime.date) -> Moment:
+    return datetime.datetime.combine(day, datetime.time(), BERLIN).astimezone(UTC)
+
+
+def next_month(day: datetime.date) -> datetime.date:
+    return (day.replace(day=1) + datetime.timedelta(days=32)).replace(day=1)
+
+
+class Telegram(NamedTuple):
+    """What a meter sends: its value, and of a stored one the day and the value; in digits."""
+    at: Moment
+    digits: int
+    stored: Optional[Tuple[datetime.date, int]]
+
+
+@dataclasses.dataclass
+class Device:
+    """A meter at a place from one moment to another."""
+    number: int
+    kind: Kind
+    begins: Moment
+    first: int  # digits
+    ends: Optional[Moment] = None
+    last: Optional[int] = None
+    is_estimated: bool = False
+    telegrams: List[Telegram] = dataclasses.field(default_factory=list)
+
+    @property
+    def identity(self) -> str:
+        return f"{self.number:08}.PAD.01.{self.kind.medium:02X}"
+
+    def body(self, told: Telegram) -> bytes:
+        """A telegram without its frame: header, value, and the date and value that are stored."""
+        header = bcd(self.number) + COMPANY + bytes([1, self.kind.medium]) + STATUS
+        value = bytes([0x0C, self.kind.vif]) + bcd(told.digits)
+        if told.stored is None:
+            return header + value
+        return header + value + bytes([0x42, 0x6C]) + type_g(told.stored[0]) + bytes([0x4C, self.kind.vif]) + bcd(
+            told.stored[1])
+
+    def shown(self, digits: int) -> str:
+        """A value as the decoder prints it."""
+        _, power, decimals = SHOWN_DIGIT[self.kind.vif]
+        return f"{digits / 10 ** decimals:.{decimals}f}" if decimals else str(digits * power)
+
+
+class Knot(NamedTuple):
+    """What was consumed up to a moment, in smallest units, and when the office can know it."""
+    at: Moment
+    amount: int
+    known_at: Moment
+
+
+class False_(NamedTuple):
+    """A value that is told and isn't so, with the readings around it."""
+    at: Moment
+    device: Device
+    digits: int
+
+
+class Consumed(NamedTuple):
+    """What was consumed up to a moment."""
+    amount: int
+    is_near: bool  # to the knots around it
+
+
+LONGEST_GAP = datetime.timedelta(hours=48)
+
+
+@dataclasses.dataclass
+class Place:
+    """A supply point, its meters, and what was consumed there."""
+    house: str
+    flat: str
+    kind: Kind
+    number: int
+    weight: str
+    devices: List[Device]
+    knots: List[Knot] = dataclasses.field(default_factory=list)
+    false: List[False_] = dataclasses.field(default_factory=list)
+    struck: List[False_] = dataclasses.field(default_factory=list)
+    is_dead_since: Optional[Moment] = None
+
+    @property
+    def use(self) -> str:
+        return self.kind.use
+
+    def known(self, now: Moment) -> List[Knot]:
+        return [knot for knot in self.knots if knot.known_at <= now]
+
+    def consumed(self, moment: Moment, now: Moment) -> Optional[Consumed]:
+        """What was consumed up to a moment as it can be known; None where no knot lies before or after it."""
+        known = self.known(now)
+        place = bisect.bisect_right([knot.at for knot in known], moment)
+        if place == 0 or (place == len(known) and known[-1].at != moment):
+            return None
+        before = known[place - 1]
+        if before.at == moment:
+            return Consumed(before.amount, True)
+        after = known[place]
+        share = (after.amount - before.amount) * seconds(moment - before.at) // seconds(after.at - before.at)
+        return Consumed(before.amount + share, after.at - before.at <= LONGEST_GAP)
+
+    def is_disturbed(self, begins: Moment, ends: Moment, now: Moment) -> bool:
+        """Whether a false value that counts lies in a step that touches a period."""
+        known = [knot.at for knot in self.known(now)]
+        for one in self.false:
+            if one.at > now or one in self.struck:
+                continue
+            before = max(at for at in known if at < one.at)
+            after = min((at for at in known if at > one.at), default=one.at)
+            if before < ends and begins < after:
+                return True
+        return False
+
+
+def seconds(length: datetime.timedelta) -> int:
+    return int(length.total_seconds())
+
+
+class User(NamedTuple):
+    """Who uses a flat, from a day to the day before another."""
+    name: str
+    language: str
+    begins: datetime.date
+    ends: Optional[datetime.date]
+
+
+@dataclasses.dataclass
+class House:
+    name: str
+    address: str
+    flats: Dict[str, int]  # the areas
+    users: Dict[str, List[User]]
+    places: List[Place]
+
+    def telegrams(self) -> Iterator[Tuple[Moment, Device, str, Telegram]]:
+        """All telegrams in the order in which the house's box hears them."""
+        told = [(telegram.at, device.number, device, place.flat, telegram) for place in self.places
+                for device in place.devices for telegram in device.telegrams]
+        for at, _, device, flat, telegram in sorted(told, key=lambda it: it[:2]):
+            yield at, device, flat, telegram
+
+
+class Plan(NamedTuple):
+    """What goes on at a place."""
+    is_storing: bool  # the meter stores the value at each month's end
+    lost: List[datetime.date]  # days without a telegram
+    exchanged_at: Optional[Moment]
+    dead_since: Optional[datetime.date]
+    false_on: Optional[datetime.date]
+
+
+def fill(place: Place, plan: Plan, first: datetime.date, after: datetime.date, hour: datetime.time, rng: random.Random
+         ) -> None:
+    """Simulates a place from a day to the one before another: its knots, telegrams and devices."""
+    moments = knots_of(plan, first, after, hour)
+    amount, last, digits_of = 0, begin_of(first), {}  # type: int, Moment, Dict[Moment, int]
+    knots = [(last, 0)]
+    for moment in moments:
+        days = (moment - last).total_seconds() / 86400
+        season = 1 + (0.9 if place.kind.is_seasonal else 0.1) * (1 if moment.month in (1, 2, 3, 11, 12) else -0.8)
+        amount += max(0, round(days * place.kind.a_day * season * rng.uniform(0.5, 1.5))) * place.kind.digit
+        knots.append((moment, amount))
+        digits_of[moment], last = amount, moment
+    exchange(place, plan, digits_of, rng)
+    tell(place, plan, first, after, hour, dict(knots))
+    for moment, amount in knots:
+        place.knots.append(Knot(moment, amount, known_at(place, plan, moment)))
+
+
+def knots_of(plan: Plan, first: datetime.date, after: datetime.date, hour: datetime.time) -> List[Moment]:
+    """The moments of values that count, in order: one a day, which a stored one replaces."""
+    found = set() if plan.exchanged_at is None else {plan.exchanged_at}
+    day = first
+    while day < after:
+        tomorrow = day + datetime.timedelta(days=1)
+        is_stored = plan.is_storing and tomorrow.day == 1
+        if not is_silent(plan, day, hour):
+            if is_stored:
+                found.add(begin_of(tomorrow))
+            elif day not in plan.lost and day != plan.false_on:
+                found.add(datetime.datetime.combine(day, hour, UTC))
+        day = tomorrow
+    return sorted(found)
+
+
+def is_silent(plan: Plan, day: datetime.date, hour: datetime.time) -> bool:
+    """Whether the meter is dead on a day, and not exchanged yet."""
+    told = datetime.datetime.combine(day, hour, UTC)
+    return plan.dead_since is not None and day >= plan.dead_since and (
+        plan.exchanged_at is None or told < plan.exchanged_at)
+
+
+def exchange(place: Place, plan: Plan, amounts: Dict[Moment, int], rng: random.Random) -> None:
+    """Ends the place's device at the exchange, and begins another one."""
+    if plan.exchanged_at is None:
+        return
+    old = place.devices[0]
+    old.ends, old.last = plan.exchanged_at, old.first + amounts[plan.exchanged_at] // place.kind.digit
+    old.is_estimated = plan.dead_since is not None
+    place.devices.append(Device(old.number + 50_000_000, old.kind, plan.exchanged_at, rng.randrange(3),
+                                is_estimated=False))
+
+
+def device_at(place: Place, moment: Moment) -> Device:
+    return [device for device in place.devices if device.begins <= moment][-1]
+
+
+def digits_at(place: Place, device: Device, moment: Moment, knots: Dict[Moment, int]) -> int:
+    """What a device shows at a moment: at its last knot or, between two, what has grown so far."""
+    moments = sorted(knots)
+    at = bisect.bisect_right(moments, moment)
+    before = moments[at - 1]
+    grown = knots[before]
+    if at < len(moments) and before != moment:
+        after = moments[at]
+        grown += (knots[after] - knots[before]) * seconds(moment - before) // seconds(after - before)
+    return device.first + (grown - knots.get(device.begins, 0)) // place.kind.digit
+
+
+def tell(place: Place, plan: Plan, first: datetime.date, after: datetime.date, hour: datetime.time,
+         knots: Dict[Moment, int]) -> None:
+    """The telegrams of the place's devices: one a day, with the value of the last month's end where it is stored."""
+    day = first
+    while day < after:
+        moment = datetime.datetime.combine(day, hour, UTC)
+        if not is_silent(plan, day, hour) and day not in plan.lost:
+            device = device_at(place, moment)
+            digits = digits_at(place, device, moment, knots)
+            if day == plan.false_on:
+                digits //= 10
+                place.false.append(False_(moment, device, digits))
+            device.telegrams.append(Telegram(moment, digits, stored_at(place, plan, device, day, knots)))
+        day += datetime.timedelta(days=1)
+    if plan.dead_since is not None and plan.exchanged_at is None:
+        place.is_dead_since = begin_of(plan.dead_since)
+
+
+def stored_at(place: Place, plan: Plan, device: Device, day: datetime.date, knots: Dict[Moment, int]
+              ) -> Optional[Tuple[datetime.date, int]]:
+    begins = begin_of(day.replace(day=1))
+    if not plan.is_storing or begins <= device.begins or begins not in knots:
+        return None
+    return day.replace(day=1) - datetime.timedelta(days=1), digits_at(place, device, begins, knots)
+
+
+def known_at(place: Place, plan: Plan, moment: Moment) -> Moment:
+    """When the office knows a knot: a stored one with the next telegram."""
+    if moment.astimezone(BERLIN).time() != datetime.time() or not plan.is_storing or moment == plan.exchanged_at:
+        return moment
+    return min((telegram.at for device in place.devices for telegram in device.telegrams if telegram.at >= moment
+                and telegram.stored is not None), default=datetime.datetime.max.replace(tzinfo=UTC)) if (
+        moment > place.devices[0].begins) else moment

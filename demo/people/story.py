@@ -1,0 +1,132 @@
+"""The office of demo/office: its database, its commands, and what people do in it."""
+
+import datetime
+import os
+import pathlib
+import subprocess
+import sys
+from typing import Any, Dict, Iterable, List, Tuple
+
+from people.houses import UTC, ZONE, Device, House, Moment, Place, Telegram
+
+PAGE = 2000  # readings stored at once
+SECONDS = 1200
+
+
+class Office:
+    """The commands of an office over one database."""
+
+    def __init__(self, root: pathlib.Path, database: Any, mbdc: pathlib.Path, houses: List[House]) -> None:
+        self.programs, self.database, self.houses = root / "office", database, houses
+        self.environment = {**os.environ, "MBDC": str(mbdc)}
+        os.environ["MBDC"] = str(mbdc)
+        sys.path.insert(0, str(self.programs))
+        self.coming: Dict[str, List[Tuple[Moment, Device, str, Telegram]]] = {
+            house.name: list(house.telegrams()) for house in houses}
+        self.serials = {house.name: 0 for house in houses}
+        self.run("migrate")
+        self.connection = database.connect()
+
+    def run(self, program: str, *words: str, statuses: Tuple[int, ...] = (0,)) -> str:
+        done = subprocess.run([self.programs / program, "--database", self.database.name, *words], capture_output=True,
+                              text=True, check=False, env=self.environment, timeout=SECONDS)
+        if done.returncode not in statuses:
+            raise SystemExit(f"office: {program} {' '.join(words)}: status {done.returncode}\n{done.stdout}{done.stderr}")
+        return done.stdout
+
+    def sql(self, query: str, *values: Any) -> List[Tuple[Any, ...]]:
+        with self.connection.cursor() as cursor:
+            cursor.execute(query, values or None)
+            return list(cursor.fetchall()) if cursor.description else []
+
+    # ---- the houses
+
+    def begin(self, factors: Dict[Tuple[str, str], str]) -> None:
+        """Boxes with their registers, then the houses around them."""
+        for house in self.houses:
+            self.sql("INSERT INTO boxes (name, command) VALUES (%s, 'false')", house.name)
+            self.sql("INSERT INTO houses (house, address, zone, contact) VALUES (%s, %s, %s, 'Hausverwaltung <Büro>')",
+                     house.name, house.address, ZONE)
+            for place in house.places:
+                device = place.devices[0]
+                self.sql("INSERT INTO meters (box, identity, line, address, flat, since) VALUES (%s, %s, 1, %s, %s, %s)",
+                         house.name, device.identity, str(device.number), place.flat, device.begins)
+            self.sql("UPDATE boxes SET house = %s WHERE name = %s", house.name, house.name)
+            self.flats(house)
+        for (name, use), factor in factors.items():
+            self.sql("INSERT INTO factors (house, use, months, kwh_per_unit) VALUES (%s, %s, '[2000-01-01,)', %s)", name, use,
+                     factor)
+
+    def flats(self, house: House) -> None:
+        for flat, area in house.flats.items():
+            self.sql("UPDATE flats SET area_m2 = %s WHERE (house, flat) = (%s, %s)", area, house.name, flat)
+            for user in house.users[flat]:
+                self.sql("INSERT INTO tenancies (house, flat, days, person, language)"
+                         " VALUES (%s, %s, daterange(%s, %s), %s, %s)", house.name, flat, user.begins, user.ends, user.name,
+                         user.language)
+        for place in house.places:
+            self.first_value(place, place.devices[0])
+            self.sql("UPDATE places SET weight = %s WHERE id = %s", place.weight, self.place_id(place))
+
+    def place_id(self, place: Place) -> int:
+        return int(self.sql("SELECT p.id FROM places p JOIN fittings f ON f.place = p.id WHERE f.box = %s AND f.identity = %s",
+                            place.house, place.devices[0].identity)[0][0])
+
+    def first_value(self, place: Place, device: Device) -> None:
+        """A person notes what a meter showed when it was fitted."""
+        self.sql("UPDATE fittings SET unit = %s, first_value = %s WHERE (box, identity) = (%s, %s)", device.kind.unit,
+                 device.shown(device.first), place.house, device.identity)
+
+    def exchange(self, place: Place) -> None:
+        """The order SWAP is done, and a person corrects the moment and notes both values."""
+        old, new = place.devices
+        assert old.last is not None
+        self.sql("UPDATE meters SET identity = %s, address = %s WHERE (box, identity) = (%s, %s)", new.identity,
+                 str(new.number), place.house, old.identity)
+        self.sql("UPDATE fittings SET during = tstzrange(lower(during), %s), last_value = %s, is_estimated = %s"
+                 " WHERE (box, identity) = (%s, %s)", old.ends, old.shown(old.last), old.is_estimated, place.house,
+                 old.identity)
+        self.sql("UPDATE fittings SET during = tstzrange(%s, NULL) WHERE (box, identity) = (%s, %s)", new.begins, place.house,
+                 new.identity)
+        self.first_value(place, new)
+
+    def strike(self, place: Place, at: Moment, device: Device) -> None:
+        """A person strikes a false value."""
+        self.sql("SELECT strike(d.id, 'a disturbed telegram') FROM day_values d JOIN fittings f ON f.id = d.fitting"
+                 " WHERE (f.box, f.identity, d.at) = (%s, %s, %s)", place.house, device.identity, at)
+
+    # ---- readings
+
+    def store(self, until: Moment) -> int:
+        """Stores the telegrams up to a moment, as office/collect does, in the partition of their month."""
+        import storing  # what office/ has, by the path set above
+        from link import Reading
+        count = 0
+        for name, coming in self.coming.items():
+            while coming and coming[0][0] <= until:
+                month = coming[0][0].date().replace(day=1)
+                page: List[Reading] = []
+                while coming and len(page) < PAGE and coming[0][0] <= until and (
+                        coming[0][0].date().replace(day=1) == month):
+                    at, device, flat, told = coming.pop(0)
+                    self.serials[name] += 1
+                    page.append(Reading(self.serials[name], device.identity, flat, (at.astimezone(UTC),),
+                                        (device.body(told),)))
+                self.as_if_in(month)
+                with self.connection, self.connection.cursor() as cursor:
+                    storing.store_readings(cursor, name, page)
+                count += len(page)
+        return count
+
+    def as_if_in(self, month: datetime.date) -> None:
+        """What is stored now belongs to that month."""
+        self.sql("SELECT make_months(%s, 1)", month)
+        for table in ("readings", "points", "due_readings"):
+            self.sql(f"ALTER TABLE {table} ALTER COLUMN month SET DEFAULT %s", month)
+
+    # ---- what the database says
+
+    def tokens(self) -> Iterable[Tuple[str, str, datetime.date, str]]:
+        """Of each tenancy its house, flat, first day and token."""
+        return [(row[0], row[1], row[2], row[3]) for row in self.sql(
+            "SELECT house, flat, lower(days), token FROM tenancies ORDER BY id")]

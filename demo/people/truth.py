@@ -1,0 +1,113 @@
+"""What each number on a sheet has to be: computed from the simulated houses, and by nothing of the office."""
+
+import datetime
+import decimal
+from fractions import Fraction
+from typing import Dict, Iterable, List, NamedTuple, Optional, Set, Tuple
+
+from people.houses import House, Moment, Place, User, begin_of, next_month
+
+VALUE, MISSING, BACKWARDS = "value", "missing", "backwards"
+WORST = (VALUE, BACKWARDS, MISSING)
+FEWEST_COMPARED = 3
+ENERGY = 3_600_000_000  # millijoules of a kWh
+DECIMALS = {"kWh": 1, "m³": 2, "HCA": 1}
+
+
+class Number(NamedTuple):
+    """A number of a sheet: its value in the sheet's unit where the truth knows one, else why there is none."""
+    state: str
+    value: Optional[Fraction]
+    is_estimated: bool
+    begins: Moment
+    ends: Moment
+
+
+class Truth:
+    """What can be known at a moment of these houses."""
+
+    def __init__(self, houses: List[House], factors: Dict[Tuple[str, str], str]) -> None:
+        self.houses, self.factors = houses, factors
+        self.now = begin_of(datetime.date(2000, 1, 1))
+        self.estimated: Set[Tuple[Place_, datetime.date]] = set()  # places that office/estimate gave a value
+
+    def unit(self, house: str, use: str) -> str:
+        if use == "heat" or (house, use) in self.factors:
+            return "kWh"
+        return "HCA" if use == "allocator" else "m³"
+
+    def scaled(self, place: Place, amount: int) -> Fraction:
+        """An amount in the unit of its sheet."""
+        if place.use == "heat":
+            return Fraction(amount, ENERGY)
+        units = Fraction(amount, 1000) * Fraction(place.weight) if place.use == "allocator" else Fraction(amount, 10**6)
+        factor = self.factors.get((place.house, place.use))
+        return units if factor is None else units * Fraction(factor)
+
+    def of_place(self, place: Place, begins: Moment, ends: Moment) -> Number:
+        """What a place consumed in a period, as far as it can be known now."""
+        if place.is_disturbed(begins, ends, self.now):
+            return Number(BACKWARDS, None, False, begins, ends)
+        first, last = place.consumed(begins, self.now), place.consumed(ends, self.now)
+        if first is None or last is None:
+            is_estimated = any(place is of and begin_of(month) < ends and begins < begin_of(next_month(month))
+                               for of, month in self.estimated_places())
+            return Number(VALUE if is_estimated else MISSING, None, is_estimated, begins, ends)
+        is_near = first.is_near and last.is_near and not any(
+            device.is_estimated and device.ends is not None and begins < device.ends <= ends for device in place.devices)
+        return Number(VALUE, self.scaled(place, last.amount - first.amount), not is_near, begins, ends)
+
+    def estimated_places(self) -> Iterable[Tuple[Place, datetime.date]]:
+        names = {name_of(place): place for house in self.houses for place in house.places}
+        return [(names[name], month) for name, month in self.estimated]
+
+    def of_places(self, places: List[Place], begins: Moment, ends: Moment) -> Number:
+        """Their sum."""
+        numbers = [self.of_place(place, begins, ends) for place in places]
+        state = max((number.state for number in numbers), key=WORST.index)
+        values = [number.value for number in numbers if number.value is not None]
+        total = sum(values, Fraction()) if len(values) == len(numbers) else None
+        return Number(state, total, any(number.is_estimated for number in numbers), begins, ends)
+
+    def of_user(self, house: House, flat: str, use: str, user: User, month: datetime.date) -> Optional[Number]:
+        """What a user used in a month; None where it wasn't the user's."""
+        begins, ends = begin_of(month), begin_of(next_month(month))
+        begins = max(begins, begin_of(user.begins))
+        ends = ends if user.ends is None else min(ends, begin_of(user.ends))
+        return self.of_places(places_of(house, flat, use), begins, ends) if begins < ends else None
+
+    def average(self, use: str, unit: str, month: datetime.date) -> Optional[Fraction]:
+        """What a square metre used on the average, of the flats with a measured number in that unit."""
+        total, area, count = Fraction(), 0, 0
+        for house in self.houses:
+            for flat, size in house.flats.items():
+                places = places_of(house, flat, use)
+                if not places or self.unit(house.name, use) != unit:
+                    continue
+                number = self.of_places(places, begin_of(month), begin_of(next_month(month)))
+                if number.value is not None and not number.is_estimated:
+                    total, area, count = total + number.value, area + size, count + 1
+        return total / area if count >= FEWEST_COMPARED else None
+
+
+Place_ = str  # the name of a place
+
+
+def name_of(place: Place) -> Place_:
+    return f"{place.house}/{place.flat}/{place.use}/{place.number}"
+
+
+def places_of(house: House, flat: str, use: str) -> List[Place]:
+    return [place for place in house.places if (place.flat, place.use) == (flat, use)]
+
+
+def rounded(value: Fraction, decimals: int) -> decimal.Decimal:
+    """Half up."""
+    scaled = (value * 10 ** decimals * 2 + 1) // 2
+    return decimal.Decimal(int(scaled)).scaleb(-decimals)
+
+
+def written(value: Fraction, decimals: int, language: str) -> str:
+    """As a German or an English reader writes it."""
+    text = f"{rounded(value, decimals):,.{decimals}f}"
+    return text.translate(str.maketrans(",.", ".,")) if language == "de" else text

@@ -1,0 +1,125 @@
+"""The words of sheets and house pages in German and English, and numbers and dates as the reader writes them."""
+
+import datetime
+import decimal
+import zoneinfo
+from typing import Dict, NamedTuple, Tuple
+
+MONTHS = {"de": ("Januar", "Februar", "März", "April", "Mai", "Juni", "Juli", "August", "September", "Oktober",
+                 "November", "Dezember"),
+          "en": ("January", "February", "March", "April", "May", "June", "July", "August", "September", "October",
+                 "November", "December")}
+MARKS = {"de": (".", ","), "en": (",", ".")}  # between thousands, before decimals
+DECIMALS = {"kWh": 1, "m³": 2, "HCA": 1}  # of a consumption
+NARROW = "\N{NO-BREAK SPACE}"
+
+WORDS: Dict[str, Tuple[str, str]] = {  # German, English
+    "title": ("Verbrauchsinformation", "Consumption information"),
+    "flat": ("Wohnung", "Flat"), "user": ("Nutzer", "User"), "house": ("Haus", "House"), "period": ("Zeitraum", "Period"),
+    "consumption": ("Verbrauch im Vergleich", "Consumption compared"), "use": ("Nutzung", "Use"),
+    "average": ("Durchschnitt vergleichbarer Nutzer", "Average comparable user"),
+    "basis": ("Woher die Zahlen kommen", "Where the numbers come from"),
+    "meter": ("Zähler", "Meter"), "moment": ("Zeitpunkt", "Moment"), "value": ("Stand", "Meter reading"),
+    "source": ("Herkunft", "Source"), "telegram": ("Telegramm", "Telegram"), "check": ("prüfen", "check"),
+    "check_of": ("Telegramm prüfen: Zähler {meter}, {moment}", "Check the telegram: meter {meter}, {moment}"),
+    "chart": ("Verbrauch der letzten 13 Monate: {use}", "Consumption of the last 13 months: {use}"),
+    "none": ("kein Wert", "no value"), "not_yet": ("noch nicht eingezogen", "before you moved in"),
+    "part_of": ("nur {period}", "only {period}"), "place": ("Messstelle {number}", "Place {number}"),
+    "consumed": ("Verbrauch", "Consumption"), "contact": ("Fragen beantwortet", "Questions are answered by"),
+    "explain": (
+        "Der Verbrauch ist der Unterschied zweier Zählerstände. Liegt ein Stand nicht genau am Anfang oder Ende des "
+        "Zeitraums, wird zwischen dem Stand davor und dem danach gleichmäßig verteilt. Der Link bei einem Stand öffnet das "
+        "Telegramm, das der Zähler gesendet hat; Ihr Browser dekodiert es selbst.",
+        "The consumption is the difference of two meter readings. Where no reading lies exactly at the beginning or end of "
+        "the period, the one before and the one after are taken, and what lies between them is spread evenly. The link at a "
+        "reading opens the telegram that the meter sent; your browser decodes it by itself."),
+    "average_explain": (
+        "Durchschnitt: Verbrauch je m² aller vergleichbaren Wohnungen mit gemessenem Wert, mal Ihre Wohnfläche, ganzer Monat.",
+        "Average: consumption per m² of all comparable flats with a measured value, times your floor area, whole month."),
+    "estimated_explain": (
+        "Geschätzt: Für mindestens einen Stand gab es keinen Messwert in der Nähe.",
+        "Estimated: for one reading at least there was no measured value nearby."),
+    "heat": ("Heizung", "Heating"), "warm water": ("Warmwasser", "Warm water"), "cold water": ("Kaltwasser", "Cold water"),
+    "electricity": ("Strom", "Electricity"), "allocator": ("Heizkostenverteiler", "Heat cost allocators"),
+    "stored": ("vom Zähler gespeichert", "stored by the meter"), "read": ("abgelesen", "read"),
+    "estimated": ("geschätzt", "estimated"), "by hand": ("von Hand eingetragen", "entered by hand"),
+    "fitted": ("bei Einbau", "when fitted"), "removed": ("bei Ausbau", "when removed"),
+    "year before": ("nach dem Vorjahr", "by the year before"), "measured": ("gemessen", "measured"),
+    "zero": ("kein Verbrauch", "no consumption"), "missing": ("Wert fehlt", "value missing"),
+    "backwards": ("Zähler lief rückwärts, wird geprüft", "meter ran backwards, is being checked"),
+    "unclear": ("Zählerwechsel, wird geprüft", "exchange of meters, is being checked"),
+    "no factor": ("Umrechnung fehlt", "no conversion factor"),
+    "HCA": ("Einheiten", "units"), "kWh": ("kWh", "kWh"), "m³": ("m³", "m³"),
+    "house_title": ("Zähler und Verbrauch", "Meters and consumption"), "flats": ("Wohnungen", "Flats"),
+    "meters": ("Zähler", "Meters"), "last_value": ("Letzter Stand", "Last reading"), "since": ("seit", "since"),
+    "grade": ("Güte", "Grade"), "state": ("Zustand", "State"), "silent": ("stumm", "silent"),
+    "never heard": ("noch nie gelesen", "never heard"), "stamp in the future": ("Uhr der Box geht vor", "stamp in the future"),
+    "sum": ("Haus gesamt", "Whole house"), "without": ("{count} Messstellen ohne Wert", "{count} places without a value"),
+    "collected": ("Zuletzt abgeholt", "Last collected"), "never": ("noch nie", "never"), "fault": ("Fehler", "Fault"),
+    "box": ("Box", "Box"), "alarms": ("Offene Meldungen", "Open alarms"), "no_alarms": ("Keine.", "None."),
+    "leap": ("auffällig hoch", "unusually high"), "sheets": ("Blätter", "Sheets"), "vacant": ("leer", "vacant"),
+    "year": ("dasselbe Jahr zuvor", "the year before"), "skip": ("Zum Inhalt", "Skip to content"),
+    "qr": ("Telegramme zum Prüfen", "Telegrams to check"),
+    "energy": ("Energieträger und Emissionen", "Fuels and emissions"),
+    "co2": ("CO2-Emissionsfaktor", "CO2 emission factor"), "primary": ("Primärenergiefaktor", "Primary energy factor"),
+}
+
+
+class Catalogue(NamedTuple):
+    """A language, and the time zone of a house."""
+    language: str
+    zone: str
+
+    def word(self, key: str, **values: object) -> str:
+        german, english = WORDS[key]
+        text = german if self.language == "de" else english
+        return text.format(**values) if values else text
+
+    def month(self, month: datetime.date) -> str:
+        return f"{MONTHS[self.language][month.month - 1]} {month.year}"
+
+    def short_month(self, month: datetime.date) -> str:
+        return f"{MONTHS[self.language][month.month - 1][:3]}"
+
+    def day(self, day: datetime.date) -> str:
+        if self.language == "de":
+            return f"{day.day:02}.{day.month:02}.{day.year}"
+        return f"{day.day} {MONTHS['en'][day.month - 1][:3]} {day.year}"
+
+    def moment(self, moment: datetime.datetime) -> str:
+        """A date and time in the house's zone; midnight ends the day before it."""
+        local = moment.astimezone(zoneinfo.ZoneInfo(self.zone))
+        if local.time() == datetime.time():
+            return f"{self.day(local.date() - datetime.timedelta(days=1))}, 24:00"
+        return f"{self.day(local.date())}, {local:%H:%M}"
+
+    def period(self, begins: datetime.datetime, ends: datetime.datetime) -> str:
+        """The days of a period."""
+        zone = zoneinfo.ZoneInfo(self.zone)
+        last = (ends - datetime.timedelta(microseconds=1)).astimezone(zone).date()
+        return f"{self.day(begins.astimezone(zone).date())} – {self.day(last)}"
+
+    def number(self, number: decimal.Decimal, decimals: int) -> str:
+        """Rounded half up."""
+        rounded = number.quantize(decimal.Decimal(1).scaleb(-decimals), rounding=decimal.ROUND_HALF_UP)
+        return self.marked(f"{rounded:,f}")
+
+    def exact(self, number: decimal.Decimal) -> str:
+        """With the decimals that it has, and no zeros after them."""
+        return self.marked(f"{number.normalize():,f}" if number else "0")
+
+    def marked(self, text: str) -> str:
+        thousands, point = MARKS[self.language]
+        return "".join(thousands if it == "," else point if it == "." else it for it in text)
+
+    def amount(self, number: decimal.Decimal, unit: str) -> str:
+        """A consumption in kWh, cubic metres or an allocator's units, without its unit."""
+        return self.number(number, DECIMALS[unit])
+
+    def reading(self, shown: str, unit: str) -> str:
+        """What a meter stood at, exact; watt hours as kWh."""
+        number = decimal.Decimal(shown)
+        if unit in ("Wh", "MWh"):
+            number, unit = number.scaleb(-3 if unit == "Wh" else 3), "kWh"
+        text = self.exact(number)
+        return f"{text}{NARROW}{self.word('HCA') if unit == 'HCA' else 'm³' if unit == 'm3' else unit}"

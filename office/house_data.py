@@ -1,0 +1,108 @@
+"""What a house page says: its meters with their last values, what stands out, and the month's consumption by flat."""
+
+import datetime
+import decimal
+from typing import Any, Dict, List, NamedTuple, Optional, Tuple
+
+from database import Cursor
+from sheet_data import ORDER, Amount, Number, number_of, unit_of
+
+BOXES = "SELECT name, collected_at, fault FROM boxes WHERE house = %s AND active ORDER BY name"
+METERS = """
+SELECT p.flat, p.use, p.number, f.identity, d.at, d.value, d.unit, d.source, coalesce(s.says, ''), coalesce(o.why, ''),
+       u.grade, coalesce(u.is_leap, false)
+FROM places p
+JOIN houses h ON h.house = p.house
+JOIN fittings f ON f.place = p.id AND f.during @> day_begins(%(after)s, h.zone) - interval '1 second'
+LEFT JOIN LATERAL (SELECT * FROM day_values k WHERE k.fitting = f.id AND k.struck_at IS NULL
+                   ORDER BY k.day DESC LIMIT 1) d ON true
+LEFT JOIN meter_states s ON s.box = f.box AND s.identity = f.identity
+LEFT JOIN overdue o ON o.box = f.box AND o.identity = f.identity
+LEFT JOIN month_use u ON u.place = p.id AND u.month = %(month)s AND u.part = 0
+WHERE p.house = %(house)s ORDER BY p.flat, p.use, p.number"""
+AMOUNTS = """
+SELECT NULL, month, use, number, begins, ends, grade, kwh, units, NULL, flat FROM month_kwh
+WHERE house = %s AND month = %s AND part = 0 ORDER BY flat, use, number"""
+ALARMS = "SELECT since, kind, subject, says, known_by FROM alarms WHERE house = %s AND ended_at IS NULL ORDER BY id"
+USERS = """
+SELECT flat, person, token FROM tenancies WHERE house = %s AND days && daterange(%s, %s) ORDER BY flat, days"""
+
+
+class Box(NamedTuple):
+    name: str
+    collected_at: Optional[datetime.datetime]
+    fault: Optional[str]
+
+
+class Meter(NamedTuple):
+    """A meter at the end of the month, with its last value."""
+    flat: str
+    use: str
+    number: int
+    identity: str
+    at: Optional[datetime.datetime]
+    value: Optional[decimal.Decimal]
+    unit: Optional[str]
+    source: Optional[str]
+    says: str  # of the status byte
+    silence: str  # of the view overdue
+    grade: Optional[str]
+    is_leap: bool
+
+
+class Alarm(NamedTuple):
+    since: datetime.datetime
+    kind: str
+    subject: str
+    says: str
+    known_by: Optional[str]
+
+
+class House(NamedTuple):
+    house: str
+    address: str
+    zone: str
+    month: datetime.date
+    boxes: List[Box]
+    meters: List[Meter]
+    uses: List[Tuple[str, str]]  # with its unit
+    flats: Dict[str, Dict[str, Number]]  # by flat and use
+    sums: Dict[str, Tuple[decimal.Decimal, int]]  # by use: the sum of the flats, and how many places have no value
+    alarms: List[Alarm]
+    users: Dict[str, List[Tuple[str, str]]]  # by flat: name and token
+
+
+def house_of(cursor: Cursor, house: str, month: datetime.date, after: datetime.date) -> House:
+    cursor.execute("SELECT address, zone FROM houses WHERE house = %s", (house,))
+    address, zone = cursor.fetchall()[0]
+    cursor.execute(BOXES, (house,))
+    boxes = [Box(*row) for row in cursor]
+    cursor.execute(METERS, {"house": house, "month": month, "after": after})
+    meters = [Meter(*row) for row in cursor]
+    cursor.execute(ALARMS, (house,))
+    alarms = [Alarm(*row) for row in cursor]
+    users: Dict[str, List[Tuple[str, str]]] = {}
+    cursor.execute(USERS, (house, month, after))
+    for flat, person, token in cursor:
+        users.setdefault(flat, []).append((person, token))
+    cursor.execute(AMOUNTS, (house, month))
+    rows = [(row[10], Amount(*row[:10])) for row in cursor]
+    return House(house, address, zone, month, boxes, meters, *summed(rows), alarms, users)
+
+
+def summed(rows: List[Tuple[str, Amount]]) -> Tuple[Any, Any, Any]:
+    """The uses with their units, the numbers of each flat, and the sums of the house."""
+    uses = [(name, unit_of(name, of_use)) for name in ORDER
+            if (of_use := [row for _, row in rows if row.use == name])]
+    units, grouped = dict(uses), {}  # type: Tuple[Dict[str, str], Dict[Tuple[str, str], List[Amount]]]
+    for flat, row in rows:
+        grouped.setdefault((flat, row.use), []).append(row)
+    flats: Dict[str, Dict[str, Number]] = {}
+    for (flat, use), of_flat in grouped.items():
+        flats.setdefault(flat, {})[use] = number_of(of_flat, units[use])
+    sums = {}
+    for use, unit in uses:
+        values = [row.value(unit) for _, row in rows if row.use == use]
+        known = [value for value in values if value is not None]
+        sums[use] = (sum(known, decimal.Decimal()), len(values) - len(known))
+    return uses, flats, sums

@@ -1,0 +1,131 @@
+"""The consumption of a month: its parts by users, computed by the proved program, graded, and written to `month_use`."""
+
+import collections
+import datetime
+import itertools
+from typing import Any, Dict, Iterator, List, NamedTuple, Optional, Sequence, Tuple
+
+import psycopg2.extras
+
+from consumption import Amount, Key, Line, consumed
+from database import Cursor, Database, insert
+from grading import Graded, Period, graded, has_leap
+from periods import begin_of, next_month
+from supply import Entry, Place, Tenancy, needed, places_of, seconds, tenancies_of
+
+HOUSES_A_TURN = 50  # whose values are in memory at once
+MONTH_USE = "month_use (month, place, part, begins, ends, tenancy, amount, grade, is_leap, basis)"
+Moments = Tuple[int, ...]
+
+
+class Split(NamedTuple):
+    """A place, its entries around a month, and the month's periods: the whole, then each user's part."""
+    place: Place
+    entries: List[Entry]
+    periods: List[Period]
+
+
+def split(place: Place, first: datetime.date, after: datetime.date, tenancies: List[Tenancy],
+          at_exchanges: bool = False) -> Split:
+    """The periods of the days from the first one to the one before `after` in which the place had a meter: by users and,
+    if wanted, by meters."""
+    last = place.fittings[-1].ends
+    begins = max(begin_of(first, place.zone), place.fittings[0].begins)
+    ends = begin_of(after, place.zone)
+    ends = min(ends, last) if last is not None else ends
+    users = [tenancy for tenancy in tenancies if begin_of(tenancy.begins, place.zone) < ends
+             and (tenancy.ends is None or begin_of(tenancy.ends, place.zone) > begins)]
+    cuts = {begins, ends}
+    for tenancy in users:
+        cuts |= {begin_of(day, place.zone) for day in (tenancy.begins, tenancy.ends) if day is not None}
+    if at_exchanges:
+        cuts |= {fitting.begins for fitting in place.fittings}
+    moments = [moment for moment in sorted(cuts) if begins <= moment <= ends]
+    parts = [Period(number, one, other, user_at(users, one, place.zone))
+             for number, (one, other) in enumerate(zip(moments, moments[1:]), 1)]
+    whole = Period(0, begins, ends, parts[0].tenancy if len(parts) == 1 else None)
+    return Split(place, needed(place.entries(), begins, ends), [whole, *parts] if len(parts) > 1 else [whole])
+
+
+def user_at(users: List[Tenancy], moment: datetime.datetime, zone: str) -> Optional[int]:
+    return next((user.id for user in users if begin_of(user.begins, zone) <= moment
+                 and (user.ends is None or moment < begin_of(user.ends, zone))), None)
+
+
+def amounts_of(splits: List[Split]) -> Dict[Key, Amount]:
+    """What the places consumed in their periods: one run of the program for all places of the same boundaries."""
+    groups: Dict[Moments, Dict[str, List[Line]]] = collections.defaultdict(dict)
+    for one in splits:
+        lines = [entry.line for entry in one.entries]
+        if not lines:
+            continue
+        groups[boundaries_of(one.periods[:1])][one.place.name] = lines
+        if len(one.periods) > 1:
+            groups[boundaries_of(one.periods[1:])][one.place.name] = lines
+    found: Dict[Key, Amount] = {}
+    for boundaries, places in groups.items():
+        found.update(consumed(places, boundaries))
+    return found
+
+
+def boundaries_of(periods: Sequence[Period]) -> Moments:
+    return (*(seconds(period.begins) for period in periods), seconds(periods[-1].ends))
+
+
+def graded_periods(splits: List[Split]) -> Iterator[Tuple[Split, Period, Graded]]:
+    """Each period with its amount and grade."""
+    amounts = amounts_of(splits)
+    for one in splits:
+        for period in one.periods:
+            key = (one.place.name, seconds(period.begins), seconds(period.ends))
+            yield one, period, graded(one.place, one.entries, period, amounts.get(key))
+
+
+def splits_of(cursor: Cursor, houses: List[str], first: datetime.date, after: datetime.date,
+              at_exchanges: bool = False) -> List[Split]:
+    """The places of these houses with their periods from a day to the day before another."""
+    tenancies = tenancies_of(cursor, houses, first, after)
+    return [split(place, first, after, tenancies.get((place.house, place.flat), []), at_exchanges)
+            for place in places_of(cursor, houses, first, after)]
+
+
+def write_month(cursor: Cursor, month: datetime.date, houses: List[str]) -> "collections.Counter[str]":
+    """Computes a month of these houses and writes it in the place of what was there; counts its grades."""
+    splits = splits_of(cursor, houses, month, next_month(month))
+    rows: List[Tuple[Any, ...]] = []
+    counts: "collections.Counter[str]" = collections.Counter()
+    for one, period, found in graded_periods(splits):
+        rows.append((month, one.place.id, period.part, period.begins, period.ends, period.tenancy, found.amount,
+                     found.grade, has_leap(one.entries), psycopg2.extras.Json(found.basis)))
+        counts[found.grade] += period.part == 0
+    cursor.execute("DELETE FROM month_use u USING places p WHERE p.id = u.place AND u.month = %s"
+                   " AND p.house = ANY (%s)", (month, houses))
+    insert(cursor, MONTH_USE, rows)
+    return counts
+
+
+def turns(houses: List[str]) -> Iterator[List[str]]:
+    """The houses, so many at a time."""
+    rest = iter(houses)
+    while turn := list(itertools.islice(rest, HOUSES_A_TURN)):
+        yield turn
+
+
+def houses_of(database: Database, named: Sequence[str]) -> List[str]:
+    """The houses with these names, or all of them.
+
+    Raises LookupError where there is none of a name."""
+    with database.transaction() as cursor:
+        cursor.execute("SELECT house FROM houses ORDER BY house")
+        houses = [row[0] for row in cursor]
+    for name in named:
+        if name not in houses:
+            raise LookupError(f"no house: {name}")
+    return sorted(named) if named else houses
+
+
+def open_months(cursor: Cursor, month: datetime.date) -> List[datetime.date]:
+    """The months before a month that have a row that isn't measured."""
+    cursor.execute("SELECT DISTINCT month FROM month_use WHERE month < %s AND grade NOT IN ('measured', 'zero')"
+                   " ORDER BY month", (month,))
+    return [row[0] for row in cursor]

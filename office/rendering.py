@@ -1,0 +1,108 @@
+"""Sheets and house pages as HTML (Jinja2, everything escaped) and PDF (WeasyPrint, which may load nothing)."""
+
+import datetime
+import decimal
+import functools
+import pathlib
+from typing import Any, List, NamedTuple, Optional, Tuple
+
+import jinja2
+import markupsafe
+
+from catalogue import Catalogue
+from chart import Bar, Chart, chart_of
+from codes import Code, code_of
+from database import plain
+from periods import begin_of, day_before, later_month, next_month
+from sheet_data import MONTHS, Number, Sheet, Use
+
+TEMPLATES = pathlib.Path(__file__).resolve().parent / "templates"
+LONGEST = 300  # characters of what people wrote
+CHARTED = ("heat", "allocator", "warm water")
+
+
+class Options(NamedTuple):
+    """How sheets are made: the page that decodes a telegram (a relative or an absolute link; none: no links)."""
+    decoder: str
+
+
+@functools.lru_cache(maxsize=None)
+def environment() -> jinja2.Environment:
+    return jinja2.Environment(loader=jinja2.FileSystemLoader(TEMPLATES), autoescape=True, trim_blocks=True,
+                              lstrip_blocks=True, undefined=jinja2.StrictUndefined)
+
+
+@functools.lru_cache(maxsize=None)
+def style() -> markupsafe.Markup:
+    """The one text that isn't escaped: the repository's own style."""
+    return markupsafe.Markup((TEMPLATES / "page.css").read_text(encoding="utf-8"))
+
+
+def shown(text: str) -> str:
+    """What people wrote, in one line, without control and direction characters."""
+    return plain(text, LONGEST)
+
+
+def html_of(name: str, words: Catalogue, **values: Any) -> str:
+    return environment().get_template(name).render(words=words, style=style(), plain=shown, **values)
+
+
+def sheet_html(sheet: Sheet, options: Options, with_codes: bool = False) -> str:
+    """A sheet; with the codes of its telegrams for paper."""
+    user, words = sheet.user, Catalogue(sheet.user.language, sheet.user.zone)
+    numbers = [use.months[sheet.month] for use in sheet.uses]
+    return html_of("sheet.html", words, sheet=sheet, user=user, months=compared(sheet.month),
+                   begins=min(number.begins for number in numbers), ends=max(number.ends for number in numbers),
+                   charts=charts_of(sheet, words), last_of=lambda month: day_before(next_month(month)),
+                   is_estimated=any(number.grade == "estimated" for number in numbers),
+                   is_whole=lambda number, month: is_whole(number, month, user.zone), decoder=options.decoder,
+                   codes=codes_of(sheet, options) if with_codes else [])
+
+
+def compared(month: datetime.date) -> List[datetime.date]:
+    """The month, the one before, and the same one of the year before."""
+    return [month, later_month(month, -1), later_month(month, -12)]
+
+
+def is_whole(number: Number, month: datetime.date, zone: str) -> bool:
+    return number.begins == begin_of(month, zone) and number.ends == begin_of(next_month(month), zone)
+
+
+def charts_of(sheet: Sheet, words: Catalogue) -> List[Tuple[Use, Chart]]:
+    """A chart of heat and of warm water, where the sheet has them."""
+    return [(use, chart_of([bar_of(use, month, words) for month in charted(use, sheet.month)])) for use in sheet.uses
+            if use.use in CHARTED]
+
+
+def charted(use: Use, last: datetime.date) -> List[datetime.date]:
+    """The last thirteen months, from the first on of which there is something to say."""
+    months = [later_month(last, number - MONTHS + 1) for number in range(MONTHS)]
+    return [month for month in months if month >= min(use.months)]
+
+
+def bar_of(use: Use, month: datetime.date, words: Catalogue) -> Bar:
+    number: Optional[Number] = use.months.get(month)
+    value: Optional[decimal.Decimal] = None if number is None else number.value
+    said = words.word("none") if value is None else words.number(value, 0 if value >= 100 else 1)
+    return Bar(words.short_month(month), str(month.year), value, said, number is not None and number.grade == "estimated",
+               month.month == 1)
+
+
+def codes_of(sheet: Sheet, options: Options) -> List[Code]:
+    """A code for each telegram, once; only where the link works from paper."""
+    if not options.decoder.startswith(("https://", "http://")):
+        return []
+    found = {}
+    for reading in (it for use in sheet.uses for place in use.places for it in place.readings):
+        if reading.frame and reading.frame not in found:
+            found[reading.frame] = code_of(f"{options.decoder}#{reading.frame}", reading.meter, reading.at)
+    return [code for code in found.values() if code is not None]
+
+
+def refuse(url: str) -> Any:
+    raise ValueError(f"nothing is loaded: {url}")
+
+
+def pdf_of(html: str) -> bytes:
+    import weasyprint
+    return bytes(weasyprint.HTML(string=html, url_fetcher=refuse).write_pdf())

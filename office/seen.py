@@ -1,0 +1,92 @@
+"""What somebody has to look at, by kind and subject: the queries behind office/alarms."""
+
+import datetime
+from typing import Dict, Iterator, NamedTuple, Tuple
+
+from database import Cursor
+
+COLLECTION_HOURS = 26
+WINDOW_DAYS = 35  # of the values in which falls and leaps are looked for
+STILL_DAYS = 45
+NIGHTS = 7
+
+COLLECTOR = """
+SELECT 'collector', NULL, 'office/collect', 'no collection of all boxes ended since '
+       || coalesce(to_char(max(ended_at), 'YYYY-MM-DD HH24:MI'), 'ever')
+FROM collections WHERE begun_at <= %(at)s
+HAVING coalesce(max(ended_at) < %(at)s - make_interval(hours => %(hours)s), true)"""
+BOXES = """
+SELECT 'box', b.house, s.box, s.why || coalesce(': ' || s.fault, '')
+FROM stale_boxes_at(%(at)s) s JOIN boxes b ON b.name = s.box"""
+SILENT = """
+SELECT 'silent', b.house, o.box || ' ' || o.identity, o.why || ', flat ' || o.flat
+FROM overdue_at(%(at)s) o JOIN boxes b ON b.name = o.box"""
+STATES = """
+SELECT CASE WHEN s.status & 4 <> 0 THEN 'power' ELSE 'error' END, b.house, s.box || ' ' || s.identity,
+       s.says || ', flat ' || s.flat
+FROM meter_states s JOIN boxes b ON b.name = s.box WHERE s.says <> ''"""
+# Of each meter that is fitted: its last value, the step to it, and the median and the lowest step of a day
+STEPS = """
+SELECT kind, house, subject, says FROM (
+    SELECT p.house, f.box || ' ' || f.identity AS subject, p.flat, k.last, k.step, k.median, k.count, k.low
+    FROM fittings f JOIN places p ON p.id = f.place JOIN LATERAL (
+        SELECT (array_agg(value || ' ' || unit ORDER BY day DESC))[1] AS last,
+               (array_agg(step ORDER BY day DESC))[1] AS step, min(step) AS low, count(step) AS count,
+               percentile_cont(0.5) WITHIN GROUP (ORDER BY step) AS median
+        FROM (SELECT day, value, unit, amount - lag(amount) OVER (ORDER BY day) AS step FROM day_values d
+              WHERE d.fitting = f.id AND struck_at IS NULL
+                AND day BETWEEN %(at)s::date - %(days)s AND %(at)s::date) AS of_day) AS k ON true
+    WHERE f.during @> %(at)s) AS of_each
+CROSS JOIN LATERAL (VALUES
+    ('backwards', low < 0, 'a value below the one before it, the last one ' || last || ', flat ' || flat),
+    ('leap', step >= 10 * median AND median > 0 AND count >= 10, 'to ' || last || ', flat ' || flat))
+    AS found (kind, is_so, says)
+WHERE is_so"""
+STILL = """
+SELECT 'no consumption', p.house, f.box || ' ' || f.identity, %(still)s || ' days at ' || max(d.value) || ' ' || max(d.unit)
+       || ', flat ' || p.flat
+FROM fittings f JOIN places p ON p.id = f.place JOIN tenancies t ON (t.house, t.flat) = (p.house, p.flat)
+JOIN day_values d ON d.fitting = f.id AND d.struck_at IS NULL
+WHERE f.during @> %(at)s AND p.use IN ('warm water', 'cold water', 'electricity')
+  AND t.days @> daterange(%(at)s::date - %(still)s, %(at)s::date)
+  AND d.day BETWEEN %(at)s::date - %(still)s AND %(at)s::date
+GROUP BY p.house, f.id, p.flat
+HAVING count(*) >= %(still)s / 2 AND min(d.day) <= %(at)s::date - %(still)s + 5 AND max(d.amount) = min(d.amount)"""
+# Water that ran in each of the last nights, of meters that are read at least twice between 0:00 and 5:00
+NIGHT = """
+SELECT 'night', house, subject, 'water between 0:00 and 5:00 in ' || count(*) || ' nights, flat ' || flat FROM (
+    SELECT p.house, f.box || ' ' || f.identity AS subject, p.flat, (r.heard[1] AT TIME ZONE h.zone)::date AS night,
+           max(q.value) - min(q.value) AS ran
+    FROM fittings f JOIN places p ON p.id = f.place JOIN houses h ON h.house = p.house JOIN uses u ON u.use = p.use
+    JOIN readings r ON (r.box, r.identity) = (f.box, f.identity)
+    JOIN points q ON (q.month, q.box, q.serial) = (r.month, r.box, r.serial)
+    WHERE f.during @> %(at)s AND u.quantity = 'volume' AND r.month >= date_trunc('month', %(at)s::date - %(nights)s)
+      AND r.heard[1] BETWEEN %(at)s - make_interval(days => %(nights)s) AND %(at)s
+      AND extract(hour FROM r.heard[1] AT TIME ZONE h.zone) < 5 AND q.storage = 0 AND counts(q, f.vib, u.quantity)
+    GROUP BY 1, 2, 3, 4 HAVING count(*) > 1) AS of_night
+WHERE ran > 0 GROUP BY house, subject, flat HAVING count(*) >= %(nights)s"""
+NO_NUMBER = """
+SELECT 'no number', p.house, p.house || '/' || p.flat || '/' || p.use || '/' || p.number || ' '
+       || to_char(u.month, 'YYYY-MM'), u.grade::text
+FROM month_use u JOIN places p ON p.id = u.place
+WHERE u.part = 0 AND u.grade IN ('missing', 'backwards', 'unclear') AND u.month >= %(at)s::date - 400"""
+ALL = (COLLECTOR, BOXES, SILENT, STATES, STEPS, STILL, NIGHT, NO_NUMBER)
+
+
+class Seen(NamedTuple):
+    """A thing that is so at a moment."""
+    kind: str
+    house: str | None
+    subject: str
+    says: str
+
+
+def seen_at(cursor: Cursor, moment: datetime.datetime) -> Iterator[Seen]:
+    """What is so at a moment; one a kind and subject."""
+    values = {"at": moment, "hours": COLLECTION_HOURS, "days": WINDOW_DAYS, "still": STILL_DAYS, "nights": NIGHTS}
+    found: Dict[Tuple[str, str], Seen] = {}
+    for query in ALL:
+        cursor.execute(query, values)
+        for row in cursor:
+            found.setdefault((row[0], row[2]), Seen(*row))
+    yield from found.values()

@@ -1,0 +1,227 @@
+"""What a sheet says: a user's consumption of a month, beside other months and other users, with the readings behind it."""
+
+import dataclasses
+import datetime
+import decimal
+from typing import Any, Dict, Iterable, List, NamedTuple, Optional, Tuple
+
+import psycopg2.extras
+
+from database import Cursor
+from decoding import frame_of
+from periods import later_month
+
+MONTHS = 13  # of the chart
+FEWEST_COMPARED = 3  # flats of an average, so that it tells of nobody
+NO_FACTOR = "no factor"
+ORDER = ("heat", "allocator", "warm water", "cold water", "electricity")
+
+USERS = """
+SELECT t.id, t.person, t.language, t.wants, t.token, t.house, t.flat, h.address, h.postcode, h.zone, h.category, h.contact,
+       h.fuel_mix, h.co2_g_per_kwh, h.primary_factor, f.area_m2, lower(t.days)
+FROM tenancies t JOIN houses h ON h.house = t.house JOIN flats f ON f.house = t.house AND f.flat = t.flat
+WHERE t.house = ANY (%s) AND t.days && daterange(%s, %s) ORDER BY t.house, t.flat, t.days"""
+AMOUNTS = """
+SELECT tenancy, month, use, number, begins, ends, grade, kwh, units, basis FROM (
+    SELECT tenancy, month, use, number, begins, ends, grade, kwh, units,
+           CASE WHEN month = %(month)s THEN basis END AS basis
+    FROM month_kwh WHERE tenancy = ANY (%(tenancies)s) AND month BETWEEN %(first)s AND %(month)s) AS of_each
+ORDER BY tenancy, use, month, number, begins"""
+AVERAGES = """
+SELECT category, use, sum(kwh) / sum(area_m2) FILTER (WHERE kwh IS NOT NULL), count(kwh),
+       sum(units) / sum(area_m2) FILTER (WHERE units IS NOT NULL), count(units) FROM (
+    SELECT h.category, u.use, f.area_m2, sum(u.kwh) AS kwh, sum(u.units) AS units
+    FROM month_kwh u JOIN houses h ON h.house = u.house JOIN flats f ON f.house = u.house AND f.flat = u.flat
+    WHERE u.month = %s AND u.part = 0 AND f.area_m2 IS NOT NULL
+    GROUP BY u.house, u.flat, u.use, h.category, f.area_m2
+    HAVING bool_and(u.grade IN ('measured', 'zero'))) AS of_each
+GROUP BY category, use"""
+BODIES = """
+SELECT r.month::text, r.box, r.serial, k.part, r.bodies[k.part]
+FROM (VALUES %s) AS k (month, box, serial, part) JOIN readings r
+ON r.month = k.month::date AND r.box = k.box AND r.serial = k.serial"""
+
+TelegramKey = Tuple[str, str, int, int]  # month, box, serial, part
+
+
+class Average(NamedTuple):
+    """Of the flats of a category, per square metre, and of how many."""
+    kwh: Optional[decimal.Decimal]
+    with_kwh: int
+    units: Optional[decimal.Decimal]
+    with_units: int
+
+
+Averages = Dict[Tuple[str, str], Average]  # by category and use
+
+
+class Number(NamedTuple):
+    """A consumption of a user in a month, or why it is none."""
+    value: Optional[decimal.Decimal]
+    grade: str  # of the worst place
+    begins: datetime.datetime
+    ends: datetime.datetime
+
+
+class Reading(NamedTuple):
+    """A value that an amount comes from."""
+    at: datetime.datetime
+    shown: str
+    unit: str
+    source: str
+    is_estimated: bool
+    meter: str
+    frame: Optional[str]  # its telegram, in hex digits, while the database has it
+
+
+class PlaceUse(NamedTuple):
+    """A place's part of a number."""
+    number: int
+    amount: Number
+    readings: List[Reading]
+
+
+@dataclasses.dataclass
+class Use:
+    """What a user used a flat's places of one kind for."""
+    use: str
+    unit: str  # kWh, m³, HCA
+    months: Dict[datetime.date, Number]
+    places: List[PlaceUse]
+    average: Optional[decimal.Decimal]
+
+
+class User(NamedTuple):
+    """A tenancy, and its house."""
+    id: int
+    person: str
+    language: str
+    wants: str
+    token: str
+    house: str
+    flat: str
+    address: str
+    postcode: Optional[str]
+    zone: str
+    category: str
+    contact: str
+    fuel_mix: Optional[Dict[str, Any]]
+    co2_g_per_kwh: Optional[decimal.Decimal]
+    primary_factor: Optional[decimal.Decimal]
+    area_m2: Optional[decimal.Decimal]
+    begins: datetime.date
+
+
+class Sheet(NamedTuple):
+    user: User
+    month: datetime.date
+    uses: List[Use]
+
+
+class Amount(NamedTuple):
+    """A row of month_kwh."""
+    tenancy: int
+    month: datetime.date
+    use: str
+    number: int
+    begins: datetime.datetime
+    ends: datetime.datetime
+    grade: str
+    kwh: Optional[decimal.Decimal]
+    units: Optional[decimal.Decimal]
+    basis: Optional[List[Dict[str, Any]]]
+
+    def value(self, unit: str) -> Optional[decimal.Decimal]:
+        return self.kwh if unit == "kWh" else self.units
+
+
+# The grades, from what may stand alone to what leaves no number
+WORST = ("zero", "measured", "estimated", NO_FACTOR, "unclear", "backwards", "missing")
+
+
+def averages_of(cursor: Cursor, month: datetime.date) -> Averages:
+    cursor.execute(AVERAGES, (month,))
+    return {(row[0], row[1]): Average(*row[2:]) for row in cursor}
+
+
+def sheets_of(cursor: Cursor, houses: List[str], month: datetime.date, averages: Averages) -> List[Sheet]:
+    """The sheets of all users of these houses in a month that has amounts."""
+    cursor.execute(USERS, (houses, month, later_month(month, 1)))
+    users = [User(*row) for row in cursor]
+    cursor.execute(AMOUNTS, {"tenancies": [user.id for user in users], "month": month,
+                             "first": later_month(month, 1 - MONTHS)})
+    amounts: Dict[int, List[Amount]] = {}
+    for row in cursor:
+        amounts.setdefault(row[0], []).append(Amount(*row))
+    frames = frames_of(cursor, (it for rows in amounts.values() for it in rows))
+    sheets = [Sheet(user, month, uses_of(user, month, amounts.get(user.id, []), averages, frames)) for user in users]
+    return [sheet for sheet in sheets if sheet.uses]
+
+
+def uses_of(user: User, month: datetime.date, amounts: List[Amount], averages: Averages,
+            frames: Dict[TelegramKey, str]) -> List[Use]:
+    """The uses that have an amount in the month, in the order of a sheet."""
+    found = []
+    for name in ORDER:
+        rows = [row for row in amounts if row.use == name]
+        of_month = [row for row in rows if row.month == month]
+        if not of_month:
+            continue
+        unit = unit_of(name, of_month)
+        by_month: Dict[datetime.date, List[Amount]] = {}
+        for row in rows:
+            by_month.setdefault(row.month, []).append(row)
+        numbers = {one: number_of(rows_of_month, unit) for one, rows_of_month in by_month.items()}
+        places = [PlaceUse(row.number, number_of([row], unit), [reading_of(it, frames) for it in row.basis or []])
+                  for row in of_month]
+        average = averages.get((user.category, name))
+        found.append(Use(name, unit, numbers, places, average_of(user, unit, average)))
+    return found
+
+
+def unit_of(use: str, rows: List[Amount]) -> str:
+    """The unit of a use: kWh where each number has it, or none of them has another."""
+    if use == "cold water" or use != "heat" and any(row.units is not None and row.kwh is None for row in rows):
+        return "HCA" if use == "allocator" else "m³"
+    return "kWh"
+
+
+def number_of(rows: List[Amount], unit: str) -> Number:
+    """The sum over the places, exact in the database's numbers; no value where one of them has none."""
+    values = [row.value(unit) for row in rows]
+    grades = [NO_FACTOR if value is None and row.grade in ("measured", "zero", "estimated") else row.grade
+              for row, value in zip(rows, values)]
+    known = [value for value in values if value is not None]
+    total = sum(known, decimal.Decimal()) if len(known) == len(values) else None
+    return Number(total, max(grades, key=WORST.index), min(row.begins for row in rows), max(row.ends for row in rows))
+
+
+def average_of(user: User, unit: str, average: Optional[Average]) -> Optional[decimal.Decimal]:
+    """The average of the user's category for an area as large as the user's."""
+    if average is None or user.area_m2 is None:
+        return None
+    a_square_metre, flats = average[:2] if unit == "kWh" else average[2:]
+    return a_square_metre * user.area_m2 if a_square_metre is not None and flats >= FEWEST_COMPARED else None
+
+
+def key_of(basis: Dict[str, Any]) -> Optional[TelegramKey]:
+    if basis["telegram"] is None:
+        return None
+    month, serial, part = basis["telegram"]
+    return month, basis["box"], serial, part
+
+
+def frames_of(cursor: Cursor, amounts: Iterable[Amount]) -> Dict[TelegramKey, str]:
+    """The telegrams behind these amounts, each as a long frame."""
+    keys = {key for amount in amounts for key in map(key_of, amount.basis or []) if key is not None}
+    if not keys:
+        return {}
+    rows = psycopg2.extras.execute_values(cursor, BODIES, sorted(keys), fetch=True, page_size=len(keys))
+    return {(month, box, serial, part): frame_of(bytes(body)) for month, box, serial, part, body in rows
+            if body is not None}
+
+
+def reading_of(basis: Dict[str, Any], frames: Dict[TelegramKey, str]) -> Reading:
+    key = key_of(basis)
+    return Reading(datetime.datetime.fromisoformat(basis["at"]), basis["value"], basis["unit"], basis["source"],
+                   basis["estimated"], basis["meter"], None if key is None else frames.get(key))

@@ -1,0 +1,174 @@
+"""The supply points of houses (places), the meters at them, their values, and who used them: from the database."""
+
+import bisect
+import datetime
+from typing import Any, Dict, Iterable, List, NamedTuple, Optional, Sequence
+
+from consumption import Line
+from database import Cursor
+from periods import begin_of
+
+MARGIN = datetime.timedelta(days=10)  # in which the values around a period are looked for first
+BEFORE = 3  # values at or before a period: two for the mark after a step backwards, one to spare
+ESTIMATED = "estimated"
+
+
+class Value(NamedTuple):
+    """What a meter stood at."""
+    at: datetime.datetime
+    amount: int  # in the smallest unit
+    shown: str  # the value as a decimal number
+    unit: str
+    source: str  # stored, read, estimated, by hand; fitted and removed: the first and last value of a fitting
+    is_estimated: bool
+    id: Optional[int]  # of day_values
+    telegram: Optional[List[Any]]  # month, serial, part of readings
+
+    def basis(self, fitting: "Fitting") -> Dict[str, Any]:
+        """As `month_use.basis` keeps it."""
+        return {"at": self.at.isoformat(), "value": self.shown, "unit": self.unit, "source": self.source,
+                "estimated": self.is_estimated, "meter": fitting.identity, "box": fitting.box, "id": self.id,
+                "telegram": self.telegram}
+
+
+class Fitting:
+    """A meter at a place, and its values in order of moment."""
+
+    def __init__(self, row: Sequence[Any]) -> None:
+        self.id, self.box, self.identity = row[:3]
+        self.begins: datetime.datetime = row[3]
+        self.ends: Optional[datetime.datetime] = row[4]
+        unit, first, last, first_amount, last_amount, is_estimated = row[5:]
+        self.first = None if first is None else Value(self.begins, first_amount, plain_number(first), unit, "fitted",
+                                                      is_estimated, None, None)
+        self.last = None if last is None or self.ends is None else Value(
+            self.ends, last_amount, plain_number(last), unit, "removed", is_estimated, None, None)
+        self.values: List[Value] = []
+
+    def all_values(self) -> List[Value]:
+        """Its values in order, with the first and the last one. An estimate counts as long as no reading follows it."""
+        values = sorted(self.values, key=lambda value: value.at)
+        values = [*([self.first] if self.first else []), *values, *([self.last] if self.last else [])]
+        known = [value.at for value in values if value.source != ESTIMATED]
+        return [value for value in values if value.source != ESTIMATED or not known or value.at > known[-1]]
+
+
+class Entry(NamedTuple):
+    """A value with its meter's fitting."""
+    value: Value
+    fitting: Fitting
+
+    @property
+    def line(self) -> Line:
+        return Line(self.fitting.id, seconds(self.value.at), self.value.amount)
+
+    def basis(self) -> Dict[str, Any]:
+        return self.value.basis(self.fitting)
+
+
+class Place:
+    """A supply point of a flat."""
+
+    def __init__(self, row: Sequence[Any]) -> None:
+        self.id, self.house, self.flat, self.use, self.number, self.zone = row
+        self.fittings: List[Fitting] = []
+
+    @property
+    def name(self) -> str:
+        return f"{self.house}/{self.flat}/{self.use}/{self.number}"
+
+    def entries(self) -> List[Entry]:
+        """All values at the place in order of moment; at an exchange the old meter's come first."""
+        entries = [Entry(value, fitting) for fitting in self.fittings for value in fitting.all_values()]
+        return sorted(entries, key=lambda entry: entry.value.at)
+
+
+class Tenancy(NamedTuple):
+    """Who used a flat, from a day to the day before another (None: still)."""
+    id: int
+    begins: datetime.date
+    ends: Optional[datetime.date]
+
+
+def seconds(moment: datetime.datetime) -> int:
+    return int(moment.timestamp())
+
+
+def plain_number(number: Any) -> str:
+    return f"{number.normalize():f}"
+
+
+PLACES = """
+SELECT p.id, p.house, p.flat, p.use, p.number, h.zone, f.id, f.box, f.identity, lower(f.during), upper(f.during), f.unit,
+       f.first_value, f.last_value, f.first_amount, f.last_amount, f.is_estimated
+FROM places p JOIN houses h ON h.house = p.house JOIN fittings f ON f.place = p.id
+WHERE p.house = ANY (%(houses)s) AND EXISTS (
+    SELECT FROM fittings o WHERE o.place = p.id
+    AND o.during && tstzrange(day_begins(%(first)s, h.zone), day_begins(%(after)s, h.zone)))
+ORDER BY p.id, lower(f.during)"""
+VALUES = """
+SELECT fitting, at, amount, value, unit, source, id, month::text, serial, part FROM day_values
+WHERE fitting = ANY (%s) AND struck_at IS NULL AND day BETWEEN %s AND %s ORDER BY fitting, day"""
+TENANCIES = """
+SELECT house, flat, id, lower(days), upper(days) FROM tenancies
+WHERE house = ANY (%s) AND days && daterange(%s, %s) ORDER BY house, flat, days"""
+FIRST_DAY, LAST_DAY = datetime.date(1, 1, 1), datetime.date(9999, 12, 31)
+
+
+def places_of(cursor: Cursor, houses: List[str], first: datetime.date, after: datetime.date) -> List[Place]:
+    """The places that had a meter on a day from the first one to the one before `after`, with the values around."""
+    cursor.execute(PLACES, {"houses": houses, "first": first, "after": after})
+    places: List[Place] = []
+    for row in cursor:
+        if not places or places[-1].id != row[0]:
+            places.append(Place(row[:6]))
+        places[-1].fittings.append(Fitting(row[6:]))
+    read_values(cursor, places, first - MARGIN, after + MARGIN)
+    read_values(cursor, [place for place in places if not is_covered(place, first, after)], FIRST_DAY, LAST_DAY)
+    return places
+
+
+def read_values(cursor: Cursor, places: Iterable[Place], first: datetime.date, last: datetime.date) -> None:
+    """Reads the values of these days."""
+    by_id = {fitting.id: fitting for place in places for fitting in place.fittings}
+    for fitting in by_id.values():
+        fitting.values = []
+    if by_id:
+        cursor.execute(VALUES, (list(by_id), first, last))
+        for fitting_id, at, amount, value, unit, source, value_id, month, serial, part in cursor:
+            telegram = None if month is None else [month, serial, part]
+            by_id[fitting_id].values.append(Value(at, amount, plain_number(value), unit, source, source == ESTIMATED,
+                                                  value_id, telegram))
+
+
+def is_covered(place: Place, first: datetime.date, after: datetime.date) -> bool:
+    """Whether the values that were read decide the consumption and the marks of these days, or there are no others. (A
+    later reading may put an estimate out of force: then all values are read.)"""
+    begins, ends = begin_of(first, place.zone), begin_of(after, place.zone)
+    moments = [value.at for fitting in place.fittings for value in fitting.values]
+    is_begun = (sum(moment <= begins for moment in moments) >= BEFORE
+                or place.fittings[0].begins >= begins - MARGIN + datetime.timedelta(days=2))
+    is_ended = any(moment >= ends for moment in moments) or (
+        ends + MARGIN > datetime.datetime.now(datetime.timezone.utc))
+    has_estimate = any(value.is_estimated for fitting in place.fittings for value in fitting.values)
+    return is_begun and is_ended and not has_estimate
+
+
+def tenancies_of(cursor: Cursor, houses: List[str], first: datetime.date, after: datetime.date
+                 ) -> Dict[Any, List[Tenancy]]:
+    """By house and flat who used it in these days."""
+    cursor.execute(TENANCIES, (houses, first, after))
+    found: Dict[Any, List[Tenancy]] = {}
+    for house, flat, tenancy, begins, ends in cursor:
+        found.setdefault((house, flat), []).append(Tenancy(tenancy, begins, ends))
+    return found
+
+
+def needed(entries: List[Entry], begins: datetime.datetime, ends: datetime.datetime) -> List[Entry]:
+    """The entries that decide the consumption and the marks from a moment to another."""
+    moments = [entry.value.at for entry in entries]
+    distinct = sorted({moment for moment in moments if moment <= begins})[-BEFORE:]
+    first = bisect.bisect_left(moments, distinct[0]) if distinct else 0
+    last = bisect.bisect_left(moments, ends)
+    last = bisect.bisect_right(moments, moments[last]) if last < len(moments) else last
+    return entries[first:last]

@@ -1,0 +1,86 @@
+"""Houses with meters and values for the office's tests, written into the database without a box."""
+
+import datetime
+import zoneinfo
+from typing import Any, Dict, List, Optional, Tuple
+
+from conftest import Office
+
+BERLIN = zoneinfo.ZoneInfo("Europe/Berlin")
+FITTED = datetime.datetime(2024, 1, 1, tzinfo=BERLIN)
+HEAT, WATER, COLD, ALLOCATOR = "04", "06", "07", "08"
+UNITS = {HEAT: "Wh", WATER: "m3", COLD: "m3", ALLOCATOR: "HCA"}
+VIBS = {"Wh": "06", "MWh": "FB00", "GJ": "FB08", "m3": "13", "HCA": "6E"}
+
+
+def at(text: str) -> datetime.datetime:
+    """A moment in Berlin."""
+    return datetime.datetime.fromisoformat(text).replace(tzinfo=BERLIN)
+
+
+class Supplied:
+    """A house with one box."""
+
+    def __init__(self, office: Office, house: str = "elm-1", category: str = "flat") -> None:
+        self.office, self.house, self.serial = office, house, 0
+        office.sql("INSERT INTO houses (house, address, category) VALUES (%s, 'Elm Street 1', %s)", house, category)
+        office.sql("INSERT INTO boxes (name, command) VALUES (%s, 'false')", house)
+        office.sql("UPDATE boxes SET house = %s WHERE name = %s", house, house)
+
+    def meter(self, number: int, medium: str, flat: str, area: float = 50,
+              since: datetime.datetime = FITTED) -> int:
+        """A meter in the register; returns its fitting."""
+        identity = f"{number:08}.PAD.01.{medium}"
+        self.office.sql("INSERT INTO meters (box, identity, line, address, flat, since) VALUES (%s, %s, 1, %s, %s, %s)",
+                        self.house, identity, str(number), flat, since)
+        self.office.sql("UPDATE flats SET area_m2 = %s WHERE house = %s AND flat = %s", area, self.house, flat)
+        self.office.sql("UPDATE fittings SET during = tstzrange(%s, NULL) WHERE identity = %s", since, identity)
+        return int(self.office.sql("SELECT id FROM fittings WHERE identity = %s AND upper_inf(during)", identity)[0][0])
+
+    def tenancy(self, flat: str, begins: str, ends: Optional[str], person: str = "A. Person", language: str = "de"
+                ) -> int:
+        return int(self.office.sql(
+            "INSERT INTO tenancies (house, flat, days, person, language) VALUES (%s, %s, daterange(%s, %s), %s, %s)"
+            " RETURNING id", self.house, flat, begins, ends, person, language)[0][0])
+
+    def reads(self, fitting: int, moment: datetime.datetime, value: Any, due: Optional[Tuple[str, Any]] = None,
+              unit: Optional[str] = None) -> None:
+        """A reading with a current value and, of a due day, the value that the meter stored at its end."""
+        self.serial += 1
+        box, identity = self.office.sql("SELECT box, identity FROM fittings WHERE id = %s", fitting)[0]
+        unit = unit or UNITS[identity[-2:]]
+        month = moment.astimezone(datetime.timezone.utc).date().replace(day=1)
+        self.office.sql("SELECT make_months(%s, 1)", month)
+        self.office.sql("INSERT INTO readings (month, box, serial, identity, flat, heard, bodies) VALUES"
+                        " (%s, %s, %s, %s, 'x', %s, %s)", month, box, self.serial, identity, [moment],
+                        [bytes.fromhex("785634122440010701000000")])
+        points = [(1, 0, value, None), *([(2, 1, due[1], due[0])] if due else [])]
+        for place, storage, number, day in points:
+            self.office.sql("INSERT INTO points (month, box, serial, part, place, storage, function, tariff, subunit, vib,"
+                            " shown, value, unit, due) VALUES (%s, %s, %s, 1, %s, %s, 0, 0, 0, %s, %s, %s, %s, %s)",
+                            month, box, self.serial, place, storage, VIBS[unit], str(number), number, unit, day)
+        if due:
+            self.office.sql("INSERT INTO due_readings (box, identity, due, serial, month) VALUES (%s, %s, %s, %s, %s)"
+                            " ON CONFLICT (box, identity, due) DO UPDATE SET serial = excluded.serial,"
+                            " month = excluded.month", box, identity, due[0], self.serial, month)
+
+    def values(self, fitting: int, values: Dict[str, Any], unit: str = "Wh") -> None:
+        """Values at the ends of days, as if the meter had stored them."""
+        self.office.sql("INSERT INTO day_values (fitting, day, at, value, unit, source, month, serial, part)"
+                        " SELECT %s, day, day_begins(day + 1, 'Europe/Berlin'), value, %s, 'stored', '2025-01-01', 1, 1"
+                        " FROM unnest(%s::date[], %s::numeric[]) AS k (day, value)",
+                        fitting, unit, list(values), [str(value) for value in values.values()])
+
+    def days(self, fitting: int, first: str, count: int, begin: int, step: int, unit: str = "Wh") -> None:
+        """A value a day that grows by as much each day."""
+        day = datetime.date.fromisoformat(first)
+        self.values(fitting, {str(day + datetime.timedelta(days=number)): begin + step * number
+                              for number in range(count)}, unit)
+
+    def month(self, month: str, *words: str) -> List[Tuple[Any, ...]]:
+        """Computes a month; its rows: flat, part, amount, grade, in order."""
+        ended = self.office.run("month", month, *words)
+        assert ended.status == 0, ended.printed
+        return self.office.sql(
+            "SELECT p.flat, u.part, u.amount, u.grade FROM month_use u JOIN places p ON p.id = u.place"
+            " WHERE u.month = %s AND p.house = %s ORDER BY p.flat, p.use, p.number, u.part", f"{month}-01", self.house)

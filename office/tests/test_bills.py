@@ -1,0 +1,184 @@
+"""office/bill, office/alarms, office/forget and office/retain."""
+
+import csv
+import datetime
+import io
+import pathlib
+from typing import Dict, List
+
+import pytest
+from conftest import Office
+from supplied import COLD, HEAT, WATER, Supplied, at
+from test_schema import refused
+
+WH = 3_600_000
+
+
+@pytest.fixture
+def elm(office: Office) -> Supplied:
+    return Supplied(office)
+
+
+def billed(office: Office, *words: str, status: int = 0) -> List[Dict[str, str]]:
+    ended = office.run("bill", *words)
+    assert ended.status == status, ended.printed
+    return list(csv.DictReader(io.StringIO(ended.printed)))
+
+
+def test_a_bill(office: Office, elm: Supplied) -> None:
+    """A row a user and meter; the rows add up, and each names its readings."""
+    old = elm.meter(1, HEAT, "A1")
+    elm.days(old, "2023-12-30", 100, 1000, 10)
+    office.sql("UPDATE meters SET identity = '00000002.PAD.01.04' WHERE box = 'elm-1'")
+    new = office.sql("SELECT max(id) FROM fittings")[0][0]
+    moment = at("2024-04-08T12:00")
+    office.sql("UPDATE fittings SET during = tstzrange(lower(during), %s), unit = 'Wh', last_value = 1997 WHERE id = %s",
+               moment, old)
+    office.sql("UPDATE fittings SET during = tstzrange(%s, NULL), unit = 'Wh', first_value = 2 WHERE id = %s", moment, new)
+    elm.days(new, "2024-04-08", 300, 10, 10)
+    one, other = elm.tenancy("A1", "2023-05-01", "2024-03-01", "=cmd()"), elm.tenancy("A1", "2024-03-01", None)
+    rows = billed(office, "elm-1", "2024")
+    assert [(row["tenancy"], row["meter"][:8], row["from"], row["to"]) for row in rows] == [
+        (str(one), "00000001", "2024-01-01T00:00", "2024-03-01T00:00"),
+        (str(other), "00000001", "2024-03-01T00:00", "2024-04-08T12:00"),
+        (str(other), "00000002", "2024-04-08T12:00", "2025-01-01T00:00")]
+    assert [int(row["amount"]) for row in rows] == [600 * WH, (1997 - 1610) * WH, (10 + 267 * 10 - 2) * WH]
+    assert rows[0]["user"] == "'=cmd()" and rows[0]["consumption"] == "0.600"
+    assert (rows[1]["first_value"], rows[1]["last_value"], rows[2]["first_value"]) == ("1610", "1997", "2")
+    assert {row["estimated"] for row in rows} == {"no"}
+    quarters = [billed(office, "elm-1", f"2024-{first:02}-01..2024-{first + 2:02}-{last}")
+                for first, last in ((1, 31), (4, 30), (7, 30), (10, 31))]
+    assert sum(int(row["amount"]) for rows in quarters for row in rows) == sum(int(row["amount"]) for row in rows)
+
+
+def test_a_bill_with_a_hole(office: Office, elm: Supplied) -> None:
+    elm.days(elm.meter(1, HEAT, "A1"), "2023-12-30", 100, 1000, 10)
+    rows = billed(office, "elm-1", "2024", status=1)
+    assert (rows[0]["amount"], rows[0]["consumption"], rows[0]["grade"]) == ("", "", "missing")
+    for words in (["elm-1", "2124"], ["elm-1", "2024-02-01..2024-01-01"], ["oak-2", "2024"]):
+        assert office.run("bill", *words).status == 2
+
+
+def test_alarms_are_told_once_until_they_end(office: Office, elm: Supplied, tmp_path: pathlib.Path) -> None:
+    falling, leaping, still = elm.meter(1, HEAT, "A1"), elm.meter(2, HEAT, "A2"), elm.meter(3, COLD, "A3")
+    elm.tenancy("A3", "2024-01-01", None)
+    elm.days(falling, "2025-01-01", 20, 1000, 10)
+    elm.values(falling, {"2025-01-21": 5})
+    elm.days(leaping, "2025-01-01", 20, 1000, 10)
+    elm.values(leaping, {"2025-01-21": 2000})
+    elm.days(still, "2024-11-25", 60, 7, 0, "m3")
+    office.sql("UPDATE boxes SET made_at = '2024-01-01'")
+    office.sql("UPDATE meters SET status = 12, since = '2024-01-01', heard = '2025-01-20', stored_at = '2025-01-20'")
+    office.sql("INSERT INTO collections (begun_at, ended_at, boxes) VALUES ('2025-01-18', '2025-01-18', 1)")
+    mail = tmp_path / "sendmail"
+    mail.write_text(f"#!/bin/sh\ncat >> {tmp_path}/mail\n", encoding="ascii")
+    mail.chmod(0o755)
+    words = ("--at", "2025-01-21T12:00+00:00", "--mail", "a@example.org", "--sendmail")
+    failing = office.run("alarms", *words, "/bin/false")
+    assert failing.status == 3
+    ended = office.run("alarms", *words, str(mail))
+    told = [line.split(":")[0] for line in ended.printed.splitlines()]
+    assert ended.status == 1 and told == [
+        "NEW collector office/collect", "NEW box elm-1",
+        *(f"NEW power elm-1 0000000{number}.PAD.01.{kind}" for number, kind in ((1, "04"), (2, "04"), (3, "07"))),
+        "NEW backwards elm-1 00000001.PAD.01.04", "NEW leap elm-1 00000002.PAD.01.04",
+        "NEW no consumption elm-1 00000003.PAD.01.07"], ended.printed
+    assert "power low, permanent error, flat A1" in (tmp_path / "mail").read_text()
+    again = office.run("alarms", *words, str(mail))
+    assert (again.status, again.printed) == (0, "")
+    office.sql("SELECT strike(id, 'disturbed') FROM day_values WHERE value = 5")
+    office.sql("UPDATE meters SET status = 0 WHERE identity LIKE '%%1.PAD%%'")
+    ended = office.run("alarms", *words, str(mail))
+    assert (ended.status, ended.printed) == (0, "END backwards elm-1 00000001.PAD.01.04\nEND power elm-1 00000001.PAD.01.04\n")
+    silent = office.run("alarms", "--at", "2025-01-24T12:00+00:00")
+    assert "NEW silent elm-1 00000001.PAD.01.04: silent, flat A1" in silent.printed
+    office.sql("UPDATE alarms SET known_by = 'me'")
+
+
+def test_water_at_night(office: Office, elm: Supplied) -> None:
+    leaking, tight = elm.meter(1, WATER, "A1"), elm.meter(2, WATER, "A2")
+    for night in range(1, 10):
+        for hour in (1, 4):
+            moment = at(f"2025-01-{night:02}T{hour:02}:00")
+            elm.reads(leaking, moment, f"{night}.{hour:03}")
+            elm.reads(tight, moment, night)
+    printed = office.run("alarms", "--at", "2025-01-09T12:00+00:00").printed
+    assert [line for line in printed.splitlines() if "night" in line] == [
+        "NEW night elm-1 00000001.PAD.01.06: water between 0:00 and 5:00 in 7 nights, flat A1"]
+
+
+def test_a_user_is_forgotten(office: Office, elm: Supplied, tmp_path: pathlib.Path) -> None:
+    elm.days(elm.meter(1, HEAT, "A1"), "2024-12-30", 100, 1000, 10)
+    one, other = elm.tenancy("A1", "2024-01-01", "2025-02-10", "S. Secret"), elm.tenancy("A1", "2025-02-10", None)
+    for month in ("2025-01", "2025-02"):
+        elm.month(month)
+        assert office.run("sheets", month, "--out", str(tmp_path), "--pdf", "none").status == 0
+    assert len(list(tmp_path.glob("sheets/*/*.html"))) == 3
+    assert office.run("forget", str(other), "--out", str(tmp_path)).status == 3
+    ended = office.run("forget", str(one), "--out", str(tmp_path))
+    assert ended.status == 0 and "2 sheets" in ended.printed, ended.printed
+    assert len(list(tmp_path.glob("sheets/*/*.html"))) == 1
+    assert office.sql("SELECT count(*) FROM tenancies WHERE person LIKE 'S%%'") == [(0,)]
+    assert office.sql("SELECT amount, basis FROM month_use WHERE month = '2025-01-01'") == [(310 * WH, [])]
+    assert elm.month("2025-02")[0] == ("A1", 0, 280 * WH, "measured")
+    assert office.run("forget", str(one)).status == 2
+
+
+def test_what_is_kept(office: Office, elm: Supplied) -> None:
+    meter = elm.meter(1, HEAT, "A1", since=at("2020-01-01T00:00"))
+    elm.days(meter, "2020-12-30", 40, 1000, 10)
+    elm.month("2021-01")
+    elm.reads(meter, at("2021-01-05T06:00"), 5)
+    dry = office.run("retain", "--dry-run")
+    assert dry.status == 0 and "table readings_2021_01" in dry.printed and "--dry-run" in dry.printed
+    assert office.sql("SELECT count(*) FROM readings") == [(1,)]
+    ended = office.run("retain")
+    assert ended.printed == dry.printed.replace("nothing was dropped: --dry-run\n", "")
+    assert office.sql("SELECT count(*) FROM readings") == [(0,)]
+    assert office.sql("SELECT day FROM day_values ORDER BY day") == [
+        (datetime.date(2020, 12, 31),), (datetime.date(2021, 1, 31),)]
+    assert office.sql("SELECT amount, basis FROM month_use") == [(310 * WH, [])]
+    assert elm.month("2021-01") == [("A1", 0, 310 * WH, "measured")]
+    assert office.run("retain", "--days", "3").status == 2
+
+
+def test_roles(office: Office, elm: Supplied, tmp_path: pathlib.Path) -> None:
+    """The collector closes days, computes months and notes alarms; a clerk makes sheets and bills; a reader looks."""
+    meter = elm.meter(1, HEAT, "A1")
+    elm.reads(meter, at("2025-01-01T06:00"), 1000, ("2024-12-31", 990))
+    elm.reads(meter, at("2025-02-01T06:00"), 1310, ("2025-01-31", 1300))
+    elm.tenancy("A1", "2024-01-01", None)
+    runs = {"collector": (["close", "2024-12-31"], ["close", "2025-01-31"], ["month", "2025-01"], ["estimate", "2025-01"],
+                          ["alarms"]),
+            "clerk": (["sheets", "2025-01", "--out", str(tmp_path), "--pdf", "none"], ["bill", "elm-1", "2025-01"])}
+    for role, commands in runs.items():
+        office.sql(f"ALTER ROLE office SET role = '{role}'")
+        try:
+            for words in commands:
+                ended = office.run(*words)
+                assert ended.status in (0, 1), (role, words, ended.printed)
+        finally:
+            office.sql("ALTER ROLE office RESET role")
+    for role, query in (
+            ("reader", "SELECT person FROM tenancies"), ("reader", "SELECT token FROM tenancies"),
+            ("reader", "SELECT path FROM sheets"), ("collector", "SELECT person FROM tenancies"),
+            *((role, query) for role in ("reader", "collector") for query in (
+                "UPDATE houses SET address = 'x'", "UPDATE tenancies SET days = days", "UPDATE places SET weight = 2",
+                "SELECT strike(1, 'x')", "SELECT put_value(1, '2025-01-31', 1, 'Wh', 'x')", "DELETE FROM tenancies",
+                "UPDATE fittings SET vib = '06'")),
+            *(("reader", query) for query in (
+                "SELECT close_day('2025-01-01')", "INSERT INTO day_values DEFAULT VALUES", "DELETE FROM month_use",
+                "UPDATE alarms SET known_by = 'x'", "INSERT INTO houses DEFAULT VALUES")),
+            *(("clerk", query) for query in (
+                "UPDATE day_values SET value = 1", "INSERT INTO day_values (fitting, day, at, value, unit, source)"
+                " VALUES (1, '2025-01-02', now(), 1, 'Wh', 'by hand')", "DELETE FROM day_values",
+                "UPDATE month_use SET amount = 1", "INSERT INTO month_use DEFAULT VALUES", "DELETE FROM tenancies",
+                "UPDATE tenancies SET token = 'x'", "UPDATE day_values SET struck_by = 'another'",
+                "INSERT INTO orders (box, line, confirms) VALUES ('elm-1', 'CONFIRM 1', 1)", "DELETE FROM sheets",
+                "SELECT end_fitting('elm-1', 'x')", "UPDATE boxes SET house = NULL"))):
+        assert "permission denied" in refused(office, query, role=role), (role, query)
+    office.sql("SET ROLE clerk")
+    value = office.sql("SELECT put_value(%s, '2025-01-31', 1299, 'Wh', 'read at the meter')", meter)[0][0]
+    office.sql("SELECT strike(%s, 'a mistake')", value)
+    office.sql("RESET ROLE")
+    assert office.sql("SELECT struck_by, struck_why FROM day_values WHERE id = %s", value) == [("office", "a mistake")]

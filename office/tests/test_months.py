@@ -1,0 +1,193 @@
+"""office/close and office/month: the values of days, and the consumption of months with its grades."""
+
+import datetime
+
+import pytest
+from conftest import Office
+from supplied import COLD, HEAT, WATER, Supplied, at
+from test_schema import refused
+
+WH = 3_600_000  # millijoules
+
+
+@pytest.fixture
+def elm(office: Office) -> Supplied:
+    return Supplied(office)
+
+
+def days_of(office: Office) -> object:
+    return office.sql("SELECT day::text, value::float, source FROM day_values WHERE struck_at IS NULL ORDER BY day")
+
+
+def test_a_day_has_the_stored_value_or_the_last_reading(office: Office, elm: Supplied) -> None:
+    meter = elm.meter(1, HEAT, "A1")
+    elm.reads(meter, at("2025-01-30T06:00"), 1000)
+    elm.reads(meter, at("2025-01-30T18:00"), 1010)
+    elm.reads(meter, at("2025-02-01T06:00"), 1040, ("2025-01-31", 1030))
+    ended = office.run("close", "2025-01-29", "--until", "2025-02-01")
+    assert ended.status == 0, ended.printed
+    assert ended.printed.splitlines() == [
+        "2025-01-29: 1 meters, 1 without a value, 0 written", "2025-01-30: 1 meters, 0 without a value, 1 written",
+        "2025-01-31: 1 meters, 0 without a value, 1 written", "2025-02-01: 1 meters, 0 without a value, 1 written"]
+    assert days_of(office) == [("2025-01-30", 1010.0, "read"), ("2025-01-31", 1030.0, "stored"),
+                               ("2025-02-01", 1040.0, "read")]
+    assert office.sql("SELECT at FROM day_values WHERE day = '2025-01-31'") == [(at("2025-02-01T00:00"),)]
+    assert "0 written" in office.run("close", "2025-01-31").printed
+
+
+def test_late_readings_and_what_people_put(office: Office, elm: Supplied) -> None:
+    """A stored value that comes later takes the place of the reading; one by hand stays; a struck one stays away."""
+    meter = elm.meter(1, HEAT, "A1")
+    elm.reads(meter, at("2025-01-31T18:00"), 1010)
+    assert office.run("close", "2025-01-31").status == 0
+    elm.reads(meter, at("2025-02-02T06:00"), 1040, ("2025-01-31", 1030))
+    assert "1 written" in office.run("close", "2025-01-31").printed
+    assert days_of(office) == [("2025-01-31", 1030.0, "stored")]
+    office.sql("SELECT strike(id, 'the meter''s clock was wrong') FROM day_values")
+    elm.reads(meter, at("2025-02-03T06:00"), 1050, ("2025-01-31", 1030))
+    assert office.run("close", "2025-01-31").status == 0
+    assert days_of(office) == [("2025-01-31", 1010.0, "read")]
+    office.sql("SELECT put_value(%s, '2025-01-31', 1025, 'Wh', 'read at the meter')", meter)
+    assert "0 written" in office.run("close", "2025-01-31").printed
+    assert days_of(office) == [("2025-01-31", 1025.0, "by hand")]
+    assert office.sql("SELECT count(*), count(struck_by) FROM day_values WHERE struck_at IS NOT NULL") == [(2, 2)]
+
+
+def test_a_month_of_stored_values(office: Office, elm: Supplied) -> None:
+    meter = elm.meter(1, HEAT, "A1")
+    elm.days(meter, "2024-12-25", 45, 1000, 10)
+    assert elm.month("2025-01") == [("A1", 0, 310 * WH, "measured")]
+    basis = office.sql("SELECT basis FROM month_use")[0][0]
+    assert [(it["value"], it["at"][:16]) for it in basis] == [("1060", "2024-12-31T23:00"), ("1370", "2025-01-31T23:00")]
+    assert office.sql("SELECT kwh::float, units FROM month_kwh") == [(0.31, None)]
+
+
+def test_a_user_moves_in_mid_month(office: Office, elm: Supplied) -> None:
+    """The parts are each user's, and add up to the month, to the last millijoule."""
+    meter = elm.meter(1, HEAT, "A1")
+    elm.values(meter, {"2024-12-30": 1000, "2024-12-31": 1007, "2025-01-09": 1090, "2025-01-20": 1101,
+                       "2025-02-03": 1200})
+    one, other = elm.tenancy("A1", "2024-01-01", "2025-01-13"), elm.tenancy("A1", "2025-01-18", None)
+    rows = elm.month("2025-01")
+    assert [row[:2] for row in rows] == [("A1", number) for number in range(4)]
+    assert rows[0][2] == sum(row[2] for row in rows[1:])
+    assert [row[0] for row in office.sql("SELECT tenancy FROM month_use ORDER BY part")] == [None, one, None, other]
+    assert rows[0][3] == "estimated"  # over days without a value around the end of January
+
+
+def test_what_runs_backwards_is_no_number(office: Office, elm: Supplied) -> None:
+    """Neither in the month of the fall nor in the one after, until a person strikes the entry."""
+    meter = elm.meter(1, HEAT, "A1")
+    elm.days(meter, "2024-12-20", 42, 1000, 10)  # to 30 January
+    elm.values(meter, {"2025-01-31": 10, "2025-02-01": 1430, "2025-02-28": 1700})
+    assert elm.month("2025-01") == [("A1", 0, None, "backwards")]
+    assert elm.month("2025-02") == [("A1", 0, None, "backwards")]
+    office.sql("SELECT strike(id, 'a disturbed telegram') FROM day_values WHERE day = '2025-01-31'")
+    assert elm.month("2025-02") == [("A1", 0, 280 * WH, "measured")]
+    assert elm.month("2025-01") == [("A1", 0, 310 * WH, "measured")]
+
+
+def test_an_exchange(office: Office, elm: Supplied) -> None:
+    """SWAP ends a fitting and begins one at the same place; without their values the month is unclear."""
+    old = elm.meter(1, HEAT, "A1")
+    elm.days(old, "2024-12-25", 20, 1000, 10)
+    office.sql("UPDATE meters SET identity = '00000002.PAD.01.04' WHERE box = 'elm-1'")
+    fittings = office.sql("SELECT id, place, upper_inf(during) FROM fittings ORDER BY id")
+    assert [row[1:] for row in fittings] == [(fittings[0][1], False), (fittings[0][1], True)]
+    new, moment = fittings[1][0], at("2025-01-15T11:00")
+    office.sql("UPDATE fittings SET during = tstzrange(lower(during), %s) WHERE id = %s", moment, old)
+    office.sql("UPDATE fittings SET during = tstzrange(%s, NULL) WHERE id = %s", moment, new)
+    elm.days(new, "2025-01-15", 20, 5, 10)
+    assert elm.month("2025-01") == [("A1", 0, None, "unclear")]
+    office.sql("UPDATE fittings SET unit = 'Wh', last_value = 1205 WHERE id = %s", old)
+    office.sql("UPDATE fittings SET unit = 'Wh', first_value = 0 WHERE id = %s", new)
+    assert elm.month("2025-01") == [("A1", 0, (1205 - 1060 + 165) * WH, "measured")]
+    sources = [it["source"] for it in office.sql("SELECT basis FROM month_use")[0][0]]
+    assert sources == ["stored", "removed", "fitted", "stored"]
+
+
+def test_two_meters_read_in_turns_are_unclear(office: Office, elm: Supplied) -> None:
+    """What fittings say is one exchange; the entries have more."""
+    old = elm.meter(1, COLD, "A1")
+    office.sql("UPDATE meters SET identity = '00000002.PAD.01.07' WHERE box = 'elm-1'")
+    (old,), (new,) = office.sql("SELECT id FROM fittings ORDER BY id")
+    moment = at("2025-01-10T12:00")
+    office.sql("UPDATE fittings SET during = tstzrange(lower(during), %s), unit = 'm3', last_value = 9 WHERE id = %s",
+               moment, old)
+    office.sql("UPDATE fittings SET during = tstzrange(%s, NULL), unit = 'm3', first_value = 0 WHERE id = %s",
+               moment, new)
+    elm.values(old, {"2024-12-30": 4, "2024-12-31": 5, "2025-01-20": 8}, "m3")  # read after it was removed
+    elm.values(new, {"2025-01-31": 7}, "m3")
+    assert elm.month("2025-01") == [("A1", 0, None, "unclear")]
+    office.sql("SELECT strike(id, 'another meter''s') FROM day_values WHERE value = 8")
+    assert elm.month("2025-01") == [("A1", 0, 11_000_000, "measured")]
+
+
+def test_zero_missing_and_leaps(office: Office, elm: Supplied) -> None:
+    still, dead, leaping = elm.meter(1, WATER, "A1"), elm.meter(2, WATER, "A2"), elm.meter(3, WATER, "A3")
+    elm.meter(4, WATER, "A4")
+    elm.days(still, "2024-12-25", 45, 3, 0, "m3")
+    elm.days(dead, "2024-12-25", 15, 3, 1, "m3")
+    elm.days(leaping, "2024-12-25", 15, 3, 1, "m3")
+    elm.days(leaping, "2025-01-09", 30, 100, 1, "m3")
+    assert elm.month("2025-01") == [("A1", 0, 0, "zero"), ("A2", 0, None, "missing"),
+                                    ("A3", 0, (31 + 82) * 1_000_000, "measured"), ("A4", 0, None, "missing")]
+    assert [row[0] for row in office.sql("SELECT is_leap FROM month_use ORDER BY place")] == [False, False, True, False]
+
+
+def test_months_add_up_and_users_of_other_units(office: Office, elm: Supplied) -> None:
+    """The months of a quarter are those of its ends, also of a meter in joules after one in watt hours."""
+    meter = elm.meter(1, HEAT, "A1")
+    elm.values(meter, {"2024-12-30": 1, "2025-01-15": 4711, "2025-02-17": 5011, "2025-03-31": 6000})
+    rows = [elm.month(month)[0] for month in ("2025-01", "2025-02", "2025-03")]
+    begin = 1 * WH + 4710 * WH * 86400 // (16 * 86400)
+    assert sum(row[2] for row in rows) == 6000 * WH - begin
+    gj = elm.meter(5, HEAT, "B1")
+    elm.values(gj, {"2024-12-31": "1.0", "2025-01-31": "1.1"}, "GJ")
+    assert elm.month("2025-01")[1] == ("B1", 0, 100_000_000_000, "measured")
+    assert abs(float(office.sql("SELECT kwh FROM month_kwh WHERE flat = 'B1'")[0][0]) - 27.7778) < 0.001
+
+
+def test_a_meter_that_is_fitted_or_removed_in_a_month(office: Office, elm: Supplied) -> None:
+    meter = elm.meter(1, HEAT, "A1", since=at("2025-01-10T12:00"))
+    elm.days(meter, "2025-01-10", 40, 3, 10)
+    assert elm.month("2025-01") == [("A1", 0, None, "missing")]
+    office.sql("UPDATE fittings SET unit = 'Wh', first_value = 0")
+    assert elm.month("2025-01") == [("A1", 0, 213 * WH, "measured")]
+    office.sql("UPDATE fittings SET during = tstzrange(lower(during), %s), last_value = 400", at("2025-02-20T00:00"))
+    office.sql("DELETE FROM day_values WHERE day > '2025-02-18'")
+    assert elm.month("2025-02") == [("A1", 0, (400 - 213) * WH, "measured")]
+    assert elm.month("2025-03") == []
+
+
+def test_words(office: Office, elm: Supplied) -> None:
+    this = datetime.date.today()
+    for words, said in (("2025-13", "no month"), (f"{this:%Y-%m}", "isn't over"), ("x", "no month")):
+        ended = office.run("month", words)
+        assert ended.status == 2 and said in ended.printed, ended.printed
+    assert office.run("month", "2025-01", "--house", "nowhere").status == 2
+    elm.days(elm.meter(1, HEAT, "A1"), "2024-12-25", 45, 1000, 10)
+    failed = office.run("month", "2025-01", MBDC="/bin/false")
+    assert failed.status == 3 and "consumption ended with status 1" in failed.printed
+    assert office.sql("SELECT count(*) FROM month_use") == [(0,)]
+
+
+def test_what_the_tables_refuse(office: Office, elm: Supplied) -> None:
+    meter = elm.meter(1, HEAT, "A1")
+    elm.tenancy("A1", "2025-01-01", "2025-02-01")
+    for query in ("INSERT INTO tenancies (house, flat, days, person) VALUES ('elm-1', 'A1', '[2025-01-31,)', 'x')",
+                  "INSERT INTO fittings (place, box, identity, during) SELECT place, box, identity, '[2025-01-01,)'"
+                  " FROM fittings", "UPDATE houses SET zone = 'Nowhere'", "UPDATE flats SET area_m2 = 0",
+                  "UPDATE places SET weight = -1",
+                  "UPDATE fittings SET unit = 'Wh', last_value = 1",
+                  "UPDATE fittings SET unit = 'Wh', first_value = 0.0000001",
+                  f"INSERT INTO day_values (fitting, day, at, value, unit, source) VALUES ({meter}, '2025-01-01', now(),"
+                  " -1, 'Wh', 'by hand')",
+                  f"INSERT INTO day_values (fitting, day, at, value, unit, source) VALUES ({meter}, '2025-01-01', now(),"
+                  " 1, 'W', 'by hand')",
+                  f"INSERT INTO day_values (fitting, day, at, value, unit, source) VALUES ({meter}, '2025-01-01', now(),"
+                  " 1, 'Wh', 'read')",
+                  "INSERT INTO factors VALUES ('elm-1', 'heat', '[2025-01-01,)', 1)",
+                  "INSERT INTO month_use SELECT '2025-01-01', place, 0, '2025-01-01', '2025-02-01', NULL, 5, 'backwards',"
+                  " false, '[]' FROM fittings"):
+        assert refused(office, query), query

@@ -1,0 +1,208 @@
+"""office/sheets: what stands on a sheet and a house page, and what hostile names may not do there."""
+
+import hashlib
+import html.parser
+import pathlib
+import re
+import subprocess
+from typing import Any, Dict, List, Optional, Tuple
+
+import pytest
+from conftest import Office
+from supplied import ALLOCATOR, COLD, HEAT, WATER, Supplied, at
+
+HOSTILE = "O'Brien \"<script>alert(1)</script>\" {{ 1000003*7 }} \u202eevil\u202c \u0645\u0631\u062d\u0628\u0627 'DROP TABLE readings; --"
+
+
+class Page(html.parser.HTMLParser):
+    """The cells of a page's tables by use and month, its links and headings; checks that labels point at something."""
+
+    def __init__(self, text: str) -> None:
+        super().__init__(convert_charrefs=True)
+        self.cells: Dict[Tuple[str, str], str] = {}
+        self.links: List[Tuple[str, str]] = []
+        self.ids: List[str] = []
+        self.wanted: List[str] = []
+        self.tags: List[str] = []
+        self.use, self.cell = "", None  # type: Tuple[str, Optional[Tuple[str, str]]]
+        self.feed(text)
+        self.close()
+
+    def handle_starttag(self, tag: str, attrs: Any) -> None:
+        of = dict(attrs)
+        self.tags.append(tag)
+        if tag == "tr":
+            self.use = of.get("data-use", "")
+        if tag in ("td", "th"):
+            self.cell = (self.use, of["data-month"]) if "data-month" in of else None
+        if tag == "a":
+            self.links.append((of.get("href", ""), of.get("aria-label", "")))
+        self.ids += [of["id"]] if "id" in of else []
+        self.wanted += of.get("aria-labelledby", "").split()
+
+    def handle_endtag(self, tag: str) -> None:
+        if tag == "td":
+            self.cell = None
+
+    def handle_data(self, data: str) -> None:
+        if self.cell is not None:
+            self.cells[self.cell] = self.cells.get(self.cell, "") + data
+
+
+def checked(text: str) -> Page:
+    """A page that has one main heading, a language, a title, labelled tables and no script."""
+    page = Page(text)
+    assert page.tags.count("h1") == 1 and page.tags.count("main") == 1 and page.tags.count("title") == 1
+    assert re.search(r'<html lang="(de|en)">', text) and "default-src 'none'" in text
+    assert not {"script", "img", "iframe", "object", "link"} & set(page.tags)
+    assert set(page.wanted) <= set(page.ids) and len(set(page.ids)) == len(page.ids)
+    assert "{{" not in text.replace("{{ 1000003*7 }}", "") and "7000021" not in text
+    return page
+
+
+@pytest.fixture
+def elm(office: Office) -> Supplied:
+    """A house of four flats with a year and more of values."""
+    made = Supplied(office)
+    for number in range(1, 5):
+        flat = f"A{number}"
+        made.days(made.meter(number, HEAT, flat, area=40 + 10 * number), "2023-12-29", 400, 1_000_000, 10_000 * number)
+        water = made.meter(10 + number, WATER, flat, area=40 + 10 * number)
+        made.values(water, {"2023-12-31": 1, "2024-01-31": 3, "2024-11-30": 20, "2024-12-31": "22.5", "2025-01-31": 26},
+                    "m3")
+        made.days(made.meter(20 + number, COLD, flat, area=40 + 10 * number), "2024-12-30", 40, 7, 1, "m3")
+    office.sql("INSERT INTO factors (house, use, months, kwh_per_unit)"
+               " VALUES ('elm-1', 'warm water', '[2023-01-01,)', 125)")
+    for month in ("2024-01", "2024-12", "2025-01"):
+        made.month(month)
+    return made
+
+
+def sheet_of(office: Office, out: pathlib.Path, tenancy: int, month: str = "2025-01", form: str = "html") -> pathlib.Path:
+    token = office.sql("SELECT token FROM tenancies WHERE id = %s", tenancy)[0][0]
+    return out / f"sheets/{token}/{month}.{form}"
+
+
+def written(office: Office, out: pathlib.Path, *words: str) -> None:
+    ended = office.run("sheets", "2025-01", "--out", str(out), *words)
+    assert ended.status == 0, ended.printed
+
+
+def test_a_sheet(office: Office, elm: Supplied, tmp_path: pathlib.Path) -> None:
+    """The month, the one before and that of the year before, and the average, as a German reads them."""
+    tenancy = elm.tenancy("A1", "2023-01-01", None)
+    for month in ("2024-01", "2024-12", "2025-01"):
+        elm.month(month)
+    written(office, tmp_path, "--pdf", "none")
+    path = sheet_of(office, tmp_path, tenancy)
+    page = checked(path.read_text(encoding="utf-8"))
+    assert page.cells["heat", "2025-01-01"].split() == ["310,0"]
+    assert page.cells["heat", "2024-12-01"].split() == page.cells["heat", "2024-01-01"].split() == ["310,0"]
+    assert page.cells["heat", "average"].split() == [f"{310 * 10 * 50 / (50 + 60 + 70 + 80):.1f}".replace(".", ",")]
+    assert page.cells["warm water", "2025-01-01"].split() == ["437,5"]
+    assert page.cells["warm water", "2024-01-01"].split() == ["250,0"]
+    assert page.cells["cold water", "2025-01-01"].split() == ["31,00"]
+    assert "fehlt" in page.cells["cold water", "2024-01-01"]
+    noted = office.sql("SELECT form, path, sha256, made_by FROM sheets")
+    assert noted == [("html", str(path.relative_to(tmp_path)), hashlib.sha256(path.read_bytes()).hexdigest(), "office")]
+    written(office, tmp_path, "--pdf", "none")
+    assert office.sql("SELECT count(*) FROM sheets") == [(1,)]
+
+
+def test_an_english_sheet_and_its_pdf(office: Office, elm: Supplied, tmp_path: pathlib.Path) -> None:
+    tenancy = elm.tenancy("A4", "2023-01-01", None, "A. Reader", "en")
+    elm.month("2025-01")
+    written(office, tmp_path, "--decoder", "https://example.org/decode.html")
+    page = checked(sheet_of(office, tmp_path, tenancy).read_text(encoding="utf-8"))
+    assert page.cells["heat", "2025-01-01"].split() == ["1,240.0"]
+    pdf = sheet_of(office, tmp_path, tenancy, form="pdf")
+    text = subprocess.run(["pdftotext", "-layout", pdf, "-"], capture_output=True, text=True, check=True).stdout
+    assert "1,240.0" in text and "Consumption information January 2025" in text
+
+
+def test_users_of_a_part_of_the_month(office: Office, elm: Supplied, tmp_path: pathlib.Path) -> None:
+    """Each has a sheet with the own days and nothing of the other's; the year before is of another user."""
+    one, other = elm.tenancy("A2", "2023-01-01", "2025-01-11"), elm.tenancy("A2", "2025-01-11", None)
+    for month in ("2024-01", "2024-12", "2025-01"):
+        elm.month(month)
+    written(office, tmp_path, "--pdf", "none")
+    pages = [checked(sheet_of(office, tmp_path, it).read_text(encoding="utf-8")) for it in (one, other)]
+    assert pages[0].cells["heat", "2025-01-01"].split()[0] == "200,0" and "01.01.2025" in pages[0].cells["heat", "2025-01-01"]
+    assert pages[1].cells["heat", "2025-01-01"].split()[0] == "420,0"
+    assert pages[0].cells["heat", "2024-12-01"].split() == ["620,0"]
+    assert "eingezogen" in pages[1].cells["heat", "2024-12-01"] and "eingezogen" in pages[1].cells["heat", "2024-01-01"]
+
+
+def test_what_is_no_number_and_what_is_estimated(office: Office, elm: Supplied, tmp_path: pathlib.Path) -> None:
+    tenancies = [elm.tenancy(f"A{number}", "2023-01-01", None) for number in (1, 2, 3)]
+    office.sql("DELETE FROM day_values d USING fittings f, places p WHERE f.id = d.fitting AND p.id = f.place AND"
+               " p.flat = 'A1' AND p.use = 'heat' AND day > '2025-01-20'")
+    office.sql("UPDATE day_values SET value = 5 WHERE day = '2025-01-20' AND fitting IN (SELECT f.id FROM fittings f JOIN"
+               " places p ON p.id = f.place WHERE p.flat = 'A2' AND p.use = 'heat')")
+    elm.month("2025-01")
+    written(office, tmp_path, "--pdf", "none")
+    cells = [checked(sheet_of(office, tmp_path, it).read_text(encoding="utf-8")).cells for it in tenancies]
+    assert "fehlt" in cells[0]["heat", "2025-01-01"] and "rückwärts" in cells[1]["heat", "2025-01-01"]
+    assert not re.search(r"\d", cells[0]["heat", "2025-01-01"] + cells[1]["heat", "2025-01-01"])
+    assert cells[2]["heat", "2025-01-01"].split() == ["930,0"]
+    assert cells[2]["heat", "average"].strip() == "–"  # of two flats: too few to tell
+    assert office.run("estimate", "2025-01").status == 0
+    written(office, tmp_path, "--pdf", "none")
+    text = sheet_of(office, tmp_path, tenancies[0]).read_text(encoding="utf-8")
+    assert checked(text).cells["heat", "2025-01-01"].split()[1:] == ["geschätzt"] and "Geschätzt:" in text
+
+
+def test_hostile_names(office: Office, elm: Supplied, tmp_path: pathlib.Path) -> None:
+    """Names are text; what would turn the direction of the line is left out."""
+    office.sql("UPDATE houses SET address = %s, contact = %s, postcode = %s, fuel_mix = %s", HOSTILE, HOSTILE, HOSTILE,
+               '{"<b>gas</b>": "<i>1</i>"}')
+    office.sql("UPDATE boxes SET fault = %s", HOSTILE)
+    office.sql("INSERT INTO alarms (kind, house, subject, says) VALUES ('leap', 'elm-1', %s, %s)", HOSTILE, HOSTILE)
+    tenancy = elm.tenancy("A1", "2023-01-01", None, HOSTILE)
+    elm.month("2025-01")
+    written(office, tmp_path, "--decoder", "https://example.org/decode.html")
+    for path in (sheet_of(office, tmp_path, tenancy), tmp_path / "houses/elm-1.html"):
+        text = path.read_text(encoding="utf-8")
+        page = checked(text)
+        assert "&lt;script&gt;" in text and "\u202e" not in text and "b" not in page.tags and "i" not in page.tags
+        assert "\u0645\u0631" in text
+    assert office.sql("SELECT count(*) > 0 FROM day_values") == [(True,)]
+    for decoder in ("javascript:alert(1)", "https://x y", "data:text/html,x"):
+        assert office.run("sheets", "2025-01", "--out", str(tmp_path), "--decoder", decoder).status == 2
+
+
+def test_links_lead_to_the_very_telegrams(office: Office, elm: Supplied, tmp_path: pathlib.Path) -> None:
+    meter = elm.meter(40, HEAT, "B1")
+    tenancy = elm.tenancy("B1", "2024-01-01", None)
+    elm.reads(meter, at("2025-01-01T06:00"), 20, ("2024-12-31", 10))
+    elm.reads(meter, at("2025-02-01T06:00"), 50, ("2025-01-31", 40))
+    for day in ("2024-12-31", "2025-01-31"):
+        assert office.run("close", day).status == 0
+    elm.month("2025-01")
+    written(office, tmp_path)
+    page = checked(sheet_of(office, tmp_path, tenancy).read_text(encoding="utf-8"))
+    links = [link for link in page.links if "decode.html" in link[0]]
+    frame = "680F0F6808007278563412244001070100000000001616"
+    assert len(links) == 2 and all(label.startswith("Telegramm prüfen: Zähler 00000040.PAD.01.04") for _, label in links)
+    assert all(re.fullmatch(r"\.\./\.\./decode\.html#68[0-9A-F]+16", href) for href, _ in links), (links, frame)
+
+
+def test_allocators_and_missing_factors(office: Office, tmp_path: pathlib.Path) -> None:
+    """Two radiators with their weights; without a factor the sheet has units, with one kWh."""
+    oak = Supplied(office, "oak-2")
+    for number, weight in ((1, "1.5"), (2, "0.5")):
+        oak.days(oak.meter(number, ALLOCATOR, "A1"), "2024-12-30", 40, 0, 10, "HCA")
+        office.sql("UPDATE places SET weight = %s WHERE number = %s", weight, number)
+    tenancy = oak.tenancy("A1", "2024-01-01", None)
+    oak.month("2025-01")
+    written(office, tmp_path, "--pdf", "none")
+    assert checked(sheet_of(office, tmp_path, tenancy).read_text()).cells["allocator", "2025-01-01"].split() == ["620,0"]
+    office.sql("INSERT INTO factors (house, use, months, kwh_per_unit) VALUES ('oak-2', 'allocator', '[2025-01-01,)', 1.1)")
+    written(office, tmp_path, "--pdf", "none")
+    assert checked(sheet_of(office, tmp_path, tenancy).read_text()).cells["allocator", "2025-01-01"].split() == ["682,0"]
+
+
+def test_a_folder_that_cannot_be_written(office: Office, elm: Supplied, tmp_path: pathlib.Path) -> None:
+    (tmp_path / "houses").write_text("a file")
+    ended = office.run("sheets", "2025-01", "--out", str(tmp_path))
+    assert ended.status == 3 and "houses" in ended.printed
