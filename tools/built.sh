@@ -19,6 +19,11 @@ is_built() {
     ! command -v rt >/dev/null || [ "$(toolchain)" = "$(cat -- "$built/toolchain" 2>/dev/null)" ]
 }
 
+# The library for C, which tools/library makes.
+is_library_built() {
+    [ "$(sources)" = "$(cat -- "$root/out/library/sources" 2>/dev/null)" ]
+}
+
 # Takes the program that was just proved and linked, from these sources by this toolchain.
 keep_program() {
     mkdir -p -- "$built" && cp -- "$root/crates/mbdc/out/mbdc" "$built/mbdc.new" \
