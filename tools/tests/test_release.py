@@ -1,0 +1,59 @@
+"""tools/release finds what a release may not change, in small trees."""
+
+import pathlib
+import types
+from collections.abc import Callable
+
+import pytest
+
+REFUSALS = "dc_frame/FrameFault: 1 Empty, 2 Start, 3 Truncated\ndc_log/StoreFault: 1 NotImage, 2 Damaged\ndc_x/f (a)\n"
+CHANGES = "# Changes\n\n## Unreleased\n\nNew:\n\n* x\n\n## 0.2.0, 2026-12-01\n\n## 0.1.0\n\nfirst\n"
+
+
+@pytest.fixture
+def release(tool: Callable[[str], types.ModuleType]) -> types.ModuleType:
+    return tool("release")
+
+
+def test_a_number_with_another_name(release: types.ModuleType) -> None:
+    old = release.faults_in(REFUSALS)
+    assert old["FrameFault", "3"] == "Truncated" and len(old) == 5
+    assert release.renamed(old, old) == []
+    assert release.renamed(old, release.faults_in(REFUSALS.replace("3 Truncated", "3 Cut"))) == [
+        "FrameFault 3 was Truncated, is Cut"]
+    assert release.renamed(old, release.faults_in(REFUSALS.replace(", 3 Truncated", ", 4 Lengths"))) == []
+
+
+def test_entries_that_are_open(release: types.ModuleType) -> None:
+    assert release.section(CHANGES, "Unreleased") == "New:\n\n* x"
+    assert release.section(CHANGES, "0.2.0") == "" and release.section(CHANGES, "0.3.0") is None
+
+
+def test_the_version_by_each_place(release: types.ModuleType, tmp_path: pathlib.Path) -> None:
+    for place, text in (("CHANGELOG.md", CHANGES), ("debian/changelog", "mbdc (0.2.0) unstable; urgency=low\n"),
+                        (release.HELP, 'pub const VERSION: &str = "0.1.0, logic x";\n')):
+        (tmp_path / place).parent.mkdir(parents=True, exist_ok=True)
+        (tmp_path / place).write_text(text)
+    assert sorted(release.versions_of(tmp_path).values()) == ["0.1.0", "0.2.0", "0.2.0"]
+
+
+def test_a_case_that_prints_another_text(release: types.ModuleType, tmp_path: pathlib.Path) -> None:
+    file = tmp_path / "frames.txt"
+    file.write_text("# by hand\n$ decode\n> E5\nACK\n\n$ decode\n> 10\nFRAME FAULT 3 Truncated\n")
+    old = release.cases_in(tmp_path)
+    file.write_text("# by hand, again\n$ decode\n> E5\nACK\n\n$ decode\n> 10\nFRAME FAULT 3 Cut\n")
+    assert release.gone("case", old, release.cases_in(tmp_path)) == [
+        "case is gone: $ decode > 10 FRAME FAULT 3 Truncated"]
+
+
+def test_symbols_and_versions_of_images(release: types.ModuleType) -> None:
+    assert release.symbols_in("MBDC_0 {\n global: mbdc_decode_text; mbdc_x;\n local: *;\n};") == {"mbdc_decode_text", "mbdc_x"}
+    assert release.image_versions_in("| 4 | version: 2, or 1 of an earlier release |\n") == {"1", "2"}
+
+
+def test_the_places_that_it_reads_are_there(release: types.ModuleType) -> None:
+    root = release.ROOT
+    assert release.symbols_in((root / release.EXPORTS).read_text())
+    assert release.image_versions_in((root / release.IMAGE).read_text())
+    assert len(release.cases_in(root / release.CASES)) > 50
+    assert "none" not in release.versions_of(root).values()
