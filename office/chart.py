@@ -37,12 +37,12 @@ class Chart(NamedTuple):
 
 
 def chart_of(bars: List[Bar]) -> Chart:
-    """The bars, the highest as high as the chart; as wide as for thirteen of them."""
+    """The bars, the highest as high as the chart, the last one at its right end; as wide as for thirteen of them."""
     most = max((bar.value for bar in bars if bar.value is not None), default=decimal.Decimal())
     step = (WIDTH - 2 * LEFT) / PLACES
     room = HEIGHT - TOP - BOTTOM
     shapes = []
-    for place, bar in enumerate(bars):
+    for place, bar in enumerate(bars, PLACES - len(bars)):
         height = float(bar.value / most) * room if bar.value is not None and most > 0 else 0.0
         x = LEFT + place * step
         shapes.append(Shape(round(x + GAP / 2, 1), round(HEIGHT - BOTTOM - height, 1), round(step - GAP, 1),

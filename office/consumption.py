@@ -6,7 +6,7 @@ import os
 import pathlib
 import subprocess
 import tempfile
-from typing import Dict, Iterator, List, NamedTuple, Sequence, Tuple
+from typing import Dict, Iterator, List, NamedTuple, Optional, Sequence, Tuple
 
 MBDC = os.environ.get("MBDC", "mbdc")  # an installed program
 LONGEST_INPUT = 1 << 20  # bytes
@@ -30,7 +30,7 @@ class Line(NamedTuple):
 
 class Amount(NamedTuple):
     """What a place consumed in a period."""
-    amount: int | None  # in the smallest unit; None where it isn't known
+    amount: Optional[int]  # in the smallest unit; None where it isn't known
     is_too_large: bool
     backwards: int  # steps that touch the period at which a meter ran backwards, or right after one
     exchanges: int  # steps between different meters that touch it

@@ -13,7 +13,7 @@ from grading import Graded, Period, graded, has_leap
 from periods import begin_of, next_month
 from supply import Entry, Place, Tenancy, needed, places_of, seconds, tenancies_of
 
-HOUSES_A_TURN = 50  # whose values are in memory at once
+HOUSES_A_TURN = 25  # whose values are in memory at once
 MONTH_USE = "month_use (month, place, part, begins, ends, tenancy, amount, grade, is_leap, basis)"
 Moments = Tuple[int, ...]
 

@@ -3,6 +3,7 @@
 import datetime
 import decimal
 import functools
+import importlib
 import pathlib
 from typing import Any, List, NamedTuple, Optional, Tuple
 
@@ -104,5 +105,5 @@ def refuse(url: str) -> Any:
 
 
 def pdf_of(html: str) -> bytes:
-    import weasyprint
+    weasyprint: Any = importlib.import_module("weasyprint")
     return bytes(weasyprint.HTML(string=html, url_fetcher=refuse).write_pdf())

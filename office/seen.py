@@ -1,7 +1,7 @@
 """What somebody has to look at, by kind and subject: the queries behind office/alarms."""
 
 import datetime
-from typing import Dict, Iterator, NamedTuple, Tuple
+from typing import Dict, Iterator, NamedTuple, Optional, Tuple
 
 from database import Cursor
 
@@ -76,7 +76,7 @@ ALL = (COLLECTOR, BOXES, SILENT, STATES, STEPS, STILL, NIGHT, NO_NUMBER)
 class Seen(NamedTuple):
     """A thing that is so at a moment."""
     kind: str
-    house: str | None
+    house: Optional[str]
     subject: str
     says: str
 

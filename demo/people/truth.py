@@ -36,16 +36,15 @@ class Truth:
             return "kWh"
         return "HCA" if use == "allocator" else "m³"
 
-    def scaled(self, place: Place, amount: int) -> Fraction:
-        """An amount in the unit of its sheet."""
+    def scaled(self, place: Place, amount: int, unit: str) -> Fraction:
+        """An amount in a unit."""
         if place.use == "heat":
             return Fraction(amount, ENERGY)
         units = Fraction(amount, 1000) * Fraction(place.weight) if place.use == "allocator" else Fraction(amount, 10**6)
-        factor = self.factors.get((place.house, place.use))
-        return units if factor is None else units * Fraction(factor)
+        return units * Fraction(self.factors[place.house, place.use]) if unit == "kWh" else units
 
-    def of_place(self, place: Place, begins: Moment, ends: Moment) -> Number:
-        """What a place consumed in a period, as far as it can be known now."""
+    def of_place(self, place: Place, begins: Moment, ends: Moment, unit: Optional[str] = None) -> Number:
+        """What a place consumed in a period, as far as it can be known now, in the unit of its sheet or another."""
         if place.is_disturbed(begins, ends, self.now):
             return Number(BACKWARDS, None, False, begins, ends)
         first, last = place.consumed(begins, self.now), place.consumed(ends, self.now)
@@ -55,15 +54,16 @@ class Truth:
             return Number(VALUE if is_estimated else MISSING, None, is_estimated, begins, ends)
         is_near = first.is_near and last.is_near and not any(
             device.is_estimated and device.ends is not None and begins < device.ends <= ends for device in place.devices)
-        return Number(VALUE, self.scaled(place, last.amount - first.amount), not is_near, begins, ends)
+        value = self.scaled(place, last.amount - first.amount, unit or self.unit(place.house, place.use))
+        return Number(VALUE, value, not is_near, begins, ends)
 
     def estimated_places(self) -> Iterable[Tuple[Place, datetime.date]]:
         names = {name_of(place): place for house in self.houses for place in house.places}
         return [(names[name], month) for name, month in self.estimated]
 
-    def of_places(self, places: List[Place], begins: Moment, ends: Moment) -> Number:
+    def of_places(self, places: List[Place], begins: Moment, ends: Moment, unit: Optional[str] = None) -> Number:
         """Their sum."""
-        numbers = [self.of_place(place, begins, ends) for place in places]
+        numbers = [self.of_place(place, begins, ends, unit) for place in places]
         state = max((number.state for number in numbers), key=WORST.index)
         values = [number.value for number in numbers if number.value is not None]
         total = sum(values, Fraction()) if len(values) == len(numbers) else None
@@ -77,14 +77,14 @@ class Truth:
         return self.of_places(places_of(house, flat, use), begins, ends) if begins < ends else None
 
     def average(self, use: str, unit: str, month: datetime.date) -> Optional[Fraction]:
-        """What a square metre used on the average, of the flats with a measured number in that unit."""
+        """What a square metre used on the average, of the flats with a measured number that can be told in that unit."""
         total, area, count = Fraction(), 0, 0
         for house in self.houses:
             for flat, size in house.flats.items():
                 places = places_of(house, flat, use)
-                if not places or self.unit(house.name, use) != unit:
+                if not places or unit == "kWh" != self.unit(house.name, use):
                     continue
-                number = self.of_places(places, begin_of(month), begin_of(next_month(month)))
+                number = self.of_places(places, begin_of(month), begin_of(next_month(month)), unit)
                 if number.value is not None and not number.is_estimated:
                     total, area, count = total + number.value, area + size, count + 1
         return total / area if count >= FEWEST_COMPARED else None
