@@ -29,8 +29,6 @@ mod mark;
 mod order;
 mod period;
 mod reached;
-#[cfg(test)]
-mod tests;
 mod walk;
 
 pub use between::consumption;

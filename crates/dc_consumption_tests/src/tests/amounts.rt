@@ -1,6 +1,6 @@
-//! Tests of what no clause says, and of each public function once.
+//! What a place consumed: each public function once, and what no clause says.
 
-use crate::{
+use dc_consumption::{
     AmountFault, Entry, Period, are_in_order, at, backwards, consumption, counted, exchanges,
     is_in_order, periods,
 };
