@@ -14,9 +14,11 @@ toolchain() {
     stat -L -c '%n %s %Y' "$(command -v rt)"
 }
 
-is_built() {
-    [ -x "$built/mbdc" ] && [ "$(sources)" = "$(cat -- "$built/sources" 2>/dev/null)" ] || return 1
-    ! command -v rt >/dev/null || [ "$(toolchain)" = "$(cat -- "$built/toolchain" 2>/dev/null)" ]
+# Whether a program is kept, built from the present sources: mbdc, or dc_first, which decodes alone.
+is_kept() {
+    local kept=$built/$1
+    [ -x "$kept" ] && [ "$(sources)" = "$(cat -- "$kept.sources" 2>/dev/null)" ] || return 1
+    ! command -v rt >/dev/null || [ "$(toolchain)" = "$(cat -- "$kept.toolchain" 2>/dev/null)" ]
 }
 
 # The library for C, which tools/library makes.
@@ -24,9 +26,13 @@ is_library_built() {
     [ "$(sources)" = "$(cat -- "$root/out/library/sources" 2>/dev/null)" ]
 }
 
-# Takes the program that was just proved and linked, from these sources by this toolchain.
+is_built() {
+    is_kept mbdc
+}
+
+# Takes a program that was just proved and linked, from these sources by this toolchain.
 keep_program() {
-    mkdir -p -- "$built" && cp -- "$root/crates/mbdc/out/mbdc" "$built/mbdc.new" \
-        && mv -f -- "$built/mbdc.new" "$built/mbdc" \
-        && printf '%s\n' "$2" >"$built/toolchain" && printf '%s\n' "$1" >"$built/sources"
+    local kept=$built/$1
+    mkdir -p -- "$built" && cp -- "$root/crates/$1/out/$1" "$kept.new" && mv -f -- "$kept.new" "$kept" \
+        && printf '%s\n' "$3" >"$kept.toolchain" && printf '%s\n' "$2" >"$kept.sources"
 }

@@ -1,6 +1,7 @@
 -- What is wrong with the words (this product).
 use Rattle.dc_words.specs.declared.fault.WordsFault.{WordsFault}
-use Rattle.dc_words.specs.declared.fault.WordsFault.TheVariants.{Clap, Link, Meter, NoLink, NoMemory}
+use Rattle.dc_words.specs.declared.fault.WordsFault.TheVariants.{Clap, Link, Meter, NoLink}
+use Rattle.dc_words.specs.declared.fault.WordsFault.TheVariants.{Boundaries, NoMemory}
 
 -- what is said where they are a mistake of which `clap` knows nothing
 abbrev pub IfMistake : WordsFault → Type 0 → Type 0
@@ -8,4 +9,5 @@ IfMistake (Clap error) said = Unit {0}
 IfMistake (Link fault) said = said
 IfMistake Meter said = said
 IfMistake NoLink said = said
+IfMistake Boundaries said = said
 IfMistake NoMemory said = Unit {0}

@@ -44,6 +44,8 @@ pub enum WordsFault {
     Meter,
     /// No bus line has a link.
     NoLink,
+    /// A word that has to be boundaries of periods isn't.
+    Boundaries,
     /// Out of memory.
     NoMemory,
 }

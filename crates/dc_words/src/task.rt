@@ -3,6 +3,8 @@
 use crate::link::LinkName;
 use crate::links::Links;
 use dc_address::{Identity, Primary};
+use dc_consumption_table::Boundaries;
+use std::alloc::Global;
 
 /// How the frames of an input are printed.
 #[derive(Clone, Copy, Debug, PartialEq, Eq)]
@@ -92,6 +94,13 @@ pub enum Task<'a> {
         engine: Engine,
         /// The file's name.
         file: Option<&'a str>,
+    },
+    /// The table of what places consumed.
+    Consumption {
+        /// The file of the entries.
+        file: &'a str,
+        /// The boundaries of the periods.
+        boundaries: Boundaries<Global>,
     },
     /// An image of an empty register, in a file.
     Format {

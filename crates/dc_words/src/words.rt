@@ -7,6 +7,8 @@ use crate::links::Links;
 use crate::task::{Call, Engine, Form, MeterName, PollTask, RunTask, Scan, Task};
 use clap::{Arg, ArgAction, ArgMatches, Command, value_parser};
 use dc_address::{Identity, Primary};
+use dc_change::parse_number;
+use dc_consumption_table::Boundaries;
 use std::alloc::{AllocError, Global};
 
 // The least and the greatest number of sectors: what the file of the largest image holds.
@@ -137,6 +139,16 @@ fn fold_command<'a>(alloc: Global) -> Result<Command<'a>, AllocError> {
     command_of(alloc, "fold", about, help::FOLD, vec![in alloc; file]?)
 }
 
+fn consumption_command<'a>(alloc: Global) -> Result<Command<'a>, AllocError> {
+    let moments = "Moments in Unix seconds, separated by commas, each later than the one before it";
+    let args = vec![in alloc;
+        required_arg(alloc, "FILE", "Lines place,meter,moment,value"),
+        required_arg(alloc, "BOUNDARIES", moments),
+    ]?;
+    let about = "Prints what places consumed between moments, from the readings of their meters";
+    command_of(alloc, "consumption", about, help::CONSUMPTION, args)
+}
+
 fn format_command<'a>(alloc: Global) -> Result<Command<'a>, AllocError> {
     let image = "The image's file; it is made where it isn't there";
     let args = vec![in alloc; required_arg(alloc, "IMAGE", image), sectors_arg(alloc)]?;
@@ -243,6 +255,7 @@ fn demo_command<'a>(alloc: Global) -> Result<Command<'a>, AllocError> {
 fn program<'a>(alloc: Global) -> Result<Command<'a>, AllocError> {
     let program = with_command(bare_program(alloc), decode_command(alloc));
     let program = with_command(program, fold_command(alloc));
+    let program = with_command(program, consumption_command(alloc));
     let program = with_command(program, format_command(alloc));
     let program = with_command(program, poll_command(alloc));
     let program = with_command(program, run_command(alloc));
@@ -296,6 +309,10 @@ fn task_of<'a>(alloc: Global, matches: &ArgMatches<'a>) -> Result<Task<'a>, Word
         "fold" => Ok(Task::Lines {
             engine: Engine::Fold,
             file: inner.get_str("FILE"),
+        }),
+        "consumption" => Ok(Task::Consumption {
+            file: inner.get_str("FILE").unwrap_or_default(),
+            boundaries: boundaries_of(alloc, inner.get_str("BOUNDARIES").unwrap_or_default())?,
         }),
         "demo" => Ok(Task::Demo),
         "scan" | "read" => bus_task(name, inner),
@@ -423,4 +440,22 @@ fn meter_of(word: &str) -> Option<MeterName> {
         Ok(number) => Some(MeterName::Primary(Primary::new(number)?)),
         Err(_) => Some(MeterName::Identity(Identity::parse_text(word.as_bytes()).ok()?)),
     }
+}
+
+// Two moments or more, each later than the one before it.
+fn boundaries_of(alloc: Global, word: &str) -> Result<Boundaries<Global>, WordsFault> {
+    let mut moments = Vec::new(alloc);
+    let mut last = None;
+    for field in word.split(',') {
+        let moment = parse_number(field.as_bytes()).ok_or(WordsFault::Boundaries)?;
+        if last >= Some(moment) {
+            return Err(WordsFault::Boundaries);
+        }
+        last = Some(moment);
+        moments.push(moment)?;
+    }
+    if moments.len() < 2 {
+        return Err(WordsFault::Boundaries);
+    }
+    Boundaries::new(moments).ok_or(WordsFault::Boundaries)
 }

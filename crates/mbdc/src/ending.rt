@@ -25,6 +25,9 @@ const NO_METER: &str =
     "a meter is its identity, as 12345678.PAD.01.07, or for read a primary address, 1 to 250";
 
 // No bus is connected.
+const NO_BOUNDARIES: &str =
+    "BOUNDARIES are two moments or more, each later than the last; try mbdc consumption --help";
+
 const NO_LINK: &str = "no bus line has a link; try mbdc poll --help";
 
 // A line of up to this many bytes goes out as one write.
@@ -121,6 +124,7 @@ pub fn told_words(rt: &HostRuntime, fault: &WordsFault) -> ExitCode
         WordsFault::Link(fault) => told(rt, &Ending::Words(fault.text())),
         WordsFault::Meter => told(rt, &Ending::Words(NO_METER)),
         WordsFault::NoLink => told(rt, &Ending::Words(NO_LINK)),
+        WordsFault::Boundaries => told(rt, &Ending::Words(NO_BOUNDARIES)),
     }
 }
 

@@ -5,6 +5,7 @@
 mod bench;
 mod clock;
 mod connecting;
+mod consumption;
 mod demo;
 mod ending;
 mod inspect;

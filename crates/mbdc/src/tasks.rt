@@ -1,6 +1,7 @@
 //! The commands: an engine of a library between the files and links that the words name.
 
 use crate::bench::{read_on_bus, scan_bus};
+use crate::consumption::consumption_of_file;
 use crate::inspect::{Look, look_into};
 use crate::poll::poll_on_image;
 use crate::report::report_on_image;
@@ -41,6 +42,7 @@ where
             file: Some(name),
         } => work_on_file(host, *engine, name),
         Task::Lines { engine, file: None } => work_on(host, *engine, host.rt.reader(), STREAM),
+        Task::Consumption { file, boundaries } => consumption_of_file(host, file, boundaries),
         Task::Format { image, sectors } => format_image(host, image, *sectors),
         Task::Run(task) => run_on_image(host, task),
         Task::Report {

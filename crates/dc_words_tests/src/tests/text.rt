@@ -31,6 +31,7 @@ pub fn fault_text(alloc: Global, fault: &WordsFault) -> Result<String, AllocErro
         WordsFault::Link(fault) => format!(in alloc; "refused {fault:?}"),
         WordsFault::Meter => String::from_str(alloc, "refused Meter"),
         WordsFault::NoLink => String::from_str(alloc, "refused NoLink"),
+        WordsFault::Boundaries => String::from_str(alloc, "refused Boundaries"),
         WordsFault::NoMemory => String::from_str(alloc, "memory"),
     }
 }
@@ -38,6 +39,10 @@ pub fn fault_text(alloc: Global, fault: &WordsFault) -> Result<String, AllocErro
 fn task_text(alloc: Global, task: &Task<'_>) -> Result<String, AllocError> {
     match task {
         Task::Lines { engine, file } => lines_text(alloc, *engine, *file),
+        Task::Consumption { file, boundaries } => {
+            let moments = boundaries.moments.as_slice();
+            format!(in alloc; "consumption {file} {moments:?}")
+        }
         Task::Format { image, sectors } => format!(in alloc; "format {image} {sectors}"),
         Task::Run(task) => run_text(alloc, task),
         Task::Report {

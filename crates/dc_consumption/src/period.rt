@@ -1,0 +1,19 @@
+//! A period of a place.
+
+use crate::AmountFault;
+
+/// What a place consumed in a period, with its marks.
+#[derive(Clone, Copy, Debug, PartialEq, Eq)]
+pub struct Period {
+    /// Its beginning.
+    pub from: u64,
+    /// Its end.
+    pub to: u64,
+    /// What the place consumed in it, or `None` where its beginning or its end is before the first
+    /// entry or after the last one.
+    pub amount: Result<Option<u64>, AmountFault>,
+    /// Number of steps that touch it in which a meter ran backwards, or right after such a step.
+    pub backwards: usize,
+    /// Number of steps between different meters that touch it.
+    pub exchanges: usize,
+}

@@ -1,0 +1,17 @@
+-- the rows so far are read, and the last place's are open
+use Rattle.std.proofs.Common.{◌+◌, ◌≤◌, ◌∷◌, length}
+use Rattle.dc_io.specs.Lines.{lines_of}
+use Rattle.dc_consumption_table.specs.Open.{row_at}
+use Rattle.dc_consumption_table.specs.Row.{entries_header, line_of}
+use Rattle.dc_consumption_table.proofs.Telling.{IsOn}
+use Rattle.dc_consumption_table.proofs.table.put_from_first.Given as goal
+
+abbrev pub invariant-lines : goal.invariant-lines
+invariant-lines g l = record {
+  on : IsOn l.boundaries (entries_header ∷ (line_of (row_at l.fn.first.place.now l.fn.first.entry) ∷ lines_of l.fn.input)) l.initial.text.bytes
+      l.number l.last.place.now l.last.entry l.entries.items l.text.bytes (lines_of l.rest);
+  few : l.number + length l.rest ≤ length l.fn.input + 3;
+}
+
+abbrev pub decreases-lines : goal.decreases-lines
+decreases-lines g l = length l.rest

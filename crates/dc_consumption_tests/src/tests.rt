@@ -1,0 +1,4 @@
+//! Tests of consumption, by topic.
+
+mod amounts;
+mod table;
