@@ -9,7 +9,6 @@ mod demo;
 mod ending;
 mod inspect;
 mod poll;
-mod progress;
 mod reaching;
 mod report;
 mod script;

@@ -10,6 +10,7 @@ use dc_ending::ProgramFault;
 use dc_io::FixedSink;
 use dc_log::OpenFault;
 use dc_poll::{Outcome, Plan, poll_image};
+use dc_teller::TextTeller;
 use refusing_alloc::Refusing;
 use std::alloc::Global;
 use std::process::Abort;
@@ -141,7 +142,8 @@ fn refused_memory_at_each_growth(rt: HostRuntime) -> Result<(), Fail> {
 #[test]
 fn a_failed_write_ends_the_poll(rt: HostRuntime) -> Result<(), Fail> {
     let heap = rt.alloc();
-    let mut writer: FixedSink<60> = FixedSink::new();
+    let out: FixedSink<60> = FixedSink::new();
+    let mut teller = TextTeller { out };
     let Some(moment) = Moment::from_seconds(NEW_YEAR) else {
         return Err(Fail::from("no moment"));
     };
@@ -155,10 +157,11 @@ fn a_failed_write_ends_the_poll(rt: HostRuntime) -> Result<(), Fail> {
         tries: 2,
     };
     let disk = registered(heap, &SMALL)?;
-    let (disk, outcome) = poll_image(heap, disk, plan, &mut clock, &mut writer);
+    let (disk, outcome) = poll_image(heap, disk, plan, &mut clock, &mut teller);
     assert_eq!(rt; outcome, Err(ProgramFault::Write));
     assert!(rt;
-        writer
+        teller
+            .out
             .as_slice()
             .starts_with(b"READ 00000021.PAD.01.07 1 1\n")
     );

@@ -9,6 +9,7 @@ use dc_disk::MemoryDisk;
 use dc_ending::ProgramFault;
 use dc_io::Bytes;
 use dc_poll::{Outcome, Plan, Station, Timer, poll_image};
+use dc_teller::TextTeller;
 use std::alloc::{AllocError, Allocator, Global};
 use std::process::Abort;
 use std::str;
@@ -69,16 +70,19 @@ pub fn poll_at<A: Allocator + Copy>(
         moment,
         warnings: 0,
     };
-    let mut text = Bytes::new(heap);
+    let mut teller = TextTeller {
+        out: Bytes::new(heap),
+    };
     let plan = Plan {
         buses,
         only,
         tries: 2,
     };
-    let (disk, outcome) = poll_image(alloc, disk, plan, &mut clock, &mut text);
+    let (disk, outcome) = poll_image(alloc, disk, plan, &mut clock, &mut teller);
+    let TextTeller { out } = teller;
     Ok(Polled {
         disk,
-        text,
+        text: out,
         outcome,
         warnings: clock.warnings,
     })
