@@ -6,7 +6,8 @@ use Rattle.dc_concentrator.specs.Core.{Core}
 use Rattle.dc_concentrator.specs.Event.{Event, Answer, starts, asks, hears, commits, offices, started, asked, heard, committed, replied}
 use Rattle.dc_concentrator.specs.Step.{next}
 use Rattle.dc_concentrator.specs.Transcript.{Turn}
-use Rattle.dc_poll.specs.Happening.{Told, Happening, does, tells, happened_turns}
+use Rattle.dc_poll.specs.declared.event.Event.{Event as Told}
+use Rattle.dc_poll.specs.Happening.{Happening, does, tells, happened_turns}
 use Rattle.dc_poll.specs.Keeping.{AreTrue, InRounds, IsAsking, IsAskingBy, IsCommit, IsHearing, IsHearingBy, IsRound, IsSettled, Store, all_kept, at_first, and_round, behind_answer, some_wait, store_behind}
 use Rattle.dc_poll.proofs.Polling.{store_append}
 

@@ -7,8 +7,8 @@ use Rattle.dc_poll.proofs.image.refuse_others.Given as goal
 
 abbrev pub invariant-meters : goal.invariant-meters
 invariant-meters g l = record {
-  text : append_known (g.W.Sink.written l.out) (refused_text (has_bus g.B.HalfBus.lost (map (λ (s : Station g.row.B.Denot). s.bus) l.stations)) l.house.state (drop l.meter-index l.wanted)) ≡ append_known (g.W.Sink.written l.fn.out) (refused_text (has_bus g.B.HalfBus.lost (map (λ (s : Station g.row.B.Denot). s.bus) l.stations)) l.house.state l.wanted);
-  well : g.W.Sink.put_failures l.out ≡ g.W.Sink.put_failures l.fn.out;
+  text : append_known (g.N.Teller.takes l.teller) (refused_text (has_bus g.B.HalfBus.lost (map (λ (s : Station g.row.B.Denot). s.bus) l.stations)) l.house.state (drop l.meter-index l.wanted)) ≡ append_known (g.N.Teller.takes l.fn.teller) (refused_text (has_bus g.B.HalfBus.lost (map (λ (s : Station g.row.B.Denot). s.bus) l.stations)) l.house.state l.wanted);
+  well : g.N.Teller.failures l.teller ≡ g.N.Teller.failures l.fn.teller;
   small : l.refused ≤ 4294967295;
   count : min 4294967295 (l.refused + refused_count (has_bus g.B.HalfBus.lost (map (λ (s : Station g.row.B.Denot). s.bus) l.stations)) l.house.state (drop l.meter-index l.wanted)) ≡ min 4294967295 (refused_count (has_bus g.B.HalfBus.lost (map (λ (s : Station g.row.B.Denot). s.bus) l.stations)) l.house.state l.wanted);
 }

@@ -1,17 +1,18 @@
--- What is written of a line after a commit.
+-- What is told of a line after a commit.
 use Rattle.std.proofs.Common.{◌≡◌, ◌≢◌, ℕ, zero, suc, ◌+◌, ◌-◌, ◌<◌, ◌≤◌, Bool, true, false, List, [], ◌∷◌, ◌++◌, Option, Result, Ok, Err, length, take, drop, refl, ap, sym, subst, ◌∙◌, arith, append-nil}
 use Rattle.std.specs.Prelude.{OnOk}
 use Rattle.dc_change.specs.State.{State}
 use Rattle.dc_concentrator.specs.Core.{Core, present}
 use Rattle.dc_concentrator.specs.Transcript.{Turn, leads}
-use Rattle.dc_io.specs.Stream.{Puts}
-use Rattle.dc_io.proofs.Pieces.{puts-both, puts-none}
+use Rattle.dc_poll.specs.Telling.{TakesAll}
 use Rattle.dc_poll.specs.Bus.{Bus}
-use Rattle.dc_poll.specs.Happening.{Told, was_read, has_failed, was_refused, is_lost, Happening, does, tells, happened_text, happened_turns, told_line, reads_in, failures_in}
+use Rattle.dc_poll.specs.Happening.{Happening, does, tells, happened_events, happened_turns, reads_in, failures_in}
+use Rattle.dc_poll.specs.declared.event.Event.{Event as Told}
+use Rattle.dc_poll.specs.declared.event.Event.TheVariants.{Lost as is_lost}
 use Rattle.dc_poll.specs.Keeping.{Store, IsSettled, IsNewest, AreTrue}
 use Rattle.dc_poll.specs.Queue.{Part, part, Goes, IsToldAs, stays, is_told, loses_it}
 use Rattle.dc_poll.specs.Talking.{Talk, Talks, rests, tells_it, loses_it as talk_loses_it}
-use Rattle.dc_poll.specs.Round.{LineGoes, Moves, AreWritten, Tells, told_of, counted}
+use Rattle.dc_poll.specs.Round.{LineGoes, Moves, AreTold, Tells, told_of, counted}
 use Rattle.dc_poll.specs.Station.{IsSoundIn, IsSound, part_of, talk_of, rounds_in, rounds_of}
 use Rattle.dc_poll.specs.declared.end.End.{End}
 use Rattle.dc_poll.specs.declared.end.End.TheVariants.{Read, Failed, Refused}
@@ -21,7 +22,7 @@ use Rattle.dc_poll.specs.declared.phase.Phase.TheVariants.{Free, Busy, Pending, 
 use Rattle.dc_poll.specs.declared.phase.Request.{Request}
 use Rattle.dc_poll.specs.declared.station.Station.{Station}
 use Rattle.dc_poll.proofs.Counting.{settling_few}
-use Rattle.dc_poll.proofs.Happenings.{turns_append, text_append, reads_append, failures_append}
+use Rattle.dc_poll.proofs.Happenings.{turns_append, events_append, reads_append, failures_append}
 use Rattle.dc_poll.proofs.Queues.{line_stays, moves_both, told_on, told_off}
 
 -- ---- an end
@@ -36,10 +37,10 @@ newest_told state (Read meter) = (refl, refl)
 newest_told state (Failed meter why) = tt
 newest_told state (Refused meter refusal) = tt
 
-no_loss : (state : State) (end : End) → told_of state end ≢ is_lost
-no_loss state (Read meter) e = absurd cc
-no_loss state (Failed meter why) e = absurd cc
-no_loss state (Refused meter refusal) e = absurd cc
+no_loss : (state : State) (end : End) (line : ℕ) → told_of state end ≢ is_lost line
+no_loss state (Read meter) line e = absurd cc
+no_loss state (Failed meter why) line e = absurd cc
+no_loss state (Refused meter refusal) line e = absurd cc
 
 read_counted : (state : State) (end : End) (line : ℕ) (was : Counts) → (counted end was).read ≡ was.read + reads_in (tells line (told_of state end) ∷ [])
 read_counted state (Read meter) line was = omega arith
@@ -58,49 +59,59 @@ few_counted (Refused meter refusal) was = omega arith
 
 -- ---- nothing, and one thing after the other
 
-module _ {S : Type 0} (written : S → Option (List ℕ)) where
-  pub written_none : (out : S) (outcome : Counts) (core : Core) → AreWritten (Puts (written out) (written out)) outcome outcome core []
-  written_none out outcome core = record { text = puts-none (written out); no_turns = refl; are_true = λ store settled. tt; read = omega arith; failed = omega arith }
+module _ {N : Type 0} (takes : N → Told → N → Type 0) where
+  pub takes_none : (teller : N) → TakesAll takes teller teller []
+  takes_none teller = refl
+
+  pub takes_one : (old new : N) (event : Told) → takes old event new → TakesAll takes old new (event ∷ [])
+  takes_one old new event took = (new, took, refl)
+
+  pub takes_both : (old mid new : N) (first more : List Told) → TakesAll takes old mid first → TakesAll takes mid new more → TakesAll takes old new (first ++ more)
+  takes_both old mid new [] more same b = subst (λ (n : N). TakesAll takes n new more) same b
+  takes_both old mid new (event ∷ first) more (next, took, a) b = (next, took, takes_both next mid new first more a b)
+
+  pub told_none : (out : N) (outcome : Counts) (core : Core) → AreTold (TakesAll takes out out) outcome outcome core []
+  told_none out outcome core = record { events = takes_none out; no_turns = refl; are_true = λ store settled. tt; read = omega arith; failed = omega arith }
 
   true_both : (core : Core) (store : Store) (happened more : List Happening) → happened_turns happened ≡ [] → AreTrue core store happened → AreTrue core store more → AreTrue core store (happened ++ more)
   true_both core store [] more none a b = b
   true_both core store (does turn ∷ happened) more none a b = absurd cc
   true_both core store (tells line told ∷ happened) more none a b = (a.0, a.1, true_both core store happened more none a.2 b)
 
-  pub written_both : (old mid new : S) (was between now : Counts) (core : Core) (happened more : List Happening) → AreWritten (Puts (written old) (written mid)) was between core happened → AreWritten (Puts (written mid) (written new)) between now core more
-      → AreWritten (Puts (written old) (written new)) was now core (happened ++ more)
-  written_both old mid new was between now core happened more a b = record {
-    text = subst (Puts (written old) (written new)) (sym (text_append happened more)) (puts-both (written old) (written mid) (written new) (happened_text happened) (happened_text more) a.text b.text);
+  pub told_both : (old mid new : N) (was between now : Counts) (core : Core) (happened more : List Happening) → AreTold (TakesAll takes old mid) was between core happened → AreTold (TakesAll takes mid new) between now core more
+      → AreTold (TakesAll takes old new) was now core (happened ++ more)
+  told_both old mid new was between now core happened more a b = record {
+    events = subst (TakesAll takes old new) (sym (events_append happened more)) (takes_both old mid new (happened_events happened) (happened_events more) a.events b.events);
     no_turns = turns_append happened more ∙ ap (λ (ts : List Turn). ts ++ happened_turns more) a.no_turns ∙ b.no_turns;
     are_true = λ store settled. true_both core store happened more a.no_turns (a.are_true store settled) (b.are_true store settled);
     read = let first = a.read in let second = b.read in let both = reads_append happened more in omega (arith, first, second, both);
     failed = let first = a.failed in let second = b.failed in let both = failures_append happened more in omega (arith, first, second, both);
   }
 
-  pub written_then : (old mid new : S) (was between now : Counts) (core : Core) (happened more : List Happening) → AreWritten (Puts (written old) (written mid)) was between core happened → AreWritten (Puts (written mid) (written new)) between now (leads core (happened_turns happened)) more
-      → AreWritten (Puts (written old) (written new)) was now core (happened ++ more)
-  written_then old mid new was between now core happened more a b =
-      written_both old mid new was between now core happened more a (subst (λ (ts : List Turn). AreWritten (Puts (written mid) (written new)) between now (leads core ts) more) a.no_turns b)
+  pub told_then : (old mid new : N) (was between now : Counts) (core : Core) (happened more : List Happening) → AreTold (TakesAll takes old mid) was between core happened → AreTold (TakesAll takes mid new) between now (leads core (happened_turns happened)) more
+      → AreTold (TakesAll takes old new) was now core (happened ++ more)
+  told_then old mid new was between now core happened more a b =
+      told_both old mid new was between now core happened more a (subst (λ (ts : List Turn). AreTold (TakesAll takes mid new) between now (leads core ts) more) a.no_turns b)
 
-  -- one line of text
-  written_one : (old new : S) (line : ℕ) (told : Told) (was now : Counts) (core : Core) → Puts (written old) (written new) (told_line line told) → IsNewest (present core) told
-      → now.read ≡ was.read + reads_in (tells line told ∷ []) → now.failed ≡ was.failed + failures_in (tells line told ∷ []) → AreWritten (Puts (written old) (written new)) was now core (tells line told ∷ [])
-  written_one old new line told was now core put newest read failed = record {
-    text = subst (Puts (written old) (written new)) (sym (append-nil (told_line line told))) put;
+  -- one event
+  told_one : (old new : N) (line : ℕ) (told : Told) (was now : Counts) (core : Core) → takes old told new → IsNewest (present core) told
+      → now.read ≡ was.read + reads_in (tells line told ∷ []) → now.failed ≡ was.failed + failures_in (tells line told ∷ []) → AreTold (TakesAll takes old new) was now core (tells line told ∷ [])
+  told_one old new line told was now core took newest read failed = record {
+    events = takes_one old new told took;
     no_turns = refl;
     are_true = λ store settled. (settled, newest, tt);
     read = read;
     failed = failed;
   }
 
-  pub written_end : (old new : S) (line : ℕ) (end : End) (was now : Counts) (core : Core) (state : State) → state ≡ present core → Puts (written old) (written new) (told_line line (told_of state end)) → now ≡ counted end was
-      → AreWritten (Puts (written old) (written new)) was now core (tells line (told_of state end) ∷ [])
-  written_end old new line end was now core state is put same =
-      written_one old new line (told_of state end) was now core put (subst (λ (x : State). IsNewest x (told_of state end)) is (newest_told state end))
+  pub told_end : (old new : N) (line : ℕ) (end : End) (was now : Counts) (core : Core) (state : State) → state ≡ present core → takes old (told_of state end) new → now ≡ counted end was
+      → AreTold (TakesAll takes old new) was now core (tells line (told_of state end) ∷ [])
+  told_end old new line end was now core state is put same =
+      told_one old new line (told_of state end) was now core put (subst (λ (x : State). IsNewest x (told_of state end)) is (newest_told state end))
       (ap (λ (o : Counts). o.read) same ∙ read_counted state end line was) (ap (λ (o : Counts). o.failed) same ∙ failed_counted state end line was)
 
-  pub written_loss : (old new : S) (line : ℕ) (was : Counts) (core : Core) → Puts (written old) (written new) (told_line line is_lost) → AreWritten (Puts (written old) (written new)) was was core (tells line is_lost ∷ [])
-  written_loss old new line was core put = written_one old new line is_lost was was core put tt (omega arith) (omega arith)
+  pub told_loss : (old new : N) (line : ℕ) (was : Counts) (core : Core) → takes old (is_lost line) new → AreTold (TakesAll takes old new) was was core (tells line (is_lost line) ∷ [])
+  told_loss old new line was core put = told_one old new line (is_lost line) was was core put tt (omega arith) (omega arith)
 
 module _ {B : Type 0} (g : Bus B) where
   pub moves_none : (tries line : ℕ) (station : Station B) → Moves g tries line station station []
@@ -117,15 +128,15 @@ module _ {B : Type 0} (g : Bus B) where
       subst (λ (s : Station B). Moves g tries line old s (tells line (told_of state end) ∷ [])) (sym kept)
       (moves_told tries line (told_of state end) old (record old { phase = Free }) (record {
         queue = subst (λ (p : Phase). Goes tries line (part (take old.due old.left.now) (drop old.due old.left.now) old.pass p) (tells line (told_of state end) ∷ []) (part (take old.due old.left.now) (drop old.due old.left.now) old.pass Free)) (sym over) (is_told (told_as state end) stays);
-        talk = tells_it (no_loss state end) rests;
+        talk = tells_it (no_loss state end line) rests;
       }))
 
-  pub moves_loss : (tries line : ℕ) (old new : Station B) → old.said ≡ false → g.lost old.bus ≡ true → new ≡ record old { said = true } → Moves g tries line old new (tells line is_lost ∷ [])
+  pub moves_loss : (tries line : ℕ) (old new : Station B) → old.said ≡ false → g.lost old.bus ≡ true → new ≡ record old { said = true } → Moves g tries line old new (tells line (is_lost line) ∷ [])
   moves_loss tries line old new not lost kept =
-      subst (λ (s : Station B). Moves g tries line old s (tells line is_lost ∷ [])) (sym kept)
-      (moves_told tries line is_lost old (record old { said = true }) (record {
+      subst (λ (s : Station B). Moves g tries line old s (tells line (is_lost line) ∷ [])) (sym kept)
+      (moves_told tries line (is_lost line) old (record old { said = true }) (record {
         queue = loses_it stays;
-        talk = subst (λ (b : Bool). Talks g line (record { bus = old.bus; request = old.request; said = b }) (tells line is_lost ∷ []) (record { bus = old.bus; request = old.request; said = true })) (sym not) (talk_loses_it lost rests);
+        talk = subst (λ (b : Bool). Talks g line (record { bus = old.bus; request = old.request; said = b }) (tells line (is_lost line) ∷ []) (record { bus = old.bus; request = old.request; said = true })) (sym not) (talk_loses_it lost rests);
       }))
 
   pub sound_told : (tries : ℕ) (end : End) (old new : Station B) → old.phase ≡ Over end → new ≡ record old { phase = Free } → IsSound g tries old → IsSound g tries new
