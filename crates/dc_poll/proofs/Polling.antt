@@ -9,7 +9,7 @@ use Rattle.dc_concentrator.specs.Step.{next}
 use Rattle.dc_concentrator.specs.Transcript.{Turn, leads}
 use Rattle.dc_concentrator.proofs.Going.{leads_append}
 use Rattle.dc_poll.specs.Telling.{TakesAll}
-use Rattle.dc_poll.proofs.Telling.{takes_both, takes_none}
+use Rattle.dc_poll.proofs.Taking.{takes_both, takes_none}
 use Rattle.dc_poll.specs.declared.event.Event.{Event as Told}
 use Rattle.dc_poll.specs.declared.event.Event.TheVariants.{End as has_ended}
 use Rattle.dc_poll.specs.Bus.{Bus}

@@ -26,6 +26,7 @@ use crate::outcome::{Counts, Outcome};
 use crate::readout::read_on;
 use crate::station::Station;
 use crate::teller::Teller;
+use crate::telling::tell_one;
 use crate::timer::Timer;
 use dc_address::Identity;
 use dc_bus::QuietBus;
@@ -326,10 +327,13 @@ fn tell_refusal<N: Teller>(
         (refusal_event meter.now refusal) }
 {
     match refusal {
-        Some(fault) => teller.tell(&Event::Refused {
-            meter: *meter,
-            refusal: Refusal::Start(fault),
-        }),
+        Some(fault) => {
+            let refused = Event::Refused {
+                meter: *meter,
+                refusal: Refusal::Start(fault),
+            };
+            tell_one(&refused, teller)
+        }
         None => Ok(()),
     }
 }

@@ -17,7 +17,7 @@ use crate::lines::{ask_all, commit_all, hear_and_commit, line_at};
 use crate::outcome::{Counts, Outcome};
 use crate::station::Station;
 use crate::teller::Teller;
-use crate::telling::tell_all;
+use crate::telling::{tell_all, tell_one};
 use crate::timer::Timer;
 use crate::waiting::{is_done, may_sleep};
 use dc_bus::QuietBus;
@@ -152,7 +152,7 @@ fn tell_late<N: Teller>(line: u8, answers: u64, teller: &mut N) -> Result<(), Io
     if answers == 0 {
         return Ok(());
     }
-    teller.tell(&Event::Late { line, answers })
+    tell_one(&Event::Late { line, answers }, teller)
 }
 
 // How many late answers were dropped on each of these lines, of which the first has that number.
@@ -211,7 +211,7 @@ fn tell_finish<B: QuietBus + Drop, N: Teller>(
         (lates_from B.QuietBus 1 stations.now ++ has_ended read failed ∷ []) }
 {
     tell_lates(stations, 1, teller)?;
-    teller.tell(&Event::End { read, failed })
+    tell_one(&Event::End { read, failed }, teller)
 }
 
 /// Reads the meters of up to eight lines, of which line k + 1 is that of the station at k.

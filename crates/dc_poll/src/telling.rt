@@ -1,12 +1,12 @@
 //! Tells the ends of readouts, and the loss of a line.
 
-ghost use Rattle.std.specs.Prelude.{◌≡◌, ◌<◌, ◌≤◌, ◌-◌, ◌+◌, ◌^◌, ℕ, OnOk, OnErr, length, true};
+ghost use Rattle.std.specs.Prelude.{◌≡◌, ◌<◌, ◌≤◌, ◌-◌, ◌+◌, ◌^◌, ◌∷◌, ℕ, OnOk, OnErr, [], length, true};
 ghost use Rattle.std.specs.List.{All};
 ghost use Rattle.dc_io.specs.Failures.{HasRisen};
 ghost use Rattle.dc_poll.specs.Round.{AllTells, EachFewer, Runs, Tells, counted, most_lines};
 ghost use Rattle.dc_poll.specs.Round.{told_of};
 ghost use Rattle.dc_poll.specs.Station.{IsSound, rounds_of};
-ghost use Rattle.dc_poll.specs.Telling.{TakesAll};
+ghost use Rattle.dc_poll.specs.Telling.{HasTold, TakesAll};
 ghost use Rattle.dc_poll.specs.declared.outcome.Counts.{Counts as Counted};
 
 use crate::end::End;
@@ -23,6 +23,13 @@ use dc_disk::Disk;
 use dc_io::IoFault;
 use dc_register::House;
 use std::alloc::Allocator;
+
+// Tells one event.
+pub(crate) fn tell_one<N: Teller>(event: &Event, teller: &mut N) -> Result<(), IoFault>
+    ensures { HasTold N.Teller result teller.old teller.new (event.now ∷ []) }
+{
+    teller.tell(event)
+}
 
 // The event of an end.
 fn told_of<A: Allocator + Copy>(house: &House<A>, end: &End) -> Event
@@ -159,7 +166,13 @@ pub fn tell_all<D: Disk + Drop, A: Allocator + Copy, B: QuietBus + Drop, N: Tell
     ensures well { OnOk result (N.failures teller.new ≡ N.failures teller.old) }
 {
     'lines: for at in 0..stations.len() {
-        match tell(concentrator, &mut stations[at], line_at(at), outcome, teller) {
+        match tell(
+            concentrator,
+            &mut stations[at],
+            line_at(at),
+            outcome,
+            teller,
+        ) {
             Ok(()) => {}
             Err(fault) => return Err(fault),
         }

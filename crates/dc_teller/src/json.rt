@@ -79,12 +79,7 @@ fn put_fault<W: Sink>(out: &mut W, number: u8, name: &str) -> Result<(), IoFault
 
 // Writes the object of a meter that was read.
 #[tactic(auto, using(dc_io::proofs::Pieces::written))]
-fn put_read<W: Sink>(
-    out: &mut W,
-    meter: &Identity,
-    serial: u64,
-    parts: u64,
-) -> Result<(), IoFault>
+fn put_read<W: Sink>(out: &mut W, meter: &Identity, serial: u64, parts: u64) -> Result<(), IoFault>
     ensures { Wrote W.Sink result out.old out.new (object_of (Read meter.now serial parts)) }
 {
     put_text_field(out, b"{\"event\":\"read\",\"meter\":\"", &meter.text())?;

@@ -60,12 +60,7 @@ pub fn put_line<W: Sink>(out: &mut W, event: &Event) -> Result<(), IoFault>
 
 // Writes `READ ident serial parts`.
 #[tactic(auto, using(dc_io::proofs::Pieces::written))]
-fn put_read<W: Sink>(
-    out: &mut W,
-    meter: &Identity,
-    serial: u64,
-    parts: u64,
-) -> Result<(), IoFault>
+fn put_read<W: Sink>(out: &mut W, meter: &Identity, serial: u64, parts: u64) -> Result<(), IoFault>
     ensures { Wrote W.Sink result out.old out.new (line_of (Read meter.now serial parts)) }
 {
     out.put(b"READ ")?;

@@ -116,7 +116,8 @@ const ROWS: [Row; 3] = [
     Row("00000031.PAD.01.07", 3, Some(1), Kind::Sends(1), SHORT),
 ];
 
-const OBJECTS: &str = "{\"event\":\"refused\",\"meter\":\"00000031.PAD.01.07\",\"number\":1,\"name\":\"NoLine\"}
+const OBJECTS: &str =
+    "{\"event\":\"refused\",\"meter\":\"00000031.PAD.01.07\",\"number\":1,\"name\":\"NoLine\"}
 {\"event\":\"read\",\"meter\":\"00000011.PAD.01.07\",\"serial\":1,\"parts\":1}
 {\"event\":\"lost\",\"line\":2}
 {\"event\":\"failed\",\"meter\":\"00000021.PAD.01.07\",\"number\":1,\"name\":\"NoAnswer\"}

@@ -1,7 +1,7 @@
 use Rattle.std.proofs.Common.{refl}
 use Rattle.dc_poll.proofs.Queues.{moves_both}
 use Rattle.dc_poll.proofs.Running.{runs_then}
-use Rattle.dc_poll.proofs.Telling.{on_ok, told_then}
+use Rattle.dc_poll.proofs.Taking.{on_ok, told_then}
 use Rattle.dc_poll.proofs.telling.tell.Goals as goal
 
 pub returns-in-Ok-clause-went : goal.returns-in-Ok-clause-went

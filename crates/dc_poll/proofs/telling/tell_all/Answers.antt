@@ -6,7 +6,7 @@ use Rattle.dc_poll.specs.declared.station.Station.{Station}
 use Rattle.dc_poll.proofs.Rounds.{get_or_any, rounds_none, rounds_step, becomes_none, becomes_step, becomes_all}
 use Rattle.dc_poll.proofs.Running.{runs_none, runs_then}
 use Rattle.dc_poll.proofs.Whole.{whole}
-use Rattle.dc_poll.proofs.Telling.{told_none, told_then}
+use Rattle.dc_poll.proofs.Taking.{told_none, told_then}
 use Rattle.dc_poll.proofs.telling.tell_all.Goals as goal
 
 pub lines-init : goal.lines-init

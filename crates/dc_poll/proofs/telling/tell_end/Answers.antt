@@ -4,7 +4,7 @@ use Rattle.dc_poll.specs.Round.{told_of}
 use Rattle.dc_poll.specs.declared.event.Event.{Event as Told}
 use Rattle.dc_poll.proofs.Running.{runs_none, runs_still}
 use Rattle.dc_poll.proofs.Whole.{whole}
-use Rattle.dc_poll.proofs.Telling.{on_ok, on_any, told_none, told_end, moves_none, moves_end, sound_told, fewer_told, fewer_silent}
+use Rattle.dc_poll.proofs.Taking.{on_ok, on_any, told_none, told_end, moves_none, moves_end, sound_told, fewer_told, fewer_silent}
 use Rattle.dc_poll.proofs.telling.tell_end.Goals as goal
 
 pub returns-in_default-clause-went : goal.returns-in_default-clause-went

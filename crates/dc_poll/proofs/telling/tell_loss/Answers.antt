@@ -3,7 +3,7 @@ use Rattle.dc_poll.specs.Happening.{tells}
 use Rattle.dc_poll.specs.declared.event.Event.TheVariants.{Lost as is_lost}
 use Rattle.dc_poll.proofs.Running.{runs_none, runs_still}
 use Rattle.dc_poll.proofs.Whole.{whole}
-use Rattle.dc_poll.proofs.Telling.{on_ok, told_none, told_loss, moves_none, moves_loss}
+use Rattle.dc_poll.proofs.Taking.{on_ok, told_none, told_loss, moves_none, moves_loss}
 use Rattle.dc_poll.proofs.telling.tell_loss.Goals as goal
 
 pub returns-then-station-clause-went : goal.returns-then-station-clause-went
