@@ -1,6 +1,6 @@
 -- What is told of a line after a commit.
 use Rattle.std.proofs.Common.{◌≡◌, ◌≢◌, ℕ, zero, suc, ◌+◌, ◌-◌, ◌<◌, ◌≤◌, Bool, true, false, List, [], ◌∷◌, ◌++◌, Option, Result, Ok, Err, length, take, drop, refl, ap, sym, subst, ◌∙◌, arith, append-nil}
-use Rattle.std.specs.Prelude.{OnOk}
+use Rattle.std.specs.Prelude.{OnErr, OnOk}
 use Rattle.dc_change.specs.State.{State}
 use Rattle.dc_concentrator.specs.Core.{Core, present}
 use Rattle.dc_concentrator.specs.Transcript.{Turn, leads}
@@ -153,6 +153,10 @@ module _ {B : Type 0} (g : Bus B) where
 pub on_ok : {X E : Type 0} (result : Result X E) (P Q : Type 0) → (P → Q) → OnOk result P → OnOk result Q
 on_ok (Ok x) P Q goes p = goes p
 on_ok (Err e) P Q goes p = tt
+
+pub on_err : {X E : Type 0} (result : Result X E) (P Q : Type 0) → (P → Q) → OnErr result P → OnErr result Q
+on_err (Ok x) P Q goes p = tt
+on_err (Err e) P Q goes p = goes p
 
 over_count : (tries count due pass waits settles : ℕ) (ready : Bool) (phase : Phase) (request : Request) → ((end : End) → phase ≡ Over end → ⊥) → rounds_in 1 1 1 tries count due pass phase request waits ready settles ≤ rounds_in 1 1 0 tries count due pass phase request waits ready settles
 over_count tries count due pass waits settles ready Free request not = omega arith

@@ -179,7 +179,7 @@ counted (Read meter) outcome = record outcome { read = outcome.read + 1 }
 counted (Failed meter why) outcome = record outcome { failed = outcome.failed + 1 }
 counted (Refused meter refusal) outcome = record outcome { failed = outcome.failed + 1 }
 
--- Events are told, each of them true, after a commit, and no turn is taken. What they were told to is in `took`.
+-- Events are told, each of them true, after a commit, and no turn is taken. The teller took them.
 pub record AreTold (took : List Told → Type 0) (was now : Counts) (core : Core)
     (happened : List Happening)
     : Type 0 where

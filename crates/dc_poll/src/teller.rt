@@ -11,8 +11,10 @@ pub trait Teller {
     ghost use Rattle.std.specs.Prelude.{ℕ};
     ghost use Rattle.dc_poll.specs.declared.event.Event.{Event as Told};
 
-    // That it took this event, and so what it made of it.
+    // What taking an event does to it, and what failing to take one does, where that is known.
     ghost takes: { Self → Told → Self → Type 0 };
+
+    ghost breaks: { Self → Told → Self → Type 0 } = { λ _ _ _. Unit {0} };
 
     // Number of events that it couldn't take.
     ghost failures: { Self → ℕ };
@@ -24,5 +26,6 @@ pub trait Teller {
     fn tell(&mut self, event: &Event) -> Result<(), IoFault>
         ensures taken { OnOk result (takes self.old event.now self.new) }
         ensures well { OnOk result (failures self.new ≡ failures self.old) }
-        ensures failed { OnErr result (HasRisen (failures self.old) (failures self.new)) };
+        ensures failed { OnErr result (HasRisen (failures self.old) (failures self.new)) }
+        ensures broken { OnErr result (breaks self.old event.now self.new) };
 }

@@ -20,9 +20,11 @@ pub struct JsonTeller<W: Sink + Drop> {
 }
 
 impl<W: Sink + Drop> Teller for JsonTeller<W> {
-    ghost use Rattle.dc_teller.specs.Printed.{PrintsObject};
+    ghost use Rattle.dc_teller.specs.Printed.{PrintsObject, PrintsSomeOfObject};
 
     ghost takes = { λ old event new. PrintsObject W.Sink old event new };
+
+    ghost breaks = { λ old event new. PrintsSomeOfObject W.Sink old event new };
 
     ghost failures = { λ teller. W.put_failures teller.out };
 

@@ -1,6 +1,6 @@
 //! What the tellers make of all events of a poll. The functions have no effect; their contracts state the theorems.
 
-ghost use Rattle.dc_teller.specs.Printed.{ArePrintedAsJson, ArePrintedAsText, AreTakenUnlessFailed};
+ghost use Rattle.dc_teller.specs.Printed.{ArePrintedAsJson, ArePrintedAsText, AreTakenUpToAFailure};
 
 use dc_io::Sink;
 use dc_poll::Teller;
@@ -17,7 +17,7 @@ pub fn events_are_printed_as_json<W: Sink + Drop>()
     ensures { ArePrintedAsJson W.Sink }
 {}
 
-/// Where output hasn't failed, each event was taken.
-pub fn all_is_taken_where_nothing_fails<N: Teller + Drop>()
-    ensures { AreTakenUnlessFailed N.Teller }
+/// A teller that may fail takes each event of a poll, or those up to its first failure.
+pub fn events_are_taken_up_to_a_failure<N: Teller + Drop>()
+    ensures { AreTakenUpToAFailure N.Teller }
 {}

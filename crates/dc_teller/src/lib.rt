@@ -14,7 +14,7 @@ mod unfailing;
 
 pub use json::{JsonTeller, put_object};
 pub use laws::{
-    all_is_taken_where_nothing_fails, events_are_printed_as_json, events_are_printed_as_text,
+    events_are_printed_as_json, events_are_printed_as_text, events_are_taken_up_to_a_failure,
 };
 pub use progress::{Progress, Shown};
 pub use tally::Tally;

@@ -108,6 +108,8 @@ pub struct Shown<'p, 'h, R, N: Teller + Drop> {
 impl<R: Clock + Eprint, N: Teller + Drop> Teller for Shown<'_, '_, R, N> {
     ghost takes = { λ old event new. N.takes old.teller event new.teller };
 
+    ghost breaks = { λ old event new. N.breaks old.teller event new.teller };
+
     ghost failures = { λ shown. N.failures shown.teller };
 
     fn tell(&mut self, event: &Event) -> Result<(), IoFault> {

@@ -20,9 +20,11 @@ pub struct TextTeller<W: Sink + Drop> {
 }
 
 impl<W: Sink + Drop> Teller for TextTeller<W> {
-    ghost use Rattle.dc_teller.specs.Printed.{PrintsLine};
+    ghost use Rattle.dc_teller.specs.Printed.{PrintsLine, PrintsSomeOfLine};
 
     ghost takes = { λ old event new. PrintsLine W.Sink old event new };
+
+    ghost breaks = { λ old event new. PrintsSomeOfLine W.Sink old event new };
 
     ghost failures = { λ teller. W.put_failures teller.out };
 
