@@ -4,13 +4,16 @@ ghost use Rattle.std.specs.Prelude.{◌≡◌};
 ghost use Rattle.dc_io.specs.Written.{Wrote};
 ghost use Rattle.dc_poll.specs.declared.event.Event.TheVariants.{Read, Failed, Refused, Lost};
 ghost use Rattle.dc_poll.specs.declared.event.Event.TheVariants.{Late, End};
-ghost use Rattle.dc_teller.specs.Object.{object_of, field, text_field, fault_fields, body_field};
-ghost use Rattle.dc_teller.specs.Object.{refusal_fields, why_rest, refusal_rest, reading_rest};
+ghost use Rattle.dc_teller.specs.Object.{object_of, field, text_field, meter_field, fault_fields};
+ghost use Rattle.dc_teller.specs.Object.{own_fault};
+ghost use Rattle.dc_teller.specs.Object.{body_field, body_fault, refusal_fields, why_rest, refusal_rest};
+ghost use Rattle.dc_teller.specs.Object.{reading_rest};
 
 use dc_address::Identity;
 use dc_io::{IoFault, Sink, put_number};
 use dc_poll::{Event, Refusal, Teller};
 use dc_readout::Why;
+use dc_record::BodyFault;
 
 /// Prints a JSON object for each event, in a line of its own.
 #[derive(Drop)]
@@ -70,13 +73,40 @@ fn put_text_field<W: Sink>(out: &mut W, before: &[u8], text: &[u8]) -> Result<()
     out.put(b"\"")
 }
 
-// Writes the fields of a fault.
-#[tactic(auto, using(dc_io::proofs::Pieces::written), unfolding(crate::specs::Object::fault_fields))]
-fn put_fault<W: Sink>(out: &mut W, number: u8, name: &str) -> Result<(), IoFault>
-    ensures { Wrote W.Sink result out.old out.new (fault_fields number name.now) }
+// Writes what stands before a meter, and the meter.
+#[tactic(auto, unfolding(crate::specs::Object::meter_field))]
+fn put_meter_field<W: Sink>(out: &mut W, before: &[u8], meter: &Identity) -> Result<(), IoFault>
+    ensures { Wrote W.Sink result out.old out.new (meter_field before.now meter.now) }
 {
-    put_field(out, b"\"number\":", u64::from(number))?;
+    put_text_field(out, before, &meter.text())
+}
+
+// Writes what stands before a line, and the line.
+fn put_line_field<W: Sink>(out: &mut W, before: &[u8], line: u8) -> Result<(), IoFault>
+    ensures { Wrote W.Sink result out.old out.new (field before.now line) }
+{
+    put_field(out, before, u64::from(line))
+}
+
+// Writes what stands before the number of a fault, and its fields.
+#[tactic(auto, using(dc_io::proofs::Pieces::written), unfolding(crate::specs::Object::fault_fields))]
+fn put_fault_fields<W: Sink>(
+    out: &mut W,
+    before: &[u8],
+    number: u8,
+    name: &str,
+) -> Result<(), IoFault>
+    ensures { Wrote W.Sink result out.old out.new (fault_fields before.now number name.now) }
+{
+    put_field(out, before, u64::from(number))?;
     put_text_field(out, b",\"name\":\"", name.as_bytes())
+}
+
+// Writes the fields of an event's own fault.
+fn put_fault<W: Sink>(out: &mut W, number: u8, name: &str) -> Result<(), IoFault>
+    ensures { Wrote W.Sink result out.old out.new (own_fault number name.now) }
+{
+    put_fault_fields(out, b",\"number\":", number, name)
 }
 
 // Writes the object of a meter that was read.
@@ -84,7 +114,7 @@ fn put_fault<W: Sink>(out: &mut W, number: u8, name: &str) -> Result<(), IoFault
 fn put_read<W: Sink>(out: &mut W, meter: &Identity, serial: u64, parts: u64) -> Result<(), IoFault>
     ensures { Wrote W.Sink result out.old out.new (object_of (Read meter.now serial parts)) }
 {
-    put_text_field(out, b"{\"event\":\"read\",\"meter\":\"", &meter.text())?;
+    put_meter_field(out, b"{\"event\":\"read\",\"meter\":\"", meter)?;
     put_reading_rest(out, serial, parts)
 }
 
@@ -102,7 +132,7 @@ fn put_reading_rest<W: Sink>(out: &mut W, serial: u64, parts: u64) -> Result<(),
 fn put_failed<W: Sink>(out: &mut W, meter: &Identity, why: Why) -> Result<(), IoFault>
     ensures { Wrote W.Sink result out.old out.new (object_of (Failed meter.now why)) }
 {
-    put_text_field(out, b"{\"event\":\"failed\",\"meter\":\"", &meter.text())?;
+    put_meter_field(out, b"{\"event\":\"failed\",\"meter\":\"", meter)?;
     put_why_rest(out, why)
 }
 
@@ -110,7 +140,6 @@ fn put_failed<W: Sink>(out: &mut W, meter: &Identity, why: Why) -> Result<(), Io
 fn put_why_rest<W: Sink>(out: &mut W, why: Why) -> Result<(), IoFault>
     ensures { Wrote W.Sink result out.old out.new (why_rest why) }
 {
-    out.put(b",")?;
     put_fault(out, why.number(), why.name())?;
     put_body_field(out, why)?;
     out.put(b"}\n")
@@ -121,11 +150,22 @@ fn put_why_rest<W: Sink>(out: &mut W, why: Why) -> Result<(), IoFault>
 fn put_body_field<W: Sink>(out: &mut W, why: Why) -> Result<(), IoFault>
     ensures { Wrote W.Sink result out.old out.new (body_field why) }
 {
-    let Why::Content(fault) = why else {
-        return Ok(());
-    };
-    out.put(b",\"fault\":{")?;
-    put_fault(out, fault.number(), fault.name())?;
+    match why {
+        Why::Content(fault) => put_body_fault(out, fault),
+        _ => Ok(()),
+    }
+}
+
+#[tactic(auto, using(dc_io::proofs::Pieces::written), unfolding(crate::specs::Object::body_fault))]
+fn put_body_fault<W: Sink>(out: &mut W, fault: BodyFault) -> Result<(), IoFault>
+    ensures { Wrote W.Sink result out.old out.new (body_fault fault) }
+{
+    put_fault_fields(
+        out,
+        b",\"fault\":{\"number\":",
+        fault.number(),
+        fault.name(),
+    )?;
     out.put(b"}")
 }
 
@@ -134,7 +174,7 @@ fn put_body_field<W: Sink>(out: &mut W, why: Why) -> Result<(), IoFault>
 fn put_refused<W: Sink>(out: &mut W, meter: &Identity, refusal: Refusal) -> Result<(), IoFault>
     ensures { Wrote W.Sink result out.old out.new (object_of (Refused meter.now refusal)) }
 {
-    put_text_field(out, b"{\"event\":\"refused\",\"meter\":\"", &meter.text())?;
+    put_meter_field(out, b"{\"event\":\"refused\",\"meter\":\"", meter)?;
     put_refusal_rest(out, refusal)
 }
 
@@ -142,7 +182,6 @@ fn put_refused<W: Sink>(out: &mut W, meter: &Identity, refusal: Refusal) -> Resu
 fn put_refusal_rest<W: Sink>(out: &mut W, refusal: Refusal) -> Result<(), IoFault>
     ensures { Wrote W.Sink result out.old out.new (refusal_rest refusal) }
 {
-    out.put(b",")?;
     put_refusal(out, refusal)?;
     out.put(b"}\n")
 }
@@ -163,7 +202,7 @@ fn put_refusal<W: Sink>(out: &mut W, refusal: Refusal) -> Result<(), IoFault>
 fn put_lost<W: Sink>(out: &mut W, line: u8) -> Result<(), IoFault>
     ensures { Wrote W.Sink result out.old out.new (object_of (Lost line)) }
 {
-    put_field(out, b"{\"event\":\"lost\",\"line\":", u64::from(line))?;
+    put_line_field(out, b"{\"event\":\"lost\",\"line\":", line)?;
     out.put(b"}\n")
 }
 
@@ -172,7 +211,7 @@ fn put_lost<W: Sink>(out: &mut W, line: u8) -> Result<(), IoFault>
 fn put_late<W: Sink>(out: &mut W, line: u8, answers: u64) -> Result<(), IoFault>
     ensures { Wrote W.Sink result out.old out.new (object_of (Late line answers)) }
 {
-    put_field(out, b"{\"event\":\"late\",\"line\":", u64::from(line))?;
+    put_line_field(out, b"{\"event\":\"late\",\"line\":", line)?;
     put_field(out, b",\"answers\":", answers)?;
     out.put(b"}\n")
 }
