@@ -1,5 +1,5 @@
 -- How often the meters of a queue are started and asked at most.
-use Rattle.std.proofs.Common.{◌≡◌, ℕ, zero, suc, ◌+◌, ◌-◌, ◌*◌, ◌<◌, ◌≤◌, List, [], ◌∷◌, ◌++◌, length, length-append, refl, ap, sym, subst, ◌∙◌, arith}
+use Rattle.std.proofs.Common.{◌≡◌, ℕ, zero, suc, ◌+◌, ◌-◌, ◌*◌, ◌<◌, ◌≤◌, List, [], ◌∷◌, ◌++◌, length, length-append, ap, subst, ◌∙◌, arith}
 use Rattle.dc_address.specs.declared.identity.Identity.{Identity}
 use Rattle.dc_poll.specs.Happening.{Happening, tells}
 use Rattle.dc_poll.specs.declared.event.Event.TheVariants.{Lost as is_lost}

@@ -1,7 +1,7 @@
 -- What happens in a poll, one thing after the other.
-use Rattle.std.proofs.Common.{◌≡◌, ℕ, ◌+◌, List, [], ◌∷◌, ◌++◌, refl, ap, arith, ◌∙◌}
+use Rattle.std.proofs.Common.{◌≡◌, ℕ, ◌+◌, List, [], ◌∷◌, ◌++◌, arith}
 use Rattle.std.proofs.lemmas.List.Concat.{flat_map-append}
-use Rattle.dc_poll.specs.Happening.{Happening, turns_of, happened_turns, kept_on, happened_on, events_of, happened_events, counts_read, counts_failed, reads_in, failures_in}
+use Rattle.dc_poll.specs.Happening.{Happening, turns_of, happened_turns, kept_on, happened_on, events_of, happened_events, reads_in, failures_in}
 
 pub turns_append : (first more : List Happening) → happened_turns (first ++ more) ≡ happened_turns first ++ happened_turns more
 turns_append first more = flat_map-append turns_of first more

@@ -1,22 +1,21 @@
 -- Rounds of a poll, one after the other.
-use Rattle.std.proofs.Common.{◌≡◌, ◌≢◌, ℕ, zero, suc, ◌+◌, ◌-◌, ◌*◌, ◌<◌, ◌≤◌, ◌⊎◌, inl, inr, Bool, true, false, List, [], ◌∷◌, ◌++◌, Option, None, Some, Result, Ok, Err, length, refl, ap, sym, subst, ◌∙◌, arith, append-nil, append_assoc}
+use Rattle.std.proofs.Common.{◌≡◌, ℕ, ◌+◌, ◌-◌, inl, inr, Bool, List, [], ◌∷◌, ◌++◌, Option, None, Some, Result, Ok, Err, length, refl, ap, sym, subst, ◌∙◌, arith, append-nil, append_assoc}
 use Rattle.std.specs.List.{All}
-use Rattle.std.specs.Prelude.{◌^◌, IfOk, OnOk, is_ok, min}
+use Rattle.std.specs.Prelude.{◌^◌, IfOk, OnOk, min}
 use Rattle.dc_concentrator.specs.Core.{Core}
-use Rattle.dc_concentrator.specs.Event.{Event, Answer, commits, committed}
+use Rattle.dc_concentrator.specs.Event.{commits, committed}
 use Rattle.dc_concentrator.specs.declared.fault.CommitFault.{CommitFault}
 use Rattle.dc_concentrator.specs.Step.{next}
 use Rattle.dc_concentrator.specs.Transcript.{Turn, leads}
-use Rattle.dc_concentrator.proofs.Going.{leads_append}
 use Rattle.dc_poll.specs.Telling.{TakesAll}
 use Rattle.dc_poll.proofs.Taking.{takes_both, takes_none}
 use Rattle.dc_poll.specs.declared.event.Event.{Event as Told}
 use Rattle.dc_poll.specs.declared.event.Event.TheVariants.{End as has_ended}
 use Rattle.dc_poll.specs.Bus.{Bus}
 use Rattle.dc_poll.specs.Happening.{Happening, does, tells, happened_events, happened_turns, reads_in, failures_in}
-use Rattle.dc_poll.specs.Keeping.{AreTrue, InRounds, IsAsking, IsCommit, IsHearing, IsRound, IsSettled, Store, all_kept, at_first, and_round, behind_answer, some_wait, store_behind, unkept}
+use Rattle.dc_poll.specs.Keeping.{AreTrue, InRounds, IsAsking, IsCommit, IsRound, IsSettled, Store, all_kept, at_first, and_round, behind_answer, some_wait, store_behind}
 use Rattle.dc_poll.specs.Polls.{EndsIn, GoesRound, Polled, PollsAll, PollsTo, fault_of, store_of}
-use Rattle.dc_poll.specs.Round.{AllSteps, AllTells, AreTurns, EndsInCommit, HasFew, IsFresh, IsOver, IsSilent, IsStoredAs, Rounds, lates_from, meters_left}
+use Rattle.dc_poll.specs.Round.{AllSteps, AllTells, AreTurns, EndsInCommit, HasFew, IsFresh, IsOver, IsSilent, IsStoredAs, lates_from, meters_left}
 use Rattle.dc_poll.specs.declared.outcome.Counts.{Counts}
 use Rattle.dc_poll.specs.declared.outcome.Outcome.{Outcome}
 use Rattle.dc_poll.specs.declared.station.Station.{Station}

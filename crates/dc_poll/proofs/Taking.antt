@@ -1,5 +1,5 @@
 -- What is told of a line after a commit.
-use Rattle.std.proofs.Common.{◌≡◌, ◌≢◌, ℕ, zero, suc, ◌+◌, ◌-◌, ◌<◌, ◌≤◌, Bool, true, false, List, [], ◌∷◌, ◌++◌, Option, Result, Ok, Err, length, take, drop, refl, ap, sym, subst, ◌∙◌, arith, append-nil}
+use Rattle.std.proofs.Common.{◌≡◌, ◌≢◌, ℕ, ◌+◌, ◌≤◌, Bool, true, false, List, [], ◌∷◌, ◌++◌, Result, Ok, Err, length, take, drop, refl, ap, sym, subst, ◌∙◌, arith}
 use Rattle.std.specs.Prelude.{OnErr, OnOk}
 use Rattle.dc_change.specs.State.{State}
 use Rattle.dc_concentrator.specs.Core.{Core, present}
@@ -9,11 +9,11 @@ use Rattle.dc_poll.specs.Bus.{Bus}
 use Rattle.dc_poll.specs.Happening.{Happening, does, tells, happened_events, happened_turns, reads_in, failures_in}
 use Rattle.dc_poll.specs.declared.event.Event.{Event as Told}
 use Rattle.dc_poll.specs.declared.event.Event.TheVariants.{Lost as is_lost}
-use Rattle.dc_poll.specs.Keeping.{Store, IsSettled, IsNewest, AreTrue}
-use Rattle.dc_poll.specs.Queue.{Part, part, Goes, IsToldAs, stays, is_told, loses_it}
-use Rattle.dc_poll.specs.Talking.{Talk, Talks, rests, tells_it, loses_it as talk_loses_it}
-use Rattle.dc_poll.specs.Round.{LineGoes, Moves, AreTold, Tells, told_of, counted}
-use Rattle.dc_poll.specs.Station.{IsSoundIn, IsSound, part_of, talk_of, rounds_in, rounds_of}
+use Rattle.dc_poll.specs.Keeping.{Store, IsNewest, AreTrue}
+use Rattle.dc_poll.specs.Queue.{part, Goes, IsToldAs, stays, is_told, loses_it}
+use Rattle.dc_poll.specs.Talking.{Talks, rests, tells_it, loses_it as talk_loses_it}
+use Rattle.dc_poll.specs.Round.{LineGoes, Moves, AreTold, told_of, counted}
+use Rattle.dc_poll.specs.Station.{IsSoundIn, IsSound, rounds_in, rounds_of}
 use Rattle.dc_poll.specs.declared.end.End.{End}
 use Rattle.dc_poll.specs.declared.end.End.TheVariants.{Read, Failed, Refused}
 use Rattle.dc_poll.specs.declared.outcome.Counts.{Counts}
@@ -23,7 +23,7 @@ use Rattle.dc_poll.specs.declared.phase.Request.{Request}
 use Rattle.dc_poll.specs.declared.station.Station.{Station}
 use Rattle.dc_poll.proofs.Counting.{settling_few}
 use Rattle.dc_poll.proofs.Happenings.{turns_append, events_append, reads_append, failures_append}
-use Rattle.dc_poll.proofs.Queues.{line_stays, moves_both, told_on, told_off}
+use Rattle.dc_poll.proofs.Queues.{line_stays, told_on, told_off}
 
 -- ---- an end
 

@@ -1,13 +1,10 @@
 -- What happens in a poll, and its events (this product).
-use Rattle.std.specs.Prelude.{◌≡◌, ℕ, ◌+◌, Bool, false, ◌==◌, true, List, [], ◌∷◌, ◌++◌, codes}
-use Rattle.std.specs.Prelude.{flat_map, length, if◌then◌else◌, option_map, get_or, Option, None}
+use Rattle.std.specs.Prelude.{ℕ, ◌+◌, Bool, false, ◌==◌, true, List, [], ◌∷◌}
+use Rattle.std.specs.Prelude.{flat_map, length, if◌then◌else◌, Option, None}
 use Rattle.std.specs.Prelude.{Some}
-use Rattle.dc_address.specs.Text.{text_of}
 use Rattle.dc_address.specs.declared.identity.Identity.{Identity}
 use Rattle.dc_change.specs.State.{State, ReadingRow}
-use Rattle.dc_concentrator.specs.Core.{Core, present}
 use Rattle.dc_concentrator.specs.Event.{Event, starts, asks, hears, commits, offices}
-use Rattle.dc_concentrator.specs.Step.{next}
 use Rattle.dc_concentrator.specs.Transcript.{Turn}
 use Rattle.dc_register.specs.Orders.{reading_of, serials_of}
 use Rattle.dc_poll.specs.declared.event.Event.{Event as Told}

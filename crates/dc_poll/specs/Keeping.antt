@@ -1,5 +1,5 @@
 -- What a round commits (this product).
-use Rattle.std.specs.Prelude.{◌≡◌, ◌≢◌, ℕ, Bool, false, List, [], ◌∷◌, ◌++◌, None, Some, Result, Ok}
+use Rattle.std.specs.Prelude.{◌≡◌, ℕ, Bool, false, List, [], ◌∷◌, ◌++◌, None, Result, Ok}
 use Rattle.std.specs.Prelude.{Err}
 use Rattle.std.specs.List.{All}
 use Rattle.dc_change.specs.State.{State}
@@ -9,7 +9,6 @@ use Rattle.dc_concentrator.specs.Event.{committed, replied, unread, unstored, un
 use Rattle.dc_concentrator.specs.Step.{next}
 use Rattle.dc_concentrator.specs.Transcript.{Turn}
 use Rattle.dc_concentrator.specs.declared.fault.CommitFault.{CommitFault}
-use Rattle.dc_concentrator.specs.declared.line_heard.LineHeard.{LineHeard}
 use Rattle.dc_concentrator.specs.declared.line_heard.LineHeard.TheVariants.{Accepted}
 use Rattle.dc_poll.specs.Happening.{Happening, does, tells, newest_serial, newest_parts}
 use Rattle.dc_poll.specs.declared.event.Event.{Event as Told}

@@ -5,7 +5,6 @@ use Rattle.std.specs.List.{AllByRecursion}
 use Rattle.dc_address.specs.declared.identity.Identity.{Identity}
 use Rattle.dc_concentrator.specs.Event.{Event, Answer, starts, asks, hears, commits, started, asked}
 use Rattle.dc_concentrator.specs.Event.{heard, committed, replied}
-use Rattle.dc_concentrator.specs.Transcript.{Turn}
 use Rattle.dc_concentrator.specs.declared.fault.CommitFault.{CommitFault}
 use Rattle.dc_concentrator.specs.declared.fault.HearFault.{HearFault}
 use Rattle.dc_concentrator.specs.declared.fault.StartFault.{StartFault}
@@ -19,7 +18,6 @@ use Rattle.dc_poll.specs.declared.event.Event.{Event as Told}
 use Rattle.dc_poll.specs.declared.event.Event.TheVariants.{Read as was_read, Failed as has_failed}
 use Rattle.dc_poll.specs.declared.event.Event.TheVariants.{Refused as was_refused, Lost as is_lost}
 use Rattle.dc_poll.specs.declared.event.Event.TheVariants.{Late as came_late, End as has_ended}
-use Rattle.dc_poll.specs.declared.end.Refusal.{Refusal}
 use Rattle.dc_poll.specs.declared.end.Refusal.TheVariants.{Start, Hear, Commit}
 use Rattle.dc_poll.specs.declared.end.End.{End}
 use Rattle.dc_poll.specs.declared.end.End.TheVariants.{Read, Failed, Refused}

@@ -4,7 +4,7 @@ use Rattle.std.specs.Prelude.{length, sum, map, slice_index_or, Result, Ok, Err}
 use Rattle.std.specs.List.{All}
 use Rattle.dc_change.specs.State.{State}
 use Rattle.dc_concentrator.specs.Core.{Core, opened}
-use Rattle.dc_concentrator.specs.Event.{Event, Answer, commits, committed}
+use Rattle.dc_concentrator.specs.Event.{commits, committed}
 use Rattle.dc_concentrator.specs.declared.fault.CommitFault.{CommitFault}
 use Rattle.dc_concentrator.specs.Images.{Machine}
 use Rattle.dc_concentrator.specs.Transcript.{Turn, leads}

@@ -1,6 +1,5 @@
 -- The exchanges over the bus of a line (this product).
 use Rattle.std.specs.Prelude.{◌≡◌, ◌≢◌, ℕ, Bool, true, false, List, [], ◌∷◌, None, Some, Result}
-use Rattle.std.specs.Prelude.{Err}
 use Rattle.dc_address.specs.declared.identity.Identity.{Identity}
 use Rattle.dc_concentrator.specs.Event.{starts, asks, hears, commits, started, asked, heard, committed}
 use Rattle.dc_concentrator.specs.declared.fault.CommitFault.{CommitFault}

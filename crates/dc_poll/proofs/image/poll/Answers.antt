@@ -1,5 +1,5 @@
-use Rattle.std.proofs.Common.{◌≡◌, ◌≤◌, ◌-◌, ◌^◌, ℕ, List, length, map, take, ap, refl, sym, subst, ◌∙◌}
-use Rattle.std.specs.Prelude.{min, Option}
+use Rattle.std.proofs.Common.{◌≡◌, ℕ, List, length, map, take, ap, refl, sym, subst, ◌∙◌}
+use Rattle.std.specs.Prelude.{min}
 use Rattle.std.specs.List.{All}
 use Rattle.dc_address.specs.declared.identity.Identity.{Identity}
 use Rattle.dc_io.specs.Failures.{HasRisen}

@@ -1,4 +1,4 @@
-use Rattle.std.proofs.Common.{◌≡◌, ℕ, ap}
+use Rattle.std.proofs.Common.{ap}
 use Rattle.dc_poll.specs.declared.outcome.Outcome.{Outcome}
 use Rattle.dc_poll.proofs.Polling.{if_ok_both, polls_all}
 use Rattle.dc_poll.proofs.Running.{runs_as}

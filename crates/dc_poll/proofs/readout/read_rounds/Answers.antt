@@ -1,8 +1,7 @@
-use Rattle.std.proofs.Common.{◌≡◌, ◌≤◌, ◌<◌, ◌+◌, ℕ, List, Ok, Err, inl, inr, length, get_or, refl, sym, ◌∙◌, arith}
+use Rattle.std.proofs.Common.{◌<◌, List, Ok, length, get_or, refl, sym, ◌∙◌, arith}
 use Rattle.std.specs.List.{All}
 use Rattle.dc_poll.specs.Telling.{TakesAll}
-use Rattle.dc_poll.specs.Round.{HasFew, IsFresh, IsOver, IsSilent}
-use Rattle.dc_poll.specs.Station.{rounds_of}
+use Rattle.dc_poll.specs.Round.{IsOver}
 use Rattle.dc_poll.specs.declared.station.Station.{Station}
 use Rattle.dc_poll.proofs.Exhausting.{all_done, all_less, all_over, all_silent, most_rounds, over_one}
 use Rattle.dc_poll.proofs.Polling.{polled_none, polled_over, polled_unkept, polls_first, polls_kept}

@@ -1,16 +1,13 @@
-use Rattle.std.proofs.Common.{◌≡◌, ◌++◌, ℕ, Bool, List, Option, Result, refl, sym, subst, ◌∙◌}
-use Rattle.std.specs.List.{All}
+use Rattle.std.proofs.Common.{◌++◌, ℕ, Bool, List, Option, refl, sym, subst, ◌∙◌}
 use Rattle.dc_concentrator.specs.Core.{Core}
 use Rattle.dc_concentrator.specs.declared.fault.CommitFault.{CommitFault}
 use Rattle.dc_poll.specs.Telling.{TakesAll}
 use Rattle.dc_poll.specs.Happening.{Happening}
-use Rattle.dc_poll.specs.Keeping.{IsAsking}
 use Rattle.dc_poll.specs.Polls.{GoesRound}
-use Rattle.dc_poll.specs.Round.{AllSteps, EndsInCommit}
 use Rattle.dc_poll.specs.Station.{rounds_of}
 use Rattle.dc_poll.specs.declared.station.Station.{Station}
 use Rattle.dc_poll.proofs.Polling.{Asked, goes_round, none_of}
-use Rattle.dc_poll.proofs.Rounds.{all_then, fewer_both}
+use Rattle.dc_poll.proofs.Rounds.{fewer_both}
 use Rattle.dc_poll.proofs.Running.{runs_then}
 use Rattle.dc_poll.proofs.Whole.{whole}
 use Rattle.dc_poll.proofs.readout.round.Goals as goal

@@ -11,7 +11,8 @@ returns g c =
     let old = c.args.teller.now in
     let mid = c.tell_lates.new.teller in
     let new = c.tell_one.new.teller in
-    let lates = c.in_ok-tell_lates.ensures in
-    (on_ok c.tell_one.result _ _ (λ last. takes_both g.N.Teller.takes old mid new (lates_from (whole g.B.HalfBus g.B.QuietBus) 1 c.args.stations.now) (has_ended c.args.read c.args.failed ∷ []) lates.0 last) c.tell_one.ensures.0,
-    on_ok c.tell_one.result _ _ (λ same. same ∙ lates.1) c.tell_one.ensures.1,
-    on_err c.tell_one.result _ _ (λ risen. subst (λ (n : ℕ). HasRisen n (g.N.Teller.failures new)) lates.1 risen) c.tell_one.ensures.2)
+    let lates = c.in_ok-tell_lates.ensures in (
+      on_ok c.tell_one.result _ _ (λ last. takes_both g.N.Teller.takes old mid new (lates_from (whole g.B.HalfBus g.B.QuietBus) 1 c.args.stations.now) (has_ended c.args.read c.args.failed ∷ []) lates.0 last) c.tell_one.ensures.0,
+      on_ok c.tell_one.result _ _ (λ same. same ∙ lates.1) c.tell_one.ensures.1,
+      on_err c.tell_one.result _ _ (λ risen. subst (λ (n : ℕ). HasRisen n (g.N.Teller.failures new)) lates.1 risen) c.tell_one.ensures.2,
+    )

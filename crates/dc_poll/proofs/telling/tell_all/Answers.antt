@@ -1,5 +1,4 @@
-use Rattle.std.proofs.Common.{◌≡◌, ◌≤◌, ◌<◌, ◌+◌, ℕ, List, length, get_or, refl, subst, ◌∙◌, arith, length-set}
-use Rattle.dc_concentrator.specs.Core.{Core}
+use Rattle.std.proofs.Common.{◌≤◌, ◌<◌, ◌+◌, ℕ, List, length, get_or, refl, subst, ◌∙◌, arith, length-set}
 use Rattle.dc_poll.specs.Round.{Moves}
 use Rattle.dc_poll.specs.Station.{IsSound, rounds_of}
 use Rattle.dc_poll.specs.declared.station.Station.{Station}

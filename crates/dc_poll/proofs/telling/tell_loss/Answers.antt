@@ -1,4 +1,4 @@
-use Rattle.std.proofs.Common.{◌≡◌, [], ◌∷◌, false, refl, sym, ◌∙◌}
+use Rattle.std.proofs.Common.{[], ◌∷◌, refl, sym, ◌∙◌}
 use Rattle.dc_poll.specs.Happening.{tells}
 use Rattle.dc_poll.specs.declared.event.Event.TheVariants.{Lost as is_lost}
 use Rattle.dc_poll.proofs.Running.{runs_none, runs_still}
