@@ -1,4 +1,4 @@
-"""The lines of `mbdc decode` that say what an object of `mbdc decode --json`, or of the web page, says."""
+"""The lines of `mbdc decode` and `mbdc poll` that say what an object of their `--json`, or of the web page, says."""
 
 from collections.abc import Iterator
 from typing import Any
@@ -49,3 +49,16 @@ def lines_of(found: Object) -> Iterator[str]:
 def without_length(line: str) -> str:
     """A long frame's line without the body's length."""
     return " ".join(line.split()[:4]) if line.startswith("LONG") else line
+
+
+def poll_line_of(event: Object) -> str:
+    """The line that says what an event of a poll says."""
+    kind = event["event"]
+    if kind == "lost":
+        return f"LINE {event['line']} LOST"
+    fault = event.get("fault")
+    body = f" {fault['number']} {fault['name']}" if fault else ""
+    rest = {"read": ("meter", "serial", "parts"), "failed": ("meter", "number", "name"),
+            "refused": ("meter", "number", "name"), "late": ("line", "answers"), "end": ("read", "failed")}[kind]
+    assert list(event) == ["event", *rest, *(["fault"] if fault else [])], event
+    return " ".join([kind.upper(), *(str(event[field]) for field in rest)]) + body

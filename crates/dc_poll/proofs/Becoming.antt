@@ -1,11 +1,9 @@
 -- What becomes of a line's part, by what is answered.
-use Rattle.std.proofs.Common.{◌≡◌, ◌≢◌, ◌⊎◌, inl, inr, ℕ, zero, suc, ◌+◌, ◌-◌, ◌<◌, ◌≤◌, Bool, true, false, List, [], ◌∷◌, Option, Some, None, Result, Ok, Err, ◌*◌, ◌++◌, length, length-append, take, drop, refl, ap, sym, subst, ◌∙◌, arith, if◌then◌else◌}
-use Rattle.std.proofs.Math.Nat.{le_trans}
+use Rattle.std.proofs.Common.{◌≡◌, ◌⊎◌, inl, inr, ℕ, zero, suc, ◌+◌, ◌-◌, ◌<◌, ◌≤◌, Bool, true, false, List, [], ◌∷◌, Option, Some, None, Result, Ok, Err, ◌*◌, ◌++◌, length, length-append, take, drop, refl, ap, sym, subst, ◌∙◌, arith, if◌then◌else◌}
 use Rattle.std.proofs.lemmas.Bool.{ltb-true, ltb-false}
 use Rattle.std.specs.Prelude.{IfSome, IfNone, IfErr, OnOk, nat_lt, slice_get}
 use Rattle.dc_address.specs.declared.identity.Identity.{Identity}
-use Rattle.dc_concentrator.specs.Event.{starts, asks, hears, commits, started, asked, heard, committed}
-use Rattle.dc_concentrator.specs.declared.fault.CommitFault.{CommitFault}
+use Rattle.dc_concentrator.specs.Event.{starts, asks, hears, started, asked, heard}
 use Rattle.dc_concentrator.specs.declared.fault.HearFault.{HearFault}
 use Rattle.dc_concentrator.specs.declared.fault.StartFault.{StartFault}
 use Rattle.dc_concentrator.specs.declared.line_heard.LineHeard.{LineHeard}
@@ -16,12 +14,12 @@ use Rattle.dc_readout.specs.declared.why.Why.{Why}
 use Rattle.dc_readout.specs.declared.why.Why.TheVariants.{NoAnswer}
 use Rattle.dc_poll.specs.Happening.{Happening, does}
 use Rattle.dc_poll.specs.Queue.{Part, part, most_asks, Goes, stays, passes_on, starts_it, is_refused, asks_it, has_no_request, is_given_up, goes_on, is_accepted, is_put_off, fails_at_last, is_faulty}
-use Rattle.dc_poll.specs.Talking.{Talk, Talks, rests, settles_it, begins, has_none, sends_it, waits_it, takes_it, hears_it, stands_by as talk_stands_by}
+use Rattle.dc_poll.specs.Talking.{Talk, Talks, rests, settles_it, begins, has_none, sends_it, waits_it, takes_it, hears_it}
 use Rattle.dc_poll.specs.Round.{LineGoes}
 use Rattle.dc_poll.specs.Station.{IsPass, IsSoundIn, IsSound, is_answered, taken_of, IsAfter, Listens, Next, part_of, talk_of, rounds_in, rounds_of, rounds_a_start, rounds_by_phase, settling, ended, next_pass, put_off, after_answer, after_failure}
 use Rattle.dc_poll.specs.declared.end.End.{End}
 use Rattle.dc_poll.specs.declared.end.End.TheVariants.{Read, Failed, Refused}
-use Rattle.dc_poll.specs.declared.end.Refusal.TheVariants.{Start, Hear, Commit}
+use Rattle.dc_poll.specs.declared.end.Refusal.TheVariants.{Start, Hear}
 use Rattle.dc_poll.specs.declared.phase.Phase.{Phase}
 use Rattle.dc_poll.specs.declared.phase.Phase.TheVariants.{Free, Busy, Pending, Over}
 use Rattle.dc_poll.specs.declared.phase.Request.{Request}
@@ -29,7 +27,7 @@ use Rattle.dc_poll.specs.declared.phase.Request.TheVariants.{Quiet, Sent, Answer
 use Rattle.dc_poll.specs.declared.station.Station.{Station}
 use Rattle.dc_poll.proofs.Idling.{fewer_silent}
 use Rattle.dc_poll.proofs.Counting.{pass_less, pass_put_off, start_count, refuse_count, settle_count, ask_count, end_count, free_count, pass_count}
-use Rattle.dc_poll.proofs.Queues.{line_by, line_stays, part_is, part_first, talk_is, part_after, talk_after, of_after, to_phase, from_phase}
+use Rattle.dc_poll.proofs.Queues.{line_by, line_stays, part_is, part_first, talk_is, of_after, from_phase}
 
 some_of : (xs : List Identity) (m : Identity) → xs ≡ m ∷ drop 1 xs → 0 < length xs
 some_of xs m e = let counted : length xs ≡ suc (length (drop 1 xs)) = ap length e in omega (arith, counted)

@@ -1,7 +1,8 @@
 -- How often the meters of a queue are started and asked at most.
-use Rattle.std.proofs.Common.{◌≡◌, ℕ, zero, suc, ◌+◌, ◌-◌, ◌*◌, ◌<◌, ◌≤◌, List, [], ◌∷◌, ◌++◌, length, length-append, refl, ap, sym, subst, ◌∙◌, arith}
+use Rattle.std.proofs.Common.{◌≡◌, ℕ, zero, suc, ◌+◌, ◌-◌, ◌*◌, ◌<◌, ◌≤◌, List, [], ◌∷◌, ◌++◌, length, length-append, ap, subst, ◌∙◌, arith}
 use Rattle.dc_address.specs.declared.identity.Identity.{Identity}
-use Rattle.dc_poll.specs.Happening.{Happening, is_lost, tells}
+use Rattle.dc_poll.specs.Happening.{Happening, tells}
+use Rattle.dc_poll.specs.declared.event.Event.TheVariants.{Lost as is_lost}
 use Rattle.dc_poll.specs.Station.{begun}
 use Rattle.dc_poll.specs.declared.phase.Phase.{Phase}
 use Rattle.dc_poll.specs.declared.phase.Phase.TheVariants.{Free, Busy, Pending, Over}
@@ -59,7 +60,7 @@ asked_once few = let one = few.of_requests in record { of_starts = few.of_starts
 quiet : {s r m a : ℕ} → AreFew s r m a → AreFew s (0 + r) m a
 quiet few = let one = few.of_requests in record { of_starts = few.of_starts; of_requests = omega (arith, one) }
 
-quiet_on : (tries : ℕ) (old : Part) (more : List Happening) → (line : ℕ) → FewFrom tries old more → FewFrom tries old (tells line is_lost ∷ more)
+quiet_on : (tries : ℕ) (old : Part) (more : List Happening) → (line : ℕ) → FewFrom tries old more → FewFrom tries old (tells line (is_lost line) ∷ more)
 quiet_on tries (part left failed pass phase) more line few = quiet few
 
 few_in : {tries line : ℕ} {old last : Part} {happened : List Happening} → Goes tries line old happened last → FewFrom tries old happened

@@ -4,12 +4,11 @@ use Rattle.std.specs.Prelude.{min}
 use Rattle.dc_address.specs.declared.identity.Identity.{Identity}
 use Rattle.dc_bus.specs.Halves.{most_settles, most_waits}
 use Rattle.dc_poll.specs.Queue.{most_asks}
-use Rattle.dc_poll.specs.Station.{IsPass, rounds_in, rounds_a_start, rounds_a_request, rounds_to_settle, rounds_by_phase, rounds_by_request, settling, starts_left}
+use Rattle.dc_poll.specs.Station.{IsPass, rounds_in, rounds_a_start, rounds_a_request, rounds_to_settle, rounds_by_request, settling, starts_left}
 use Rattle.dc_poll.specs.declared.end.End.{End}
-use Rattle.dc_poll.specs.declared.phase.Phase.{Phase}
-use Rattle.dc_poll.specs.declared.phase.Phase.TheVariants.{Free, Busy, Pending, Over}
+use Rattle.dc_poll.specs.declared.phase.Phase.TheVariants.{Free, Busy, Over}
 use Rattle.dc_poll.specs.declared.phase.Request.{Request}
-use Rattle.dc_poll.specs.declared.phase.Request.TheVariants.{Quiet, Sent, Answered}
+use Rattle.dc_poll.specs.declared.phase.Request.TheVariants.{Quiet, Sent}
 
 pub settling_few : (count : ℕ) (ready : Bool) (settles : ℕ) → settling count ready settles ≤ most_settles + 1
 settling_few zero ready settles = omega arith

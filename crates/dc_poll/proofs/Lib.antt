@@ -26,8 +26,8 @@ pub mod Reading
 pub mod Meanings
 -- in rounds, all is committed where a line has no request any more
 pub mod Leaving
--- what is written of a line after a commit
-pub mod Writing
+-- what is told of a line after a commit
+pub mod Taking
 -- how many rounds a line takes at most that takes no step
 pub mod Idling
 -- how many rounds a line takes at most, by what becomes of it

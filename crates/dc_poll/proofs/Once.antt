@@ -1,8 +1,9 @@
 -- A meter that is done with isn't started again.
-use Rattle.std.proofs.Common.{◌≡◌, ◌≢◌, ℕ, zero, suc, ◌+◌, ◌<◌, ◌≤◌, List, [], ◌∷◌, ◌++◌, refl, ap, sym, subst, ◌∙◌, append-nil, append_assoc}
-use Rattle.std.specs.List.{AllByRecursion}
+use Rattle.std.proofs.Common.{◌≡◌, ℕ, List, [], ◌∷◌, ◌++◌, refl, sym, subst, ◌∙◌, append-nil, append_assoc}
 use Rattle.dc_address.specs.declared.identity.Identity.{Identity}
-use Rattle.dc_poll.specs.Happening.{Told, is_lost, Happening, does, tells}
+use Rattle.dc_poll.specs.Happening.{Happening, tells}
+use Rattle.dc_poll.specs.declared.event.Event.{Event as Told}
+use Rattle.dc_poll.specs.declared.event.Event.TheVariants.{Lost as is_lost}
 use Rattle.dc_poll.specs.declared.end.End.{End}
 use Rattle.dc_poll.specs.declared.end.End.TheVariants.{Read, Failed, Refused}
 use Rattle.dc_poll.specs.declared.phase.Phase.{Phase}
@@ -82,10 +83,10 @@ same_told (Refused x r) (Read y) told a b = absurd (let two = b.2 in let both = 
 same_told (Refused x r) (Failed y why) told a b = absurd (let both = sym a ∙ b in cc)
 same_told (Refused x r) (Refused y s) told a b = let both = sym a ∙ b in cc
 
-not_lost : (end : End) → IsToldAs end is_lost → ⊥
-not_lost (Read x) a = let one = a.2 in cc
-not_lost (Failed x why) a = cc
-not_lost (Refused x r) a = cc
+not_lost : (line : ℕ) (end : End) → IsToldAs end (is_lost line) → ⊥
+not_lost line (Read x) a = let one = a.2 in cc
+not_lost line (Failed x why) a = cc
+not_lost line (Refused x r) a = cc
 
 -- the happenings after a front that ends in this line of text
 pub not_again : {tries line : ℕ} {old last : Part} {happened : List Happening} (front back : List Happening) (end : End) (told : Told) → Goes tries line old happened last
@@ -124,7 +125,7 @@ not_again [] back end told (is_told {left = xs} {failed = ys} {end = other} {tol
     subst (λ (ts : List Happening). Lacks (meter_of end) (starts_in ts)) rest
     (not_started (meter_of end) goes (subst (λ (m : Identity). Lacks m (xs ++ ys)) (same_told other end told (subst (IsToldAs other) same as_end) says) a.1))
 not_again (h ∷ front) back end told (is_told as_end goes) e says a = not_again front back end told goes (cc) says a.0
-not_again [] back end told (loses_it goes) e says a = absurd (not_lost end (subst (IsToldAs end) (cc) says))
+not_again {line = l} [] back end told (loses_it goes) e says a = absurd (not_lost l end (subst (IsToldAs end) (cc) says))
 not_again (h ∷ front) back end told (loses_it goes) e says a = not_again front back end told goes (cc) says a
 
 pub none_again : (tries line : ℕ) (meters : List Identity) (front back : List Happening) (end : End) (told : Told) (last : Part) → AreApart meters → IsToldAs end told

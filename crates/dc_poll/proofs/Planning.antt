@@ -1,10 +1,10 @@
 -- Which meters are read on which line.
-use Rattle.std.proofs.Common.{◌≡◌, ℕ, zero, suc, ◌+◌, ◌-◌, ◌<◌, ◌≤◌, Bool, true, false, List, [], ◌∷◌, ◌++◌, Option, None, Some, length, get_or, map, take, drop, refl, ap, sym, subst, ◌∙◌, append_assoc, arith}
+use Rattle.std.proofs.Common.{◌≡◌, ℕ, zero, suc, ◌+◌, ◌<◌, Bool, List, [], ◌∷◌, ◌++◌, length, get_or, map, take, drop, ap, sym, subst, ◌∙◌, append_assoc, arith}
 use Rattle.std.proofs.lemmas.List.{get_or-map, length-map, map-append}
 use Rattle.dc_change.specs.State.{State}
 use Rattle.dc_address.specs.declared.identity.Identity.{Identity}
 use Rattle.dc_poll.specs.Planned.{AreQueues, AreStations, ArePlanned, HasQueue, IsPlanned, queue_on}
-use Rattle.dc_poll.specs.Round.{IsFresh, most_lines}
+use Rattle.dc_poll.specs.Round.{most_lines}
 use Rattle.dc_poll.specs.declared.station.Station.{Station}
 
 -- what holds of each by its place holds with one more

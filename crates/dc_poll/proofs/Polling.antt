@@ -1,24 +1,25 @@
 -- Rounds of a poll, one after the other.
-use Rattle.std.proofs.Common.{◌≡◌, ◌≢◌, ℕ, zero, suc, ◌+◌, ◌-◌, ◌*◌, ◌<◌, ◌≤◌, ◌⊎◌, inl, inr, Bool, true, false, List, [], ◌∷◌, ◌++◌, Option, None, Some, Result, Ok, Err, length, refl, ap, sym, subst, ◌∙◌, arith, append-nil, append_assoc}
+use Rattle.std.proofs.Common.{◌≡◌, ℕ, ◌+◌, ◌-◌, inl, inr, Bool, List, [], ◌∷◌, ◌++◌, Option, None, Some, Result, Ok, Err, length, refl, ap, sym, subst, ◌∙◌, arith, append-nil, append_assoc}
 use Rattle.std.specs.List.{All}
-use Rattle.std.specs.Prelude.{◌^◌, IfOk, OnOk, is_ok, min}
+use Rattle.std.specs.Prelude.{◌^◌, IfOk, OnOk, min}
 use Rattle.dc_concentrator.specs.Core.{Core}
-use Rattle.dc_concentrator.specs.Event.{Event, Answer, commits, committed}
+use Rattle.dc_concentrator.specs.Event.{commits, committed}
 use Rattle.dc_concentrator.specs.declared.fault.CommitFault.{CommitFault}
 use Rattle.dc_concentrator.specs.Step.{next}
 use Rattle.dc_concentrator.specs.Transcript.{Turn, leads}
-use Rattle.dc_concentrator.proofs.Going.{leads_append}
-use Rattle.dc_io.specs.Stream.{Puts}
-use Rattle.dc_io.proofs.Pieces.{puts-both, puts-none}
+use Rattle.dc_poll.specs.Telling.{TakesAll}
+use Rattle.dc_poll.proofs.Taking.{takes_both, takes_none}
+use Rattle.dc_poll.specs.declared.event.Event.{Event as Told}
+use Rattle.dc_poll.specs.declared.event.Event.TheVariants.{End as has_ended}
 use Rattle.dc_poll.specs.Bus.{Bus}
-use Rattle.dc_poll.specs.Happening.{Happening, does, tells, happened_text, happened_turns, reads_in, failures_in}
-use Rattle.dc_poll.specs.Keeping.{AreTrue, InRounds, IsAsking, IsCommit, IsHearing, IsRound, IsSettled, Store, all_kept, at_first, and_round, behind_answer, some_wait, store_behind, unkept}
+use Rattle.dc_poll.specs.Happening.{Happening, does, tells, happened_events, happened_turns, reads_in, failures_in}
+use Rattle.dc_poll.specs.Keeping.{AreTrue, InRounds, IsAsking, IsCommit, IsRound, IsSettled, Store, all_kept, at_first, and_round, behind_answer, some_wait, store_behind}
 use Rattle.dc_poll.specs.Polls.{EndsIn, GoesRound, Polled, PollsAll, PollsTo, fault_of, store_of}
-use Rattle.dc_poll.specs.Round.{AllSteps, AllTells, AreTurns, EndsInCommit, HasFew, IsFresh, IsOver, IsSilent, IsStoredAs, Rounds, end_line, lates_from, meters_left}
+use Rattle.dc_poll.specs.Round.{AllSteps, AllTells, AreTurns, EndsInCommit, HasFew, IsFresh, IsOver, IsSilent, IsStoredAs, lates_from, meters_left}
 use Rattle.dc_poll.specs.declared.outcome.Counts.{Counts}
 use Rattle.dc_poll.specs.declared.outcome.Outcome.{Outcome}
 use Rattle.dc_poll.specs.declared.station.Station.{Station}
-use Rattle.dc_poll.proofs.Happenings.{turns_append, text_append, reads_append, failures_append}
+use Rattle.dc_poll.proofs.Happenings.{turns_append, events_append, reads_append, failures_append}
 use Rattle.dc_poll.specs.Waiting.{may_sleep}
 use Rattle.dc_poll.proofs.Rounds.{all_then, rounds_both}
 
@@ -49,7 +50,7 @@ ends_behind : (fault : Option CommitFault) (front turns : List Turn) → EndsIn 
 ends_behind None front turns is = tt
 ends_behind (Some fault) front turns (before, is) = (front ++ before, ap (λ (ts : List Turn). front ++ ts) is ∙ sym (append_assoc front before ((commits, committed (Err fault)) ∷ [])))
 
--- ---- lines of text that are true
+-- ---- events that are true
 
 -- after turns alone
 pub true_behind : (core : Core) (store : Store) (happened more : List Happening) → AreTurns happened → AreTrue (leads core (happened_turns happened)) (store_behind store (happened_turns happened)) more → AreTrue core store (happened ++ more)
@@ -63,11 +64,11 @@ true_then core store [] more was is = is
 true_then core store (does turn ∷ happened) more was is = true_then (next core turn.0 turn.1) (behind_answer store turn.1) happened more was is
 true_then core store (tells line told ∷ happened) more was is = (was.0, was.1, true_then core store happened more was.2 is)
 
--- turns alone are no text, and count nothing
-turns_text : (happened : List Happening) → AreTurns happened → happened_text happened ≡ []
-turns_text [] turns = refl
-turns_text (does turn ∷ happened) turns = turns_text happened turns
-turns_text (tells line told ∷ happened) turns = absurd turns
+-- turns alone are no event, and count nothing
+turns_events : (happened : List Happening) → AreTurns happened → happened_events happened ≡ []
+turns_events [] turns = refl
+turns_events (does turn ∷ happened) turns = turns_events happened turns
+turns_events (tells line told ∷ happened) turns = absurd turns
 
 turns_read : (happened : List Happening) → AreTurns happened → reads_in happened ≡ 0
 turns_read [] turns = refl
@@ -116,15 +117,15 @@ is_round_of tries moment stored asked mids asking rest turns same are a = by_par
     by_parts (front, last, is, hearing, one) =
         (record { asking = asking; hearing = front; last = last; turns_are = same ∙ ap (λ (ts : List Turn). asking ++ ts) is; are_asking = are; are_hearing = hearing; is_commit = is_commit_as stored last one }, refl)
 
-module _ {B T S : Type 0} (g : Bus B) (told : T → ℕ → T → Type 0) (passes : T → Bool → T → Type 0) (written : S → Option (List ℕ)) where
-  pub goes_round : (tries moment : ℕ) (stored : Result (Unit {0}) CommitFault) (olds asked mids news : List (Station B)) (first passed last : T) (old new : S) (was now : Counts) (core : Core) (happened more : List Happening)
+module _ {B T N : Type 0} (g : Bus B) (told : T → ℕ → T → Type 0) (passes : T → Bool → T → Type 0) (takes : N → Told → N → Type 0) where
+  pub goes_round : (tries moment : ℕ) (stored : Result (Unit {0}) CommitFault) (olds asked mids news : List (Station B)) (first passed last : T) (old new : N) (was now : Counts) (core : Core) (happened more : List Happening)
       → length asked ≡ length olds → length mids ≡ length asked → passes first (may_sleep g asked) passed → told passed moment last
       → Asked g tries moment stored olds asked mids happened
-      → AllTells g mids news (Puts (written old) (written new)) was now (leads core (happened_turns happened)) more
-      → GoesRound g told passes tries (fault_of stored) olds news first last (Puts (written old) (written new)) was now core (happened ++ more)
+      → AllTells g mids news (TakesAll takes old new) was now (leads core (happened_turns happened)) more
+      → GoesRound g told passes tries (fault_of stored) olds news first last (TakesAll takes old new) was now core (happened ++ more)
   goes_round tries moment stored olds asked mids news first passed last old new was now core happened more same same_mids waits tells_it begun t =
       let a = asked_all tries moment stored olds asked mids happened same begun in
-      let none : happened_turns (happened ++ more) ≡ happened_turns happened = turns_append happened more ∙ ap (λ (ts : List Turn). happened_turns happened ++ ts) t.written.no_turns ∙ append-nil (happened_turns happened) in
+      let none : happened_turns (happened ++ more) ≡ happened_turns happened = turns_append happened more ∙ ap (λ (ts : List Turn). happened_turns happened ++ ts) t.told.no_turns ∙ append-nil (happened_turns happened) in
       let turns : happened_turns (happened ++ more) ≡ happened_turns begun.asking ++ happened_turns begun.rest = none ∙ ap happened_turns begun.parts ∙ turns_append begun.asking begun.rest in
       let round = is_round_of tries moment stored asked mids (happened_turns begun.asking) begun.rest (happened_turns (happened ++ more)) turns begun.asks.are_such begun.hears in
       record {
@@ -143,38 +144,38 @@ module _ {B T S : Type 0} (g : Bus B) (told : T → ℕ → T → Type 0) (passe
         asks_first = round.1;
         keeps = λ store. ap (store_behind store) none ∙ a.are_such.keeps store;
         ends = subst (EndsIn (fault_of stored)) (sym none) a.are_such.ends;
-        text = subst (Puts (written old) (written new)) (sym (text_append happened more ∙ ap (λ (bytes : List ℕ). bytes ++ happened_text more) (turns_text happened a.are_turns))) t.written.text;
+        events = subst (TakesAll takes old new) (sym (events_append happened more ∙ ap (λ (es : List Told). es ++ happened_events more) (turns_events happened a.are_turns))) t.told.events;
         are_true = λ store. true_behind core store happened more a.are_turns
-            (t.written.are_true (store_behind store (happened_turns happened)) (subst IsSettled (sym (a.are_such.keeps store)) (settled_of (fault_of stored))));
-        read = let first = t.written.read in let none = turns_read happened a.are_turns in let both = reads_append happened more in omega (arith, first, none, both);
-        failed = let first = t.written.failed in let none = turns_failed happened a.are_turns in let both = failures_append happened more in omega (arith, first, none, both);
+            (t.told.are_true (store_behind store (happened_turns happened)) (subst IsSettled (sym (a.are_such.keeps store)) (settled_of (fault_of stored))));
+        read = let first = t.told.read in let none = turns_read happened a.are_turns in let both = reads_append happened more in omega (arith, first, none, both);
+        failed = let first = t.told.failed in let none = turns_failed happened a.are_turns in let both = failures_append happened more in omega (arith, first, none, both);
       }
 
   -- ---- a poll
 
   -- its first commit
-  pub polls_first : (tries : ℕ) (stored : Result (Unit {0}) CommitFault) (olds news : List (Station B)) (first : T) (out : S) (was : Counts) (core : Core) (happened : List Happening) → AllSteps g tries (IsStoredAs stored) olds news happened
-      → PollsTo g told passes tries (store_of (fault_of stored)) olds news first first (Puts (written out) (written out)) was was core happened
+  pub polls_first : (tries : ℕ) (stored : Result (Unit {0}) CommitFault) (olds news : List (Station B)) (first : T) (out : N) (was : Counts) (core : Core) (happened : List Happening) → AllSteps g tries (IsStoredAs stored) olds news happened
+      → PollsTo g told passes tries (store_of (fault_of stored)) olds news first first (TakesAll takes out out) was was core happened
   polls_first tries stored olds news first out was core happened a = record {
     rounds = a.rounds;
     keeps = at_first (is_commit_as stored (happened_turns happened) a.are_such);
     stored = store_stored some_wait stored (happened_turns happened) a.are_such;
-    text = subst (Puts (written out) (written out)) (sym (turns_text happened a.are_turns)) (puts-none (written out));
+    events = subst (TakesAll takes out out) (sym (turns_events happened a.are_turns)) (takes_none takes out);
     are_true = subst (λ (hs : List Happening). AreTrue core some_wait hs) (append-nil happened) (true_behind core some_wait happened [] a.are_turns tt);
     read = let none = turns_read happened a.are_turns in omega (arith, none);
     failed = let none = turns_failed happened a.are_turns in omega (arith, none);
   }
 
   -- and a round more
-  pub polls_on : (tries : ℕ) (fault : Option CommitFault) (olds mids news : List (Station B)) (first between last : T) (old mid new : S) (was so_far now : Counts) (core : Core) (happened more : List Happening) → length mids ≡ length olds
-      → PollsTo g told passes tries all_kept olds mids first between (Puts (written old) (written mid)) was so_far core happened
-      → GoesRound g told passes tries fault mids news between last (Puts (written mid) (written new)) so_far now (leads core (happened_turns happened)) more
-      → PollsTo g told passes tries (store_of fault) olds news first last (Puts (written old) (written new)) was now core (happened ++ more)
+  pub polls_on : (tries : ℕ) (fault : Option CommitFault) (olds mids news : List (Station B)) (first between last : T) (old mid new : N) (was so_far now : Counts) (core : Core) (happened more : List Happening) → length mids ≡ length olds
+      → PollsTo g told passes tries all_kept olds mids first between (TakesAll takes old mid) was so_far core happened
+      → GoesRound g told passes tries fault mids news between last (TakesAll takes mid new) so_far now (leads core (happened_turns happened)) more
+      → PollsTo g told passes tries (store_of fault) olds news first last (TakesAll takes old new) was now core (happened ++ more)
   polls_on tries fault olds mids news first between last old mid new was so_far now core happened more same a r = record {
     rounds = rounds_both tries olds mids news happened more same a.rounds r.rounds;
     keeps = subst (λ (ts : List Turn). InRounds told passes first ts last) (sym (turns_append happened more)) (and_round a.keeps a.stored r.waits r.reads_time r.is_round);
     stored = ap (store_behind some_wait) (turns_append happened more) ∙ store_append some_wait (happened_turns happened) (happened_turns more) ∙ r.keeps (store_behind some_wait (happened_turns happened));
-    text = subst (Puts (written old) (written new)) (sym (text_append happened more)) (puts-both (written old) (written mid) (written new) (happened_text happened) (happened_text more) a.text r.text);
+    events = subst (TakesAll takes old new) (sym (events_append happened more)) (takes_both takes old mid new (happened_events happened) (happened_events more) a.events r.events);
     are_true = true_then core some_wait happened more a.are_true (r.are_true (store_behind some_wait (happened_turns happened)));
     read = let one = a.read in let two = r.read in let both = reads_append happened more in omega (arith, one, two, both);
     failed = let one = a.failed in let two = r.failed in let both = failures_append happened more in omega (arith, one, two, both);
@@ -183,10 +184,10 @@ module _ {B T S : Type 0} (g : Bus B) (told : T → ℕ → T → Type 0) (passe
   -- ---- where it ends
 
   -- the first commit returns a fault
-  pub polled_none : (tries : ℕ) (fault : CommitFault) (olds news : List (Station B)) (first : T) (out : S) (was : Counts) (now : Outcome) (core : Core) (happened : List Happening) → now ≡ record { read = was.read; failed = was.failed; fault = Some fault }
+  pub polled_none : (tries : ℕ) (fault : CommitFault) (olds news : List (Station B)) (first : T) (out : N) (was : Counts) (now : Outcome) (core : Core) (happened : List Happening) → now ≡ record { read = was.read; failed = was.failed; fault = Some fault }
       → AllSteps g tries (IsStoredAs (Err fault)) olds news happened
-      → Polled g told passes tries olds news first first (Puts (written out) (written out)) was now core happened
-  polled_none tries fault olds news first out was now core happened same a = subst (λ (o : Outcome). Polled g told passes tries olds news first first (Puts (written out) (written out)) was o core happened) (sym same) (record {
+      → Polled g told passes tries olds news first first (TakesAll takes out out) was now core happened
+  polled_none tries fault olds news first out was now core happened same a = subst (λ (o : Outcome). Polled g told passes tries olds news first first (TakesAll takes out out) was o core happened) (sym same) (record {
     counts = was;
     polls = polls_first tries (Err fault) olds news first out was core happened a;
     ended = inl refl;
@@ -196,14 +197,14 @@ module _ {B T S : Type 0} (g : Bus B) (told : T → ℕ → T → Type 0) (passe
   })
 
   -- a later one does
-  pub polled_unkept : (tries : ℕ) (answered : Option CommitFault) (fault : CommitFault) (olds mids news : List (Station B)) (first between last : T) (old mid new : S) (was so_far counts : Counts) (now : Outcome) (core : Core) (happened more : List Happening) → length mids ≡ length olds → answered ≡ Some fault
+  pub polled_unkept : (tries : ℕ) (answered : Option CommitFault) (fault : CommitFault) (olds mids news : List (Station B)) (first between last : T) (old mid new : N) (was so_far counts : Counts) (now : Outcome) (core : Core) (happened more : List Happening) → length mids ≡ length olds → answered ≡ Some fault
       → now ≡ record { read = counts.read; failed = counts.failed; fault = Some fault }
-      → PollsTo g told passes tries all_kept olds mids first between (Puts (written old) (written mid)) was so_far core happened
-      → GoesRound g told passes tries answered mids news between last (Puts (written mid) (written new)) so_far counts (leads core (happened_turns happened)) more
-      → Polled g told passes tries olds news first last (Puts (written old) (written new)) was now core (happened ++ more)
+      → PollsTo g told passes tries all_kept olds mids first between (TakesAll takes old mid) was so_far core happened
+      → GoesRound g told passes tries answered mids news between last (TakesAll takes mid new) so_far counts (leads core (happened_turns happened)) more
+      → Polled g told passes tries olds news first last (TakesAll takes old new) was now core (happened ++ more)
   polled_unkept tries answered fault olds mids news first between last old mid new was so_far counts now core happened more same_count is same a one =
-      let r = subst (λ (f : Option CommitFault). GoesRound g told passes tries f mids news between last (Puts (written mid) (written new)) so_far counts (leads core (happened_turns happened)) more) is one in
-      subst (λ (o : Outcome). Polled g told passes tries olds news first last (Puts (written old) (written new)) was o core (happened ++ more)) (sym same) (record {
+      let r = subst (λ (f : Option CommitFault). GoesRound g told passes tries f mids news between last (TakesAll takes mid new) so_far counts (leads core (happened_turns happened)) more) is one in
+      subst (λ (o : Outcome). Polled g told passes tries olds news first last (TakesAll takes old new) was o core (happened ++ more)) (sym same) (record {
         counts = counts;
         polls = polls_on tries (Some fault) olds mids news first between last old mid new was so_far counts core happened more same_count a r;
         ended = inl refl;
@@ -213,28 +214,28 @@ module _ {B T S : Type 0} (g : Bus B) (told : T → ℕ → T → Type 0) (passe
       })
 
   -- or it goes on
-  pub polls_kept : (tries : ℕ) (fault : Option CommitFault) (olds mids news : List (Station B)) (first between last : T) (old mid new : S) (was so_far now : Counts) (core : Core) (happened more : List Happening) → length mids ≡ length olds → fault ≡ None
-      → PollsTo g told passes tries all_kept olds mids first between (Puts (written old) (written mid)) was so_far core happened
-      → GoesRound g told passes tries fault mids news between last (Puts (written mid) (written new)) so_far now (leads core (happened_turns happened)) more
-      → PollsTo g told passes tries all_kept olds news first last (Puts (written old) (written new)) was now core (happened ++ more)
+  pub polls_kept : (tries : ℕ) (fault : Option CommitFault) (olds mids news : List (Station B)) (first between last : T) (old mid new : N) (was so_far now : Counts) (core : Core) (happened more : List Happening) → length mids ≡ length olds → fault ≡ None
+      → PollsTo g told passes tries all_kept olds mids first between (TakesAll takes old mid) was so_far core happened
+      → GoesRound g told passes tries fault mids news between last (TakesAll takes mid new) so_far now (leads core (happened_turns happened)) more
+      → PollsTo g told passes tries all_kept olds news first last (TakesAll takes old new) was now core (happened ++ more)
   polls_kept tries fault olds mids news first between last old mid new was so_far now core happened more same is a r =
-      subst (λ (store : Store). PollsTo g told passes tries store olds news first last (Puts (written old) (written new)) was now core (happened ++ more)) (ap store_of is)
+      subst (λ (store : Store). PollsTo g told passes tries store olds news first last (TakesAll takes old new) was now core (happened ++ more)) (ap store_of is)
       (polls_on tries fault olds mids news first between last old mid new was so_far now core happened more same a r)
 
   -- no meter is left
-  pub polled_over : (tries : ℕ) (olds news : List (Station B)) (first last : T) (wrote : List ℕ → Type 0) (was counts : Counts) (now : Outcome) (core : Core) (happened : List Happening)
+  pub polled_over : (tries : ℕ) (olds news : List (Station B)) (first last : T) (took : List Told → Type 0) (was counts : Counts) (now : Outcome) (core : Core) (happened : List Happening)
       → now ≡ record { read = counts.read; failed = counts.failed; fault = None }
-      → PollsTo g told passes tries all_kept olds news first last wrote was counts core happened → (All IsFresh olds → All HasFew olds → All IsOver news × All IsSilent news)
-      → Polled g told passes tries olds news first last wrote was now core happened
-  polled_over tries olds news first last wrote was counts now core happened same a over =
-      subst (λ (o : Outcome). Polled g told passes tries olds news first last wrote was o core happened) (sym same) (record { counts = counts; polls = a; ended = inr over; read = refl; failed = refl; fault = tt })
+      → PollsTo g told passes tries all_kept olds news first last took was counts core happened → (All IsFresh olds → All HasFew olds → All IsOver news × All IsSilent news)
+      → Polled g told passes tries olds news first last took was now core happened
+  polled_over tries olds news first last took was counts now core happened same a over =
+      subst (λ (o : Outcome). Polled g told passes tries olds news first last took was o core happened) (sym same) (record { counts = counts; polls = a; ended = inr over; read = refl; failed = refl; fault = tt })
 
   -- and more is written
-  pub polls_all : (tries : ℕ) (olds news : List (Station B)) (first last : T) (old mid new : S) (was : Counts) (between now : Outcome) (core : Core) (happened : List Happening)
-      → Polled g told passes tries olds news first last (Puts (written old) (written mid)) was between core happened
-      → Puts (written mid) (written new) (lates_from g 1 news ++ end_line now.read now.failed)
+  pub polls_all : (tries : ℕ) (olds news : List (Station B)) (first last : T) (old mid new : N) (was : Counts) (between now : Outcome) (core : Core) (happened : List Happening)
+      → Polled g told passes tries olds news first last (TakesAll takes old mid) was between core happened
+      → TakesAll takes mid new (lates_from g 1 news ++ has_ended now.read now.failed ∷ [])
       → now.read ≡ between.read → now.failed ≡ min (2 ^ 64 - 1) (between.failed + meters_left news) → now.fault ≡ between.fault
-      → PollsAll g told passes tries olds news first last (Puts (written old) (written new)) was now core happened
+      → PollsAll g told passes tries olds news first last (TakesAll takes old new) was now core happened
   polls_all tries olds news first last old mid new was between now core happened p put read failed fault = record {
     between = between;
     polled = record {
@@ -243,7 +244,7 @@ module _ {B T S : Type 0} (g : Bus B) (told : T → ℕ → T → Type 0) (passe
         rounds = p.polls.rounds;
         keeps = p.polls.keeps;
         stored = p.polls.stored;
-        text = puts-both (written old) (written mid) (written new) (happened_text happened) (lates_from g 1 news ++ end_line now.read now.failed) p.polls.text put;
+        events = takes_both takes old mid new (happened_events happened) (lates_from g 1 news ++ has_ended now.read now.failed ∷ []) p.polls.events put;
         are_true = p.polls.are_true;
         read = p.polls.read;
         failed = p.polls.failed;

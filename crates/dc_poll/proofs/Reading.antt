@@ -1,8 +1,10 @@
 -- Where nothing fails, every meter of a queue is read.
-use Rattle.std.proofs.Common.{◌≡◌, ℕ, zero, suc, List, [], ◌∷◌, ◌++◌, drop, refl, ap, sym, subst, ◌∙◌}
+use Rattle.std.proofs.Common.{◌≡◌, ℕ, List, [], ◌∷◌, ◌++◌, drop, refl, ap, sym, subst, ◌∙◌}
 use Rattle.std.specs.List.{AllByRecursion}
 use Rattle.dc_address.specs.declared.identity.Identity.{Identity}
-use Rattle.dc_poll.specs.Happening.{Told, is_lost, Happening, tells}
+use Rattle.dc_poll.specs.Happening.{Happening, tells}
+use Rattle.dc_poll.specs.declared.event.Event.{Event as Told}
+use Rattle.dc_poll.specs.declared.event.Event.TheVariants.{Lost as is_lost}
 use Rattle.dc_poll.specs.declared.end.End.{End}
 use Rattle.dc_poll.specs.declared.end.End.TheVariants.{Read, Failed, Refused}
 use Rattle.dc_poll.specs.declared.phase.Phase.{Phase}
@@ -45,7 +47,7 @@ at_end (part left failed pass phase) end =
     subst (λ (p : Phase). ReadIn left p []) (sym end.1) (record { starts = sym end.0; reads = sym end.0 })
 
 -- the loss of a line is of no account
-lost_in : (line : ℕ) (old : Part) (more : List Happening) → AreRead old more → AreRead old (tells line is_lost ∷ more)
+lost_in : (line : ℕ) (old : Part) (more : List Happening) → AreRead old more → AreRead old (tells line (is_lost line) ∷ more)
 lost_in line (part left failed pass phase) more rest = record { starts = rest.starts; reads = rest.reads }
 
 read_all : {tries line : ℕ} {old last : Part} {happened : List Happening} → Goes tries line old happened last → IsAtEnd last → failed_of old ≡ [] → AllByRecursion GoesWell happened → AreRead old happened

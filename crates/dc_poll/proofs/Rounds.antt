@@ -1,12 +1,12 @@
 -- All lines, one after the other.
-use Rattle.std.proofs.Common.{◌≡◌, ◌≢◌, ℕ, zero, suc, ◌+◌, ◌-◌, ◌*◌, ◌<◌, ◌≤◌, ◌⊎◌, inl, inr, Bool, true, false, List, [], ◌∷◌, ◌++◌, length, if◌then◌else◌, set, get_or, refl, ap, sym, subst, ◌∙◌, arith, append-nil, get_or-set_same, get_or-set_other, length-set}
+use Rattle.std.proofs.Common.{◌≡◌, ◌≢◌, ℕ, zero, suc, ◌+◌, ◌<◌, ◌≤◌, ◌⊎◌, inl, inr, List, [], ◌∷◌, ◌++◌, length, set, get_or, refl, ap, sym, subst, ◌∙◌, arith, append-nil, get_or-set_same, get_or-set_other, length-set}
 use Rattle.std.specs.List.{All}
 use Rattle.std.proofs.lemmas.Bool.{cases_eq}
 use Rattle.std.proofs.lemmas.List.Elements.{All-nil, All-append}
 use Rattle.dc_concentrator.specs.Transcript.{Turn}
 use Rattle.dc_poll.specs.Bus.{Bus}
 use Rattle.dc_poll.specs.Happening.{Happening, happened_on, happened_turns}
-use Rattle.dc_poll.specs.Round.{LineGoes, Moves, Steps, Rounds, AllSteps, AreTurns, EachFewer, IsCommitTurn}
+use Rattle.dc_poll.specs.Round.{LineGoes, Moves, Steps, Rounds, AllSteps, EachFewer, IsCommitTurn}
 use Rattle.dc_poll.specs.declared.station.Station.{Station}
 use Rattle.dc_poll.proofs.Happenings.{on_append, turns_append}
 use Rattle.dc_poll.proofs.Queues.{line_stays, line_both, turns_both}

@@ -1,5 +1,5 @@
 -- Turns that were run, one after the other, and what is said of them.
-use Rattle.std.proofs.Common.{◌≡◌, ℕ, List, [], ◌∷◌, ◌++◌, refl, ap, sym, subst, ◌∙◌, append_assoc}
+use Rattle.std.proofs.Common.{◌≡◌, ℕ, List, [], ◌∷◌, ◌++◌, ap, sym, subst}
 use Rattle.dc_disk.specs.Disk.{Image, IsImage}
 use Rattle.dc_disk.specs.declared.device.Disk.{Ghosts}
 use Rattle.dc_change.specs.State.{State}
@@ -8,7 +8,7 @@ use Rattle.dc_concentrator.specs.Event.{Event, Answer}
 use Rattle.dc_concentrator.specs.Images.{Machine, IsAt}
 use Rattle.dc_concentrator.specs.Transcript.{Turn, leads, IsChain}
 use Rattle.dc_concentrator.proofs.Going.{leads_append}
-use Rattle.dc_concentrator.specs.Went.{Went, BehindAnyRun, TurnWent}
+use Rattle.dc_concentrator.specs.Went.{Went, TurnWent}
 use Rattle.dc_concentrator.proofs.Wents.{went_chain, went_at, went_none, went_both}
 use Rattle.dc_poll.specs.Happening.{Happening, does, happened_turns}
 use Rattle.dc_poll.specs.Round.{Happens, Runs}

@@ -1,5 +1,5 @@
 -- What becomes of a line's part by a commit.
-use Rattle.std.proofs.Common.{◌≡◌, ℕ, zero, suc, ◌+◌, ◌-◌, ◌<◌, ◌≤◌, Bool, true, false, inl, inr, List, [], ◌∷◌, ◌++◌, ◌*◌, Result, Ok, Err, length, take, drop, get_or, refl, ap, sym, subst, ◌∙◌, arith}
+use Rattle.std.proofs.Common.{◌≡◌, ℕ, zero, suc, ◌+◌, ◌-◌, ◌<◌, ◌≤◌, Bool, inl, inr, List, [], ◌∷◌, ◌*◌, Result, Ok, Err, length, take, drop, get_or, refl, sym, subst, ◌∙◌, arith}
 use Rattle.std.specs.List.{All}
 use Rattle.std.proofs.lemmas.List.Elements.{All-nil, All-cons}
 use Rattle.dc_concentrator.specs.Transcript.{Turn}
@@ -10,12 +10,11 @@ use Rattle.dc_poll.specs.Bus.{Bus}
 use Rattle.dc_poll.specs.Happening.{Happening, does}
 use Rattle.dc_poll.specs.Queue.{Part, part, Goes, stays, is_stored, is_unstored, stands_by}
 use Rattle.dc_poll.specs.Talking.{Talk, Talks, rests, stands_by as talk_stands_by}
-use Rattle.dc_poll.specs.Round.{LineGoes, Rounds, AllSteps, IsStored, AreStored, EachFewer, IsCommitTurn, IsRoom, IsStoredAs, uncounted}
+use Rattle.dc_poll.specs.Round.{LineGoes, AllSteps, IsStored, AreStored, EachFewer, IsCommitTurn, IsRoom, IsStoredAs, uncounted}
 use Rattle.dc_poll.specs.Keeping.{IsHearing}
 use Rattle.std.specs.Prelude.{OnOk}
 use Rattle.dc_bus.specs.Halves.{most_settles}
-use Rattle.dc_poll.specs.Station.{IsSoundIn, IsSound, IsAfter, Next, part_of, talk_of, rounds_a_start, rounds_a_request, rounds_to_settle, rounds_in, rounds_of, stored_by}
-use Rattle.dc_poll.specs.declared.end.End.{End}
+use Rattle.dc_poll.specs.Station.{IsSoundIn, IsSound, Next, part_of, talk_of, rounds_a_start, rounds_a_request, rounds_to_settle, rounds_in, rounds_of, stored_by}
 use Rattle.dc_poll.specs.declared.end.End.TheVariants.{Refused}
 use Rattle.dc_poll.specs.declared.end.Refusal.TheVariants.{Commit}
 use Rattle.dc_poll.specs.declared.phase.Phase.{Phase}

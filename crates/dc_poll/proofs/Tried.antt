@@ -1,5 +1,5 @@
 -- A queue that is at its end went through all its meters, in passes.
-use Rattle.std.proofs.Common.{◌≡◌, ℕ, zero, suc, ◌+◌, ◌-◌, ◌<◌, ◌≤◌, List, [], ◌∷◌, ◌++◌, drop, refl, ap, sym, subst, ◌∙◌, arith, append-nil, append_assoc}
+use Rattle.std.proofs.Common.{◌≡◌, ℕ, zero, suc, ◌-◌, ◌<◌, List, [], ◌∷◌, ◌++◌, drop, refl, ap, sym, subst, ◌∙◌, arith, append-nil, append_assoc}
 use Rattle.dc_address.specs.declared.identity.Identity.{Identity}
 use Rattle.dc_poll.specs.Happening.{Happening}
 use Rattle.dc_poll.specs.declared.phase.Phase.{Phase}

@@ -1,82 +1,30 @@
--- The events of a poll, and its text (this product).
-use Rattle.std.specs.Prelude.{◌≡◌, ℕ, ◌+◌, Bool, false, ◌==◌, true, List, [], ◌∷◌, ◌++◌, codes}
-use Rattle.std.specs.Prelude.{flat_map, length, if◌then◌else◌, option_map, get_or, Option, None}
+-- What happens in a poll, and its events (this product).
+use Rattle.std.specs.Prelude.{ℕ, ◌+◌, Bool, false, ◌==◌, true, List, [], ◌∷◌}
+use Rattle.std.specs.Prelude.{flat_map, length, if◌then◌else◌, Option, None}
 use Rattle.std.specs.Prelude.{Some}
-use Rattle.dc_address.specs.Text.{text_of}
 use Rattle.dc_address.specs.declared.identity.Identity.{Identity}
 use Rattle.dc_change.specs.State.{State, ReadingRow}
-use Rattle.dc_concentrator.specs.Core.{Core, present}
 use Rattle.dc_concentrator.specs.Event.{Event, starts, asks, hears, commits, offices}
-use Rattle.dc_concentrator.specs.Fault.{start_number, start_name, hear_number, hear_name, commit_number}
-use Rattle.dc_concentrator.specs.Fault.{commit_name}
-use Rattle.dc_concentrator.specs.Step.{next}
 use Rattle.dc_concentrator.specs.Transcript.{Turn}
 use Rattle.dc_register.specs.Orders.{reading_of, serials_of}
-use Rattle.dc_readout.specs.declared.why.Why.{Why}
-use Rattle.dc_readout.specs.declared.why.Why.TheVariants.{NoAnswer, WrongFrame, WrongAddress}
-use Rattle.dc_readout.specs.declared.why.Why.TheVariants.{ApplicationError, Content, Stranger}
-use Rattle.dc_readout.specs.declared.why.Why.TheVariants.{TooManyParts}
-use Rattle.dc_readout.specs.Why.{number_of as why_number, name_of as why_name}
-use Rattle.dc_record.specs.Fault.{number_of as content_number, name_of as content_name}
-use Rattle.dc_io.specs.Words.{number_word, fault_text}
-use Rattle.dc_poll.specs.declared.end.Refusal.{Refusal}
-use Rattle.dc_poll.specs.declared.end.Refusal.TheVariants.{Start, Hear, Commit}
-use Rattle.dc_poll.specs.declared.end.End.{End}
-use Rattle.dc_poll.specs.declared.end.End.TheVariants.{Read, Failed, Refused}
+use Rattle.dc_poll.specs.declared.event.Event.{Event as Told}
+use Rattle.dc_poll.specs.declared.event.Event.TheVariants.{Read as was_read, Failed as has_failed}
+use Rattle.dc_poll.specs.declared.event.Event.TheVariants.{Refused as was_refused, Lost as is_lost}
+use Rattle.dc_poll.specs.declared.event.Event.TheVariants.{Late as came_late, End as has_ended}
 
--- a line of text
-pub data Told : Type 0 where
-  -- a meter was read: the serial of its reading, and the number of its parts
-  was_read : Identity → ℕ → ℕ → Told
-  has_failed : Identity → Why → Told
-  was_refused : Identity → Refusal → Told
-  -- the line is lost
-  is_lost : Told
-
--- a turn of the concentrator, or a line of text about a line
+-- a turn of the concentrator, or an event that is told, about a line
 pub data Happening : Type 0 where
   does : Turn → Happening
   tells : ℕ → Told → Happening
 
--- ---- the text
+-- ---- the events that are told
 
-unfoldable pub why_text : Why → List ℕ
-why_text (Content fault) = fault_text (why_number (Content fault)) (why_name (Content fault))
-    ++ codes " " ++ fault_text (content_number fault) (content_name fault)
-why_text NoAnswer = fault_text (why_number NoAnswer) (why_name NoAnswer)
-why_text WrongFrame = fault_text (why_number WrongFrame) (why_name WrongFrame)
-why_text WrongAddress = fault_text (why_number WrongAddress) (why_name WrongAddress)
-why_text ApplicationError = fault_text (why_number ApplicationError) (why_name ApplicationError)
-why_text Stranger = fault_text (why_number Stranger) (why_name Stranger)
-why_text TooManyParts = fault_text (why_number TooManyParts) (why_name TooManyParts)
+abbrev pub events_of : Happening → List Told
+events_of (does turn) = []
+events_of (tells line told) = told ∷ []
 
-unfoldable pub refusal_text : Refusal → List ℕ
-refusal_text (Start fault) = fault_text (start_number fault) (start_name fault)
-refusal_text (Hear fault) = fault_text (hear_number fault) (hear_name fault)
-refusal_text (Commit fault) = fault_text (commit_number fault) (commit_name fault)
-
--- the end of a line of text, after the meter
-unfoldable pub why_end : Why → List ℕ
-why_end why = codes " " ++ why_text why ++ codes "\n"
-
-unfoldable pub refusal_end : Refusal → List ℕ
-refusal_end refusal = codes " " ++ refusal_text refusal ++ codes "\n"
-
-abbrev pub told_line : ℕ → Told → List ℕ
-told_line line (was_read meter serial parts) =
-    codes "READ " ++ text_of meter ++ number_word serial ++ number_word parts ++ codes "\n"
-told_line line (has_failed meter why) =
-    codes "FAILED " ++ text_of meter ++ why_end why
-told_line line (was_refused meter refusal) =
-    codes "REFUSED " ++ text_of meter ++ refusal_end refusal
-told_line line is_lost = codes "LINE" ++ number_word line ++ codes " LOST\n"
-
-abbrev pub happening_text : Happening → List ℕ
-happening_text (does turn) = []
-happening_text (tells line told) = told_line line told
-
-abbrev pub happened_text : List Happening → List ℕ
-happened_text happened = flat_map happening_text happened
+abbrev pub happened_events : List Happening → List Told
+happened_events happened = flat_map events_of happened
 
 -- ---- its turns, and what is on one line
 
@@ -109,14 +57,18 @@ counts_read (does turn) = 0
 counts_read (tells line (was_read meter serial parts)) = 1
 counts_read (tells line (has_failed meter why)) = 0
 counts_read (tells line (was_refused meter refusal)) = 0
-counts_read (tells line is_lost) = 0
+counts_read (tells line (is_lost lost)) = 0
+counts_read (tells line (came_late late answers)) = 0
+counts_read (tells line (has_ended read failed)) = 0
 
 abbrev pub counts_failed : Happening → ℕ
 counts_failed (does turn) = 0
 counts_failed (tells line (was_read meter serial parts)) = 0
 counts_failed (tells line (has_failed meter why)) = 1
 counts_failed (tells line (was_refused meter refusal)) = 1
-counts_failed (tells line is_lost) = 0
+counts_failed (tells line (is_lost lost)) = 0
+counts_failed (tells line (came_late late answers)) = 0
+counts_failed (tells line (has_ended read failed)) = 0
 
 abbrev pub reads_in : List Happening → ℕ
 reads_in [] = 0

@@ -1,5 +1,5 @@
 -- What a round commits (this product).
-use Rattle.std.specs.Prelude.{◌≡◌, ◌≢◌, ℕ, Bool, false, List, [], ◌∷◌, ◌++◌, None, Some, Result, Ok}
+use Rattle.std.specs.Prelude.{◌≡◌, ℕ, Bool, false, List, [], ◌∷◌, ◌++◌, None, Result, Ok}
 use Rattle.std.specs.Prelude.{Err}
 use Rattle.std.specs.List.{All}
 use Rattle.dc_change.specs.State.{State}
@@ -9,10 +9,12 @@ use Rattle.dc_concentrator.specs.Event.{committed, replied, unread, unstored, un
 use Rattle.dc_concentrator.specs.Step.{next}
 use Rattle.dc_concentrator.specs.Transcript.{Turn}
 use Rattle.dc_concentrator.specs.declared.fault.CommitFault.{CommitFault}
-use Rattle.dc_concentrator.specs.declared.line_heard.LineHeard.{LineHeard}
 use Rattle.dc_concentrator.specs.declared.line_heard.LineHeard.TheVariants.{Accepted}
-use Rattle.dc_poll.specs.Happening.{Told, was_read, has_failed, was_refused, is_lost, Happening}
-use Rattle.dc_poll.specs.Happening.{does, tells, newest_serial, newest_parts}
+use Rattle.dc_poll.specs.Happening.{Happening, does, tells, newest_serial, newest_parts}
+use Rattle.dc_poll.specs.declared.event.Event.{Event as Told}
+use Rattle.dc_poll.specs.declared.event.Event.TheVariants.{Read as was_read, Failed as has_failed}
+use Rattle.dc_poll.specs.declared.event.Event.TheVariants.{Refused as was_refused, Lost as is_lost}
+use Rattle.dc_poll.specs.declared.event.Event.TheVariants.{Late as came_late, End as has_ended}
 
 -- ---- whether something is pending
 
@@ -91,17 +93,19 @@ pub data InRounds {T : Type 0} (told : T → ℕ → T → Type 0) (passes : T �
       → passes old slept passed → told passed moment last
       → IsRound moment more → InRounds told passes first (turns ++ more) last
 
--- ---- the lines of text
+-- ---- the events
 
--- the reading that is written is the newest one of its meter in the register
+-- the reading that is told is the newest one of its meter in the register
 abbrev pub IsNewest : State → Told → Type 0
 IsNewest state (was_read meter serial parts) =
     (serial ≡ newest_serial meter state) × (parts ≡ newest_parts meter state)
 IsNewest state (has_failed meter why) = Unit {0}
 IsNewest state (was_refused meter refusal) = Unit {0}
-IsNewest state is_lost = Unit {0}
+IsNewest state (is_lost line) = Unit {0}
+IsNewest state (came_late line answers) = Unit {0}
+IsNewest state (has_ended read failed) = Unit {0}
 
--- Each line of text is written after the commit, and each reading in it is the newest one of its meter then.
+-- Each event is told after the commit, and each reading in it is the newest one of its meter then.
 abbrev pub AreTrue : Core → Store → List Happening → Type 0
 AreTrue core store [] = Unit {0}
 AreTrue core store (does turn ∷ more) =

@@ -2,8 +2,10 @@
 
 -- a bus in two halves, as contracts see it
 pub mod Bus
--- what happens in a poll, and its text
+-- what happens in a poll, and its events
 pub mod Happening
+-- the events that a teller took
+pub mod Telling
 -- the meters of a line, one after the other
 pub mod Queue
 -- what goes over the bus of a line

@@ -1,6 +1,6 @@
 -- Which meters are read on which line, and which are refused before (this product).
-use Rattle.std.specs.Prelude.{◌≡◌, ℕ, ◌+◌, ◌-◌, ◌<◌, ◌^◌, min, Bool, true, false, not, ◌&&◌, ◌||◌}
-use Rattle.std.specs.Prelude.{◌==◌, List, [], map, filter, flat_map, length, take, slice_get}
+use Rattle.std.specs.Prelude.{◌≡◌, ℕ, ◌+◌, ◌-◌, ◌<◌, Bool, true, false, not, ◌&&◌, ◌||◌}
+use Rattle.std.specs.Prelude.{◌==◌, List, [], ◌∷◌, map, filter, flat_map, length, take, slice_get}
 use Rattle.std.specs.Prelude.{slice_index_or, if◌then◌else◌, Option, None, Some, is_some}
 use Rattle.std.specs.List.{list_any}
 use Rattle.std.specs.Map.{keys_of}
@@ -10,7 +10,8 @@ use Rattle.dc_address.specs.declared.identity.Identity.{Identity}
 use Rattle.dc_change.specs.State.{State, MeterRow, row_of}
 use Rattle.dc_concentrator.specs.declared.fault.StartFault.{StartFault}
 use Rattle.dc_concentrator.specs.declared.fault.StartFault.TheVariants.{NoLine, Unknown}
-use Rattle.dc_poll.specs.Happening.{told_line, was_refused}
+use Rattle.dc_poll.specs.declared.event.Event.{Event as Told}
+use Rattle.dc_poll.specs.declared.event.Event.TheVariants.{Refused as was_refused}
 use Rattle.dc_poll.specs.Round.{IsFresh, most_lines}
 use Rattle.dc_poll.specs.declared.end.Refusal.TheVariants.{Start}
 use Rattle.dc_poll.specs.declared.station.Station.{Station}
@@ -59,24 +60,24 @@ refusal_at connected (Some row) = refusal_by (connected row.line)
 abbrev pub refusal_of : (ℕ → Bool) → State → Identity → Option StartFault
 refusal_of connected state meter = refusal_at connected (row_of meter state)
 
-abbrev pub refusal_line : Identity → Option StartFault → List ℕ
-refusal_line meter None = []
-refusal_line meter (Some fault) = told_line 0 (was_refused meter (Start fault))
+abbrev pub refusal_event : Identity → Option StartFault → List Told
+refusal_event meter None = []
+refusal_event meter (Some fault) = was_refused meter (Start fault) ∷ []
 
--- a line of text for each of these meters that can't be read, in order
-abbrev pub refused_text : (ℕ → Bool) → State → List Identity → List ℕ
-refused_text connected state meters =
-    flat_map (λ meter. refusal_line meter (refusal_of connected state meter)) meters
+-- an event for each of these meters that can't be read, in order
+abbrev pub refused_events : (ℕ → Bool) → State → List Identity → List Told
+refused_events connected state meters =
+    flat_map (λ meter. refusal_event meter (refusal_of connected state meter)) meters
 
--- number of these lines
+-- number of these events
 abbrev pub refused_count : (ℕ → Bool) → State → List Identity → ℕ
 refused_count connected state meters =
     length (filter (λ meter. is_some (refusal_of connected state meter)) meters)
 
 -- ---- the lines
 
--- The line with this number: its queue, none of whose meters was started. Of one whose bus is lost it counts as
--- written.
+-- The line with this number: its queue, none of whose meters was started. Of one whose bus is lost that counts as
+-- told.
 pub record IsPlanned {B : Type 0} (lost : B → Bool) (state : State) (only : List Identity)
     (line : ℕ)
     (station : Station B) : Type 0 where

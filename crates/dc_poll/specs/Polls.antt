@@ -7,13 +7,15 @@ use Rattle.dc_concentrator.specs.Event.{commits, committed}
 use Rattle.dc_concentrator.specs.Transcript.{Turn}
 use Rattle.dc_concentrator.specs.declared.fault.CommitFault.{CommitFault}
 use Rattle.dc_poll.specs.Bus.{Bus}
-use Rattle.dc_poll.specs.Happening.{Happening, happened_text, happened_turns, reads_in}
+use Rattle.dc_poll.specs.Happening.{Happening, happened_events, happened_turns, reads_in}
 use Rattle.dc_poll.specs.Happening.{failures_in}
 use Rattle.dc_poll.specs.Keeping.{AreTrue, InRounds, IsRound, Store, all_kept, some_wait}
 use Rattle.dc_poll.specs.Keeping.{store_behind, unkept}
-use Rattle.dc_poll.specs.Round.{HasFew, IsFresh, IsOver, IsSilent, Rounds, end_line, lates_from}
+use Rattle.dc_poll.specs.Round.{HasFew, IsFresh, IsOver, IsSilent, Rounds, lates_from}
 use Rattle.dc_poll.specs.Round.{meters_left}
 use Rattle.dc_poll.specs.Waiting.{may_sleep}
+use Rattle.dc_poll.specs.declared.event.Event.{Event as Told}
+use Rattle.dc_poll.specs.declared.event.Event.TheVariants.{End as has_ended}
 use Rattle.dc_poll.specs.declared.outcome.Counts.{Counts}
 use Rattle.dc_poll.specs.declared.outcome.Outcome.{Outcome}
 use Rattle.dc_poll.specs.declared.station.Station.{Station}
@@ -36,12 +38,11 @@ EndsIn (Some fault) turns = (front : List Turn)
 
 -- ONE ROUND. All lines go on by what happens. First they are asked; then time passes, and the poll
 -- may sleep exactly where each line waits for its bus or has nothing left. The answers get the time
--- stamp that the timer returns then, and are committed. Then the ends of readouts are written and
--- counted.
+-- stamp that the timer returns then, and are committed. Then the ends of readouts are told and counted.
 pub record GoesRound {B T : Type 0} (g : Bus B) (told : T → ℕ → T → Type 0)
     (passes : T → Bool → T → Type 0)
     (tries : ℕ) (fault : Option CommitFault) (olds news : List (Station B)) (first last : T)
-    (wrote : List ℕ → Type 0)
+    (took : List Told → Type 0)
     (was now : Counts) (core : Core) (happened : List Happening) : Type 0 where
   pub passed : T
   pub moment : ℕ
@@ -58,22 +59,22 @@ pub record GoesRound {B T : Type 0} (g : Bus B) (told : T → ℕ → T → Type
   pub asks_first : is_round.asking ≡ happened_turns asking
   pub keeps : (store : Store) → store_behind store (happened_turns happened) ≡ store_of fault
   pub ends : EndsIn fault (happened_turns happened)
-  pub text : wrote (happened_text happened)
+  pub events : took (happened_events happened)
   pub are_true : (store : Store) → AreTrue core store happened
   pub read : now.read ≡ was.read + reads_in happened
   pub failed : now.failed ≡ was.failed + failures_in happened
 
--- A POLL up to here: after the first commit round after round, as long as all is kept. What is written is the text of
--- the ends, each after its commit, and it is counted. So the store is left.
+-- A POLL up to here: after the first commit round after round, as long as all is kept. What is told is how
+-- readouts ended, each after its commit, and it is counted. So the store is left.
 pub record PollsTo {B T : Type 0} (g : Bus B) (told : T → ℕ → T → Type 0)
     (passes : T → Bool → T → Type 0)
     (tries : ℕ) (store : Store) (olds news : List (Station B)) (first last : T)
-    (wrote : List ℕ → Type 0)
+    (took : List Told → Type 0)
     (was now : Counts) (core : Core) (happened : List Happening) : Type 0 where
   pub rounds : Rounds g tries olds news happened
   pub keeps : InRounds told passes first (happened_turns happened) last
   pub stored : store_behind some_wait (happened_turns happened) ≡ store
-  pub text : wrote (happened_text happened)
+  pub events : took (happened_events happened)
   pub are_true : AreTrue core some_wait happened
   pub read : now.read ≡ was.read + reads_in happened
   pub failed : now.failed ≡ was.failed + failures_in happened
@@ -83,10 +84,10 @@ pub record PollsTo {B T : Type 0} (g : Bus B) (told : T → ℕ → T → Type 0
 -- queue has no more meters than 65,535.
 pub record Polled {B T : Type 0} (g : Bus B) (told : T → ℕ → T → Type 0)
     (passes : T → Bool → T → Type 0)
-    (tries : ℕ) (olds news : List (Station B)) (first last : T) (wrote : List ℕ → Type 0)
+    (tries : ℕ) (olds news : List (Station B)) (first last : T) (took : List Told → Type 0)
     (was : Counts) (now : Outcome) (core : Core) (happened : List Happening) : Type 0 where
   pub counts : Counts
-  pub polls : PollsTo g told passes tries (store_of now.fault) olds news first last wrote was counts
+  pub polls : PollsTo g told passes tries (store_of now.fault) olds news first last took was counts
       core happened
   pub ended : (store_of now.fault ≡ unkept) ⊎ (All IsFresh olds → All HasFew olds
       → All IsOver news × All IsSilent news)
@@ -94,15 +95,16 @@ pub record Polled {B T : Type 0} (g : Bus B) (told : T → ℕ → T → Type 0)
   pub failed : now.failed ≡ counts.failed
   pub fault : EndsIn now.fault (happened_turns happened)
 
--- A WHOLE POLL: after it the late answers of each line are written, and how many meters were read and how many weren't.
+-- A WHOLE POLL: after it the late answers of each line are told, and how many meters were read and how many weren't.
 -- The meters that are left count as such.
 pub record PollsAll {B T : Type 0} (g : Bus B) (told : T → ℕ → T → Type 0)
     (passes : T → Bool → T → Type 0)
-    (tries : ℕ) (olds news : List (Station B)) (first last : T) (wrote : List ℕ → Type 0)
+    (tries : ℕ) (olds news : List (Station B)) (first last : T) (took : List Told → Type 0)
     (was : Counts) (now : Outcome) (core : Core) (happened : List Happening) : Type 0 where
   pub between : Outcome
   pub polled : Polled g told passes tries olds news first last
-      (λ text. wrote (text ++ (lates_from g 1 news ++ end_line now.read now.failed))) was between
+      (λ events. took (events ++ (lates_from g 1 news ++ has_ended now.read now.failed ∷ []))) was
+      between
       core happened
   pub read : now.read ≡ between.read
   pub failed : now.failed ≡ min (2 ^ 64 - 1) (between.failed + meters_left news)

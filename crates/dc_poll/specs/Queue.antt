@@ -5,7 +5,6 @@ use Rattle.std.specs.List.{AllByRecursion}
 use Rattle.dc_address.specs.declared.identity.Identity.{Identity}
 use Rattle.dc_concentrator.specs.Event.{Event, Answer, starts, asks, hears, commits, started, asked}
 use Rattle.dc_concentrator.specs.Event.{heard, committed, replied}
-use Rattle.dc_concentrator.specs.Transcript.{Turn}
 use Rattle.dc_concentrator.specs.declared.fault.CommitFault.{CommitFault}
 use Rattle.dc_concentrator.specs.declared.fault.HearFault.{HearFault}
 use Rattle.dc_concentrator.specs.declared.fault.StartFault.{StartFault}
@@ -14,9 +13,11 @@ use Rattle.dc_concentrator.specs.declared.line_heard.LineHeard.TheVariants.{Agai
 use Rattle.dc_concentrator.specs.declared.line_heard.LineHeard.TheVariants.{Failed as HasFailed}
 use Rattle.dc_readout.specs.declared.why.Why.{Why}
 use Rattle.dc_readout.specs.declared.why.Why.TheVariants.{NoAnswer}
-use Rattle.dc_poll.specs.Happening.{Told, was_read, has_failed, was_refused, is_lost, Happening}
-use Rattle.dc_poll.specs.Happening.{does, tells}
-use Rattle.dc_poll.specs.declared.end.Refusal.{Refusal}
+use Rattle.dc_poll.specs.Happening.{Happening, does, tells}
+use Rattle.dc_poll.specs.declared.event.Event.{Event as Told}
+use Rattle.dc_poll.specs.declared.event.Event.TheVariants.{Read as was_read, Failed as has_failed}
+use Rattle.dc_poll.specs.declared.event.Event.TheVariants.{Refused as was_refused, Lost as is_lost}
+use Rattle.dc_poll.specs.declared.event.Event.TheVariants.{Late as came_late, End as has_ended}
 use Rattle.dc_poll.specs.declared.end.Refusal.TheVariants.{Start, Hear, Commit}
 use Rattle.dc_poll.specs.declared.end.End.{End}
 use Rattle.dc_poll.specs.declared.end.End.TheVariants.{Read, Failed, Refused}
@@ -46,7 +47,7 @@ IsUnpending (Busy n) = Unit {0}
 IsUnpending (Pending n) = ⊥
 IsUnpending (Over end) = Unit {0}
 
--- such a line of text says how a readout ended
+-- such an event says how a readout ended
 abbrev pub IsToldAs : End → Told → Type 0
 IsToldAs (Read meter) told = (serial parts : ℕ) × (told ≡ was_read meter serial parts)
 IsToldAs (Failed meter why) told = told ≡ has_failed meter why
@@ -55,8 +56,8 @@ IsToldAs (Refused meter refusal) told = told ≡ was_refused meter refusal
 -- THE QUEUE OF A LINE GOES ON by what happens on that line, IN PASSES. The present meter is started, asked and heard.
 -- Where that failed, it is put off: the next pass goes through those that failed in this one, in order. It leaves the
 -- queue where its start is refused, where it has no request any more, where it was asked as often as no readout asks,
--- where its last try failed, at a fault, and where its telegram isn't stored. Then it is written how it ended, before
--- the next one is started.
+-- where its last try failed, at a fault, and where its telegram isn't stored. Then it is told how it ended, before the
+-- next one is started.
 pub data Goes (tries line : ℕ) : Part → List Happening → Part → Type 0 where
   stays : {last : Part} → Goes tries line last [] last
   passes_on : {meter : Identity} {failed : List Identity} {pass : ℕ} {more : List Happening} {last
@@ -143,7 +144,7 @@ pub data Goes (tries line : ℕ) : Part → List Happening → Part → Type 0 w
       → Goes tries line (part left failed pass (Over end)) (tells line told ∷ more) last
   loses_it : {first : Part} {more : List Happening} {last : Part}
       → Goes tries line first more last
-      → Goes tries line first (tells line is_lost ∷ more) last
+      → Goes tries line first (tells line (is_lost line) ∷ more) last
 
 -- ---- which meters are started
 
@@ -221,18 +222,22 @@ abbrev pub IsWellTold : Told → Type 0
 IsWellTold (was_read meter serial parts) = Unit {0}
 IsWellTold (has_failed meter why) = ⊥
 IsWellTold (was_refused meter refusal) = ⊥
-IsWellTold is_lost = Unit {0}
+IsWellTold (is_lost line) = Unit {0}
+IsWellTold (came_late line answers) = Unit {0}
+IsWellTold (has_ended read failed) = Unit {0}
 
 abbrev pub GoesWell : Happening → Type 0
 GoesWell (does turn) = IsWell turn.1
 GoesWell (tells line told) = IsWellTold told
 
--- the meters of which it is written that they were read
+-- the meters of which it is told that they were read
 abbrev pub read_by : Told → List Identity
 read_by (was_read meter serial parts) = meter ∷ []
 read_by (has_failed meter why) = []
 read_by (was_refused meter refusal) = []
-read_by is_lost = []
+read_by (is_lost line) = []
+read_by (came_late line answers) = []
+read_by (has_ended read failed) = []
 
 abbrev pub read_of : Happening → List Identity
 read_of (does turn) = []

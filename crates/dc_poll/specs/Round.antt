@@ -1,22 +1,25 @@
 -- What a poll does on all lines (this product).
 use Rattle.std.specs.Prelude.{◌≡◌, ◌≢◌, ◌⊎◌, ℕ, zero, suc, ◌+◌, ◌-◌, ◌<◌, ◌≤◌, List, [], ◌∷◌, ◌++◌}
-use Rattle.std.specs.Prelude.{codes, length, sum, map, slice_index_or, Result, Ok, Err}
+use Rattle.std.specs.Prelude.{length, sum, map, slice_index_or, Result, Ok, Err}
 use Rattle.std.specs.List.{All}
 use Rattle.dc_change.specs.State.{State}
 use Rattle.dc_concentrator.specs.Core.{Core, opened}
-use Rattle.dc_concentrator.specs.Event.{Event, Answer, commits, committed}
+use Rattle.dc_concentrator.specs.Event.{commits, committed}
 use Rattle.dc_concentrator.specs.declared.fault.CommitFault.{CommitFault}
 use Rattle.dc_concentrator.specs.Images.{Machine}
 use Rattle.dc_concentrator.specs.Transcript.{Turn, leads}
 use Rattle.dc_poll.specs.Bus.{Bus}
 use Rattle.dc_concentrator.specs.Went.{BehindAnyRun, Went}
-use Rattle.dc_poll.specs.Happening.{Told, was_read, has_failed, was_refused, Happening, does}
-use Rattle.dc_poll.specs.Happening.{tells, happened_on, happened_text, happened_turns, reads_in}
+use Rattle.dc_poll.specs.Happening.{Happening, does, tells, happened_on, happened_events}
+use Rattle.dc_poll.specs.Happening.{happened_turns, reads_in}
 use Rattle.dc_poll.specs.Happening.{failures_in, newest_serial, newest_parts}
 use Rattle.dc_poll.specs.declared.end.End.{End}
 use Rattle.dc_poll.specs.declared.end.End.TheVariants.{Read, Failed, Refused}
 use Rattle.dc_poll.specs.declared.outcome.Counts.{Counts}
-use Rattle.dc_io.specs.Words.{number_word}
+use Rattle.dc_poll.specs.declared.event.Event.{Event as Told}
+use Rattle.dc_poll.specs.declared.event.Event.TheVariants.{Read as was_read, Failed as has_failed}
+use Rattle.dc_poll.specs.declared.event.Event.TheVariants.{Refused as was_refused}
+use Rattle.dc_poll.specs.declared.event.Event.TheVariants.{Late as came_late}
 use Rattle.dc_disk.specs.declared.device.Disk.{Ghosts}
 use Rattle.dc_poll.specs.Keeping.{AreTrue, IsHearing, IsSettled, Store}
 use Rattle.dc_poll.specs.Queue.{Goes}
@@ -68,7 +71,7 @@ pub record Rounds {B : Type 0} (g : Bus B) (tries : ℕ)
   pub alone : (other : ℕ) → ((k : ℕ) → k < length olds → other ≢ k + 1)
       → All IsCommitTurn (happened_on other happened)
 
--- ---- what happens that isn't a line of text
+-- ---- what happens that isn't an event told
 
 abbrev pub AreTurns : List Happening → Type 0
 AreTurns [] = Unit {0}
@@ -145,7 +148,7 @@ EachFewer {B} before behind count olds news = (k : ℕ) (d : Station B) → k < 
 abbrev pub HasFew : {B : Type 0} → Station B → Type 0
 HasFew station = length station.left.now ≤ 65535
 
--- no meter is left, and how the last one ended is written
+-- no meter is left, and how the last one ended is told
 abbrev pub IsOver : {B : Type 0} → Station B → Type 0
 IsOver station = (station.left.now ≡ []) × (station.phase ≡ Free)
 
@@ -163,9 +166,9 @@ pub record IsFresh {B : Type 0} (station : Station B) : Type 0 where
 abbrev pub meters_left : {B : Type 0} → List (Station B) → ℕ
 meters_left {B} stations = sum (map (λ (s : Station B). length s.left.now) stations)
 
--- ---- the lines of text
+-- ---- the events
 
--- what is written of an end, by the register
+-- what is told of an end, by the register
 abbrev pub told_of : State → End → Told
 told_of state (Read meter) = was_read meter (newest_serial meter state) (newest_parts meter state)
 told_of state (Failed meter why) = has_failed meter why
@@ -176,38 +179,35 @@ counted (Read meter) outcome = record outcome { read = outcome.read + 1 }
 counted (Failed meter why) outcome = record outcome { failed = outcome.failed + 1 }
 counted (Refused meter refusal) outcome = record outcome { failed = outcome.failed + 1 }
 
--- Lines of text are written, each of them true, after a commit, and no turn is taken.
-pub record AreWritten (wrote : List ℕ → Type 0) (was now : Counts) (core : Core)
+-- Events are told, each of them true, after a commit, and no turn is taken. The teller took them.
+pub record AreTold (took : List Told → Type 0) (was now : Counts) (core : Core)
     (happened : List Happening)
     : Type 0 where
-  pub text : wrote (happened_text happened)
+  pub events : took (happened_events happened)
   pub no_turns : happened_turns happened ≡ []
   pub are_true : (store : Store) → IsSettled store → AreTrue core store happened
   pub read : now.read ≡ was.read + reads_in happened
   pub failed : now.failed ≡ was.failed + failures_in happened
 
 -- of one line
-pub record Tells {B : Type 0} (g : Bus B) (line : ℕ) (old new : Station B) (wrote : List ℕ → Type 0)
+pub record Tells {B : Type 0} (g : Bus B) (line : ℕ) (old new : Station B) (took : List Told → Type 0)
     (was now : Counts) (core : Core) (happened : List Happening) : Type 0 where
   pub moves : (tries : ℕ) → Moves g tries line old new happened
-  pub written : AreWritten wrote was now core happened
+  pub told : AreTold took was now core happened
 
 -- of all
 pub record AllTells {B : Type 0} (g : Bus B) (olds news : List (Station B))
-    (wrote : List ℕ → Type 0)
+    (took : List Told → Type 0)
     (was now : Counts) (core : Core) (happened : List Happening) : Type 0 where
   pub rounds : (tries : ℕ) → Rounds g tries olds news happened
-  pub written : AreWritten wrote was now core happened
+  pub told : AreTold took was now core happened
 
 -- the number of late answers that were dropped on a line, if any
-abbrev pub late_line : ℕ → ℕ → List ℕ
-late_line line zero = []
-late_line line (suc n) = codes "LATE" ++ number_word line ++ number_word (suc n) ++ codes "\n"
+abbrev pub late_on : ℕ → ℕ → List Told
+late_on line zero = []
+late_on line (suc n) = came_late line (suc n) ∷ []
 
-abbrev pub end_line : ℕ → ℕ → List ℕ
-end_line read failed = codes "END" ++ number_word read ++ number_word failed ++ codes "\n"
-
-abbrev pub lates_from : {B : Type 0} → Bus B → ℕ → List (Station B) → List ℕ
+abbrev pub lates_from : {B : Type 0} → Bus B → ℕ → List (Station B) → List Told
 lates_from g line [] = []
 lates_from g line (station ∷ stations) =
-    late_line line (g.late station.bus) ++ lates_from g (line + 1) stations
+    late_on line (g.late station.bus) ++ lates_from g (line + 1) stations

@@ -11,10 +11,9 @@ use Rattle.dc_bus.specs.Halves.{most_settles, most_waits}
 use Rattle.dc_poll.specs.Bus.{Bus}
 use Rattle.dc_poll.specs.Queue.{Part, part, most_asks}
 use Rattle.dc_poll.specs.Talking.{Talk}
-use Rattle.dc_poll.specs.declared.end.Refusal.{Refusal}
-use Rattle.dc_poll.specs.declared.end.Refusal.TheVariants.{Start, Hear, Commit}
+use Rattle.dc_poll.specs.declared.end.Refusal.TheVariants.{Hear, Commit}
 use Rattle.dc_poll.specs.declared.end.End.{End}
-use Rattle.dc_poll.specs.declared.end.End.TheVariants.{Read, Failed, Refused}
+use Rattle.dc_poll.specs.declared.end.End.TheVariants.{Failed, Refused}
 use Rattle.dc_poll.specs.declared.phase.Phase.{Phase}
 use Rattle.dc_poll.specs.declared.phase.Phase.TheVariants.{Free, Busy, Pending, Over}
 use Rattle.dc_poll.specs.declared.phase.Request.{Request}

@@ -1,6 +1,5 @@
 -- The exchanges over the bus of a line (this product).
 use Rattle.std.specs.Prelude.{◌≡◌, ◌≢◌, ℕ, Bool, true, false, List, [], ◌∷◌, None, Some, Result}
-use Rattle.std.specs.Prelude.{Err}
 use Rattle.dc_address.specs.declared.identity.Identity.{Identity}
 use Rattle.dc_concentrator.specs.Event.{starts, asks, hears, commits, started, asked, heard, committed}
 use Rattle.dc_concentrator.specs.declared.fault.CommitFault.{CommitFault}
@@ -8,11 +7,13 @@ use Rattle.dc_concentrator.specs.declared.fault.HearFault.{HearFault}
 use Rattle.dc_concentrator.specs.declared.fault.StartFault.{StartFault}
 use Rattle.dc_concentrator.specs.declared.line_heard.LineHeard.{LineHeard}
 use Rattle.dc_poll.specs.Bus.{Bus}
-use Rattle.dc_poll.specs.Happening.{Told, is_lost, Happening, does, tells}
+use Rattle.dc_poll.specs.Happening.{Happening, does, tells}
+use Rattle.dc_poll.specs.declared.event.Event.{Event as Told}
+use Rattle.dc_poll.specs.declared.event.Event.TheVariants.{Lost as is_lost}
 use Rattle.dc_poll.specs.declared.phase.Request.{Request}
 use Rattle.dc_poll.specs.declared.phase.Request.TheVariants.{Quiet, Sent, Answered}
 
--- the state of a line: its bus, its request, and whether its loss was written
+-- the state of a line: its bus, its request, and whether its loss was told
 pub record Talk (B : Type 0) : Type 0 where
   pub bus : B
   pub request : Request
@@ -21,7 +22,7 @@ pub record Talk (B : Type 0) : Type 0 where
 -- THE TALK ON A BUS, by what happens on its line. The requests of the readouts are sent, and no
 -- others. The answer is taken once, and only then the next request is sent. A readout begins only
 -- if the bus is ready; a bus that isn't settles first. Nothing else touches the bus. The loss of
--- the line is written once.
+-- the line is told once.
 pub data Talks {B : Type 0} (g : Bus B) (line : ℕ)
     : Talk B → List Happening → Talk B → Type 0 where
   rests : {last : Talk B} → Talks g line last [] last
@@ -62,11 +63,11 @@ pub data Talks {B : Type 0} (g : Bus B) (line : ℕ)
       → Talks g line first more last
       → Talks g line first (does (commits, committed stored) ∷ more) last
   tells_it : {first : Talk B} {told : Told} {more : List Happening} {last : Talk B}
-      → told ≢ is_lost
+      → told ≢ is_lost line
       → Talks g line first more last
       → Talks g line first (tells line told ∷ more) last
   loses_it : {bus : B} {request : Request} {more : List Happening} {last : Talk B}
       → g.lost bus ≡ true
       → Talks g line (record { bus = bus; request = request; said = true }) more last
       → Talks g line (record { bus = bus; request = request; said = false })
-      (tells line is_lost ∷ more) last
+      (tells line (is_lost line) ∷ more) last

@@ -1,5 +1,5 @@
 -- When a poll may sleep (this product).
-use Rattle.std.specs.Prelude.{ℕ, Bool, true, false, not, ◌&&◌, ◌||◌, ◌==◌, List, length}
+use Rattle.std.specs.Prelude.{Bool, true, false, not, ◌&&◌, ◌||◌, ◌==◌, List, length}
 use Rattle.std.specs.List.{list_all}
 use Rattle.dc_poll.specs.Bus.{Bus}
 use Rattle.dc_poll.specs.declared.phase.Phase.{Phase}

@@ -12,26 +12,28 @@ ghost use Rattle.dc_poll.specs.ImagePoll.{ImageTurned, PlanPolled};
 ghost use Rattle.std.specs.Map.{keys_of};
 ghost use Rattle.dc_poll.specs.Planned.{AreQueues, AreStations, asked_for, has_bus, is_wanted};
 ghost use Rattle.dc_poll.specs.Planned.{queue_on};
-ghost use Rattle.dc_poll.specs.Planned.{refusal_line, refusal_of, refused_count, refused_text};
+ghost use Rattle.dc_poll.specs.Planned.{refusal_event, refusal_of, refused_count, refused_events};
 ghost use Rattle.dc_poll.specs.Planned.{wanted_on};
 ghost use Rattle.dc_poll.specs.Round.{Runs, most_lines};
-ghost use Rattle.dc_io.specs.Written.{PutsInto, Wrote};
+ghost use Rattle.dc_poll.specs.Telling.{HasTold, TakesAll};
 ghost use Rattle.dc_disk.specs.Runs.{LeavesOnly};
 
 use crate::clock::compare_clock;
 use crate::end::Refusal;
-use crate::ending::put_refused;
+use crate::event::Event;
 use crate::lines::line_at;
 use crate::outcome::{Counts, Outcome};
 use crate::readout::read_on;
 use crate::station::Station;
+use crate::teller::Teller;
+use crate::telling::tell_one;
 use crate::timer::Timer;
 use dc_address::Identity;
 use dc_bus::QuietBus;
 use dc_concentrator::{Concentrator, StartFault};
 use dc_disk::Disk;
 use dc_ending::ProgramFault;
-use dc_io::{IoFault, NoMemory, Sink};
+use dc_io::{IoFault, NoMemory};
 use dc_register::House;
 use std::alloc::Allocator;
 
@@ -51,37 +53,37 @@ pub struct Plan<'a, A: Allocator, B: QuietBus + Drop> {
 }
 
 /// Opens the image, reads its registered meters over the buses of their lines, each line's in order of identity, and
-/// closes it. The text is that of [`read_all`](crate::read_all). Before it, for each meter that is to be read and can't
-/// be, `REFUSED ident 2 Unknown` is written where it isn't registered, and `REFUSED ident 1 NoLine` where its line
-/// has no bus; these count as failed. To be read are the meters that are named, or if none is, all of the register. A
-/// line without a bus is never written to be lost. Before anything is asked the
+/// closes it. The events are those of [`read_all`](crate::read_all). Before them, each meter that is to be read and
+/// can't be is told as [`Event::Refused`], with [`StartFault::Unknown`] where it isn't registered and
+/// [`StartFault::NoLine`] where its line has no bus; these count as failed. To be read are the meters that are named,
+/// or if none is, all of the register. Of a line without a bus it is never told that it is lost. Before anything is asked the
 /// timer is warned where its moment lies before the newest time stamp of the register. The disk comes back whatever
 /// happens.
 ///
 /// # Errors
 /// [`ProgramFault::Open`] where the image wasn't opened, and [`ProgramFault::NoMemory`], both before anything is
-/// asked or written; [`ProgramFault::Write`] where the writer failed.
-pub fn poll_image<D: Disk + Drop, A: Allocator + Copy, B: QuietBus + Drop, T: Timer<B>, W: Sink>(
+/// asked or told; [`ProgramFault::Write`] where the teller couldn't take an event.
+pub fn poll_image<D: Disk + Drop, A: Allocator + Copy, B: QuietBus + Drop, T: Timer<B>, N: Teller>(
     alloc: A,
     disk: D,
     plan: Plan<'_, A, B>,
     timer: &mut T,
-    out: &mut W,
+    teller: &mut N,
 ) -> (D, Result<Outcome, ProgramFault>)
     requires tries { 0 < plan.tries }
     // Where each image of the disk stands for some state, the turns of the poll are a run of the concentrator that was
     // opened, and the image is left as that run leaves it.
     ensures polled { (D.keeps disk → EachStands (half_of D.Disk disk) (D.choices disk))
         → IfOk result.1 (λ outcome. ImageTurned D.Disk (λ core happened.
-        PlanPolled B.QuietBus T.tells T.passes T.warns plan.entry.buses.items plan.entry.only.now
-        plan.entry.tries timer.old timer.new (W.written out.old) (W.written out.new) outcome core
+        PlanPolled B.QuietBus T.tells T.passes T.warns N.takes plan.entry.buses.items
+        plan.entry.only.now plan.entry.tries timer.old timer.new teller.old teller.new outcome core
         happened) disk result.0) }
     ensures cut { (D.keeps disk → EachStands (half_of D.Disk disk) (D.choices disk))
         → IsErrOf result.1 ProgramFault.Write
         → ImageTurned D.Disk (λ core happened. Unit {0}) disk result.0 }
     ensures starved { (D.keeps disk → EachStands (half_of D.Disk disk) (D.choices disk))
         → IsErrOf result.1 ProgramFault.NoMemory
-        → (out.new ≡ out.old) × ImageTurned D.Disk (λ core happened. happened ≡ []) disk result.0 }
+        → (teller.new ≡ teller.old) × ImageTurned D.Disk (λ core happened. happened ≡ []) disk result.0 }
 
     // A refusal is that of the store; an image that stands for a state is refused only for an
     // exhausted counter.
@@ -101,37 +103,38 @@ pub fn poll_image<D: Disk + Drop, A: Allocator + Copy, B: QuietBus + Drop, T: Ti
         → IfErr result.1 (λ fault. IfOpen fault (λ e. LeavesOnly D.Disk disk result.0
         (StandsForOne (half_of D.Disk disk) (D.choices disk)))) }
     ensures unopened { IfErr result.1 (λ fault.
-        IfOpen fault (λ e. (out.new ≡ out.old) × (timer.new ≡ timer.old))) }
+        IfOpen fault (λ e. (teller.new ≡ teller.old) × (timer.new ≡ timer.old))) }
     ensures faults { IfErr result.1 IsOfImage }
 
     ensures write { IsErrOf result.1 ProgramFault.Write
-        → HasRisen (W.put_failures out.old) (W.put_failures out.new) }
+        → HasRisen (N.failures teller.old) (N.failures teller.new) }
 {
     let mut concentrator = match Concentrator::open(alloc, disk) {
         Ok(concentrator) => concentrator,
         Err((fault, disk)) => return (disk, Err(ProgramFault::Open(fault))),
     };
-    let polled = poll(alloc, &mut concentrator, plan, timer, out);
+    let polled = poll(alloc, &mut concentrator, plan, timer, teller);
     (concentrator.close(), polled)
 }
 
 // Reads the meters of the plan.
-fn poll<D: Disk + Drop, A: Allocator + Copy, B: QuietBus + Drop, T: Timer<B>, W: Sink>(
+fn poll<D: Disk + Drop, A: Allocator + Copy, B: QuietBus + Drop, T: Timer<B>, N: Teller>(
     alloc: A,
     concentrator: &mut Concentrator<D, A>,
     plan: Plan<'_, A, B>,
     timer: &mut T,
-    out: &mut W,
+    teller: &mut N,
 ) -> Result<Outcome, ProgramFault>
     requires { 0 < plan.tries }
     ensures went { Runs D.Disk (λ core happened. IfOk result (λ outcome.
-        PlanPolled B.QuietBus T.tells T.passes T.warns plan.entry.buses.items plan.entry.only.now
-        plan.entry.tries timer.old timer.new (W.written out.old) (W.written out.new) outcome core happened))
+        PlanPolled B.QuietBus T.tells T.passes T.warns N.takes plan.entry.buses.items
+        plan.entry.only.now plan.entry.tries timer.old timer.new teller.old teller.new outcome core
+        happened))
         concentrator.old concentrator.new }
-    ensures starved { IsErrOf result ProgramFault.NoMemory → (out.new ≡ out.old)
+    ensures starved { IsErrOf result ProgramFault.NoMemory → (teller.new ≡ teller.old)
         × Runs D.Disk (λ core happened. happened ≡ []) concentrator.old concentrator.new }
     ensures write { IsErrOf result ProgramFault.Write
-        → HasRisen (W.put_failures out.old) (W.put_failures out.new) }
+        → HasRisen (N.failures teller.old) (N.failures teller.new) }
     ensures opened { IfErr result (λ fault. IfOpen fault (λ e. ⊥)) }
     ensures faults { IfErr result IsOfImage }
 {
@@ -157,7 +160,7 @@ fn poll<D: Disk + Drop, A: Allocator + Copy, B: QuietBus + Drop, T: Timer<B>, W:
         concentrator.house(),
         stations.as_slice(),
         wanted.as_slice(),
-        out,
+        teller,
     ) {
         Ok(failed) => failed,
         Err(_) => return Err(ProgramFault::Write),
@@ -170,7 +173,7 @@ fn poll<D: Disk + Drop, A: Allocator + Copy, B: QuietBus + Drop, T: Timer<B>, W:
         tries,
         timer,
         before,
-        out,
+        teller,
     ) {
         Ok(outcome) => Ok(outcome),
         Err(_) => Err(ProgramFault::Write),
@@ -238,7 +241,7 @@ fn is_wanted(meter: &Identity, only: &[Identity]) -> bool
     only.is_empty() || only.contains(meter)
 }
 
-// The lines with their queues. Of a line that has no bus it is never written that it is lost.
+// The lines with their queues. Of a line that has no bus it is never told that it is lost.
 fn stations_of<'a, A: Allocator + Copy, B: QuietBus + Drop>(
     alloc: A,
     buses: Vec<B, A>,
@@ -289,19 +292,18 @@ fn registered<A: Allocator + Copy>(alloc: A, house: &House<A>) -> Result<Vec<Ide
     Ok(all)
 }
 
-// For each of these meters that can't be read, a line of text is written. How many.
-#[tactic(auto, using(dc_io::proofs::Pieces::written))]
-fn refuse_others<A: Allocator + Copy, B: QuietBus + Drop, W: Sink>(
+// For each of these meters that can't be read, an event is told. How many.
+fn refuse_others<A: Allocator + Copy, B: QuietBus + Drop, N: Teller>(
     house: &House<A>,
     stations: &[Station<'_, B>],
     wanted: &[Identity],
-    out: &mut W,
+    teller: &mut N,
 ) -> Result<u64, IoFault>
-    ensures text { OnOk result (PutsInto W.Sink out.old out.new
-        (refused_text (has_bus B.lost (map (λ s. s.bus) stations.now)) house.now.state
+    ensures told { OnOk result (TakesAll N.takes teller.old teller.new
+        (refused_events (has_bus B.lost (map (λ s. s.bus) stations.now)) house.now.state
         wanted.now)) }
-    ensures fault { OnErr result (HasRisen (W.put_failures out.old) (W.put_failures out.new)) }
-    ensures well { OnOk result (W.put_failures out.new ≡ W.put_failures out.old) }
+    ensures fault { OnErr result (HasRisen (N.failures teller.old) (N.failures teller.new)) }
+    ensures well { OnOk result (N.failures teller.new ≡ N.failures teller.old) }
     ensures count { IfOk result (λ refused. refused
         ≡ min (2 ^ 32 - 1) (refused_count
         (has_bus B.lost (map (λ s. s.bus) stations.now)) house.now.state wanted.now)) }
@@ -309,24 +311,29 @@ fn refuse_others<A: Allocator + Copy, B: QuietBus + Drop, W: Sink>(
     let mut refused: u32 = 0;
     'meters: for meter in wanted {
         let refusal = refusal_of(house, stations, meter);
-        put_refusal(out, meter, refusal)?;
+        tell_refusal(meter, refusal, teller)?;
         refused = refused.saturating_add(u32::from(refusal.is_some()));
     }
     Ok(u64::from(refused))
 }
 
-// `REFUSED ident n Name`, where it is refused.
-#[tactic(auto, using(dc_io::proofs::Pieces::written))]
-fn put_refusal<W: Sink>(
-    out: &mut W,
+// That a meter is refused is told, where it is.
+fn tell_refusal<N: Teller>(
     meter: &Identity,
     refusal: Option<StartFault>,
+    teller: &mut N,
 ) -> Result<(), IoFault>
-    ensures { Wrote W.Sink result out.old out.new
-        (refusal_line meter.now refusal) }
+    ensures { HasTold N.Teller result teller.old teller.new
+        (refusal_event meter.now refusal) }
 {
     match refusal {
-        Some(fault) => put_refused(out, meter, Refusal::Start(fault)),
+        Some(fault) => {
+            let refused = Event::Refused {
+                meter: *meter,
+                refusal: Refusal::Start(fault),
+            };
+            tell_one(&refused, teller)
+        }
         None => Ok(()),
     }
 }

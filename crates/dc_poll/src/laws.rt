@@ -11,13 +11,14 @@ ghost use Rattle.dc_change.specs.State.{State};
 ghost use Rattle.dc_concentrator.specs.Core.{Core};
 ghost use Rattle.dc_concentrator.specs.Transcript.{Turn, IsChain, leads};
 ghost use Rattle.dc_poll.specs.Committed.{IsCommittedWhereNoneIsAsked};
-ghost use Rattle.dc_poll.specs.Happening.{Happening, Told, happened_turns, tells};
+ghost use Rattle.dc_poll.specs.Happening.{Happening, happened_turns, tells};
 ghost use Rattle.dc_poll.specs.Keeping.{AreTrue, IsSettled, Store, all_kept, store_behind};
 ghost use Rattle.dc_poll.specs.Planned.{queue_on};
 ghost use Rattle.dc_poll.specs.Queue.{Part, part, AreApart, Goes, GoesWell, IsToldAs, IsTried};
 ghost use Rattle.dc_poll.specs.Queue.{Lacks, meter_of, most_asks, read_in, requests_in};
 ghost use Rattle.dc_poll.specs.Queue.{starts_in};
 ghost use Rattle.dc_poll.specs.declared.end.End.{End};
+ghost use Rattle.dc_poll.specs.declared.event.Event.{Event as Told};
 ghost use Rattle.dc_poll.specs.declared.phase.Phase.{Phase};
 ghost use Rattle.dc_poll.specs.declared.phase.Phase.TheVariants.{Free};
 
@@ -43,7 +44,7 @@ pub fn a_queue_comes_to_its_end()
         × (requests_in happened ≤ most_asks * (tries * length meters)) }
 {}
 
-/// Once it is written how a meter ended, that it was read, that its last try failed or that it was refused, it isn't
+/// Once it is told how a meter ended, that it was read, that its last try failed or that it was refused, it isn't
 /// started again.
 pub fn what_is_read_is_not_begun_again()
     ensures { (tries line : ℕ) (meters : List Identity) (front back : List Happening) (end : End)
@@ -77,10 +78,10 @@ pub fn what_is_committed_waits_no_more()
 {}
 
 /// Where a line has no request any more, all that was accepted is committed, unless a commit answered a fault; and so
-/// it is where a line of text is written.
+/// it is where an event is told.
 pub fn what_is_read_is_committed<B: QuietBus + Drop, T: Timer<B>>()
     ensures asked { IsCommittedWhereNoneIsAsked T.tells T.passes }
-    ensures written { (core : Core) (store : Store) (front back : List Happening) (line : ℕ)
+    ensures told { (core : Core) (store : Store) (front back : List Happening) (line : ℕ)
         (told : Told) →
         AreTrue core store (front ++ tells line told ∷ back) →
         IsSettled (store_behind store (happened_turns front)) }

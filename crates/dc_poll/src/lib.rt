@@ -3,14 +3,16 @@
 //! The meters of a line are read in passes: the first goes through all, in order, each later one through those that
 //! failed in the one before it. In a round each line takes one step: it settles, begins its next meter and asks, or
 //! asks. Then time passes, what is
-//! complete of the answers is heard, one commit writes all that was accepted, and how readouts ended is written, a line
-//! of text each ([`read_all`]).
+//! complete of the answers is heard, one commit writes all that was accepted, and how readouts ended is told, an event
+//! each ([`read_all`]).
+//!
+//! Events go to a [`Teller`]. dc_teller has tellers that print them as text and as JSON.
 #![tactic(auto)]
 
 mod calls;
 mod clock;
 mod end;
-mod ending;
+mod event;
 mod image;
 mod laws;
 mod lines;
@@ -20,11 +22,13 @@ mod phase;
 mod readout;
 mod station;
 mod stepping;
+mod teller;
 mod telling;
 mod timer;
 mod waiting;
 
 pub use end::{End, Refusal};
+pub use event::Event;
 pub use image::{Plan, poll_image};
 pub use laws::{
     a_queue_comes_to_its_end, every_meter_of_a_queue_is_started, the_meters_of_a_queue_are_apart,
@@ -35,5 +39,6 @@ pub use outcome::{Counts, Outcome};
 pub use phase::{Phase, Request};
 pub use readout::read_all;
 pub use station::Station;
+pub use teller::Teller;
 pub use timer::Timer;
 pub use waiting::is_awaited;

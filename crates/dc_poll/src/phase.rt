@@ -12,7 +12,7 @@ pub enum Phase {
     Busy(u8),
     /// A readout is running, with at most this many requests left, and its telegram is pending.
     Pending(u8),
-    /// A readout has ended, and its end isn't written yet.
+    /// A readout has ended, and its end isn't told yet.
     Over(End),
 }
 

@@ -1,27 +1,29 @@
 //! Many meters on several lines at once, round after round.
 
-ghost use Rattle.std.specs.Prelude.{◌≡◌, ◌⊎◌, ◌<◌, ◌≤◌, ◌-◌, ◌+◌, ◌^◌, ◌++◌, ℕ, List, [], length};
+ghost use Rattle.std.specs.Prelude.{◌≡◌, ◌⊎◌, ◌<◌, ◌≤◌, ◌-◌, ◌+◌, ◌^◌, ◌++◌, ◌∷◌, ℕ, List, [], length};
 ghost use Rattle.std.specs.Prelude.{OnOk, OnErr, IfOk, None, min, true};
 ghost use Rattle.std.specs.List.{All, list_all};
 ghost use Rattle.dc_io.specs.Failures.{HasRisen};
-ghost use Rattle.dc_io.specs.Written.{PutsInto, Wrote};
 ghost use Rattle.dc_poll.specs.Polls.{GoesRound, Polled, PollsAll, fault_of};
-ghost use Rattle.dc_poll.specs.Round.{EachFewer, HasFew, IsFresh, IsOver, Runs, end_line};
-ghost use Rattle.dc_poll.specs.Round.{lates_from, meters_left, most_lines};
+ghost use Rattle.dc_poll.specs.Round.{EachFewer, HasFew, IsFresh, IsOver, Runs};
+ghost use Rattle.dc_poll.specs.Round.{late_on, lates_from, meters_left, most_lines};
 ghost use Rattle.dc_poll.specs.Station.{IsSound, rounds_of};
+ghost use Rattle.dc_poll.specs.Telling.{HasTold, TakesAll};
 ghost use Rattle.dc_poll.specs.Waiting.{is_done as is_done_with};
+ghost use Rattle.dc_poll.specs.declared.event.Event.TheVariants.{End as has_ended};
 
-use crate::ending::{put_end, put_late};
+use crate::event::Event;
 use crate::lines::{ask_all, commit_all, hear_and_commit, line_at};
 use crate::outcome::{Counts, Outcome};
 use crate::station::Station;
-use crate::telling::tell_all;
+use crate::teller::Teller;
+use crate::telling::{tell_all, tell_one};
 use crate::timer::Timer;
 use crate::waiting::{is_done, may_sleep};
 use dc_bus::QuietBus;
 use dc_concentrator::{CommitFault, Concentrator};
 use dc_disk::Disk;
-use dc_io::{IoFault, Sink};
+use dc_io::IoFault;
 use std::alloc::Allocator;
 
 // More rounds than are ever needed: of as many meters as a queue has, each tried as often as a byte says.
@@ -31,20 +33,20 @@ const MOST_ROUNDS: u64 = 65_535 * 255 * ROUNDS_A_START + ROUNDS_A_START;
 const ROUNDS_A_START: u64 = 4_259_843 + 103 * 65_538 + 1;
 
 // One round. The fault of its commit, if there was one.
-fn round<D: Disk + Drop, A: Allocator + Copy, B: QuietBus + Drop, T: Timer<B>, W: Sink>(
+fn round<D: Disk + Drop, A: Allocator + Copy, B: QuietBus + Drop, T: Timer<B>, N: Teller>(
     concentrator: &mut Concentrator<D, A>,
     stations: &mut [Station<'_, B>],
     tries: u8,
     timer: &mut T,
     counts: &mut Counts,
-    out: &mut W,
+    teller: &mut N,
 ) -> Result<Option<CommitFault>, IoFault>
     requires lines { length stations.old ≤ most_lines }
     requires sound { All (IsSound B.QuietBus tries) stations.old }
     requires few { counts.old.read + counts.old.failed + most_lines < 2 ^ 64 }
     ensures went { Runs D.Disk (λ core happened. IfOk result (λ fault.
         GoesRound B.QuietBus T.tells T.passes tries fault stations.old stations.new
-        timer.old timer.new (PutsInto W.Sink out.old out.new) counts.old counts.new core happened))
+        timer.old timer.new (TakesAll N.takes teller.old teller.new) counts.old counts.new core happened))
         concentrator.old concentrator.new }
     ensures sound { OnOk result (All (IsSound B.QuietBus tries) stations.new) }
     ensures fewer { IfOk result (λ fault. fault ≡ None
@@ -52,15 +54,15 @@ fn round<D: Disk + Drop, A: Allocator + Copy, B: QuietBus + Drop, T: Timer<B>, W
     ensures few { OnOk result (counts.new.read + counts.new.failed
         ≤ counts.old.read + counts.old.failed + most_lines) }
     ensures budget { concentrator.new.house.budget ≡ concentrator.old.house.budget }
-    ensures fault { OnErr result (HasRisen (W.put_failures out.old) (W.put_failures out.new)) }
-    ensures well { OnOk result (W.put_failures out.new ≡ W.put_failures out.old) }
+    ensures fault { OnErr result (HasRisen (N.failures teller.old) (N.failures teller.new)) }
+    ensures well { OnOk result (N.failures teller.new ≡ N.failures teller.old) }
 {
     ask_all(concentrator, stations, tries);
     let sleeps = may_sleep(stations);
     timer.pause(stations, sleeps);
     let moment = timer.now();
     let stored = hear_and_commit(concentrator, stations, tries, moment);
-    match tell_all(concentrator, stations, counts, out) {
+    match tell_all(concentrator, stations, counts, teller) {
         Ok(()) => Ok(fault_of(stored)),
         Err(fault) => Err(fault),
     }
@@ -84,25 +86,25 @@ fn is_over<B: QuietBus + Drop>(stations: &[Station<'_, B>]) -> bool
 }
 
 // Round after round, until no meter is left, or a commit returned a fault.
-fn read_rounds<D: Disk + Drop, A: Allocator + Copy, B: QuietBus + Drop, T: Timer<B>, W: Sink>(
+fn read_rounds<D: Disk + Drop, A: Allocator + Copy, B: QuietBus + Drop, T: Timer<B>, N: Teller>(
     concentrator: &mut Concentrator<D, A>,
     stations: &mut [Station<'_, B>],
     tries: u8,
     timer: &mut T,
     before: Counts,
-    out: &mut W,
+    teller: &mut N,
 ) -> Result<Outcome, IoFault>
     requires lines { length stations.old ≤ most_lines }
     requires sound { All (IsSound B.QuietBus tries) stations.old }
     requires few { before.read + before.failed < 2 ^ 63 }
     ensures went { Runs D.Disk (λ core happened.
         IfOk result (λ outcome. Polled B.QuietBus T.tells T.passes tries
-        stations.old stations.new timer.old timer.new (PutsInto W.Sink out.old out.new) before outcome
+        stations.old stations.new timer.old timer.new (TakesAll N.takes teller.old teller.new) before outcome
         core happened)) concentrator.old concentrator.new }
     ensures few { IfOk result (λ outcome. outcome.read + outcome.failed < 2 ^ 63 + 2 ^ 62) }
     ensures budget { concentrator.new.house.budget ≡ concentrator.old.house.budget }
-    ensures fault { OnErr result (HasRisen (W.put_failures out.old) (W.put_failures out.new)) }
-    ensures well { OnOk result (W.put_failures out.new ≡ W.put_failures out.old) }
+    ensures fault { OnErr result (HasRisen (N.failures teller.old) (N.failures teller.new)) }
+    ensures well { OnOk result (N.failures teller.new ≡ N.failures teller.old) }
 {
     let mut counts = before;
     match commit_all(concentrator, stations) {
@@ -113,7 +115,7 @@ fn read_rounds<D: Disk + Drop, A: Allocator + Copy, B: QuietBus + Drop, T: Timer
         if is_over(stations) {
             return Ok(outcome_of(counts, None));
         }
-        match round(concentrator, stations, tries, timer, &mut counts, out) {
+        match round(concentrator, stations, tries, timer, &mut counts, teller) {
             Ok(None) => {}
             Ok(Some(fault)) => return Ok(outcome_of(counts, Some(fault))),
             Err(fault) => return Err(fault),
@@ -143,29 +145,38 @@ fn meters_left<B: QuietBus + Drop>(stations: &[Station<'_, B>]) -> u64
     }
 }
 
+// The late answers that were dropped on a line, if any, are told.
+fn tell_late<N: Teller>(line: u8, answers: u64, teller: &mut N) -> Result<(), IoFault>
+    ensures { HasTold N.Teller result teller.old teller.new (late_on line answers) }
+{
+    if answers == 0 {
+        return Ok(());
+    }
+    tell_one(&Event::Late { line, answers }, teller)
+}
+
 // How many late answers were dropped on each of these lines, of which the first has that number.
-#[tactic(auto, using(dc_io::proofs::Pieces::written))]
-fn put_lates<B: QuietBus + Drop, W: Sink>(
+fn tell_lates<B: QuietBus + Drop, N: Teller>(
     stations: &[Station<'_, B>],
     line: u8,
-    out: &mut W,
+    teller: &mut N,
 ) -> Result<(), IoFault>
     requires { line + length stations.now ≤ 255 }
-    ensures { Wrote W.Sink result out.old out.new
+    ensures { HasTold N.Teller result teller.old teller.new
         (lates_from B.QuietBus line stations.now) }
 {
     let Some((station, others)) = stations.split_first() else {
         return Ok(());
     };
-    put_late(out, line, station.bus.late())?;
-    put_lates(others, line + 1, out)
+    tell_late(line, station.bus.late(), teller)?;
+    tell_lates(others, line + 1, teller)
 }
 
-// The end of the text. The meters that are left count as not read.
-fn finish<B: QuietBus + Drop, W: Sink>(
+// Tells the end of the poll. The meters that are left count as not read.
+fn finish<B: QuietBus + Drop, N: Teller>(
     stations: &[Station<'_, B>],
     between: Outcome,
-    out: &mut W,
+    teller: &mut N,
 ) -> Result<Outcome, IoFault>
     requires { length stations.now ≤ most_lines }
     ensures counts { IfOk result (λ outcome. outcome ≡ record {
@@ -173,13 +184,13 @@ fn finish<B: QuietBus + Drop, W: Sink>(
       failed = min (2 ^ 64 - 1) (between.failed + meters_left stations.now);
       fault = between.fault;
     }) }
-    ensures text { IfOk result (λ outcome. PutsInto W.Sink out.old out.new
-        (lates_from B.QuietBus 1 stations.now ++ end_line outcome.read outcome.failed)) }
-    ensures fault { OnErr result (HasRisen (W.put_failures out.old) (W.put_failures out.new)) }
-    ensures well { OnOk result (W.put_failures out.new ≡ W.put_failures out.old) }
+    ensures told { IfOk result (λ outcome. TakesAll N.takes teller.old teller.new
+        (lates_from B.QuietBus 1 stations.now ++ has_ended outcome.read outcome.failed ∷ [])) }
+    ensures fault { OnErr result (HasRisen (N.failures teller.old) (N.failures teller.new)) }
+    ensures well { OnOk result (N.failures teller.new ≡ N.failures teller.old) }
 {
     let failed = between.failed.saturating_add(meters_left(stations));
-    match put_finish(stations, between.read, failed, out) {
+    match tell_finish(stations, between.read, failed, teller) {
         Ok(()) => Ok(Outcome {
             read: between.read,
             failed,
@@ -189,19 +200,18 @@ fn finish<B: QuietBus + Drop, W: Sink>(
     }
 }
 
-#[tactic(auto, using(dc_io::proofs::Pieces::written))]
-fn put_finish<B: QuietBus + Drop, W: Sink>(
+fn tell_finish<B: QuietBus + Drop, N: Teller>(
     stations: &[Station<'_, B>],
     read: u64,
     failed: u64,
-    out: &mut W,
+    teller: &mut N,
 ) -> Result<(), IoFault>
     requires { length stations.now ≤ most_lines }
-    ensures { Wrote W.Sink result out.old out.new
-        (lates_from B.QuietBus 1 stations.now ++ end_line read failed) }
+    ensures { HasTold N.Teller result teller.old teller.new
+        (lates_from B.QuietBus 1 stations.now ++ has_ended read failed ∷ []) }
 {
-    put_lates(stations, 1, out)?;
-    put_end(out, read, failed)
+    tell_lates(stations, 1, teller)?;
+    tell_one(&Event::End { read, failed }, teller)
 }
 
 /// Reads the meters of up to eight lines, of which line k + 1 is that of the station at k.
@@ -209,30 +219,31 @@ fn put_finish<B: QuietBus + Drop, W: Sink>(
 /// A line's meters are read in passes, at most `tries` of them: a meter whose readout failed is
 /// started again after the line's other meters. The poll ends whatever the lines give. On each line
 /// the requests of the concentrator go out, and nothing else, and it hears what the bus gave. Each
-/// round commits its telegrams, and then writes how readouts ended: `READ`, `FAILED` or `REFUSED`,
-/// and `LINE n LOST` once for each line that became lost. If a commit returns a fault, the poll
-/// ends, and the outcome has that fault. At the end `LATE line n` is written for each line on which
-/// n late answers were dropped, and `END read failed`.
+/// round commits its telegrams, and then tells how readouts ended ([`Event::Read`],
+/// [`Event::Failed`], [`Event::Refused`]), and once of each line that became lost
+/// ([`Event::Lost`]). If a commit returns a fault, the poll ends, and the outcome has that fault. At
+/// the end the late answers of each line are told ([`Event::Late`]), and the counts
+/// ([`Event::End`]).
 ///
 /// # Errors
-/// A write failed.
-pub fn read_all<D: Disk + Drop, A: Allocator + Copy, B: QuietBus + Drop, T: Timer<B>, W: Sink>(
+/// The teller couldn't take an event.
+pub fn read_all<D: Disk + Drop, A: Allocator + Copy, B: QuietBus + Drop, T: Timer<B>, N: Teller>(
     concentrator: &mut Concentrator<D, A>,
     stations: &mut [Station<'_, B>],
     tries: u8,
     timer: &mut T,
-    out: &mut W,
+    teller: &mut N,
 ) -> Result<Outcome, IoFault>
     requires lines { length stations.old ≤ most_lines }
     requires fresh { All IsFresh stations.old }
     requires tries { 0 < tries }
     ensures went { Runs D.Disk (λ core happened. IfOk result (λ outcome.
         PollsAll B.QuietBus T.tells T.passes tries stations.old stations.new timer.old timer.new
-        (PutsInto W.Sink out.old out.new) (record { read = 0; failed = 0 }) outcome core happened))
+        (TakesAll N.takes teller.old teller.new) (record { read = 0; failed = 0 }) outcome core happened))
         concentrator.old concentrator.new }
     ensures budget { concentrator.new.house.budget ≡ concentrator.old.house.budget }
-    ensures fault { OnErr result (HasRisen (W.put_failures out.old) (W.put_failures out.new)) }
-    ensures well { OnOk result (W.put_failures out.new ≡ W.put_failures out.old) }
+    ensures fault { OnErr result (HasRisen (N.failures teller.old) (N.failures teller.new)) }
+    ensures well { OnOk result (N.failures teller.new ≡ N.failures teller.old) }
 {
     read_on(
         concentrator,
@@ -240,7 +251,7 @@ pub fn read_all<D: Disk + Drop, A: Allocator + Copy, B: QuietBus + Drop, T: Time
         tries,
         timer,
         Counts { read: 0, failed: 0 },
-        out,
+        teller,
     )
 }
 
@@ -250,28 +261,28 @@ pub(crate) fn read_on<
     A: Allocator + Copy,
     B: QuietBus + Drop,
     T: Timer<B>,
-    W: Sink,
+    N: Teller,
 >(
     concentrator: &mut Concentrator<D, A>,
     stations: &mut [Station<'_, B>],
     tries: u8,
     timer: &mut T,
     before: Counts,
-    out: &mut W,
+    teller: &mut N,
 ) -> Result<Outcome, IoFault>
     requires lines { length stations.old ≤ most_lines }
     requires sound { All (IsSound B.QuietBus tries) stations.old }
     requires few { before.read + before.failed < 2 ^ 63 }
     ensures went { Runs D.Disk (λ core happened. IfOk result (λ outcome.
         PollsAll B.QuietBus T.tells T.passes tries stations.old stations.new timer.old timer.new
-        (PutsInto W.Sink out.old out.new) before outcome core happened))
+        (TakesAll N.takes teller.old teller.new) before outcome core happened))
         concentrator.old concentrator.new }
     ensures budget { concentrator.new.house.budget ≡ concentrator.old.house.budget }
-    ensures fault { OnErr result (HasRisen (W.put_failures out.old) (W.put_failures out.new)) }
-    ensures well { OnOk result (W.put_failures out.new ≡ W.put_failures out.old) }
+    ensures fault { OnErr result (HasRisen (N.failures teller.old) (N.failures teller.new)) }
+    ensures well { OnOk result (N.failures teller.new ≡ N.failures teller.old) }
 {
-    match read_rounds(concentrator, stations, tries, timer, before, out) {
-        Ok(between) => finish(stations, between, out),
+    match read_rounds(concentrator, stations, tries, timer, before, teller) {
+        Ok(between) => finish(stations, between, teller),
         Err(fault) => Err(fault),
     }
 }

@@ -42,7 +42,7 @@ pub struct Station<'a, B: QuietBus + Drop> {
     pub phase: Phase,
     /// The state of its request.
     pub request: Request,
-    /// Whether the loss of the line was written.
+    /// Whether the loss of the line was told.
     pub said: bool,
 }
 

@@ -1,71 +1,74 @@
-//! Writes the ends of readouts, and the loss of a line.
+//! Tells the ends of readouts, and the loss of a line.
 
-ghost use Rattle.std.specs.Prelude.{◌≡◌, ◌<◌, ◌≤◌, ◌-◌, ◌+◌, ◌^◌, ℕ, OnOk, OnErr, length, true};
+ghost use Rattle.std.specs.Prelude.{◌≡◌, ◌<◌, ◌≤◌, ◌-◌, ◌+◌, ◌^◌, ◌∷◌, ℕ, OnOk, OnErr, [], length, true};
 ghost use Rattle.std.specs.List.{All};
 ghost use Rattle.dc_io.specs.Failures.{HasRisen};
-ghost use Rattle.dc_io.specs.Written.{PutsInto, Wrote};
-ghost use Rattle.dc_poll.specs.Happening.{told_line};
 ghost use Rattle.dc_poll.specs.Round.{AllTells, EachFewer, Runs, Tells, counted, most_lines};
 ghost use Rattle.dc_poll.specs.Round.{told_of};
 ghost use Rattle.dc_poll.specs.Station.{IsSound, rounds_of};
+ghost use Rattle.dc_poll.specs.Telling.{HasTold, TakesAll};
 ghost use Rattle.dc_poll.specs.declared.outcome.Counts.{Counts as Counted};
 
 use crate::end::End;
-use crate::ending::{put_failed, put_lost, put_read, put_refused};
+use crate::event::Event;
 use crate::lines::line_at;
 use crate::newest::{newest_parts, newest_serial};
 use crate::outcome::Counts;
 use crate::phase::Phase;
 use crate::station::Station;
+use crate::teller::Teller;
 use dc_bus::QuietBus;
 use dc_concentrator::Concentrator;
 use dc_disk::Disk;
-use dc_io::{IoFault, Sink};
+use dc_io::IoFault;
 use dc_register::House;
 use std::alloc::Allocator;
 
-// The line of text of an end, which is counted.
-fn put_told<A: Allocator + Copy, W: Sink>(
-    house: &House<A>,
-    line: u8,
-    end: &End,
-    outcome: &mut Counts,
-    out: &mut W,
-) -> Result<(), IoFault>
-    requires { outcome.old.read + outcome.old.failed < 2 ^ 64 - 1 }
-    ensures text { Wrote W.Sink result out.old out.new
-        (told_line line (told_of house.now.state end.now)) }
-    ensures counted { outcome.new ≡ counted end.now outcome.old }
+// Tells one event.
+pub(crate) fn tell_one<N: Teller>(event: &Event, teller: &mut N) -> Result<(), IoFault>
+    ensures { HasTold N.Teller result teller.old teller.new (event.now ∷ []) }
 {
-    match end {
-        End::Read(meter) => {
-            outcome.read += 1;
-            let serial = newest_serial(house, meter);
-            put_read(out, meter, serial, newest_parts(house, meter) as u64)
-        }
-        End::Failed(meter, why) => {
-            outcome.failed += 1;
-            put_failed(out, meter, *why)
-        }
-        End::Refused(meter, refusal) => {
-            outcome.failed += 1;
-            put_refused(out, meter, *refusal)
-        }
+    teller.tell(event)
+}
+
+// The event of an end.
+fn told_of<A: Allocator + Copy>(house: &House<A>, end: &End) -> Event
+    ensures { result ≡ told_of house.now.state end.now }
+{
+    match *end {
+        End::Read(meter) => Event::Read {
+            meter,
+            serial: newest_serial(house, &meter),
+            parts: newest_parts(house, &meter) as u64,
+        },
+        End::Failed(meter, why) => Event::Failed { meter, why },
+        End::Refused(meter, refusal) => Event::Refused { meter, refusal },
     }
 }
 
-// How the readout of a line's meter ended is written.
-fn tell_end<D: Disk + Drop, A: Allocator + Copy, B: QuietBus + Drop, W: Sink>(
+// Counts an end.
+fn count(end: &End, outcome: &mut Counts)
+    requires { outcome.old.read + outcome.old.failed < 2 ^ 64 - 1 }
+    ensures { outcome.new ≡ counted end.now outcome.old }
+{
+    match end {
+        End::Read(_) => outcome.read += 1,
+        End::Failed(_, _) | End::Refused(_, _) => outcome.failed += 1,
+    }
+}
+
+// How the readout of a line's meter ended is told.
+fn tell_end<D: Disk + Drop, A: Allocator + Copy, B: QuietBus + Drop, N: Teller>(
     concentrator: &Concentrator<D, A>,
     station: &mut Station<'_, B>,
     line: u8,
     outcome: &mut Counts,
-    out: &mut W,
+    teller: &mut N,
 ) -> Result<(), IoFault>
     requires { outcome.old.read + outcome.old.failed < 2 ^ 64 - 1 }
     ensures went { Runs D.Disk (λ core happened.
         OnOk result (Tells B.QuietBus line station.old station.new
-        (PutsInto W.Sink out.old out.new) outcome.old outcome.new core happened))
+        (TakesAll N.takes teller.old teller.new) outcome.old outcome.new core happened))
         concentrator.now concentrator.now }
     ensures few { outcome.new.read + outcome.new.failed ≤ outcome.old.read + outcome.old.failed
         + 1 }
@@ -73,31 +76,32 @@ fn tell_end<D: Disk + Drop, A: Allocator + Copy, B: QuietBus + Drop, W: Sink>(
         → IsSound B.QuietBus tries station.new }
     ensures fewer { OnOk result ((tries : ℕ) → rounds_of B.QuietBus 1 1 1 tries station.new
         ≤ rounds_of B.QuietBus 1 1 0 tries station.old) }
-    ensures fault { OnErr result (HasRisen (W.put_failures out.old) (W.put_failures out.new)) }
-    ensures well { OnOk result (W.put_failures out.new ≡ W.put_failures out.old) }
+    ensures fault { OnErr result (HasRisen (N.failures teller.old) (N.failures teller.new)) }
+    ensures well { OnOk result (N.failures teller.new ≡ N.failures teller.old) }
 {
     let Phase::Over(end) = station.phase else {
         return Ok(());
     };
     station.phase = Phase::Free;
-    put_told(concentrator.house(), line, &end, outcome, out)
+    count(&end, outcome);
+    teller.tell(&told_of(concentrator.house(), &end))
 }
 
-// That a line is lost is written once.
-fn tell_loss<D: Disk + Drop, A: Allocator + Copy, B: QuietBus + Drop, W: Sink>(
+// That a line is lost is told once.
+fn tell_loss<D: Disk + Drop, A: Allocator + Copy, B: QuietBus + Drop, N: Teller>(
     concentrator: &Concentrator<D, A>,
     station: &mut Station<'_, B>,
     line: u8,
-    out: &mut W,
+    teller: &mut N,
 ) -> Result<(), IoFault>
     ensures went { (outcome : Counted)
         → Runs D.Disk (λ core happened. OnOk result (Tells B.QuietBus line station.old station.new
-        (PutsInto W.Sink out.old out.new) outcome outcome core happened))
+        (TakesAll N.takes teller.old teller.new) outcome outcome core happened))
         concentrator.now concentrator.now }
     ensures kept { station.new ≡ record station.old { said = station.new.said } }
     ensures said { B.lost station.new.bus ≡ true → OnOk result (station.new.said ≡ true) }
-    ensures fault { OnErr result (HasRisen (W.put_failures out.old) (W.put_failures out.new)) }
-    ensures well { OnOk result (W.put_failures out.new ≡ W.put_failures out.old) }
+    ensures fault { OnErr result (HasRisen (N.failures teller.old) (N.failures teller.new)) }
+    ensures well { OnOk result (N.failures teller.new ≡ N.failures teller.old) }
 {
     if station.said {
         return Ok(());
@@ -106,22 +110,22 @@ fn tell_loss<D: Disk + Drop, A: Allocator + Copy, B: QuietBus + Drop, W: Sink>(
         return Ok(());
     }
     station.said = true;
-    put_lost(out, line)
+    teller.tell(&Event::Lost { line })
 }
 
-/// Writes the text of a line after a commit: the end of a meter's readout, and the loss of the
-/// line.
-fn tell<D: Disk + Drop, A: Allocator + Copy, B: QuietBus + Drop, W: Sink>(
+// Tells the events of a line after a commit: the end of a meter's readout, and the loss of the
+// line.
+fn tell<D: Disk + Drop, A: Allocator + Copy, B: QuietBus + Drop, N: Teller>(
     concentrator: &Concentrator<D, A>,
     station: &mut Station<'_, B>,
     line: u8,
     outcome: &mut Counts,
-    out: &mut W,
+    teller: &mut N,
 ) -> Result<(), IoFault>
     requires { outcome.old.read + outcome.old.failed < 2 ^ 64 - 1 }
     ensures went { Runs D.Disk (λ core happened.
         OnOk result (Tells B.QuietBus line station.old station.new
-        (PutsInto W.Sink out.old out.new) outcome.old outcome.new core happened))
+        (TakesAll N.takes teller.old teller.new) outcome.old outcome.new core happened))
         concentrator.now concentrator.now }
     ensures few { outcome.new.read + outcome.new.failed ≤ outcome.old.read + outcome.old.failed
         + 1 }
@@ -129,27 +133,27 @@ fn tell<D: Disk + Drop, A: Allocator + Copy, B: QuietBus + Drop, W: Sink>(
         → IsSound B.QuietBus tries station.new }
     ensures fewer { OnOk result ((tries : ℕ) → rounds_of B.QuietBus 1 1 1 tries station.new
         ≤ rounds_of B.QuietBus 1 1 0 tries station.old) }
-    ensures fault { OnErr result (HasRisen (W.put_failures out.old) (W.put_failures out.new)) }
-    ensures well { OnOk result (W.put_failures out.new ≡ W.put_failures out.old) }
+    ensures fault { OnErr result (HasRisen (N.failures teller.old) (N.failures teller.new)) }
+    ensures well { OnOk result (N.failures teller.new ≡ N.failures teller.old) }
 {
-    match tell_end(concentrator, station, line, outcome, out) {
-        Ok(()) => tell_loss(concentrator, station, line, out),
+    match tell_end(concentrator, station, line, outcome, teller) {
+        Ok(()) => tell_loss(concentrator, station, line, teller),
         Err(fault) => Err(fault),
     }
 }
 
-/// Writes the text of all lines after a commit.
-pub fn tell_all<D: Disk + Drop, A: Allocator + Copy, B: QuietBus + Drop, W: Sink>(
+/// Tells the events of all lines after a commit.
+pub fn tell_all<D: Disk + Drop, A: Allocator + Copy, B: QuietBus + Drop, N: Teller>(
     concentrator: &Concentrator<D, A>,
     stations: &mut [Station<'_, B>],
     outcome: &mut Counts,
-    out: &mut W,
+    teller: &mut N,
 ) -> Result<(), IoFault>
     requires lines { length stations.old ≤ most_lines }
     requires few { outcome.old.read + outcome.old.failed + most_lines < 2 ^ 64 }
     ensures went { Runs D.Disk (λ core happened.
         OnOk result (AllTells B.QuietBus stations.old stations.new
-        (PutsInto W.Sink out.old out.new) outcome.old outcome.new core happened))
+        (TakesAll N.takes teller.old teller.new) outcome.old outcome.new core happened))
         concentrator.now concentrator.now }
     ensures few { OnOk result (outcome.new.read + outcome.new.failed ≤ outcome.old.read
         + outcome.old.failed + most_lines) }
@@ -158,11 +162,17 @@ pub fn tell_all<D: Disk + Drop, A: Allocator + Copy, B: QuietBus + Drop, W: Sink
     ensures fewer { OnOk result ((tries : ℕ)
         → EachFewer (rounds_of B.QuietBus 1 1 0 tries) (rounds_of B.QuietBus 1 1 1 tries) 0
         stations.old stations.new) }
-    ensures fault { OnErr result (HasRisen (W.put_failures out.old) (W.put_failures out.new)) }
-    ensures well { OnOk result (W.put_failures out.new ≡ W.put_failures out.old) }
+    ensures fault { OnErr result (HasRisen (N.failures teller.old) (N.failures teller.new)) }
+    ensures well { OnOk result (N.failures teller.new ≡ N.failures teller.old) }
 {
     'lines: for at in 0..stations.len() {
-        match tell(concentrator, &mut stations[at], line_at(at), outcome, out) {
+        match tell(
+            concentrator,
+            &mut stations[at],
+            line_at(at),
+            outcome,
+            teller,
+        ) {
             Ok(()) => {}
             Err(fault) => return Err(fault),
         }

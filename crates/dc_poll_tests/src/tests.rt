@@ -7,5 +7,7 @@ mod line;
 mod orders;
 mod plans;
 mod polling;
+mod progress;
 mod promises;
 mod stops;
+mod tellers;

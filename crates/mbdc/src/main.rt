@@ -10,7 +10,6 @@ mod demo;
 mod ending;
 mod inspect;
 mod poll;
-mod progress;
 mod reaching;
 mod report;
 mod script;

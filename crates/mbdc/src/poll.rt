@@ -2,22 +2,21 @@
 
 ghost use Rattle.std.specs.Prelude.{◌<◌};
 
-use crate::progress::{Counted, Progress};
 use crate::reaching::reach_all;
 use dc_bus::QuietBus;
 use dc_change::Moment;
 use dc_disk::FileDisk;
 use dc_ending::{Ending, ProgramFault, ending_of};
-use dc_events::EventSink;
 use dc_files::{Host, Noted, open_image};
 use dc_io::WriteSink;
 use dc_links::{LinkBus, Peer, SystemBus, Watch};
-use dc_poll::{Outcome, Plan, Station, Timer, is_awaited, poll_image};
+use dc_poll::{Outcome, Plan, Station, Teller, Timer, is_awaited, poll_image};
+use dc_teller::{JsonTeller, Progress, Shown, TextTeller, Unfailing};
 use dc_words::PollTask;
 use std::alloc::Global;
 use std::fs::{File, OpenFile};
 use std::io;
-use std::io::LineWriter;
+use std::io::{LineWriter, Write};
 use std::net::{Net, TcpStream};
 use std::os::unix::fs::FileExt;
 use std::rt::{Clock, Files};
@@ -143,30 +142,53 @@ where
     let Ok(writer) = LineWriter::new(host.rt.alloc(), printer) else {
         return Err(ProgramFault::NoMemory);
     };
-    let progress = Progress::new(*host);
-    let mut out = WriteSink::new(Counted {
-        writer,
+    let out = WriteSink::new(writer);
+    let (outcome, is_printed) = if is_json {
+        let (outcome, done) = poll_with(host, disk, plan, JsonTeller { out });
+        (outcome, is_printed(done.has_failed, done.teller.out))
+    } else {
+        let (outcome, done) = poll_with(host, disk, plan, TextTeller { out });
+        (outcome, is_printed(done.has_failed, done.teller.out))
+    };
+    match outcome {
+        Ok(Outcome { fault: None, .. }) if !is_printed => Err(ProgramFault::Write),
+        _ => outcome,
+    }
+}
+
+// Reads the meters of the plan. The teller gets their events up to its first failure.
+fn poll_with<D, R, N>(
+    host: &Host<'_, R>,
+    disk: FileDisk<D>,
+    plan: Plan<'_, Global, SystemBus<'_, R>>,
+    teller: N,
+) -> (Result<Outcome, ProgramFault>, Unfailing<N>)
+where
+    D: FileExt + OpenFile + Drop,
+    R: Clock + Copy + Print + Eprint + AllocGlobal,
+    N: Teller + Drop,
+    requires { 0 < plan.tries }
+{
+    let progress = Progress::new(host.rt, host.is_watched);
+    let mut shown = Shown {
+        teller: Unfailing::new(teller),
         progress: &progress,
-        is_begin: true,
-    });
+    };
     let mut timer = SystemTimer {
         clock: *host.rt,
         last: Moment { seconds: 0 },
         progress: &progress,
     };
-    let alloc = host.rt.alloc();
-    let (_, outcome) = if is_json {
-        let mut events = EventSink::new(&mut out);
-        poll_image(alloc, disk, plan, &mut timer, &mut events)
-    } else {
-        poll_image(alloc, disk, plan, &mut timer, &mut out)
-    };
+    let (_, outcome) = poll_image(host.rt.alloc(), disk, plan, &mut timer, &mut shown);
     progress.clear();
-    let is_flushed = out.flush().is_ok() && !progress.has_lost();
-    match outcome {
-        Ok(Outcome { fault: None, .. }) if !is_flushed => Err(ProgramFault::Write),
-        _ => outcome,
-    }
+    let Shown { teller, .. } = shown;
+    (outcome, teller)
+}
+
+// Whether all was printed, once what is held back is written out.
+fn is_printed<W: Write + Drop>(has_failed: bool, out: WriteSink<W>) -> bool {
+    let mut sink = out;
+    !has_failed && sink.flush().is_ok()
 }
 
 // The bus of each line; one without a link is absent.

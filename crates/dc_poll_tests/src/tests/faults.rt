@@ -1,15 +1,15 @@
 //! A poll whose disk fails, whose memory is refused, or whose text can't be written; and the next poll.
 
 use super::house::{Kind, Row, SHORT, lines_of, registered};
-use super::polling::{NEW_YEAR, Polled, StayingClock, poll, poll_at, tells_all, text_of};
+use super::polling::{NEW_YEAR, Polled, poll, poll_at, poll_told, tells_all, text_of};
 use super::promises::holds_readings;
-use dc_change::Moment;
 use dc_concentrator::CommitFault;
 use dc_disk::MemoryDisk;
 use dc_ending::ProgramFault;
 use dc_io::FixedSink;
 use dc_log::OpenFault;
-use dc_poll::{Outcome, Plan, poll_image};
+use dc_poll::Outcome;
+use dc_teller::TextTeller;
 use refusing_alloc::Refusing;
 use std::alloc::Global;
 use std::process::Abort;
@@ -141,24 +141,15 @@ fn refused_memory_at_each_growth(rt: HostRuntime) -> Result<(), Fail> {
 #[test]
 fn a_failed_write_ends_the_poll(rt: HostRuntime) -> Result<(), Fail> {
     let heap = rt.alloc();
-    let mut writer: FixedSink<60> = FixedSink::new();
-    let Some(moment) = Moment::from_seconds(NEW_YEAR) else {
-        return Err(Fail::from("no moment"));
-    };
-    let mut clock = StayingClock {
-        moment,
-        warnings: 0,
-    };
-    let plan = Plan {
-        buses: lines_of(heap, heap, &SMALL)?,
-        only: &[],
-        tries: 2,
-    };
+    let out: FixedSink<60> = FixedSink::new();
+    let mut teller = TextTeller { out };
     let disk = registered(heap, &SMALL)?;
-    let (disk, outcome) = poll_image(heap, disk, plan, &mut clock, &mut writer);
+    let lines = lines_of(heap, heap, &SMALL)?;
+    let (disk, outcome, _) = poll_told(heap, disk, lines, &[], NEW_YEAR, &mut teller)?;
     assert_eq!(rt; outcome, Err(ProgramFault::Write));
     assert!(rt;
-        writer
+        teller
+            .out
             .as_slice()
             .starts_with(b"READ 00000021.PAD.01.07 1 1\n")
     );

@@ -8,7 +8,8 @@ use dc_change::Moment;
 use dc_disk::MemoryDisk;
 use dc_ending::ProgramFault;
 use dc_io::Bytes;
-use dc_poll::{Outcome, Plan, Station, Timer, poll_image};
+use dc_poll::{Outcome, Plan, Station, Teller, Timer, poll_image};
+use dc_teller::TextTeller;
 use std::alloc::{AllocError, Allocator, Global};
 use std::process::Abort;
 use std::str;
@@ -53,7 +54,33 @@ pub struct Polled {
 /// The moment of most polls: 2025-01-01.
 pub const NEW_YEAR: u64 = 1_735_689_600;
 
-/// Polls these meters, or all, at that moment. A failed readout is begun again once.
+/// Polls these meters, or all, at that moment. A failed readout is begun again once. Returns how often the clock was
+/// warned, too.
+pub fn poll_told<A: Allocator + Copy, N: Teller>(
+    alloc: A,
+    disk: MemoryDisk<Global>,
+    buses: Vec<SlowLine, A>,
+    only: &[Identity],
+    seconds: u64,
+    teller: &mut N,
+) -> Result<(MemoryDisk<Global>, Result<Outcome, ProgramFault>, u32), Fail> {
+    let Some(moment) = Moment::from_seconds(seconds) else {
+        return Err(Fail::from("no moment"));
+    };
+    let mut clock = StayingClock {
+        moment,
+        warnings: 0,
+    };
+    let plan = Plan {
+        buses,
+        only,
+        tries: 2,
+    };
+    let (disk, outcome) = poll_image(alloc, disk, plan, &mut clock, teller);
+    Ok((disk, outcome, clock.warnings))
+}
+
+/// The same, and its text.
 pub fn poll_at<A: Allocator + Copy>(
     heap: Global,
     alloc: A,
@@ -62,25 +89,16 @@ pub fn poll_at<A: Allocator + Copy>(
     only: &[Identity],
     seconds: u64,
 ) -> Result<Polled, Fail> {
-    let Some(moment) = Moment::from_seconds(seconds) else {
-        return Err(Fail::from("no moment"));
+    let mut teller = TextTeller {
+        out: Bytes::new(heap),
     };
-    let mut clock = StayingClock {
-        moment,
-        warnings: 0,
-    };
-    let mut text = Bytes::new(heap);
-    let plan = Plan {
-        buses,
-        only,
-        tries: 2,
-    };
-    let (disk, outcome) = poll_image(alloc, disk, plan, &mut clock, &mut text);
+    let (disk, outcome, warnings) = poll_told(alloc, disk, buses, only, seconds, &mut teller)?;
+    let TextTeller { out } = teller;
     Ok(Polled {
         disk,
-        text,
+        text: out,
         outcome,
-        warnings: clock.warnings,
+        warnings,
     })
 }
 
@@ -95,7 +113,12 @@ pub fn poll(
 
 /// The text of a poll.
 pub fn text_of(polled: &Polled) -> Result<&str, Fail> {
-    match str::from_utf8(polled.text.as_slice()) {
+    text_of_bytes(&polled.text)
+}
+
+/// The text that was printed.
+pub fn text_of_bytes(bytes: &Bytes<Global>) -> Result<&str, Fail> {
+    match str::from_utf8(bytes.as_slice()) {
         Ok(text) => Ok(text),
         Err(_) => Err(Fail::from("no text")),
     }

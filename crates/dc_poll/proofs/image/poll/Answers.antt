@@ -1,13 +1,13 @@
-use Rattle.std.proofs.Common.{◌≡◌, ◌≤◌, ◌-◌, ◌^◌, ℕ, List, length, map, take, ap, refl, sym, subst, ◌∙◌}
-use Rattle.std.specs.Prelude.{min, Option}
+use Rattle.std.proofs.Common.{◌≡◌, ℕ, List, length, map, take, ap, refl, sym, subst, ◌∙◌}
+use Rattle.std.specs.Prelude.{min}
 use Rattle.std.specs.List.{All}
 use Rattle.dc_address.specs.declared.identity.Identity.{Identity}
 use Rattle.dc_io.specs.Failures.{HasRisen}
 use Rattle.dc_change.specs.State.{State}
 use Rattle.dc_concentrator.specs.Core.{present}
-use Rattle.dc_io.specs.Stream.{Puts}
+use Rattle.dc_poll.specs.Telling.{TakesAll}
 use Rattle.dc_poll.specs.Clock.{ComparesClock}
-use Rattle.dc_poll.specs.Planned.{ArePlanned, AreQueues, AreStations, asked_for, has_bus, refused_count, refused_text}
+use Rattle.dc_poll.specs.Planned.{ArePlanned, AreQueues, AreStations, asked_for, has_bus, refused_count, refused_events}
 use Rattle.dc_poll.specs.Polls.{PollsAll}
 use Rattle.dc_poll.specs.Round.{IsFresh, most_lines}
 use Rattle.dc_poll.specs.declared.station.Station.{Station}
@@ -39,7 +39,7 @@ pub returns-in-Err-refuse_others-clause-went : goal.returns-in-Err-refuse_others
 returns-in-Err-refuse_others-clause-went g c = runs_none g.D.Disk _ c.args.concentrator.now (λ image left. g.met.D.Disk.only_now c.args.concentrator.now.store.disk image left) (λ core. tt)
 
 pub returns-clause-write : goal.returns-clause-write
-returns-clause-write g c is = subst (λ (n : ℕ). HasRisen n (g.W.Sink.put_failures c.read_on.new.out)) c.in-Ok-refuse_others.ensures.well c.in-Err-read_on.ensures.fault
+returns-clause-write g c is = subst (λ (n : ℕ). HasRisen n (g.N.Teller.failures c.read_on.new.teller)) c.in-Ok-refuse_others.ensures.well c.in-Err-read_on.ensures.fault
 
 pub returns-in-Ok-read_on-clause-went : goal.returns-in-Ok-read_on-clause-went
 returns-in-Ok-read_on-clause-went g c =
@@ -62,8 +62,9 @@ returns-in-Ok-read_on-clause-went g c =
     planned_by (λ v. v.items) lost c.house.result.now.state only all c.truncate.new.self.items c.in-Ok.queues.items stations cut queues count buses each in
     let wanted : c.as_slice-3.result.now ≡ asked_for only c.house-2.result.now.state = c.as_slice-3.ensures.value ∙ c.in-Ok-asked_for.ensures in
     let compared : ComparesClock g.T.Timer.tells g.T.Timer.warns c.house-4.result.now.state c.args.timer.now c.compare_clock.new.timer = c.compare_clock.ensures in
-    let old = g.W.Sink.written c.args.out.now in
-    let between = g.W.Sink.written c.refuse_others.new.out in
+    let takes = g.N.Teller.takes in
+    let old = c.args.teller.now in
+    let between = c.refuse_others.new.teller in
     runs_from g.D.Disk _ _ c.args.concentrator.now c.read_on.new.concentrator c.in-Ok-read_on.ensures.went
     (λ core happened is p.
     let state : c.house.result.now.state ≡ present core = ap (λ h. h.state) c.house.ensures ∙ is in
@@ -78,10 +79,10 @@ returns-in-Ok-read_on-clause-went g c =
       begun = c.compare_clock.new.timer;
       planned = subst (λ (xs : List (Station g.row.B.Denot)). ArePlanned lost (present core) only all xs) (sym slice) (subst (λ (s : State). ArePlanned lost s only all stations) state planned);
       compares = subst (λ (s : State). ComparesClock g.T.Timer.tells g.T.Timer.warns s c.args.timer.now c.compare_clock.new.timer) state-4 compared;
-      refuses = subst (λ (ms : List Identity). Puts old between (refused_text (has_bus lost (take most_lines all)) (present core) ms)) wanted_is
-          (subst (λ (s : State). Puts old between (refused_text (has_bus lost (take most_lines all)) s c.as_slice-3.result.now)) state-3
-          (subst (λ (bs : List g.row.B.Denot). Puts old between (refused_text (has_bus lost bs) c.house-3.result.now.state c.as_slice-3.result.now)) seen c.in-Ok-refuse_others.ensures.text));
-      polls = subst (λ (n : ℕ). PollsAll (whole g.B.HalfBus g.B.QuietBus) g.T.Timer.tells g.T.Timer.passes c.args.plan.tries c.as_mut_slice-2.result.now c.read_on.new.stations c.compare_clock.new.timer c.read_on.new.timer (Puts between (g.W.Sink.written c.read_on.new.out)) (record { read = 0; failed = n }) c.in-Ok-read_on.outcome core happened)
+      refuses = subst (λ (ms : List Identity). TakesAll takes old between (refused_events (has_bus lost (take most_lines all)) (present core) ms)) wanted_is
+          (subst (λ (s : State). TakesAll takes old between (refused_events (has_bus lost (take most_lines all)) s c.as_slice-3.result.now)) state-3
+          (subst (λ (bs : List g.row.B.Denot). TakesAll takes old between (refused_events (has_bus lost bs) c.house-3.result.now.state c.as_slice-3.result.now)) seen c.in-Ok-refuse_others.ensures.told));
+      polls = subst (λ (n : ℕ). PollsAll (whole g.B.HalfBus g.B.QuietBus) g.T.Timer.tells g.T.Timer.passes c.args.plan.tries c.as_mut_slice-2.result.now c.read_on.new.stations c.compare_clock.new.timer c.read_on.new.timer (TakesAll takes between c.read_on.new.teller) (record { read = 0; failed = n }) c.in-Ok-read_on.outcome core happened)
           (c.in-Ok-refuse_others.ensures.count
           ∙ ap (λ (bs : List g.row.B.Denot). min 4294967295 (refused_count (has_bus lost bs) c.house-3.result.now.state c.as_slice-3.result.now)) seen
           ∙ ap (λ (s : State). min 4294967295 (refused_count (has_bus lost (take most_lines all)) s c.as_slice-3.result.now)) state-3

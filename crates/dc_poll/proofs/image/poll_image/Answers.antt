@@ -1,6 +1,5 @@
-use Rattle.std.proofs.Common.{◌≡◌, List, []}
-use Rattle.dc_concentrator.specs.Core.{Core, opened}
-use Rattle.dc_concentrator.specs.Images.{IsAt}
+use Rattle.std.proofs.Common.{List, []}
+use Rattle.dc_concentrator.specs.Core.{Core}
 use Rattle.dc_concentrator.specs.OpenedOn.{IsOpenedOn}
 use Rattle.dc_log.specs.Halves.{half_of}
 use Rattle.dc_pending.specs.Images.{EachStands}

@@ -1,14 +1,16 @@
 use Rattle.std.proofs.Common.{◌≡◌, ◌+◌, ◌≤◌, drop, map}
 use Rattle.std.specs.Prelude.{min}
-use Rattle.std.specs.Io.KnownBytes.{append_known}
-use Rattle.dc_poll.specs.Planned.{has_bus, refused_count, refused_text}
+use Rattle.dc_poll.specs.Planned.{has_bus, refused_count, refused_events}
+use Rattle.dc_poll.specs.Telling.{TakesAll}
 use Rattle.dc_poll.specs.declared.station.Station.{Station}
 use Rattle.dc_poll.proofs.image.refuse_others.Given as goal
 
 abbrev pub invariant-meters : goal.invariant-meters
 invariant-meters g l = record {
-  text : append_known (g.W.Sink.written l.out) (refused_text (has_bus g.B.HalfBus.lost (map (λ (s : Station g.row.B.Denot). s.bus) l.stations)) l.house.state (drop l.meter-index l.wanted)) ≡ append_known (g.W.Sink.written l.fn.out) (refused_text (has_bus g.B.HalfBus.lost (map (λ (s : Station g.row.B.Denot). s.bus) l.stations)) l.house.state l.wanted);
-  well : g.W.Sink.put_failures l.out ≡ g.W.Sink.put_failures l.fn.out;
+  -- what is left to tell makes the rest
+  events : (last : g.row.N.Denot) → TakesAll g.N.Teller.takes l.teller last (refused_events (has_bus g.B.HalfBus.lost (map (λ (s : Station g.row.B.Denot). s.bus) l.stations)) l.house.state (drop l.meter-index l.wanted))
+      → TakesAll g.N.Teller.takes l.fn.teller last (refused_events (has_bus g.B.HalfBus.lost (map (λ (s : Station g.row.B.Denot). s.bus) l.stations)) l.house.state l.wanted);
+  well : g.N.Teller.failures l.teller ≡ g.N.Teller.failures l.fn.teller;
   small : l.refused ≤ 4294967295;
   count : min 4294967295 (l.refused + refused_count (has_bus g.B.HalfBus.lost (map (λ (s : Station g.row.B.Denot). s.bus) l.stations)) l.house.state (drop l.meter-index l.wanted)) ≡ min 4294967295 (refused_count (has_bus g.B.HalfBus.lost (map (λ (s : Station g.row.B.Denot). s.bus) l.stations)) l.house.state l.wanted);
 }

@@ -1,6 +1,6 @@
-use Rattle.std.proofs.Common.{◌≡◌, ◌++◌, ◌∷◌, ◌+◌, ◌<◌, ℕ, suc, List, [], map, length, drop, refl, ap, sym, subst, ◌∙◌, get_or, arith, length-append}
+use Rattle.std.proofs.Common.{◌≡◌, ◌++◌, ◌∷◌, ◌+◌, ℕ, suc, List, [], map, length, drop, ap, sym, subst, ◌∙◌, arith, length-append}
 use Rattle.std.specs.Vec.Iter.{into_iter_items}
-use Rattle.dc_poll.specs.Planned.{AreStations, HasQueue}
+use Rattle.dc_poll.specs.Planned.{AreStations}
 use Rattle.dc_poll.specs.declared.station.Station.{Station}
 use Rattle.dc_poll.proofs.Planning.{buses_more, first_after, rest_after, stations_more}
 use Rattle.dc_poll.proofs.image.stations_of.Goals as goal

@@ -1,4 +1,4 @@
-use Rattle.std.proofs.Common.{◌≡◌, ◌≤◌, ◌<◌, ◌+◌, ◌-◌, ℕ, List, length, get_or, refl, subst, ◌∙◌, arith, length-set}
+use Rattle.std.proofs.Common.{◌≤◌, ◌<◌, ◌+◌, ◌-◌, ℕ, List, length, get_or, refl, subst, ◌∙◌, arith, length-set}
 use Rattle.std.proofs.lemmas.List.Elements.{All-nil}
 use Rattle.dc_poll.specs.Keeping.{IsAsking}
 use Rattle.dc_poll.specs.Round.{Steps}

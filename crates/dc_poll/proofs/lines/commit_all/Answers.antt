@@ -1,7 +1,4 @@
 use Rattle.dc_poll.proofs.Storing.{all_stored, all_sound, all_fewer, stored_as}
-use Rattle.std.proofs.Common.{sym, subst}
-use Rattle.dc_concentrator.specs.Transcript.{Turn}
-use Rattle.dc_poll.specs.Round.{IsStoredAs}
 use Rattle.dc_poll.proofs.Running.{runs_as}
 use Rattle.dc_poll.proofs.Whole.{whole}
 use Rattle.dc_poll.proofs.lines.commit_all.Goals as goal

@@ -1,9 +1,8 @@
-use Rattle.std.proofs.Common.{◌≡◌, ◌≤◌, ◌<◌, ◌+◌, ◌-◌, ℕ, List, Ok, Err, length, get_or, refl, subst, ◌∙◌, arith, length-set}
+use Rattle.std.proofs.Common.{◌≡◌, ◌≤◌, ◌<◌, ◌+◌, ℕ, List, Ok, Err, length, get_or, refl, subst, ◌∙◌, arith, length-set}
 use Rattle.std.specs.List.{All}
 use Rattle.std.proofs.lemmas.List.Elements.{All-nil, All-append}
 use Rattle.dc_concentrator.specs.Core.{Core}
-use Rattle.dc_concentrator.specs.Transcript.{Turn}
-use Rattle.dc_poll.specs.Happening.{Happening, happened_turns}
+use Rattle.dc_poll.specs.Happening.{Happening}
 use Rattle.dc_poll.specs.Keeping.{IsHearing}
 use Rattle.dc_poll.specs.Round.{AllSteps, AreHeardAs, IsRoom, Runs, Steps}
 use Rattle.dc_poll.specs.Station.{IsSound, rounds_of}

@@ -1,4 +1,4 @@
-use Rattle.std.proofs.Common.{ℕ, Ok, Err, refl}
+use Rattle.std.proofs.Common.{ℕ, Err, refl}
 use Rattle.std.specs.List.{All}
 use Rattle.dc_poll.specs.Keeping.{IsHearing}
 use Rattle.dc_poll.specs.Round.{AreHeardAs, EndsInCommit, IsStoredAs}

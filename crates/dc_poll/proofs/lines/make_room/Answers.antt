@@ -1,5 +1,4 @@
 use Rattle.std.proofs.Common.{refl, inl, inr}
-use Rattle.dc_poll.specs.Round.{IsRoom}
 use Rattle.dc_poll.proofs.Rounds.{all_none, all_as}
 use Rattle.dc_poll.proofs.Running.{runs_none, runs_as}
 use Rattle.dc_poll.proofs.lines.make_room.Goals as goal

@@ -1,4 +1,4 @@
-use Rattle.std.proofs.Common.{◌≡◌, ◌<◌, ℕ, List, length, refl, subst, ◌∙◌, arith, length-set}
+use Rattle.std.proofs.Common.{◌<◌, ℕ, List, length, refl, subst, ◌∙◌, arith, length-set}
 use Rattle.dc_poll.specs.Round.{IsStored}
 use Rattle.dc_poll.specs.declared.station.Station.{Station}
 use Rattle.dc_poll.proofs.Rounds.{get_or_any, becomes_none, becomes_step, becomes_all}

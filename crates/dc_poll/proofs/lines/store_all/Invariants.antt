@@ -1,4 +1,4 @@
-use Rattle.std.proofs.Common.{◌≡◌, List, length}
+use Rattle.std.proofs.Common.{◌≡◌, length}
 use Rattle.dc_poll.specs.Round.{IsStored}
 use Rattle.dc_poll.proofs.Rounds.{Becomes}
 use Rattle.dc_poll.proofs.lines.store_all.Given as goal

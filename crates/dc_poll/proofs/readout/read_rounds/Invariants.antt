@@ -1,7 +1,7 @@
 use Rattle.std.proofs.Common.{◌≡◌, ◌≤◌, ◌+◌, ◌*◌, List, length}
 use Rattle.std.specs.List.{All}
 use Rattle.dc_concentrator.specs.Core.{Core}
-use Rattle.dc_io.specs.Stream.{Puts}
+use Rattle.dc_poll.specs.Telling.{TakesAll}
 use Rattle.dc_poll.specs.Happening.{Happening}
 use Rattle.dc_poll.specs.Keeping.{all_kept}
 use Rattle.dc_poll.specs.Polls.{PollsTo}
@@ -16,9 +16,9 @@ invariant-rounds g l = record {
   budget : l.concentrator.house.budget ≡ l.fn.concentrator.house.budget;
   count : length l.stations ≡ length l.fn.stations;
   sound : All (IsSound (whole g.B.HalfBus g.B.QuietBus) l.tries) l.stations;
-  well : g.W.Sink.put_failures l.out ≡ g.W.Sink.put_failures l.fn.out;
+  well : g.N.Teller.failures l.teller ≡ g.N.Teller.failures l.fn.teller;
   few : l.counts.read + l.counts.failed ≤ l.fn.before.read + l.fn.before.failed + 8 * l.counter;
   fewer : EachFewer (λ (s : Station g.row.B.Denot). rounds_of (whole g.B.HalfBus g.B.QuietBus) 1 1 1 l.tries s + 1) (rounds_of (whole g.B.HalfBus g.B.QuietBus) 1 1 1 l.tries) l.counter l.fn.stations l.stations;
   so_far : Runs g.D.Disk (λ (core : Core) (happened : List Happening). PollsTo (whole g.B.HalfBus g.B.QuietBus) g.T.Timer.tells g.T.Timer.passes l.tries all_kept l.fn.stations l.stations l.fn.timer l.timer
-      (Puts (g.W.Sink.written l.fn.out) (g.W.Sink.written l.out)) l.fn.before l.counts core happened) l.fn.concentrator l.concentrator;
+      (TakesAll g.N.Teller.takes l.fn.teller l.teller) l.fn.before l.counts core happened) l.fn.concentrator l.concentrator;
 }

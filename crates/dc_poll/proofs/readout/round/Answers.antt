@@ -1,16 +1,13 @@
-use Rattle.std.proofs.Common.{◌≡◌, ◌++◌, ℕ, Bool, List, Option, Result, refl, sym, subst, ◌∙◌}
-use Rattle.std.specs.List.{All}
+use Rattle.std.proofs.Common.{◌++◌, ℕ, Bool, List, Option, refl, sym, subst, ◌∙◌}
 use Rattle.dc_concentrator.specs.Core.{Core}
 use Rattle.dc_concentrator.specs.declared.fault.CommitFault.{CommitFault}
-use Rattle.dc_io.specs.Stream.{Puts}
+use Rattle.dc_poll.specs.Telling.{TakesAll}
 use Rattle.dc_poll.specs.Happening.{Happening}
-use Rattle.dc_poll.specs.Keeping.{IsAsking}
 use Rattle.dc_poll.specs.Polls.{GoesRound}
-use Rattle.dc_poll.specs.Round.{AllSteps, EndsInCommit}
 use Rattle.dc_poll.specs.Station.{rounds_of}
 use Rattle.dc_poll.specs.declared.station.Station.{Station}
 use Rattle.dc_poll.proofs.Polling.{Asked, goes_round, none_of}
-use Rattle.dc_poll.proofs.Rounds.{all_then, fewer_both}
+use Rattle.dc_poll.proofs.Rounds.{fewer_both}
 use Rattle.dc_poll.proofs.Running.{runs_then}
 use Rattle.dc_poll.proofs.Whole.{whole}
 use Rattle.dc_poll.proofs.readout.round.Goals as goal
@@ -29,9 +26,9 @@ returns-in-Ok-clause-went g c =
     (runs_then g.D.Disk _ _ _ c.args.concentrator.now c.ask_all.new.concentrator c.hear_and_commit-stored.new.concentrator c.ask_all.ensures.went c.ask_all.ensures.budget c.hear_and_commit-stored.ensures.went
     (λ core happened more a h. record { asking = happened; rest = more; parts = refl; asks = a; hears = h }))
     (c.hear_and_commit-stored.ensures.budget ∙ c.ask_all.ensures.budget) c.in-Ok.ensures.went
-    (λ core happened more a t. subst (λ (fault : Option CommitFault). GoesRound b g.T.Timer.tells g.T.Timer.passes c.args.tries fault olds news c.args.timer.now c.now-moment.new.self (Puts (g.W.Sink.written c.args.out.now) (g.W.Sink.written c.tell_all.new.out)) c.args.counts.now c.tell_all.new.outcome core (happened ++ more))
+    (λ core happened more a t. subst (λ (fault : Option CommitFault). GoesRound b g.T.Timer.tells g.T.Timer.passes c.args.tries fault olds news c.args.timer.now c.now-moment.new.self (TakesAll g.N.Teller.takes c.args.teller.now c.tell_all.new.teller) c.args.counts.now c.tell_all.new.outcome core (happened ++ more))
     (sym c.fault_of.ensures)
-    (goes_round b g.T.Timer.tells g.T.Timer.passes g.W.Sink.written c.args.tries m stored olds asked mids news c.args.timer.now c.pause.new.self c.now-moment.new.self c.args.out.now c.tell_all.new.out c.args.counts.now c.tell_all.new.outcome core happened more
+    (goes_round b g.T.Timer.tells g.T.Timer.passes g.N.Teller.takes c.args.tries m stored olds asked mids news c.args.timer.now c.pause.new.self c.now-moment.new.self c.args.teller.now c.tell_all.new.teller c.args.counts.now c.tell_all.new.outcome core happened more
     c.ask_all.auto.stations c.hear_and_commit-stored.auto.stations
     (subst (λ (may : Bool). g.T.Timer.passes c.args.timer.now may c.pause.new.self) c.may_sleep-sleeps.ensures c.pause.ensures) c.now-moment.ensures a t))
 

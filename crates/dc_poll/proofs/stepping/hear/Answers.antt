@@ -1,4 +1,4 @@
-use Rattle.std.proofs.Common.{◌≡◌, [], true, false, refl, sym, ◌∙◌}
+use Rattle.std.proofs.Common.{[], true, false, refl, sym, ◌∙◌}
 use Rattle.std.proofs.Math.Nat.{le_trans}
 use Rattle.dc_poll.specs.Keeping.{IsHearing}
 use Rattle.dc_poll.proofs.Becoming.{line_heard, sound_heard, fewer_with}

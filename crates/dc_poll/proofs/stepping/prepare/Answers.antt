@@ -1,4 +1,4 @@
-use Rattle.std.proofs.Common.{◌≡◌, refl, sym, ◌∙◌}
+use Rattle.std.proofs.Common.{refl, sym, ◌∙◌}
 use Rattle.dc_poll.specs.Keeping.{IsAsking}
 use Rattle.dc_poll.proofs.Becoming.{free_quiet, line_settled}
 use Rattle.dc_poll.proofs.Queues.{steps_none, steps_both}

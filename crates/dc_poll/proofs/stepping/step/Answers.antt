@@ -1,7 +1,7 @@
-use Rattle.std.proofs.Common.{◌≡◌, ◌∷◌, drop, refl, sym, ◌∙◌}
+use Rattle.std.proofs.Common.{refl, ◌∙◌}
 use Rattle.dc_poll.specs.Keeping.{IsAsking}
-use Rattle.dc_poll.proofs.Becoming.{first_of, none_first}
-use Rattle.dc_poll.proofs.Idling.{fewer_out, fewer_empty, fewer_rest}
+use Rattle.dc_poll.proofs.Becoming.{none_first}
+use Rattle.dc_poll.proofs.Idling.{fewer_out, fewer_empty}
 use Rattle.dc_poll.proofs.Queues.{line_stays, steps_none}
 use Rattle.dc_poll.proofs.Running.{runs_none}
 use Rattle.dc_poll.proofs.Whole.{whole}

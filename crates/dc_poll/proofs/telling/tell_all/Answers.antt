@@ -1,12 +1,11 @@
-use Rattle.std.proofs.Common.{◌≡◌, ◌≤◌, ◌<◌, ◌+◌, ℕ, List, length, get_or, refl, subst, ◌∙◌, arith, length-set}
-use Rattle.dc_concentrator.specs.Core.{Core}
+use Rattle.std.proofs.Common.{◌≤◌, ◌<◌, ◌+◌, ℕ, List, length, get_or, refl, subst, ◌∙◌, arith, length-set}
 use Rattle.dc_poll.specs.Round.{Moves}
 use Rattle.dc_poll.specs.Station.{IsSound, rounds_of}
 use Rattle.dc_poll.specs.declared.station.Station.{Station}
 use Rattle.dc_poll.proofs.Rounds.{get_or_any, rounds_none, rounds_step, becomes_none, becomes_step, becomes_all}
 use Rattle.dc_poll.proofs.Running.{runs_none, runs_then}
 use Rattle.dc_poll.proofs.Whole.{whole}
-use Rattle.dc_poll.proofs.Writing.{written_none, written_then}
+use Rattle.dc_poll.proofs.Taking.{told_none, told_then}
 use Rattle.dc_poll.proofs.telling.tell_all.Goals as goal
 
 pub lines-init : goal.lines-init
@@ -16,7 +15,7 @@ lines-init g c = record {
   few = omega arith;
   becomes = becomes_none _ c.args.stations.now;
   so_far = runs_none g.D.Disk _ c.args.concentrator.now (λ image left. g.met.D.Disk.only_now c.args.concentrator.now.store.disk image left)
-      (λ core. record { rounds = λ tries. rounds_none tries c.args.stations.now; written = written_none g.W.Sink.written c.args.out.now c.args.outcome.now core });
+      (λ core. record { rounds = λ tries. rounds_none tries c.args.stations.now; told = told_none g.N.Teller.takes c.args.teller.now c.args.outcome.now core });
 }
 
 pub tell-requires : goal.tell-requires
@@ -46,7 +45,7 @@ lines-preserved g c =
             rounds = λ tries. rounds_step tries at olds mids new happened more c.lines.invariant.count within (t.rounds tries)
                 (λ d. subst (λ (s : Station g.row.B.Denot). Moves b tries (at + 1) s new more) (get_or_any mids at result d within)
                 (subst (λ (n : ℕ). Moves b tries n (get_or mids at result) new more) c.line_at.ensures (m.moves tries)));
-            written = written_then g.W.Sink.written c.args.out.now c.lines.out c.tell.new.out c.args.outcome.now c.lines.outcome c.tell.new.outcome core happened more t.written m.written;
+            told = told_then g.N.Teller.takes c.args.teller.now c.lines.teller c.tell.new.teller c.args.outcome.now c.lines.outcome c.tell.new.outcome core happened more t.told m.told;
           });
     }
 

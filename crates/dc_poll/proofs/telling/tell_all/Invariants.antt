@@ -1,7 +1,6 @@
 use Rattle.std.proofs.Common.{◌≡◌, ◌≤◌, ◌+◌, ℕ, List, length}
-use Rattle.std.specs.List.{All}
 use Rattle.dc_concentrator.specs.Core.{Core}
-use Rattle.dc_io.specs.Stream.{Puts}
+use Rattle.dc_poll.specs.Telling.{TakesAll}
 use Rattle.dc_poll.specs.Happening.{Happening}
 use Rattle.dc_poll.specs.Round.{AllTells, Runs}
 use Rattle.dc_poll.specs.Station.{IsSound, rounds_of}
@@ -11,10 +10,10 @@ use Rattle.dc_poll.proofs.telling.tell_all.Given as goal
 
 abbrev pub invariant-lines : goal.invariant-lines
 invariant-lines g l = record {
-  well : g.W.Sink.put_failures l.out ≡ g.W.Sink.put_failures l.fn.out;
+  well : g.N.Teller.failures l.teller ≡ g.N.Teller.failures l.fn.teller;
   count : length l.stations ≡ length l.fn.stations;
   few : l.outcome.read + l.outcome.failed ≤ l.fn.outcome.read + l.fn.outcome.failed + l.at;
   becomes : Becomes (λ old new. (tries : ℕ) → (IsSound (whole g.B.HalfBus g.B.QuietBus) tries old → IsSound (whole g.B.HalfBus g.B.QuietBus) tries new)
       × (rounds_of (whole g.B.HalfBus g.B.QuietBus) 1 1 1 tries new ≤ rounds_of (whole g.B.HalfBus g.B.QuietBus) 1 1 0 tries old)) l.at l.fn.stations l.stations;
-  so_far : Runs g.D.Disk (λ (core : Core) (happened : List Happening). AllTells (whole g.B.HalfBus g.B.QuietBus) l.fn.stations l.stations (Puts (g.W.Sink.written l.fn.out) (g.W.Sink.written l.out)) l.fn.outcome l.outcome core happened) l.fn.concentrator l.fn.concentrator;
+  so_far : Runs g.D.Disk (λ (core : Core) (happened : List Happening). AllTells (whole g.B.HalfBus g.B.QuietBus) l.fn.stations l.stations (TakesAll g.N.Teller.takes l.fn.teller l.teller) l.fn.outcome l.outcome core happened) l.fn.concentrator l.fn.concentrator;
 }

@@ -1,0 +1,52 @@
+//! The events of a poll.
+
+use crate::end::Refusal;
+use dc_address::Identity;
+use dc_readout::Why;
+
+/// An event of a poll.
+#[derive(Clone, Copy, Debug, PartialEq, Eq)]
+pub enum Event {
+    /// A meter was read.
+    Read {
+        /// The meter.
+        meter: Identity,
+        /// The serial of its reading.
+        serial: u64,
+        /// Number of telegrams of the reading.
+        parts: u64,
+    },
+    /// The last try at a meter failed.
+    Failed {
+        /// The meter.
+        meter: Identity,
+        /// Why that try failed.
+        why: Why,
+    },
+    /// The readout of a meter was refused.
+    Refused {
+        /// The meter.
+        meter: Identity,
+        /// The call that refused, and its fault.
+        refusal: Refusal,
+    },
+    /// The bus of a line was lost.
+    Lost {
+        /// The line, from 1.
+        line: u8,
+    },
+    /// Late answers were dropped on a line.
+    Late {
+        /// The line, from 1.
+        line: u8,
+        /// How many, at least 1.
+        answers: u64,
+    },
+    /// The poll has ended.
+    End {
+        /// Number of meters that were read.
+        read: u64,
+        /// Number of meters that weren't read.
+        failed: u64,
+    },
+}

@@ -1,0 +1,22 @@
+//! What a poll prints: tellers of its events.
+//!
+//! [`TextTeller`] prints a line of text for each event, [`JsonTeller`] a JSON object (RFC 8259);
+//! `specs/Text.antt` and `specs/Object.antt` define them. [`Unfailing`] goes on without output
+//! where another teller fails. [`Progress`] shows a terminal how many meters are done with.
+#![tactic(auto)]
+
+mod json;
+mod laws;
+mod progress;
+mod tally;
+mod text;
+mod unfailing;
+
+pub use json::{JsonTeller, put_object};
+pub use laws::{
+    events_are_printed_as_json, events_are_printed_as_text, events_are_taken_up_to_a_failure,
+};
+pub use progress::{Progress, Shown};
+pub use tally::Tally;
+pub use text::{TextTeller, put_line};
+pub use unfailing::Unfailing;
