@@ -14,3 +14,5 @@ pub mod Exchanges
 pub mod Asked
 -- waiting for answers
 pub mod Halves
+-- silences in doubt
+pub mod Doubts

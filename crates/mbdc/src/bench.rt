@@ -30,7 +30,16 @@ where
         Ok(peer) => peer,
         Err(error) => return host.why.link(None, error),
     };
-    let mut bus = match quiet_bus(host.rt, &peer, patience) {
+    let ending = scan_over(host, &peer, what, patience);
+    peer.release(host.rt);
+    ending
+}
+
+fn scan_over<'a, R>(host: &Host<'_, R>, peer: &Peer<R>, what: Scan, patience: u16) -> Ending<'a>
+where
+    R: Clock + Copy + Print + AllocGlobal,
+{
+    let mut bus = match quiet_bus(host.rt, peer, patience) {
         Ok(bus) => bus,
         Err(error) => return host.why.link(None, error),
     };
@@ -64,7 +73,21 @@ where
         Ok(peer) => peer,
         Err(error) => return host.why.link(None, error),
     };
-    let mut bus = match quiet_bus(host.rt, &peer, patience) {
+    let ending = read_over(host, &peer, meter, patience);
+    peer.release(host.rt);
+    ending
+}
+
+fn read_over<'a, R>(
+    host: &Host<'_, R>,
+    peer: &Peer<R>,
+    meter: MeterName,
+    patience: u16,
+) -> Ending<'a>
+where
+    R: Clock + Copy + Print + AllocGlobal,
+{
+    let mut bus = match quiet_bus(host.rt, peer, patience) {
         Ok(bus) => bus,
         Err(error) => return host.why.link(None, error),
     };
