@@ -16,3 +16,5 @@ pub mod Asked
 pub mod Halves
 -- silences in doubt
 pub mod Doubts
+-- a bus that answers at once
+pub mod AtOnce

@@ -15,6 +15,7 @@ mod both;
 mod bus;
 mod half;
 mod late_search;
+mod laws;
 mod script_bus;
 
 pub use answer_buf::{AnswerBuf, MOST_ANSWER};
@@ -22,4 +23,5 @@ pub use both::{Both, Pause};
 pub use bus::{Bus, search_over};
 pub use half::{HalfBus, QuietBus};
 pub use late_search::search_late;
+pub use laws::where_answers_come_at_once_none_is_dropped;
 pub use script_bus::ScriptBus;
