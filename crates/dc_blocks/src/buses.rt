@@ -31,7 +31,7 @@ impl<R: Source + Drop, W: Sink + Drop> Bus for Gateway<R, W> {
 
 // Blocks mark the end of a gateway's answer, so none is late.
 impl<R: Source + Drop, W: Sink + Drop> ScriptBus for Gateway<R, W> {
-    ghost use Rattle.std.specs.Prelude.{refl};
+    ghost use Rattle.std.specs.Prelude.{◌≡◌, refl, true};
     ghost use Rattle.dc_blocks.specs.Silence.{gateway_is_silent};
 
     ghost ready = { λ _. true };

@@ -111,7 +111,7 @@ impl<'a> Bus for ListedBus<'a> {
 
 // A bus in memory answers at once.
 impl<'a> ScriptBus for ListedBus<'a> {
-    ghost use Rattle.std.specs.Prelude.{refl};
+    ghost use Rattle.std.specs.Prelude.{◌≡◌, refl, true};
     ghost use Rattle.dc_world.specs.NeverLost.{never_lost};
 
     ghost ready = { λ _. true };

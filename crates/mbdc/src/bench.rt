@@ -1,6 +1,6 @@
 //! The commands `scan` and `read`: one bus, without an image.
 
-use dc_bus::{Both, Bus, QuietBus};
+use dc_bus::{Both, Bus, QuietBus, ScriptBus};
 use dc_ending::{Ending, STREAM};
 use dc_files::{Host, Noted, Why};
 use dc_installer::{Readout, ScanFault, identify, read, scan, scan_primary};
@@ -52,8 +52,13 @@ where
         Scan::Wildcards(budget) => scan(host.rt.alloc(), budget, &mut bus, &mut writer),
         Scan::Primary => scan_primary(&mut bus, &mut writer).map_err(|_| ScanFault::Write),
     };
+    let ending = if bus.late() > 0 {
+        Ending::Faulty
+    } else {
+        Ending::Clean
+    };
     match found {
-        Ok(()) => end_of(host.why, &bus, writer, Ending::Clean),
+        Ok(()) => end_of(host.why, &bus, writer, ending),
         Err(ScanFault::Write) => Ending::File(STREAM),
         Err(ScanFault::NoMemory) => Ending::Memory,
     }
