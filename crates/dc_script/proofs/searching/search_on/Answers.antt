@@ -47,6 +47,6 @@ returns-in-Err-clause-went g c origin state before chain at =
     record {
       turns = (commits, one.answer) ∷ [];
       are_such = subst (λ (a : Answer). Comes meters c.args.port c.args.budget late link link talked wrote c.written-in-Err.result ((commits, a) ∷ [])) (sym is)
-          (refused_halts meters c.args.port c.args.budget late talked wrote link c.put_committed.result c.written-in-Err.result c.in-Err.fault refl c.written-in-Err.ensures c.put_committed.ensures.0);
+          (refused_halts meters c.args.port c.args.budget late talked wrote link c.put_committed.result c.written-in-Err.result c.in-Err.fault (inl (refl, refl)) c.written-in-Err.ensures c.put_committed.ensures.0);
       went = one.went;
     }
