@@ -1,7 +1,6 @@
 -- The effect of a script's request on its link (this product).
 use Rattle.std.specs.Prelude.{◌≡◌, ◌||◌, ℕ, Bool, true, false, List, [], Option, None, Some}
 use Rattle.std.proofs.Common.{ap, subst}
-use Rattle.dc_address.specs.declared.identity.Identity.{Identity}
 use Rattle.dc_bus.specs.Both.{BothAsk}
 use Rattle.dc_bus.specs.declared.half.HalfBus.{Ghosts as HalfGhosts}
 use Rattle.dc_links.specs.declared.script.ScriptLink.{ScriptLink}
@@ -26,6 +25,6 @@ IsNone None = Unit {0}
 IsNone (Some x) = ⊥
 
 -- no meters are stated
-pub never_listed : {P : Type 0} (told : List Identity) → None ≡ Some told → P
+pub never_listed : {X P : Type 0} (told : X) → None ≡ Some told → P
 unfolding IsNone
 never_listed told is = absurd (subst IsNone is tt)
