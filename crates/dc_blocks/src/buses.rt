@@ -31,6 +31,7 @@ impl<R: Source + Drop, W: Sink + Drop> Bus for Gateway<R, W> {
 
 // Blocks mark the end of a gateway's answer, so none is late.
 impl<R: Source + Drop, W: Sink + Drop> ScriptBus for Gateway<R, W> {
+    ghost use Rattle.std.specs.Prelude.{◌≡◌, refl, true};
     ghost use Rattle.dc_blocks.specs.Silence.{gateway_is_silent};
 
     ghost ready = { λ _. true };
@@ -39,7 +40,15 @@ impl<R: Source + Drop, W: Sink + Drop> ScriptBus for Gateway<R, W> {
 
     ghost late = { λ _. 0 };
 
+    ghost listed = { λ gateway told is. refl };
+
+    ghost ended = { λ gateway is. refl };
+
     ghost silent = { gateway_is_silent R.Source W.Sink };
+
+    fn is_ready(&self) -> bool {
+        true
+    }
 
     fn settle(&mut self) {}
 

@@ -11,12 +11,12 @@ use Rattle.dc_bus.proofs.Exchanges.{exchanged-both, exchanged-one}
 abbrev pub IsNext : SearchState → List ℕ → Type 0
 IsNext s request = option_map spelling (request_by (step_of s)) ≡ Some request
 
-asked_by-push : (first s : SearchState) (exchanges : List Exchange) (request answer : List ℕ) → AreAskedBy first exchanges s → IsNext s request
+pub asked_by-push : (first s : SearchState) (exchanges : List Exchange) (request answer : List ℕ) → AreAskedBy first exchanges s → IsNext s request
     → AreAskedBy first (exchanges ++ record { request = request; answer = answer } ∷ []) (after answer s)
 asked_by-push first s [] request answer same next = let P : SearchState → Type 0 = λ t. AreAskedBy t (record { request = request; answer = answer } ∷ []) (after answer s) in subst P same (next, refl)
 asked_by-push first s (e ∷ more) request answer so next = (so.0, asked_by-push (after e.answer first) s more request answer so.1 next)
 
-heard_by : (first last : SearchState) (exchanges : List Exchange) → AreAskedBy first exchanges last → last ≡ heard_all (map (λ (e : Exchange). e.answer) exchanges) first
+pub heard_by : (first last : SearchState) (exchanges : List Exchange) → AreAskedBy first exchanges last → last ≡ heard_all (map (λ (e : Exchange). e.answer) exchanges) first
 heard_by first last [] same = same
 heard_by first last (e ∷ more) so = heard_by (after e.answer first) last more so.1
 

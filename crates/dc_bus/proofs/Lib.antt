@@ -14,3 +14,7 @@ pub mod Exchanges
 pub mod Asked
 -- waiting for answers
 pub mod Halves
+-- silences in doubt
+pub mod Doubts
+-- a bus that answers at once
+pub mod AtOnce

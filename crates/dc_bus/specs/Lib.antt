@@ -8,3 +8,5 @@ pub mod Bus
 pub mod Halves
 -- a whole bus over its two halves
 pub mod Both
+-- a search on a bus whose answers may be late
+pub mod Late

@@ -1,6 +1,7 @@
 //! A bus of a script, on which answers may come late.
 
-ghost use Rattle.std.specs.Prelude.{◌≡◌, ℕ, Bool, true, List, []};
+ghost use Rattle.std.specs.Prelude.{◌≡◌, ℕ, Bool, true, List, [], Some};
+ghost use Rattle.dc_address.specs.declared.identity.Identity.{Identity as Meter};
 
 use crate::bus::Bus;
 
@@ -15,6 +16,10 @@ pub trait ScriptBus: Bus {
     // Number of late answers that were dropped.
     ghost late: { Self → ℕ };
 
+    /// Whether no answer is under way.
+    fn is_ready(&self) -> bool
+        ensures { result ≡ ready self.now };
+
     /// Waits until no answer is under way, or the bus is lost. A lost bus isn't touched.
     fn settle(&mut self)
         ensures step { settles self.old self.new }
@@ -25,6 +30,12 @@ pub trait ScriptBus: Bus {
     /// Number of late answers that were dropped.
     fn late(&self) -> u64
         ensures { result ≡ late self.now };
+
+    // A bus that states its meters answers at once, and so does a lost one.
+    ghost listed: { (bus : Self) (told : List Meter) → Self.meters bus ≡ Some told
+        → ready bus ≡ true };
+
+    ghost ended: { (bus : Self) → Self.lost bus ≡ true → ready bus ≡ true };
 
     // If the bus is lost over a request, the answer is silence.
     ghost silent: { (old new : Self) (request answer : List ℕ)

@@ -3,7 +3,8 @@ use Rattle.std.specs.Prelude.{◌≡◌, ℕ, ◌-◌, ◌≤◌, Bool, true, fa
 use Rattle.std.specs.Prelude.{IsTrue, List, [], ◌∷◌, ◌++◌, codes, Option, None, Some, IfSome}
 use Rattle.dc_address.specs.Text.{text_of}
 use Rattle.dc_address.specs.declared.identity.Identity.{Identity}
-use Rattle.dc_bus.specs.Bus.{Exchange, HasAsked, IsSearched}
+use Rattle.dc_bus.specs.Bus.{Exchange, IsSearched}
+use Rattle.dc_bus.specs.Late.{Sought}
 use Rattle.dc_frame.specs.Control.{request_to, reset_to}
 use Rattle.dc_frame.specs.Frame.{FrameSeen, ack, short, long, spelling}
 use Rattle.dc_frame.specs.Reading.{frame_of}
@@ -12,15 +13,12 @@ use Rattle.dc_search.specs.Answer.{answer_of}
 use Rattle.dc_search.specs.State.{SearchState, is_idle, step_of}
 use Rattle.dc_io.specs.Words.{number_word}
 
--- A wildcard search that ended within its budget: the bus settled before it, and its requests are all that went out.
+-- A wildcard search that ended within its budget, on a bus that settled before it.
 pub record IsLook {B : Type 0} (settles : B → B → Type 0) (ready : B → Bool)
     (asks : B → List ℕ → List ℕ → B → Type 0)
     (meters : B → Option (List Identity)) (budget : ℕ) (old new : B)
     (search : SearchState) : Type 0 where
-  pub between : B
-  pub settled : settles old between
-  pub quiet : ready between ≡ true
-  pub asked : HasAsked asks budget between new search
+  pub sought : Sought asks settles ready budget old new search
   pub ended : IsTrue (is_idle (step_of search))
   pub within : search.selections ≤ budget
   pub walk : IfSome (meters old) (λ known. IsSearched known budget search)

@@ -7,7 +7,7 @@ ghost use Rattle.dc_search.specs.Found.{greatest_budget};
 ghost use Rattle.dc_search.specs.Found.{search_text, search_text_after};
 ghost use Rattle.dc_installer.specs.Scan.{IsLook, Scanned, finds_nobody, is_enough};
 
-use dc_bus::{ScriptBus, search_over};
+use dc_bus::{ScriptBus, search_late};
 use dc_io::{IoFault, NoMemory, Sink};
 use dc_search::{Search, put_search, put_search_after};
 use std::alloc::Allocator;
@@ -27,7 +27,7 @@ pub enum ScanFault {
 /// Searches a bus for meters by wildcards (EN 13757-3), with at most `budget` selections, and prints what it found:
 /// each meter, each number that more than one meter has, whether the budget was spent, and the number of selections.
 ///
-/// The bus settles first, so that no late answer is taken for one to the search. If the search
+/// The bus settles first, and what was met by silence is selected again where a late answer shows. If the search
 /// finds no meter and budget is left, the bus settles again and is searched once more, since a late
 /// answer hides a meter. Then the text is that of the second search, with the selections of both.
 ///
@@ -68,8 +68,7 @@ fn look<A: Allocator + Copy, B: ScriptBus>(
     ensures { IfOk result (λ search.
         IsLook B.settles B.ready B.asks B.meters budget bus.old bus.new search) }
 {
-    bus.settle();
-    search_over(alloc, budget, bus)
+    search_late(alloc, budget, bus)
 }
 
 // Whether a meter or a shared number was found, or the budget is spent.

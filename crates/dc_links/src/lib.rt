@@ -7,9 +7,11 @@
 
 mod bus;
 mod connection;
+mod lock_file;
 mod peer;
 mod script;
 mod socket;
+mod terminal;
 mod waiting;
 
 pub use bus::LinkBus;
@@ -17,4 +19,5 @@ pub use connection::{Connection, Ends};
 pub use peer::{BlockBus, ByteBus, Peer, RawBus, SystemBus};
 pub use script::ScriptLink;
 pub use socket::{Tcp, Terminal};
+pub use terminal::Held;
 pub use waiting::{Waiter, Watch};

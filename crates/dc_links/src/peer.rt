@@ -3,14 +3,14 @@
 use crate::bus::LinkBus;
 use crate::connection::{Connection, connect};
 use crate::socket::{Tcp, Terminal};
+use crate::terminal::Held;
 use dc_blocks::{BlockLink, Gateway};
 use dc_io::{ReadSource, WriteSink};
 use dc_raw::{Line, PollWire};
 use dc_steady::Steady;
 use dc_words::LinkName;
-use std::fs::{File, OpenOptions};
+use std::fs::File;
 use std::io;
-use std::io::{ErrorKind, IsTerminal};
 use std::net::{Net, TcpStream};
 use std::rt::{Clock, Files};
 use std::time::Duration;
@@ -23,8 +23,8 @@ const WRITING: u64 = 15;
 pub enum Peer<C: Clock + Copy> {
     /// A TCP stream that passes the bytes of the bus on.
     Tcp(TcpStream),
-    /// A terminal that passes the bytes of the bus on, set up by `stty`.
-    Serial(File),
+    /// A terminal that passes the bytes of the bus on, set up by `stty`, which this program alone uses.
+    Serial(Held),
     /// A gateway that speaks the block protocol.
     Blocks(Connection<C>),
 }
@@ -45,11 +45,11 @@ impl<C: Clock + Copy> Peer<C> {
     /// Connects a link by its name.
     ///
     /// # Errors
-    /// The host isn't found or doesn't accept the connection within 10 s, or the terminal can't be
-    /// opened.
+    /// The host isn't found or doesn't accept the connection within 10 s; the terminal can't be
+    /// opened, or another program uses it; or out of memory.
     pub fn connect(rt: &C, name: &LinkName<'_>) -> io::Result<Peer<C>>
     where
-        C: Files<File = File> + Net<Stream = TcpStream>,
+        C: Files<File = File> + Net<Stream = TcpStream> + AllocGlobal,
     {
         match *name {
             LinkName::Tcp(place) => {
@@ -58,7 +58,7 @@ impl<C: Clock + Copy> Peer<C> {
                 stream.set_write_timeout(Some(Duration::from_secs(WRITING)))?;
                 Ok(Peer::Tcp(stream))
             }
-            LinkName::Serial(path) => Ok(Peer::Serial(open_terminal(rt, path)?)),
+            LinkName::Serial(path) => Ok(Peer::Serial(Held::open(rt, path)?)),
             LinkName::Blocks(place) => Ok(Peer::Blocks(Connection::new(rt, place)?)),
         }
     }
@@ -73,8 +73,8 @@ impl<C: Clock + Copy> Peer<C> {
                 let wire = PollWire::new(Tcp { stream }, clock, patience)?;
                 Ok(LinkBus::First(LinkBus::First(Steady::new(Line::new(wire)))))
             }
-            Peer::Serial(file) => {
-                let wire = PollWire::new(Terminal { file }, clock, patience)?;
+            Peer::Serial(held) => {
+                let wire = PollWire::new(Terminal { file: &held.file }, clock, patience)?;
                 Ok(LinkBus::First(LinkBus::Second(Steady::new(Line::new(wire)))))
             }
             Peer::Blocks(connection) => {
@@ -83,15 +83,14 @@ impl<C: Clock + Copy> Peer<C> {
             }
         }
     }
-}
 
-// A file that is no terminal has no meters: writing to it would lose the bytes or damage the file.
-fn open_terminal<R: Files<File = File>>(rt: &R, path: &str) -> io::Result<File> {
-    let mut options = OpenOptions::new();
-    options.read(true).write(true);
-    let file = options.open(rt, path)?;
-    if file.is_terminal() {
-        return Ok(file);
+    /// Gives a terminal back to other programs, at the end of this one.
+    pub fn release(&self, rt: &C)
+    where
+        C: Files<File = File>,
+    {
+        if let Peer::Serial(held) = self {
+            held.release(rt);
+        }
     }
-    Err(io::Error::new(ErrorKind::InvalidInput, "it is no terminal"))
 }

@@ -44,6 +44,7 @@ impl<B: QuietBus + Drop, P: Pause<B> + Drop> Bus for ScriptLink<B, P> {
 
 impl<B: QuietBus + Drop, P: Pause<B> + Drop> ScriptBus for ScriptLink<B, P> {
     ghost use Rattle.std.specs.Prelude.{◌||◌, ⊤};
+    ghost use Rattle.dc_links.specs.Script.{lost_is_ready, never_listed};
 
     ghost ready = { λ link. B.lost link.both.bus || B.ready link.both.bus };
 
@@ -51,7 +52,16 @@ impl<B: QuietBus + Drop, P: Pause<B> + Drop> ScriptBus for ScriptLink<B, P> {
 
     ghost late = { λ link. B.late link.both.bus };
 
+    ghost listed = { λ link told is. never_listed told is };
+
+    ghost ended = { λ link is. lost_is_ready (B.lost link.both.bus) (B.ready link.both.bus) is };
+
     ghost silent = { λ old new request answer asked. asked.silence };
+
+    fn is_ready(&self) -> bool {
+        let lost = self.both.is_lost();
+        lost || self.both.bus.is_ready()
+    }
 
     fn settle(&mut self) {
         if !self.both.is_lost() {

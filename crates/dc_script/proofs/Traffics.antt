@@ -2,12 +2,12 @@
 use Rattle.std.proofs.Common.{◌≡◌, ◌⊎◌, ◌<◌, ℕ, zero, suc, Bool, true, Result, Ok, Err, Option, None, Some, List, [], ◌∷◌, ◌++◌, length, get_or, set, refl, ap, sym, subst, ◌∙◌, arith, ⊎_elim}
 use Rattle.std.specs.Prelude.{IfOk}
 use Rattle.std.proofs.lemmas.List.{get_or-set_same, get_or-set_other}
-use Rattle.dc_bus.specs.Bus.{AreExchanged, Exchange}
+use Rattle.dc_bus.specs.Bus.{Exchange}
 use Rattle.dc_script.specs.Link.{LineLink}
 use Rattle.dc_script.specs.Poll.{IsPolled}
 use Rattle.dc_script.specs.Script.{Deed, AreDone, traffic_of, moment_behind}
 use Rattle.dc_script.specs.ScriptLine.{LineSeen}
-use Rattle.dc_script.specs.Traffic.{AreCarried, Carries, CarriesAll, GoesOver, IsCarried, OnNamed, PollsOver, SearchesOver, Traffic}
+use Rattle.dc_script.specs.Traffic.{AreCarried, Carries, CarriesAll, GoesOver, IsCarried, IsSearchedFor, OnNamed, PollsOver, SearchesOver, Traffic}
 use Rattle.dc_script.specs.declared.slot.Slot.{Slot}
 use Rattle.dc_script.proofs.Lines.{get_any}
 
@@ -73,9 +73,9 @@ module _ {B : Type 0} (lost : B → Bool) (asks : B → List ℕ → List ℕ �
   polls_over line exchanges old slot bus is so untouched =
       goes_over lost (λ is_gateway before after. IsPolled settles ready asks (record { line = line; is_gateway = is_gateway }) before exchanges after) old slot bus is so untouched
 
-  pub searches_over : (exchanges : List Exchange) (old : Option (Slot B)) (slot : Slot B) (bus : B) → old ≡ Some slot → AreExchanged asks slot.bus exchanges bus → (lost slot.bus ≡ true → bus ≡ slot.bus)
-      → SearchesOver lost asks exchanges old (Some (record { bus = bus; is_gateway = slot.is_gateway }))
-  searches_over exchanges old slot bus is so untouched = goes_over lost (λ is_gateway before after. AreExchanged asks before exchanges after) old slot bus is so untouched
+  pub searches_over : (exchanges : List Exchange) (old : Option (Slot B)) (slot : Slot B) (bus : B) → old ≡ Some slot → IsSearchedFor asks settles ready slot.bus exchanges bus → (lost slot.bus ≡ true → bus ≡ slot.bus)
+      → SearchesOver lost asks settles ready exchanges old (Some (record { bus = bus; is_gateway = slot.is_gateway }))
+  searches_over exchanges old slot bus is so untouched = goes_over lost (λ is_gateway before after. IsSearchedFor asks settles ready before exchanges after) old slot bus is so untouched
 
   -- ---- the lines of a script
 

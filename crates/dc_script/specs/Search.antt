@@ -12,6 +12,7 @@ use Rattle.dc_concentrator.specs.Transcript.{Turn}
 use Rattle.dc_concentrator.specs.declared.fault.CommitFault.{CommitFault}
 use Rattle.dc_concentrator.specs.declared.fault.StartFault.TheVariants.{Busy}
 use Rattle.dc_bus.specs.Bus.{AreAskedBy, Exchange, IsSearched}
+use Rattle.dc_search.specs.Found.{search_text}
 use Rattle.dc_search.specs.State.{SearchState, is_idle, new_search, step_of}
 use Rattle.dc_search.specs.declared.step.Step.{Step}
 use Rattle.dc_search.specs.declared.step.Step.TheVariants.{Select, Request, Done, Budget}

@@ -1,8 +1,9 @@
 -- What goes over the buses of a script's lines (this product).
-use Rattle.std.specs.Prelude.{◌≡◌, ℕ, suc, Bool, true, false, Option, None, Some, List, [], ◌∷◌}
+use Rattle.std.specs.Prelude.{◌≡◌, ◌⊎◌, ℕ, suc, Bool, true, false, Option, None, Some, List, [], ◌∷◌}
 use Rattle.std.specs.Prelude.{get_or}
 use Rattle.dc_blocks.specs.Asking.{Asks}
-use Rattle.dc_bus.specs.Bus.{AreExchanged, Exchange}
+use Rattle.dc_bus.specs.Bus.{Exchange}
+use Rattle.dc_bus.specs.Late.{HeardQuietly}
 use Rattle.dc_blocks.specs.declared.gateway.Gateway.{Gateway}
 use Rattle.dc_io.specs.declared.stream.Sink.{Ghosts as SinkGhosts}
 use Rattle.dc_io.specs.declared.stream.Source.{Ghosts as SourceGhosts}
@@ -40,11 +41,19 @@ PollsOver lost asks settles ready line exchanges =
     IsPolled settles ready asks (record { line = line; is_gateway = is_gateway }) before
     exchanges after)
 
--- A SEARCH of a line: these exchanges are all that happens to its bus.
+-- Nothing happened to a bus; or it settled, and then a search took these exchanges, and dropped others
+-- while an answer may have been under way.
+abbrev pub IsSearchedFor : {B : Type 0} → (B → List ℕ → List ℕ → B → Type 0) → (B → B → Type 0)
+    → (B → Bool) → B → List Exchange → B → Type 0
+IsSearchedFor asks settles ready before exchanges after =
+    ((exchanges ≡ []) × (after ≡ before))
+    ⊎ HeardQuietly asks settles ready before exchanges after
+
+-- A SEARCH of a line: a refused one does nothing to its bus.
 abbrev pub SearchesOver : {B : Type 0} → (B → Bool) → (B → List ℕ → List ℕ → B → Type 0)
-    → List Exchange → Option (Slot B) → Option (Slot B) → Type 0
-SearchesOver lost asks exchanges =
-    GoesOver lost (λ is_gateway before after. AreExchanged asks before exchanges after)
+    → (B → B → Type 0) → (B → Bool) → List Exchange → Option (Slot B) → Option (Slot B) → Type 0
+SearchesOver lost asks settles ready exchanges =
+    GoesOver lost (λ is_gateway before after. IsSearchedFor asks settles ready before exchanges after)
 
 -- the line that is named goes on like that, and any other stays as it is
 abbrev pub OnNamed : {B : Type 0} → (Option (Slot B) → Option (Slot B) → Type 0) → ℕ → ℕ
@@ -65,7 +74,7 @@ Carries lost asks settles ready line (office text) exchanges old new = new ≡ o
 Carries lost asks settles ready line (poll named meter) exchanges old new =
     OnNamed (PollsOver lost asks settles ready named exchanges) named line old new
 Carries lost asks settles ready line (search budget named) exchanges old new =
-    OnNamed (SearchesOver lost asks exchanges) named line old new
+    OnNamed (SearchesOver lost asks settles ready exchanges) named line old new
 
 -- and some lines of a script, one after the other
 abbrev pub CarriesAll : {B : Type 0} → (B → Bool) → (B → List ℕ → List ℕ → B → Type 0)

@@ -292,21 +292,21 @@ fn search_slot<D: Disk + Drop, A: Allocator + Copy, B: ScriptBus + Drop, W: Sink
         OnOk result (LineRan D.Disk origin concentrator.old.house.budget state before moment
         (searches budget line) links (with_link links line (line_of B.lost slot.new).link)
         (PutsInto W.Sink out.old out.new)
-        (λ exchanges. SearchesOver B.lost B.asks exchanges slot.old slot.new) concentrator.old
-        concentrator.new)) }
+        (λ exchanges. SearchesOver B.lost B.asks B.settles B.ready exchanges slot.old slot.new)
+        concentrator.old concentrator.new)) }
     ensures cut { (links : List LineLink) (moment : ℕ)
         → line_in links line ≡ line_of B.lost slot.old
         → BehindAnyRun D.Disk concentrator.old (λ origin state before.
         OnWrite result (LineCut D.Disk origin concentrator.old.house.budget state before moment
-        (searches budget line) links (λ exchanges.
-        SearchesOver B.lost B.asks exchanges slot.old slot.new) concentrator.old
-        concentrator.new)) }
+        (searches budget line) links
+        (λ exchanges. SearchesOver B.lost B.asks B.settles B.ready exchanges slot.old slot.new)
+        concentrator.old concentrator.new)) }
     ensures starved { (links : List LineLink) → line_in links line ≡ line_of B.lost slot.old
         → BehindAnyRun D.Disk concentrator.old (λ origin state before.
         OnNoMemory result (LineStarved D.Disk origin concentrator.old.house.budget state before
         (searches budget line) links (PutsInto W.Sink out.old out.new)
-        (λ exchanges. SearchesOver B.lost B.asks exchanges slot.old slot.new) concentrator.old
-        concentrator.new)) }
+        (λ exchanges. SearchesOver B.lost B.asks B.settles B.ready exchanges slot.old slot.new)
+        concentrator.old concentrator.new)) }
     ensures through { OnNoMemory result (¬ ((line_of B.lost slot.old).link ≡ absent)) }
     ensures kept { IsKept B.lost slot.old slot.new }
     ensures counted { IsCounted result (W.put_failures out.old) (W.put_failures out.new) }

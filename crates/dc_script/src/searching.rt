@@ -1,11 +1,11 @@
 //! `SEARCH`: searches for meters over a bus line.
 
 ghost use Rattle.std.specs.Prelude.{◌≡◌, ◌++◌, true};
-ghost use Rattle.dc_bus.specs.Bus.{AreExchanged};
 ghost use Rattle.dc_io.specs.Written.{PutsInto, Wrote};
 ghost use Rattle.dc_script.specs.Halt.{IsCounted};
 ghost use Rattle.dc_script.specs.Link.{gateway_port, link_by};
 ghost use Rattle.dc_script.specs.Search.{Comes, Talked, late_by, late_text};
+ghost use Rattle.dc_script.specs.Traffic.{IsSearchedFor};
 ghost use Rattle.dc_search.specs.Found.{search_text};
 ghost use Rattle.dc_concentrator.specs.Went.{BehindAnyRun, TurnsWent};
 
@@ -13,7 +13,7 @@ use crate::halt::{Halt, written};
 use crate::late::put_late;
 use crate::port::{GATEWAY, Port, put_loss};
 use crate::quiet::{quiet_ask, quiet_commit};
-use dc_bus::{ScriptBus, search_over};
+use dc_bus::{ScriptBus, search_late};
 use dc_concentrator::{Concentrator, StartFault, put_committed, put_started};
 use dc_disk::Disk;
 use dc_io::{IoFault, NoMemory, Sink};
@@ -22,7 +22,8 @@ use std::alloc::Allocator;
 
 /// Searches for meters over a bus, with at most `budget` selections. The pending changes are
 /// committed first, and while a readout of the bus's line is pending nothing is selected, since a
-/// selection would restart that readout.
+/// selection would restart that readout. Else the bus settles first, and what was met by silence is
+/// selected again where a late answer shows.
 pub fn search<D: Disk + Drop, A: Allocator + Copy, B: ScriptBus, W: Sink>(
     alloc: A,
     concentrator: &mut Concentrator<D, A>,
@@ -35,7 +36,7 @@ pub fn search<D: Disk + Drop, A: Allocator + Copy, B: ScriptBus, W: Sink>(
         (Comes (B.meters bus.old) gateway_port budget
         (late_by gateway_port.is_gateway (B.late bus.old) (B.late bus.new))
         (link_by (B.lost bus.old)) (link_by (B.lost bus.new))
-        (λ exchanges. AreExchanged B.asks bus.old exchanges bus.new)
+        (λ exchanges. IsSearchedFor B.asks B.settles B.ready bus.old exchanges bus.new)
         (PutsInto W.Sink out.old out.new) result) concentrator.old
         concentrator.new) }
     ensures counted { IsCounted result (W.put_failures out.old) (W.put_failures out.new) }
@@ -59,7 +60,7 @@ pub fn search_on<D: Disk + Drop, A: Allocator + Copy, B: ScriptBus, W: Sink>(
         (Comes (B.meters bus.old) port budget
         (late_by port.is_gateway (B.late bus.old) (B.late bus.new)) (link_by (B.lost bus.old))
         (link_by (B.lost bus.new))
-        (λ exchanges. AreExchanged B.asks bus.old exchanges bus.new)
+        (λ exchanges. IsSearchedFor B.asks B.settles B.ready bus.old exchanges bus.new)
         (PutsInto W.Sink out.old out.new) result) concentrator.old
         concentrator.new) }
     ensures counted { IsCounted result (W.put_failures out.old) (W.put_failures out.new) }
@@ -87,14 +88,14 @@ fn search_bus<A: Allocator + Copy, B: ScriptBus, W: Sink>(
     ensures talked { Talked (B.meters bus.old) port budget
         (late_by port.is_gateway (B.late bus.old) (B.late bus.new))
         (link_by (B.lost bus.old)) (link_by (B.lost bus.new))
-        (λ exchanges. AreExchanged B.asks bus.old exchanges bus.new)
+        (λ exchanges. IsSearchedFor B.asks B.settles B.ready bus.old exchanges bus.new)
         (PutsInto W.Sink out.old out.new) result }
     ensures counted { IsCounted result (W.put_failures out.old) (W.put_failures out.new) }
     ensures untouched { B.lost bus.old ≡ true → bus.new ≡ bus.old }
 {
     let was_lost = bus.is_lost();
     let before = bus.late();
-    let searched = search_over(alloc, budget, bus);
+    let searched = search_late(alloc, budget, bus);
     match put_loss(port, was_lost, bus.is_lost(), out) {
         Ok(()) => match searched {
             Ok(search) => written(put_found_late(

@@ -26,6 +26,7 @@ mod search;
 mod step;
 
 pub use answer::meter_of;
+pub use branch::Branch;
 pub use bus::sweep;
 pub use fault::SearchFault;
 pub use found::{put_search, put_search_after};

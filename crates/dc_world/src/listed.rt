@@ -111,6 +111,7 @@ impl<'a> Bus for ListedBus<'a> {
 
 // A bus in memory answers at once.
 impl<'a> ScriptBus for ListedBus<'a> {
+    ghost use Rattle.std.specs.Prelude.{◌≡◌, refl, true};
     ghost use Rattle.dc_world.specs.NeverLost.{never_lost};
 
     ghost ready = { λ _. true };
@@ -119,7 +120,15 @@ impl<'a> ScriptBus for ListedBus<'a> {
 
     ghost late = { λ _. 0 };
 
+    ghost listed = { λ bus told is. refl };
+
+    ghost ended = { λ bus is. refl };
+
     ghost silent = { λ old new request answer asked is_lost. never_lost answer is_lost };
+
+    fn is_ready(&self) -> bool {
+        true
+    }
 
     fn settle(&mut self) {}
 

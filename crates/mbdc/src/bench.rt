@@ -1,6 +1,6 @@
 //! The commands `scan` and `read`: one bus, without an image.
 
-use dc_bus::{Both, Bus, QuietBus};
+use dc_bus::{Both, Bus, QuietBus, ScriptBus};
 use dc_ending::{Ending, STREAM};
 use dc_files::{Host, Noted, Why};
 use dc_installer::{Readout, ScanFault, identify, read, scan, scan_primary};
@@ -30,7 +30,16 @@ where
         Ok(peer) => peer,
         Err(error) => return host.why.link(None, error),
     };
-    let mut bus = match quiet_bus(host.rt, &peer, patience) {
+    let ending = scan_over(host, &peer, what, patience);
+    peer.release(host.rt);
+    ending
+}
+
+fn scan_over<'a, R>(host: &Host<'_, R>, peer: &Peer<R>, what: Scan, patience: u16) -> Ending<'a>
+where
+    R: Clock + Copy + Print + AllocGlobal,
+{
+    let mut bus = match quiet_bus(host.rt, peer, patience) {
         Ok(bus) => bus,
         Err(error) => return host.why.link(None, error),
     };
@@ -43,8 +52,13 @@ where
         Scan::Wildcards(budget) => scan(host.rt.alloc(), budget, &mut bus, &mut writer),
         Scan::Primary => scan_primary(&mut bus, &mut writer).map_err(|_| ScanFault::Write),
     };
+    let ending = if bus.late() > 0 {
+        Ending::Faulty
+    } else {
+        Ending::Clean
+    };
     match found {
-        Ok(()) => end_of(host.why, &bus, writer, Ending::Clean),
+        Ok(()) => end_of(host.why, &bus, writer, ending),
         Err(ScanFault::Write) => Ending::File(STREAM),
         Err(ScanFault::NoMemory) => Ending::Memory,
     }
@@ -64,7 +78,21 @@ where
         Ok(peer) => peer,
         Err(error) => return host.why.link(None, error),
     };
-    let mut bus = match quiet_bus(host.rt, &peer, patience) {
+    let ending = read_over(host, &peer, meter, patience);
+    peer.release(host.rt);
+    ending
+}
+
+fn read_over<'a, R>(
+    host: &Host<'_, R>,
+    peer: &Peer<R>,
+    meter: MeterName,
+    patience: u16,
+) -> Ending<'a>
+where
+    R: Clock + Copy + Print + AllocGlobal,
+{
+    let mut bus = match quiet_bus(host.rt, peer, patience) {
         Ok(bus) => bus,
         Err(error) => return host.why.link(None, error),
     };

@@ -26,7 +26,10 @@ where
         let peer = match link {
             Some(name) => match Peer::connect(host.rt, name) {
                 Ok(peer) => Some(peer),
-                Err(error) => return Err(host.why.link(Some(line), error)),
+                Err(error) => {
+                    release_all(host.rt, peers.as_slice());
+                    return Err(host.why.link(Some(line), error));
+                }
             },
             None => None,
         };
@@ -35,4 +38,16 @@ where
         }
     }
     Ok(peers)
+}
+
+/// Gives the terminals of links back to other programs, at the end of the command.
+pub fn release_all<R>(rt: &R, peers: &[Option<Peer<R>>])
+where
+    R: Files<File = File> + Clock + Copy,
+{
+    for peer in peers {
+        if let Some(peer) = peer {
+            peer.release(rt);
+        }
+    }
 }

@@ -2,6 +2,7 @@
 
 ghost use Rattle.std.specs.Prelude.{◌<◌};
 
+use crate::connecting::release_all;
 use crate::reaching::reach_all;
 use dc_bus::QuietBus;
 use dc_change::Moment;
@@ -105,7 +106,23 @@ where
         Ok(peers) => peers,
         Err(ending) => return ending,
     };
-    let buses = match buses_of(host, peers.as_slice(), task.patience) {
+    let ending = poll_over(host, disk, peers.as_slice(), task);
+    release_all(host.rt, peers.as_slice());
+    ending
+}
+
+// Reads the meters over connected links.
+fn poll_over<'a, D, R>(
+    host: &Host<'_, R>,
+    disk: FileDisk<D>,
+    peers: &[Option<Peer<R>>],
+    task: &PollTask<'a>,
+) -> Ending<'a>
+where
+    D: FileExt + OpenFile + Drop,
+    R: Clock + Copy + Print + Eprint + AllocGlobal,
+{
+    let buses = match buses_of(host, peers, task.patience) {
         Ok(buses) => buses,
         Err(ending) => return ending,
     };

@@ -1,6 +1,6 @@
 //! The command `run`: a script over an image in a file.
 
-use crate::connecting::connect_all;
+use crate::connecting::{connect_all, release_all};
 use crate::tasks::ended;
 use dc_bus::Both;
 use dc_disk::FileDisk;
@@ -84,7 +84,25 @@ where
         Ok(peers) => peers,
         Err(ending) => return ending,
     };
-    let mut slots = match slots_of(host, &peers, task.patience) {
+    let ending = run_over_peers(host, disk, lines, peers.as_slice(), task);
+    release_all(host.rt, peers.as_slice());
+    ending
+}
+
+// Runs the lines of a file over a disk, with connected links.
+fn run_over_peers<'a, F, D, R>(
+    host: &Host<'_, R>,
+    disk: FileDisk<D>,
+    lines: F,
+    peers: &[Option<Peer<R>>],
+    task: &RunTask<'a>,
+) -> Ending<'a>
+where
+    F: Read + Drop,
+    D: FileExt + OpenFile + Drop,
+    R: Clock + Copy + Print + AllocGlobal,
+{
+    let mut slots = match slots_of(host, peers, task.patience) {
         Ok(slots) => slots,
         Err(ending) => return ending,
     };

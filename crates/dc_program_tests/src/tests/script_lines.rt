@@ -43,7 +43,7 @@ impl Bus for Wired {
 }
 
 impl ScriptBus for Wired {
-    ghost use Rattle.std.specs.Prelude.{⊤, true};
+    ghost use Rattle.std.specs.Prelude.{⊤, refl, true};
 
     ghost ready = { λ _. true };
 
@@ -51,7 +51,15 @@ impl ScriptBus for Wired {
 
     ghost late = { λ bus. bus.late };
 
+    ghost listed = { λ bus told is. refl };
+
+    ghost ended = { λ bus is. refl };
+
     ghost silent = { λ old new request answer asked. asked };
+
+    fn is_ready(&self) -> bool {
+        true
+    }
 
     fn settle(&mut self) {
         if self.ends.is_lost() {

@@ -1,0 +1,44 @@
+use Rattle.std.proofs.Common.{◌≡◌, true, false, List, [], Some, None, refl, ap, sym, subst, ◌∙◌}
+use Rattle.std.specs.Prelude.{OnOk, option_map}
+use Rattle.dc_frame.specs.Frame.{spelling}
+use Rattle.dc_search.specs.Request.{request_by}
+use Rattle.dc_search.specs.State.{SearchState, after, step_of}
+use Rattle.dc_search.specs.declared.step.Step.{Step}
+use Rattle.dc_bus.specs.Late.{given_back, goes, is_selection}
+use Rattle.dc_bus.proofs.Doubts.{back, certain, of_err, drop, dropped, hear, heard, kept, none_left, of_request, on_err, on_ok, requested, rest, rested}
+use Rattle.dc_bus.proofs.late_search.step.Goals as goal
+
+pub returns-in_default-clause-untouched : goal.returns-in_default-clause-untouched
+returns-in_default-clause-untouched g c lost none =
+    c.finish.ensures.untouched none
+
+pub returns-in_err-take-clause-stopped : goal.returns-in_err-take-clause-stopped
+returns-in_err-take-clause-stopped g c budget first doubt =
+    let next = sym (c.in-Some.ensures.exact ∙ ap (λ (s : Step). option_map spelling (request_by s)) c.next.ensures) in
+    on_err c.from_residual.result (after c.ask-answer.result c.args.search.now, hear g.B.Bus.asks g.B.ScriptBus.settles g.B.ScriptBus.ready budget first c.args.bus.now c.ask-answer.new.self c.args.search.now c.in-Some.request c.ask-answer.result doubt.sure next c.ask-answer.ensures.asked)
+
+pub returns-then-is_ready-clause-sought : goal.returns-then-is_ready-clause-sought
+returns-then-is_ready-clause-sought g c budget first doubt =
+    let next = sym (c.in-Some.ensures.exact ∙ ap (λ (s : Step). option_map spelling (request_by s)) c.next.ensures) in
+    heard g.B.Bus.asks g.B.ScriptBus.settles g.B.ScriptBus.ready budget first c.args.bus.now c.ask-answer.new.self c.args.search.now c.take.new.search c.args.doubt.now.last c.args.doubt.now.before c.take.new.doubt.last c.take.new.doubt.before c.in-Some.request c.ask-answer.result doubt next c.ask-answer.ensures.asked c.in_ok-take.ensures.ok c.in_ok-take.ensures.sure
+
+pub returns-then-is_ready-clause-listed : goal.returns-then-is_ready-clause-listed
+returns-then-is_ready-clause-listed g c told is none =
+    let next = sym (c.in-Some.ensures.exact ∙ ap (λ (s : Step). option_map spelling (request_by s)) c.next.ensures) in
+    (c.in_ok-take.ensures.sure, goes c.in-Some.request c.ask-answer.result next c.ask-answer.ensures.heard c.ask-answer.ensures.silence c.ask-answer.ensures.untouched c.in_ok-take.ensures.ok)
+
+pub returns-then-is_ready-clause-lost : goal.returns-then-is_ready-clause-lost
+returns-then-is_ready-clause-lost g c is none =
+    let next = sym (c.in-Some.ensures.exact ∙ ap (λ (s : Step). option_map spelling (request_by s)) c.next.ensures) in
+    (c.in_ok-take.ensures.sure, goes c.in-Some.request c.ask-answer.result next c.ask-answer.ensures.heard c.ask-answer.ensures.silence c.ask-answer.ensures.untouched c.in_ok-take.ensures.ok)
+
+pub returns-in_err-weigh-clause-stopped : goal.returns-in_err-weigh-clause-stopped
+returns-in_err-weigh-clause-stopped g c budget first doubt =
+    let next = sym (c.in-Some.ensures.exact ∙ ap (λ (s : Step). option_map spelling (request_by s)) c.next.ensures) in
+    on_err c.from_residual-in_err-weigh.result
+    (of_err c.weigh.result c.in_err-weigh.field-0.0 c.in_err-weigh.was (c.weigh.ensures.stopped budget first c.args.bus.now c.in-Some.request doubt next c.ask-answer.ensures.asked))
+
+pub returns-clause-sought : goal.returns-clause-sought
+returns-clause-sought g c budget first doubt =
+    let next = sym (c.in-Some.ensures.exact ∙ ap (λ (s : Step). option_map spelling (request_by s)) c.next.ensures) in
+    c.in_ok-weigh.ensures.sought budget first c.args.bus.now c.in-Some.request doubt next c.ask-answer.ensures.asked

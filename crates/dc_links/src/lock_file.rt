@@ -1,0 +1,99 @@
+//! The lock file of a terminal: the convention by which programs that use serial lines keep out of
+//! each other's way (Filesystem Hierarchy Standard 3.0, section 5.9).
+//!
+//! `/run/lock/LCK..ttyUSB0` holds the number of the process that uses `/dev/ttyUSB0`: ten characters,
+//! filled up with spaces, and a line feed.
+
+use std::alloc::{AllocError, Global};
+use std::fs::{File, OpenOptions};
+use std::io::{ErrorKind, Read, Write};
+use std::rt::Files;
+use std::{fs, io};
+
+// The folder, and what each name begins with.
+const BEFORE: &str = "/run/lock/LCK..";
+
+// The folder of terminals, which is no part of a lock file's name.
+const DEVICES: &str = "/dev/";
+
+// Number of times that a lock file is made: each time it was there, its process had ended.
+const TRIES: u32 = 3;
+
+/// Makes the lock file of a terminal, and returns its name; `None` where none can be made here: the
+/// path isn't below `/dev`, or this user may not write the folder. The file of a process that has
+/// ended is replaced.
+///
+/// # Errors
+/// Another process has it, or it names none; or out of memory.
+pub fn make<R: Files<File = File> + AllocGlobal>(
+    rt: &R,
+    terminal: &str,
+) -> io::Result<Option<String>> {
+    let Some(device) = terminal.strip_prefix(DEVICES) else {
+        return Ok(None);
+    };
+    let name = name_of(rt.alloc(), device)?;
+    for _ in 0..TRIES {
+        match create(rt, name.as_str()) {
+            Ok(()) => return Ok(Some(name)),
+            Err(error) if error.kind() == ErrorKind::AlreadyExists => {}
+            Err(_) => return Ok(None),
+        }
+        if is_held(rt, name.as_str()) {
+            return Err(in_use());
+        }
+        if fs::remove_file(rt, name.as_str()).is_err() {
+            return Ok(None);
+        }
+    }
+    Err(in_use())
+}
+
+/// The refusal of a terminal that another program uses.
+pub fn in_use() -> io::Error {
+    io::Error::new(ErrorKind::WouldBlock, "it is in use by another program")
+}
+
+// The slashes of a terminal such as `pts/3` become underscores.
+fn name_of(alloc: Global, device: &str) -> Result<String, AllocError> {
+    let mut name = format!(in alloc; "{BEFORE}")?;
+    for letter in device.chars() {
+        name.push(if letter == '/' { '_' } else { letter })?;
+    }
+    Ok(name)
+}
+
+fn create<R: Files<File = File> + AllocGlobal>(rt: &R, name: &str) -> io::Result<()> {
+    let mut options = OpenOptions::new();
+    options.write(true).create_new(true);
+    let text = format!(in rt.alloc(); "{:>10}\n", libc::getpid())?;
+    let mut file = options.open(rt, name)?;
+    let written = file.write_all(text.as_bytes());
+    if written.is_err() {
+        let _ = fs::remove_file(rt, name);
+    }
+    written
+}
+
+// Whether a lock file is another running process's. One that can't be read, or names no process, is:
+// its process may be about to write it.
+fn is_held<R: Files<File = File>>(rt: &R, name: &str) -> bool {
+    let mut room = [0; 16];
+    let Ok(mut file) = fs::open(rt, name) else {
+        return true;
+    };
+    let Ok(count) = file.read(&mut room) else {
+        return true;
+    };
+    match process_in(&room[..count.min(room.len())]) {
+        Some(process) => process != libc::getpid() && libc::getpgid(process) >= 0,
+        None => true,
+    }
+}
+
+// The process number that a lock file holds.
+fn process_in(bytes: &[u8]) -> Option<i32> {
+    let text = str::from_utf8(bytes).ok()?;
+    let process = text.trim().parse::<i32>().ok()?;
+    if process > 0 { Some(process) } else { None }
+}
