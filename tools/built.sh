@@ -21,9 +21,14 @@ is_kept() {
     ! command -v rt >/dev/null || [ "$(toolchain)" = "$(cat -- "$kept.toolchain" 2>/dev/null)" ]
 }
 
-# The library for C, which tools/library makes.
+# The library for C, which tools/library makes, or one in another folder.
 is_library_built() {
-    [ "$(sources)" = "$(cat -- "$root/out/library/sources" 2>/dev/null)" ]
+    [ "$(sources)" = "$(cat -- "${1-$root/out/library}/sources" 2>/dev/null)" ]
+}
+
+# One sum of what the program for ARM is made of, which tools/arm64 notes.
+sources_of_arm64() {
+    (sources && sha256sum <"$root/packaging/arm64/host.c") | sha256sum
 }
 
 is_built() {

@@ -3,8 +3,10 @@
 
 const SHOWN = 200; // frames; more would make the page slow
 const MOST_LINE = 4096; // characters of a line that the decoder takes
+const MOST_MARKS = 10; // characters that are named where they are left out
 const PAGE = 65536; // bytes of a page of the module's memory
 const CI_VARIABLE = 0x72;
+const TRUNCATED = 3; // the fault of a frame that goes on
 const HEADER = 12; // bytes of a telegram's header
 const TOO_LONG = 0xFFFFFFFFFFFFFFFFn;
 
@@ -155,13 +157,34 @@ function faultOf(words) {
   return words[0] === "HEX" ? { kind: "hex", number: 1, name: "Hex" } : { kind: words[0].toLowerCase(), number: Number(words[2]), name: words[3] };
 }
 
+// The lines that the decoder printed, from the first to the last.
+class Printed {
+  constructor(text) {
+    this.lines = text.split("\n");
+    this.at = 0;
+  }
+
+  get next() {
+    return this.lines[this.at];
+  }
+
+  words() {
+    return this.lines[this.at++].split(" ");
+  }
+
+  // (after the last line feed is nothing)
+  get isEnd() {
+    return this.at === this.lines.length - 1;
+  }
+}
+
 // The telegram's lines up to its end, or the body's fault.
-function bodyOf(lines, body) {
-  const words = lines.shift().split(" ");
+function bodyOf(printed, body) {
+  const words = printed.words();
   if (words[0] !== "METER") return { body: hexOf(body), fault: faultOf(words) };
   const records = [];
-  while (lines[0].startsWith("RECORD ")) records.push(recordOf(lines.shift().split(" ")));
-  const [end, count] = lines.shift().split(" ");
+  while (printed.next.startsWith("RECORD ")) records.push(recordOf(printed.words()));
+  const [end, count] = printed.words();
   const rest = count === undefined ? null : hexOf(body.slice(body.length - Number(count)));
   return {
     meter: meterOf(words[1]), access: Number(words[2]), status: statusOf(Number(words[3])), records, more: end === "MORE",
@@ -170,33 +193,51 @@ function bodyOf(lines, body) {
 }
 
 // The next frame of the printed lines, whose bytes are `text`.
-function frameOf(lines, line, text) {
-  const words = lines.shift().split(" ");
+function frameOf(printed, line, text) {
+  const words = printed.words();
   const [control, address, ci] = words.slice(1, 4).map((word) => parseInt(word, 16));
   const link = { control, control_name: nameIn(NAMES.controls, control), address };
   if (words[0] === "ACK") return { line, frame: "ack" };
   if (words[0] === "SHORT") return { line, frame: "short", ...link };
   if (words[0] !== "LONG") return { line, frame: "none", ...(words[0] === "HEX" ? {} : { bytes: hexOf(text) }), fault: faultOf(words) };
   const body = text.slice(7, 7 + Number(words[4]));
-  const inside = ci === CI_VARIABLE ? bodyOf(lines, body) : { body: hexOf(body) };
+  const inside = ci === CI_VARIABLE ? bodyOf(printed, body) : { body: hexOf(body) };
   return { line, frame: "long", ...link, ci, ci_name: nameIn(NAMES.informations, ci), ...inside };
 }
 
-function decodeLine(line, number) {
-  const lines = textOf(encoder.encode(line)).split("\n");
-  lines.pop();
-  const texts = lines[0] === "HEX FAULT" ? [new Uint8Array()] : splitFrames(bytesOf(line.replaceAll(" ", "")));
-  const found = texts.map((text) => ({ object: frameOf(lines, number, text), text }));
-  if (lines.length) throw new Error("the frames of a line weren't split as the decoder does");
+// The frames of a line. A line of spaces alone prints nothing.
+function framesOf(printed, line, number) {
+  const digits = line.replaceAll(" ", "");
+  if (digits === "" && line.length <= MOST_LINE) return [];
+  const texts = printed.next === "HEX FAULT" ? [new Uint8Array()] : splitFrames(bytesOf(digits));
+  return texts.map((text) => ({ object: frameOf(printed, number, text), text }));
+}
+
+// The frames of all lines, by one call of the decoder.
+function decodeLines(lines, first = 1) {
+  const printed = new Printed(textOf(encoder.encode(lines.join("\n"))));
+  const found = lines.flatMap((line, n) => framesOf(printed, line, first + n));
+  if (!printed.isEnd) throw new Error("the frames of a line weren't split as the decoder does");
   return found;
 }
 
+const decodeLine = (line, number) => decodeLines([line], number);
+
 // ---- what people paste
 
+// What is left out, and what stands in its place: punctuation, symbols, and spaces of other kinds can't be meant.
 const CLEANED = [
   ["return", /\r/g, ""], ["prefix", /0[xX](?=[0-9A-Fa-f]{2})/g, " "], ["tab", /\t/g, " "],
-  ["mark", /[:;,|_\-.'"\u00A0\uFEFF()[\]{}<>]/g, " "],
+  ["mark", /(?![ \n])[\p{P}\p{S}\p{Z}\p{Cf}]/gu, " "],
 ];
+
+// A character as a reader sees it, or its code where there is nothing to see.
+const seen = (mark) => (/[\p{P}\p{S}]/u.test(mark) ? mark : `U+${mark.codePointAt(0).toString(16).toUpperCase().padStart(4, "0")}`);
+
+function marksLeft(marks) {
+  const named = Array.from(marks).slice(0, MOST_MARKS).map(seen);
+  return `${WORDS[language].chars.mark} ${named.join(" ")}${marks.size > MOST_MARKS ? " ..." : ""}`;
+}
 
 // The input without what the decoder refuses and what can't be meant, and what was left out.
 function clean(text) {
@@ -205,7 +246,7 @@ function clean(text) {
   for (const [name, found, instead] of CLEANED) {
     const marks = new Set(kept.match(found) ?? []);
     if (!marks.size) continue;
-    left.push(name === "mark" ? `${WORDS[language].chars.mark} ${[...marks].join(" ").trim() || "␣"}` : WORDS[language].chars[name]);
+    left.push(name === "mark" ? marksLeft(marks) : WORDS[language].chars[name]);
     kept = kept.replace(found, instead);
   }
   const lines = kept.split("\n").map((line) => (line.length > MOST_LINE ? line.replaceAll(" ", "") : line));
@@ -280,15 +321,20 @@ function statusWords(status) {
   return [status.application, ...set.filter((one) => one[0]).map((one) => one[1]), ...bits].join(", ");
 }
 
+// The bytes of a frame, those of each record in an element of its own, and these elements.
 function bytesShown(text, spans, place) {
   const shownBytes = element("div", null, { class: "bytes", role: "group", "aria-label": WORDS[language].bytes });
   const parts = spans.map(() => element("span", null));
   let at = 0;
+  let last = shownBytes;
   text.forEach((byte, n) => {
     while (at < spans.length && n >= spans[at][1]) at++;
     const inside = at < spans.length && n >= spans[at][0] ? parts[at] : shownBytes;
+    // (the space before a record isn't the record's)
+    if (n) (inside === last ? inside : shownBytes).append(" ");
     if (inside !== shownBytes && !inside.parentNode) shownBytes.append(inside);
-    inside.append(n === place ? element("span", hexOf([byte]), { class: "here" }) : hexOf([byte]), " ");
+    inside.append(n === place ? element("span", hexOf([byte]), { class: "here" }) : hexOf([byte]));
+    last = inside;
   });
   return [shownBytes, parts];
 }
@@ -298,7 +344,7 @@ function recordRow(record, part) {
   const row = element("tr", null, { tabindex: "0", role: "row" });
   const value = record.value ?? (record.reading === "other" ? `${words.notRead}: ${record.data}` : words.noValue);
   const cells = [
-    [words.name, [record.quantity, ...record.qualifiers].join(", ")], [words.value, value, "number"], [words.unit, record.unit ?? ""],
+    [words.name, [record.quantity, ...record.qualifiers].join(", ")], [words.value, value, "number value"], [words.unit, record.unit ?? ""],
     [words.storage, record.storage, "number"], [words.tariff, record.tariff, "number"], [words.subunit, record.subunit, "number"],
     [words.function, record.function],
   ];
@@ -313,7 +359,10 @@ function recordTable(records, parts) {
   // (roles, since a narrow page lays out the cells one below the other)
   const table = element("table", null, { role: "table" });
   const heads = element("tr", null, { role: "row" });
-  for (const name of ["name", "value", "unit", "storage", "tariff", "subunit", "function"]) heads.append(element("th", words[name], { scope: "col", role: "columnheader" }));
+  for (const name of ["name", "value", "unit", "storage", "tariff", "subunit", "function"]) {
+    const kind = { value: "number value", storage: "number", tariff: "number", subunit: "number" }[name];
+    heads.append(element("th", words[name], { scope: "col", role: "columnheader", ...(kind ? { class: kind } : {}) }));
+  }
   const head = element("thead", null, { role: "rowgroup" });
   const rows = element("tbody", null, { role: "rowgroup" });
   head.append(heads);
@@ -360,7 +409,7 @@ function frameShown({ object, text }) {
 function decodeAll(input) {
   const { lines, left } = clean(input);
   const joined = $("joined").checked ? [lines.join(" ").replaceAll(" ", "")] : lines;
-  return { found: joined.flatMap((line, n) => decodeLine(line, n + 1)), left, count: lines.length };
+  return { found: decodeLines(joined), left, count: lines.length };
 }
 
 function show() {
@@ -370,7 +419,9 @@ function show() {
   const said = [found.length ? words.frames(found.length, bad) : words.nothing];
   if (left.length) said.push(words.cleaned(left.join(", ")));
   if (found.length > SHOWN) said.push(words.more(found.length - SHOWN));
-  if (bad && count > 1 && !$("joined").checked) said.push(words.joinHint);
+  // (a frame over several lines is truncated in its first one)
+  const isCut = found.some((one) => one.object.fault?.kind === "frame" && one.object.fault.number === TRUNCATED);
+  if (isCut && count > 1 && !$("joined").checked) said.push(words.joinHint);
   shown = found.map((one) => one.object);
   $("frames").replaceChildren(...found.slice(0, SHOWN).map(frameShown));
   $("said").textContent = said.join(" ");
