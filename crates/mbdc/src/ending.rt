@@ -24,10 +24,11 @@ use std::process::ExitCode;
 const NO_METER: &str =
     "a meter is its identity, as 12345678.PAD.01.07, or for read a primary address, 1 to 250";
 
-// No bus is connected.
+// A word that has to be boundaries of periods isn't.
 const NO_BOUNDARIES: &str =
     "BOUNDARIES are two moments or more, each later than the last; try mbdc consumption --help";
 
+// No bus is connected.
 const NO_LINK: &str = "no bus line has a link; try mbdc poll --help";
 
 // A line of up to this many bytes goes out as one write.

@@ -23,6 +23,6 @@ returns-clause-sought g c budget first doubt =
     let b = c.else-doubt-gt0.bus in
     let P : g.row.B.Denot → Type 0 = λ (x : g.row.B.Denot). SoughtFrom g.B.Bus.asks g.B.ScriptBus.settles g.B.ScriptBus.ready budget first x c.args.search.now in
     certain g.B.Bus.asks g.B.ScriptBus.settles g.B.ScriptBus.ready budget first b c.args.search.now None None (elim c.else-doubt-gt0.branch [
-      else-doubt-gt0-via-then-doubt-gt0+else-settles_late w ↦ subst P (sym w.bus-is) (rest g.B.Bus.asks g.B.ScriptBus.settles g.B.ScriptBus.ready budget first c.args.bus.now w.settles_late.new.bus c.args.search.now doubt.sure w.settles_late.ensures.settled)
+      | else-doubt-gt0-via-then-doubt-gt0+else-settles_late w ↦ subst P (sym w.bus-is) (rest g.B.Bus.asks g.B.ScriptBus.settles g.B.ScriptBus.ready budget first c.args.bus.now w.settles_late.new.bus c.args.search.now doubt.sure w.settles_late.ensures.settled)
       | else-doubt-gt0-via-else-doubt-gt0 w ↦ subst P (sym w.bus-is) doubt.sure
     ]) refl
