@@ -19,7 +19,7 @@ OF_EACH_COMMAND = OF_THE_PROGRAM[:2]
 NO_GROUPS = {"Arguments:", "Options:", "Example:"}  # the other sections of a help
 SCHEMES = ["tcp://", "serial:", "blocks://"]
 BUS_LINES = range(1, 9)
-FILES = {"FILE", "IMAGE", "SCRIPT"}  # the words that are completed as names of files
+FILES = {"FILE", "IMAGE", "LIST", "SCRIPT"}  # the words that are completed as names of files
 USAGE = 2
 
 

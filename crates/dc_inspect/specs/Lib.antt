@@ -10,3 +10,5 @@ pub mod Values
 pub mod Look
 -- a table of what an image holds, and its word
 pub mod Table
+-- what `status` prints of an image
+pub mod Status

@@ -6,7 +6,8 @@
 //! the state that the image reads as, by the definitions that
 //! [`Store::open`](dc_log::Store::open) follows, or the image's one refusal.
 //!
-//! [`show_values`] reads an image in the same way, and writes what its meters stand at (dc_latest).
+//! [`show_values`] reads an image in the same way, and writes what its meters stand at (dc_latest, dc_json);
+//! [`show_status`] writes when they were last heard, and how full the image is (dc_status).
 //!
 //! [`report_on`] opens an image and writes a table of its contents ([`Report`]), built whole before
 //! it is written, as CSV or as JSON Lines ([`Form`]).
@@ -14,11 +15,13 @@
 
 mod inspecting;
 mod look;
+mod status;
 mod summary;
 mod table;
 mod text;
 mod values;
 
 pub use inspecting::inspect;
+pub use status::show_status;
 pub use table::{Form, Report, report_on};
-pub use values::show_values;
+pub use values::{ValuesForm, show_values};

@@ -1,36 +1,76 @@
 //! The engine of `values`.
 
-ghost use Rattle.std.specs.Prelude.{◌≡◌, ◌≢◌, ◌<◌, ◌≤◌, Some, IfOk, IfErr, IfSome, OnOk, IsErrOf};
+ghost use Rattle.std.specs.Prelude.{◌≡◌, ◌≢◌, ◌<◌, ◌≤◌, ◌++◌, ◌↔◌, IsOk, Some, IfOk, IfErr, IfSome, OnOk, IsErrOf};
 ghost use Rattle.std.specs.Prelude.{option_map};
 ghost use Rattle.dc_io.specs.Failures.{HasRisen};
 ghost use Rattle.dc_io.specs.Stream.{Puts};
-ghost use Rattle.dc_io.specs.Written.{PutsInto, Wrote};
+ghost use Rattle.dc_io.specs.Written.{PutsInto};
 ghost use Rattle.dc_disk.specs.Runs.{OnlyLooked, Counts};
 ghost use Rattle.dc_log.specs.Halves.{fewest_sectors};
 ghost use Rattle.dc_log.specs.declared.fault.OpenFault.TheVariants.{Device};
 ghost use Rattle.dc_inspect.specs.Look.{seen_of};
 ghost use Rattle.dc_inspect.specs.Told.{IsOfLook};
-ghost use Rattle.dc_inspect.specs.Values.{Shows, ShowsImage, seen_values};
+ghost use Rattle.dc_inspect.specs.Values.{Shows, ShowsImage, seen_values, values_in};
 
 use crate::look::look_at;
 use dc_disk::Disk;
 use dc_ending::ProgramFault;
-use dc_io::{Bytes, IoFault, Sink};
+use dc_io::{Bytes, IoFault, NoMemory, Sink};
+use dc_json::values_json;
 use dc_latest::put_values;
 use dc_log::{FEWEST_SECTORS, Found, OpenFault, half_len_of};
 use dc_register::House;
 use std::alloc::Allocator;
 
-// Writes the values of the state that was found.
-#[tactic(auto, using(dc_io::proofs::Pieces::written))]
-fn put_found<A: Allocator + Copy, W: Sink>(
-    out: &mut W,
+/// How the values are written.
+#[derive(Clone, Copy, Debug, PartialEq, Eq)]
+pub enum ValuesForm {
+    /// Lines of words, one a fact.
+    Text,
+    /// JSON Lines (RFC 8259), an object a meter.
+    Json,
+}
+
+// Appends what the meters of a house stand at.
+fn add_house<A: Allocator + Copy>(
+    alloc: A,
+    form: ValuesForm,
+    house: &House<A>,
+    text: &mut Bytes<A>,
+) -> Result<(), NoMemory>
+    ensures { OnOk result (text.new.bytes ≡ text.old.bytes ++ values_in form house.now.state) }
+{
+    match form {
+        ValuesForm::Text => kept(put_values(text, house)),
+        ValuesForm::Json => {
+            let lines = values_json(alloc, house)?;
+            kept(text.put(lines.as_slice()))
+        }
+    }
+}
+
+// A put into memory fails if memory runs out.
+fn kept(put: Result<(), IoFault>) -> Result<(), NoMemory>
+    ensures { IsOk result ↔ IsOk put }
+{
+    match put {
+        Ok(()) => Ok(()),
+        Err(IoFault) => Err(NoMemory),
+    }
+}
+
+// Appends the values of the state that was found.
+fn add_found<A: Allocator + Copy>(
+    alloc: A,
+    form: ValuesForm,
     found: &Option<Found<House<A>>>,
-) -> Result<(), IoFault>
-    ensures { Wrote W.Sink result out.old out.new (seen_values (option_map seen_of found.now)) }
+    text: &mut Bytes<A>,
+) -> Result<(), NoMemory>
+    ensures { OnOk result (Puts (Some text.old.bytes) (Some text.new.bytes)
+        (seen_values form (option_map seen_of found.now))) }
 {
     match found {
-        Some(found) => put_values(out, &found.house),
+        Some(found) => add_house(alloc, form, &found.house, text),
         None => Ok(()),
     }
 }
@@ -40,12 +80,13 @@ fn show_image<A: Allocator + Copy, D: Disk>(
     alloc: A,
     disk: &mut D,
     sectors: u32,
+    form: ValuesForm,
     text: &mut Bytes<A>,
 ) -> Result<Option<OpenFault>, ProgramFault>
     requires sectors { sectors ≡ D.sectors disk.old }
     requires enough { fewest_sectors ≤ sectors }
     ensures told { D.keeps disk.new → IfOk result (λ refusal.
-        ShowsImage sectors (D.reads disk.old) refusal
+        ShowsImage form sectors (D.reads disk.old) refusal
         (Puts (Some text.old.bytes) (Some text.new.bytes))) }
     ensures looked { OnlyLooked D.Disk disk.old disk.new }
     ensures counts { Counts D.Disk disk.old disk.new (IsErrOf result (ProgramFault.Open Device)) }
@@ -53,9 +94,9 @@ fn show_image<A: Allocator + Copy, D: Disk>(
         (HasRisen (D.failures disk.old) (D.failures disk.new)) ⊥) }
 {
     let look = look_at(alloc, disk, half_len_of(sectors))?;
-    match put_found(text, &look.found) {
+    match add_found(alloc, form, &look.found, text) {
         Ok(()) => Ok(look.refusal),
-        Err(IoFault) => Err(ProgramFault::NoMemory),
+        Err(NoMemory) => Err(ProgramFault::NoMemory),
     }
 }
 
@@ -63,10 +104,11 @@ fn show_image<A: Allocator + Copy, D: Disk>(
 fn show_disk<A: Allocator + Copy, D: Disk>(
     alloc: A,
     disk: &mut D,
+    form: ValuesForm,
     text: &mut Bytes<A>,
 ) -> Result<Option<OpenFault>, ProgramFault>
     ensures told { D.keeps disk.new → IfOk result (λ refusal.
-        Shows (D.sectors disk.old) (D.reads disk.old) refusal
+        Shows form (D.sectors disk.old) (D.reads disk.old) refusal
         (Puts (Some text.old.bytes) (Some text.new.bytes))) }
     ensures looked { OnlyLooked D.Disk disk.old disk.new }
     ensures counts { Counts D.Disk disk.old disk.new (IsErrOf result (ProgramFault.Open Device)) }
@@ -77,7 +119,7 @@ fn show_disk<A: Allocator + Copy, D: Disk>(
     if sectors < FEWEST_SECTORS {
         return Ok(Some(OpenFault::NotImage));
     }
-    show_image(alloc, disk, sectors, text)
+    show_image(alloc, disk, sectors, form, text)
 }
 
 /// Reads the image and writes what its meters stand at. Nothing is written to the disk and nothing is synced, not even
@@ -92,10 +134,11 @@ fn show_disk<A: Allocator + Copy, D: Disk>(
 pub fn show_values<D: Disk, A: Allocator + Copy, W: Sink>(
     alloc: A,
     disk: &mut D,
+    form: ValuesForm,
     writer: &mut W,
 ) -> Result<Option<OpenFault>, ProgramFault>
     ensures told { D.keeps disk.new → IfOk result (λ refusal.
-        Shows (D.sectors disk.old) (D.reads disk.old) refusal
+        Shows form (D.sectors disk.old) (D.reads disk.old) refusal
         (PutsInto W.Sink writer.old writer.new)) }
     ensures well { OnOk result (W.put_failures writer.new ≡ W.put_failures writer.old) }
 
@@ -111,7 +154,7 @@ pub fn show_values<D: Disk, A: Allocator + Copy, W: Sink>(
         fault ≢ ProgramFault.Write → writer.new ≡ writer.old) }
 {
     let mut text = Bytes::new(alloc);
-    let refusal = show_disk(alloc, disk, &mut text)?;
+    let refusal = show_disk(alloc, disk, form, &mut text)?;
     match writer.put(text.as_slice()) {
         Ok(()) => Ok(refusal),
         Err(IoFault) => Err(ProgramFault::Write),

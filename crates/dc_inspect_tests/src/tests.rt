@@ -3,4 +3,5 @@
 mod images;
 mod inspect;
 mod report;
+mod status;
 mod values;

@@ -10,3 +10,5 @@ mod Objects
 mod Written
 -- a flat's name is ASCII
 mod Flats
+-- the current values among points
+pub mod Currents

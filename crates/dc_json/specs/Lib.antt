@@ -14,3 +14,5 @@ pub mod Frame
 pub mod Text
 -- the rows of the tables of `report`
 pub mod Report
+-- what the meters of a house stand at
+pub mod Values

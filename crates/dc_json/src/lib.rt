@@ -8,7 +8,7 @@
 //! defines.
 //!
 //! [`register_json`] and [`due_json`] return the tables of a house as JSON Lines, an object per row
-//! (`specs/Report.antt`).
+//! (`specs/Report.antt`); [`values_json`] returns what its meters stand at (`specs/Values.antt`).
 //!
 //! [`explain_lines`] writes the same in words and aligned, with the place of each fault and what
 //! was expected there. Its text has no contract.
@@ -24,7 +24,9 @@ mod record;
 mod report;
 mod table;
 mod telegram;
+mod values;
 
 pub use explain::explain_lines;
 pub use lines::json_lines;
 pub use report::{due_json, register_json};
+pub use values::values_json;

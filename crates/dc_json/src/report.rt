@@ -23,8 +23,8 @@ use dc_value::{Date, Point, TEXT_ROOM, Value};
 use json::Writer;
 use std::alloc::Allocator;
 
-// Writes a flat and a meter.
-fn put_whose<A: Allocator>(
+/// Writes a flat and a meter.
+pub(crate) fn put_whose<A: Allocator>(
     out: &mut Writer<A>,
     flat: &Flat,
     meter: &Identity,

@@ -11,34 +11,36 @@ pub const PROGRAM: &str = "Data concentrator of wired M-Bus submeters
 Usage: mbdc [OPTIONS] [COMMAND]
 
 Read the house:
-  poll     Reads every registered meter on the connected lines, all lines at once
-  run      Opens the image, does what the script's lines ask for, and prints the answers
+  poll     Reads the registered meters, all connected lines at once
+  run      Does the lines of a script on an image, and prints the answers
   scan     Searches one bus for meters, without an image
   read     Reads one meter on one bus and prints its telegrams, without an image
 
 Look:
   decode   Prints what each M-Bus frame says: link fields, meter, records, end
   fold     Applies telegrams and commands to an empty register, and prints it
-  report   Prints a table of what an image holds: its register, or the due-date values for a date
+  report   Prints an image's register, or its due-date values for a date
   values   Prints what each meter stands at, and changes nothing
+  status   Prints when each meter was last heard, and how full the image is
   inspect  Prints what an image holds, and changes nothing
 
 Bill:
-  consumption  Prints what places consumed between moments, from the readings of their meters
+  consumption  Prints what places consumed between moments, from readings
 
 Maintain:
   format   Makes an image that holds an empty register
-  demo     Reads a simulated meter through a gateway in this process, and reports its value
+  fit      Adds the meters of a list to an image's register, all of them or none
+  demo     Reads a simulated meter in this process, and reports its value
 
 Options:
-      --verbose  Prints a second line on standard error that says why the command failed
+      --verbose  Prints a second line that says why a command failed
   -h, --help     Print help
   -V, --version  Print version
 
 Without a command mbdc decodes standard input.
 mbdc COMMAND --help prints the words of a command, with an example.
-Status: 0 done, 1 a line of the input was at fault or a meter wasn't read, 2 the words,
-  3 the image or its disk, 4 a file, a link or memory.
+Status: 0 done, 1 a line of the input was at fault or a meter wasn't read,
+  2 the words, 3 the image or its disk, 4 a file, a link or memory.
 With 2, 3 and 4 one line on standard error says what happened.";
 
 /// Of `decode`.
@@ -50,9 +52,10 @@ Each line of the input is bytes in hex digits. Printed of each frame:
   METER ident access status
   RECORD storage tariff subunit function vib data = value unit
   END, LAST bytes or MORE bytes
-Faults: FRAME FAULT 1 Empty, 2 Start, 3 Truncated, 4 Lengths, 5 Trailing, 6 Stop, 7 Checksum;
-  BODY FAULT 1 Short, 2 BadIdentity, 3 Encrypted, 4 ReservedDif, 5 TooManyDife, 6 TooManyVife,
-  7 BadLength, 8 PlainTextExtension, 9 Cut; HEX FAULT";
+Faults: FRAME FAULT 1 Empty, 2 Start, 3 Truncated, 4 Lengths, 5 Trailing,
+  6 Stop, 7 Checksum; BODY FAULT 1 Short, 2 BadIdentity, 3 Encrypted,
+  4 ReservedDif, 5 TooManyDife, 6 TooManyVife, 7 BadLength,
+  8 PlainTextExtension, 9 Cut; HEX FAULT";
 
 /// Of `fold`.
 pub const FOLD: &str = "Example:
@@ -60,151 +63,210 @@ pub const FOLD: &str = "Example:
 
 Lines of the input:
   TELEGRAM part moment hex
-  n FIT ident line addr flat | n MOVE ident flat | n OUT ident | n CONFIRM serial |
-  n SWAP old new addr
-Printed: OK, ORDER last, REFUSED fault or SYNTAX for each; then METER ident line addr flat open for
-  each meter, READINGS count and SIZE bytes
+  n FIT ident line addr flat | n MOVE ident flat | n OUT ident |
+  n CONFIRM serial | n SWAP old new addr
+Printed: OK, ORDER last, REFUSED fault or SYNTAX for each; then METER ident line
+  addr flat open for each meter, READINGS count and SIZE bytes
 Faults: 1 Unknown, 2 Known, 3 AddressTaken, 4 Beyond, 5 Full";
 
 /// Of `consumption`.
 pub const CONSUMPTION: &str = "Example:
   mbdc consumption entries.csv 1735686000,1738364400,1740783600
 
-Lines of the file: place,meter,moment,value, and then for each entry these four fields: a name without
-  commas and quotation marks, and three numbers of at most 18 digits. Moments are Unix seconds. The
-  places are in the order of their bytes, and the entries of a place in the order of their moments.
-Printed: place,from,to,amount,backwards,exchanges, a line a place and period. The amount is empty
-  where the period isn't between the first and the last entry, TooLarge from 2^64 on; backwards is the
-  number of steps that ran backwards or follow such a step, exchanges that of steps between meters.
-Faults: LINE n FAULT 1 Header, 2 Row, 3 Place (before the last line's), 4 Moment (before the last
-  line's), with status 1 and no table; mbdc: file: FILE; mbdc: memory";
+Lines of the file: place,meter,moment,value, and then for each entry these four
+  fields: a name without commas and quotation marks, and three numbers of at
+  most 18 digits. Moments are Unix seconds. The places are in the order of their
+  bytes, and the entries of a place in the order of their moments.
+Printed: place,from,to,amount,backwards,exchanges, a line a place and period.
+  The amount is empty where the period isn't between the first and the last
+  entry, TooLarge from 2^64 on; backwards is the number of steps that ran
+  backwards or follow such a step, exchanges that of steps between meters.
+Faults: LINE n FAULT 1 Header, 2 Row, 3 Place (before the last line's), 4 Moment
+  (before the last line's), with status 1 and no table; mbdc: file: FILE;
+  mbdc: memory";
 
 /// Of `format`.
 pub const FORMAT: &str = "Example:
   mbdc format house.image 2051
 
-A new image is made as IMAGE.0.half-made, readable by its owner alone, and gets its name once it is
-whole. A file that is there already is formatted in place where it has exactly that length and holds
-zeros alone.
-Faults: mbdc: format: 2 AlreadyFormatted, 3 Device; mbdc: file: IMAGE where the file can't be made,
-  has another length or other content, is a link or a folder, or is open in another mbdc";
+A new image is made as IMAGE.0.half-made, readable by its owner alone, and gets
+its name once it is whole. A file that is there already is formatted in place
+where it has exactly that length and holds zeros alone.
+Faults: mbdc: format: 2 AlreadyFormatted, 3 Device; mbdc: file: IMAGE where the
+  file can't be made, has another length or other content, is a link or a
+  folder, or is open in another mbdc";
 
 /// Of `run`.
 pub const RUN: &str = "Example:
-  mbdc run house.image lines.txt --line 1=tcp://192.0.2.10:10001 --line 2=serial:/dev/ttyUSB0
+  mbdc run house.image lines.txt --line 1=tcp://192.0.2.10:10001
 
 Lines of the script, and what each prints:
-  AT seconds          sets the time stamp (Unix seconds) of the answers that follow: nothing
+  AT seconds          sets the time stamp (Unix seconds) of the answers that
+                      follow: nothing
   START line ident    begins the readout of a meter: STARTED
   ASK line            asks for the line's next request: SEND hex, or NONE
-  HEAR line [hex]     an answer, or silence: AGAIN, READY, PART p MORE, PART p LAST, FAILED n Name
+  HEAR line [hex]     an answer, or silence: AGAIN, READY, PART p MORE,
+                      PART p LAST, FAILED n Name
   COMMIT              writes the pending changes to the image: COMMITTED n
   OFFICE text         a line of the billing office, see below: its reply
   POLL line ident     reads a meter on a connected bus line: each step as above
-  SEARCH budget       searches for meters on bus line 1, with at most that many selections:
-                      FOUND ident, SHARED number, BUDGET where it was spent, SELECTIONS n
+  SEARCH budget       searches for meters on bus line 1, with at most that many
+                      selections: FOUND ident, SHARED number, BUDGET where it
+                      was spent, SELECTIONS n
   SEARCH budget line  searches on that bus line
-  LINE n LOST         once, where the connection of bus line n ended or failed: it is silent from
-                      then on; of --gateway GATEWAY LOST
-  LATE line n         after a search: n late answers were dropped; make --patience longer
+  LINE n LOST         once, where the connection of bus line n ended or failed:
+                      it is silent from then on; of --gateway GATEWAY LOST
+  LATE line n         after a search: n late answers were dropped; make
+                      --patience longer
   NO GATEWAY          for a POLL or a SEARCH on a bus line that isn't connected
-  What is refused prints REFUSED n Name. Another line prints LINE i SYNTAX and ends the script.
+  What is refused prints REFUSED n Name. Another line prints LINE i SYNTAX and
+  ends the script.
 Lines of the office, and their replies:
-  n FIT ident line addr flat  adds a meter: OK n, once it is on the disk, as for each command
+  n FIT ident line addr flat  adds a meter: OK n, once it is on the disk, as for
+                              each command
   n MOVE ident flat           gives it to another flat
   n OUT ident                 removes it
   n SWAP old new addr         replaces it by another meter
   n CONFIRM serial            releases the readings up to that serial
-  WINDOW from count           READING serial ident flat parts, PART i moment hex; END readings
+  WINDOW from count           READING serial ident flat parts, PART i moment
+                              hex; END readings
   REGISTER                    METER ident line addr flat open; END meters
-  REPORT date                 the values that are dated by that date, as CSV; END rows
-  Else ERR SYNTAX, STORE, ORDER last, KNOWN, UNKNOWN, ADDRESS, BEYOND, GONE confirmed, FULL or
-  MEMORY.
+  REPORT date                 the values that are dated by that date, as CSV;
+                              END rows
+  Else ERR SYNTAX, STORE, ORDER last, KNOWN, UNKNOWN, ADDRESS, BEYOND,
+  GONE confirmed, FULL or MEMORY.
 Words:
   line    bus line, 1 to 8
-  ident   number, manufacturer, version and device type of a meter, as 12345678.PAD.01.07
-  addr    its primary address, 1 to 250, or S for secondary addressing: it is selected by its ident
+  ident   number, manufacturer, version and device type of a meter, as
+          12345678.PAD.01.07
+  addr    its primary address, 1 to 250, or S for secondary addressing: it is
+          selected by its ident
   flat    1 to 12 of A-Z a-z 0-9 . - / _
   n       the number of the last command plus 1
-Faults: mbdc: open: 1 NotImage, 2 Damaged sector, 3 Version, 4 Worn, 5 Device; mbdc: memory;
-  mbdc: gateway where a link can't be connected; mbdc: file: IMAGE where the file can't be opened or
-  is open in another mbdc";
+Faults: mbdc: open: 1 NotImage, 2 Damaged sector, 3 Version, 4 Worn, 5 Device;
+  mbdc: memory; mbdc: gateway where a link can't be connected; mbdc: file: IMAGE
+  where the file can't be opened or is open in another mbdc";
 
 /// Of `report`.
 pub const REPORT: &str = "Example:
   mbdc report house.image 2024-12-31
 
-Printed of the register: flat,meter,medium,line,address,open; of a date the values that are dated
-  by it: flat,meter,serial,storage,function,tariff,subunit,value,unit. With --json an object a row
+Printed of the register: flat,meter,medium,line,address,open; of a date the
+  values that are dated by it: flat,meter,serial,storage,function,tariff,
+  subunit,value,unit. With --json an object a row
 The image is opened as by run, so its next session is written.
-Faults: mbdc: open: 1 NotImage, 2 Damaged sector, 3 Version, 4 Worn, 5 Device; mbdc: memory;
-  mbdc: file: IMAGE where the file can't be opened or is open in another mbdc";
+Faults: mbdc: open: 1 NotImage, 2 Damaged sector, 3 Version, 4 Worn, 5 Device;
+  mbdc: memory; mbdc: file: IMAGE where the file can't be opened or is open in
+  another mbdc";
 
 /// Of `values`.
 pub const VALUES: &str = "Example:
   mbdc values house.image
 
-Printed, for each registered meter by flat: METER flat ident medium, and NONE where no reading of it is held, else the
-  serial and the minute (UTC) of the last one; STATUS hex words, the status byte that it sent; and VALUE tariff subunit
-  value unit for each of its current values.
+Printed, for each registered meter by flat: METER flat ident medium, and NONE
+  where no reading of it is held, else the serial and the minute (UTC) of the
+  last one; STATUS hex words, the status byte that it sent; and VALUE tariff
+  subunit value unit for each of its current values. With --json an object a
+  meter
 A reading that the office has confirmed isn't held any more. Nothing is written.
-Faults: mbdc: open: 1 NotImage, 2 Damaged sector, 3 Version, 4 Worn, 5 Device; mbdc: memory;
-  mbdc: file: IMAGE where the file can't be opened or is open in another mbdc";
+Faults: mbdc: open: 1 NotImage, 2 Damaged sector, 3 Version, 4 Worn, 5 Device;
+  mbdc: memory; mbdc: file: IMAGE where the file can't be opened or is open in
+  another mbdc";
+
+/// Of `status`.
+pub const STATUS: &str = "Example:
+  mbdc status house.image --silent 3
+
+Printed, for each registered meter by flat: METER flat ident, the minute (UTC)
+  at which it was last heard and the seconds since, or NONE where nothing of it
+  is held; SILENT where that is longer ago than DAYS; and the status byte of its
+  last reading in words. Then SIZE bytes most, and DAYS n: in n days the image
+  is full at this pace
+A meter of which nothing is held is silent as long as the office has confirmed
+no reading. Nothing is written.
+Status: 0 no meter is silent, 1 one is, 3 the image, 4 a file or memory.";
+
+/// Of `fit`.
+pub const FIT: &str = "Example:
+  mbdc fit house.image meters.csv
+
+Lines of the list; a comma, a semicolon, a tab or a space ends a field:
+  meter,line,address,flat    the first line
+  12345678.PAD.01.07,1,2,A1  identity, bus line 1 to 8, primary address 1 to
+                             250, flat of 1 to 12 of A-Z a-z 0-9 . - / _
+  18034063.PAD.49.06,1,S,A2  S or nothing: secondary addressing
+All rows are checked before the first is done. Printed of each row:
+  line i: n FIT ident line addr flat  a new meter: its command and its number
+  line i: ident stands already        the register has it at this place
+  line i: reason                      the row is wrong: nothing is done
+Then the office's reply to each command: OK n once it is on the disk. After a
+power cut the same list adds what is missing.
+Status: 0 every meter stands, 1 a row is wrong or a command wasn't done, 3 the
+  image, 4 a file or memory.";
 
 /// Of `inspect`.
 pub const INSPECT: &str = "Example:
   mbdc inspect house.image
 
-Printed, a fact a line: DISK sectors; ROOT slot version generation session half, or NONE or
-  UNREADABLE, of each root slot; then of an image that reads as a state VERSION, HALF, GROUPS,
-  SECTORS used free, SIZE bytes most, METERS, READINGS n first last, MARK serial, COMMAND n; and
-  REFUSED n Name [sector] of one that doesn't open.
-Nothing is written, not even the next session. While a command has the image open, inspect doesn't
-  read it.
-Faults: mbdc: open: 1 NotImage, 2 Damaged sector, 3 Version, 4 Worn, 5 Device; mbdc: memory;
-  mbdc: file: IMAGE where the file can't be opened or is open in another mbdc";
+Printed, a fact a line: DISK sectors; ROOT slot version generation session half,
+  or NONE or UNREADABLE, of each root slot; then of an image that reads as a
+  state VERSION, HALF, GROUPS, SECTORS used free, SIZE bytes most, METERS,
+  READINGS n first last, MARK serial, COMMAND n; and REFUSED n Name [sector] of
+  one that doesn't open.
+Nothing is written, not even the next session. While a command has the image
+open, inspect doesn't read it.
+Faults: mbdc: open: 1 NotImage, 2 Damaged sector, 3 Version, 4 Worn, 5 Device;
+  mbdc: memory; mbdc: file: IMAGE where the file can't be opened or is open in
+  another mbdc";
 
 /// Of `demo`.
 pub const DEMO: &str = "Example:
   mbdc demo
 
-Nothing is left behind: the image is in memory, and the gateway is a socket of this process to
-itself on 127.0.0.1. Printed is what run prints: a meter is fitted and read out, each part committed
-before the next is asked for, and the value at its due date reported.
+Nothing is left behind: the image is in memory, and the gateway is a socket of
+this process to itself on 127.0.0.1. Printed is what run prints: a meter is
+fitted and read out, each part committed before the next is asked for, and the
+value at its due date reported.
 Faults: mbdc: gateway where no such socket is given; mbdc: memory";
 
 /// Of `poll`.
 pub const POLL: &str = "Example:
-  mbdc poll house.image --line 1=tcp://192.0.2.10:10001 --line 2=serial:/dev/ttyUSB0
+  mbdc poll house.image --line 1=tcp://192.0.2.10:10001
 
-Each line's meters are read one after the other, in order of identity, all lines at once; those that
-failed are read again after the line's others. Telegrams are committed to the image before the next
-ones are requested. Printed as each readout ends:
-  READ ident serial parts  a whole reading, with its serial and its number of parts
+Each line's meters are read one after the other, in order of identity, all lines
+at once; those that failed are read again after the line's others. Telegrams are
+committed to the image before the next ones are requested. Printed as each
+readout ends:
+  READ ident serial parts  a whole reading, its serial and its number of parts
   FAILED ident n Name      the last try failed, and why, as in run
   REFUSED ident n Name     the register or the disk refused it
   LINE n LOST              the connection of line n ended or failed
-  LATE line n              n late answers were dropped on that line: make --patience longer
+  LATE line n              n late answers were dropped on that line: make
+                           --patience longer
   END read failed
-With --json an object an event. On a terminal, standard error shows how far it is. Where the clock is
-earlier than a time stamp of the register: mbdc: clock: behind the newest reading
-Status: 0 every meter was read, 1 one wasn't, 3 the image, 4 a link, a file or memory.";
+With --json an object an event. On a terminal, standard error shows how far it
+is. Where the clock is earlier than a time stamp of the register: mbdc: clock:
+behind the newest reading
+Status: 0 every meter was read, 1 one wasn't, 3 the image, 4 a link, a file or
+  memory.";
 
 /// Of `scan`.
 pub const SCAN: &str = "Example:
   mbdc scan tcp://192.0.2.10:10001
 
-Printed: FOUND ident for each meter, SHARED number for a number that more than one meter has, BUDGET
-where the budget was spent, SELECTIONS n, and LATE n where n late answers were dropped. With
---primary: ADDRESS n for each address that acknowledges, and its ident where its telegram can be
-read. A meter begins its readout anew afterwards; nothing is stored.
+Printed: FOUND ident for each meter, SHARED number for a number that more than
+one meter has, BUDGET where the budget was spent, SELECTIONS n, and LATE n where
+n late answers were dropped. With --primary: ADDRESS n for each address that
+acknowledges, and its ident where its telegram can be read. A meter begins its
+readout anew afterwards; nothing is stored.
 Faults: mbdc: gateway where the link can't be connected or is lost; mbdc: memory";
 
 /// Of `read`.
 pub const READ: &str = "Example:
   mbdc read tcp://192.0.2.10:10001 12345678.PAD.01.07
 
-Printed is what decode prints of the telegrams, each before the meter is asked for the next one.
-Nothing is stored. Where the readout fails, FAILED n Name follows and the status is 1. LATE n comes
-last where n late answers were dropped.
+Printed is what decode prints of the telegrams, each before the meter is asked
+for the next one. Nothing is stored. Where the readout fails, FAILED n Name
+follows and the status is 1. LATE n comes last where n late answers were
+dropped.
 Faults: mbdc: gateway where the link can't be connected or is lost; mbdc: memory";

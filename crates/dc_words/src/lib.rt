@@ -9,6 +9,7 @@ mod fault;
 mod help;
 mod link;
 mod links;
+mod near;
 mod task;
 mod words;
 
@@ -16,5 +17,6 @@ pub use fault::{LinkFault, WordsFault};
 pub use help::VERSION;
 pub use link::LinkName;
 pub use links::{LINES, Links};
+pub use near::nearest;
 pub use task::{Call, Engine, Form, MeterName, PollTask, RunTask, Scan, Task};
 pub use words::call_of;

@@ -129,6 +129,22 @@ pub enum Task<'a> {
     Values {
         /// The image's file.
         image: &'a str,
+        /// Whether it is printed as JSON Lines.
+        is_json: bool,
+    },
+    /// When the meters of an image were last heard, without opening it.
+    Status {
+        /// The image's file.
+        image: &'a str,
+        /// The number of days after which a meter is silent.
+        days: u16,
+    },
+    /// The meters of a list, added to the register of an image.
+    Fit {
+        /// The image's file.
+        image: &'a str,
+        /// The list's file.
+        list: &'a str,
     },
     /// The readout of the registered meters over an image.
     Poll(PollTask<'a>),

@@ -96,7 +96,7 @@ fn verbose_arg<'a>(alloc: Global) -> Arg<'a> {
         alloc,
         "VERBOSE",
         "verbose",
-        "Prints a second line on standard error that says why the command failed",
+        "Prints a second line that says why a command failed",
     )
     .global(true)
     .display_order(LAST)
@@ -145,7 +145,7 @@ fn consumption_command<'a>(alloc: Global) -> Result<Command<'a>, AllocError> {
         required_arg(alloc, "FILE", "Lines place,meter,moment,value"),
         required_arg(alloc, "BOUNDARIES", moments),
     ]?;
-    let about = "Prints what places consumed between moments, from the readings of their meters";
+    let about = "Prints what places consumed between moments, from readings";
     command_of(alloc, "consumption", about, help::CONSUMPTION, args)
 }
 
@@ -170,7 +170,7 @@ fn poll_command<'a>(alloc: Global) -> Result<Command<'a>, AllocError> {
         ),
         patience_arg(alloc),
     ]?;
-    let about = "Reads every registered meter on the connected lines, all lines at once";
+    let about = "Reads the registered meters, all connected lines at once";
     command_of(alloc, "poll", about, help::POLL, args)
 }
 
@@ -186,7 +186,7 @@ fn run_command<'a>(alloc: Global) -> Result<Command<'a>, AllocError> {
         patience_arg(alloc),
         gateway,
     ]?;
-    let about = "Opens the image, does what the script's lines ask for, and prints the answers";
+    let about = "Does the lines of a script on an image, and prints the answers";
     command_of(alloc, "run", about, help::RUN, args)
 }
 
@@ -196,8 +196,7 @@ fn report_command<'a>(alloc: Global) -> Result<Command<'a>, AllocError> {
         flag_arg(alloc, "JSON", "json", "Prints JSON Lines, an object a row"),
         required_arg(alloc, "TABLE", "register, or a date, as 2024-12-31"),
     ]?;
-    let about =
-        "Prints a table of what an image holds: its register, or the due-date values for a date";
+    let about = "Prints an image's register, or its due-date values for a date";
     command_of(alloc, "report", about, help::REPORT, args)
 }
 
@@ -213,14 +212,34 @@ fn inspect_command<'a>(alloc: Global) -> Result<Command<'a>, AllocError> {
 }
 
 fn values_command<'a>(alloc: Global) -> Result<Command<'a>, AllocError> {
+    let args = vec![in alloc;
+        image_arg(alloc),
+        flag_arg(
+            alloc,
+            "JSON",
+            "json",
+            "Prints JSON Lines, an object a meter"
+        ),
+    ]?;
     let about = "Prints what each meter stands at, and changes nothing";
-    command_of(
-        alloc,
-        "values",
-        about,
-        help::VALUES,
-        vec![in alloc; image_arg(alloc)]?,
-    )
+    command_of(alloc, "values", about, help::VALUES, args)
+}
+
+fn status_command<'a>(alloc: Global) -> Result<Command<'a>, AllocError> {
+    let silent = option_arg(alloc, "SILENT", "silent", "DAYS")
+        .value_parser(value_parser!(u16).range(1..=366))
+        .default_value("2")
+        .help("A meter not heard for longer is silent, from 1 to 366");
+    let args = vec![in alloc; image_arg(alloc), silent]?;
+    let about = "Prints when each meter was last heard, and how full the image is";
+    command_of(alloc, "status", about, help::STATUS, args)
+}
+
+fn fit_command<'a>(alloc: Global) -> Result<Command<'a>, AllocError> {
+    let list = "The list: lines of meter, line, address and flat";
+    let args = vec![in alloc; image_arg(alloc), required_arg(alloc, "LIST", list)]?;
+    let about = "Adds the meters of a list to an image's register, all of them or none";
+    command_of(alloc, "fit", about, help::FIT, args)
 }
 
 fn scan_command<'a>(alloc: Global) -> Result<Command<'a>, AllocError> {
@@ -248,7 +267,7 @@ fn read_command<'a>(alloc: Global) -> Result<Command<'a>, AllocError> {
 }
 
 fn demo_command<'a>(alloc: Global) -> Result<Command<'a>, AllocError> {
-    let about = "Reads a simulated meter through a gateway in this process, and reports its value";
+    let about = "Reads a simulated meter in this process, and reports its value";
     command_of(alloc, "demo", about, help::DEMO, Vec::new(alloc))
 }
 
@@ -259,8 +278,10 @@ fn program<'a>(alloc: Global) -> Result<Command<'a>, AllocError> {
     let program = with_command(program, format_command(alloc));
     let program = with_command(program, poll_command(alloc));
     let program = with_command(program, run_command(alloc));
+    let program = with_command(program, fit_command(alloc));
     let program = with_command(program, report_command(alloc));
     let program = with_command(program, values_command(alloc));
+    let program = with_command(program, status_command(alloc));
     let program = with_command(program, inspect_command(alloc));
     let program = with_command(program, scan_command(alloc));
     let program = with_command(program, read_command(alloc));
@@ -373,7 +394,18 @@ fn image_task<'a>(
             is_json: inner.get_flag("JSON"),
         }),
         "inspect" => Ok(Task::Inspect { image }),
-        "values" => Ok(Task::Values { image }),
+        "values" => Ok(Task::Values {
+            image,
+            is_json: inner.get_flag("JSON"),
+        }),
+        "status" => Ok(Task::Status {
+            image,
+            days: inner.get_one("SILENT").unwrap_or_default(),
+        }),
+        "fit" => Ok(Task::Fit {
+            image,
+            list: inner.get_str("LIST").unwrap_or_default(),
+        }),
         "run" => run_task(image, inner),
         _ => poll_task(alloc, image, inner),
     }

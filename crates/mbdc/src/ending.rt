@@ -14,7 +14,7 @@ use clap::error::ErrorKind;
 use dc_ending::{Ending, STREAM};
 use dc_files::{DiskReason, Reason, Why};
 use dc_io::{Buffered, IoFault, WriteSink};
-use dc_words::WordsFault;
+use dc_words::{WordsFault, nearest};
 use std::alloc::{AllocError, Global};
 use std::io;
 use std::io::Write;
@@ -54,15 +54,21 @@ fn put_line(rt: &HostRuntime, ending: &Ending) -> Result<(), IoFault> {
     out.flush()
 }
 
-/// Prints on a second line why the run failed, if the system gave a reason.
-pub fn told_why(rt: &HostRuntime, ending: &Ending, why: &Why) {
+/// Whether the reader of standard output has gone away.
+pub fn is_cut_off(ending: &Ending, why: &Why) -> bool {
+    matches!(ending, Ending::File(STREAM))
+        && matches!(why.last(), Some(reason) if reason.error.kind() == io::ErrorKind::BrokenPipe)
+}
+
+/// Prints on a second line why the run failed, if the system gave a reason; for a person with the next step.
+pub fn told_why(rt: &HostRuntime, ending: &Ending, why: &Why, is_watched: bool) {
     if let Ending::File(_)
     | Ending::Gateway
     | Ending::Format(_)
     | Ending::Open(_)
     | Ending::Disk(_) = ending
         && let Some(reason) = why.last()
-        && let Ok(line) = reason_line(rt.alloc(), &reason)
+        && let Ok(line) = reason_line(rt.alloc(), &reason, step_of(ending, &reason, is_watched))
     {
         let _ = rt.stderr().write_all(line.as_bytes());
     }
@@ -94,15 +100,44 @@ fn disk_line(alloc: Global, reason: &DiskReason) -> Result<String, AllocError> {
     }
 }
 
-fn reason_line(alloc: Global, reason: &Reason) -> Result<String, AllocError> {
+fn reason_line(alloc: Global, reason: &Reason, step: &str) -> Result<String, AllocError> {
     let said = format!(in alloc; "{}", reason.error)?;
-    line_with(alloc, reason.line, words_of(said.as_str()))
+    line_with(alloc, reason.line, words_of(said.as_str()), step)
 }
 
-fn line_with(alloc: Global, line: Option<u8>, words: &str) -> Result<String, AllocError> {
+fn line_with(
+    alloc: Global,
+    line: Option<u8>,
+    words: &str,
+    step: &str,
+) -> Result<String, AllocError> {
     match line {
-        Some(line) => format!(in alloc; "mbdc: reason: line {line}: {words}\n"),
-        None => format!(in alloc; "mbdc: reason: {words}\n"),
+        Some(line) => format!(in alloc; "mbdc: reason: line {line}: {words}{step}\n"),
+        None => format!(in alloc; "mbdc: reason: {words}{step}\n"),
+    }
+}
+
+// What a person does next, after the reason; nothing in a pipe or a file.
+fn step_of(ending: &Ending, reason: &Reason, is_watched: bool) -> &'static str {
+    if !is_watched {
+        return "";
+    }
+    match (ending, reason.error.kind()) {
+        (Ending::Gateway, io::ErrorKind::ConnectionRefused) => {
+            ". Is the converter in TCP server mode, at this port?"
+        }
+        (Ending::Gateway, io::ErrorKind::TimedOut | io::ErrorKind::HostUnreachable) => {
+            ". Is the converter on, and at this address?"
+        }
+        (Ending::Gateway, io::ErrorKind::NotFound) =>
+            ". Is the adapter plugged in? Try ls /dev/tty*",
+        (_, io::ErrorKind::PermissionDenied) => ". Who may open it: ls -l; who you are: id",
+        (Ending::File(_), io::ErrorKind::WouldBlock) =>
+            ". Wait until it ends, or see who has it: fuser -v",
+        (Ending::File(_), io::ErrorKind::NotFound) =>
+            ". Is the name right? mbdc format makes an image",
+        (Ending::File(_), io::ErrorKind::StorageFull) => ". Make room: df -h",
+        _ => "",
     }
 }
 
@@ -115,12 +150,12 @@ fn words_of(said: &str) -> &str {
 }
 
 /// Prints the mistake in the words, and returns the exit status.
-pub fn told_words(rt: &HostRuntime, fault: &WordsFault) -> ExitCode
+pub fn told_words(rt: &HostRuntime, fault: &WordsFault, words: &[String]) -> ExitCode
     ensures memory { fault.now ≡ WordsFault.NoMemory → exit_status result ≡ 4 }
     ensures mistake { IfMistake fault.now (exit_status result ≡ 2) }
 {
     match fault {
-        WordsFault::Clap(error) => told_by_clap(rt, error),
+        WordsFault::Clap(error) => told_by_clap(rt, error, words),
         WordsFault::NoMemory => told(rt, &Ending::Memory),
         WordsFault::Link(fault) => told(rt, &Ending::Words(fault.text())),
         WordsFault::Meter => told(rt, &Ending::Words(NO_METER)),
@@ -131,7 +166,7 @@ pub fn told_words(rt: &HostRuntime, fault: &WordsFault) -> ExitCode
 
 /// Prints `clap`'s message, and returns the exit status. Help and the version go to standard
 /// output, which may fail as any output may.
-fn told_by_clap(rt: &HostRuntime, error: &Error) -> ExitCode
+fn told_by_clap(rt: &HostRuntime, error: &Error, words: &[String]) -> ExitCode
     ensures memory { kind_of error.now ≡ OutOfMemory → exit_status result ≡ 4 }
     ensures shown { (kind_of error.now ≡ DisplayHelp) ⊎ (kind_of error.now ≡ DisplayVersion)
         → (exit_status result ≡ 0) ⊎ (exit_status result ≡ 4) }
@@ -147,7 +182,7 @@ fn told_by_clap(rt: &HostRuntime, error: &Error) -> ExitCode
             Err(_) => told(rt, &Ending::File(STREAM)),
         };
     }
-    match mistake(rt.alloc(), error) {
+    match mistake(rt.alloc(), error, words) {
         Ok(what) => told(rt, &Ending::Words(what.as_str())),
         Err(_) => told(rt, &Ending::Memory),
     }
@@ -159,7 +194,7 @@ fn shown<R: Print>(rt: &R, error: &Error) -> io::Result<()> {
 }
 
 // The mistake in the words, on one line: `clap` prints a paragraph, and its usage after it.
-fn mistake(alloc: Global, error: &Error) -> Result<String, AllocError> {
+fn mistake(alloc: Global, error: &Error, words: &[String]) -> Result<String, AllocError> {
     let text = format!(in alloc; "{error}")?;
     let mut what = String::new(alloc);
     for line in text.lines() {
@@ -171,6 +206,23 @@ fn mistake(alloc: Global, error: &Error) -> Result<String, AllocError> {
         }
         what.push_str(line.trim().trim_start_matches("error: "))?;
     }
+    if error.kind() == ErrorKind::InvalidSubcommand
+        && let Some(command) = meant(words)
+    {
+        what.push_str("; did you mean ")?;
+        what.push_str(command)?;
+        what.push_str("?")?;
+    }
     what.push_str("; try mbdc --help")?;
     Ok(what)
+}
+
+// The command that the first word is nearly. Words that begin with - are options.
+fn meant(words: &[String]) -> Option<&'static str> {
+    for word in words.iter().skip(1) {
+        if !word.starts_with('-') {
+            return nearest(word);
+        }
+    }
+    None
 }

@@ -1,16 +1,19 @@
-//! The commands `inspect` and `values`: an image in a file, which is only read.
+//! The commands `inspect`, `values` and `status`: an image in a file, which is only read.
 
+use crate::clock;
 use crate::tasks::{ROOM, flushed};
 use dc_disk::FileDisk;
 use dc_ending::{Ending, ProgramFault, STREAM, ending_of};
 use dc_files::{Host, Noted, open_to_look};
-use dc_inspect::{inspect, show_values};
+use dc_inspect::{ValuesForm, inspect, show_status, show_values};
 use dc_io::{Buffered, WriteSink};
 use dc_log::OpenFault;
 use std::fs::{File, OpenFile};
 use std::io;
 use std::os::unix::fs::FileExt;
-use std::rt::Files;
+use std::rt::{Clock, Files};
+
+const SECONDS_A_DAY: u64 = 86_400;
 
 /// What is printed of an image.
 #[derive(Clone, Copy)]
@@ -18,7 +21,9 @@ pub enum Look {
     /// Its contents, or why it doesn't open.
     Inspect,
     /// What its meters stand at.
-    Values,
+    Values(ValuesForm),
+    /// When its meters were last heard.
+    Status(dc_status::Clock),
 }
 
 /// Prints what is asked for of the image in that file. The file is opened read-only, and nobody writes it meanwhile.
@@ -35,25 +40,42 @@ where
         Err(error) => return host.why.file(image, error),
     };
     match print(host, look, &mut disk) {
-        Ok(None) => Ending::Clean,
-        Ok(Some(fault)) => Ending::Open(fault),
+        Ok((None, false)) => Ending::Clean,
+        Ok((None, true)) => Ending::Faulty,
+        Ok((Some(fault), _)) => Ending::Open(fault),
         Err(fault) => ending_of(Err(fault), STREAM),
     }
 }
 
-// Writes it to standard output, and returns why the image doesn't open.
+/// Prints when the meters of the image in that file were last heard; one is silent after so many days.
+pub fn tell_status<'a, R>(host: &Host<'_, R>, image: &'a str, days: u16) -> Ending<'a>
+where
+    R: Files<File = File> + Clock + Print + AllocGlobal,
+{
+    let Some(moment) = clock::moment(host.rt) else {
+        return Ending::Clock;
+    };
+    let clock = dc_status::Clock {
+        now: moment.seconds,
+        patience: u64::from(days) * SECONDS_A_DAY,
+    };
+    look_into(host, Look::Status(clock), image)
+}
+
+// Writes it to standard output, and returns why the image doesn't open, and whether a meter is silent.
 fn print<D: FileExt + OpenFile + Drop, R: Print + AllocGlobal>(
     host: &Host<'_, R>,
     look: Look,
     disk: &mut FileDisk<D>,
-) -> Result<Option<OpenFault>, ProgramFault> {
+) -> Result<(Option<OpenFault>, bool), ProgramFault> {
     let printer = Noted::new(io::writer(host.rt), host.why);
     let mut writer = Buffered::new(host.rt.alloc(), ROOM, WriteSink::new(printer))?;
     let alloc = host.rt.alloc();
-    let refusal = match look {
-        Look::Inspect => inspect(alloc, disk, &mut writer)?,
-        Look::Values => show_values(alloc, disk, &mut writer)?,
+    let found = match look {
+        Look::Inspect => (inspect(alloc, disk, &mut writer)?, false),
+        Look::Values(form) => (show_values(alloc, disk, form, &mut writer)?, false),
+        Look::Status(clock) => show_status(alloc, disk, clock, &mut writer)?,
     };
     flushed(writer)?;
-    Ok(refusal)
+    Ok(found)
 }

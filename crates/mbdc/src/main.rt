@@ -8,6 +8,7 @@ mod connecting;
 mod consumption;
 mod demo;
 mod ending;
+mod fit;
 mod inspect;
 mod poll;
 mod reaching;
@@ -18,7 +19,7 @@ mod tasks;
 use dc_ending::Ending;
 use dc_files::{Host, NOWHERE, Why, hold};
 use dc_words::{Call, call_of};
-use ending::{told, told_disk, told_why, told_words};
+use ending::{is_cut_off, told, told_disk, told_why, told_words};
 use std::io::{ErrorKind, IsTerminal};
 use std::process::ExitCode;
 use std::rt::Env;
@@ -48,7 +49,7 @@ fn main(rt: HostRuntime) -> ExitCode {
     };
     match call_of(rt.alloc(), words.as_slice()) {
         Ok(call) => answer(&rt, &call),
-        Err(fault) => told_words(&rt, &fault),
+        Err(fault) => told_words(&rt, &fault, words.as_slice()),
     }
 }
 
@@ -61,9 +62,13 @@ fn answer(rt: &HostRuntime, call: &Call<'_>) -> ExitCode {
         is_watched: rt.stderr().is_terminal(),
     };
     let ending = tasks::run(&host, &call.task);
+    // A reader that has seen enough, as head, is no mistake to tell a person of.
+    if host.is_watched && is_cut_off(&ending, &why) {
+        return ExitCode::from(ending.status());
+    }
     let status = told(rt, &ending);
-    if call.is_verbose {
-        told_why(rt, &ending, &why);
+    if call.is_verbose || host.is_watched {
+        told_why(rt, &ending, &why, host.is_watched);
     }
     if call.is_verbose || host.is_watched || why.has_unreadable() {
         told_disk(rt, &ending, &why);

@@ -2,7 +2,8 @@
 
 use crate::bench::{read_on_bus, scan_bus};
 use crate::consumption::consumption_of_file;
-use crate::inspect::{Look, look_into};
+use crate::fit::fit_on_image;
+use crate::inspect::{Look, look_into, tell_status};
 use crate::poll::poll_on_image;
 use crate::report::report_on_image;
 use crate::script::run_on_image;
@@ -10,6 +11,7 @@ use crate::{clock, demo};
 use dc_decode::decode_lines;
 use dc_ending::{Ending, ProgramFault, STREAM, ending_of};
 use dc_files::{Host, Noted, Why, format_image};
+use dc_inspect::ValuesForm;
 use dc_io::{Buffered, ReadSource, Source, WriteSink};
 use dc_json::{explain_lines, json_lines};
 use dc_script::fold_lines;
@@ -51,7 +53,16 @@ where
             is_json,
         } => report_on_image(host, image, table, *is_json),
         Task::Inspect { image } => look_into(host, Look::Inspect, image),
-        Task::Values { image } => look_into(host, Look::Values, image),
+        Task::Values { image, is_json } => {
+            let form = if *is_json {
+                ValuesForm::Json
+            } else {
+                ValuesForm::Text
+            };
+            look_into(host, Look::Values(form), image)
+        }
+        Task::Status { image, days } => tell_status(host, image, *days),
+        Task::Fit { image, list } => fit_on_image(host, image, list),
         Task::Scan {
             link,
             scan,

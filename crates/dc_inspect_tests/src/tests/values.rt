@@ -3,7 +3,7 @@
 use super::images::{LIFE, after, formatted, with_sector};
 use dc_disk::MemoryDisk;
 use dc_ending::ProgramFault;
-use dc_inspect::show_values;
+use dc_inspect::{ValuesForm, show_values};
 use dc_io::{Bytes, FixedSink};
 use dc_log::OpenFault;
 use refusing_alloc::Refusing;
@@ -39,15 +39,25 @@ VALUE 0 0 0.056 m3
 VALUE 1 0 7 Wh
 ";
 
+// The same as JSON, field by field as docs/JSON.md has them.
+const NOT_READ_JSON: &[u8] =
+    br#"{"flat":"A1","meter":{"id":"12345678.PAD.01.07","number":"12345678","manufacturer":"PAD","version":1,"medium":"water","medium_code":7},"reading":null}
+"#;
+
+const READ_AGAIN_JSON: &[u8] =
+    br#"{"flat":"A1","meter":{"id":"12345678.PAD.01.07","number":"12345678","manufacturer":"PAD","version":1,"medium":"water","medium_code":7},"reading":{"serial":2,"moment":1709251199,"utc":"2024-02-29T23:59","status":{"code":20,"application":"no error","power_low":true,"permanent_error":false,"temporary_error":true,"manufacturer_bits":0},"values":[{"tariff":0,"subunit":0,"value":"0.056","unit":"m3"},{"tariff":1,"subunit":0,"value":"7","unit":"Wh"}]}}
+"#;
+
 // An image prints these values, and returns why it doesn't open.
 fn are_shown(
     rt: &(impl Abort + AllocGlobal),
     disk: &mut MemoryDisk<Global>,
+    form: ValuesForm,
     text: &[u8],
     refusal: Option<OpenFault>,
 ) -> Result<(), Fail> {
     let mut writer = Bytes::new(rt.alloc());
-    let shown = show_values(rt.alloc(), disk, &mut writer)?;
+    let shown = show_values(rt.alloc(), disk, form, &mut writer)?;
     assert_eq!(rt; writer.as_slice(), text);
     assert_eq!(rt; shown, refusal);
     assert_eq!(rt; disk.pending()?.len(), 0);
@@ -58,26 +68,52 @@ fn are_shown(
 fn the_last_reading_is_shown_along_a_life(rt: HostRuntime) -> Result<(), Fail> {
     let heap = rt.alloc();
     let mut disk = formatted(heap)?;
-    are_shown(&rt, &mut disk, b"", None)?;
+    are_shown(&rt, &mut disk, ValuesForm::Text, b"", None)?;
     let mut fitted = after(heap, disk, FITTED)?;
-    are_shown(&rt, &mut fitted, NOT_READ, None)?;
+    are_shown(&rt, &mut fitted, ValuesForm::Text, NOT_READ, None)?;
     let mut read_out = after(heap, formatted(heap)?, LIFE)?;
-    are_shown(&rt, &mut read_out, READ_OUT, None)?;
+    are_shown(&rt, &mut read_out, ValuesForm::Text, READ_OUT, None)?;
     let mut read_again = after(heap, read_out, AGAIN)?;
-    are_shown(&rt, &mut read_again, READ_AGAIN, None)?;
+    are_shown(&rt, &mut read_again, ValuesForm::Text, READ_AGAIN, None)?;
+    are_shown(
+        &rt,
+        &mut read_again,
+        ValuesForm::Json,
+        READ_AGAIN_JSON,
+        None,
+    )?;
     let mut confirmed = after(heap, read_again, b"OFFICE 2 CONFIRM 2\n")?;
-    are_shown(&rt, &mut confirmed, NOT_READ, None)
+    are_shown(&rt, &mut confirmed, ValuesForm::Text, NOT_READ, None)?;
+    are_shown(&rt, &mut confirmed, ValuesForm::Json, NOT_READ_JSON, None)
 }
 
 #[test]
 fn an_image_that_does_not_open_shows_nothing(rt: HostRuntime) -> Result<(), Fail> {
     let heap = rt.alloc();
     let mut blank = MemoryDisk::new(heap, 131)?;
-    are_shown(&rt, &mut blank, b"", Some(OpenFault::NotImage))?;
+    are_shown(
+        &rt,
+        &mut blank,
+        ValuesForm::Text,
+        b"",
+        Some(OpenFault::NotImage),
+    )?;
     let mut small = MemoryDisk::new(heap, 130)?;
-    are_shown(&rt, &mut small, b"", Some(OpenFault::NotImage))?;
+    are_shown(
+        &rt,
+        &mut small,
+        ValuesForm::Text,
+        b"",
+        Some(OpenFault::NotImage),
+    )?;
     let mut no_base = with_sector(formatted(heap)?, 3, &[0; 512])?;
-    are_shown(&rt, &mut no_base, b"", Some(OpenFault::Damaged(3)))
+    are_shown(
+        &rt,
+        &mut no_base,
+        ValuesForm::Text,
+        b"",
+        Some(OpenFault::Damaged(3)),
+    )
 }
 
 // Each growth is refused in turn, and nothing is written.
@@ -88,7 +124,7 @@ fn refused_memory_shows_nothing(rt: HostRuntime) -> Result<(), Fail> {
     for k in 1..200 {
         heap.refuse(k);
         let mut writer = Bytes::new(rt.alloc());
-        let shown = show_values(&heap, &mut disk, &mut writer);
+        let shown = show_values(&heap, &mut disk, ValuesForm::Text, &mut writer);
         if heap.is_waiting() {
             assert_eq!(rt; shown, Ok(None));
             assert_eq!(rt; writer.as_slice(), READ_OUT);
@@ -107,12 +143,12 @@ fn a_failing_end_is_answered(rt: HostRuntime) -> Result<(), Fail> {
     let mut disk = after(heap, formatted(heap)?, LIFE)?;
     disk.fail_once(2);
     let mut writer = Bytes::new(heap);
-    let shown = show_values(heap, &mut disk, &mut writer);
+    let shown = show_values(heap, &mut disk, ValuesForm::Json, &mut writer);
     assert_eq!(rt; shown, Err(ProgramFault::Open(OpenFault::Device)));
     assert_eq!(rt; writer.as_slice().len(), 0);
-    are_shown(&rt, &mut disk, READ_OUT, None)?;
+    are_shown(&rt, &mut disk, ValuesForm::Text, READ_OUT, None)?;
     let mut full: FixedSink<8> = FixedSink::new();
-    let shown = show_values(heap, &mut disk, &mut full);
+    let shown = show_values(heap, &mut disk, ValuesForm::Text, &mut full);
     assert_eq!(rt; shown, Err(ProgramFault::Write));
     Ok(())
 }

@@ -60,7 +60,18 @@ const IMAGES: Rows = &[
     ),
     ("report house.image", "refused"),
     ("values house.image", "values house.image"),
+    ("values --json house.image", "values house.image json"),
     ("values house.image register", "refused"),
+    ("status house.image", "status house.image silent 2"),
+    (
+        "status house.image --silent 366",
+        "status house.image silent 366",
+    ),
+    ("status house.image --silent 0", "refused"),
+    ("status house.image --silent 367", "refused"),
+    ("status", "refused"),
+    ("fit house.image meters.csv", "fit house.image meters.csv"),
+    ("fit house.image", "refused"),
     ("inspect house.image", "inspect house.image"),
     (
         "--verbose inspect house.image",

@@ -51,7 +51,11 @@ fn task_text(alloc: Global, task: &Task<'_>) -> Result<String, AllocError> {
             is_json,
         } => format!(in alloc; "report {image} {table}{}", json_text(*is_json)),
         Task::Inspect { image } => format!(in alloc; "inspect {image}"),
-        Task::Values { image } => format!(in alloc; "values {image}"),
+        Task::Values { image, is_json } => {
+            format!(in alloc; "values {image}{}", json_text(*is_json))
+        }
+        Task::Status { image, days } => format!(in alloc; "status {image} silent {days}"),
+        Task::Fit { image, list } => format!(in alloc; "fit {image} {list}"),
         Task::Poll(task) => poll_text(alloc, task),
         Task::Demo => String::from_str(alloc, "demo"),
         task => bus_text(alloc, task),

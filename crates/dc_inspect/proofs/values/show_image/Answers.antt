@@ -14,5 +14,5 @@ returns-in-Ok-clause-told g c kept =
       enough = c.requires.enough;
       seen = seen;
       look = subst (λ (n : ℕ). IsLook n reads seen look.refusal) c.half_len_of.ensures.exact (c.in_ok-look.ensures.seen kept);
-      text = c.in-Ok.ensures.0;
+      text = c.in-Ok.ensures;
     }

@@ -1,0 +1,4 @@
+-- the definitions that contracts cite
+
+-- what `fit` does to an image
+pub mod Fit

@@ -1,0 +1,5 @@
+//! Tests of `fit`, by topic.
+
+mod ends;
+mod images;
+mod lists;

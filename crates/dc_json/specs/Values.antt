@@ -1,0 +1,97 @@
+-- What the meters of a house stand at, as JSON Lines (this product): the lines of `values`, an object a meter.
+use Rattle.std.specs.Prelude.{ℕ, List, [], ◌∷◌, ◌++◌, codes, if◌then◌else◌, Option, None, Some, Result, Ok, Err}
+use Rattle.std.specs.List.{flat_map}
+use Rattle.json.specs.Json.{Json, null}
+use Rattle.dc_record.specs.declared.fault.BodyFault.{BodyFault}
+use Rattle.dc_record.specs.Telegram.{Parsed, telegram_at}
+use Rattle.dc_value.specs.declared.point.Point.{Point}
+use Rattle.dc_value.specs.Quantity.{unit_of}
+use Rattle.dc_change.specs.State.{State, ReadingRow, PartRow}
+use Rattle.dc_register.specs.Places.{by_flat}
+use Rattle.dc_register.specs.Points.{points_of}
+use Rattle.dc_register.specs.declared.place.Place.{Place}
+use Rattle.dc_latest.specs.Utc.{minute_of}
+use Rattle.dc_latest.specs.Values.{is_current, last_part, last_reading}
+use Rattle.dc_json.specs.Object.{Field, object_of, array_of, count}
+use Rattle.dc_json.specs.Meter.{status_fields}
+use Rattle.dc_json.specs.Record.{value_json, unit_json}
+use Rattle.dc_json.specs.Report.{whose_fields}
+use Rattle.dc_json.specs.Text.{value_line}
+
+-- a current value: its tariff, its subunit, and the value with its unit
+unfoldable pub current_fields : Point → List Field
+current_fields p =
+    (codes "tariff", count p.tariff)
+    ∷ (codes "subunit", count p.subunit)
+    ∷ (codes "value", value_json p.value)
+    ∷ (codes "unit", unit_json (unit_of p.quantity))
+    ∷ []
+
+unfoldable pub current_json : Point → Json
+current_json p = object_of (current_fields p)
+
+-- the value of a current point, and none of another
+unfoldable pub current_of : Point → List Json
+current_of p = if is_current p then current_json p ∷ [] else []
+
+-- the current values of points
+unfoldable pub values_field : List Point → Field
+values_field points = (codes "values", array_of (flat_map current_of points))
+
+-- the status byte of a telegram, which a part always is
+abbrev pub byte_in : Result Parsed BodyFault → ℕ
+byte_in (Ok telegram) = telegram.header.status
+byte_in (Err fault) = 0
+
+-- the minute in UTC
+unfoldable pub utc_json : ℕ → Json
+utc_json moment = value_json (minute_of moment)
+
+-- when a telegram was received: in seconds since 1970, and as the minute in UTC
+unfoldable pub moment_fields : ℕ → List Field
+moment_fields moment = (codes "moment", count moment) ∷ (codes "utc", utc_json moment) ∷ []
+
+unfoldable pub status_field : ℕ → Field
+status_field status = (codes "status", object_of (status_fields status))
+
+-- when a part was received, and the status that it reports
+unfoldable pub part_fields : PartRow → List Field
+part_fields part = moment_fields part.moment ++ status_field (byte_in (telegram_at part.body)) ∷ []
+
+unfoldable pub serial_field : ℕ → Field
+serial_field serial = (codes "serial", count serial)
+
+-- a reading: its serial, its last part, and its current values
+unfoldable pub reading_fields : ℕ → PartRow → List Point → List Field
+reading_fields serial part points =
+    serial_field serial ∷ [] ++ (part_fields part ++ values_field points ∷ [])
+
+unfoldable pub reading_json : ℕ → PartRow → List Point → Json
+reading_json serial part points = object_of (reading_fields serial part points)
+
+abbrev pub last_json : ReadingRow → Option PartRow → Json
+last_json r None = null
+last_json r (Some part) = reading_json r.serial part (points_of r.parts)
+
+-- the last reading; null where none is held
+abbrev pub held_json : Option ReadingRow → Json
+held_json None = null
+held_json (Some r) = last_json r (last_part r)
+
+unfoldable pub held_field : Option ReadingRow → Field
+held_field held = (codes "reading", held_json held)
+
+-- a registered meter and its last reading
+abbrev pub stands_fields : State → Place → List Field
+stands_fields s place = whose_fields place.flat place.meter
+    ++ held_field (last_reading place.meter s) ∷ []
+
+unfoldable pub stands_json : State → Place → Json
+stands_json s place = object_of (stands_fields s place)
+
+abbrev pub stands_line : State → Place → List ℕ
+stands_line s place = value_line (stands_json s place)
+
+-- each registered meter, by flat and then by identity
+abbrev pub values_lines : State → List ℕ
+values_lines s = flat_map (stands_line s) (by_flat s.meters)

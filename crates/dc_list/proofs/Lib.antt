@@ -1,0 +1,6 @@
+-- lemmas by topic
+
+-- rows, one after the other
+pub mod Steps
+-- nothing is no address
+pub mod Addresses

@@ -1,0 +1,102 @@
+-- The lines of `status` (this product): of each registered meter when it was last heard, and how full the image is.
+use Rattle.std.specs.Prelude.{ℕ, ◌-◌, ◌/◌, max, ◌==◌, if◌then◌else◌, Bool, true, false, List, [], ◌∷◌, ◌++◌}
+use Rattle.std.specs.Prelude.{codes, slice_get, Option, None, Some, Result, Ok, Err}
+use Rattle.std.specs.List.{flat_map, list_any}
+use Rattle.dc_io.specs.Words.{number_word}
+use Rattle.dc_address.specs.Text.{text_of}
+use Rattle.dc_value.specs.Text.{value_text}
+use Rattle.dc_record.specs.declared.fault.BodyFault.{BodyFault}
+use Rattle.dc_record.specs.Telegram.{Parsed, telegram_at}
+use Rattle.dc_names.specs.Fields.{application_name}
+use Rattle.dc_change.specs.Size.{size_of, empty_size}
+use Rattle.dc_change.specs.State.{State, Held, ReadingRow, PartRow}
+use Rattle.dc_register.specs.Places.{by_flat}
+use Rattle.dc_register.specs.declared.place.Place.{Place}
+use Rattle.dc_latest.specs.Utc.{minute_of}
+use Rattle.dc_latest.specs.Values.{bits_words, last_reading}
+use Rattle.dc_status.specs.Heard.{ago, heard, is_silent, moment_of, part_in}
+
+-- ---- the line of a meter
+
+-- the minute (UTC), and the seconds since
+unfoldable pub moment_words : ℕ → ℕ → List ℕ
+moment_words now moment = codes " " ++ (value_text (minute_of moment)
+    ++ (codes "Z" ++ number_word (ago now moment)))
+
+unfoldable pub heard_words : ℕ → Option ℕ → List ℕ
+heard_words now None = codes " NONE"
+heard_words now (Some moment) = moment_words now moment
+
+unfoldable pub silent_words : Bool → List ℕ
+silent_words true = codes " SILENT"
+silent_words false = []
+
+-- what the last reading says of the meter (EN 13757-3, status byte)
+unfoldable pub byte_words : ℕ → List ℕ
+byte_words status = codes " " ++ (application_name status ++ bits_words status)
+
+abbrev pub telegram_words : Result Parsed BodyFault → List ℕ
+telegram_words (Ok telegram) = byte_words telegram.header.status
+telegram_words (Err fault) = []
+
+unfoldable pub state_words : Option PartRow → List ℕ
+state_words None = []
+state_words (Some part) = telegram_words (telegram_at part.body)
+
+unfoldable pub meter_words : Place → List ℕ
+meter_words place = codes "METER " ++ (place.flat ++ (codes " " ++ text_of place.meter))
+
+-- a meter at a clock, which is silent after so many seconds
+unfoldable pub meter_line : ℕ → ℕ → State → Place → List ℕ
+meter_line patience now s place = meter_words place
+    ++ (heard_words now (heard s place.meter)
+    ++ (silent_words (is_silent patience now s.confirmed (heard s place.meter))
+    ++ (state_words (part_in (last_reading place.meter s)) ++ codes "\n")))
+
+-- ---- how full it is
+
+-- when the first reading that is held began
+abbrev pub began : Option ReadingRow → Option ℕ
+began None = None
+began (Some r) = moment_of (slice_get r.parts 0)
+
+abbrev pub first_moment : State → Option ℕ
+first_moment s = began (slice_get s.readings 0)
+
+-- the whole days since then, at least one
+abbrev pub days_since : ℕ → ℕ → ℕ
+days_since now first = max 1 (ago now first / 86400)
+
+-- what is held came at so many bytes a day
+abbrev pub bytes_a_day : ℕ → State → Option ℕ → ℕ
+bytes_a_day now s None = 0
+bytes_a_day now s (Some first) = (size_of s - empty_size) / days_since now first
+
+-- in how many days the budget is spent at this pace; none where there is no pace
+abbrev pub days_left : ℕ → ℕ → State → Option ℕ
+days_left budget now s =
+    if bytes_a_day now s (first_moment s) == 0 then None
+    else Some ((budget - size_of s) / bytes_a_day now s (first_moment s))
+
+unfoldable pub days_words : Option ℕ → List ℕ
+days_words None = codes "DAYS NONE\n"
+days_words (Some days) = codes "DAYS" ++ (number_word days ++ codes "\n")
+
+unfoldable pub size_line : ℕ → State → List ℕ
+size_line budget s = codes "SIZE" ++ (number_word (size_of s) ++ (number_word budget ++ codes "\n"))
+
+-- ---- all
+
+unfoldable pub meter_lines : ℕ → ℕ → State → List ℕ
+meter_lines patience now s = flat_map (meter_line patience now s) (by_flat s.meters)
+
+-- THE TEXT at a clock, where a meter is silent after so many seconds
+unfoldable pub status_text : ℕ → ℕ → Held → List ℕ
+status_text patience now house = meter_lines patience now house.state
+    ++ (size_line house.budget house.state ++ days_words (days_left house.budget now house.state))
+
+-- one of them is silent
+abbrev pub any_silent : ℕ → ℕ → State → Bool
+any_silent patience now s =
+    list_any (λ (place : Place). is_silent patience now s.confirmed (heard s place.meter))
+    (by_flat s.meters)
