@@ -150,10 +150,7 @@ fn take<A: Allocator + Copy>(
 }
 
 // Gives the selections in doubt back: they are due again.
-fn give_back<A: Allocator + Copy>(
-    search: &mut Search<A>,
-    doubt: &mut Doubt,
-) -> Result<(), NoMemory>
+fn give_back<A: Allocator + Copy>(search: &mut Search<A>, doubt: &mut Doubt) -> Result<(), NoMemory>
     requires { 0 < doubt.old.tries }
     ensures ok { OnOk result (search.new
         ≡ given_back doubt.old.last doubt.old.before search.old) }

@@ -1,12 +1,11 @@
 //! Serial terminals, each of which one program uses at a time: a bus has one master.
 
 use crate::lock_file::{in_use, make};
-use std::fs;
 use std::fs::{File, OpenOptions, TryLockError};
-use std::io;
 use std::io::{ErrorKind, IsTerminal};
 use std::os::fd::AsRawFd;
 use std::rt::Files;
+use std::{fs, io};
 
 // The longest path of a terminal.
 const LONGEST: usize = 128;

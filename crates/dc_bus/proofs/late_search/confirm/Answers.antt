@@ -1,17 +1,16 @@
-use Rattle.std.proofs.Common.{◌≡◌, true, false, List, [], Some, None, refl, ap, sym, subst, ◌∙◌}
-use Rattle.std.specs.Prelude.{OnOk, option_map}
-use Rattle.dc_frame.specs.Frame.{spelling}
-use Rattle.dc_search.specs.Request.{request_by}
+use Rattle.std.proofs.Common.{ap, sym, subst, ◌∙◌}
 use Rattle.dc_search.specs.State.{SearchState, after, step_of}
-use Rattle.dc_search.specs.declared.step.Step.{Step}
-use Rattle.dc_bus.specs.Late.{SoughtFrom, given_back, is_selection}
-use Rattle.dc_bus.proofs.Doubts.{back, certain, on_both, drop, dropped, hear, heard, kept, none_left, of_request, on_err, on_ok, requested, rest, rested}
+use Rattle.dc_bus.specs.Late.{SoughtFrom}
+use Rattle.dc_bus.proofs.Doubts.{back, certain, on_both, dropped, hear, of_request, on_err, requested, rested}
 use Rattle.dc_bus.proofs.late_search.confirm.Goals as goal
 
 pub returns-in_err-take-clause-stopped : goal.returns-in_err-take-clause-stopped
 returns-in_err-take-clause-stopped g c budget first asked request doubt next answered =
-    on_err c.from_residual.result (after c.ask-telegram.result (after c.args.acknowledgement.now c.args.search.now), hear g.B.Bus.asks g.B.ScriptBus.settles g.B.ScriptBus.ready budget first c.args.bus.now c.ask-telegram.new.self (after c.args.acknowledgement.now c.args.search.now) c.write_request.new.buf c.ask-telegram.result (hear g.B.Bus.asks g.B.ScriptBus.settles g.B.ScriptBus.ready budget first asked c.args.bus.now c.args.search.now request c.args.acknowledgement.now doubt.sure next answered)
-    (requested c.args.search.now c.args.acknowledgement.now c.write_request.new.buf c.requires.selection c.requires.answered c.write_request.ensures) c.ask-telegram.ensures.asked)
+    on_err c.from_residual.result (
+      after c.ask-telegram.result (after c.args.acknowledgement.now c.args.search.now),
+      hear g.B.Bus.asks g.B.ScriptBus.settles g.B.ScriptBus.ready budget first c.args.bus.now c.ask-telegram.new.self (after c.args.acknowledgement.now c.args.search.now) c.write_request.new.buf c.ask-telegram.result (hear g.B.Bus.asks g.B.ScriptBus.settles g.B.ScriptBus.ready budget first asked c.args.bus.now c.args.search.now request c.args.acknowledgement.now doubt.sure next answered)
+          (requested c.args.search.now c.args.acknowledgement.now c.write_request.new.buf c.requires.selection c.requires.answered c.write_request.ensures) c.ask-telegram.ensures.asked,
+    )
 
 pub returns-then-is_ready-clause-sought : goal.returns-then-is_ready-clause-sought
 returns-then-is_ready-clause-sought g c budget first asked request doubt next answered =
@@ -24,8 +23,11 @@ returns-then-is_ready-clause-sought g c budget first asked request doubt next an
 
 pub returns-then-is_ready-clause-stopped : goal.returns-then-is_ready-clause-stopped
 returns-then-is_ready-clause-stopped g c budget first asked request doubt next answered =
-    on_err c.take-then-is_ready.result (after c.ask-telegram.result (after c.args.acknowledgement.now c.args.search.now), hear g.B.Bus.asks g.B.ScriptBus.settles g.B.ScriptBus.ready budget first c.args.bus.now c.ask-telegram.new.self (after c.args.acknowledgement.now c.args.search.now) c.write_request.new.buf c.ask-telegram.result (hear g.B.Bus.asks g.B.ScriptBus.settles g.B.ScriptBus.ready budget first asked c.args.bus.now c.args.search.now request c.args.acknowledgement.now doubt.sure next answered)
-    (requested c.args.search.now c.args.acknowledgement.now c.write_request.new.buf c.requires.selection c.requires.answered c.write_request.ensures) c.ask-telegram.ensures.asked)
+    on_err c.take-then-is_ready.result (
+      after c.ask-telegram.result (after c.args.acknowledgement.now c.args.search.now),
+      hear g.B.Bus.asks g.B.ScriptBus.settles g.B.ScriptBus.ready budget first c.args.bus.now c.ask-telegram.new.self (after c.args.acknowledgement.now c.args.search.now) c.write_request.new.buf c.ask-telegram.result (hear g.B.Bus.asks g.B.ScriptBus.settles g.B.ScriptBus.ready budget first asked c.args.bus.now c.args.search.now request c.args.acknowledgement.now doubt.sure next answered)
+          (requested c.args.search.now c.args.acknowledgement.now c.write_request.new.buf c.requires.selection c.requires.answered c.write_request.ensures) c.ask-telegram.ensures.asked,
+    )
 
 pub returns-clause-sought : goal.returns-clause-sought
 returns-clause-sought g c budget first asked request doubt next answered =

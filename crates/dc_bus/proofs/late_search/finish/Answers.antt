@@ -1,11 +1,6 @@
-use Rattle.std.proofs.Common.{◌≡◌, true, false, List, [], Some, None, refl, ap, sym, subst, ◌∙◌}
-use Rattle.std.specs.Prelude.{OnOk, option_map}
-use Rattle.dc_frame.specs.Frame.{spelling}
-use Rattle.dc_search.specs.Request.{request_by}
-use Rattle.dc_search.specs.State.{SearchState, after, step_of}
-use Rattle.dc_search.specs.declared.step.Step.{Step}
+use Rattle.std.proofs.Common.{None, refl, sym, subst}
 use Rattle.dc_bus.specs.Late.{SoughtFrom}
-use Rattle.dc_bus.proofs.Doubts.{back, certain, drop, dropped, hear, heard, kept, none_left, of_request, on_err, on_ok, requested, rest, rested}
+use Rattle.dc_bus.proofs.Doubts.{back, certain, on_err, rest, rested}
 use Rattle.dc_bus.proofs.late_search.finish.Goals.{else-doubt-gt0-via-then-doubt-gt0+else-settles_late, else-doubt-gt0-via-else-doubt-gt0}
 use Rattle.dc_bus.proofs.late_search.finish.Goals as goal
 
@@ -23,6 +18,6 @@ returns-clause-sought g c budget first doubt =
     let b = c.else-doubt-gt0.bus in
     let P : g.row.B.Denot → Type 0 = λ (x : g.row.B.Denot). SoughtFrom g.B.Bus.asks g.B.ScriptBus.settles g.B.ScriptBus.ready budget first x c.args.search.now in
     certain g.B.Bus.asks g.B.ScriptBus.settles g.B.ScriptBus.ready budget first b c.args.search.now None None (elim c.else-doubt-gt0.branch [
-      else-doubt-gt0-via-then-doubt-gt0+else-settles_late w ↦ subst P (sym w.bus-is) (rest g.B.Bus.asks g.B.ScriptBus.settles g.B.ScriptBus.ready budget first c.args.bus.now w.settles_late.new.bus c.args.search.now doubt.sure w.settles_late.ensures.settled)
+      | else-doubt-gt0-via-then-doubt-gt0+else-settles_late w ↦ subst P (sym w.bus-is) (rest g.B.Bus.asks g.B.ScriptBus.settles g.B.ScriptBus.ready budget first c.args.bus.now w.settles_late.new.bus c.args.search.now doubt.sure w.settles_late.ensures.settled)
       | else-doubt-gt0-via-else-doubt-gt0 w ↦ subst P (sym w.bus-is) doubt.sure
     ]) refl
