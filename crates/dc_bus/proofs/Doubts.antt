@@ -10,7 +10,7 @@ use Rattle.dc_search.specs.declared.step.Step.{Step}
 use Rattle.dc_search.specs.declared.step.Step.TheVariants.{Select, Request, Done, Budget}
 use Rattle.dc_address.specs.declared.identity.Identity.{Identity}
 use Rattle.dc_bus.specs.Bus.{AreAskedBy, Exchange, HasHeard, IsHeard}
-use Rattle.dc_bus.specs.Late.{AreHeard, HeardQuietly, ends, goes, InDoubt, IsOfSearch, IsPlain, Sought, SoughtFrom, begins, drops, given_back, hears, is_selection, rests}
+use Rattle.dc_bus.specs.Late.{ends, goes, InDoubt, IsOfSearch, IsPlain, Sought, SoughtFrom, begins, drops, given_back, hears, is_selection, rests}
 use Rattle.dc_bus.proofs.Asked.{IsNext, asked_by-push, heard_by}
 use Rattle.dc_bus.proofs.Searching.{Searching, searching_step}
 use Rattle.dc_bus.proofs.Budgets.{IsWithin, within_new, within_step}

@@ -1,5 +1,5 @@
 -- Waiting for answers.
-use Rattle.std.proofs.Common.{◌≡◌, ℕ, ◌+◌, ◌<◌, ◌≤◌, Bool, true, false, List, [], ◌∷◌, ◌++◌, Option, Some, None, IfSome, IfNone, is_some, not, refl, sym, subst, arith, if◌then◌else◌, ◌⊎◌, inl, inr}
+use Rattle.std.proofs.Common.{◌≡◌, ℕ, ◌+◌, Bool, true, false, List, [], ◌∷◌, ◌++◌, Option, Some, None, IfSome, IfNone, is_some, not, refl, subst}
 use Rattle.dc_bus.specs.Halves.{Runs, rests, gave, waited}
 
 module _ {B : Type 0} (gives : B → List ℕ → B → Type 0) (waits : B → B → Type 0) where

@@ -1,11 +1,11 @@
 -- A search on a bus whose answers may be late (this product): the answers that it takes, and those
 -- that it drops and asks for again.
-use Rattle.std.specs.Prelude.{◌≡◌, ◌⊎◌, ℕ, ◌+◌, ◌-◌, ◌*◌, Bool, true, false, IsTrue, List, [], ◌∷◌, ◌++◌}
+use Rattle.std.specs.Prelude.{◌≡◌, ℕ, ◌+◌, ◌-◌, ◌*◌, Bool, true, false, List, [], ◌∷◌, ◌++◌}
 use Rattle.std.specs.Prelude.{Option, Some, None, IfSome, option_map}
 use Rattle.dc_address.specs.declared.identity.Identity.{Identity}
 use Rattle.dc_frame.specs.Frame.{spelling}
 use Rattle.dc_search.specs.Request.{request_by}
-use Rattle.dc_search.specs.State.{SearchState, after, is_idle, new_search, rounds_left, step_of, taken_back}
+use Rattle.dc_search.specs.State.{SearchState, after, new_search, rounds_left, step_of, taken_back}
 use Rattle.dc_search.specs.declared.step.Step.{Step}
 use Rattle.dc_search.specs.declared.step.Step.TheVariants.{Select, Request, Done, Budget}
 use Rattle.dc_bus.specs.Bus.{AreAskedBy, Exchange, IsHeard}

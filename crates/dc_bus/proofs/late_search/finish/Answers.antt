@@ -1,11 +1,6 @@
-use Rattle.std.proofs.Common.{◌≡◌, true, false, List, [], Some, None, refl, ap, sym, subst, ◌∙◌}
-use Rattle.std.specs.Prelude.{OnOk, option_map}
-use Rattle.dc_frame.specs.Frame.{spelling}
-use Rattle.dc_search.specs.Request.{request_by}
-use Rattle.dc_search.specs.State.{SearchState, after, step_of}
-use Rattle.dc_search.specs.declared.step.Step.{Step}
+use Rattle.std.proofs.Common.{None, refl, sym, subst}
 use Rattle.dc_bus.specs.Late.{SoughtFrom}
-use Rattle.dc_bus.proofs.Doubts.{back, certain, drop, dropped, hear, heard, kept, none_left, of_request, on_err, on_ok, requested, rest, rested}
+use Rattle.dc_bus.proofs.Doubts.{back, certain, on_err, rest, rested}
 use Rattle.dc_bus.proofs.late_search.finish.Goals.{else-doubt-gt0-via-then-doubt-gt0+else-settles_late, else-doubt-gt0-via-else-doubt-gt0}
 use Rattle.dc_bus.proofs.late_search.finish.Goals as goal
 

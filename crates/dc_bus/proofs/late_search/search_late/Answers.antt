@@ -1,6 +1,5 @@
-use Rattle.std.proofs.Common.{◌≡◌, ◌+◌, ◌<◌, ℕ, Bool, true, false, List, [], Option, Some, None, Ok, arith, refl, ap, sym, subst, ◌∙◌}
-use Rattle.std.specs.Prelude.{IfSome, if◌then◌else◌}
-use Rattle.dc_address.specs.declared.identity.Identity.{Identity}
+use Rattle.std.proofs.Common.{◌+◌, ◌<◌, Bool, [], None, Ok, refl, ap, sym, subst, ◌∙◌}
+use Rattle.std.specs.Prelude.{if◌then◌else◌}
 use Rattle.dc_search.specs.State.{SearchState, step_of}
 use Rattle.dc_bus.specs.Bus.{IsSearched}
 use Rattle.dc_bus.specs.Late.{SoughtFrom, steps_left}

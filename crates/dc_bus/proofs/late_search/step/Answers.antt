@@ -1,11 +1,11 @@
-use Rattle.std.proofs.Common.{◌≡◌, true, false, List, [], Some, None, refl, ap, sym, subst, ◌∙◌}
-use Rattle.std.specs.Prelude.{OnOk, option_map}
+use Rattle.std.proofs.Common.{ap, sym, ◌∙◌}
+use Rattle.std.specs.Prelude.{option_map}
 use Rattle.dc_frame.specs.Frame.{spelling}
 use Rattle.dc_search.specs.Request.{request_by}
-use Rattle.dc_search.specs.State.{SearchState, after, step_of}
+use Rattle.dc_search.specs.State.{after}
 use Rattle.dc_search.specs.declared.step.Step.{Step}
-use Rattle.dc_bus.specs.Late.{given_back, goes, is_selection}
-use Rattle.dc_bus.proofs.Doubts.{back, certain, of_err, drop, dropped, hear, heard, kept, none_left, of_request, on_err, on_ok, requested, rest, rested}
+use Rattle.dc_bus.specs.Late.{goes}
+use Rattle.dc_bus.proofs.Doubts.{of_err, hear, heard, on_err}
 use Rattle.dc_bus.proofs.late_search.step.Goals as goal
 
 pub returns-in_default-clause-untouched : goal.returns-in_default-clause-untouched

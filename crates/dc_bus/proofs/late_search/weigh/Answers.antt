@@ -1,11 +1,7 @@
-use Rattle.std.proofs.Common.{◌≡◌, true, false, List, [], Some, None, refl, ap, sym, subst, ◌∙◌}
-use Rattle.std.specs.Prelude.{OnOk, option_map}
-use Rattle.dc_frame.specs.Frame.{spelling}
-use Rattle.dc_search.specs.Request.{request_by}
-use Rattle.dc_search.specs.State.{SearchState, after, step_of}
-use Rattle.dc_search.specs.declared.step.Step.{Step}
-use Rattle.dc_bus.specs.Late.{given_back, goes, is_selection}
-use Rattle.dc_bus.proofs.Doubts.{back, certain, of_err, drop, dropped, hear, heard, kept, none_left, of_request, on_err, on_ok, requested, rest, rested}
+use Rattle.std.proofs.Common.{ap, sym, ◌∙◌}
+use Rattle.dc_search.specs.State.{after, step_of}
+use Rattle.dc_bus.specs.Late.{is_selection}
+use Rattle.dc_bus.proofs.Doubts.{back, of_err, drop, dropped, hear, heard, kept, none_left, on_err, rest, rested}
 use Rattle.dc_bus.proofs.late_search.weigh.Goals as goal
 
 pub returns-in_err-take-clause-stopped : goal.returns-in_err-take-clause-stopped

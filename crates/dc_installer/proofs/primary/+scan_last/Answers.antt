@@ -1,7 +1,6 @@
-use Rattle.std.proofs.Common.{◌≡◌, ℕ, ◌-◌, ◌≤◌, ◌++◌, List, [], Result, Ok, Err, refl, rules, arith, sym, subst}
+use Rattle.std.proofs.Common.{◌≡◌, ℕ, ◌-◌, ◌≤◌, ◌++◌, List, [], refl, rules, arith, sym, subst}
 use Rattle.std.proofs.lemmas.Grind.{common_steps}
 use Rattle.std.specs.List.{range_with_len}
-use Rattle.std.specs.Result.{OnOk}
 use Rattle.dc_bus.specs.Bus.{AreExchanged, Exchange}
 use Rattle.dc_io.specs.Stream.{Puts}
 use Rattle.dc_io.proofs.Pieces.{puts-both, puts-none}

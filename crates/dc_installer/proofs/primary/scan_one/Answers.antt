@@ -1,5 +1,4 @@
-use Rattle.std.proofs.Common.{[], Ok, Err, Result, rules}
-use Rattle.std.specs.Result.{OnOk}
+use Rattle.std.proofs.Common.{[], rules}
 use Rattle.dc_io.proofs.Pieces.{puts-none}
 use Rattle.dc_installer.specs.Scan.{address_line}
 use Rattle.dc_installer.proofs.Addresses.{acknowledged, unacknowledged}

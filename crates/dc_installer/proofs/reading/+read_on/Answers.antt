@@ -1,7 +1,7 @@
 use Rattle.std.proofs.Common.{◌≡◌, ◌≤◌, None, Some, Option, Result, Ok, Err, refl, sym, ◌∙◌, ap, rules, arith, inl, inr}
 use Rattle.std.proofs.lemmas.Grind.{common_steps}
 use Rattle.std.specs.Prelude.{option_map}
-use Rattle.std.specs.Result.{OnOk, OnErr}
+use Rattle.std.specs.Result.{OnErr}
 use Rattle.dc_concentrator.proofs.Requests.{request_is_short}
 use Rattle.dc_frame.specs.Frame.{spelling}
 use Rattle.dc_readout.specs.Summary.{asked_by}
