@@ -1,10 +1,9 @@
 -- A walk over many periods.
-use Rattle.std.proofs.Common.{◌≡◌, ℕ, ◌+◌, ◌-◌, ◌<◌, ◌≤◌, List, [], ◌∷◌, ◌++◌, length, drop, get_or, Option, sym, ap, ◌∙◌, subst, append_assoc, arith}
+use Rattle.std.proofs.Common.{◌≡◌, ℕ, ◌+◌, ◌<◌, ◌≤◌, List, [], ◌∷◌, ◌++◌, length, drop, get_or, Option, sym, ap, ◌∙◌, subst, append_assoc}
 use Rattle.std.proofs.lemmas.List.{append-nil, drop_more, drop_all}
 use Rattle.dc_consumption.specs.declared.entry.Entry.{Entry}
 use Rattle.dc_consumption.specs.declared.period.Period.{Period}
 use Rattle.dc_consumption.specs.declared.reached.Reached.{Reached}
-use Rattle.dc_consumption.specs.Order.{IsInOrder}
 use Rattle.dc_consumption.specs.Curve.{curve}
 use Rattle.dc_consumption.specs.Period.{periods, period_of}
 use Rattle.dc_consumption.specs.Reached.{HasReached}

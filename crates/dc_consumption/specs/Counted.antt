@@ -1,6 +1,6 @@
 -- Which entries count (this product's rule): of several of one meter at one moment that follow one
 -- another, the last.
-use Rattle.std.specs.Prelude.{ℕ, ◌==◌, ◌&&◌, Bool, if◌then◌else◌, List, [], ◌∷◌}
+use Rattle.std.specs.Prelude.{◌==◌, ◌&&◌, Bool, if◌then◌else◌, List, [], ◌∷◌}
 use Rattle.dc_consumption.specs.declared.entry.Entry.{Entry}
 
 -- the entries have one meter and one moment

@@ -1,10 +1,9 @@
 -- The lines of the entries.
-use Rattle.std.proofs.Common.{◌≡◌, ℕ, ◌<◌, ◌≤◌, List, [], ◌∷◌, ◌++◌, length, ap, ◌∙◌, sym, subst, arith}
+use Rattle.std.proofs.Common.{◌≡◌, ℕ, List, ◌∷◌, ◌++◌, ap, ◌∙◌}
 use Rattle.std.specs.Fmt.{decimal}
 use Rattle.dc_consumption.specs.declared.entry.Entry.{Entry}
-use Rattle.dc_io.specs.Lines.{longest_input_line}
 use Rattle.dc_consumption_table.specs.Field.{LacksComma}
-use Rattle.dc_consumption_table.specs.Row.{AreFieldsOf, IsLineOf, IsPlaceName, IsSpelled, row_line}
+use Rattle.dc_consumption_table.specs.Row.{AreFieldsOf, IsLineOf, row_line}
 use Rattle.dc_consumption_table.proofs.Fields.{decimal_lacks_comma, name_lacks_comma}
 
 abbrev pub after_meter : Entry → List ℕ

@@ -1,5 +1,5 @@
 -- The entries of the place whose rows are being read.
-use Rattle.std.proofs.Common.{◌≡◌, ◌≢◌, ℕ, suc, ◌+◌, ◌-◌, ◌<◌, ◌≤◌, ⊎_elim, Bool, true, false, cond, ltb, List, [], ◌∷◌, ◌++◌, length, length-append, get_or, Option, None, Some, refl, sym, ap, ◌∙◌, subst, arith}
+use Rattle.std.proofs.Common.{◌≡◌, ℕ, ◌-◌, ◌<◌, ◌≤◌, ⊎_elim, ltb, List, [], ◌∷◌, ◌++◌, length, length-append, get_or, None, Some, refl, sym, ap, ◌∙◌, subst, arith}
 use Rattle.std.proofs.lemmas.Bool.{cases_lt, cond-true, lt-ltb}
 use Rattle.std.proofs.lemmas.List.Sorted.{IsNonDecreasingBy-push, IsNonDecreasingBy-short}
 use Rattle.std.specs.Ordering.{nat_cmp, ordering_reverse}
@@ -8,7 +8,6 @@ use Rattle.std.specs.declared.cmp.Ordering.{Ordering}
 use Rattle.std.specs.declared.cmp.Ordering.TheVariants.{Less, Equal, Greater}
 use Rattle.dc_consumption.specs.declared.entry.Entry.{Entry}
 use Rattle.dc_consumption.specs.Order.{IsInOrder}
-use Rattle.dc_consumption_table.specs.declared.fault.LineFault.{LineFault}
 use Rattle.dc_consumption_table.specs.declared.fault.LineFault.TheVariants.{Moment}
 use Rattle.dc_consumption_table.specs.Open.{EndsAt, row_at}
 use Rattle.dc_consumption_table.specs.Order.{fault_by, moment_fault, order_fault}

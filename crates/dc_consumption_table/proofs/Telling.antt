@@ -1,5 +1,5 @@
 -- The lines of the entries are read one by one.
-use Rattle.std.proofs.Common.{◌≡◌, ℕ, ◌+◌, ◌<◌, ◌≤◌, ◌⊎◌, inl, inr, List, [], ◌∷◌, ◌++◌, length, length-append, map, Option, None, Some, refl, sym, ap, ◌∙◌, subst, append_assoc, arith}
+use Rattle.std.proofs.Common.{◌≡◌, ℕ, ◌+◌, inl, inr, List, [], ◌∷◌, ◌++◌, length, length-append, map, Option, None, Some, refl, sym, ap, ◌∙◌, subst, append_assoc, arith}
 use Rattle.std.specs.List.{AllByRecursion, last_or}
 use Rattle.std.proofs.lemmas.List.{append-nil}
 use Rattle.dc_consumption.specs.declared.entry.Entry.{Entry}
@@ -8,7 +8,7 @@ use Rattle.dc_consumption_table.specs.declared.fault.LineFault.{LineFault}
 use Rattle.dc_consumption_table.specs.declared.fault.LineFault.TheVariants.{Row as NoRow}
 use Rattle.dc_consumption_table.specs.Open.{EndsAt, IsMade, MakeTheSame, row_at, rows_at}
 use Rattle.dc_consumption_table.specs.Order.{AreAfter, fault_after, order_fault}
-use Rattle.dc_consumption_table.specs.Place.{Place, places_of}
+use Rattle.dc_consumption_table.specs.Place.{places_of}
 use Rattle.dc_consumption_table.specs.Printed.{AreRead, IsFaultAt, Spells}
 use Rattle.dc_consumption_table.specs.Row.{Row, IsLineOf, entries_header, line_of}
 use Rattle.dc_consumption_table.specs.Table.{place_text, places_text}
