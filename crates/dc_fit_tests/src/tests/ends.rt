@@ -38,7 +38,7 @@ line 3: 18034063.PAD.49.06 stands already
 #[test]
 fn a_failing_disk_leaves_a_first_part(rt: HostRuntime) -> Result<(), Fail> {
     let heap = rt.alloc();
-    for k in 1..60 {
+    for k in 1..1000 {
         let mut disk = formatted(heap)?;
         disk.fail_once(k);
         let mut writer = Bytes::new(heap);

@@ -124,6 +124,10 @@ fn what_fails_tells_nothing(rt: HostRuntime) -> Result<(), Fail> {
     let told = show_status(rt.alloc(), &mut disk, at(READ_AT + 60), &mut full);
     assert_eq!(rt; told, Err(ProgramFault::Write));
     disk.fail_once(2);
+    let mut writer = Bytes::new(rt.alloc());
+    let told = show_status(rt.alloc(), &mut disk, at(READ_AT + 60), &mut writer);
+    assert_eq!(rt; told, Err(ProgramFault::Open(OpenFault::Device)));
+    assert_eq!(rt; writer.as_slice().len(), 0);
     let heap = Refusing::new(rt.alloc());
     for k in 1..200 {
         heap.refuse(k);
@@ -134,7 +138,7 @@ fn what_fails_tells_nothing(rt: HostRuntime) -> Result<(), Fail> {
             assert_eq!(rt; writer.as_slice(), READ_OUT);
             return Ok(());
         }
-        assert!(rt; told.is_err());
+        assert_eq!(rt; told, Err(ProgramFault::NoMemory));
         assert_eq!(rt; writer.as_slice().len(), 0);
     }
     Err(Fail::from("no end"))
