@@ -1,10 +1,10 @@
 //! `decode` alone: what answers `./mbdc decode` until the whole program is built. It stands on the
-//! crates of decoding alone, so that it compiles in a part of the time. Its statuses are those of
-//! `mbdc`.
+//! crates of decoding alone, so that it compiles in a part of the time. Its statuses and its line on
+//! standard error are those of `mbdc`.
 #![tactic(auto)]
 
 use dc_decode::decode_lines;
-use dc_io::{Buffered, ReadSource, TextFault, WriteSink};
+use dc_io::{Buffered, ReadSource, Sink, TextFault, WriteSink};
 use std::io;
 use std::process::ExitCode;
 
@@ -25,9 +25,13 @@ fn decode(rt: &HostRuntime) -> Result<bool, TextFault> {
 }
 
 fn main(rt: HostRuntime) -> ExitCode {
-    match decode(&rt) {
-        Ok(false) => ExitCode::SUCCESS,
-        Ok(true) => ExitCode::from(1),
-        Err(_) => ExitCode::from(4),
-    }
+    let line: &[u8] = match decode(&rt) {
+        Ok(false) => return ExitCode::SUCCESS,
+        Ok(true) => return ExitCode::from(1),
+        Err(TextFault::NoMemory) => b"mbdc: memory\n",
+        Err(_) => b"mbdc: file: -\n",
+    };
+    let mut faults = WriteSink::new(rt.stderr());
+    let _ = faults.put(line);
+    ExitCode::from(4)
 }
