@@ -75,7 +75,8 @@ fn progress_counts_the_events(rt: HostRuntime) -> Result<(), Fail> {
     let heap = rt.alloc();
     let meter = Identity::parse_text(b"00000011.PAD.01.07")?;
     let mut meters = [meter, meter];
-    let stations = [Station::new(line_of(heap, &NO_ROWS, 1)?, &mut meters)];
+    let mut stations = Vec::new(heap);
+    stations.push(Station::new(line_of(heap, &NO_ROWS, 1)?, &mut meters))?;
     let terminal = Terminal::new(heap);
     let progress = Progress::new(&terminal, true);
     let mut shown = Shown {
@@ -84,9 +85,9 @@ fn progress_counts_the_events(rt: HostRuntime) -> Result<(), Fail> {
         },
         progress: &progress,
     };
-    progress.show(&stations);
+    progress.show(stations.as_slice());
     assert_eq!(rt; printed(&terminal).as_deref(), Some(AT_FIRST));
-    progress.show(&stations);
+    progress.show(stations.as_slice());
     assert_eq!(rt; printed(&terminal).as_deref(), None);
     shown.tell(&Event::Read {
         meter,
@@ -95,14 +96,14 @@ fn progress_counts_the_events(rt: HostRuntime) -> Result<(), Fail> {
     })?;
     assert_eq!(rt; printed(&terminal).as_deref(), Some(CLEARED));
     terminal.seconds.set(7);
-    progress.show(&stations);
+    progress.show(stations.as_slice());
     assert_eq!(rt; printed(&terminal).as_deref(), Some(ONE_READ));
     shown.tell(&Event::Lost { line: 1 })?;
     shown.tell(&Event::Failed {
         meter,
         why: Why::NoAnswer,
     })?;
-    progress.show(&stations);
+    progress.show(stations.as_slice());
     assert_eq!(rt; printed(&terminal).as_deref(), Some(BOTH_DONE));
     Ok(())
 }
@@ -111,10 +112,11 @@ fn progress_counts_the_events(rt: HostRuntime) -> Result<(), Fail> {
 fn no_progress_without_a_terminal(rt: HostRuntime) -> Result<(), Fail> {
     let heap = rt.alloc();
     let mut meters = [Identity::parse_text(b"00000011.PAD.01.07")?];
-    let stations = [Station::new(line_of(heap, &NO_ROWS, 1)?, &mut meters)];
+    let mut stations = Vec::new(heap);
+    stations.push(Station::new(line_of(heap, &NO_ROWS, 1)?, &mut meters))?;
     let terminal = Terminal::new(heap);
     let progress = Progress::new(&terminal, false);
-    progress.show(&stations);
+    progress.show(stations.as_slice());
     progress.clear();
     assert_eq!(rt; printed(&terminal).as_deref(), None);
     Ok(())
