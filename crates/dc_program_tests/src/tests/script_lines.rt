@@ -166,7 +166,7 @@ NO GATEWAY
     Ok(())
 }
 
-// Each loss is printed once, in the words of its line.
+// Each loss is printed once, in the words of its line. A search and a readout settle their bus, until it is lost.
 #[test]
 fn each_line_tells_its_loss_once(rt: HostRuntime) -> Result<(), Fail> {
     let heap = rt.alloc();
@@ -195,7 +195,8 @@ REFUSED 2 Unknown
 REFUSED 2 Unknown
 ";
     assert!(rt; writes(heap, script, &mut lines, text)?);
-    assert_eq!(rt; settles_of(&lines[0]), 0);
+    assert_eq!(rt; settles_of(&lines[0]), 1);
+    assert_eq!(rt; settles_of(&lines[1]), 1);
     assert_eq!(rt; settles_of(&lines[2]), 1);
     Ok(())
 }
