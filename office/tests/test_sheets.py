@@ -8,10 +8,11 @@ import subprocess
 from typing import Any, Dict, List, Optional, Tuple
 
 import pytest
-from conftest import Office
+from conftest import OFFICE, Office
 from supplied import ALLOCATOR, COLD, HEAT, WATER, Supplied, at
 
-HOSTILE = "O'Brien \"<script>alert(1)</script>\" {{ 1000003*7 }} \u202eevil\u202c \u0645\u0631\u062d\u0628\u0627 'DROP TABLE readings; --"
+HOSTILE = ("O'Brien \"<script>alert(1)</script>\" {{ 1000003*7 }} \u202eevil\u202c \u0645\u0631\u062d\u0628\u0627"
+           " 'DROP TABLE readings; --")
 
 
 class Page(html.parser.HTMLParser):
@@ -56,8 +57,30 @@ def checked(text: str) -> Page:
     assert re.search(r'<html lang="(de|en)">', text) and "default-src 'none'" in text
     assert not {"script", "img", "iframe", "object", "link"} & set(page.tags)
     assert set(page.wanted) <= set(page.ids) and len(set(page.ids)) == len(page.ids)
+    assert text.count("<th ") == page.tags.count("th") == len(re.findall(r"<th [^>]*scope=", text))
+    assert page.tags.count("table") == len(re.findall(r"<table [^>]*aria-labelledby=", text))
+    assert [tag for tag in page.tags if tag in ("h1", "h2")][:1] == ["h1"] and not {"h3", "h4"} & set(page.tags)
     assert "{{" not in text.replace("{{ 1000003*7 }}", "") and "7000021" not in text
     return page
+
+
+def luminance(colour: str) -> float:
+    """Of a colour as #rgb or #rrggbb (WCAG 2)."""
+    digits = colour.lstrip("#") if len(colour) == 7 else "".join(2 * digit for digit in colour.lstrip("#"))
+    parts = [int(digits[place:place + 2], 16) / 255 for place in (0, 2, 4)]
+    red, green, blue = (part / 12.92 if part <= 0.03928 else ((part + 0.055) / 1.055) ** 2.4 for part in parts)
+    return 0.2126 * red + 0.7152 * green + 0.0722 * blue
+
+
+def test_each_text_has_contrast() -> None:
+    """At least 4.5 to 1 on each background of the style."""
+    style = (OFFICE / "templates/page.css").read_text(encoding="utf-8")
+    inks, papers = (set(re.findall(rf"(?<![a-z-]){name}: (#[0-9a-f]+);", style)) for name in ("color", "background"))
+    assert len(inks) > 3 and len(papers) > 1
+    for ink in inks:
+        for paper in papers:
+            dark, light = sorted((luminance(ink), luminance(paper)))
+            assert (light + 0.05) / (dark + 0.05) >= 4.5, (ink, paper)
 
 
 @pytest.fixture
