@@ -190,6 +190,14 @@ impl<D: Disk + Drop, A: Allocator + Copy> Concentrator<D, A> {
         &self.house
     }
 
+    /// Whether the disk has stopped the concentrator: a commit failed, and nothing is kept from then
+    /// on.
+    pub fn is_stopped(&self) -> bool
+        ensures { result ≡ self.now.store.is_stopped }
+    {
+        self.store.is_stopped()
+    }
+
     /// Returns the disk, and writes nothing: the pending changes are dropped. Unless the disk has
     /// failed, each image that it may leave stands for what is committed, and so that is what
     /// opening it again returns.

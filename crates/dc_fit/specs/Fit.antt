@@ -1,6 +1,6 @@
 -- What `fit` does to an image (this product): the concentrator is opened, the list is planned on its register, and
 -- either nothing is done, or the commands of the plan are lines of the office, in order.
-use Rattle.std.specs.Prelude.{◌≡◌, ◌⊎◌, ℕ, ◌+◌, ◌==◌, Bool, true, false, not, List, [], ◌++◌, codes, map}
+use Rattle.std.specs.Prelude.{◌≡◌, ◌⊎◌, ℕ, ◌+◌, ◌==◌, Bool, true, false, not, ◌||◌, List, [], ◌++◌, codes, map}
 use Rattle.std.specs.Prelude.{length, take}
 use Rattle.dc_io.specs.Lines.{lines_of}
 use Rattle.dc_disk.specs.declared.device.Disk.{Ghosts}
@@ -19,9 +19,11 @@ office_lines plan = map offices plan.commands
 abbrev pub nothing_done : List ℕ
 nothing_done = codes "nothing is done\n"
 
--- the register's last command isn't the last one of the plan
-abbrev pub is_unfinished : Outcome → State → State → Bool
-is_unfinished plan old new = not (new.last_number == old.last_number + length plan.commands)
+-- a command of the plan wasn't done: a commit failed, or the register's last command isn't the plan's
+abbrev pub is_unfinished : {D : Type 0} → Outcome → Machine D → Machine D → Bool
+is_unfinished plan first last = last.store.is_stopped
+    || not (last.house.state.last_number
+    == first.house.state.last_number + length plan.commands)
 
 -- ALL OR NOTHING. Where a row is wrong the concentrator is as it was, and that is said. Else it has run the
 -- commands, all of them and no others, and their replies follow what was said of the rows.
@@ -37,7 +39,7 @@ pub record DoesAll {D : Type 0} (g : Ghosts D) (origin : D) (state : State) (pla
   pub is_right : plan.wrong ≡ false
   pub ran : Ran g origin first.house.budget state [] (office_lines plan)
       (λ replies. wrote (plan.text ++ replies)) first last
-  pub told : faulty ≡ is_unfinished plan first.house.state last.house.state
+  pub told : faulty ≡ is_unfinished plan first last
 
 abbrev pub Does : {D : Type 0} → Ghosts D → D → State → Outcome → Bool → (List ℕ → Type 0)
     → Machine D → Machine D → Type 0

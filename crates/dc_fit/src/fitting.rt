@@ -120,7 +120,7 @@ fn follow<D: Disk + Drop, A: Allocator + Copy, W: Sink>(
     }
     let last = concentrator.house().last_number() + plan.commands().len() as u64;
     match concentrator.run(events, out) {
-        Ok(()) => Ok(concentrator.house().last_number() != last),
+        Ok(()) => Ok(concentrator.is_stopped() || concentrator.house().last_number() != last),
         Err(WriteFault) => Err(IoFault),
     }
 }
