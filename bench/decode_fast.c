@@ -1,0 +1,288 @@
+/* The same in C with its own buffer, tables of hex pairs and units, and no formatting of stdio: what bench/decode
+   holds to be fast. */
+#include "decode.h"
+
+#define ROOM 65536
+#define MOST_AT_ONCE 8192 /* no record prints more */
+
+static char room[ROOM + MOST_AT_ONCE], *out = room;
+static char pairs[256][2];
+static struct {
+    const char *text;
+    size_t len;
+    int exponent;
+} units[256];
+
+static void make_tables(void)
+{
+    make_table();
+    for (int i = 0; i < 256; i++) {
+        pairs[i][0] = "0123456789ABCDEF"[i >> 4];
+        pairs[i][1] = "0123456789ABCDEF"[i & 15];
+    }
+    for (size_t f = 0; f < sizeof families / sizeof families[0]; f++) {
+        for (int code = families[f].first; code <= families[f].last; code++) {
+            units[code].text = families[f].unit;
+            units[code].len = strlen(families[f].unit);
+            units[code].exponent = families[f].exponent + code - families[f].first;
+        }
+    }
+}
+
+static void flush(void)
+{
+    for (char *p = room; p < out;) {
+        ssize_t n = write(1, p, out - p);
+        if (n <= 0)
+            exit(4);
+        p += n;
+    }
+    out = room;
+}
+
+static void make_room(void)
+{
+    if (out > room + ROOM)
+        flush();
+}
+
+static inline void put(const char *text, size_t n)
+{
+    memcpy(out, text, n);
+    out += n;
+}
+
+#define PUT(text) put(text, sizeof text - 1)
+
+static inline void put_hex(const byte *p, size_t n)
+{
+    for (size_t i = 0; i < n; i++) {
+        memcpy(out, pairs[p[i]], 2);
+        out += 2;
+    }
+}
+
+/* The digits of a number, which end at `end`. */
+static inline char *digits_of(unsigned long long n, char *end)
+{
+    do
+        *--end = '0' + n % 10;
+    while (n /= 10);
+    return end;
+}
+
+static inline void put_number(unsigned long long n)
+{
+    char digits[24], *end = digits + sizeof digits, *first = digits_of(n, end);
+    put(first, end - first);
+}
+
+static inline void put_number_and(unsigned long long n, char after)
+{
+    if (n < 10)
+        *out++ = '0' + n;
+    else
+        put_number(n);
+    *out++ = after;
+}
+
+static void put_decimal(long long mantissa, int code)
+{
+    char digits[24], *end = digits + sizeof digits;
+    char *first = digits_of(mantissa < 0 ? -(unsigned long long)mantissa : (unsigned long long)mantissa, end);
+    int n = end - first, exponent = units[code].exponent;
+    PUT(" = ");
+    if (mantissa < 0)
+        *out++ = '-';
+    if (exponent >= 0) {
+        put(first, n);
+        for (; exponent && mantissa; exponent--)
+            *out++ = '0';
+    } else if (n <= -exponent) {
+        PUT("0.");
+        for (int i = n; i < -exponent; i++)
+            *out++ = '0';
+        put(first, n);
+    } else {
+        put(first, n + exponent);
+        *out++ = '.';
+        put(end + exponent, -exponent);
+    }
+    *out++ = ' ';
+    put(units[code].text, units[code].len);
+}
+
+static void put_two(int n)
+{
+    *out++ = '0' + n / 10;
+    *out++ = '0' + n % 10;
+}
+
+static void put_day(const byte *data)
+{
+    int year, month, day;
+    if (!read_day(data, &year, &month, &day)) {
+        PUT(" = none");
+        return;
+    }
+    PUT(" = ");
+    put_two(year / 100);
+    put_two(year % 100);
+    *out++ = '-';
+    put_two(month);
+    *out++ = '-';
+    put_two(day);
+}
+
+static void put_seen(const struct record *r)
+{
+    long long number;
+    if (is_day(r)) {
+        put_day(r->data);
+    } else if (has_flags(r)) {
+        PUT(" = ");
+        for (int i = r->width; i-- > 0;)
+            put_hex(r->data + i, 1);
+        PUT(" flags");
+    } else if (r->vib_len != 1 || !is_number(r->dif & 15) || !units[r->vib[0]].text) {
+        PUT(" = other");
+    } else if (read_number(r->dif & 15, r->data, r->width, &number)) {
+        put_decimal(number, r->vib[0]);
+    } else {
+        PUT(" = none");
+    }
+}
+
+static void put_record(const struct record *r)
+{
+    make_room();
+    PUT("RECORD ");
+    put_number_and(r->storage, ' ');
+    put_number_and(r->tariff, ' ');
+    put_number_and(r->subunit, ' ');
+    put_number_and(r->dif >> 4 & 3, ' ');
+    put_hex(r->vib, r->vib_len);
+    *out++ = ' ';
+    if (r->width)
+        put_hex(r->data, r->width);
+    else
+        *out++ = '-';
+    put_seen(r);
+    *out++ = '\n';
+}
+
+static void put_header(const byte *body)
+{
+    unsigned maker = body[4] | body[5] << 8;
+    PUT("METER ");
+    for (int i = 3; i >= 0; i--)
+        put_hex(body + i, 1);
+    *out++ = '.';
+    for (int shift = 10; shift >= 0; shift -= 5)
+        *out++ = 64 + (maker >> shift & 31);
+    *out++ = '.';
+    put_hex(body + 6, 1);
+    *out++ = '.';
+    put_hex(body + 7, 1);
+    *out++ = ' ';
+    put_number_and(body[8], ' ');
+    put_number_and(body[9], '\n');
+}
+
+static int put_telegram(const byte *body, int n)
+{
+    if (n < 12)
+        return 0;
+    put_header(body);
+    const byte *p = body + 12, *end = body + n;
+    struct record r;
+    while (p < end) {
+        if (*p == 0x2F) {
+            p++;
+        } else if (*p == 0x0F || *p == 0x1F) {
+            put(*p == 0x0F ? "LAST " : "MORE ", 5);
+            put_number_and(end - p - 1, '\n');
+            return 1;
+        } else if ((*p & 15) == 15 || !read_record(&p, end, &r)) {
+            return 0;
+        } else {
+            put_record(&r);
+        }
+    }
+    PUT("END\n");
+    return 1;
+}
+
+static void put_words(const char *what, size_t n, const byte *bytes, int count)
+{
+    put(what, n);
+    for (int i = 0; i < count; i++) {
+        *out++ = ' ';
+        put_hex(bytes + i, 1);
+    }
+}
+
+/* The frames of a line, printed: the same as in decode.c. */
+static void put_frames(const byte *p, long n)
+{
+    while (n > 0) {
+        long len;
+        make_room();
+        if (p[0] == 0xE5) {
+            PUT("ACK\n");
+            len = 1;
+        } else if (p[0] == 0x10 && n >= 5 && (byte)(p[1] + p[2]) == p[3] && p[4] == 0x16) {
+            put_words("SHORT", 5, p + 1, 2);
+            *out++ = '\n';
+            len = 5;
+        } else {
+            byte sum = 0;
+            if (p[0] != 0x68 || n < 4 || p[1] != p[2] || p[1] < 3 || p[3] != 0x68)
+                exit(1);
+            len = p[1] + 6;
+            if (n < len) {
+                PUT("FRAME FAULT 3 Truncated\n");
+                return;
+            }
+            for (int i = 4; i < len - 2; i++)
+                sum += p[i];
+            if (p[len - 1] != 0x16)
+                exit(1);
+            if (sum != p[len - 2]) {
+                PUT("FRAME FAULT 7 Checksum\n");
+            } else {
+                put_words("LONG", 4, p + 4, 3);
+                *out++ = ' ';
+                put_number_and(p[1] - 3, '\n');
+                if (p[6] == 0x72 && !put_telegram(p + 7, p[1] - 3))
+                    exit(1);
+            }
+        }
+        p += len;
+        n -= len;
+    }
+}
+
+int main(void)
+{
+    static char input[1 << 21];
+    static byte bytes[2048];
+    size_t size = 0;
+    make_tables();
+    for (ssize_t n; (n = read(0, input + size, sizeof input - size)) > 0;)
+        size += n;
+    for (char *p = input, *end = input + size; p < end;) {
+        char *feed = memchr(p, '\n', end - p);
+        if (!feed)
+            feed = end;
+        long n = read_hex(p, feed - p, bytes);
+        make_room();
+        if (n < 0)
+            PUT("HEX FAULT\n");
+        else
+            put_frames(bytes, n);
+        p = feed + 1;
+    }
+    flush();
+    return 0; /* a fault line is no other status here */
+}
