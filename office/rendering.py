@@ -4,6 +4,7 @@ import datetime
 import decimal
 import functools
 import importlib
+import os
 import pathlib
 from typing import Any, List, NamedTuple, Optional, Tuple
 
@@ -105,5 +106,7 @@ def refuse(url: str) -> Any:
 
 
 def pdf_of(html: str) -> bytes:
+    """A PDF, of the same page the same bytes: its fonts would carry the time else."""
+    os.environ.setdefault("SOURCE_DATE_EPOCH", "0")
     weasyprint: Any = importlib.import_module("weasyprint")
     return bytes(weasyprint.HTML(string=html, url_fetcher=refuse).write_pdf())

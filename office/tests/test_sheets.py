@@ -141,6 +141,8 @@ def test_an_english_sheet_and_its_pdf(office: Office, elm: Supplied, tmp_path: p
     pdf = sheet_of(office, tmp_path, tenancy, form="pdf")
     text = subprocess.run(["pdftotext", "-layout", pdf, "-"], capture_output=True, text=True, check=True).stdout
     assert "1,240.0" in text and "Consumption information January 2025" in text
+    written(office, tmp_path, "--decoder", "https://example.org/decode.html")
+    assert office.sql("SELECT form FROM sheets ORDER BY form") == [("html",), ("pdf",)]  # the same bytes, noted once
 
 
 def test_users_of_a_part_of_the_month(office: Office, elm: Supplied, tmp_path: pathlib.Path) -> None:
