@@ -187,16 +187,33 @@ where
     requires { 0 < plan.tries }
 {
     let progress = Progress::new(host.rt, host.is_watched);
+    poll_shown(&progress, *host.rt, disk, plan, teller)
+}
+
+// The same, with this progress.
+fn poll_shown<'p, 'h, D, R, N>(
+    progress: &'p Progress<'h, R>,
+    rt: R,
+    disk: FileDisk<D>,
+    plan: Plan<'_, Global, SystemBus<'_, R>>,
+    teller: N,
+) -> (Result<Outcome, ProgramFault>, Unfailing<N>)
+where
+    D: FileExt + OpenFile + Drop,
+    R: Clock + Copy + Eprint + AllocGlobal,
+    N: Teller + Drop,
+    requires { 0 < plan.tries }
+{
     let mut shown = Shown {
         teller: Unfailing::new(teller),
-        progress: &progress,
+        progress,
     };
     let mut timer = SystemTimer {
-        clock: *host.rt,
+        clock: rt,
         last: Moment { seconds: 0 },
-        progress: &progress,
+        progress,
     };
-    let (_, outcome) = poll_image(host.rt.alloc(), disk, plan, &mut timer, &mut shown);
+    let (_, outcome) = poll_image(rt.alloc(), disk, plan, &mut timer, &mut shown);
     progress.clear();
     let Shown { teller, .. } = shown;
     (outcome, teller)
