@@ -1,6 +1,7 @@
 //! The engine of `fit`.
 
-ghost use Rattle.std.specs.Prelude.{◌≡◌, ◌≢◌, ◌<◌, ◌≤◌, [], IfErr, IfOk, IsErrOf, MatchResult, OnErr, map};
+ghost use Rattle.std.specs.Prelude.{◌≡◌, ◌≢◌, ◌<◌, ◌≤◌, ◌==◌, ◌||◌, not, [], IfErr, IfOk, IsErrOf};
+ghost use Rattle.std.specs.Prelude.{MatchResult, OnErr, map};
 ghost use Rattle.dc_io.specs.Failures.{HasRisen};
 ghost use Rattle.dc_io.specs.Written.{PutsInto};
 ghost use Rattle.dc_disk.specs.Runs.{LeavesOnly};
@@ -120,9 +121,23 @@ fn follow<D: Disk + Drop, A: Allocator + Copy, W: Sink>(
     }
     let last = concentrator.house().last_number() + plan.commands().len() as u64;
     match concentrator.run(events, out) {
-        Ok(()) => Ok(concentrator.is_stopped() || concentrator.house().last_number() != last),
+        Ok(()) => Ok(is_unfinished(concentrator, last)),
         Err(WriteFault) => Err(IoFault),
     }
+}
+
+// Whether a commit failed, or this isn't the number of the last command.
+fn is_unfinished<D: Disk + Drop, A: Allocator + Copy>(
+    concentrator: &Concentrator<D, A>,
+    last: u64,
+) -> bool
+    ensures { result ≡ (concentrator.now.store.is_stopped
+        || not (concentrator.now.house.state.last_number == last)) }
+{
+    if concentrator.is_stopped() {
+        return true;
+    }
+    concentrator.house().last_number() != last
 }
 
 /// Opens the image, fits the meters of a list, and closes it. The list is planned on the register first

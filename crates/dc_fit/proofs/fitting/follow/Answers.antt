@@ -36,7 +36,7 @@ returns-in-Ok-clause-does g c = λ origin state at.
     inr (record {
       is_right = sym c.is_wrong.ensures ∙ c.if-is_wrong.false;
       ran = ran_as g.D.Disk origin budget state [] (office_lines c.args.plan.now) wrote other first last says ran;
-      told = rw (c.last_number-in-Ok.ensures.number, c.house-in-Ok.ensures, c.last_number.ensures.number, c.house.ensures, c.commands.ensures) refl;
+      told = c.is_unfinished.ensures ∙ rw (c.last_number.ensures.number, c.house.ensures, c.commands.ensures) refl;
     })
 
 pub returns-in-Err-clause-cut : goal.returns-in-Err-clause-cut
