@@ -9,8 +9,8 @@ ghost use Rattle.dc_decode.specs.Text.{decoded, line_text, is_bad_line, text_of,
 
 use crate::frames::put_frames;
 use dc_io::{
-    CHUNK, IoFault, LONGEST, MOST, Sink, Source, TextFault, decode_hex, first_line, lacks_space,
-    read_input, room, squeeze_into,
+    CHUNK, IoFault, LONGEST, MOST, Sink, Source, TextFault, decode_hex_line, first_line,
+    read_input, room,
 };
 use std::alloc::Allocator;
 
@@ -27,11 +27,7 @@ pub fn decode_line(line: &[u8], digits: &mut [u8], bytes: &mut [u8]) -> Option<u
     if line.len() > LONGEST {
         return None;
     }
-    if lacks_space(line) {
-        return decode_hex(line, bytes);
-    }
-    let count = squeeze_into(line, digits);
-    decode_hex(&digits[..count], bytes)
+    decode_hex_line(line, digits, bytes)
 }
 
 // Writes the text of a line, and returns whether it has a fault.

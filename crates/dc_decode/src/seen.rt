@@ -1,6 +1,6 @@
 //! The data point of a record, after its data.
 
-ghost use Rattle.std.specs.Prelude.{◌≡◌, OnOk, OnErr};
+ghost use Rattle.std.specs.Prelude.{◌≡◌, ◌≤◌, length, OnOk, OnErr};
 ghost use Rattle.dc_record.specs.Record.{view};
 ghost use Rattle.dc_io.specs.Written.{Wrote};
 ghost use Rattle.dc_decode.specs.Seen.{unit_word, point_text, seen_text, seen_word};
@@ -23,32 +23,42 @@ fn put_unit<W: Sink>(value: &Value, quantity: Quantity, out: &mut W) -> Result<(
     }
 }
 
-/// Writes a point's value and its unit.
+// Writes a point's value and its unit. Clearing a room for each value would cost more than the value: the caller has
+// one.
 #[tactic(auto, using(dc_io::proofs::Pieces::written), unfolding(crate::specs::Seen::point_text))]
+fn put_point_in<W: Sink>(point: &Point, room: &mut [u8], out: &mut W) -> Result<(), IoFault>
+    requires { TEXT_ROOM ≤ length room.old }
+    ensures { Wrote W.Sink result out.old out.new (point_text point.now) }
+{
+    out.put(point.value.write_into(room))?;
+    put_unit(&point.value, point.quantity, out)
+}
+
+/// Writes a point's value and its unit.
 pub fn put_point<W: Sink>(point: &Point, out: &mut W) -> Result<(), IoFault>
     ensures { Wrote W.Sink result out.old out.new (point_text point.now) }
 {
-    let mut text = [0u8; TEXT_ROOM];
-    out.put(point.value.write_into(&mut text))?;
-    put_unit(&point.value, point.quantity, out)
+    put_point_in(point, &mut [0u8; TEXT_ROOM], out)
 }
 
 // Writes a point, or that the record has no point.
 #[tactic(auto, using(dc_io::proofs::Pieces::written))]
-fn put_answer<W: Sink>(seen: &Seen, out: &mut W) -> Result<(), IoFault>
+fn put_answer<W: Sink>(seen: &Seen, room: &mut [u8], out: &mut W) -> Result<(), IoFault>
+    requires { TEXT_ROOM ≤ length room.old }
     ensures { Wrote W.Sink result out.old out.new (seen_text seen.now) }
 {
     match seen {
-        Seen::Point(point) => put_point(point, out),
+        Seen::Point(point) => put_point_in(point, room, out),
         Seen::Other => out.put(b"other"),
     }
 }
 
-/// Writes the decoded value of a record's data.
+/// Writes the decoded value of a record's data. `room` is room for its text.
 #[tactic(auto, using(dc_io::proofs::Pieces::written), unfolding(crate::specs::Seen::seen_word))]
-pub fn put_seen<W: Sink>(found: &Record<'_>, out: &mut W) -> Result<(), IoFault>
+pub fn put_seen<W: Sink>(found: &Record<'_>, room: &mut [u8], out: &mut W) -> Result<(), IoFault>
+    requires { TEXT_ROOM ≤ length room.old }
     ensures { Wrote W.Sink result out.old out.new (seen_word (view found.now)) }
 {
     out.put(b" = ")?;
-    put_answer(&point_of(found), out)
+    put_answer(&point_of(found), room, out)
 }

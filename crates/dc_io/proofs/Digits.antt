@@ -1,5 +1,5 @@
 -- Bytes in hex digits, one byte more.
-use Rattle.std.proofs.Common.{◌≡◌, ℕ, ◌+◌, ◌*◌, ◌/◌, ◌%◌, ◌<◌, ◌∙◌, Option, Some, List, [], ◌∷◌, ◌++◌, length, take, drop, get_or, refl, sym, ap, arith, append-nil}
+use Rattle.std.proofs.Common.{◌≡◌, ℕ, ◌+◌, ◌*◌, ◌/◌, ◌%◌, ◌<◌, ◌∙◌, Option, Some, List, [], ◌∷◌, ◌++◌, length, take, drop, set, get_or, refl, sym, ap, arith, append-nil}
 use Rattle.std.proofs.lemmas.Grind.{common_steps}
 use Rattle.std.proofs.lemmas.List.Concat.{flat_map-append}
 use Rattle.std.proofs.lemmas.Bool.Decides.{nat_tests}
@@ -56,3 +56,11 @@ read_back [] small = refl
 read_back (b ∷ bytes) small =
     ap (λ (v : Option ℕ). onto_bytes v (bytes_of (upper_hex bytes))) (pair_back b small.0)
     ∙ ap (prepend_known (b ∷ [])) (read_back bytes small.1)
+
+-- one pair of digits more, after the first character
+pub two_more : (text bytes : List ℕ) (i : ℕ) → i < length bytes → 2 * i + 2 < length text → take (2 * i + 1) text ≡ 32 ∷ upper_hex (take i bytes)
+    → take (2 * (i + 1) + 1) (set (set text (2 * i + 1) (upper_digit (get_or bytes i 0 / 16))) (2 * i + 2) (upper_digit (get_or bytes i 0 % 16))) ≡ 32 ∷ upper_hex (take (i + 1) bytes)
+two_more text bytes i below room before =
+    let b : ℕ = get_or bytes i 0 in
+    let wrote : take (2 * (i + 1) + 1) (set (set text (2 * i + 1) (upper_digit (b / 16))) (2 * i + 2) (upper_digit (b % 16))) ≡ take (2 * i + 1) text ++ upper_pair b = grind (arith, common_steps) in
+    wrote ∙ ap (λ (t : List ℕ). t ++ upper_pair b) before ∙ ap (λ (t : List ℕ). 32 ∷ t) (sym (hex_of_one_more bytes i below))

@@ -10,6 +10,8 @@ pub mod Writes
 pub mod Digits
 -- one more pair of digits, read or written
 mod Pairs
+-- pairs of digits with one space between them, one pair more
+mod Spaced
 -- a piece placed after the first bytes of a room
 pub mod Placed
 -- what the table of digits' values has at each place

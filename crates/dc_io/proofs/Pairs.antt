@@ -27,7 +27,7 @@ pair_at digits i h =
     let two : 2 * i + 2 ≡ 2 * (i + 1) = omega arith in
     ap bytes_of (two_at digits (2 * i) h ∙ ap (λ (k : ℕ). get_or digits (2 * i) 0 ∷ get_or digits (2 * i + 1) 0 ∷ drop k digits) two)
 
-prepend_more : (front back : List ℕ) (rest : Option (List ℕ)) → prepend_known front (prepend_known back rest) ≡ prepend_known (front ++ back) rest
+pub prepend_more : (front back : List ℕ) (rest : Option (List ℕ)) → prepend_known front (prepend_known back rest) ≡ prepend_known (front ++ back) rest
 prepend_more front back None = refl
 prepend_more front back (Some xs) = ap Some (sym (append_assoc front back xs))
 

@@ -1,5 +1,5 @@
 -- Bytes that are written in pieces: none, one put, one piece after another.
-use Rattle.std.proofs.Common.{◌≡◌, ℕ, List, [], ◌++◌, Option, Result, Ok, Err, OnErr, ◌∙◌, refl, subst}
+use Rattle.std.proofs.Common.{◌≡◌, ℕ, List, [], ◌++◌, Result, Ok, Err, OnErr, ◌∙◌, refl, subst}
 use Rattle.dc_io.specs.Failures.{HasRisen}
 use Rattle.dc_io.specs.Stream.{Puts, PutsFront}
 use Rattle.dc_io.proofs.Chains.{chain-none, chain-one, chain-both, broken-one, broken-first, broken-second}

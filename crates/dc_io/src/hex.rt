@@ -1,12 +1,16 @@
 //! Hex digits, read in either case and written in capitals.
 
-ghost use Rattle.std.specs.Prelude.{◌≡◌, ◌*◌, ◌<◌, ◌≤◌, length, take, Some, None, MatchOption};
-ghost use Rattle.std.specs.Prelude.{IfSome};
+ghost use Rattle.std.specs.Prelude.{◌≡◌, ◌+◌, ◌*◌, ◌<◌, ◌≤◌, ◌∷◌, length, take, filter, Some};
+ghost use Rattle.std.specs.Prelude.{None, MatchOption, IfSome};
 ghost use Rattle.dc_io.specs.Written.{Wrote};
 ghost use Rattle.dc_io.specs.Hex.{digit_value, bytes_of, upper_digit, upper_pair, upper_hex};
+ghost use Rattle.dc_io.specs.Lines.{is_solid};
 ghost use Rattle.dc_io.specs.Words.{byte_word, hex_word};
 
 use crate::{IoFault, Sink};
+
+// Most VIBs and data have no more bytes than these.
+const FEW: usize = 16;
 
 // The value of each character as a hex digit, or 255.
 static VALUES: [u8; 256] = [
@@ -57,6 +61,32 @@ pub fn decode_hex(digits: &[u8], out: &mut [u8]) -> Option<usize>
     Some(count)
 }
 
+// Decodes pairs of hex digits with one space between them, as `68 1F 1F`, into `out` and returns the number of bytes;
+// `None` if the line isn't written so.
+pub(crate) fn decode_spaced(line: &[u8], out: &mut [u8]) -> Option<usize>
+    requires { length line.now ≤ 2 * length out.old }
+    ensures value { IfSome result (λ n.
+        bytes_of (filter is_solid line.now) ≡ Some (take n out.new)) }
+    ensures count { IfSome result (λ n. 3 * n ≡ length line.now + 1) }
+{
+    if line.len() % 3 != 2 {
+        return None;
+    }
+    let count = line.len() / 3;
+    'pairs: for i in 0..count {
+        if line[3 * i + 2] != b' ' {
+            return None;
+        }
+        let high = value_of(line[3 * i])?;
+        let low = value_of(line[3 * i + 1])?;
+        out[i] = high * 16 + low;
+    }
+    let high = value_of(line[3 * count])?;
+    let low = value_of(line[3 * count + 1])?;
+    out[count] = high * 16 + low;
+    Some(count + 1)
+}
+
 #[inline]
 fn digit_of(n: u8) -> u8
     requires { n < 16 }
@@ -97,8 +127,23 @@ pub fn put_hex<W: Sink>(out: &mut W, bytes: &[u8]) -> Result<(), IoFault>
 pub fn put_byte_word<W: Sink>(out: &mut W, byte: u8) -> Result<(), IoFault>
     ensures { Wrote W.Sink result out.old out.new (byte_word byte) }
 {
-    out.put(b" ")?;
-    put_byte(out, byte)
+    let [high, low] = pair_of(byte);
+    out.put(&[b' ', high, low])
+}
+
+// Writes a space and a few bytes in capital hex digits by one put.
+#[tactic(auto, using(crate::proofs::Digits::digits))]
+fn put_few<W: Sink>(out: &mut W, bytes: &[u8]) -> Result<(), IoFault>
+    requires { length bytes.now ≤ 16 }
+    ensures { Wrote W.Sink result out.old out.new (32 ∷ upper_hex bytes.now) }
+{
+    let mut text = [b' '; 1 + 2 * FEW];
+    'bytes: for i in 0..bytes.len() {
+        let [high, low] = pair_of(bytes[i]);
+        text[2 * i + 1] = high;
+        text[2 * i + 2] = low;
+    }
+    out.put(&text[..2 * bytes.len() + 1])
 }
 
 /// Writes a space and bytes in capital hex digits, or `-` for no bytes.
@@ -108,6 +153,9 @@ pub fn put_hex_word<W: Sink>(out: &mut W, bytes: &[u8]) -> Result<(), IoFault>
 {
     if bytes.is_empty() {
         return out.put(b" -");
+    }
+    if bytes.len() <= FEW {
+        return put_few(out, bytes);
     }
     out.put(b" ")?;
     put_hex(out, bytes)

@@ -11,7 +11,7 @@
 //! Text: numbers in decimal ([`put_number`]), bytes in capital hex digits ([`put_byte`],
 //! [`put_hex`]), a fault as its number and name ([`put_fault`]), each into any [`Sink`] and without
 //! memory. One word of the contract states that the bytes were written, so that a chain of puts
-//! proves by itself. [`decode_hex`] reads hex digits of either case.
+//! proves by itself. [`decode_hex`] reads hex digits of either case, [`decode_hex_line`] a line of them with spaces.
 //!
 //! Input: [`read_input`] reads a whole input of at most 1 MiB, and [`first_line`] takes its lines one by one.
 //!
@@ -49,7 +49,7 @@ pub use memory::{NoMemory, room};
 pub use number::{put_number, put_number_word};
 pub use read_source::ReadSource;
 pub use slice_sink::SliceSink;
-pub use spaces::{lacks_space, squeeze_into};
+pub use spaces::decode_hex_line;
 pub use stream::{IoFault, Sink, Source};
 pub use text_fault::TextFault;
 pub use write_sink::WriteSink;

@@ -18,6 +18,7 @@ pub enum Front<'a> {
     Record(Record<'a>, &'a [u8]),
 }
 
+#[inline(always)]
 #[tactic(auto, unfolding(crate::specs::Body::front_at))]
 fn exact_front(bytes: &[u8]) -> Result<Front<'_>, BodyFault>
     ensures { Gives front result (front_at bytes.now) }
@@ -35,6 +36,7 @@ fn exact_front(bytes: &[u8]) -> Result<Front<'_>, BodyFault>
 }
 
 /// What stands at the front of a body's rest, with what it says of all that is read there.
+#[inline(always)]
 pub fn front_of(bytes: &[u8]) -> Result<Front<'_>, BodyFault>
     ensures { MatchResult result (λ f. Reads bytes.now (front f))
         (λ f. content_at bytes.now ≡ Err f) }

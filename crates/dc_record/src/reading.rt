@@ -11,9 +11,23 @@ use crate::record::Record;
 // The most DIFEs, and the most VIFEs.
 const MOST_EXTENSIONS: usize = 10;
 
-// How many bytes follow `last`, each announced by bit 7 of the one before it: at most `room`, else `many`.
-#[tactic(auto, using(crate::proofs::Spellings::Chain::chain_ends, crate::proofs::Spellings::Chain::chain_full))]
+// How many bytes follow `last`, each announced by bit 7 of the one before it: at most `room`, else `many`. Mostly none.
+#[inline]
+#[tactic(auto, using(crate::proofs::Spellings::Chain::chain_ends))]
 fn chain_len(many: BodyFault, room: usize, last: u8, bytes: &[u8]) -> Result<usize, BodyFault>
+    ensures exact { result ≡ chain_len many room last bytes.now }
+    ensures room { IfOk result (λ n. n ≤ room) }
+    ensures within { IfOk result (λ n. n ≤ length bytes.now) }
+{
+    if last < 0x80 {
+        return Ok(0);
+    }
+    counted_chain(many, room, last, bytes)
+}
+
+// The same, byte by byte.
+#[tactic(auto, using(crate::proofs::Spellings::Chain::chain_ends, crate::proofs::Spellings::Chain::chain_full))]
+fn counted_chain(many: BodyFault, room: usize, last: u8, bytes: &[u8]) -> Result<usize, BodyFault>
     ensures exact { result ≡ chain_len many room last bytes.now }
     ensures room { IfOk result (λ n. n ≤ room) }
     ensures within { IfOk result (λ n. n ≤ length bytes.now) }
@@ -27,7 +41,7 @@ fn chain_len(many: BodyFault, room: usize, last: u8, bytes: &[u8]) -> Result<usi
     match bytes {
         [] => Err(BodyFault::Cut),
         [next, rest @ ..] => {
-            let others = chain_len(many, room - 1, *next, rest)?;
+            let others = counted_chain(many, room - 1, *next, rest)?;
             Ok(others + 1)
         }
     }
@@ -91,6 +105,29 @@ struct Numbers {
     subunit: u16,
 }
 
+// The numbers of a record with these DIFEs.
+#[inline]
+fn numbers_of(difes: &[u8]) -> Numbers
+    requires { length difes.now ≤ 10 }
+    ensures storage { result.storage ≡ number 16 (map storage_digit difes.now) }
+    ensures tariff { result.tariff ≡ number 4 (map tariff_digit difes.now) }
+    ensures subunit { result.subunit ≡ number 2 (map subunit_digit difes.now) }
+    ensures storage_fits { result.storage < 16 ^ length difes.now }
+    ensures tariff_fits { result.tariff < 4 ^ length difes.now }
+    ensures subunit_fits { result.subunit < 2 ^ length difes.now }
+{
+    match difes {
+        // Mostly there are none.
+        [] => Numbers {
+            storage: 0,
+            tariff: 0,
+            subunit: 0,
+        },
+        _ => sum_up(difes),
+    }
+}
+
+// The same, DIFE by DIFE.
 fn sum_up(difes: &[u8]) -> Numbers
     requires { length difes.now ≤ 10 }
     ensures storage { result.storage ≡ number 16 (map storage_digit difes.now) }
@@ -118,6 +155,7 @@ fn sum_up(difes: &[u8]) -> Numbers
 }
 
 /// The record at the front of the bytes, and the rest.
+#[inline(always)]
 #[tactic(auto, unfolding(crate::specs::Reading::record_at))]
 pub fn record(bytes: &[u8]) -> Result<(Record<'_>, &[u8]), BodyFault>
     ensures { Gives (λ x. (view x.0, x.1.now)) result (record_at bytes.now) }
@@ -133,7 +171,7 @@ pub fn record(bytes: &[u8]) -> Result<(Record<'_>, &[u8]), BodyFault>
     let (difes, rest) = rest.split_at(difes);
     let (vib, rest) = rest.split_at(vib_len(rest)?);
     let (content, rest) = data(field, rest)?;
-    let higher = sum_up(difes);
+    let higher = numbers_of(difes);
     let record = Record {
         storage: u64::from(dif / 64 % 2) + 2 * higher.storage,
         tariff: higher.tariff,

@@ -7,21 +7,12 @@ use Rattle.dc_decode.specs.Seen.{seen_word}
 use Rattle.dc_decode.specs.Telegram.{record_words, record_line}
 use Rattle.dc_decode.proofs.telegram.put_record.Goals as goal
 
-pub returns-in_err-put : goal.returns-in_err-put
+pub returns-in_err-put_front : goal.returns-in_err-put_front
 unfolding record_line
-returns-in_err-put g c =
+returns-in_err-put_front g c =
     let r : Entry = view c.args.found.now in
-    let front : PutsFront (g.W.Sink.written c.args.out.now) (g.W.Sink.written c.put.new.self) (record_line r) =
-    puts_front-first (record_words r ++ (hex_word r.vib ++ (hex_word r.content ++ (seen_word r ++ codes "\n")))) c.in_err-put.ensures.err in
-    grind arith
-
-pub returns-in_err-put_numbers : goal.returns-in_err-put_numbers
-unfolding record_line
-returns-in_err-put_numbers g c =
-    let r : Entry = view c.args.found.now in
-    let front : PutsFront (g.W.Sink.written c.args.out.now) (g.W.Sink.written c.put_numbers.new.out) (record_line r) =
-    puts_front-second (codes "RECORD") c.in_ok-put.ensures.bytes
-    (puts_front-first (hex_word r.vib ++ (hex_word r.content ++ (seen_word r ++ codes "\n"))) c.in_err-put_numbers.ensures.2) in
+    let front : PutsFront (g.W.Sink.written c.args.out.now) (g.W.Sink.written c.put_front.new.out) (record_line r) =
+    puts_front-first (hex_word r.vib ++ (hex_word r.content ++ (seen_word r ++ codes "\n"))) c.in_err-put_front.ensures.2 in
     grind arith
 
 pub returns-in_err-put_hex_word : goal.returns-in_err-put_hex_word
@@ -29,8 +20,8 @@ unfolding record_line
 returns-in_err-put_hex_word g c =
     let r : Entry = view c.args.found.now in
     let front : PutsFront (g.W.Sink.written c.args.out.now) (g.W.Sink.written c.put_hex_word.new.out) (record_line r) =
-    puts_front-second (codes "RECORD") c.in_ok-put.ensures.bytes (puts_front-second (record_words r) c.in_ok-put_numbers.ensures.0
-    (puts_front-first (hex_word r.content ++ (seen_word r ++ codes "\n")) c.in_err-put_hex_word.ensures.2)) in
+    puts_front-second (codes "RECORD" ++ record_words r) c.in_ok-put_front.ensures.0
+    (puts_front-first (hex_word r.content ++ (seen_word r ++ codes "\n")) c.in_err-put_hex_word.ensures.2) in
     grind arith
 
 pub returns-in_err-put_hex_word-2 : goal.returns-in_err-put_hex_word-2
@@ -38,9 +29,8 @@ unfolding record_line
 returns-in_err-put_hex_word-2 g c =
     let r : Entry = view c.args.found.now in
     let front : PutsFront (g.W.Sink.written c.args.out.now) (g.W.Sink.written c.put_hex_word-2.new.out) (record_line r) =
-    puts_front-second (codes "RECORD") c.in_ok-put.ensures.bytes (puts_front-second (record_words r) c.in_ok-put_numbers.ensures.0
-    (puts_front-second (hex_word r.vib) c.in_ok-put_hex_word.ensures.0
-    (puts_front-first (seen_word r ++ codes "\n") c.in_err-put_hex_word-2.ensures.2))) in
+    puts_front-second (codes "RECORD" ++ record_words r) c.in_ok-put_front.ensures.0 (puts_front-second (hex_word r.vib) c.in_ok-put_hex_word.ensures.0
+    (puts_front-first (seen_word r ++ codes "\n") c.in_err-put_hex_word-2.ensures.2)) in
     grind arith
 
 pub returns-in_err-put_seen : goal.returns-in_err-put_seen
@@ -48,7 +38,6 @@ unfolding record_line
 returns-in_err-put_seen g c =
     let r : Entry = view c.args.found.now in
     let front : PutsFront (g.W.Sink.written c.args.out.now) (g.W.Sink.written c.put_seen.new.out) (record_line r) =
-    puts_front-second (codes "RECORD") c.in_ok-put.ensures.bytes (puts_front-second (record_words r) c.in_ok-put_numbers.ensures.0
-    (puts_front-second (hex_word r.vib) c.in_ok-put_hex_word.ensures.0 (puts_front-second (hex_word r.content) c.in_ok-put_hex_word-2.ensures.0
-    (puts_front-first (codes "\n") c.in_err-put_seen.ensures.2)))) in
+    puts_front-second (codes "RECORD" ++ record_words r) c.in_ok-put_front.ensures.0 (puts_front-second (hex_word r.vib) c.in_ok-put_hex_word.ensures.0 (puts_front-second (hex_word r.content) c.in_ok-put_hex_word-2.ensures.0
+    (puts_front-first (codes "\n") c.in_err-put_seen.ensures.2))) in
     grind arith
