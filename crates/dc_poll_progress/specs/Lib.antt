@@ -2,3 +2,7 @@
 
 -- a readout within the talk on a bus, and what it comes to
 pub mod Talked
+-- the talk that a line carries, and a concentrator that refuses nothing
+pub mod Carried
+-- every meter is read
+pub mod Every

@@ -1,9 +1,11 @@
-//! The theorem about the readouts of a poll. The function has no effect; its contract states the
-//! theorem.
+//! The theorems about a poll. The functions have no effect; their contracts state the theorems.
 
+ghost use Rattle.dc_poll_progress.specs.Every.{EveryMeterIsRead};
 ghost use Rattle.dc_poll_progress.specs.Talked.{ReadoutsOfAPollEnd};
 
 use dc_bus::QuietBus;
+use dc_disk::Disk;
+use dc_poll::{Teller, Timer};
 
 /// Each readout of a poll ends in one whole reading, while the talk on its bus is served.
 ///
@@ -11,4 +13,14 @@ use dc_bus::QuietBus;
 /// refused, and no commit fails. What the other lines do is free.
 pub fn each_readout_of_a_poll_ends_in_a_reading<B: QuietBus>()
     ensures { ReadoutsOfAPollEnd B.QuietBus }
+{}
+
+/// Every meter is read by a poll of an image, and that is committed.
+///
+/// The meters of its lines follow the standard, each line carries what is said, losing nothing
+/// three times in a row, and the concentrator refuses no start, no answer and no commit. Then what
+/// is read on each line is its queue, in order, and each meter of it has one reading more than
+/// before, whole and in order. No readout fails, and the counts say so.
+pub fn every_meter_is_read<D: Disk + Drop, B: QuietBus + Drop, T: Timer<B>, N: Teller>()
+    ensures { EveryMeterIsRead D.Disk B.QuietBus T.tells T.passes T.warns N.takes }
 {}

@@ -9,4 +9,4 @@
 
 mod laws;
 
-pub use laws::each_readout_of_a_poll_ends_in_a_reading;
+pub use laws::{each_readout_of_a_poll_ends_in_a_reading, every_meter_is_read};

@@ -148,7 +148,7 @@ commits_stay core (Err Device) old = record { eight = old.eight; each = old.each
 commits_stay core (Err Worn) old = old
 commits_stay core (Err CommitStopped) old = old
 
-turn_stays : (budget : ℕ) (core : Core) (event : Event) (answer : Answer) → IsOfLines (event, answer) → May budget core event answer → AreOnTheirRows core → AreOnTheirRows (next core event answer)
+pub turn_stays : (budget : ℕ) (core : Core) (event : Event) (answer : Answer) → IsOfLines (event, answer) → May budget core event answer → AreOnTheirRows core → AreOnTheirRows (next core event answer)
 turn_stays budget core (starts line meter) (started answer) of may old = starts_on budget core line meter answer may old
 turn_stays budget core (hears line moment bytes) (heard answer) of may old = hears_on budget core line moment bytes answer may old
 turn_stays budget core commits (committed answer) of may old = commits_stay core answer old

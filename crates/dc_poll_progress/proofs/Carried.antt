@@ -1,0 +1,377 @@
+-- A talk that its line carries, readout after readout (for the theorem of specs/Every).
+use Rattle.std.proofs.Common.{◌≡◌, ℕ, ◌+◌, ◌*◌, ◌<◌, ◌≤◌, Option, Some, None, Result, Ok, Err, List, [], ◌∷◌, ◌++◌, length, arith, refl, sym, ◌∙◌, ap, subst, append_assoc}
+use Rattle.std.specs.List.{AllByRecursion}
+use Rattle.dc_frame.specs.Frame.{FrameSeen}
+use Rattle.dc_frame.specs.Reading.{frame_of}
+use Rattle.dc_address.specs.declared.identity.Identity.{Identity}
+use Rattle.dc_readout.specs.Session.{commands}
+use Rattle.dc_readout.specs.Summary.{Summary}
+use Rattle.dc_world.specs.declared.event.Outcome.{Outcome}
+use Rattle.dc_world.specs.Meter.{Meter, Position}
+use Rattle.dc_world.specs.World.{heard_in}
+use Rattle.dc_world.proofs.Events.{length-after}
+use Rattle.dc_change.specs.State.{State, MeterRow, row_of}
+use Rattle.dc_concentrator.specs.declared.line_heard.LineHeard.{LineHeard}
+use Rattle.dc_concentrator.specs.declared.fault.HearFault.{HearFault}
+use Rattle.dc_concentrator.specs.declared.fault.StartFault.{StartFault}
+use Rattle.dc_concentrator.specs.declared.fault.CommitFault.{CommitFault}
+use Rattle.dc_concentrator.specs.Core.{Core, present, opened, session_of}
+use Rattle.dc_concentrator.specs.Event.{starts, asks, hears, commits, started, asked, heard, committed}
+use Rattle.dc_concentrator.specs.Step.{ask_answer}
+use Rattle.dc_concentrator.specs.Transcript.{Turn, leads, IsChain}
+use Rattle.dc_concentrator.proofs.Told.{chain_parts}
+use Rattle.dc_progress.specs.Beside.{Bus as Line, bus_at_first, bus_after, IsElsewhere, HasRead, IsHeardOn, IsNoFailure, IsOfLines, Serves, GoesBeside, rests as none_more, asks_it, has_none as asks_none, gives_it, commits_it, goes_by}
+use Rattle.dc_progress.specs.Needs.{IsThere}
+use Rattle.dc_progress.specs.Rounds.{row_after}
+use Rattle.dc_progress.proofs.Rows.{readouts_of_a_run_end}
+use Rattle.dc_poll.specs.Bus.{Bus}
+use Rattle.dc_poll.specs.Happening.{Happening, does, tells, happened_on, happened_turns, turns_of}
+use Rattle.dc_poll.specs.Queue.{starts_in}
+use Rattle.dc_poll.specs.Talking.{Talk, Talks, rests, settles_it, begins, has_none, sends_it, waits_it, takes_it, hears_it, stands_by, tells_it, loses_it}
+use Rattle.dc_poll.specs.declared.phase.Request.{Request}
+use Rattle.dc_poll.specs.declared.phase.Request.TheVariants.{Quiet, Sent, Answered}
+use Rattle.dc_poll_progress.specs.Carried.{Wire, IsCarried}
+use Rattle.dc_poll_progress.specs.Every.{IsWired}
+use Rattle.dc_poll_progress.proofs.Facts.{WasRead, Facts, IsUnrefusedIn, most_requests}
+use Rattle.dc_poll_progress.proofs.Kept.{IsPlaced, stays_placed}
+use Rattle.dc_poll_progress.proofs.Lists.{AreOfLines, Split, split_at, all_left, all_right}
+
+-- ---- a readout has few requests
+
+few_commands : (address : Option ℕ) → commands address ≤ 2
+few_commands None = omega arith
+few_commands (Some a) = omega arith
+
+few_requests : (address : Option ℕ) (parts : List (List ℕ)) → length parts ≤ 32 → 3 * (commands address + length parts) ≤ 102
+few_requests address parts few = let two = few_commands address in omega (arith, two, few)
+
+-- ---- turns that a line serves
+
+serves_both : {line : ℕ} {meters : List Meter} {old between last : Line} {front back : List Turn} → Serves line meters old front between → Serves line meters between back last → Serves line meters old (front ++ back) last
+serves_both none_more b = b
+serves_both (asks_it a) b = asks_it (serves_both a b)
+serves_both (asks_none a) b = asks_none (serves_both a b)
+serves_both (gives_it outcome frame waits bytes few a) b = gives_it outcome frame waits bytes few (serves_both a b)
+serves_both (commits_it a) b = commits_it (serves_both a b)
+serves_both (goes_by away a) b = goes_by away (serves_both a b)
+
+serves_away : (line : ℕ) (meters : List Meter) (bus : Line) (turns : List Turn) → AllByRecursion (λ (turn : Turn). IsElsewhere line turn.0) turns → Serves line meters bus turns bus
+serves_away line meters bus [] away = none_more
+serves_away line meters bus (turn ∷ turns) away = goes_by away.0 (serves_away line meters bus turns away.1)
+
+all_last : (P : Turn → Type 0) (turns : List Turn) (turn : Turn) → AllByRecursion P (turns ++ turn ∷ []) → P turn
+all_last P turns turn all = (all_right P turns (turn ∷ []) all).0
+
+module _ (budget line : ℕ) (state : State) (wire : Wire) (all : List Turn) (chain : IsChain budget (opened state) all) (of_all : AllByRecursion IsOfLines all)
+    (settled : (front back : List Turn) → all ≡ front ++ (asks line, asked None) ∷ back → (leads (opened state) front).pending ≡ []) where
+  abbrev core_at : List Turn → Core
+  core_at turns = leads (opened state) turns
+
+  abbrev Read : Identity → Type 0
+  Read x = WasRead line state wire all x
+
+  abbrev start_of : Identity → Turn
+  start_of x = (starts line x, started (Ok tt))
+
+  -- ---- a readout that was started
+
+  record Since (x : Identity) (before : List Turn) (now : Line) : Type 0 where
+    wired : IsWired state wire x
+    row : MeterRow
+    front : List Turn
+    since : List Turn
+    before_is : before ≡ front ++ start_of x ∷ since
+    positions : List Position
+    there : IsThere wire.meters positions wired.place wired.meter wired.parts
+    registered : row_of x (present (core_at front)) ≡ Some row
+    address : row.address ≡ wired.meter.address
+    serves : Serves line wire.meters (bus_at_first positions) since now
+
+  abbrev since_more : (x : Identity) (before turns : List Turn) (now next : Line) → Since x before now → Serves line wire.meters now turns next → Since x (before ++ turns) next
+  since_more x before turns now next s serves = record {
+    wired = s.wired;
+    row = s.row;
+    front = s.front;
+    since = s.since ++ turns;
+    before_is = ap (λ (ts : List Turn). ts ++ turns) s.before_is ∙ append_assoc s.front (start_of x ∷ s.since) turns;
+    positions = s.positions;
+    there = s.there;
+    registered = s.registered;
+    address = s.address;
+    serves = serves_both s.serves serves;
+  }
+
+  -- so it goes
+  goes_as : (x : Identity) (before more : List Turn) (now : Line) → all ≡ before ++ more → (s : Since x before now)
+      → GoesBeside budget line wire.meters s.wired.meter s.row s.wired.parts (core_at s.front) (core_at before) s.since now
+  goes_as x before more now is s =
+      let start : Turn = start_of s.wired.meter.identity in
+      let same : s.front ++ start ∷ s.since ≡ before = ap (λ (i : Identity). s.front ++ start_of i ∷ s.since) s.wired.who ∙ sym s.before_is in
+      let here : all ≡ (s.front ++ start ∷ s.since) ++ more = is ∙ ap (λ (ts : List Turn). ts ++ more) (sym same) in
+      let chain_here = (chain_parts budget (opened state) (s.front ++ start ∷ s.since) more (subst (IsChain budget (opened state)) here chain)).0 in
+      let of_here = all_left IsOfLines (s.front ++ start ∷ s.since) more (subst (AllByRecursion IsOfLines) here of_all) in
+      let of_front = all_left IsOfLines s.front (start ∷ s.since) of_here in
+      let registered : row_of s.wired.meter.identity (present (core_at s.front)) ≡ Some s.row = ap (λ (i : Identity). row_of i (present (core_at s.front))) s.wired.who ∙ s.registered in
+      let ends = readouts_of_a_run_end budget state s.front line wire.meters s.positions s.wired.place s.wired.meter s.row s.wired.parts s.since now of_front chain_here s.there registered s.address s.serves in
+      subst (λ (ts : List Turn). GoesBeside budget line wire.meters s.wired.meter s.row s.wired.parts (core_at s.front) (core_at ts) s.since now) same ends
+
+  few_heard : (x : Identity) (before more : List Turn) (now : Line) → all ≡ before ++ more → Since x before now → now.heard ≤ 102
+  few_heard x before more now is s =
+      let g = goes_as x before more now is s in
+      let most : now.heard ≤ 3 * (commands s.wired.meter.address + length s.wired.parts) = g.thrice in
+      let few = few_requests s.wired.meter.address s.wired.parts s.wired.there.few in
+      omega (arith, most, few)
+
+  -- ---- where it has no request any more, its meter was read
+
+  none_asked : (x : Identity) (before more : List Turn) (now : Line) → all ≡ before ++ (asks line, asked None) ∷ more → Since x before now → Read x
+  none_asked x before more now is s = by (session_of (core_at before) line) refl
+    where
+      g : GoesBeside budget line wire.meters s.wired.meter s.row s.wired.parts (core_at s.front) (core_at before) s.since now
+      g = goes_as x before ((asks line, asked None) ∷ more) now is s
+
+      none : (core_at before).pending ≡ []
+      none = settled before more is
+
+      asks_nothing : None ≡ ask_answer (core_at before) line
+      asks_nothing = (chain_parts budget (opened state) before ((asks line, asked None) ∷ more) (subst (IsChain budget (opened state)) is chain)).1.0
+
+      by : (o : Option Summary) → session_of (core_at before) line ≡ o → Read x
+      by (Some session) on = absurd (let one = g.asks_on session on none in let bad = asks_nothing ∙ one.1 in cc)
+      by None free =
+          let same : before ≡ s.front ++ start_of x ∷ s.since = s.before_is in
+          record {
+            wired = s.wired;
+            row = s.row;
+            front = s.front;
+            since = s.since;
+            back = (asks line, asked None) ∷ more;
+            all_are = is ∙ ap (λ (ts : List Turn). ts ++ (asks line, asked None) ∷ more) same;
+            registered = s.registered;
+            free = ap (λ (ts : List Turn). session_of (core_at ts) line) (sym same) ∙ free;
+            settled = ap (λ (ts : List Turn). (core_at ts).pending) (sym same) ∙ none;
+            read = subst (λ (ts : List Turn). HasRead x s.row s.wired.parts (present (core_at s.front)) (core_at ts).committed) same
+                (subst (λ (i : Identity). HasRead i s.row s.wired.parts (present (core_at s.front)) (core_at before).committed) s.wired.who (g.ends free));
+          }
+
+  -- ---- the next thing on the line
+
+  -- it comes behind turns of other lines
+  behind : (before : List Turn) (x : Happening) (more full : List Happening) (p : Split line x more full) → all ≡ before ++ happened_turns full → all ≡ ((before ++ p.away) ++ turns_of x) ++ happened_turns p.rest
+  behind before x more full p is =
+      is ∙ ap (λ (ts : List Turn). before ++ ts) p.turns_are
+      ∙ sym (append_assoc before p.away (turns_of x ++ happened_turns p.rest))
+      ∙ sym (append_assoc (before ++ p.away) (turns_of x) (happened_turns p.rest))
+
+  -- and here it is
+  at_it : (before : List Turn) (x : Happening) (more full : List Happening) (p : Split line x more full) → all ≡ before ++ happened_turns full → all ≡ (before ++ p.away) ++ (turns_of x ++ happened_turns p.rest)
+  at_it before x more full p is =
+      is ∙ ap (λ (ts : List Turn). before ++ ts) p.turns_are ∙ sym (append_assoc before p.away (turns_of x ++ happened_turns p.rest))
+
+  since_away : (x : Identity) (before : List Turn) (now : Line) (h : Happening) (more full : List Happening) (p : Split line h more full) → Since x before now → Since x (before ++ p.away) now
+  since_away x before now h more full p s = since_more x before p.away now now s (serves_away line wire.meters now p.away p.elsewhere)
+
+  -- ---- the talk, before the first start
+
+  abbrev IsCounted : Line → Type 0
+  IsCounted now = length now.positions ≡ length wire.meters
+
+  counted_after : (outcome : Outcome) (frame : FrameSeen) (now : Line) → IsCounted now → IsCounted (bus_after wire.meters outcome frame now)
+  counted_after outcome frame now counted = length-after outcome frame wire.meters now.positions counted
+
+  -- a readout begins
+  begun : (x : Identity) (before : List Turn) (now : Line) → AllByRecursion IsOfLines before → IsCounted now → IsWired state wire x → Since x (before ++ start_of x ∷ []) (bus_at_first now.positions)
+  begun x before now of counted w =
+      let at : IsPlaced x w.row (present (core_at before)) =
+      stays_placed x w.row (opened state) before of (record { now = w.row; found = w.registered; line_is = refl; address_is = refl }) in
+      record {
+        wired = w;
+        row = at.now;
+        front = before;
+        since = [];
+        before_is = refl;
+        positions = now.positions;
+        there = record { regular = w.there.regular; counted = counted; stands = w.there.stands; whole = w.there.whole; few = w.there.few; own = w.there.own };
+        registered = at.found;
+        address = at.address_is ∙ w.address;
+        serves = none_more;
+      }
+
+  of_before : (before more : List Turn) → all ≡ before ++ more → AllByRecursion IsOfLines before
+  of_before before more is = all_left IsOfLines before more (subst (AllByRecursion IsOfLines) is of_all)
+
+  -- ---- an answer that was given and isn't received yet
+
+  record Given (bytes : List ℕ) (now start : Line) : Type 0 where
+    outcome : Outcome
+    frame : FrameSeen
+    waited : start.waits ≡ Some frame
+    bytes_are : bytes ≡ heard_in outcome frame wire.meters start.positions
+    few : row_after start.row outcome < 3
+    now_is : now ≡ bus_after wire.meters outcome frame start
+
+  abbrev Stands : Request → Line → Line → Type 0
+  Stands Quiet now start = now ≡ start
+  Stands Sent now start = now ≡ start
+  Stands (Answered bytes) now start = Given bytes now start
+
+  -- how many requests were sent, and whether one is out
+  abbrev asks_at : Request → Line → ℕ
+  asks_at Quiet start = start.heard
+  asks_at Sent start = start.heard + 1
+  asks_at (Answered bytes) start = start.heard + 1
+
+  abbrev IsOut : Request → Type 0
+  IsOut Quiet = ⊥
+  IsOut Sent = Unit {0}
+  IsOut (Answered bytes) = Unit {0}
+
+  abbrev FactsOf : Option Identity → ℕ → List Happening → Type 0
+  FactsOf m n on = Facts Read m n on
+
+  record Going (x : Identity) (request : Request) (start : Line) (on : List Happening) : Type 0 where
+    facts : FactsOf (Some x) (asks_at request start) on
+    few : IsOut request → start.heard < most_requests
+
+  -- a readout begins, and its facts begin anew
+  starts_one : (y : Identity) (answer : Result (Unit {0}) StartFault) (before : List Turn) (later full : List Happening) (now : Line) → IsUnrefusedIn (does (starts line y, started answer)) → all ≡ before ++ happened_turns full → IsCounted now
+      → (p : Split line (does (starts line y, started answer)) later full) → IsWired state wire y
+      → (all ≡ ((before ++ p.away) ++ start_of y ∷ []) ++ happened_turns p.rest → Since y ((before ++ p.away) ++ start_of y ∷ []) (bus_at_first now.positions) → FactsOf (Some y) 0 later) → FactsOf (Some y) 0 later
+  starts_one y (Err fault) before later full now done is counted p w then_so = absurd done
+  starts_one y (Ok done) before later full now none is counted p w then_so =
+      let h : Happening = does (start_of y) in
+      then_so (behind before h later full p is) (begun y (before ++ p.away) now (of_before (before ++ p.away) (start_of y ∷ happened_turns p.rest) (at_it before h later full p is)) counted w)
+
+  -- an answer is received
+  hears_one : (x : Identity) (now start : Line) (moment : ℕ) (bytes : List ℕ) (answer : Result LineHeard HearFault) (before : List Turn) (later full : List Happening) → Given bytes now start → IsCounted start → IsUnrefusedIn (does (hears line moment bytes, heard answer))
+      → all ≡ before ++ happened_turns full → Since x before start → (p : Split line (does (hears line moment bytes, heard answer)) later full)
+      → ((next : Line) → now ≡ next → IsCounted next → Since x ((before ++ p.away) ++ (hears line moment bytes, heard answer) ∷ []) next → Going x Quiet next later)
+      → Going x (Answered bytes) start (does (hears line moment bytes, heard answer) ∷ later)
+  hears_one x now start moment bytes (Err fault) before later full given counted done is s p then_so = absurd done
+  hears_one x now start moment bytes (Ok answer) before later full given counted done is s p then_so =
+      let turn : Turn = (hears line moment bytes, heard (Ok answer)) in
+      let next : Line = bus_after wire.meters given.outcome given.frame start in
+      let here : Since x (before ++ p.away) start = since_away x before start (does turn) later full p s in
+      let there : Since x ((before ++ p.away) ++ turn ∷ []) next =
+      since_more x (before ++ p.away) (turn ∷ []) start next here (gives_it given.outcome given.frame given.waited given.bytes_are given.few none_more) in
+      let at = behind before (does turn) later full p is in
+      let g = goes_as x ((before ++ p.away) ++ turn ∷ []) (happened_turns p.rest) next at there in
+      let good = all_last (λ (t : Turn). IsHeardOn line t.0 → IsNoFailure t.1) here.since turn g.never_fails in
+      let heard_few : start.heard + 1 ≤ 102 = few_heard x ((before ++ p.away) ++ turn ∷ []) (happened_turns p.rest) next at there in
+      let rest = then_so next given.now_is (counted_after given.outcome given.frame start counted) there in
+      record { facts = (good refl, rest.facts); few = λ out. omega (arith, heard_few) }
+
+  -- all that waits is committed
+  commits_one : (x : Identity) (request : Request) (start : Line) (stored : Result ℕ CommitFault) (before : List Turn) (later full : List Happening) → IsUnrefusedIn (does (commits, committed stored)) → Since x before start
+      → (p : Split line (does (commits, committed stored)) later full) → (Since x ((before ++ p.away) ++ (commits, committed stored) ∷ []) start → Going x request start later) → Going x request start (does (commits, committed stored) ∷ later)
+  commits_one x request start (Err fault) before later full done s p then_so = absurd done
+  commits_one x request start (Ok count) before later full done s p then_so =
+      let turn : Turn = (commits, committed (Ok count)) in
+      let here : Since x (before ++ p.away) start = since_away x before start (does turn) later full p s in
+      let rest = then_so (since_more x (before ++ p.away) (turn ∷ []) start start here (commits_it none_more)) in
+      record { facts = (tt, rest.facts); few = rest.few }
+
+  module _ {B : Type 0} {g : Bus B} where
+    along : {first last : Talk B} {on : List Happening} (talk : Talks g line first on last) (x : Identity) (full : List Happening) (before : List Turn) (now start : Line) → on ≡ happened_on line full → AreOfLines full → all ≡ before ++ happened_turns full
+        → last.request ≡ Quiet → Stands first.request now start → IsCounted start → Since x before start → IsCarried wire.meters now talk → AllByRecursion IsUnrefusedIn on → AllByRecursion (IsWired state wire) (starts_in on) → Going x first.request start on
+    along (rests {last = t}) x full before now start on of is quiet at counted s carried well wired = record { facts = tt; few = λ out. absurd (subst IsOut quiet out) }
+    along (settles_it unready settles more) x full before now start on of is quiet at counted s carried well wired =
+        along more x full before now start on of is quiet at counted s carried well wired
+    along (begins {meter = y} {answer = answer} {more = later} ready more) x full before now start on of is quiet at counted s carried well wired =
+        let h : Happening = does (starts line y, started answer) in
+        let p = split_at line h later full on of in
+        let counted_now : IsCounted now = ap (λ (l : Line). length l.positions) at ∙ counted in
+        let first : Line = bus_at_first now.positions in
+        record {
+          facts = (
+            tt,
+            starts_one y answer before later full now well.0 is counted_now p wired.0 (λ there since.
+                (along more y p.rest ((before ++ p.away) ++ start_of y ∷ []) first first p.more_is p.of there quiet refl counted_now since carried well.1 wired.1).facts),
+          );
+          few = λ out. absurd out;
+        }
+    along (has_none {more = later} more) x full before now start on of is quiet at counted s carried well wired =
+        let turn : Turn = (asks line, asked None) in
+        let p = split_at line (does turn) later full on of in
+        let here = since_away x before start (does turn) later full p s in
+        let there = since_more x (before ++ p.away) (turn ∷ []) start start here (asks_none none_more) in
+        let rest = along more x p.rest ((before ++ p.away) ++ turn ∷ []) now start p.more_is p.of (behind before (does turn) later full p is) quiet at counted there carried well.1 wired in
+        record { facts = (none_asked x (before ++ p.away) (happened_turns p.rest) start (at_it before (does turn) later full p is) here, rest.facts); few = λ out. absurd out }
+    along (sends_it {request = request} {more = later} sends more) x full before now start on of is quiet at counted s carried well wired =
+        let turn : Turn = (asks line, asked (Some request)) in
+        let next : Line = record start { waits = frame_of request } in
+        let p = split_at line (does turn) later full on of in
+        let here = since_away x before start (does turn) later full p s in
+        let there = since_more x (before ++ p.away) (turn ∷ []) start next here (asks_it none_more) in
+        let rest = along more x p.rest ((before ++ p.away) ++ turn ∷ []) (record now { waits = frame_of request }) next p.more_is p.of (behind before (does turn) later full p is) quiet
+        (ap (λ (l : Line). record l { waits = frame_of request }) at) counted there carried well.1 wired in
+        record { facts = (rest.few tt, rest.facts); few = λ out. absurd out }
+    along (waits_it waits more) x full before now start on of is quiet at counted s carried well wired =
+        along more x full before now start on of is quiet at counted s carried well wired
+    along (takes_it {bytes = bytes} gives more) x full before now start on of is quiet at counted s carried well wired =
+        let later : Line = bus_after wire.meters carried.outcome carried.frame now in
+        let given : Given bytes later start = record {
+          outcome = carried.outcome;
+          frame = carried.frame;
+          waited = ap (λ (l : Line). l.waits) (sym at) ∙ carried.waited;
+          bytes_are = carried.bytes_are ∙ ap (λ (l : Line). heard_in carried.outcome carried.frame wire.meters l.positions) at;
+          few = subst (λ (l : Line). row_after l.row carried.outcome < 3) at carried.few;
+          now_is = ap (bus_after wire.meters carried.outcome carried.frame) at;
+        } in
+        let rest = along more x full before later start on of is quiet given counted s carried.then_on well wired in
+        record { facts = rest.facts; few = λ out. rest.few tt }
+    along (hears_it {moment = moment} {bytes = bytes} {answer = answer} {more = later} more) x full before now start on of is quiet at counted s carried well wired =
+        let turn : Turn = (hears line moment bytes, heard answer) in
+        let p = split_at line (does turn) later full on of in
+        hears_one x now start moment bytes answer before later full at counted well.0 is s p (λ next now_is counted_next there.
+        along more x p.rest ((before ++ p.away) ++ turn ∷ []) now next p.more_is p.of (behind before (does turn) later full p is) quiet now_is counted_next there carried well.1 wired)
+    along {first = t} (stands_by {stored = stored} {more = later} more) x full before now start on of is quiet at counted s carried well wired =
+        let turn : Turn = (commits, committed stored) in
+        let p = split_at line (does turn) later full on of in
+        commits_one x t.request start stored before later full well.0 s p (λ there.
+        along more x p.rest ((before ++ p.away) ++ turn ∷ []) now start p.more_is p.of (behind before (does turn) later full p is) quiet at counted there carried well.1 wired)
+    along (tells_it {told = told} {more = later} other more) x full before now start on of is quiet at counted s carried well wired =
+        let h : Happening = tells line told in
+        let p = split_at line h later full on of in
+        let there = since_more x (before ++ p.away) [] start start (since_away x before start h later full p s) none_more in
+        let rest = along more x p.rest ((before ++ p.away) ++ []) now start p.more_is p.of (behind before h later full p is) quiet at counted there carried well.1 wired in
+        record { facts = rest.facts; few = rest.few }
+    along (loses_it lost more) x full before now start on of is quiet at counted s carried well wired = absurd carried
+
+    -- before the first start
+    pub along_first : {first last : Talk B} {on : List Happening} (talk : Talks g line first on last) (n : ℕ) (full : List Happening) (before : List Turn) (now : Line) → on ≡ happened_on line full → AreOfLines full → all ≡ before ++ happened_turns full
+        → last.request ≡ Quiet → length now.positions ≡ length wire.meters → IsCarried wire.meters now talk → AllByRecursion IsUnrefusedIn on → AllByRecursion (IsWired state wire) (starts_in on) → Facts (λ (x : Identity). WasRead line state wire all x) None n on
+    along_first rests n full before now on of is quiet counted carried well wired = tt
+    along_first (settles_it unready settles more) n full before now on of is quiet counted carried well wired = along_first more n full before now on of is quiet counted carried well wired
+    along_first (begins {meter = y} {answer = answer} {more = later} ready more) n full before now on of is quiet counted carried well wired =
+        let h : Happening = does (starts line y, started answer) in
+        let p = split_at line h later full on of in
+        let first : Line = bus_at_first now.positions in (
+          tt,
+          starts_one y answer before later full now well.0 is counted p wired.0 (λ there since.
+              (along more y p.rest ((before ++ p.away) ++ start_of y ∷ []) first first p.more_is p.of there quiet refl counted since carried well.1 wired.1).facts),
+        )
+    along_first (has_none {more = later} more) n full before now on of is quiet counted carried well wired =
+        let turn : Turn = (asks line, asked None) in
+        let p = split_at line (does turn) later full on of in
+        (tt, along_first more n p.rest ((before ++ p.away) ++ turn ∷ []) now p.more_is p.of (behind before (does turn) later full p is) quiet counted carried well.1 wired)
+    along_first (sends_it {request = request} {more = later} sends more) n full before now on of is quiet counted carried well wired =
+        let turn : Turn = (asks line, asked (Some request)) in
+        let p = split_at line (does turn) later full on of in
+        (tt, along_first more (n + 1) p.rest ((before ++ p.away) ++ turn ∷ []) (record now { waits = frame_of request }) p.more_is p.of (behind before (does turn) later full p is) quiet counted carried well.1 wired)
+    along_first (waits_it waits more) n full before now on of is quiet counted carried well wired = along_first more n full before now on of is quiet counted carried well wired
+    along_first (takes_it gives more) n full before now on of is quiet counted carried well wired =
+        along_first more n full before (bus_after wire.meters carried.outcome carried.frame now) on of is quiet (counted_after carried.outcome carried.frame now counted) carried.then_on well wired
+    along_first (hears_it {moment = moment} {bytes = bytes} {answer = answer} {more = later} more) n full before now on of is quiet counted carried well wired =
+        let turn : Turn = (hears line moment bytes, heard answer) in
+        let p = split_at line (does turn) later full on of in
+        (tt, along_first more n p.rest ((before ++ p.away) ++ turn ∷ []) now p.more_is p.of (behind before (does turn) later full p is) quiet counted carried well.1 wired)
+    along_first (stands_by {stored = stored} {more = later} more) n full before now on of is quiet counted carried well wired =
+        let turn : Turn = (commits, committed stored) in
+        let p = split_at line (does turn) later full on of in
+        (tt, along_first more n p.rest ((before ++ p.away) ++ turn ∷ []) now p.more_is p.of (behind before (does turn) later full p is) quiet counted carried well.1 wired)
+    along_first (tells_it {told = told} {more = later} other more) n full before now on of is quiet counted carried well wired =
+        let h : Happening = tells line told in
+        let p = split_at line h later full on of in
+        along_first more n p.rest ((before ++ p.away) ++ []) now p.more_is p.of (behind before h later full p is) quiet counted carried well.1 wired
+    along_first (loses_it lost more) n full before now on of is quiet counted carried well wired = absurd carried

@@ -1,0 +1,208 @@
+-- Every meter is read (the theorem of specs/Every).
+use Rattle.std.proofs.Common.{◌≡◌, ◌≢◌, ◌⊎◌, inl, inr, ⊎_elim, ℕ, zero, suc, ◌+◌, ◌-◌, ◌<◌, ◌≤◌, ◌^◌, min, Bool, None, List, [], ◌∷◌, ◌++◌, length, get_or, take, drop, arith, refl, sym, ◌∙◌, ap, subst, append-nil}
+use Rattle.std.specs.List.{All, AllByRecursion}
+use Rattle.std.proofs.lemmas.Bool.{cases_lt}
+use Rattle.std.proofs.lemmas.List.{take_all, drop_all, get_or_past, get_or_default}
+use Rattle.std.proofs.lemmas.List.Elements.{recursion_from_All}
+use Rattle.dc_address.specs.declared.identity.Identity.{Identity}
+use Rattle.dc_change.specs.State.{State}
+use Rattle.dc_concentrator.specs.Core.{opened}
+use Rattle.dc_concentrator.specs.Event.{asks, asked}
+use Rattle.dc_concentrator.specs.Transcript.{Turn, leads, IsChain}
+use Rattle.dc_disk.specs.declared.device.Disk.{Ghosts}
+use Rattle.dc_progress.specs.Beside.{IsOfLines, bus_at_first}
+use Rattle.dc_poll.specs.Bus.{Bus}
+use Rattle.dc_poll.specs.Happening.{Happening, failures_in, happened_on, happened_turns, reads_in}
+use Rattle.dc_poll.specs.Keeping.{Store, all_kept, unkept}
+use Rattle.dc_poll.specs.Planned.{asked_for, has_bus, queue_on, refused_count}
+use Rattle.dc_poll.specs.Polls.{store_of}
+use Rattle.dc_poll.specs.Queue.{AreApart, Goes, GoesWell, Part, part, read_in, starts_in, stays, passes_on, starts_it, is_refused, asks_it, has_no_request, is_given_up, goes_on, is_accepted, is_put_off, fails_at_last, is_faulty, is_stored, is_unstored, stands_by, is_told, loses_it}
+use Rattle.dc_poll.specs.Round.{HasFew, IsCommitTurn, IsFresh, IsOver, IsSilent, LineGoes, meters_left, most_lines}
+use Rattle.dc_poll.specs.Station.{part_of}
+use Rattle.dc_poll.specs.declared.phase.Phase.TheVariants.{Free}
+use Rattle.dc_poll.specs.declared.phase.Request.TheVariants.{Quiet}
+use Rattle.dc_poll.specs.declared.event.Event.{Event as Told}
+use Rattle.dc_poll.specs.declared.station.Station.{Station}
+use Rattle.dc_poll.proofs.Apart.{queue_apart}
+use Rattle.dc_poll.proofs.Queues.{part_is}
+use Rattle.dc_poll.proofs.Reading.{all_read}
+use Rattle.dc_poll_progress.specs.Carried.{Wire, NothingIsRefused}
+use Rattle.dc_poll_progress.specs.Every.{EveryMeterIsRead, IsInOrder, IsRead, IsWired, LineIsRead}
+use Rattle.dc_poll_progress.proofs.Carried.{along_first}
+use Rattle.dc_poll_progress.proofs.Counted.{IsHere, queues_over, reads_over}
+use Rattle.dc_poll_progress.proofs.Facts.{WasRead}
+use Rattle.dc_poll_progress.proofs.Following.{follow}
+use Rattle.dc_poll_progress.proofs.Kept.{starts_on}
+use Rattle.dc_poll_progress.proofs.Lists.{all_as, all_both, all_left, all_right}
+use Rattle.dc_poll_progress.proofs.New.{is_read}
+use Rattle.dc_poll_progress.proofs.Turns.{no_fault, none_pends, none_pends_at, rounds_of_lines, starts_same, unrefused_on}
+use Rattle.dc_poll_progress.proofs.Whole.{IsWellOn, all_running, all_well, none_failed, none_left}
+
+-- ---- which meters are started
+
+module _ (P : Identity → Type 0) where
+  abbrev AreThey : Part → Type 0
+  AreThey (part left failed pass phase) = AllByRecursion P (left ++ failed)
+
+  moved : (x : Identity) (xs ys : List Identity) → AllByRecursion P (x ∷ (xs ++ ys)) → AllByRecursion P (xs ++ (ys ++ x ∷ []))
+  moved x xs ys all = all_both P xs (ys ++ x ∷ []) (all_left P xs ys all.1) (all_both P ys (x ∷ []) (all_right P xs ys all.1) (all.0, tt))
+
+  -- what holds of each of a queue holds of each that is started
+  started_of : {tries line : ℕ} {old last : Part} {happened : List Happening} → Goes tries line old happened last → AreThey old → AllByRecursion P (starts_in happened)
+  started_of stays a = tt
+  started_of (passes_on {meter = x} {failed = xs} less goes) a = started_of goes (subst (AllByRecursion P) (sym (append-nil (x ∷ xs))) a)
+  started_of (starts_it few goes) a = (a.0, started_of goes a)
+  started_of (is_refused few goes) a = (a.0, started_of goes a.1)
+  started_of (asks_it goes) a = started_of goes a
+  started_of (has_no_request goes) a = started_of goes a.1
+  started_of (is_given_up goes) a = started_of goes a.1
+  started_of (goes_on on goes) a = started_of goes a
+  started_of (is_accepted goes) a = started_of goes a
+  started_of (is_put_off {meter = x} {left = xs} {failed = ys} less goes) a = started_of goes (moved x xs ys a)
+  started_of (fails_at_last most goes) a = started_of goes a.1
+  started_of (is_faulty goes) a = started_of goes a.1
+  started_of (is_stored goes) a = started_of goes a
+  started_of (is_unstored goes) a = started_of goes a.1
+  started_of (stands_by not goes) a = started_of goes a
+  started_of (is_told says goes) a = started_of goes a
+  started_of (loses_it goes) a = started_of goes a
+
+-- ---- a line
+
+module _ {B : Type 0} where
+  part_first : (s : Station B) → IsFresh s → part_of s ≡ part s.left.now [] 1 Free
+  part_first s fresh =
+      let q = s.left.now in
+      part_is s q (length q) 1 Free refl fresh.all fresh.first fresh.free
+      ∙ ap (λ (xs : List Identity). part xs (drop (length q) q) 1 Free) (take_all (length q) q (omega arith)) ∙ ap (λ (xs : List Identity). part q xs 1 Free) (drop_all (length q) q (omega arith))
+
+  part_last : (s : Station B) → IsOver s → part_of s ≡ part [] [] s.pass Free
+  part_last s over =
+      part_is s [] s.due s.pass Free over.0 refl refl over.1
+      ∙ ap (λ (xs : List Identity). part xs (drop s.due []) s.pass Free) (take_all s.due [] (omega arith)) ∙ ap (λ (xs : List Identity). part [] xs s.pass Free) (drop_all s.due [] (omega arith))
+
+module _ (budget : ℕ) (state : State) (happened : List Happening) (chain : IsChain budget (opened state) (happened_turns happened)) (of : AllByRecursion IsOfLines (happened_turns happened)) (well : NothingIsRefused happened)
+    (none : (line : ℕ) (front back : List Turn) → happened_turns happened ≡ front ++ (asks line, asked None) ∷ back → (leads (opened state) front).pending ≡ []) (none_last : (leads (opened state) (happened_turns happened)).pending ≡ []) where
+  abbrev now : State
+  now = (leads (opened state) (happened_turns happened)).committed
+
+  record LineWell (wire : Wire) (queue : List Identity) (line : ℕ) : Type 0 where
+    line_read : LineIsRead state now wire queue (happened_on line happened)
+    line_well : AllByRecursion GoesWell (happened_on line happened)
+
+  line_is_read : {B : Type 0} (g : Bus B) (tries line : ℕ) (wire : Wire) (old new : Station B) (goes : LineGoes g tries line old new (happened_on line happened)) → IsFresh old → IsOver new → IsSilent new
+      → IsInOrder g tries line state wire old new happened goes → AreApart old.left.now → LineWell wire old.left.now line
+  line_is_read g tries line wire old new goes fresh over silent order apart =
+      let q : List Identity = old.left.now in
+      let on : List Happening = happened_on line happened in
+      let turns : List Turn = happened_turns happened in
+      let from_first : Goes tries line (part q [] 1 Free) on (part_of new) = subst (λ (p : Part). Goes tries line p on (part_of new)) (part_first old fresh) goes.queue in
+      let queue : Goes tries line (part q [] 1 Free) on (part [] [] new.pass Free) = subst (λ (p : Part). Goes tries line (part q [] 1 Free) on p) (part_last new over) from_first in
+      let unrefused = unrefused_on line happened well in
+      let wired : AllByRecursion (IsWired state wire) (starts_in on) = started_of (IsWired state wire) queue (subst (AllByRecursion (IsWired state wire)) (sym (append-nil q)) order.wired) in
+      let facts = along_first budget line state wire turns chain of (none line) goes.talk 0 happened [] (bus_at_first wire.positions) refl of refl silent order.counted order.carried unrefused wired in
+      let done = follow (λ (x : Identity). WasRead line state wire turns x) queue (refl, refl) refl unrefused (record { meter = None; asks_before = 0; facts = facts }) in
+      let both = all_read tries line q on new.pass done.well queue in
+      let once : AreApart (starts_on line turns) = subst AreApart (sym both.0 ∙ starts_same line happened) apart in
+      record {
+        line_read = record {
+          in_order = both.1;
+          each = all_as (λ (x : Identity). WasRead line state wire turns x) (IsRead state now wire) q (λ x w. is_read budget line state wire turns chain of once x w none_last) done.reads;
+        };
+        line_well = done.well;
+      }
+
+-- ---- all lines
+
+over_at : {B : Type 0} (stations : List (Station B)) (k : ℕ) (d : Station B) → All IsOver stations → IsOver d → IsOver (get_or stations k d)
+over_at stations k d over last = ⊎_elim
+    (λ (low : k < length stations). over k d low)
+    (λ (past : length stations ≤ k). subst IsOver (sym (get_or_past stations k d past)) last)
+    (cases_lt k (length stations))
+
+silent_at : {B : Type 0} (stations : List (Station B)) (k : ℕ) (d : Station B) → All IsSilent stations → IsSilent d → IsSilent (get_or stations k d)
+silent_at stations k d silent last = ⊎_elim
+    (λ (low : k < length stations). silent k d low)
+    (λ (past : length stations ≤ k). subst IsSilent (sym (get_or_past stations k d past)) last)
+    (cases_lt k (length stations))
+
+ends_over : {B : Type 0} (olds news : List (Station B)) (store : Store) → store ≡ all_kept → (store ≡ unkept) ⊎ (All IsFresh olds → All HasFew olds → All IsOver news × All IsSilent news) → All IsFresh olds → All HasFew olds → All IsOver news × All IsSilent news
+ends_over olds news store kept (inl lost) fresh few = absurd (let bad : all_kept ≡ unkept = sym kept ∙ lost in cc)
+ends_over olds news store kept (inr ends) fresh few = ends fresh few
+
+well_on : (happened : List Happening) (n : ℕ) → ((k : ℕ) → k < n → AllByRecursion GoesWell (happened_on (k + 1) happened)) → ((other : ℕ) → ((k : ℕ) → k < n → other ≢ k + 1) → All IsCommitTurn (happened_on other happened)) → (line : ℕ) → IsWellOn line happened
+well_on happened n each alone zero = inr (recursion_from_All IsCommitTurn (happened_on zero happened) (alone zero (λ k low e. omega (arith, e))))
+well_on happened n each alone (suc j) = ⊎_elim
+    (λ (low : j < n). inl (subst (λ (m : ℕ). AllByRecursion GoesWell (happened_on m happened)) (next_line j) (each j low)))
+    (λ (past : n ≤ j). inr (recursion_from_All IsCommitTurn (happened_on (suc j) happened) (alone (suc j) (λ k low e. omega (arith, past, low, e)))))
+    (cases_lt j n)
+  where
+    next_line : (k : ℕ) → k + 1 ≡ suc k
+    next_line k = omega arith
+
+one_of : {X : Type 0} (xs : List X) (k : ℕ) → k < length xs → X
+one_of [] k low = absurd (omega (arith, low))
+one_of (x ∷ xs) k low = x
+
+-- each event is of one of these lines
+here_on : (happened : List Happening) (n : ℕ) → ((other : ℕ) → ((k : ℕ) → k < n → other ≢ k + 1) → All IsCommitTurn (happened_on other happened)) → (line : ℕ) → IsHere n line happened
+here_on happened n alone zero = inr (recursion_from_All IsCommitTurn (happened_on zero happened) (alone zero (λ k low e. omega (arith, e))))
+here_on happened n alone (suc j) = ⊎_elim
+    (λ (low : j < n). inl (omega arith, omega (arith, low)))
+    (λ (past : n ≤ j). inr (recursion_from_All IsCommitTurn (happened_on (suc j) happened) (alone (suc j) (λ k low e. omega (arith, past, low, e)))))
+    (cases_lt j n)
+
+counted_read : (out between counts reads left : ℕ) → out ≡ between → between ≡ counts → counts ≡ 0 + reads → reads ≡ left → out ≡ left
+counted_read out between counts reads left a b c d = omega (arith, a, b, c, d)
+
+counted_failed : (out between counts refused failures left : ℕ) → out ≡ min (2 ^ 64 - 1) (between + left) → between ≡ counts → counts ≡ min (2 ^ 32 - 1) refused + failures → failures ≡ 0 → left ≡ 0 → out ≡ min (2 ^ 32 - 1) refused
+counted_failed out between counts refused failures left a b c d e = omega (arith, a, b, c, d, e)
+
+-- a station with nothing left
+abbrev over_by : {B : Type 0} → Station B → Station B
+over_by station = record station { left = record station.left { now = [] }; phase = Free; request = Quiet }
+
+pub each_is_read : {D B T N : Type 0} (g : Ghosts D) (bus : Bus B) (told : T → ℕ → T → Type 0) (passes : T → Bool → T → Type 0) (warned : T → T → Type 0) (takes : N → Told → N → Type 0) → EveryMeterIsRead g bus told passes warned takes
+each_is_read {B = B} g bus told passes warned takes disk new buses only tries first last old fresh outcome wires poll sorted well order =
+    let state : State = poll.state in
+    let happened : List Happening = poll.happens.happened in
+    let turns : List Turn = happened_turns happened in
+    let plan = poll.happens.are_such in
+    let polled = plan.polls.polled in
+    let polls = polled.polls in
+    let olds : List (Station B) = plan.olds in
+    let news : List (Station B) = plan.news in
+    let budget : ℕ = poll.first.house.budget in
+    let chain : IsChain budget (opened state) turns = subst (IsChain budget (opened state)) poll.happens.went.turns_are poll.happens.went.ran.chain in
+    let of : AllByRecursion IsOfLines turns = rounds_of_lines polls.keeps in
+    let no : plan.polls.between.fault ≡ None = no_fault plan.polls.between.fault turns polled.fault well in
+    let kept : store_of plan.polls.between.fault ≡ all_kept = ap store_of no in
+    let none_last : (leads (opened state) turns).pending ≡ [] = none_pends budget (opened state) turns refl chain (polls.stored ∙ kept) in
+    let none : (line : ℕ) (front back : List Turn) → turns ≡ front ++ (asks line, asked None) ∷ back → (leads (opened state) front).pending ≡ [] =
+    λ line front back is. none_pends_at budget (opened state) line refl chain of well polls.keeps front back is in
+    let fresh_all : All IsFresh olds = λ k d low. (plan.planned.each k d low).fresh in
+    let few_all : All HasFew olds = λ k d low. (order k d low).few in
+    let over : All IsOver news × All IsSilent news = ends_over olds news (store_of plan.polls.between.fault) kept polled.ended fresh_all few_all in
+    let lines : (k : ℕ) (d : Station B) → k < length olds → LineWell budget state happened chain of well none none_last (wires (k + 1)) (queue_on state only (k + 1) (bus.lost (get_or olds k d).bus)) (k + 1) =
+    λ k d low.
+    let e : Station B = over_by (get_or olds k d) in
+    let station : Station B = get_or olds k e in
+    let planned = plan.planned.each k e low in
+    let apart : AreApart station.left.now = subst AreApart (sym planned.queue) (queue_apart state only (k + 1) (bus.lost station.bus) sorted) in
+    let one = line_is_read budget state happened chain of well none none_last bus tries (k + 1) (wires (k + 1)) station (get_or news k e) (polls.rounds.goes k e low) planned.fresh (over_at news k e over.0 (refl, refl)) (silent_at news k e over.1 refl) (order k e low) apart in
+    let queue : station.left.now ≡ queue_on state only (k + 1) (bus.lost (get_or olds k d).bus) = planned.queue ∙ ap (λ (s : Station B). queue_on state only (k + 1) (bus.lost s.bus)) (get_or_default olds k e d low) in
+    subst (λ (q : List Identity). LineWell budget state happened chain of well none none_last (wires (k + 1)) q (k + 1)) queue one in
+    let each_well : (k : ℕ) → k < length olds → AllByRecursion GoesWell (happened_on (k + 1) happened) = λ k low. (lines k (one_of olds k low) low).line_well in
+    let in_queues : (k : ℕ) (d : Station B) → k < length olds → length (read_in (happened_on (k + 1) happened)) ≡ length (get_or olds k d).left.now =
+    λ k d low. ap length ((lines k d low).line_read.in_order ∙ sym (plan.planned.each k d low).queue) in
+    let all : AllByRecursion GoesWell happened = all_well budget (opened state) happened of chain well (well_on happened (length olds) each_well polls.rounds.alone) in
+    record {
+      lines = λ k d low. (lines k d low).line_read;
+      committed = none_last;
+      running = all_running (opened state) turns of well refl;
+      well = all;
+      read = counted_read outcome.read plan.polls.between.read polled.counts.read (reads_in happened) (meters_left olds) plan.polls.read polled.read polls.read (sym (reads_over (length olds) happened (here_on happened (length olds) polls.rounds.alone)) ∙ queues_over olds (λ (line : ℕ). length (read_in (happened_on line happened))) in_queues);
+      failed = counted_failed outcome.failed plan.polls.between.failed polled.counts.failed (refused_count (has_bus bus.lost (take most_lines buses)) state (asked_for only state)) (failures_in happened) (meters_left news)
+          plan.polls.failed polled.failed polls.failed (none_failed happened all) (none_left news (recursion_from_All IsOver news over.0));
+      fault = plan.polls.fault ∙ no;
+    }

@@ -1,0 +1,76 @@
+-- What holds of each of a list, and what happens on one line.
+use Rattle.std.proofs.Common.{◌≡◌, ℕ, Bool, true, false, List, [], ◌∷◌, ◌++◌, refl, sym, ◌∙◌, ap}
+use Rattle.std.specs.Prelude.{if◌then◌else◌, ◌==◌}
+use Rattle.std.specs.List.{AllByRecursion}
+use Rattle.std.proofs.lemmas.Bool.{eq-eqb}
+use Rattle.dc_concentrator.specs.Event.{starts, asks, hears, commits, offices}
+use Rattle.dc_concentrator.specs.Transcript.{Turn}
+use Rattle.dc_progress.specs.Beside.{IsElsewhere, IsOfLines}
+use Rattle.dc_poll.specs.Happening.{Happening, does, tells, is_on, happened_on, happened_turns, turns_of}
+
+pub all_left : {A : Type 0} (P : A → Type 0) (xs ys : List A) → AllByRecursion P (xs ++ ys) → AllByRecursion P xs
+all_left P [] ys a = tt
+all_left P (x ∷ xs) ys a = (a.0, all_left P xs ys a.1)
+
+pub all_right : {A : Type 0} (P : A → Type 0) (xs ys : List A) → AllByRecursion P (xs ++ ys) → AllByRecursion P ys
+all_right P [] ys a = a
+all_right P (x ∷ xs) ys a = all_right P xs ys a.1
+
+pub all_both : {A : Type 0} (P : A → Type 0) (xs ys : List A) → AllByRecursion P xs → AllByRecursion P ys → AllByRecursion P (xs ++ ys)
+all_both P [] ys a b = b
+all_both P (x ∷ xs) ys a b = (a.0, all_both P xs ys a.1 b)
+
+pub all_as : {A : Type 0} (P Q : A → Type 0) (xs : List A) → ((x : A) → P x → Q x) → AllByRecursion P xs → AllByRecursion Q xs
+all_as P Q [] f a = tt
+all_as P Q (x ∷ xs) f a = (f x a.0, all_as P Q xs f a.1)
+
+-- ---- the first thing on a line
+
+abbrev pub AreOfLines : List Happening → Type 0
+AreOfLines happened = AllByRecursion IsOfLines (happened_turns happened)
+
+is_away : (line : ℕ) (turn : Turn) → IsOfLines turn → is_on line turn.0 ≡ false → IsElsewhere line turn.0
+is_away line (starts other meter, answer) of off = λ e. (let on = eq-eqb other line e in let bad : true ≡ false = sym on ∙ off in cc)
+is_away line (asks other, answer) of off = λ e. (let on = eq-eqb other line e in let bad : true ≡ false = sym on ∙ off in cc)
+is_away line (hears other moment bytes, answer) of off = λ e. (let on = eq-eqb other line e in let bad : true ≡ false = sym on ∙ off in cc)
+is_away line (commits, answer) of off = absurd cc
+is_away line (offices text, answer) of off = absurd of
+
+-- what happens elsewhere before it, and what happens after it
+pub record Split (line : ℕ) (x : Happening) (more full : List Happening) : Type 0 where
+  pub away : List Turn
+  pub rest : List Happening
+  pub turns_are : happened_turns full ≡ away ++ (turns_of x ++ happened_turns rest)
+  pub more_is : more ≡ happened_on line rest
+  pub elsewhere : AllByRecursion (λ (turn : Turn). IsElsewhere line turn.0) away
+  pub of : AreOfLines rest
+
+pub split_at : (line : ℕ) (x : Happening) (more full : List Happening) → x ∷ more ≡ happened_on line full → AreOfLines full → Split line x more full
+split_at line x more [] is of = absurd cc
+split_at line x more (does turn ∷ full) is of = by (is_on line turn.0) refl (λ e. split_at line x more full e of.1) is
+  where
+    by : (b : Bool) → is_on line turn.0 ≡ b → (x ∷ more ≡ happened_on line full → Split line x more full) → x ∷ more ≡ (if b then does turn ∷ [] else []) ++ happened_on line full → Split line x more (does turn ∷ full)
+    by true on again e =
+        let same : does turn ≡ x = cc in
+        let rest : more ≡ happened_on line full = cc in
+        record { away = []; rest = full; turns_are = ap (λ (y : Happening). turns_of y ++ happened_turns full) same; more_is = rest; elsewhere = tt; of = of.1 }
+    by false off again e =
+        let p = again e in
+        record {
+          away = turn ∷ p.away;
+          rest = p.rest;
+          turns_are = ap (λ (ts : List Turn). turn ∷ ts) p.turns_are;
+          more_is = p.more_is;
+          elsewhere = (is_away line turn of.0 off, p.elsewhere);
+          of = p.of;
+        }
+split_at line x more (tells other told ∷ full) is of = by (other == line) refl (λ e. split_at line x more full e of) is
+  where
+    by : (b : Bool) → (other == line) ≡ b → (x ∷ more ≡ happened_on line full → Split line x more full) → x ∷ more ≡ (if b then tells other told ∷ [] else []) ++ happened_on line full → Split line x more (tells other told ∷ full)
+    by true on again e =
+        let same : tells other told ≡ x = cc in
+        let rest : more ≡ happened_on line full = cc in
+        record { away = []; rest = full; turns_are = ap (λ (y : Happening). turns_of y ++ happened_turns full) same; more_is = rest; elsewhere = tt; of = of }
+    by false off again e =
+        let p = again e in
+        record { away = p.away; rest = p.rest; turns_are = p.turns_are; more_is = p.more_is; elsewhere = p.elsewhere; of = p.of }

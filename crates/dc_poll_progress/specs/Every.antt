@@ -1,0 +1,99 @@
+-- Every meter is read (this product): a poll goes through the meters of the register, and where its
+-- lines carry what is said and nothing is refused, each has one reading more.
+use Rattle.std.specs.Prelude.{◌≡◌, ℕ, ◌+◌, ◌-◌, ◌<◌, ◌^◌, min, Bool, false, None, Some, List, []}
+use Rattle.std.specs.Prelude.{take, length, slice_index_or}
+use Rattle.std.specs.List.{AllByRecursion}
+use Rattle.std.specs.List.Sorted.{IsStrictlySortedBy}
+use Rattle.std.specs.Map.{keys_of}
+use Rattle.dc_address.specs.Identity.{identity_cmp}
+use Rattle.dc_address.specs.declared.identity.Identity.{Identity}
+use Rattle.dc_change.specs.State.{State, MeterRow, row_of}
+use Rattle.dc_concentrator.specs.Core.{Core, opened}
+use Rattle.dc_concentrator.specs.Transcript.{leads}
+use Rattle.dc_disk.specs.declared.device.Disk.{Ghosts}
+use Rattle.dc_world.specs.Meter.{Meter}
+use Rattle.dc_progress.specs.Beside.{HasRead, bus_at_first}
+use Rattle.dc_progress.specs.Needs.{IsThere}
+use Rattle.dc_poll.specs.Bus.{Bus}
+use Rattle.dc_poll.specs.Happening.{Happening, happened_on, happened_turns}
+use Rattle.dc_poll.specs.ImagePoll.{ImageTurned, PlanPolled}
+use Rattle.dc_poll.specs.Planned.{asked_for, has_bus, queue_on, refused_count}
+use Rattle.dc_poll.specs.Queue.{GoesWell, read_in}
+use Rattle.dc_poll.specs.Round.{HasFew, LineGoes, meters_left, most_lines}
+use Rattle.dc_poll.specs.declared.event.Event.{Event as Told}
+use Rattle.dc_poll.specs.declared.outcome.Outcome.{Outcome}
+use Rattle.dc_poll.specs.declared.station.Station.{Station}
+use Rattle.dc_poll_progress.specs.Carried.{Wire, IsCarried, NothingIsRefused}
+
+-- ---- the premises
+
+-- A meter is on the line, with these parts to read, and its primary address is that of its row.
+pub record IsWired (state : State) (wire : Wire) (identity : Identity) : Type 0 where
+  pub place : ℕ
+  pub meter : Meter
+  pub row : MeterRow
+  pub parts : List (List ℕ)
+  pub who : meter.identity ≡ identity
+  pub there : IsThere wire.meters wire.positions place meter parts
+  pub registered : row_of identity state ≡ Some row
+  pub address : row.address ≡ meter.address
+
+-- THE LINE IS IN ORDER: each meter of its queue is on it, and it carries what is said. Its queue has no
+-- more meters than a register.
+pub record IsInOrder {B : Type 0} (g : Bus B) (tries line : ℕ) (state : State) (wire : Wire)
+    (old new : Station B) (happened : List Happening)
+    (goes : LineGoes g tries line old new (happened_on line happened)) : Type 0 where
+  pub few : HasFew old
+  pub counted : length wire.positions ≡ length wire.meters
+  pub wired : AllByRecursion (IsWired state wire) old.left.now
+  pub carried : IsCarried wire.meters (bus_at_first wire.positions) goes.talk
+
+-- ---- the conclusion
+
+-- This meter of the line has one reading more than before, in its flat, with its parts whole and in
+-- order, and none of its parts is open.
+pub record IsRead (before now : State) (wire : Wire) (identity : Identity) : Type 0 where
+  pub wired : IsWired before wire identity
+  pub read : HasRead identity wired.row wired.parts before now
+
+-- THE LINE IS READ: what was read on it is its queue, in order, and each meter of it is read.
+pub record LineIsRead (before now : State) (wire : Wire) (queue : List Identity)
+    (happened : List Happening) : Type 0 where
+  pub in_order : read_in happened ≡ queue
+  pub each : AllByRecursion (IsRead before now wire) queue
+
+-- EVERY METER IS READ, line by line, and that is committed. No readout fails, and the counts say so:
+-- as many meters are read as the queues have, and those that failed are those that were refused before.
+pub record EachIsRead {B : Type 0} (lost : B → Bool) (state : State) (only : List Identity)
+    (buses : List B) (olds : List (Station B)) (wires : ℕ → Wire) (outcome : Outcome)
+    (happened : List Happening) (now : Core) : Type 0 where
+  pub lines : (k : ℕ) (d : Station B) → k < length olds
+      → LineIsRead state now.committed (wires (k + 1))
+      (queue_on state only (k + 1) (lost (slice_index_or olds k d).bus))
+      (happened_on (k + 1) happened)
+  pub committed : now.pending ≡ []
+  pub running : now.stopped ≡ false
+  pub well : AllByRecursion GoesWell happened
+  pub read : outcome.read ≡ meters_left olds
+  pub failed : outcome.failed ≡ min (2 ^ 32 - 1)
+      (refused_count (has_bus lost (take most_lines buses)) state (asked_for only state))
+  pub fault : outcome.fault ≡ None
+
+-- EVERY METER IS READ. A poll of an image did this plan, and its concentrator refused nothing: no start,
+-- no answer and no commit. Each line is in order. The register's meters ascend, as they always do. Then
+-- each is read.
+abbrev pub EveryMeterIsRead : {D B T N : Type 0} → Ghosts D → Bus B → (T → ℕ → T → Type 0)
+    → (T → Bool → T → Type 0) → (T → T → Type 0) → (N → Told → N → Type 0) → Type 0
+EveryMeterIsRead {D} {B} {T} {N} g bus told passes warned takes =
+    (disk new : D) (buses : List B) (only : List Identity) (tries : ℕ) (first last : T) (old fresh : N)
+    (outcome : Outcome) (wires : ℕ → Wire)
+    (poll : ImageTurned g (λ core happened. PlanPolled bus told passes warned takes buses only tries
+    first last old fresh outcome core happened) disk new)
+    → IsStrictlySortedBy identity_cmp (keys_of poll.state.meters)
+    → NothingIsRefused poll.happens.happened
+    → ((k : ℕ) (d : Station B) (low : k < length poll.happens.are_such.olds)
+    → IsInOrder bus tries (k + 1) poll.state (wires (k + 1))
+    (slice_index_or poll.happens.are_such.olds k d) (slice_index_or poll.happens.are_such.news k d)
+    poll.happens.happened (poll.happens.are_such.polls.polled.polls.rounds.goes k d low))
+    → EachIsRead bus.lost poll.state only buses poll.happens.are_such.olds wires outcome
+    poll.happens.happened (leads (opened poll.state) (happened_turns poll.happens.happened))
