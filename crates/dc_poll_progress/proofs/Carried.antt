@@ -1,5 +1,7 @@
 -- A talk that its line carries, readout after readout (for the theorem of specs/Every).
-use Rattle.std.proofs.Common.{◌≡◌, ℕ, ◌+◌, ◌*◌, ◌<◌, ◌≤◌, Option, Some, None, Result, Ok, Err, List, [], ◌∷◌, ◌++◌, length, arith, refl, sym, ◌∙◌, ap, subst, append_assoc}
+use Rattle.std.proofs.Common.{◌≡◌, ℕ, Bool, true, false, ◌+◌, ◌*◌, ◌<◌, ◌≤◌, Option, Some, None, Result, Ok, Err, List, [], ◌∷◌, ◌++◌, length, arith, refl, sym, ◌∙◌, ap, subst, append_assoc, append-nil}
+use Rattle.std.specs.Prelude.{is_some}
+use Rattle.std.proofs.lemmas.Bool.{eq-eqb}
 use Rattle.std.specs.List.{AllByRecursion}
 use Rattle.dc_frame.specs.Frame.{FrameSeen}
 use Rattle.dc_frame.specs.Reading.{frame_of}
@@ -11,16 +13,18 @@ use Rattle.dc_world.specs.Meter.{Meter, Position}
 use Rattle.dc_world.specs.World.{heard_in}
 use Rattle.dc_world.proofs.Events.{length-after}
 use Rattle.dc_change.specs.State.{State, MeterRow, row_of}
+use Rattle.dc_pending.specs.Lines.{is_line}
 use Rattle.dc_concentrator.specs.declared.line_heard.LineHeard.{LineHeard}
 use Rattle.dc_concentrator.specs.declared.fault.HearFault.{HearFault}
 use Rattle.dc_concentrator.specs.declared.fault.StartFault.{StartFault}
 use Rattle.dc_concentrator.specs.declared.fault.CommitFault.{CommitFault}
 use Rattle.dc_concentrator.specs.Core.{Core, present, opened, session_of}
 use Rattle.dc_concentrator.specs.Event.{starts, asks, hears, commits, started, asked, heard, committed}
-use Rattle.dc_concentrator.specs.Step.{ask_answer}
+use Rattle.dc_concentrator.specs.Step.{ask_answer, hear_answer, is_on, next}
 use Rattle.dc_concentrator.specs.Transcript.{Turn, leads, IsChain}
+use Rattle.dc_concentrator.proofs.Going.{leads_append}
 use Rattle.dc_concentrator.proofs.Told.{chain_parts}
-use Rattle.dc_progress.specs.Beside.{Bus as Line, bus_at_first, bus_after, IsElsewhere, HasRead, IsHeardOn, IsNoFailure, IsOfLines, Serves, GoesBeside, rests as none_more, asks_it, has_none as asks_none, gives_it, commits_it, goes_by}
+use Rattle.dc_progress.specs.Beside.{Bus as Line, bus_at_first, bus_after, IsElsewhere, HasRead, IsHeardOn, IsNoFailure, IsOfLines, IsTakenUnlessFull, Serves, GoesBeside, rests as none_more, asks_it, has_none as asks_none, gives_it, commits_it, goes_by}
 use Rattle.dc_progress.specs.Needs.{IsThere}
 use Rattle.dc_progress.specs.Rounds.{row_after}
 use Rattle.dc_progress.proofs.Rows.{readouts_of_a_run_end}
@@ -28,11 +32,14 @@ use Rattle.dc_poll.specs.Bus.{Bus}
 use Rattle.dc_poll.specs.Happening.{Happening, does, tells, happened_on, happened_turns, turns_of}
 use Rattle.dc_poll.specs.Queue.{starts_in}
 use Rattle.dc_poll.specs.Talking.{Talk, Talks, rests, settles_it, begins, has_none, sends_it, waits_it, takes_it, hears_it, stands_by, tells_it, loses_it}
+use Rattle.dc_poll.specs.declared.event.Event.{Event as Told}
 use Rattle.dc_poll.specs.declared.phase.Request.{Request}
 use Rattle.dc_poll.specs.declared.phase.Request.TheVariants.{Quiet, Sent, Answered}
-use Rattle.dc_poll_progress.specs.Carried.{Wire, IsCarried}
+use Rattle.dc_poll_progress.specs.Carried.{Wire, IsCarried, IsSupplied}
 use Rattle.dc_poll_progress.specs.Every.{IsWired}
-use Rattle.dc_poll_progress.proofs.Facts.{WasRead, Facts, IsUnrefusedIn, most_requests}
+use Rattle.dc_poll_progress.proofs.Facts.{WasRead, Facts, IsSuppliedIn, most_requests}
+use Rattle.dc_poll_progress.proofs.Free.{all_free, commit_free, heard_ok, start_ok}
+use Rattle.dc_poll_progress.proofs.Whole.{all_running}
 use Rattle.dc_poll_progress.proofs.Kept.{IsPlaced, stays_placed}
 use Rattle.dc_poll_progress.proofs.Lists.{AreOfLines, Split, split_at, all_left, all_right}
 
@@ -63,6 +70,7 @@ all_last : (P : Turn → Type 0) (turns : List Turn) (turn : Turn) → AllByRecu
 all_last P turns turn all = (all_right P turns (turn ∷ []) all).0
 
 module _ (budget line : ℕ) (state : State) (wire : Wire) (all : List Turn) (chain : IsChain budget (opened state) all) (of_all : AllByRecursion IsOfLines all)
+    (is_one : is_line line ≡ true) (supplied : AllByRecursion (λ (turn : Turn). IsSupplied turn.1) all)
     (settled : (front back : List Turn) → all ≡ front ++ (asks line, asked None) ∷ back → (leads (opened state) front).pending ≡ []) where
   abbrev core_at : List Turn → Core
   core_at turns = leads (opened state) turns
@@ -76,7 +84,7 @@ module _ (budget line : ℕ) (state : State) (wire : Wire) (all : List Turn) (ch
   -- ---- a readout that was started
 
   record Since (x : Identity) (before : List Turn) (now : Line) : Type 0 where
-    wired : IsWired state wire x
+    wired : IsWired line state wire x
     row : MeterRow
     front : List Turn
     since : List Turn
@@ -124,35 +132,34 @@ module _ (budget line : ℕ) (state : State) (wire : Wire) (all : List Turn) (ch
 
   -- ---- where it has no request any more, its meter was read
 
-  none_asked : (x : Identity) (before more : List Turn) (now : Line) → all ≡ before ++ (asks line, asked None) ∷ more → Since x before now → Read x
-  none_asked x before more now is s = by (session_of (core_at before) line) refl
+  free_at : (x : Identity) (before more : List Turn) (now : Line) → all ≡ before ++ (asks line, asked None) ∷ more → Since x before now → session_of (core_at before) line ≡ None
+  free_at x before more now is s = by (session_of (core_at before) line) refl
     where
-      g : GoesBeside budget line wire.meters s.wired.meter s.row s.wired.parts (core_at s.front) (core_at before) s.since now
-      g = goes_as x before ((asks line, asked None) ∷ more) now is s
-
-      none : (core_at before).pending ≡ []
-      none = settled before more is
-
       asks_nothing : None ≡ ask_answer (core_at before) line
       asks_nothing = (chain_parts budget (opened state) before ((asks line, asked None) ∷ more) (subst (IsChain budget (opened state)) is chain)).1.0
 
-      by : (o : Option Summary) → session_of (core_at before) line ≡ o → Read x
-      by (Some session) on = absurd (let one = g.asks_on session on none in let bad = asks_nothing ∙ one.1 in cc)
-      by None free =
-          let same : before ≡ s.front ++ start_of x ∷ s.since = s.before_is in
-          record {
-            wired = s.wired;
-            row = s.row;
-            front = s.front;
-            since = s.since;
-            back = (asks line, asked None) ∷ more;
-            all_are = is ∙ ap (λ (ts : List Turn). ts ++ (asks line, asked None) ∷ more) same;
-            registered = s.registered;
-            free = ap (λ (ts : List Turn). session_of (core_at ts) line) (sym same) ∙ free;
-            settled = ap (λ (ts : List Turn). (core_at ts).pending) (sym same) ∙ none;
-            read = subst (λ (ts : List Turn). HasRead x s.row s.wired.parts (present (core_at s.front)) (core_at ts).committed) same
-                (subst (λ (i : Identity). HasRead i s.row s.wired.parts (present (core_at s.front)) (core_at before).committed) s.wired.who (g.ends free));
-          }
+      by : (o : Option Summary) → session_of (core_at before) line ≡ o → o ≡ None
+      by (Some session) on = absurd (let one = (goes_as x before ((asks line, asked None) ∷ more) now is s).asks_on session on (settled before more is) in let bad = asks_nothing ∙ one.1 in cc)
+      by None free = refl
+
+  none_asked : (x : Identity) (before more : List Turn) (now : Line) → all ≡ before ++ (asks line, asked None) ∷ more → Since x before now → Read x
+  none_asked x before more now is s =
+      let free = free_at x before more now is s in
+      let g = goes_as x before ((asks line, asked None) ∷ more) now is s in
+      let same : before ≡ s.front ++ start_of x ∷ s.since = s.before_is in
+      record {
+        wired = s.wired;
+        row = s.row;
+        front = s.front;
+        since = s.since;
+        back = (asks line, asked None) ∷ more;
+        all_are = is ∙ ap (λ (ts : List Turn). ts ++ (asks line, asked None) ∷ more) same;
+        registered = s.registered;
+        free = ap (λ (ts : List Turn). session_of (core_at ts) line) (sym same) ∙ free;
+        settled = ap (λ (ts : List Turn). (core_at ts).pending) (sym same) ∙ settled before more is;
+        read = subst (λ (ts : List Turn). HasRead x s.row s.wired.parts (present (core_at s.front)) (core_at ts).committed) same
+            (subst (λ (i : Identity). HasRead i s.row s.wired.parts (present (core_at s.front)) (core_at before).committed) s.wired.who (g.ends free));
+      }
 
   -- ---- the next thing on the line
 
@@ -171,6 +178,38 @@ module _ (budget line : ℕ) (state : State) (wire : Wire) (all : List Turn) (ch
   since_away : (x : Identity) (before : List Turn) (now : Line) (h : Happening) (more full : List Happening) (p : Split line h more full) → Since x before now → Since x (before ++ p.away) now
   since_away x before now h more full p s = since_more x before p.away now now s (serves_away line wire.meters now p.away p.elsewhere)
 
+  -- ---- no readout goes on
+
+  abbrev IsFree : List Turn → Type 0
+  IsFree before = session_of (core_at before) line ≡ None
+
+  free_by : (before away more : List Turn) → all ≡ (before ++ away) ++ more → AllByRecursion (λ (turn : Turn). IsElsewhere line turn.0) away → IsFree before → IsFree (before ++ away)
+  free_by before away more is elsewhere free =
+      let here = (chain_parts budget (opened state) (before ++ away) more (subst (IsChain budget (opened state)) is chain)).0 in
+      let there = (chain_parts budget (opened state) before away here).1 in
+      ap (λ (core : Core). session_of core line) (leads_append (opened state) before away) ∙ all_free budget line is_one (core_at before) away elsewhere there free
+
+  free_then : (before : List Turn) (turn : Turn) → session_of (next (core_at before) turn.0 turn.1) line ≡ None → IsFree (before ++ turn ∷ [])
+  free_then before turn free = ap (λ (core : Core). session_of core line) (leads_append (opened state) before (turn ∷ [])) ∙ free
+
+  -- behind turns of other lines
+  free_away : (before : List Turn) (h : Happening) (more full : List Happening) (p : Split line h more full) → all ≡ before ++ happened_turns full → IsFree before → IsFree (before ++ p.away)
+  free_away before h more full p is free = free_by before p.away (turns_of h ++ happened_turns p.rest) (at_it before h more full p is) p.elsewhere free
+
+  -- there no start is refused
+  never_refused : (y : Identity) (fault : StartFault) (before more : List Turn) → all ≡ before ++ (starts line y, started (Err fault)) ∷ more → IsWired line state wire y → IsFree before → ⊥
+  never_refused y fault before more is w free =
+      let turn : Turn = (starts line y, started (Err fault)) in
+      let core : Core = core_at before in
+      let may = (chain_parts budget (opened state) before (turn ∷ more) (subst (IsChain budget (opened state)) is chain)).1.0 in
+      let of = all_left IsOfLines before (turn ∷ more) (subst (AllByRecursion IsOfLines) is of_all) in
+      let has = all_left (λ (t : Turn). IsSupplied t.1) before (turn ∷ more) (subst (AllByRecursion (λ (t : Turn). IsSupplied t.1)) is supplied) in
+      let at = stays_placed y w.row (opened state) before of (record { now = w.row; found = w.registered; line_is = refl; address_is = refl }) in
+      let on : is_on line (row_of y (present core)) ≡ true = ap (is_on line) at.found ∙ eq-eqb at.now.line line (at.line_is ∙ w.on_line) in
+      let ok = start_ok (is_line line) core.stopped (is_on line (row_of y (present core))) (is_some (session_of core line)) is_one (all_running (opened state) before of has refl) on (ap is_some free) in
+      let bad : ◌≡◌ {A = Result (Unit {0}) StartFault} (Err fault) (Ok tt) = may ∙ ok in
+      cc
+
   -- ---- the talk, before the first start
 
   abbrev IsCounted : Line → Type 0
@@ -180,7 +219,7 @@ module _ (budget line : ℕ) (state : State) (wire : Wire) (all : List Turn) (ch
   counted_after outcome frame now counted = length-after outcome frame wire.meters now.positions counted
 
   -- a readout begins
-  begun : (x : Identity) (before : List Turn) (now : Line) → AllByRecursion IsOfLines before → IsCounted now → IsWired state wire x → Since x (before ++ start_of x ∷ []) (bus_at_first now.positions)
+  begun : (x : Identity) (before : List Turn) (now : Line) → AllByRecursion IsOfLines before → IsCounted now → IsWired line state wire x → Since x (before ++ start_of x ∷ []) (bus_at_first now.positions)
   begun x before now of counted w =
       let at : IsPlaced x w.row (present (core_at before)) =
       stays_placed x w.row (opened state) before of (record { now = w.row; found = w.registered; line_is = refl; address_is = refl }) in
@@ -226,29 +265,40 @@ module _ (budget line : ℕ) (state : State) (wire : Wire) (all : List Turn) (ch
   IsOut Sent = Unit {0}
   IsOut (Answered bytes) = Unit {0}
 
-  abbrev FactsOf : Option Identity → ℕ → List Happening → Type 0
-  FactsOf m n on = Facts Read m n on
+  abbrev FactsOf : Option Identity → ℕ → Bool → List Happening → Type 0
+  FactsOf m n idle on = Facts Read m n idle on
 
-  record Going (x : Identity) (request : Request) (start : Line) (on : List Happening) : Type 0 where
-    facts : FactsOf (Some x) (asks_at request start) on
+  record Going (x : Identity) (request : Request) (start : Line) (idle : Bool) (on : List Happening) : Type 0 where
+    facts : FactsOf (Some x) (asks_at request start) idle on
     few : IsOut request → start.heard < most_requests
 
   -- a readout begins, and its facts begin anew
-  starts_one : (y : Identity) (answer : Result (Unit {0}) StartFault) (before : List Turn) (later full : List Happening) (now : Line) → IsUnrefusedIn (does (starts line y, started answer)) → all ≡ before ++ happened_turns full → IsCounted now
-      → (p : Split line (does (starts line y, started answer)) later full) → IsWired state wire y
-      → (all ≡ ((before ++ p.away) ++ start_of y ∷ []) ++ happened_turns p.rest → Since y ((before ++ p.away) ++ start_of y ∷ []) (bus_at_first now.positions) → FactsOf (Some y) 0 later) → FactsOf (Some y) 0 later
-  starts_one y (Err fault) before later full now done is counted p w then_so = absurd done
-  starts_one y (Ok done) before later full now none is counted p w then_so =
+  starts_one : (m : Option Identity) (n : ℕ) (idle : Bool) (y : Identity) (answer : Result (Unit {0}) StartFault) (before : List Turn) (later full : List Happening) (now : Line) → all ≡ before ++ happened_turns full → IsCounted now → (idle ≡ true → IsFree before)
+      → (p : Split line (does (starts line y, started answer)) later full) → IsWired line state wire y
+      → (all ≡ ((before ++ p.away) ++ start_of y ∷ []) ++ happened_turns p.rest → Since y ((before ++ p.away) ++ start_of y ∷ []) (bus_at_first now.positions) → FactsOf (Some y) 0 false later) → FactsOf m n idle (does (starts line y, started answer) ∷ later)
+  starts_one m n true y (Err fault) before later full now is counted free p w then_so =
+      let h : Happening = does (starts line y, started (Err fault)) in
+      absurd (never_refused y fault (before ++ p.away) (happened_turns p.rest) (at_it before h later full p is) w (free_away before h later full p is (free refl)))
+  starts_one m n false y (Err fault) before later full now is counted free p w then_so = (tt, tt)
+  starts_one m n idle y (Ok none) before later full now is counted free p w then_so =
       let h : Happening = does (start_of y) in
-      then_so (behind before h later full p is) (begun y (before ++ p.away) now (of_before (before ++ p.away) (start_of y ∷ happened_turns p.rest) (at_it before h later full p is)) counted w)
+      (tt, then_so (behind before h later full p is) (begun y (before ++ p.away) now (of_before (before ++ p.away) (start_of y ∷ happened_turns p.rest) (at_it before h later full p is)) counted w))
 
   -- an answer is received
-  hears_one : (x : Identity) (now start : Line) (moment : ℕ) (bytes : List ℕ) (answer : Result LineHeard HearFault) (before : List Turn) (later full : List Happening) → Given bytes now start → IsCounted start → IsUnrefusedIn (does (hears line moment bytes, heard answer))
+  hears_one : (x : Identity) (now start : Line) (idle : Bool) (moment : ℕ) (bytes : List ℕ) (answer : Result LineHeard HearFault) (before : List Turn) (later full : List Happening) → Given bytes now start → IsCounted start → IsSuppliedIn (does (hears line moment bytes, heard answer))
       → all ≡ before ++ happened_turns full → Since x before start → (p : Split line (does (hears line moment bytes, heard answer)) later full)
-      → ((next : Line) → now ≡ next → IsCounted next → Since x ((before ++ p.away) ++ (hears line moment bytes, heard answer) ∷ []) next → Going x Quiet next later)
-      → Going x (Answered bytes) start (does (hears line moment bytes, heard answer) ∷ later)
-  hears_one x now start moment bytes (Err fault) before later full given counted done is s p then_so = absurd done
-  hears_one x now start moment bytes (Ok answer) before later full given counted done is s p then_so =
+      → ((next : Line) → now ≡ next → IsCounted next → Since x ((before ++ p.away) ++ (hears line moment bytes, heard answer) ∷ []) next → Going x Quiet next false later)
+      → Going x (Answered bytes) start idle (does (hears line moment bytes, heard answer) ∷ later)
+  hears_one x now start idle moment bytes (Err fault) before later full given counted well is s p then_so =
+      let turn : Turn = (hears line moment bytes, heard (Err fault)) in
+      let here : Since x (before ++ p.away) start = since_away x before start (does turn) later full p s in
+      let at = at_it before (does turn) later full p is in
+      let g = goes_as x (before ++ p.away) (turn ∷ happened_turns p.rest) start at here in
+      let may = (chain_parts budget (opened state) (before ++ p.away) (turn ∷ happened_turns p.rest) (subst (IsChain budget (opened state)) at chain)).1.0 in
+      let core : Core = core_at (before ++ p.away) in
+      let taken = g.takes given.outcome given.frame moment given.waited given.few in
+      absurd (heard_ok (hear_answer budget core line moment bytes) fault (subst IsTakenUnlessFull (ap (hear_answer budget core line moment) (sym given.bytes_are)) taken) may well)
+  hears_one x now start idle moment bytes (Ok answer) before later full given counted well is s p then_so =
       let turn : Turn = (hears line moment bytes, heard (Ok answer)) in
       let next : Line = bus_after wire.meters given.outcome given.frame start in
       let here : Since x (before ++ p.away) start = since_away x before start (does turn) later full p s in
@@ -262,53 +312,71 @@ module _ (budget line : ℕ) (state : State) (wire : Wire) (all : List Turn) (ch
       record { facts = (good refl, rest.facts); few = λ out. omega (arith, heard_few) }
 
   -- all that waits is committed
-  commits_one : (x : Identity) (request : Request) (start : Line) (stored : Result ℕ CommitFault) (before : List Turn) (later full : List Happening) → IsUnrefusedIn (does (commits, committed stored)) → Since x before start
-      → (p : Split line (does (commits, committed stored)) later full) → (Since x ((before ++ p.away) ++ (commits, committed stored) ∷ []) start → Going x request start later) → Going x request start (does (commits, committed stored) ∷ later)
-  commits_one x request start (Err fault) before later full done s p then_so = absurd done
-  commits_one x request start (Ok count) before later full done s p then_so =
+  commits_one : (x : Identity) (request : Request) (start : Line) (idle : Bool) (stored : Result ℕ CommitFault) (before : List Turn) (later full : List Happening) → IsSuppliedIn (does (commits, committed stored)) → all ≡ before ++ happened_turns full → (idle ≡ true → IsFree before) → Since x before start
+      → (p : Split line (does (commits, committed stored)) later full) → ((idle ≡ true → IsFree ((before ++ p.away) ++ (commits, committed stored) ∷ [])) → Since x ((before ++ p.away) ++ (commits, committed stored) ∷ []) start → Going x request start idle later) → Going x request start idle (does (commits, committed stored) ∷ later)
+  commits_one x request start idle (Err fault) before later full well is free s p then_so = absurd well
+  commits_one x request start idle (Ok count) before later full well is free s p then_so =
       let turn : Turn = (commits, committed (Ok count)) in
       let here : Since x (before ++ p.away) start = since_away x before start (does turn) later full p s in
-      let rest = then_so (since_more x (before ++ p.away) (turn ∷ []) start start here (commits_it none_more)) in
+      let still : idle ≡ true → IsFree ((before ++ p.away) ++ turn ∷ []) = λ e. free_then (before ++ p.away) turn (commit_free (core_at (before ++ p.away)) line count (free_away before (does turn) later full p is (free e))) in
+      let rest = then_so still (since_more x (before ++ p.away) (turn ∷ []) start start here (commits_it none_more)) in
       record { facts = (tt, rest.facts); few = rest.few }
 
+  free_commit : (stored : Result ℕ CommitFault) (before : List Turn) (later full : List Happening) (idle : Bool) → IsSuppliedIn (does (commits, committed stored)) → all ≡ before ++ happened_turns full → (idle ≡ true → IsFree before)
+      → (p : Split line (does (commits, committed stored)) later full) → idle ≡ true → IsFree ((before ++ p.away) ++ (commits, committed stored) ∷ [])
+  free_commit (Err fault) before later full idle well is free p e = absurd well
+  free_commit (Ok count) before later full idle well is free p e =
+      let turn : Turn = (commits, committed (Ok count)) in
+      free_then (before ++ p.away) turn (commit_free (core_at (before ++ p.away)) line count (free_away before (does turn) later full p is (free e)))
+
+  -- an event is told
+  free_told : (told : Told) (before : List Turn) (later full : List Happening) (idle : Bool) → all ≡ before ++ happened_turns full → (idle ≡ true → IsFree before) → (p : Split line (tells line told) later full) → idle ≡ true → IsFree ((before ++ p.away) ++ [])
+  free_told told before later full idle is free p e =
+      ap (λ (ts : List Turn). session_of (core_at ts) line) (append-nil (before ++ p.away)) ∙ free_away before (tells line told) later full p is (free e)
+
+  asked_free : (before : List Turn) → IsFree before → IsFree (before ++ (asks line, asked None) ∷ [])
+  asked_free before free = free_then before (asks line, asked None) free
+
+  not_idle : (before : List Turn) → false ≡ true → IsFree before
+  not_idle before e = absurd cc
+
   module _ {B : Type 0} {g : Bus B} where
-    along : {first last : Talk B} {on : List Happening} (talk : Talks g line first on last) (x : Identity) (full : List Happening) (before : List Turn) (now start : Line) → on ≡ happened_on line full → AreOfLines full → all ≡ before ++ happened_turns full
-        → last.request ≡ Quiet → Stands first.request now start → IsCounted start → Since x before start → IsCarried wire.meters now talk → AllByRecursion IsUnrefusedIn on → AllByRecursion (IsWired state wire) (starts_in on) → Going x first.request start on
-    along (rests {last = t}) x full before now start on of is quiet at counted s carried well wired = record { facts = tt; few = λ out. absurd (subst IsOut quiet out) }
-    along (settles_it unready settles more) x full before now start on of is quiet at counted s carried well wired =
-        along more x full before now start on of is quiet at counted s carried well wired
-    along (begins {meter = y} {answer = answer} {more = later} ready more) x full before now start on of is quiet at counted s carried well wired =
+    along : {first last : Talk B} {on : List Happening} (talk : Talks g line first on last) (x : Identity) (idle : Bool) (full : List Happening) (before : List Turn) (now start : Line) → on ≡ happened_on line full → AreOfLines full → all ≡ before ++ happened_turns full
+        → last.request ≡ Quiet → Stands first.request now start → IsCounted start → (idle ≡ true → IsFree before) → Since x before start → IsCarried wire.meters now talk → AllByRecursion IsSuppliedIn on → AllByRecursion (IsWired line state wire) (starts_in on) → Going x first.request start idle on
+    along (rests {last = t}) x idle full before now start on of is quiet at counted free s carried well wired = record { facts = tt; few = λ out. absurd (subst IsOut quiet out) }
+    along (settles_it unready settles more) x idle full before now start on of is quiet at counted free s carried well wired =
+        along more x idle full before now start on of is quiet at counted free s carried well wired
+    along (begins {meter = y} {answer = answer} {more = later} ready more) x idle full before now start on of is quiet at counted free s carried well wired =
         let h : Happening = does (starts line y, started answer) in
         let p = split_at line h later full on of in
         let counted_now : IsCounted now = ap (λ (l : Line). length l.positions) at ∙ counted in
         let first : Line = bus_at_first now.positions in
         record {
-          facts = (
-            tt,
-            starts_one y answer before later full now well.0 is counted_now p wired.0 (λ there since.
-                (along more y p.rest ((before ++ p.away) ++ start_of y ∷ []) first first p.more_is p.of there quiet refl counted_now since carried well.1 wired.1).facts),
-          );
+          facts = starts_one (Some x) start.heard idle y answer before later full now is counted_now free p wired.0 (λ there since.
+              (along more y false p.rest ((before ++ p.away) ++ start_of y ∷ []) first first p.more_is p.of there quiet refl counted_now (not_idle ((before ++ p.away) ++ start_of y ∷ [])) since carried well.1 wired.1).facts);
           few = λ out. absurd out;
         }
-    along (has_none {more = later} more) x full before now start on of is quiet at counted s carried well wired =
+    along (has_none {more = later} more) x idle full before now start on of is quiet at counted free s carried well wired =
         let turn : Turn = (asks line, asked None) in
         let p = split_at line (does turn) later full on of in
         let here = since_away x before start (does turn) later full p s in
         let there = since_more x (before ++ p.away) (turn ∷ []) start start here (asks_none none_more) in
-        let rest = along more x p.rest ((before ++ p.away) ++ turn ∷ []) now start p.more_is p.of (behind before (does turn) later full p is) quiet at counted there carried well.1 wired in
-        record { facts = (none_asked x (before ++ p.away) (happened_turns p.rest) start (at_it before (does turn) later full p is) here, rest.facts); few = λ out. absurd out }
-    along (sends_it {request = request} {more = later} sends more) x full before now start on of is quiet at counted s carried well wired =
+        let there_is = at_it before (does turn) later full p is in
+        let over = asked_free (before ++ p.away) (free_at x (before ++ p.away) (happened_turns p.rest) start there_is here) in
+        let rest = along more x true p.rest ((before ++ p.away) ++ turn ∷ []) now start p.more_is p.of (behind before (does turn) later full p is) quiet at counted (λ e. over) there carried well.1 wired in
+        record { facts = (none_asked x (before ++ p.away) (happened_turns p.rest) start there_is here, rest.facts); few = λ out. absurd out }
+    along (sends_it {request = request} {more = later} sends more) x idle full before now start on of is quiet at counted free s carried well wired =
         let turn : Turn = (asks line, asked (Some request)) in
         let next : Line = record start { waits = frame_of request } in
         let p = split_at line (does turn) later full on of in
         let here = since_away x before start (does turn) later full p s in
         let there = since_more x (before ++ p.away) (turn ∷ []) start next here (asks_it none_more) in
-        let rest = along more x p.rest ((before ++ p.away) ++ turn ∷ []) (record now { waits = frame_of request }) next p.more_is p.of (behind before (does turn) later full p is) quiet
-        (ap (λ (l : Line). record l { waits = frame_of request }) at) counted there carried well.1 wired in
+        let rest = along more x false p.rest ((before ++ p.away) ++ turn ∷ []) (record now { waits = frame_of request }) next p.more_is p.of (behind before (does turn) later full p is) quiet
+            (ap (λ (l : Line). record l { waits = frame_of request }) at) counted (not_idle ((before ++ p.away) ++ turn ∷ [])) there carried well.1 wired in
         record { facts = (rest.few tt, rest.facts); few = λ out. absurd out }
-    along (waits_it waits more) x full before now start on of is quiet at counted s carried well wired =
-        along more x full before now start on of is quiet at counted s carried well wired
-    along (takes_it {bytes = bytes} gives more) x full before now start on of is quiet at counted s carried well wired =
+    along (waits_it waits more) x idle full before now start on of is quiet at counted free s carried well wired =
+        along more x idle full before now start on of is quiet at counted free s carried well wired
+    along (takes_it {bytes = bytes} gives more) x idle full before now start on of is quiet at counted free s carried well wired =
         let later : Line = bus_after wire.meters carried.outcome carried.frame now in
         let given : Given bytes later start = record {
           outcome = carried.outcome;
@@ -318,60 +386,59 @@ module _ (budget line : ℕ) (state : State) (wire : Wire) (all : List Turn) (ch
           few = subst (λ (l : Line). row_after l.row carried.outcome < 3) at carried.few;
           now_is = ap (bus_after wire.meters carried.outcome carried.frame) at;
         } in
-        let rest = along more x full before later start on of is quiet given counted s carried.then_on well wired in
+        let rest = along more x idle full before later start on of is quiet given counted free s carried.then_on well wired in
         record { facts = rest.facts; few = λ out. rest.few tt }
-    along (hears_it {moment = moment} {bytes = bytes} {answer = answer} {more = later} more) x full before now start on of is quiet at counted s carried well wired =
+    along (hears_it {moment = moment} {bytes = bytes} {answer = answer} {more = later} more) x idle full before now start on of is quiet at counted free s carried well wired =
         let turn : Turn = (hears line moment bytes, heard answer) in
         let p = split_at line (does turn) later full on of in
-        hears_one x now start moment bytes answer before later full at counted well.0 is s p (λ next now_is counted_next there.
-        along more x p.rest ((before ++ p.away) ++ turn ∷ []) now next p.more_is p.of (behind before (does turn) later full p is) quiet now_is counted_next there carried well.1 wired)
-    along {first = t} (stands_by {stored = stored} {more = later} more) x full before now start on of is quiet at counted s carried well wired =
+        hears_one x now start idle moment bytes answer before later full at counted well.0 is s p (λ next now_is counted_next there.
+        along more x false p.rest ((before ++ p.away) ++ turn ∷ []) now next p.more_is p.of (behind before (does turn) later full p is) quiet now_is counted_next (not_idle ((before ++ p.away) ++ turn ∷ [])) there carried well.1 wired)
+    along {first = t} (stands_by {stored = stored} {more = later} more) x idle full before now start on of is quiet at counted free s carried well wired =
         let turn : Turn = (commits, committed stored) in
         let p = split_at line (does turn) later full on of in
-        commits_one x t.request start stored before later full well.0 s p (λ there.
-        along more x p.rest ((before ++ p.away) ++ turn ∷ []) now start p.more_is p.of (behind before (does turn) later full p is) quiet at counted there carried well.1 wired)
-    along (tells_it {told = told} {more = later} other more) x full before now start on of is quiet at counted s carried well wired =
+        commits_one x t.request start idle stored before later full well.0 is free s p (λ still there.
+        along more x idle p.rest ((before ++ p.away) ++ turn ∷ []) now start p.more_is p.of (behind before (does turn) later full p is) quiet at counted still there carried well.1 wired)
+    along (tells_it {told = told} {more = later} other more) x idle full before now start on of is quiet at counted free s carried well wired =
         let h : Happening = tells line told in
         let p = split_at line h later full on of in
         let there = since_more x (before ++ p.away) [] start start (since_away x before start h later full p s) none_more in
-        let rest = along more x p.rest ((before ++ p.away) ++ []) now start p.more_is p.of (behind before h later full p is) quiet at counted there carried well.1 wired in
+        let rest = along more x idle p.rest ((before ++ p.away) ++ []) now start p.more_is p.of (behind before h later full p is) quiet at counted (free_told told before later full idle is free p) there carried well.1 wired in
         record { facts = rest.facts; few = rest.few }
-    along (loses_it lost more) x full before now start on of is quiet at counted s carried well wired = absurd carried
+    along (loses_it lost more) x idle full before now start on of is quiet at counted free s carried well wired = absurd carried
 
     -- before the first start
-    pub along_first : {first last : Talk B} {on : List Happening} (talk : Talks g line first on last) (n : ℕ) (full : List Happening) (before : List Turn) (now : Line) → on ≡ happened_on line full → AreOfLines full → all ≡ before ++ happened_turns full
-        → last.request ≡ Quiet → length now.positions ≡ length wire.meters → IsCarried wire.meters now talk → AllByRecursion IsUnrefusedIn on → AllByRecursion (IsWired state wire) (starts_in on) → Facts (λ (x : Identity). WasRead line state wire all x) None n on
-    along_first rests n full before now on of is quiet counted carried well wired = tt
-    along_first (settles_it unready settles more) n full before now on of is quiet counted carried well wired = along_first more n full before now on of is quiet counted carried well wired
-    along_first (begins {meter = y} {answer = answer} {more = later} ready more) n full before now on of is quiet counted carried well wired =
+    pub along_first : {first last : Talk B} {on : List Happening} (talk : Talks g line first on last) (n : ℕ) (idle : Bool) (full : List Happening) (before : List Turn) (now : Line) → on ≡ happened_on line full → AreOfLines full → all ≡ before ++ happened_turns full
+        → last.request ≡ Quiet → length now.positions ≡ length wire.meters → (idle ≡ true → session_of (leads (opened state) before) line ≡ None) → IsCarried wire.meters now talk → AllByRecursion IsSuppliedIn on → AllByRecursion (IsWired line state wire) (starts_in on) → Facts (λ (x : Identity). WasRead line state wire all x) None n idle on
+    along_first rests n idle full before now on of is quiet counted free carried well wired = tt
+    along_first (settles_it unready settles more) n idle full before now on of is quiet counted free carried well wired = along_first more n idle full before now on of is quiet counted free carried well wired
+    along_first (begins {meter = y} {answer = answer} {more = later} ready more) n idle full before now on of is quiet counted free carried well wired =
         let h : Happening = does (starts line y, started answer) in
         let p = split_at line h later full on of in
-        let first : Line = bus_at_first now.positions in (
-          tt,
-          starts_one y answer before later full now well.0 is counted p wired.0 (λ there since.
-              (along more y p.rest ((before ++ p.away) ++ start_of y ∷ []) first first p.more_is p.of there quiet refl counted since carried well.1 wired.1).facts),
-        )
-    along_first (has_none {more = later} more) n full before now on of is quiet counted carried well wired =
+        let first : Line = bus_at_first now.positions in
+        starts_one None n idle y answer before later full now is counted free p wired.0 (λ there since.
+        (along more y false p.rest ((before ++ p.away) ++ start_of y ∷ []) first first p.more_is p.of there quiet refl counted (not_idle ((before ++ p.away) ++ start_of y ∷ [])) since carried well.1 wired.1).facts)
+    along_first (has_none {more = later} more) n idle full before now on of is quiet counted free carried well wired =
         let turn : Turn = (asks line, asked None) in
         let p = split_at line (does turn) later full on of in
-        (tt, along_first more n p.rest ((before ++ p.away) ++ turn ∷ []) now p.more_is p.of (behind before (does turn) later full p is) quiet counted carried well.1 wired)
-    along_first (sends_it {request = request} {more = later} sends more) n full before now on of is quiet counted carried well wired =
+        let still : idle ≡ true → IsFree ((before ++ p.away) ++ turn ∷ []) = λ e. asked_free (before ++ p.away) (free_away before (does turn) later full p is (free e)) in
+        (tt, along_first more n idle p.rest ((before ++ p.away) ++ turn ∷ []) now p.more_is p.of (behind before (does turn) later full p is) quiet counted still carried well.1 wired)
+    along_first (sends_it {request = request} {more = later} sends more) n idle full before now on of is quiet counted free carried well wired =
         let turn : Turn = (asks line, asked (Some request)) in
         let p = split_at line (does turn) later full on of in
-        (tt, along_first more (n + 1) p.rest ((before ++ p.away) ++ turn ∷ []) (record now { waits = frame_of request }) p.more_is p.of (behind before (does turn) later full p is) quiet counted carried well.1 wired)
-    along_first (waits_it waits more) n full before now on of is quiet counted carried well wired = along_first more n full before now on of is quiet counted carried well wired
-    along_first (takes_it gives more) n full before now on of is quiet counted carried well wired =
-        along_first more n full before (bus_after wire.meters carried.outcome carried.frame now) on of is quiet (counted_after carried.outcome carried.frame now counted) carried.then_on well wired
-    along_first (hears_it {moment = moment} {bytes = bytes} {answer = answer} {more = later} more) n full before now on of is quiet counted carried well wired =
+        (tt, along_first more (n + 1) false p.rest ((before ++ p.away) ++ turn ∷ []) (record now { waits = frame_of request }) p.more_is p.of (behind before (does turn) later full p is) quiet counted (not_idle ((before ++ p.away) ++ turn ∷ [])) carried well.1 wired)
+    along_first (waits_it waits more) n idle full before now on of is quiet counted free carried well wired = along_first more n idle full before now on of is quiet counted free carried well wired
+    along_first (takes_it gives more) n idle full before now on of is quiet counted free carried well wired =
+        along_first more n idle full before (bus_after wire.meters carried.outcome carried.frame now) on of is quiet (counted_after carried.outcome carried.frame now counted) free carried.then_on well wired
+    along_first (hears_it {moment = moment} {bytes = bytes} {answer = answer} {more = later} more) n idle full before now on of is quiet counted free carried well wired =
         let turn : Turn = (hears line moment bytes, heard answer) in
         let p = split_at line (does turn) later full on of in
-        (tt, along_first more n p.rest ((before ++ p.away) ++ turn ∷ []) now p.more_is p.of (behind before (does turn) later full p is) quiet counted carried well.1 wired)
-    along_first (stands_by {stored = stored} {more = later} more) n full before now on of is quiet counted carried well wired =
+        (tt, along_first more n false p.rest ((before ++ p.away) ++ turn ∷ []) now p.more_is p.of (behind before (does turn) later full p is) quiet counted (not_idle ((before ++ p.away) ++ turn ∷ [])) carried well.1 wired)
+    along_first (stands_by {stored = stored} {more = later} more) n idle full before now on of is quiet counted free carried well wired =
         let turn : Turn = (commits, committed stored) in
         let p = split_at line (does turn) later full on of in
-        (tt, along_first more n p.rest ((before ++ p.away) ++ turn ∷ []) now p.more_is p.of (behind before (does turn) later full p is) quiet counted carried well.1 wired)
-    along_first (tells_it {told = told} {more = later} other more) n full before now on of is quiet counted carried well wired =
+        (tt, along_first more n idle p.rest ((before ++ p.away) ++ turn ∷ []) now p.more_is p.of (behind before (does turn) later full p is) quiet counted (free_commit stored before later full idle well.0 is free p) carried well.1 wired)
+    along_first (tells_it {told = told} {more = later} other more) n idle full before now on of is quiet counted free carried well wired =
         let h : Happening = tells line told in
         let p = split_at line h later full on of in
-        along_first more n p.rest ((before ++ p.away) ++ []) now p.more_is p.of (behind before h later full p is) quiet counted carried well.1 wired
-    along_first (loses_it lost more) n full before now on of is quiet counted carried well wired = absurd carried
+        along_first more n idle p.rest ((before ++ p.away) ++ []) now p.more_is p.of (behind before h later full p is) quiet counted (free_told told before later full idle is free p) carried well.1 wired
+    along_first (loses_it lost more) n idle full before now on of is quiet counted free carried well wired = absurd carried

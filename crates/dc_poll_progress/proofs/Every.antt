@@ -1,11 +1,13 @@
 -- Every meter is read (the theorem of specs/Every).
-use Rattle.std.proofs.Common.{◌≡◌, ◌≢◌, ◌⊎◌, inl, inr, ⊎_elim, ℕ, zero, suc, ◌+◌, ◌-◌, ◌<◌, ◌≤◌, ◌^◌, min, Bool, None, List, [], ◌∷◌, ◌++◌, length, get_or, take, drop, arith, refl, sym, ◌∙◌, ap, subst, append-nil}
+use Rattle.std.proofs.Common.{◌≡◌, ◌≢◌, ◌⊎◌, inl, inr, ⊎_elim, ℕ, zero, suc, ◌+◌, ◌-◌, ◌<◌, ◌≤◌, ◌^◌, min, Bool, true, None, List, [], ◌∷◌, ◌++◌, length, get_or, map, take, drop, arith, refl, sym, ◌∙◌, ap, subst, append-nil}
 use Rattle.std.specs.List.{All, AllByRecursion}
 use Rattle.std.proofs.lemmas.Bool.{cases_lt}
-use Rattle.std.proofs.lemmas.List.{take_all, drop_all, get_or_past, get_or_default}
+use Rattle.std.proofs.lemmas.Bool.Decides.{nat_tests}
+use Rattle.std.proofs.lemmas.List.{length-map, length-take, take_all, drop_all, get_or_past, get_or_default}
 use Rattle.std.proofs.lemmas.List.Elements.{recursion_from_All}
 use Rattle.dc_address.specs.declared.identity.Identity.{Identity}
 use Rattle.dc_change.specs.State.{State}
+use Rattle.dc_pending.specs.Lines.{is_line}
 use Rattle.dc_concentrator.specs.Core.{opened}
 use Rattle.dc_concentrator.specs.Event.{asks, asked}
 use Rattle.dc_concentrator.specs.Transcript.{Turn, leads, IsChain}
@@ -26,16 +28,17 @@ use Rattle.dc_poll.specs.declared.station.Station.{Station}
 use Rattle.dc_poll.proofs.Apart.{queue_apart}
 use Rattle.dc_poll.proofs.Queues.{part_is}
 use Rattle.dc_poll.proofs.Reading.{all_read}
-use Rattle.dc_poll_progress.specs.Carried.{Wire, NothingIsRefused}
+use Rattle.dc_poll_progress.specs.Carried.{Wire, NothingIsWanting}
 use Rattle.dc_poll_progress.specs.Every.{EveryMeterIsRead, IsInOrder, IsRead, IsWired, LineIsRead}
 use Rattle.dc_poll_progress.proofs.Carried.{along_first}
 use Rattle.dc_poll_progress.proofs.Counted.{IsHere, queues_over, reads_over}
 use Rattle.dc_poll_progress.proofs.Facts.{WasRead}
 use Rattle.dc_poll_progress.proofs.Following.{follow}
+use Rattle.dc_poll_progress.proofs.Free.{free_at_first}
 use Rattle.dc_poll_progress.proofs.Kept.{starts_on}
 use Rattle.dc_poll_progress.proofs.Lists.{all_as, all_both, all_left, all_right}
 use Rattle.dc_poll_progress.proofs.New.{is_read}
-use Rattle.dc_poll_progress.proofs.Turns.{no_fault, none_pends, none_pends_at, rounds_of_lines, starts_same, unrefused_on}
+use Rattle.dc_poll_progress.proofs.Turns.{no_fault, none_pends, none_pends_at, rounds_of_lines, starts_same, supplied_on}
 use Rattle.dc_poll_progress.proofs.Whole.{IsWellOn, all_running, all_well, none_failed, none_left}
 
 -- ---- which meters are started
@@ -81,33 +84,33 @@ module _ {B : Type 0} where
       part_is s [] s.due s.pass Free over.0 refl refl over.1
       ∙ ap (λ (xs : List Identity). part xs (drop s.due []) s.pass Free) (take_all s.due [] (omega arith)) ∙ ap (λ (xs : List Identity). part [] xs s.pass Free) (drop_all s.due [] (omega arith))
 
-module _ (budget : ℕ) (state : State) (happened : List Happening) (chain : IsChain budget (opened state) (happened_turns happened)) (of : AllByRecursion IsOfLines (happened_turns happened)) (well : NothingIsRefused happened)
+module _ (budget : ℕ) (state : State) (happened : List Happening) (chain : IsChain budget (opened state) (happened_turns happened)) (of : AllByRecursion IsOfLines (happened_turns happened)) (well : NothingIsWanting happened)
     (none : (line : ℕ) (front back : List Turn) → happened_turns happened ≡ front ++ (asks line, asked None) ∷ back → (leads (opened state) front).pending ≡ []) (none_last : (leads (opened state) (happened_turns happened)).pending ≡ []) where
   abbrev now : State
   now = (leads (opened state) (happened_turns happened)).committed
 
   record LineWell (wire : Wire) (queue : List Identity) (line : ℕ) : Type 0 where
-    line_read : LineIsRead state now wire queue (happened_on line happened)
+    line_read : LineIsRead line state now wire queue (happened_on line happened)
     line_well : AllByRecursion GoesWell (happened_on line happened)
 
-  line_is_read : {B : Type 0} (g : Bus B) (tries line : ℕ) (wire : Wire) (old new : Station B) (goes : LineGoes g tries line old new (happened_on line happened)) → IsFresh old → IsOver new → IsSilent new
+  line_is_read : {B : Type 0} (g : Bus B) (tries line : ℕ) (wire : Wire) (old new : Station B) (goes : LineGoes g tries line old new (happened_on line happened)) → IsFresh old → IsOver new → IsSilent new → is_line line ≡ true
       → IsInOrder g tries line state wire old new happened goes → AreApart old.left.now → LineWell wire old.left.now line
-  line_is_read g tries line wire old new goes fresh over silent order apart =
+  line_is_read g tries line wire old new goes fresh over silent is_one order apart =
       let q : List Identity = old.left.now in
       let on : List Happening = happened_on line happened in
       let turns : List Turn = happened_turns happened in
       let from_first : Goes tries line (part q [] 1 Free) on (part_of new) = subst (λ (p : Part). Goes tries line p on (part_of new)) (part_first old fresh) goes.queue in
       let queue : Goes tries line (part q [] 1 Free) on (part [] [] new.pass Free) = subst (λ (p : Part). Goes tries line (part q [] 1 Free) on p) (part_last new over) from_first in
-      let unrefused = unrefused_on line happened well in
-      let wired : AllByRecursion (IsWired state wire) (starts_in on) = started_of (IsWired state wire) queue (subst (AllByRecursion (IsWired state wire)) (sym (append-nil q)) order.wired) in
-      let facts = along_first budget line state wire turns chain of (none line) goes.talk 0 happened [] (bus_at_first wire.positions) refl of refl silent order.counted order.carried unrefused wired in
-      let done = follow (λ (x : Identity). WasRead line state wire turns x) queue (refl, refl) refl unrefused (record { meter = None; asks_before = 0; facts = facts }) in
+      let supplied = supplied_on line happened well in
+      let wired : AllByRecursion (IsWired line state wire) (starts_in on) = started_of (IsWired line state wire) queue (subst (AllByRecursion (IsWired line state wire)) (sym (append-nil q)) order.wired) in
+      let facts = along_first budget line state wire turns chain of is_one well (none line) goes.talk 0 true happened [] (bus_at_first wire.positions) refl of refl silent order.counted (λ e. free_at_first line state) order.carried supplied wired in
+      let done = follow (λ (x : Identity). WasRead line state wire turns x) queue (refl, refl) refl supplied (record { meter = None; asks_before = 0; facts = facts }) in
       let both = all_read tries line q on new.pass done.well queue in
       let once : AreApart (starts_on line turns) = subst AreApart (sym both.0 ∙ starts_same line happened) apart in
       record {
         line_read = record {
           in_order = both.1;
-          each = all_as (λ (x : Identity). WasRead line state wire turns x) (IsRead state now wire) q (λ x w. is_read budget line state wire turns chain of once x w none_last) done.reads;
+          each = all_as (λ (x : Identity). WasRead line state wire turns x) (IsRead line state now wire) q (λ x w. is_read budget line state wire turns chain of once x w none_last) done.reads;
         };
         line_well = done.well;
       }
@@ -139,6 +142,17 @@ well_on happened n each alone (suc j) = ⊎_elim
   where
     next_line : (k : ℕ) → k + 1 ≡ suc k
     next_line k = omega arith
+
+-- there are eight lines
+is_one_of : (k : ℕ) → k < 8 → is_line (k + 1) ≡ true
+is_one_of k low = grind (arith, nat_tests)
+
+line_is : {B : Type 0} (olds : List (Station B)) (buses : List B) → map (λ (s : Station B). s.bus) olds ≡ take most_lines buses → (k : ℕ) → k < length olds → is_line (k + 1) ≡ true
+line_is {B} olds buses are k low =
+    let one = ap length are in
+    let two = length-map olds (λ (s : Station B). s.bus) in
+    let three = length-take most_lines buses in
+    is_one_of k (omega (arith, low, one, two, three))
 
 one_of : {X : Type 0} (xs : List X) (k : ℕ) → k < length xs → X
 one_of [] k low = absurd (omega (arith, low))
@@ -189,7 +203,7 @@ each_is_read {B = B} g bus told passes warned takes disk new buses only tries fi
     let station : Station B = get_or olds k e in
     let planned = plan.planned.each k e low in
     let apart : AreApart station.left.now = subst AreApart (sym planned.queue) (queue_apart state only (k + 1) (bus.lost station.bus) sorted) in
-    let one = line_is_read budget state happened chain of well none none_last bus tries (k + 1) (wires (k + 1)) station (get_or news k e) (polls.rounds.goes k e low) planned.fresh (over_at news k e over.0 (refl, refl)) (silent_at news k e over.1 refl) (order k e low) apart in
+    let one = line_is_read budget state happened chain of well none none_last bus tries (k + 1) (wires (k + 1)) station (get_or news k e) (polls.rounds.goes k e low) planned.fresh (over_at news k e over.0 (refl, refl)) (silent_at news k e over.1 refl) (line_is olds buses plan.planned.buses_are k low) (order k e low) apart in
     let queue : station.left.now ≡ queue_on state only (k + 1) (bus.lost (get_or olds k d).bus) = planned.queue ∙ ap (λ (s : Station B). queue_on state only (k + 1) (bus.lost s.bus)) (get_or_default olds k e d low) in
     subst (λ (q : List Identity). LineWell budget state happened chain of well none none_last (wires (k + 1)) q (k + 1)) queue one in
     let each_well : (k : ℕ) → k < length olds → AllByRecursion GoesWell (happened_on (k + 1) happened) = λ k low. (lines k (one_of olds k low) low).line_well in

@@ -1,14 +1,17 @@
 -- What is known of each thing on a line that carries its talk: no readout fails, none asks more than 102 times, and
 -- where it has no request any more its meter was read.
-use Rattle.std.proofs.Common.{◌≡◌, ℕ, ◌+◌, ◌<◌, Option, Some, None, Ok, List, [], ◌∷◌, ◌++◌}
+use Rattle.std.proofs.Common.{◌≡◌, ℕ, ◌+◌, ◌<◌, Bool, true, false, Option, Some, None, Result, Ok, Err, List, [], ◌∷◌, ◌++◌}
 use Rattle.dc_address.specs.declared.identity.Identity.{Identity}
 use Rattle.dc_change.specs.State.{State, MeterRow, row_of}
+use Rattle.dc_concentrator.specs.declared.fault.HearFault.{HearFault}
+use Rattle.dc_concentrator.specs.declared.fault.StartFault.{StartFault}
+use Rattle.dc_concentrator.specs.declared.line_heard.LineHeard.{LineHeard}
 use Rattle.dc_concentrator.specs.Core.{present, opened, session_of}
 use Rattle.dc_concentrator.specs.Event.{Event, Answer, starts, asks, hears, commits, offices, started, asked, heard}
 use Rattle.dc_concentrator.specs.Transcript.{Turn, leads}
 use Rattle.dc_progress.specs.Beside.{IsNoFailure, HasRead}
 use Rattle.dc_poll.specs.Happening.{Happening, does, tells}
-use Rattle.dc_poll_progress.specs.Carried.{Wire, IsUnrefused}
+use Rattle.dc_poll_progress.specs.Carried.{Wire, IsSupplied}
 use Rattle.dc_poll_progress.specs.Every.{IsWired}
 
 -- requests of one readout, at most
@@ -18,7 +21,7 @@ most_requests = 102
 -- ---- a readout of a meter that ended in a reading, within all turns
 
 pub record WasRead (line : ℕ) (state : State) (wire : Wire) (all : List Turn) (x : Identity) : Type 0 where
-  pub wired : IsWired state wire x
+  pub wired : IsWired line state wire x
   pub row : MeterRow
   pub front : List Turn
   pub since : List Turn
@@ -32,7 +35,7 @@ pub record WasRead (line : ℕ) (state : State) (wire : Wire) (all : List Turn) 
 
 -- ---- along the line
 
--- the meter that is read, if any was started, and its requests until then
+-- the meter that is read, if any was started; its requests until then; and whether it is known that its readout is over
 abbrev pub meter_then : Option Identity → Event → Option Identity
 meter_then m (starts line x) = Some x
 meter_then m (asks line) = m
@@ -45,19 +48,52 @@ asks_then n (starts line x) answer = 0
 asks_then n (asks line) (asked (Some request)) = n + 1
 asks_then n event answer = n
 
+abbrev pub ask_idle : Option (List ℕ) → Option Identity → Bool → Bool
+ask_idle (Some request) m idle = false
+ask_idle None (Some x) idle = true
+ask_idle None None idle = idle
+
+abbrev pub idle_then : Option Identity → Bool → Event → Answer → Bool
+idle_then m idle (starts line x) answer = false
+idle_then m idle (asks line) (asked request) = ask_idle request m idle
+idle_then m idle (hears line moment bytes) answer = false
+idle_then m idle event answer = idle
+
+-- where no readout goes on, no start is refused
+abbrev pub StartFact : Result (Unit {0}) StartFault → Bool → Type 0
+StartFact (Ok done) idle = Unit {0}
+StartFact (Err fault) true = ⊥
+StartFact (Err fault) false = Unit {0}
+
+abbrev pub HearFact : Option Identity → Result LineHeard HearFault → Type 0
+HearFact None answer = Unit {0}
+HearFact (Some x) (Ok answer) = IsNoFailure (heard (Ok answer))
+HearFact (Some x) (Err fault) = ⊥
+
+-- after a refused start, where a readout may go on, nothing is said
+abbrev pub After : Event → Answer → Bool → Type 0 → Type 0
+After (starts line x) (started (Err fault)) false rest = Unit {0}
+After event answer idle rest = rest
+
 module _ (was_read : Identity → Type 0) where
-  abbrev pub Fact : Option Identity → ℕ → Event → Answer → Type 0
-  Fact (Some x) n (asks line) (asked (Some request)) = n < most_requests
-  Fact (Some x) n (asks line) (asked None) = was_read x
-  Fact (Some x) n (hears line moment bytes) (heard answer) = IsNoFailure (heard answer)
-  Fact m n event answer = Unit {0}
+  abbrev pub AskFact : Option Identity → ℕ → Option (List ℕ) → Type 0
+  AskFact None n request = Unit {0}
+  AskFact (Some x) n (Some request) = n < most_requests
+  AskFact (Some x) n None = was_read x
 
-  abbrev pub Facts : Option Identity → ℕ → List Happening → Type 0
-  Facts m n [] = Unit {0}
-  Facts m n (does turn ∷ more) = Fact m n turn.0 turn.1 × Facts (meter_then m turn.0) (asks_then n turn.0 turn.1) more
-  Facts m n (tells line told ∷ more) = Facts m n more
+  abbrev pub Fact : Option Identity → ℕ → Bool → Event → Answer → Type 0
+  Fact m n idle (starts line x) (started answer) = StartFact answer idle
+  Fact m n idle (asks line) (asked request) = AskFact m n request
+  Fact m n idle (hears line moment bytes) (heard answer) = HearFact m answer
+  Fact m n idle event answer = Unit {0}
 
--- nothing is refused on the line
-abbrev pub IsUnrefusedIn : Happening → Type 0
-IsUnrefusedIn (does turn) = IsUnrefused turn.1
-IsUnrefusedIn (tells line told) = Unit {0}
+  abbrev pub Facts : Option Identity → ℕ → Bool → List Happening → Type 0
+  Facts m n idle [] = Unit {0}
+  Facts m n idle (does turn ∷ more) =
+      Fact m n idle turn.0 turn.1 × After turn.0 turn.1 idle (Facts (meter_then m turn.0) (asks_then n turn.0 turn.1) (idle_then m idle turn.0 turn.1) more)
+  Facts m n idle (tells line told ∷ more) = Facts m n idle more
+
+-- nothing is wanting on the line
+abbrev pub IsSuppliedIn : Happening → Type 0
+IsSuppliedIn (does turn) = IsSupplied turn.1
+IsSuppliedIn (tells line told) = Unit {0}

@@ -1,5 +1,5 @@
 -- A queue whose line is served: nothing fails, and each of its meters was read (for the theorem of specs/Every).
-use Rattle.std.proofs.Common.{◌≡◌, ℕ, ◌+◌, ◌≤◌, Option, Some, Result, Ok, Err, List, [], ◌∷◌, arith, refl, sym, subst}
+use Rattle.std.proofs.Common.{◌≡◌, ℕ, Bool, true, false, ◌+◌, ◌≤◌, Option, Some, Result, Ok, Err, List, [], ◌∷◌, arith, refl, sym, subst}
 use Rattle.std.specs.List.{AllByRecursion}
 use Rattle.dc_address.specs.declared.identity.Identity.{Identity}
 use Rattle.dc_concentrator.specs.declared.line_heard.LineHeard.{LineHeard}
@@ -14,7 +14,7 @@ use Rattle.dc_poll.specs.declared.end.End.TheVariants.{Read, Failed, Refused}
 use Rattle.dc_poll.specs.declared.phase.Phase.{Phase}
 use Rattle.dc_poll.specs.declared.phase.Phase.TheVariants.{Free, Busy, Pending, Over}
 use Rattle.dc_poll.specs.Queue.{Part, part, Goes, GoesWell, IsWellTold, IsToldAs, IsGoingOn, most_asks, stays, passes_on, starts_it, is_refused, asks_it, has_no_request, is_given_up, goes_on, is_accepted, is_put_off, fails_at_last, is_faulty, is_stored, is_unstored, stands_by, is_told, loses_it}
-use Rattle.dc_poll_progress.proofs.Facts.{Facts, IsUnrefusedIn, most_requests}
+use Rattle.dc_poll_progress.proofs.Facts.{Facts, IsSuppliedIn, most_requests}
 
 abbrev pub failed_of : Part → List Identity
 failed_of (part left failed pass phase) = failed
@@ -30,13 +30,14 @@ module _ (was_read : Identity → Type 0) where
   pub record Any (on : List Happening) : Type 0 where
     pub meter : Option Identity
     pub asks_before : ℕ
-    pub facts : Facts was_read meter asks_before on
+    pub facts : Facts was_read meter asks_before true on
 
   pub record Present (meter : Identity) (n : ℕ) (on : List Happening) : Type 0 where
     pub asks_before : ℕ
     pub count : asks_before + n ≡ most_asks
     pub few : asks_before ≤ most_requests
-    pub facts : Facts was_read (Some meter) asks_before on
+    pub idle : Bool
+    pub facts : Facts was_read (Some meter) asks_before idle on
 
   abbrev pub Running : List Identity → ℕ → List Happening → Type 0
   Running [] n on = ⊥
@@ -68,18 +69,18 @@ module _ (was_read : Identity → Type 0) where
   at_end (part left failed pass phase) end = record { well = tt; reads = subst (AllByRecursion was_read) (sym end.0) tt }
 
   -- what happens on the line and isn't of the readout
-  past : (left : List Identity) (phase : Phase) (h : Happening) (on : List Happening) → ((m : Option Identity) (n : ℕ) → Facts was_read m n (h ∷ on) → Facts was_read m n on) → At left phase (h ∷ on) → At left phase on
-  past left Free h on step at = record { meter = at.meter; asks_before = at.asks_before; facts = step at.meter at.asks_before at.facts }
+  past : (left : List Identity) (phase : Phase) (h : Happening) (on : List Happening) → ((m : Option Identity) (n : ℕ) (idle : Bool) → Facts was_read m n idle (h ∷ on) → Facts was_read m n idle on) → At left phase (h ∷ on) → At left phase on
+  past left Free h on step at = record { meter = at.meter; asks_before = at.asks_before; facts = step at.meter at.asks_before true at.facts }
   past [] (Busy n) h on step at = absurd at
-  past (m ∷ left) (Busy n) h on step at = record { asks_before = at.asks_before; count = at.count; few = at.few; facts = step (Some m) at.asks_before at.facts }
+  past (m ∷ left) (Busy n) h on step at = record { asks_before = at.asks_before; count = at.count; few = at.few; idle = at.idle; facts = step (Some m) at.asks_before at.idle at.facts }
   past [] (Pending n) h on step at = absurd at
-  past (m ∷ left) (Pending n) h on step at = record { asks_before = at.asks_before; count = at.count; few = at.few; facts = step (Some m) at.asks_before at.facts }
-  past left (Over (Read m)) h on step at = record { meter = at.meter; asks_before = at.asks_before; facts = step at.meter at.asks_before at.facts }
+  past (m ∷ left) (Pending n) h on step at = record { asks_before = at.asks_before; count = at.count; few = at.few; idle = at.idle; facts = step (Some m) at.asks_before at.idle at.facts }
+  past left (Over (Read m)) h on step at = record { meter = at.meter; asks_before = at.asks_before; facts = step at.meter at.asks_before true at.facts }
   past left (Over (Failed m why)) h on step at = absurd at
   past left (Over (Refused m refusal)) h on step at = absurd at
 
   tells_past : (line : ℕ) (old : Part) (told : Told) (on : List Happening) → AtPart old (tells line told ∷ on) → AtPart old on
-  tells_past line (part left failed pass phase) told on at = past left phase (tells line told) on (λ m n facts. facts) at
+  tells_past line (part left failed pass phase) told on at = past left phase (tells line told) on (λ m n idle facts. facts) at
 
   tells_done : (line : ℕ) (old : Part) (told : Told) (on : List Happening) → IsWellTold told → DonePart old on → DonePart old (tells line told ∷ on)
   tells_done line (part left failed pass phase) told on well rest = record { well = (well, rest.well); reads = rest.reads }
@@ -100,21 +101,21 @@ module _ (was_read : Identity → Type 0) where
   going_well line moment bytes (Accepted number more) on = absurd on
   going_well line moment bytes (HasFailed why) on = absurd on
 
-  stored_well : (stored : Result ℕ CommitFault) → IsUnrefusedIn (does (commits, committed stored)) → GoesWell (does (commits, committed stored))
+  stored_well : (stored : Result ℕ CommitFault) → IsSuppliedIn (does (commits, committed stored)) → GoesWell (does (commits, committed stored))
   stored_well (Ok count) well = tt
   stored_well (Err fault) well = absurd well
 
-  pub follow : {tries line : ℕ} {old last : Part} {on : List Happening} → Goes tries line old on last → IsAtEnd last → failed_of old ≡ [] → AllByRecursion IsUnrefusedIn on → AtPart old on → DonePart old on
+  pub follow : {tries line : ℕ} {old last : Part} {on : List Happening} → Goes tries line old on last → IsAtEnd last → failed_of old ≡ [] → AllByRecursion IsSuppliedIn on → AtPart old on → DonePart old on
   follow {last = l} stays end none well at = at_end l end
   follow (passes_on less goes) end none well at = absurd cc
   follow (starts_it {meter = m} few goes) end none well at =
-      let rest = follow goes end none well.1 (record { asks_before = 0; count = refl; few = omega arith; facts = at.facts.1 }) in
+      let rest = follow goes end none well.1 (record { asks_before = 0; count = refl; few = omega arith; idle = false; facts = at.facts.1 }) in
       record { well = (tt, rest.well); reads = rest.reads }
-  follow (is_refused few goes) end none well at = absurd well.0
+  follow (is_refused few goes) end none well at = absurd at.facts.0
   follow (asks_it {meter = m} {n = n} {more = more} goes) end none well at =
       let one = at.facts.0 in
       let count = at.count in
-      let rest = follow goes end none well.1 (record { asks_before = at.asks_before + 1; count = omega (arith, count); few = omega (arith, one); facts = at.facts.1 }) in
+      let rest = follow goes end none well.1 (record { asks_before = at.asks_before + 1; count = omega (arith, count); few = omega (arith, one); idle = false; facts = at.facts.1 }) in
       record { well = (tt, rest.well); reads = rest.reads }
   follow (has_no_request {meter = m} {n = n} {more = more} goes) end none well at =
       let rest = follow goes end none well.1 (record { meter = Some m; asks_before = at.asks_before; facts = at.facts.1 }) in
@@ -124,20 +125,20 @@ module _ (was_read : Identity → Type 0) where
       let few = at.few in
       absurd (omega (arith, count, few))
   follow {line = l} (goes_on {moment = moment} {bytes = bytes} {answer = answer} on goes) end none well at =
-      let rest = follow goes end none well.1 (record { asks_before = at.asks_before; count = at.count; few = at.few; facts = at.facts.1 }) in
+      let rest = follow goes end none well.1 (record { asks_before = at.asks_before; count = at.count; few = at.few; idle = false; facts = at.facts.1 }) in
       record { well = (going_well l moment bytes answer on, rest.well); reads = rest.reads }
   follow (is_accepted goes) end none well at =
-      let rest = follow goes end none well.1 (record { asks_before = at.asks_before; count = at.count; few = at.few; facts = at.facts.1 }) in
+      let rest = follow goes end none well.1 (record { asks_before = at.asks_before; count = at.count; few = at.few; idle = false; facts = at.facts.1 }) in
       record { well = (tt, rest.well); reads = rest.reads }
   follow (is_put_off less goes) end none well at = absurd at.facts.0
   follow (fails_at_last most goes) end none well at = absurd at.facts.0
-  follow (is_faulty goes) end none well at = absurd well.0
+  follow (is_faulty goes) end none well at = absurd at.facts.0
   follow (is_stored goes) end none well at =
-      let rest = follow goes end none well.1 (record { asks_before = at.asks_before; count = at.count; few = at.few; facts = at.facts.1 }) in
+      let rest = follow goes end none well.1 (record { asks_before = at.asks_before; count = at.count; few = at.few; idle = at.idle; facts = at.facts.1 }) in
       record { well = (tt, rest.well); reads = rest.reads }
   follow (is_unstored goes) end none well at = absurd well.0
   follow (stands_by {left = left} {phase = phase} {stored = stored} {more = more} not goes) end none well at =
-      let rest = follow goes end none well.1 (past left phase (does (commits, committed stored)) more (λ m n facts. facts.1) at) in
+      let rest = follow goes end none well.1 (past left phase (does (commits, committed stored)) more (λ m n idle facts. facts.1) at) in
       record { well = (stored_well stored well.0, rest.well); reads = rest.reads }
   follow {line = l} (is_told {end = e} {told = said} {more = more} says goes) end none well at =
       let rest = follow goes end none well.1 (ends_any e l said more at) in

@@ -8,6 +8,8 @@ pub mod Lists
 pub mod Kept
 -- what is known of each thing on a line that carries its talk
 pub mod Facts
+-- a line on which no readout goes on
+pub mod Free
 -- a talk that its line carries, readout after readout
 pub mod Carried
 -- a queue whose line is served

@@ -90,11 +90,7 @@ module _ (budget line : ℕ) (state : State) (wire : Wire) (all : List Turn) (ch
   placed turns of = stays_placed x w.wired.row (opened state) turns of (record { now = w.wired.row; found = w.wired.registered; line_is = refl; address_is = refl })
 
   on : w.wired.row.line ≡ line
-  on =
-      let p = placed w.front of_front in
-      let both : Some p.now ≡ Some w.row = sym p.found ∙ w.registered in
-      let same : p.now ≡ w.row = cc in
-      sym p.line_is ∙ ap (λ (r : MeterRow). r.line) same ∙ row_line line (row_of x (present at_start)) w.row w.registered begins.2
+  on = w.wired.on_line
 
   -- it is started nowhere else
   starts_are : starts_on line all ≡ starts_on line w.front ++ (x ∷ (starts_on line w.since ++ starts_on line w.back))
@@ -130,7 +126,7 @@ module _ (budget line : ℕ) (state : State) (wire : Wire) (all : List Turn) (ch
   last_is : leads (opened state) all ≡ last
   last_is = ap (leads (opened state)) w.all_are ∙ leads_append (opened state) chunk w.back
 
-  pub is_read : (leads (opened state) all).pending ≡ [] → IsRead state (leads (opened state) all).committed wire x
+  pub is_read : (leads (opened state) all).pending ≡ [] → IsRead line state (leads (opened state) all).committed wire x
   is_read none =
       let final : Core = leads (opened state) all in
       let behind : present last ≡ final.committed = ap present (sym last_is) ∙ present_is final none in

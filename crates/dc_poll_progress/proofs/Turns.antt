@@ -19,8 +19,8 @@ use Rattle.dc_poll.specs.Polls.{EndsIn}
 use Rattle.dc_poll.specs.Queue.{starts_in}
 use Rattle.dc_poll.proofs.Leaving.{settled_at}
 use Rattle.dc_poll.proofs.Meanings.{none_waits}
-use Rattle.dc_poll_progress.specs.Carried.{IsUnrefused, NothingIsRefused}
-use Rattle.dc_poll_progress.proofs.Facts.{IsUnrefusedIn}
+use Rattle.dc_poll_progress.specs.Carried.{IsSupplied, NothingIsWanting}
+use Rattle.dc_poll_progress.proofs.Facts.{IsSuppliedIn}
 use Rattle.dc_poll_progress.proofs.Kept.{starts_by, starts_on}
 use Rattle.dc_poll_progress.proofs.Lists.{all_as, all_both, all_left, all_right}
 
@@ -91,7 +91,7 @@ kept_from (turn ∷ turns) store is = ⊎_elim
     (says turn.1)
 
 -- no commit returned a fault
-not_unkept : (budget : ℕ) (core : Core) (event : Event) (answer : Answer) (store : Store) → IsOfLines (event, answer) → May budget core event answer → IsUnrefused answer → (store ≡ unkept → ⊥) → behind_answer store answer ≡ unkept → ⊥
+not_unkept : (budget : ℕ) (core : Core) (event : Event) (answer : Answer) (store : Store) → IsOfLines (event, answer) → May budget core event answer → IsSupplied answer → (store ≡ unkept → ⊥) → behind_answer store answer ≡ unkept → ⊥
 not_unkept budget core event (started done) store of may well not e = not e
 not_unkept budget core event (asked request) store of may well not e = not e
 not_unkept budget core event (heard (Ok Again)) store of may well not e = not e
@@ -107,7 +107,7 @@ not_unkept budget core (hears line moment bytes) (replied reply) store of may we
 not_unkept budget core commits (replied reply) store of may well not e = may
 not_unkept budget core (offices text) (replied reply) store of may well not e = of
 
-never_unkept : (budget : ℕ) (core : Core) (turns : List Turn) (store : Store) → AllByRecursion IsOfLines turns → IsChain budget core turns → AllByRecursion (λ (turn : Turn). IsUnrefused turn.1) turns → (store ≡ unkept → ⊥) → store_behind store turns ≡ unkept → ⊥
+never_unkept : (budget : ℕ) (core : Core) (turns : List Turn) (store : Store) → AllByRecursion IsOfLines turns → IsChain budget core turns → AllByRecursion (λ (turn : Turn). IsSupplied turn.1) turns → (store ≡ unkept → ⊥) → store_behind store turns ≡ unkept → ⊥
 never_unkept budget core [] store of chain well not e = not e
 never_unkept budget core (turn ∷ turns) store of chain well not e =
     never_unkept budget (next core turn.0 turn.1) turns (behind_answer store turn.1) of.1 chain.1 well.1 (not_unkept budget core turn.0 turn.1 store of.0 chain.0 well.0 not) e
@@ -122,35 +122,35 @@ pub none_pends : (budget : ℕ) (core : Core) (turns : List Turn) → core.pendi
 none_pends budget core turns empty chain is = none_waits budget core turns empty chain (kept_from turns all_kept is)
 
 -- where a line has no request any more, nothing is pending
-pub none_pends_at : {T : Type 0} {told : T → ℕ → T → Type 0} {passes : T → Bool → T → Type 0} {first last : T} {turns : List Turn} (budget : ℕ) (core : Core) (line : ℕ) → core.pending ≡ [] → IsChain budget core turns → AllByRecursion IsOfLines turns → AllByRecursion (λ (turn : Turn). IsUnrefused turn.1) turns
+pub none_pends_at : {T : Type 0} {told : T → ℕ → T → Type 0} {passes : T → Bool → T → Type 0} {first last : T} {turns : List Turn} (budget : ℕ) (core : Core) (line : ℕ) → core.pending ≡ [] → IsChain budget core turns → AllByRecursion IsOfLines turns → AllByRecursion (λ (turn : Turn). IsSupplied turn.1) turns
     → InRounds told passes first turns last → (front back : List Turn) → turns ≡ front ++ (asks line, asked None) ∷ back → (leads core front).pending ≡ []
 none_pends_at {told = told} {passes = passes} {first = first} {last = last} {turns = turns} budget core line empty chain of well rounds front back is =
     let rest : List Turn = (asks line, asked None) ∷ back in
     let here = (chain_parts budget core front rest (subst (IsChain budget core) is chain)).0 in
     let of_front = all_left IsOfLines front rest (subst (AllByRecursion IsOfLines) is of) in
-    let well_front = all_left (λ (turn : Turn). IsUnrefused turn.1) front rest (subst (AllByRecursion (λ (turn : Turn). IsUnrefused turn.1)) is well) in
+    let well_front = all_left (λ (turn : Turn). IsSupplied turn.1) front rest (subst (AllByRecursion (λ (turn : Turn). IsSupplied turn.1)) is well) in
     let settled = settled_at told passes first last front back line (subst (λ (ts : List Turn). InRounds told passes first ts last) is rounds) in
     let kept = settled_kept (store_behind some_wait front) settled (never_unkept budget core front some_wait of_front here well_front (λ e. cc)) in
     none_pends budget core front empty here kept
 
 -- no commit returned the fault with which a poll ends
-pub no_fault : (fault : Option CommitFault) (turns : List Turn) → EndsIn fault turns → AllByRecursion (λ (turn : Turn). IsUnrefused turn.1) turns → fault ≡ None
+pub no_fault : (fault : Option CommitFault) (turns : List Turn) → EndsIn fault turns → AllByRecursion (λ (turn : Turn). IsSupplied turn.1) turns → fault ≡ None
 no_fault None turns ends well = refl
 no_fault (Some fault) turns ends well =
-    absurd (all_right (λ (turn : Turn). IsUnrefused turn.1) ends.0 ((commits, committed (Err fault)) ∷ []) (subst (AllByRecursion (λ (turn : Turn). IsUnrefused turn.1)) ends.1 well)).0
+    absurd (all_right (λ (turn : Turn). IsSupplied turn.1) ends.0 ((commits, committed (Err fault)) ∷ []) (subst (AllByRecursion (λ (turn : Turn). IsSupplied turn.1)) ends.1 well)).0
 
 -- ---- on one line
 
-pub unrefused_on : (line : ℕ) (happened : List Happening) → NothingIsRefused happened → AllByRecursion IsUnrefusedIn (happened_on line happened)
-unrefused_on line [] well = tt
-unrefused_on line (does turn ∷ happened) well = by (is_on line turn.0) (unrefused_on line happened well.1)
+pub supplied_on : (line : ℕ) (happened : List Happening) → NothingIsWanting happened → AllByRecursion IsSuppliedIn (happened_on line happened)
+supplied_on line [] well = tt
+supplied_on line (does turn ∷ happened) well = by (is_on line turn.0) (supplied_on line happened well.1)
   where
-    by : (b : Bool) → AllByRecursion IsUnrefusedIn (happened_on line happened) → AllByRecursion IsUnrefusedIn ((if b then does turn ∷ [] else []) ++ happened_on line happened)
+    by : (b : Bool) → AllByRecursion IsSuppliedIn (happened_on line happened) → AllByRecursion IsSuppliedIn ((if b then does turn ∷ [] else []) ++ happened_on line happened)
     by true rest = (well.0, rest)
     by false rest = rest
-unrefused_on line (tells other told ∷ happened) well = by (other == line) (unrefused_on line happened well)
+supplied_on line (tells other told ∷ happened) well = by (other == line) (supplied_on line happened well)
   where
-    by : (b : Bool) → AllByRecursion IsUnrefusedIn (happened_on line happened) → AllByRecursion IsUnrefusedIn ((if b then tells other told ∷ [] else []) ++ happened_on line happened)
+    by : (b : Bool) → AllByRecursion IsSuppliedIn (happened_on line happened) → AllByRecursion IsSuppliedIn ((if b then tells other told ∷ [] else []) ++ happened_on line happened)
     by true rest = (tt, rest)
     by false rest = rest
 

@@ -19,7 +19,7 @@ use Rattle.dc_poll.specs.declared.event.Event.TheVariants.{Late as came_late, En
 use Rattle.dc_poll.specs.Queue.{GoesWell, IsWell, IsWellTold}
 use Rattle.dc_poll.specs.Round.{IsCommitTurn, IsOver, meters_left}
 use Rattle.dc_poll.specs.declared.station.Station.{Station}
-use Rattle.dc_poll_progress.specs.Carried.{IsUnrefused, NothingIsRefused}
+use Rattle.dc_poll_progress.specs.Carried.{IsSupplied, NothingIsWanting}
 use Rattle.dc_poll_progress.proofs.Lists.{AreOfLines, all_left, all_right}
 
 -- ---- where each line goes well, all does
@@ -45,7 +45,7 @@ first_well : (line : ℕ) (h : Happening) (happened : List Happening) → kept_o
 first_well line h happened here not (inl well) = first_of GoesWell line h happened here well
 first_well line h happened here not (inr none) = absurd (not (first_of IsCommitTurn line h happened here none))
 
-commit_well : (budget : ℕ) (core : Core) (answer : Answer) → May budget core commits answer → IsUnrefused answer → IsWell answer
+commit_well : (budget : ℕ) (core : Core) (answer : Answer) → May budget core commits answer → IsSupplied answer → IsWell answer
 commit_well budget core (started done) may well = absurd may
 commit_well budget core (asked request) may well = absurd may
 commit_well budget core (heard answer) may well = absurd may
@@ -53,14 +53,14 @@ commit_well budget core (committed (Ok count)) may well = tt
 commit_well budget core (committed (Err fault)) may well = absurd well
 commit_well budget core (replied reply) may well = absurd may
 
-turn_well : (budget : ℕ) (core : Core) (event : Event) (answer : Answer) (happened : List Happening) → IsOfLines (event, answer) → May budget core event answer → IsUnrefused answer → ((line : ℕ) → IsWellOn line (does (event, answer) ∷ happened)) → IsWell answer
+turn_well : (budget : ℕ) (core : Core) (event : Event) (answer : Answer) (happened : List Happening) → IsOfLines (event, answer) → May budget core event answer → IsSupplied answer → ((line : ℕ) → IsWellOn line (does (event, answer) ∷ happened)) → IsWell answer
 turn_well budget core (starts line meter) answer happened of may well each = first_well line (does (starts line meter, answer)) happened (turn_here line (starts line meter, answer) (eq-eqb line line refl)) (λ e. cc) (each line)
 turn_well budget core (asks line) answer happened of may well each = first_well line (does (asks line, answer)) happened (turn_here line (asks line, answer) (eq-eqb line line refl)) (λ e. cc) (each line)
 turn_well budget core (hears line moment bytes) answer happened of may well each = first_well line (does (hears line moment bytes, answer)) happened (turn_here line (hears line moment bytes, answer) (eq-eqb line line refl)) (λ e. cc) (each line)
 turn_well budget core commits answer happened of may well each = commit_well budget core answer may well
 turn_well budget core (offices text) answer happened of may well each = absurd of
 
-pub all_well : (budget : ℕ) (core : Core) (happened : List Happening) → AreOfLines happened → IsChain budget core (happened_turns happened) → NothingIsRefused happened → ((line : ℕ) → IsWellOn line happened) → AllByRecursion GoesWell happened
+pub all_well : (budget : ℕ) (core : Core) (happened : List Happening) → AreOfLines happened → IsChain budget core (happened_turns happened) → NothingIsWanting happened → ((line : ℕ) → IsWellOn line happened) → AllByRecursion GoesWell happened
 all_well budget core [] of chain well each = tt
 all_well budget core (does turn ∷ happened) of chain well each =
     (turn_well budget core turn.0 turn.1 happened of.0 chain.0 well.0 each, all_well budget (next core turn.0 turn.1) happened of.1 chain.1 well.1 (λ line. rest_well line (does turn) happened (each line)))
@@ -102,7 +102,7 @@ settled_running : (core : Core) (pending : List Change) → (settled_core core p
 settled_running core [] = refl
 settled_running core (change ∷ changes) = refl
 
-next_running : (core : Core) (event : Event) (answer : Answer) → IsOfLines (event, answer) → IsUnrefused answer → core.stopped ≡ false → (next core event answer).stopped ≡ false
+next_running : (core : Core) (event : Event) (answer : Answer) → IsOfLines (event, answer) → IsSupplied answer → core.stopped ≡ false → (next core event answer).stopped ≡ false
 next_running core (starts line meter) (started (Ok done)) of well runs = runs
 next_running core (starts line meter) (started (Err fault)) of well runs = runs
 next_running core (hears line moment bytes) (heard (Ok answer)) of well runs = heard_running core line moment bytes (session_of core line) ∙ runs
@@ -112,6 +112,6 @@ next_running core commits (committed (Err fault)) of well runs = absurd well
 next_running core (offices text) answer of well runs = absurd of
 next_running core event answer of well runs = runs
 
-pub all_running : (core : Core) (turns : List Turn) → AllByRecursion IsOfLines turns → AllByRecursion (λ (turn : Turn). IsUnrefused turn.1) turns → core.stopped ≡ false → (leads core turns).stopped ≡ false
+pub all_running : (core : Core) (turns : List Turn) → AllByRecursion IsOfLines turns → AllByRecursion (λ (turn : Turn). IsSupplied turn.1) turns → core.stopped ≡ false → (leads core turns).stopped ≡ false
 all_running core [] of well runs = runs
 all_running core (turn ∷ turns) of well runs = all_running (next core turn.0 turn.1) turns of.1 well.1 (next_running core turn.0 turn.1 of.0 well.0 runs)

@@ -1,11 +1,12 @@
 -- The talk on a bus that its line carries, through one readout after the other (this product), and
--- a concentrator that refuses nothing.
-use Rattle.std.specs.Prelude.{ℕ, Ok, Err, List}
+-- what a concentrator needs meanwhile.
+use Rattle.std.specs.Prelude.{ℕ, Err, List}
 use Rattle.std.specs.List.{AllByRecursion}
 use Rattle.dc_frame.specs.Reading.{frame_of}
 use Rattle.dc_world.specs.Meter.{Meter, Position}
-use Rattle.dc_concentrator.specs.Event.{Answer, started, asked, heard, committed, replied}
+use Rattle.dc_concentrator.specs.Event.{Answer, heard, committed}
 use Rattle.dc_concentrator.specs.Transcript.{Turn}
+use Rattle.dc_concentrator.specs.declared.fault.HearFault.TheVariants.{Full, NoMemory, PendingFull}
 use Rattle.dc_progress.specs.Beside.{Bus as Line, bus_at_first}
 use Rattle.dc_poll.specs.Bus.{Bus}
 use Rattle.dc_poll.specs.Happening.{Happening, happened_turns}
@@ -37,18 +38,16 @@ IsCarried meters now (stands_by more) = IsCarried meters now more
 IsCarried meters now (tells_it other more) = IsCarried meters now more
 IsCarried meters now (loses_it is_lost more) = ⊥
 
--- no start is refused, no answer, and no commit
-abbrev pub IsUnrefused : Answer → Type 0
-IsUnrefused (started (Ok done)) = Unit {0}
-IsUnrefused (started (Err fault)) = ⊥
-IsUnrefused (asked request) = Unit {0}
-IsUnrefused (heard (Ok answer)) = Unit {0}
-IsUnrefused (heard (Err fault)) = ⊥
-IsUnrefused (committed (Ok count)) = Unit {0}
-IsUnrefused (committed (Err fault)) = ⊥
-IsUnrefused (replied reply) = Unit {0}
+-- Nothing is wanting: no telegram is refused for want of room, in the register or among the pending
+-- changes, or of memory, and no commit fails.
+abbrev pub IsSupplied : Answer → Type 0
+IsSupplied (heard (Err Full)) = ⊥
+IsSupplied (heard (Err PendingFull)) = ⊥
+IsSupplied (heard (Err NoMemory)) = ⊥
+IsSupplied (committed (Err fault)) = ⊥
+IsSupplied answer = Unit {0}
 
--- THE CONCENTRATOR REFUSES NOTHING of what happens.
-abbrev pub NothingIsRefused : List Happening → Type 0
-NothingIsRefused happened =
-    AllByRecursion (λ (turn : Turn). IsUnrefused turn.1) (happened_turns happened)
+-- THE CONCENTRATOR HAS WHAT IT NEEDS in all that happens.
+abbrev pub NothingIsWanting : List Happening → Type 0
+NothingIsWanting happened =
+    AllByRecursion (λ (turn : Turn). IsSupplied turn.1) (happened_turns happened)

@@ -23,12 +23,13 @@ use Rattle.dc_poll.specs.Round.{HasFew, LineGoes, meters_left, most_lines}
 use Rattle.dc_poll.specs.declared.event.Event.{Event as Told}
 use Rattle.dc_poll.specs.declared.outcome.Outcome.{Outcome}
 use Rattle.dc_poll.specs.declared.station.Station.{Station}
-use Rattle.dc_poll_progress.specs.Carried.{Wire, IsCarried, NothingIsRefused}
+use Rattle.dc_poll_progress.specs.Carried.{Wire, IsCarried, NothingIsWanting}
 
 -- ---- the premises
 
--- A meter is on the line, with these parts to read, and its primary address is that of its row.
-pub record IsWired (state : State) (wire : Wire) (identity : Identity) : Type 0 where
+-- A meter of the register is on its line, with these parts to read, and its primary address is that
+-- of its row.
+pub record IsWired (line : ℕ) (state : State) (wire : Wire) (identity : Identity) : Type 0 where
   pub place : ℕ
   pub meter : Meter
   pub row : MeterRow
@@ -36,6 +37,7 @@ pub record IsWired (state : State) (wire : Wire) (identity : Identity) : Type 0 
   pub who : meter.identity ≡ identity
   pub there : IsThere wire.meters wire.positions place meter parts
   pub registered : row_of identity state ≡ Some row
+  pub on_line : row.line ≡ line
   pub address : row.address ≡ meter.address
 
 -- THE LINE IS IN ORDER: each meter of its queue is on it, and it carries what is said. Its queue has no
@@ -45,22 +47,23 @@ pub record IsInOrder {B : Type 0} (g : Bus B) (tries line : ℕ) (state : State)
     (goes : LineGoes g tries line old new (happened_on line happened)) : Type 0 where
   pub few : HasFew old
   pub counted : length wire.positions ≡ length wire.meters
-  pub wired : AllByRecursion (IsWired state wire) old.left.now
+  pub wired : AllByRecursion (IsWired line state wire) old.left.now
   pub carried : IsCarried wire.meters (bus_at_first wire.positions) goes.talk
 
 -- ---- the conclusion
 
 -- This meter of the line has one reading more than before, in its flat, with its parts whole and in
 -- order, and none of its parts is open.
-pub record IsRead (before now : State) (wire : Wire) (identity : Identity) : Type 0 where
-  pub wired : IsWired before wire identity
+pub record IsRead (line : ℕ) (before now : State) (wire : Wire) (identity : Identity)
+    : Type 0 where
+  pub wired : IsWired line before wire identity
   pub read : HasRead identity wired.row wired.parts before now
 
 -- THE LINE IS READ: what was read on it is its queue, in order, and each meter of it is read.
-pub record LineIsRead (before now : State) (wire : Wire) (queue : List Identity)
+pub record LineIsRead (line : ℕ) (before now : State) (wire : Wire) (queue : List Identity)
     (happened : List Happening) : Type 0 where
   pub in_order : read_in happened ≡ queue
-  pub each : AllByRecursion (IsRead before now wire) queue
+  pub each : AllByRecursion (IsRead line before now wire) queue
 
 -- EVERY METER IS READ, line by line, and that is committed. No readout fails, and the counts say so:
 -- as many meters are read as the queues have, and those that failed are those that were refused before.
@@ -68,7 +71,7 @@ pub record EachIsRead {B : Type 0} (lost : B → Bool) (state : State) (only : L
     (buses : List B) (olds : List (Station B)) (wires : ℕ → Wire) (outcome : Outcome)
     (happened : List Happening) (now : Core) : Type 0 where
   pub lines : (k : ℕ) (d : Station B) → k < length olds
-      → LineIsRead state now.committed (wires (k + 1))
+      → LineIsRead (k + 1) state now.committed (wires (k + 1))
       (queue_on state only (k + 1) (lost (slice_index_or olds k d).bus))
       (happened_on (k + 1) happened)
   pub committed : now.pending ≡ []
@@ -79,9 +82,9 @@ pub record EachIsRead {B : Type 0} (lost : B → Bool) (state : State) (only : L
       (refused_count (has_bus lost (take most_lines buses)) state (asked_for only state))
   pub fault : outcome.fault ≡ None
 
--- EVERY METER IS READ. A poll of an image did this plan, and its concentrator refused nothing: no start,
--- no answer and no commit. Each line is in order. The register's meters ascend, as they always do. Then
--- each is read.
+-- EVERY METER IS READ. A poll of an image did this plan, and its concentrator had what it needs: no
+-- telegram was refused for want of room or memory, and no commit failed. Each line is in order. The
+-- register's meters ascend, as they always do. Then each is read.
 abbrev pub EveryMeterIsRead : {D B T N : Type 0} → Ghosts D → Bus B → (T → ℕ → T → Type 0)
     → (T → Bool → T → Type 0) → (T → T → Type 0) → (N → Told → N → Type 0) → Type 0
 EveryMeterIsRead {D} {B} {T} {N} g bus told passes warned takes =
@@ -90,7 +93,7 @@ EveryMeterIsRead {D} {B} {T} {N} g bus told passes warned takes =
     (poll : ImageTurned g (λ core happened. PlanPolled bus told passes warned takes buses only tries
     first last old fresh outcome core happened) disk new)
     → IsStrictlySortedBy identity_cmp (keys_of poll.state.meters)
-    → NothingIsRefused poll.happens.happened
+    → NothingIsWanting poll.happens.happened
     → ((k : ℕ) (d : Station B) (low : k < length poll.happens.are_such.olds)
     → IsInOrder bus tries (k + 1) poll.state (wires (k + 1))
     (slice_index_or poll.happens.are_such.olds k d) (slice_index_or poll.happens.are_such.news k d)
