@@ -1,5 +1,5 @@
 -- Every meter is read (the theorem of specs/Every).
-use Rattle.std.proofs.Common.{◌≡◌, ◌≢◌, ◌⊎◌, inl, inr, ⊎_elim, ℕ, zero, suc, ◌+◌, ◌-◌, ◌<◌, ◌≤◌, ◌^◌, min, Bool, true, None, List, [], ◌∷◌, ◌++◌, length, get_or, map, take, drop, arith, refl, sym, ◌∙◌, ap, subst, append-nil}
+use Rattle.std.proofs.Common.{◌≡◌, ◌≢◌, ◌⊎◌, inl, inr, ⊎_elim, ℕ, zero, suc, ◌+◌, ◌-◌, ◌<◌, ◌≤◌, ◌^◌, min, Bool, true, false, None, List, [], ◌∷◌, ◌++◌, length, get_or, map, take, drop, arith, refl, sym, ◌∙◌, ap, subst, append-nil}
 use Rattle.std.specs.List.{All, AllByRecursion}
 use Rattle.std.proofs.lemmas.Bool.{cases_lt}
 use Rattle.std.proofs.lemmas.Bool.Decides.{nat_tests}
@@ -11,7 +11,11 @@ use Rattle.dc_pending.specs.Lines.{is_line}
 use Rattle.dc_concentrator.specs.Core.{opened}
 use Rattle.dc_concentrator.specs.Event.{asks, asked}
 use Rattle.dc_concentrator.specs.Transcript.{Turn, leads, IsChain}
+use Rattle.dc_concentrator.specs.Images.{IsAt}
+use Rattle.dc_disk.specs.Disk.{IsImage}
 use Rattle.dc_disk.specs.declared.device.Disk.{Ghosts}
+use Rattle.dc_log.specs.Halves.{half_of}
+use Rattle.dc_pending.specs.Images.{Stands}
 use Rattle.dc_progress.specs.Beside.{IsOfLines, bus_at_first}
 use Rattle.dc_poll.specs.Bus.{Bus}
 use Rattle.dc_poll.specs.Happening.{Happening, failures_in, happened_on, happened_turns, reads_in}
@@ -177,7 +181,7 @@ abbrev over_by : {B : Type 0} → Station B → Station B
 over_by station = record station { left = record station.left { now = [] }; phase = Free; request = Quiet }
 
 pub each_is_read : {D B T N : Type 0} (g : Ghosts D) (bus : Bus B) (told : T → ℕ → T → Type 0) (passes : T → Bool → T → Type 0) (warned : T → T → Type 0) (takes : N → Told → N → Type 0) → EveryMeterIsRead g bus told passes warned takes
-each_is_read {B = B} g bus told passes warned takes disk new buses only tries first last old fresh outcome wires poll sorted well order =
+each_is_read {D = D} {B = B} g bus told passes warned takes disk new buses only tries first last old fresh outcome wires poll sorted well order =
     let state : State = poll.state in
     let happened : List Happening = poll.happens.happened in
     let turns : List Turn = happened_turns happened in
@@ -209,11 +213,15 @@ each_is_read {B = B} g bus told passes warned takes disk new buses only tries fi
     let each_well : (k : ℕ) → k < length olds → AllByRecursion GoesWell (happened_on (k + 1) happened) = λ k low. (lines k (one_of olds k low) low).line_well in
     let in_queues : (k : ℕ) (d : Station B) → k < length olds → length (read_in (happened_on (k + 1) happened)) ≡ length (get_or olds k d).left.now =
     λ k d low. ap length ((lines k d low).line_read.in_order ∙ sym (plan.planned.each k d low).queue) in
+    let running : (leads (opened state) turns).stopped ≡ false = all_running (opened state) turns of well refl in
+    let at : IsAt g poll.first.store.disk poll.last (leads (opened state) turns) =
+    subst (λ (ts : List Turn). IsAt g poll.first.store.disk poll.last (leads (opened state) ts)) poll.happens.went.turns_are poll.happens.went.ran.at in
     let all : AllByRecursion GoesWell happened = all_well budget (opened state) happened of chain well (well_on happened (length olds) each_well polls.rounds.alone) in
     record {
       lines = λ k d low. (lines k d low).line_read;
       committed = none_last;
-      running = all_running (opened state) turns of well refl;
+      running = running;
+      stored = λ keeps image. subst (λ (d : D). IsImage (g.choices d) image → Stands (half_of g d) (leads (opened state) turns).committed image) (sym poll.disk_is) (at.stands keeps running image);
       well = all;
       read = counted_read outcome.read plan.polls.between.read polled.counts.read (reads_in happened) (meters_left olds) plan.polls.read polled.read polls.read (sym (reads_over (length olds) happened (here_on happened (length olds) polls.rounds.alone)) ∙ queues_over olds (λ (line : ℕ). length (read_in (happened_on line happened))) in_queues);
       failed = counted_failed outcome.failed plan.polls.between.failed polled.counts.failed (refused_count (has_bus bus.lost (take most_lines buses)) state (asked_for only state)) (failures_in happened) (meters_left news)

@@ -10,7 +10,10 @@ use Rattle.dc_address.specs.declared.identity.Identity.{Identity}
 use Rattle.dc_change.specs.State.{State, MeterRow, row_of}
 use Rattle.dc_concentrator.specs.Core.{Core, opened}
 use Rattle.dc_concentrator.specs.Transcript.{leads}
+use Rattle.dc_disk.specs.Disk.{Image, IsImage}
 use Rattle.dc_disk.specs.declared.device.Disk.{Ghosts}
+use Rattle.dc_log.specs.Halves.{half_of}
+use Rattle.dc_pending.specs.Images.{Stands}
 use Rattle.dc_world.specs.Meter.{Meter}
 use Rattle.dc_progress.specs.Beside.{HasRead, bus_at_first}
 use Rattle.dc_progress.specs.Needs.{IsThere}
@@ -65,17 +68,21 @@ pub record LineIsRead (line : ℕ) (before now : State) (wire : Wire) (queue : L
   pub in_order : read_in happened ≡ queue
   pub each : AllByRecursion (IsRead line before now wire) queue
 
--- EVERY METER IS READ, line by line, and that is committed. No readout fails, and the counts say so:
--- as many meters are read as the queues have, and those that failed are those that were refused before.
-pub record EachIsRead {B : Type 0} (lost : B → Bool) (state : State) (only : List Identity)
-    (buses : List B) (olds : List (Station B)) (wires : ℕ → Wire) (outcome : Outcome)
-    (happened : List Happening) (now : Core) : Type 0 where
+-- EVERY METER IS READ, line by line, and that is committed: where the disk kept the disk model, each
+-- image that it may be left as stands for it. No readout fails, and the counts say so: as many meters
+-- are read as the queues have, and those that failed are those that were refused before.
+pub record EachIsRead {D B : Type 0} (g : Ghosts D) (origin new : D) (lost : B → Bool)
+    (state : State) (only : List Identity) (buses : List B) (olds : List (Station B))
+    (wires : ℕ → Wire) (outcome : Outcome) (happened : List Happening) (now : Core)
+    : Type 0 where
   pub lines : (k : ℕ) (d : Station B) → k < length olds
       → LineIsRead (k + 1) state now.committed (wires (k + 1))
       (queue_on state only (k + 1) (lost (slice_index_or olds k d).bus))
       (happened_on (k + 1) happened)
   pub committed : now.pending ≡ []
   pub running : now.stopped ≡ false
+  pub stored : g.keeps origin → (image : Image) → IsImage (g.choices new) image
+      → Stands (half_of g new) now.committed image
   pub well : AllByRecursion GoesWell happened
   pub read : outcome.read ≡ meters_left olds
   pub failed : outcome.failed ≡ min (2 ^ 32 - 1)
@@ -98,5 +105,5 @@ EveryMeterIsRead {D} {B} {T} {N} g bus told passes warned takes =
     → IsInOrder bus tries (k + 1) poll.state (wires (k + 1))
     (slice_index_or poll.happens.are_such.olds k d) (slice_index_or poll.happens.are_such.news k d)
     poll.happens.happened (poll.happens.are_such.polls.polled.polls.rounds.goes k d low))
-    → EachIsRead bus.lost poll.state only buses poll.happens.are_such.olds wires outcome
+    → EachIsRead g poll.first.store.disk new bus.lost poll.state only buses poll.happens.are_such.olds wires outcome
     poll.happens.happened (leads (opened poll.state) (happened_turns poll.happens.happened))
