@@ -1,5 +1,5 @@
 -- A talk that its line carries, readout after readout (for the theorem of specs/Every).
-use Rattle.std.proofs.Common.{◌≡◌, ℕ, Bool, true, false, ◌+◌, ◌*◌, ◌<◌, ◌≤◌, Option, Some, None, Result, Ok, Err, List, [], ◌∷◌, ◌++◌, length, arith, refl, sym, ◌∙◌, ap, subst, append_assoc, append-nil}
+use Rattle.std.proofs.Common.{◌≡◌, ℕ, Bool, true, false, ◌+◌, ◌*◌, ◌<◌, ◌≤◌, Option, Some, None, Result, Ok, Err, List, [], ◌∷◌, ◌++◌, length, arith, refl, sym, ◌∙◌, ap, subst, append_assoc, append-nil, map}
 use Rattle.std.specs.Prelude.{is_some}
 use Rattle.std.proofs.lemmas.Bool.{eq-eqb}
 use Rattle.std.specs.List.{AllByRecursion}
@@ -12,7 +12,7 @@ use Rattle.dc_world.specs.declared.event.Outcome.{Outcome}
 use Rattle.dc_world.specs.Meter.{Meter, Position}
 use Rattle.dc_world.specs.World.{heard_in}
 use Rattle.dc_world.proofs.Events.{length-after}
-use Rattle.dc_change.specs.State.{State, MeterRow, row_of}
+use Rattle.dc_change.specs.State.{State, MeterRow, row_of, ReadingRow}
 use Rattle.dc_pending.specs.Lines.{is_line}
 use Rattle.dc_concentrator.specs.declared.line_heard.LineHeard.{LineHeard}
 use Rattle.dc_concentrator.specs.declared.fault.HearFault.{HearFault}
@@ -24,21 +24,28 @@ use Rattle.dc_concentrator.specs.Step.{ask_answer, hear_answer, is_on, next}
 use Rattle.dc_concentrator.specs.Transcript.{Turn, leads, IsChain}
 use Rattle.dc_concentrator.proofs.Going.{leads_append}
 use Rattle.dc_concentrator.proofs.Told.{chain_parts}
-use Rattle.dc_progress.specs.Beside.{Bus as Line, bus_at_first, bus_after, IsElsewhere, HasRead, IsHeardOn, IsNoFailure, IsOfLines, IsTakenUnlessFull, Serves, GoesBeside, rests as none_more, asks_it, has_none as asks_none, gives_it, commits_it, goes_by}
+use Rattle.dc_progress.specs.Beside.{Bus as Line, bus_at_first, bus_after, IsElsewhere, HasRead, IsHeardOn, IsNoFailure, IsOfLines, IsTakenUnlessFull, readings_of, Serves, GoesBeside, rests as none_more, asks_it, has_none as asks_none, gives_it, commits_it, goes_by}
 use Rattle.dc_progress.specs.Needs.{IsThere}
 use Rattle.dc_progress.specs.Rounds.{row_after}
 use Rattle.dc_progress.proofs.Rows.{readouts_of_a_run_end}
 use Rattle.dc_poll.specs.Bus.{Bus}
-use Rattle.dc_poll.specs.Happening.{Happening, does, tells, happened_on, happened_turns, turns_of}
+use Rattle.dc_poll.specs.Happening.{Happening, does, tells, happened_on, happened_turns, turns_of, last_of, newest_serial}
 use Rattle.dc_poll.specs.Queue.{starts_in}
 use Rattle.dc_poll.specs.Talking.{Talk, Talks, rests, settles_it, begins, has_none, sends_it, waits_it, takes_it, hears_it, stands_by, tells_it, loses_it}
 use Rattle.dc_poll.specs.declared.event.Event.{Event as Told}
+use Rattle.dc_poll.specs.declared.event.Event.TheVariants.{Read as told_read, Failed as has_failed}
+use Rattle.dc_poll.specs.declared.event.Event.TheVariants.{Refused as was_refused, Lost as is_lost}
+use Rattle.dc_poll.specs.declared.event.Event.TheVariants.{Late as came_late, End as has_ended}
+use Rattle.dc_poll.specs.Keeping.{AreTrue, IsNewest, IsSettled, Store, some_wait, store_behind}
+use Rattle.dc_poll.proofs.Polling.{store_append}
 use Rattle.dc_poll.specs.declared.phase.Request.{Request}
 use Rattle.dc_poll.specs.declared.phase.Request.TheVariants.{Quiet, Sent, Answered}
 use Rattle.dc_poll_progress.specs.Carried.{Wire, IsCarried, IsSupplied}
 use Rattle.dc_poll_progress.specs.Every.{IsWired}
-use Rattle.dc_poll_progress.proofs.Facts.{WasRead, Facts, IsSuppliedIn, most_requests}
+use Rattle.dc_poll_progress.proofs.Facts.{TellFact, WasNew, WasRead, Facts, IsSuppliedIn, most_requests}
 use Rattle.dc_poll_progress.proofs.Free.{all_free, commit_free, heard_ok, start_ok}
+use Rattle.dc_poll_progress.proofs.New.{present_is}
+use Rattle.dc_poll_progress.proofs.Turns.{never_unkept, none_pends, settled_kept}
 use Rattle.dc_poll_progress.proofs.Whole.{all_running}
 use Rattle.dc_poll_progress.proofs.Kept.{IsPlaced, stays_placed}
 use Rattle.dc_poll_progress.proofs.Lists.{AreOfLines, Split, split_at, all_left, all_right}
@@ -142,24 +149,81 @@ module _ (budget line : ℕ) (state : State) (wire : Wire) (all : List Turn) (ch
       by (Some session) on = absurd (let one = (goes_as x before ((asks line, asked None) ∷ more) now is s).asks_on session on (settled before more is) in let bad = asks_nothing ∙ one.1 in cc)
       by None free = refl
 
-  none_asked : (x : Identity) (before more : List Turn) (now : Line) → all ≡ before ++ (asks line, asked None) ∷ more → Since x before now → Read x
-  none_asked x before more now is s =
-      let free = free_at x before more now is s in
-      let g = goes_as x before ((asks line, asked None) ∷ more) now is s in
+  abbrev read_at : (x : Identity) (before more : List Turn) (now : Line) → all ≡ before ++ more → Since x before now → session_of (core_at before) line ≡ None → (core_at before).pending ≡ [] → Read x
+  read_at x before more now is s free none =
+      let g = goes_as x before more now is s in
       let same : before ≡ s.front ++ start_of x ∷ s.since = s.before_is in
       record {
         wired = s.wired;
         row = s.row;
         front = s.front;
         since = s.since;
-        back = (asks line, asked None) ∷ more;
-        all_are = is ∙ ap (λ (ts : List Turn). ts ++ (asks line, asked None) ∷ more) same;
+        back = more;
+        all_are = is ∙ ap (λ (ts : List Turn). ts ++ more) same;
         registered = s.registered;
         free = ap (λ (ts : List Turn). session_of (core_at ts) line) (sym same) ∙ free;
-        settled = ap (λ (ts : List Turn). (core_at ts).pending) (sym same) ∙ settled before more is;
+        settled = ap (λ (ts : List Turn). (core_at ts).pending) (sym same) ∙ none;
         read = subst (λ (ts : List Turn). HasRead x s.row s.wired.parts (present (core_at s.front)) (core_at ts).committed) same
             (subst (λ (i : Identity). HasRead i s.row s.wired.parts (present (core_at s.front)) (core_at before).committed) s.wired.who (g.ends free));
       }
+
+  none_asked : (x : Identity) (before more : List Turn) (now : Line) → all ≡ before ++ (asks line, asked None) ∷ more → Since x before now → Read x
+  none_asked x before more now is s = read_at x before ((asks line, asked None) ∷ more) now is s (free_at x before more now is s) (settled before more is)
+
+  -- ---- what is told of it
+
+  abbrev New : Identity → ℕ → Type 0
+  New x serial = WasNew line state wire all x serial
+
+  abbrev AreTrueAt : List Turn → List Happening → Type 0
+  AreTrueAt before full = AreTrue (core_at before) (store_behind some_wait before) full
+
+  true_more : (before turns : List Turn) (full : List Happening) → AreTrue (leads (core_at before) turns) (store_behind (store_behind some_wait before) turns) full → AreTrueAt (before ++ turns) full
+  true_more before turns full t =
+      subst (λ (core : Core). AreTrue core (store_behind some_wait (before ++ turns)) full) (sym (leads_append (opened state) before turns))
+      (subst (λ (store : Store). AreTrue (leads (core_at before) turns) store full) (sym (store_append some_wait before turns)) t)
+
+  true_away : (before : List Turn) (h : Happening) (more full : List Happening) (p : Split line h more full) → AreTrueAt before full → AreTrueAt (before ++ p.away) (h ∷ p.rest)
+  true_away before h more full p t = true_more before p.away (h ∷ p.rest) (p.truly (core_at before) (store_behind some_wait before) t)
+
+  true_does : (before : List Turn) (turn : Turn) (more full : List Happening) (p : Split line (does turn) more full) → AreTrueAt before full → AreTrueAt ((before ++ p.away) ++ turn ∷ []) p.rest
+  true_does before turn more full p t = true_more (before ++ p.away) (turn ∷ []) p.rest (true_away before (does turn) more full p t)
+
+  true_tells : (before : List Turn) (told : Told) (more full : List Happening) (p : Split line (tells line told) more full) → AreTrueAt before full → AreTrueAt ((before ++ p.away) ++ []) p.rest
+  true_tells before told more full p t = true_more (before ++ p.away) [] p.rest (true_away before (tells line told) more full p t).2
+
+  last_serial : (n : ℕ) (rows : List ReadingRow) (row : ReadingRow) → last_of n (map (λ (r : ReadingRow). r.serial) (rows ++ row ∷ [])) ≡ row.serial
+  last_serial n [] row = refl
+  last_serial n (r ∷ rows) row = last_serial r.serial rows row
+
+  -- where all is committed, the newest reading is that in which the readout ended
+  new_at : (x m : Identity) (serial parts : ℕ) (before more : List Turn) (now : Line) → all ≡ before ++ more → Since x before now → session_of (core_at before) line ≡ None → IsSettled (store_behind some_wait before) → IsNewest (present (core_at before)) (told_read m serial parts) → m ≡ x → New x serial
+  new_at x m serial parts before more now is s free kept newest same =
+      let chain_here = (chain_parts budget (opened state) before more (subst (IsChain budget (opened state)) is chain)).0 in
+      let of = all_left IsOfLines before more (subst (AllByRecursion IsOfLines) is of_all) in
+      let has = all_left (λ (t : Turn). IsSupplied t.1) before more (subst (AllByRecursion (λ (t : Turn). IsSupplied t.1)) is supplied) in
+      let stored = settled_kept (store_behind some_wait before) kept (never_unkept budget (opened state) before some_wait of chain_here has (λ e. cc)) in
+      let none : (core_at before).pending ≡ [] = none_pends budget (opened state) before refl chain_here stored in
+      let was : Read x = read_at x before more now is s free none in
+      let states : present (core_at before) ≡ (core_at (s.front ++ start_of x ∷ s.since)).committed = present_is (core_at before) none ∙ ap (λ (ts : List Turn). (core_at ts).committed) s.before_is in
+      let reading : ReadingRow = record { serial = was.read.serial; meter = x; flat = s.row.flat; parts = was.read.read } in
+      record {
+        was = was;
+        serial_is =
+            newest.0 ∙ ap (λ (i : Identity). newest_serial i (present (core_at before))) same
+            ∙ ap (λ (rows : List ReadingRow). last_of 0 (map (λ (r : ReadingRow). r.serial) rows)) (ap (readings_of x) states ∙ was.read.one_more)
+            ∙ last_serial 0 (readings_of x (present (core_at s.front))) reading;
+      }
+
+  told_fact : (x : Identity) (idle : Bool) (told : Told) (before more : List Turn) (now : Line) → all ≡ before ++ more → Since x before now → (idle ≡ true → session_of (core_at before) line ≡ None) → IsSettled (store_behind some_wait before) → IsNewest (present (core_at before)) told → TellFact New (Some x) idle told
+  told_fact x false told before more now is s free kept newest = tt
+  told_fact x true (told_read m serial parts) before more now is s free kept newest = new_at x m serial parts before more now is s (free refl) kept newest
+  told_fact x true (has_failed m why) before more now is s free kept newest = tt
+  told_fact x true (was_refused m refusal) before more now is s free kept newest = tt
+  told_fact x true (is_lost lost) before more now is s free kept newest = tt
+  told_fact x true (came_late late answers) before more now is s free kept newest = tt
+  told_fact x true (has_ended read failed) before more now is s free kept newest = tt
+
 
   -- ---- the next thing on the line
 
@@ -266,23 +330,23 @@ module _ (budget line : ℕ) (state : State) (wire : Wire) (all : List Turn) (ch
   IsOut (Answered bytes) = Unit {0}
 
   abbrev FactsOf : Option Identity → ℕ → Bool → List Happening → Type 0
-  FactsOf m n idle on = Facts Read m n idle on
+  FactsOf m n idle on = Facts Read New m n idle on
 
   record Going (x : Identity) (request : Request) (start : Line) (idle : Bool) (on : List Happening) : Type 0 where
     facts : FactsOf (Some x) (asks_at request start) idle on
     few : IsOut request → start.heard < most_requests
 
   -- a readout begins, and its facts begin anew
-  starts_one : (m : Option Identity) (n : ℕ) (idle : Bool) (y : Identity) (answer : Result (Unit {0}) StartFault) (before : List Turn) (later full : List Happening) (now : Line) → all ≡ before ++ happened_turns full → IsCounted now → (idle ≡ true → IsFree before)
+  starts_one : (m : Option Identity) (n : ℕ) (idle : Bool) (y : Identity) (answer : Result (Unit {0}) StartFault) (before : List Turn) (later full : List Happening) (now : Line) → all ≡ before ++ happened_turns full → AreTrueAt before full → IsCounted now → (idle ≡ true → IsFree before)
       → (p : Split line (does (starts line y, started answer)) later full) → IsWired line state wire y
-      → (all ≡ ((before ++ p.away) ++ start_of y ∷ []) ++ happened_turns p.rest → Since y ((before ++ p.away) ++ start_of y ∷ []) (bus_at_first now.positions) → FactsOf (Some y) 0 false later) → FactsOf m n idle (does (starts line y, started answer) ∷ later)
-  starts_one m n true y (Err fault) before later full now is counted free p w then_so =
+      → (all ≡ ((before ++ p.away) ++ start_of y ∷ []) ++ happened_turns p.rest → AreTrueAt ((before ++ p.away) ++ start_of y ∷ []) p.rest → Since y ((before ++ p.away) ++ start_of y ∷ []) (bus_at_first now.positions) → FactsOf (Some y) 0 false later) → FactsOf m n idle (does (starts line y, started answer) ∷ later)
+  starts_one m n true y (Err fault) before later full now is truth counted free p w then_so =
       let h : Happening = does (starts line y, started (Err fault)) in
       absurd (never_refused y fault (before ++ p.away) (happened_turns p.rest) (at_it before h later full p is) w (free_away before h later full p is (free refl)))
-  starts_one m n false y (Err fault) before later full now is counted free p w then_so = (tt, tt)
-  starts_one m n idle y (Ok none) before later full now is counted free p w then_so =
+  starts_one m n false y (Err fault) before later full now is truth counted free p w then_so = (tt, tt)
+  starts_one m n idle y (Ok none) before later full now is truth counted free p w then_so =
       let h : Happening = does (start_of y) in
-      (tt, then_so (behind before h later full p is) (begun y (before ++ p.away) now (of_before (before ++ p.away) (start_of y ∷ happened_turns p.rest) (at_it before h later full p is)) counted w))
+      (tt, then_so (behind before h later full p is) (true_does before (start_of y) later full p truth) (begun y (before ++ p.away) now (of_before (before ++ p.away) (start_of y ∷ happened_turns p.rest) (at_it before h later full p is)) counted w))
 
   -- an answer is received
   hears_one : (x : Identity) (now start : Line) (idle : Bool) (moment : ℕ) (bytes : List ℕ) (answer : Result LineHeard HearFault) (before : List Turn) (later full : List Happening) → Given bytes now start → IsCounted start → IsSuppliedIn (does (hears line moment bytes, heard answer))
@@ -341,42 +405,42 @@ module _ (budget line : ℕ) (state : State) (wire : Wire) (all : List Turn) (ch
   not_idle before e = absurd cc
 
   module _ {B : Type 0} {g : Bus B} where
-    along : {first last : Talk B} {on : List Happening} (talk : Talks g line first on last) (x : Identity) (idle : Bool) (full : List Happening) (before : List Turn) (now start : Line) → on ≡ happened_on line full → AreOfLines full → all ≡ before ++ happened_turns full
+    along : {first last : Talk B} {on : List Happening} (talk : Talks g line first on last) (x : Identity) (idle : Bool) (full : List Happening) (before : List Turn) (now start : Line) → on ≡ happened_on line full → AreOfLines full → all ≡ before ++ happened_turns full → AreTrueAt before full
         → last.request ≡ Quiet → Stands first.request now start → IsCounted start → (idle ≡ true → IsFree before) → Since x before start → IsCarried wire.meters now talk → AllByRecursion IsSuppliedIn on → AllByRecursion (IsWired line state wire) (starts_in on) → Going x first.request start idle on
-    along (rests {last = t}) x idle full before now start on of is quiet at counted free s carried well wired = record { facts = tt; few = λ out. absurd (subst IsOut quiet out) }
-    along (settles_it unready settles more) x idle full before now start on of is quiet at counted free s carried well wired =
-        along more x idle full before now start on of is quiet at counted free s carried well wired
-    along (begins {meter = y} {answer = answer} {more = later} ready more) x idle full before now start on of is quiet at counted free s carried well wired =
+    along (rests {last = t}) x idle full before now start on of is truth quiet at counted free s carried well wired = record { facts = tt; few = λ out. absurd (subst IsOut quiet out) }
+    along (settles_it unready settles more) x idle full before now start on of is truth quiet at counted free s carried well wired =
+        along more x idle full before now start on of is truth quiet at counted free s carried well wired
+    along (begins {meter = y} {answer = answer} {more = later} ready more) x idle full before now start on of is truth quiet at counted free s carried well wired =
         let h : Happening = does (starts line y, started answer) in
         let p = split_at line h later full on of in
         let counted_now : IsCounted now = ap (λ (l : Line). length l.positions) at ∙ counted in
         let first : Line = bus_at_first now.positions in
         record {
-          facts = starts_one (Some x) start.heard idle y answer before later full now is counted_now free p wired.0 (λ there since.
-              (along more y false p.rest ((before ++ p.away) ++ start_of y ∷ []) first first p.more_is p.of there quiet refl counted_now (not_idle ((before ++ p.away) ++ start_of y ∷ [])) since carried well.1 wired.1).facts);
+          facts = starts_one (Some x) start.heard idle y answer before later full now is truth counted_now free p wired.0 (λ there truly since.
+              (along more y false p.rest ((before ++ p.away) ++ start_of y ∷ []) first first p.more_is p.of there truly quiet refl counted_now (not_idle ((before ++ p.away) ++ start_of y ∷ [])) since carried well.1 wired.1).facts);
           few = λ out. absurd out;
         }
-    along (has_none {more = later} more) x idle full before now start on of is quiet at counted free s carried well wired =
+    along (has_none {more = later} more) x idle full before now start on of is truth quiet at counted free s carried well wired =
         let turn : Turn = (asks line, asked None) in
         let p = split_at line (does turn) later full on of in
         let here = since_away x before start (does turn) later full p s in
         let there = since_more x (before ++ p.away) (turn ∷ []) start start here (asks_none none_more) in
         let there_is = at_it before (does turn) later full p is in
         let over = asked_free (before ++ p.away) (free_at x (before ++ p.away) (happened_turns p.rest) start there_is here) in
-        let rest = along more x true p.rest ((before ++ p.away) ++ turn ∷ []) now start p.more_is p.of (behind before (does turn) later full p is) quiet at counted (λ e. over) there carried well.1 wired in
+        let rest = along more x true p.rest ((before ++ p.away) ++ turn ∷ []) now start p.more_is p.of (behind before (does turn) later full p is) (true_does before turn later full p truth) quiet at counted (λ e. over) there carried well.1 wired in
         record { facts = (none_asked x (before ++ p.away) (happened_turns p.rest) start there_is here, rest.facts); few = λ out. absurd out }
-    along (sends_it {request = request} {more = later} sends more) x idle full before now start on of is quiet at counted free s carried well wired =
+    along (sends_it {request = request} {more = later} sends more) x idle full before now start on of is truth quiet at counted free s carried well wired =
         let turn : Turn = (asks line, asked (Some request)) in
         let next : Line = record start { waits = frame_of request } in
         let p = split_at line (does turn) later full on of in
         let here = since_away x before start (does turn) later full p s in
         let there = since_more x (before ++ p.away) (turn ∷ []) start next here (asks_it none_more) in
-        let rest = along more x false p.rest ((before ++ p.away) ++ turn ∷ []) (record now { waits = frame_of request }) next p.more_is p.of (behind before (does turn) later full p is) quiet
+        let rest = along more x false p.rest ((before ++ p.away) ++ turn ∷ []) (record now { waits = frame_of request }) next p.more_is p.of (behind before (does turn) later full p is) (true_does before turn later full p truth) quiet
             (ap (λ (l : Line). record l { waits = frame_of request }) at) counted (not_idle ((before ++ p.away) ++ turn ∷ [])) there carried well.1 wired in
         record { facts = (rest.few tt, rest.facts); few = λ out. absurd out }
-    along (waits_it waits more) x idle full before now start on of is quiet at counted free s carried well wired =
-        along more x idle full before now start on of is quiet at counted free s carried well wired
-    along (takes_it {bytes = bytes} gives more) x idle full before now start on of is quiet at counted free s carried well wired =
+    along (waits_it waits more) x idle full before now start on of is truth quiet at counted free s carried well wired =
+        along more x idle full before now start on of is truth quiet at counted free s carried well wired
+    along (takes_it {bytes = bytes} gives more) x idle full before now start on of is truth quiet at counted free s carried well wired =
         let later : Line = bus_after wire.meters carried.outcome carried.frame now in
         let given : Given bytes later start = record {
           outcome = carried.outcome;
@@ -386,59 +450,62 @@ module _ (budget line : ℕ) (state : State) (wire : Wire) (all : List Turn) (ch
           few = subst (λ (l : Line). row_after l.row carried.outcome < 3) at carried.few;
           now_is = ap (bus_after wire.meters carried.outcome carried.frame) at;
         } in
-        let rest = along more x idle full before later start on of is quiet given counted free s carried.then_on well wired in
+        let rest = along more x idle full before later start on of is truth quiet given counted free s carried.then_on well wired in
         record { facts = rest.facts; few = λ out. rest.few tt }
-    along (hears_it {moment = moment} {bytes = bytes} {answer = answer} {more = later} more) x idle full before now start on of is quiet at counted free s carried well wired =
+    along (hears_it {moment = moment} {bytes = bytes} {answer = answer} {more = later} more) x idle full before now start on of is truth quiet at counted free s carried well wired =
         let turn : Turn = (hears line moment bytes, heard answer) in
         let p = split_at line (does turn) later full on of in
         hears_one x now start idle moment bytes answer before later full at counted well.0 is s p (λ next now_is counted_next there.
-        along more x false p.rest ((before ++ p.away) ++ turn ∷ []) now next p.more_is p.of (behind before (does turn) later full p is) quiet now_is counted_next (not_idle ((before ++ p.away) ++ turn ∷ [])) there carried well.1 wired)
-    along {first = t} (stands_by {stored = stored} {more = later} more) x idle full before now start on of is quiet at counted free s carried well wired =
+        along more x false p.rest ((before ++ p.away) ++ turn ∷ []) now next p.more_is p.of (behind before (does turn) later full p is) (true_does before turn later full p truth) quiet now_is counted_next (not_idle ((before ++ p.away) ++ turn ∷ [])) there carried well.1 wired)
+    along {first = t} (stands_by {stored = stored} {more = later} more) x idle full before now start on of is truth quiet at counted free s carried well wired =
         let turn : Turn = (commits, committed stored) in
         let p = split_at line (does turn) later full on of in
         commits_one x t.request start idle stored before later full well.0 is free s p (λ still there.
-        along more x idle p.rest ((before ++ p.away) ++ turn ∷ []) now start p.more_is p.of (behind before (does turn) later full p is) quiet at counted still there carried well.1 wired)
-    along (tells_it {told = told} {more = later} other more) x idle full before now start on of is quiet at counted free s carried well wired =
+        along more x idle p.rest ((before ++ p.away) ++ turn ∷ []) now start p.more_is p.of (behind before (does turn) later full p is) (true_does before turn later full p truth) quiet at counted still there carried well.1 wired)
+    along (tells_it {told = told} {more = later} other more) x idle full before now start on of is truth quiet at counted free s carried well wired =
         let h : Happening = tells line told in
         let p = split_at line h later full on of in
         let there = since_more x (before ++ p.away) [] start start (since_away x before start h later full p s) none_more in
-        let rest = along more x idle p.rest ((before ++ p.away) ++ []) now start p.more_is p.of (behind before h later full p is) quiet at counted (free_told told before later full idle is free p) there carried well.1 wired in
-        record { facts = rest.facts; few = rest.few }
-    along (loses_it lost more) x idle full before now start on of is quiet at counted free s carried well wired = absurd carried
+        let told_here = true_away before h later full p truth in
+        let free_here : idle ≡ true → IsFree (before ++ p.away) = λ e. free_away before h later full p is (free e) in
+        let fact = told_fact x idle told (before ++ p.away) (happened_turns p.rest) start (at_it before h later full p is) (since_away x before start h later full p s) free_here told_here.0 told_here.1 in
+        let rest = along more x idle p.rest ((before ++ p.away) ++ []) now start p.more_is p.of (behind before h later full p is) (true_tells before told later full p truth) quiet at counted (free_told told before later full idle is free p) there carried well.1 wired in
+        record { facts = (fact, rest.facts); few = rest.few }
+    along (loses_it lost more) x idle full before now start on of is truth quiet at counted free s carried well wired = absurd carried
 
     -- before the first start
-    pub along_first : {first last : Talk B} {on : List Happening} (talk : Talks g line first on last) (n : ℕ) (idle : Bool) (full : List Happening) (before : List Turn) (now : Line) → on ≡ happened_on line full → AreOfLines full → all ≡ before ++ happened_turns full
-        → last.request ≡ Quiet → length now.positions ≡ length wire.meters → (idle ≡ true → session_of (leads (opened state) before) line ≡ None) → IsCarried wire.meters now talk → AllByRecursion IsSuppliedIn on → AllByRecursion (IsWired line state wire) (starts_in on) → Facts (λ (x : Identity). WasRead line state wire all x) None n idle on
-    along_first rests n idle full before now on of is quiet counted free carried well wired = tt
-    along_first (settles_it unready settles more) n idle full before now on of is quiet counted free carried well wired = along_first more n idle full before now on of is quiet counted free carried well wired
-    along_first (begins {meter = y} {answer = answer} {more = later} ready more) n idle full before now on of is quiet counted free carried well wired =
+    pub along_first : {first last : Talk B} {on : List Happening} (talk : Talks g line first on last) (n : ℕ) (idle : Bool) (full : List Happening) (before : List Turn) (now : Line) → on ≡ happened_on line full → AreOfLines full → all ≡ before ++ happened_turns full → AreTrueAt before full
+        → last.request ≡ Quiet → length now.positions ≡ length wire.meters → (idle ≡ true → session_of (leads (opened state) before) line ≡ None) → IsCarried wire.meters now talk → AllByRecursion IsSuppliedIn on → AllByRecursion (IsWired line state wire) (starts_in on) → Facts (λ (x : Identity). WasRead line state wire all x) (λ (x : Identity) (serial : ℕ). WasNew line state wire all x serial) None n idle on
+    along_first rests n idle full before now on of is truth quiet counted free carried well wired = tt
+    along_first (settles_it unready settles more) n idle full before now on of is truth quiet counted free carried well wired = along_first more n idle full before now on of is truth quiet counted free carried well wired
+    along_first (begins {meter = y} {answer = answer} {more = later} ready more) n idle full before now on of is truth quiet counted free carried well wired =
         let h : Happening = does (starts line y, started answer) in
         let p = split_at line h later full on of in
         let first : Line = bus_at_first now.positions in
-        starts_one None n idle y answer before later full now is counted free p wired.0 (λ there since.
-        (along more y false p.rest ((before ++ p.away) ++ start_of y ∷ []) first first p.more_is p.of there quiet refl counted (not_idle ((before ++ p.away) ++ start_of y ∷ [])) since carried well.1 wired.1).facts)
-    along_first (has_none {more = later} more) n idle full before now on of is quiet counted free carried well wired =
+        starts_one None n idle y answer before later full now is truth counted free p wired.0 (λ there truly since.
+        (along more y false p.rest ((before ++ p.away) ++ start_of y ∷ []) first first p.more_is p.of there truly quiet refl counted (not_idle ((before ++ p.away) ++ start_of y ∷ [])) since carried well.1 wired.1).facts)
+    along_first (has_none {more = later} more) n idle full before now on of is truth quiet counted free carried well wired =
         let turn : Turn = (asks line, asked None) in
         let p = split_at line (does turn) later full on of in
         let still : idle ≡ true → IsFree ((before ++ p.away) ++ turn ∷ []) = λ e. asked_free (before ++ p.away) (free_away before (does turn) later full p is (free e)) in
-        (tt, along_first more n idle p.rest ((before ++ p.away) ++ turn ∷ []) now p.more_is p.of (behind before (does turn) later full p is) quiet counted still carried well.1 wired)
-    along_first (sends_it {request = request} {more = later} sends more) n idle full before now on of is quiet counted free carried well wired =
+        (tt, along_first more n idle p.rest ((before ++ p.away) ++ turn ∷ []) now p.more_is p.of (behind before (does turn) later full p is) (true_does before turn later full p truth) quiet counted still carried well.1 wired)
+    along_first (sends_it {request = request} {more = later} sends more) n idle full before now on of is truth quiet counted free carried well wired =
         let turn : Turn = (asks line, asked (Some request)) in
         let p = split_at line (does turn) later full on of in
-        (tt, along_first more (n + 1) false p.rest ((before ++ p.away) ++ turn ∷ []) (record now { waits = frame_of request }) p.more_is p.of (behind before (does turn) later full p is) quiet counted (not_idle ((before ++ p.away) ++ turn ∷ [])) carried well.1 wired)
-    along_first (waits_it waits more) n idle full before now on of is quiet counted free carried well wired = along_first more n idle full before now on of is quiet counted free carried well wired
-    along_first (takes_it gives more) n idle full before now on of is quiet counted free carried well wired =
-        along_first more n idle full before (bus_after wire.meters carried.outcome carried.frame now) on of is quiet (counted_after carried.outcome carried.frame now counted) free carried.then_on well wired
-    along_first (hears_it {moment = moment} {bytes = bytes} {answer = answer} {more = later} more) n idle full before now on of is quiet counted free carried well wired =
+        (tt, along_first more (n + 1) false p.rest ((before ++ p.away) ++ turn ∷ []) (record now { waits = frame_of request }) p.more_is p.of (behind before (does turn) later full p is) (true_does before turn later full p truth) quiet counted (not_idle ((before ++ p.away) ++ turn ∷ [])) carried well.1 wired)
+    along_first (waits_it waits more) n idle full before now on of is truth quiet counted free carried well wired = along_first more n idle full before now on of is truth quiet counted free carried well wired
+    along_first (takes_it gives more) n idle full before now on of is truth quiet counted free carried well wired =
+        along_first more n idle full before (bus_after wire.meters carried.outcome carried.frame now) on of is truth quiet (counted_after carried.outcome carried.frame now counted) free carried.then_on well wired
+    along_first (hears_it {moment = moment} {bytes = bytes} {answer = answer} {more = later} more) n idle full before now on of is truth quiet counted free carried well wired =
         let turn : Turn = (hears line moment bytes, heard answer) in
         let p = split_at line (does turn) later full on of in
-        (tt, along_first more n false p.rest ((before ++ p.away) ++ turn ∷ []) now p.more_is p.of (behind before (does turn) later full p is) quiet counted (not_idle ((before ++ p.away) ++ turn ∷ [])) carried well.1 wired)
-    along_first (stands_by {stored = stored} {more = later} more) n idle full before now on of is quiet counted free carried well wired =
+        (tt, along_first more n false p.rest ((before ++ p.away) ++ turn ∷ []) now p.more_is p.of (behind before (does turn) later full p is) (true_does before turn later full p truth) quiet counted (not_idle ((before ++ p.away) ++ turn ∷ [])) carried well.1 wired)
+    along_first (stands_by {stored = stored} {more = later} more) n idle full before now on of is truth quiet counted free carried well wired =
         let turn : Turn = (commits, committed stored) in
         let p = split_at line (does turn) later full on of in
-        (tt, along_first more n idle p.rest ((before ++ p.away) ++ turn ∷ []) now p.more_is p.of (behind before (does turn) later full p is) quiet counted (free_commit stored before later full idle well.0 is free p) carried well.1 wired)
-    along_first (tells_it {told = told} {more = later} other more) n idle full before now on of is quiet counted free carried well wired =
+        (tt, along_first more n idle p.rest ((before ++ p.away) ++ turn ∷ []) now p.more_is p.of (behind before (does turn) later full p is) (true_does before turn later full p truth) quiet counted (free_commit stored before later full idle well.0 is free p) carried well.1 wired)
+    along_first (tells_it {told = told} {more = later} other more) n idle full before now on of is truth quiet counted free carried well wired =
         let h : Happening = tells line told in
         let p = split_at line h later full on of in
-        along_first more n idle p.rest ((before ++ p.away) ++ []) now p.more_is p.of (behind before h later full p is) quiet counted (free_told told before later full idle is free p) carried well.1 wired
-    along_first (loses_it lost more) n idle full before now on of is quiet counted free carried well wired = absurd carried
+        (tt, along_first more n idle p.rest ((before ++ p.away) ++ []) now p.more_is p.of (behind before h later full p is) (true_tells before told later full p truth) quiet counted (free_told told before later full idle is free p) carried well.1 wired)
+    along_first (loses_it lost more) n idle full before now on of is truth quiet counted free carried well wired = absurd carried

@@ -18,8 +18,8 @@ use Rattle.dc_log.specs.Halves.{half_of}
 use Rattle.dc_pending.specs.Images.{Stands}
 use Rattle.dc_progress.specs.Beside.{IsOfLines, bus_at_first}
 use Rattle.dc_poll.specs.Bus.{Bus}
-use Rattle.dc_poll.specs.Happening.{Happening, failures_in, happened_on, happened_turns, reads_in}
-use Rattle.dc_poll.specs.Keeping.{Store, all_kept, unkept}
+use Rattle.dc_poll.specs.Happening.{Happening, does, tells, failures_in, happened_on, happened_turns, reads_in}
+use Rattle.dc_poll.specs.Keeping.{AreTrue, Store, all_kept, some_wait, unkept}
 use Rattle.dc_poll.specs.Planned.{asked_for, has_bus, queue_on, refused_count}
 use Rattle.dc_poll.specs.Polls.{store_of}
 use Rattle.dc_poll.specs.Queue.{AreApart, Goes, GoesWell, Part, part, read_in, starts_in, stays, passes_on, starts_it, is_refused, asks_it, has_no_request, is_given_up, goes_on, is_accepted, is_put_off, fails_at_last, is_faulty, is_stored, is_unstored, stands_by, is_told, loses_it}
@@ -28,16 +28,19 @@ use Rattle.dc_poll.specs.Station.{part_of}
 use Rattle.dc_poll.specs.declared.phase.Phase.TheVariants.{Free}
 use Rattle.dc_poll.specs.declared.phase.Request.TheVariants.{Quiet}
 use Rattle.dc_poll.specs.declared.event.Event.{Event as Told}
+use Rattle.dc_poll.specs.declared.event.Event.TheVariants.{Read as told_read, Failed as has_failed}
+use Rattle.dc_poll.specs.declared.event.Event.TheVariants.{Refused as was_refused, Lost as is_lost}
+use Rattle.dc_poll.specs.declared.event.Event.TheVariants.{Late as came_late, End as has_ended}
 use Rattle.dc_poll.specs.declared.station.Station.{Station}
 use Rattle.dc_poll.proofs.Apart.{queue_apart}
 use Rattle.dc_poll.proofs.Queues.{part_is}
 use Rattle.dc_poll.proofs.Reading.{all_read}
 use Rattle.dc_poll_progress.specs.Carried.{Wire, NothingIsWanting}
-use Rattle.dc_poll_progress.specs.Every.{EveryMeterIsRead, IsInOrder, IsRead, IsWired, LineIsRead}
+use Rattle.dc_poll_progress.specs.Every.{EveryMeterIsRead, IsInOrder, IsOfNew, IsRead, IsWired, LineIsRead}
 use Rattle.dc_poll_progress.proofs.Carried.{along_first}
 use Rattle.dc_poll_progress.proofs.Counted.{IsHere, queues_over, reads_over}
-use Rattle.dc_poll_progress.proofs.Facts.{WasRead}
-use Rattle.dc_poll_progress.proofs.Following.{follow}
+use Rattle.dc_poll_progress.proofs.Facts.{WasNew, WasRead}
+use Rattle.dc_poll_progress.proofs.Following.{IsNew, follow}
 use Rattle.dc_poll_progress.proofs.Free.{free_at_first}
 use Rattle.dc_poll_progress.proofs.Kept.{starts_on}
 use Rattle.dc_poll_progress.proofs.Lists.{all_as, all_both, all_left, all_right}
@@ -89,13 +92,22 @@ module _ {B : Type 0} where
       ∙ ap (λ (xs : List Identity). part xs (drop s.due []) s.pass Free) (take_all s.due [] (omega arith)) ∙ ap (λ (xs : List Identity). part [] xs s.pass Free) (drop_all s.due [] (omega arith))
 
 module _ (budget : ℕ) (state : State) (happened : List Happening) (chain : IsChain budget (opened state) (happened_turns happened)) (of : AllByRecursion IsOfLines (happened_turns happened)) (well : NothingIsWanting happened)
-    (none : (line : ℕ) (front back : List Turn) → happened_turns happened ≡ front ++ (asks line, asked None) ∷ back → (leads (opened state) front).pending ≡ []) (none_last : (leads (opened state) (happened_turns happened)).pending ≡ []) where
+    (none : (line : ℕ) (front back : List Turn) → happened_turns happened ≡ front ++ (asks line, asked None) ∷ back → (leads (opened state) front).pending ≡ []) (none_last : (leads (opened state) (happened_turns happened)).pending ≡ []) (truth : AreTrue (opened state) some_wait happened) where
   abbrev now : State
   now = (leads (opened state) (happened_turns happened)).committed
 
   record LineWell (wire : Wire) (queue : List Identity) (line : ℕ) : Type 0 where
     line_read : LineIsRead line state now wire queue (happened_on line happened)
     line_well : AllByRecursion GoesWell (happened_on line happened)
+
+  new_of : (line : ℕ) (wire : Wire) → AreApart (starts_on line (happened_turns happened)) → (h : Happening) → IsNew (λ (x : Identity). WasRead line state wire (happened_turns happened) x) (λ (x : Identity) (serial : ℕ). WasNew line state wire (happened_turns happened) x serial) h → IsOfNew line state now wire h
+  new_of line wire once (does turn) new = tt
+  new_of line wire once (tells other (told_read m serial parts)) new = (is_read budget line state wire (happened_turns happened) chain of once m new.was none_last, new.serial_is)
+  new_of line wire once (tells other (has_failed m why)) new = tt
+  new_of line wire once (tells other (was_refused m refusal)) new = tt
+  new_of line wire once (tells other (is_lost lost)) new = tt
+  new_of line wire once (tells other (came_late late answers)) new = tt
+  new_of line wire once (tells other (has_ended read failed)) new = tt
 
   line_is_read : {B : Type 0} (g : Bus B) (tries line : ℕ) (wire : Wire) (old new : Station B) (goes : LineGoes g tries line old new (happened_on line happened)) → IsFresh old → IsOver new → IsSilent new → is_line line ≡ true
       → IsInOrder g tries line state wire old new happened goes → AreApart old.left.now → LineWell wire old.left.now line
@@ -107,14 +119,15 @@ module _ (budget : ℕ) (state : State) (happened : List Happening) (chain : IsC
       let queue : Goes tries line (part q [] 1 Free) on (part [] [] new.pass Free) = subst (λ (p : Part). Goes tries line (part q [] 1 Free) on p) (part_last new over) from_first in
       let supplied = supplied_on line happened well in
       let wired : AllByRecursion (IsWired line state wire) (starts_in on) = started_of (IsWired line state wire) queue (subst (AllByRecursion (IsWired line state wire)) (sym (append-nil q)) order.wired) in
-      let facts = along_first budget line state wire turns chain of is_one well (none line) goes.talk 0 true happened [] (bus_at_first wire.positions) refl of refl silent order.counted (λ e. free_at_first line state) order.carried supplied wired in
-      let done = follow (λ (x : Identity). WasRead line state wire turns x) queue (refl, refl) refl supplied (record { meter = None; asks_before = 0; facts = facts }) in
+      let facts = along_first budget line state wire turns chain of is_one well (none line) goes.talk 0 true happened [] (bus_at_first wire.positions) refl of refl truth silent order.counted (λ e. free_at_first line state) order.carried supplied wired in
+      let done = follow (λ (x : Identity). WasRead line state wire turns x) (λ (x : Identity) (serial : ℕ). WasNew line state wire turns x serial) queue (refl, refl) refl supplied (record { meter = None; asks_before = 0; facts = facts }) in
       let both = all_read tries line q on new.pass done.well queue in
       let once : AreApart (starts_on line turns) = subst AreApart (sym both.0 ∙ starts_same line happened) apart in
       record {
         line_read = record {
           in_order = both.1;
           each = all_as (λ (x : Identity). WasRead line state wire turns x) (IsRead line state now wire) q (λ x w. is_read budget line state wire turns chain of once x w none_last) done.reads;
+          told = all_as (IsNew (λ (x : Identity). WasRead line state wire turns x) (λ (x : Identity) (serial : ℕ). WasNew line state wire turns x serial)) (IsOfNew line state now wire) on (λ h new. new_of line wire once h new) done.told;
         };
         line_well = done.well;
       }
@@ -201,15 +214,15 @@ each_is_read {D = D} {B = B} g bus told passes warned takes disk new buses only 
     let fresh_all : All IsFresh olds = λ k d low. (plan.planned.each k d low).fresh in
     let few_all : All HasFew olds = λ k d low. (order k d low).few in
     let over : All IsOver news × All IsSilent news = ends_over olds news (store_of plan.polls.between.fault) kept polled.ended fresh_all few_all in
-    let lines : (k : ℕ) (d : Station B) → k < length olds → LineWell budget state happened chain of well none none_last (wires (k + 1)) (queue_on state only (k + 1) (bus.lost (get_or olds k d).bus)) (k + 1) =
+    let lines : (k : ℕ) (d : Station B) → k < length olds → LineWell budget state happened chain of well none none_last polls.are_true (wires (k + 1)) (queue_on state only (k + 1) (bus.lost (get_or olds k d).bus)) (k + 1) =
     λ k d low.
     let e : Station B = over_by (get_or olds k d) in
     let station : Station B = get_or olds k e in
     let planned = plan.planned.each k e low in
     let apart : AreApart station.left.now = subst AreApart (sym planned.queue) (queue_apart state only (k + 1) (bus.lost station.bus) sorted) in
-    let one = line_is_read budget state happened chain of well none none_last bus tries (k + 1) (wires (k + 1)) station (get_or news k e) (polls.rounds.goes k e low) planned.fresh (over_at news k e over.0 (refl, refl)) (silent_at news k e over.1 refl) (line_is olds buses plan.planned.buses_are k low) (order k e low) apart in
+    let one = line_is_read budget state happened chain of well none none_last polls.are_true bus tries (k + 1) (wires (k + 1)) station (get_or news k e) (polls.rounds.goes k e low) planned.fresh (over_at news k e over.0 (refl, refl)) (silent_at news k e over.1 refl) (line_is olds buses plan.planned.buses_are k low) (order k e low) apart in
     let queue : station.left.now ≡ queue_on state only (k + 1) (bus.lost (get_or olds k d).bus) = planned.queue ∙ ap (λ (s : Station B). queue_on state only (k + 1) (bus.lost s.bus)) (get_or_default olds k e d low) in
-    subst (λ (q : List Identity). LineWell budget state happened chain of well none none_last (wires (k + 1)) q (k + 1)) queue one in
+    subst (λ (q : List Identity). LineWell budget state happened chain of well none none_last polls.are_true (wires (k + 1)) q (k + 1)) queue one in
     let each_well : (k : ℕ) → k < length olds → AllByRecursion GoesWell (happened_on (k + 1) happened) = λ k low. (lines k (one_of olds k low) low).line_well in
     let in_queues : (k : ℕ) (d : Station B) → k < length olds → length (read_in (happened_on (k + 1) happened)) ≡ length (get_or olds k d).left.now =
     λ k d low. ap length ((lines k d low).line_read.in_order ∙ sym (plan.planned.each k d low).queue) in

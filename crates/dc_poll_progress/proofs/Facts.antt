@@ -11,6 +11,8 @@ use Rattle.dc_concentrator.specs.Event.{Event, Answer, starts, asks, hears, comm
 use Rattle.dc_concentrator.specs.Transcript.{Turn, leads}
 use Rattle.dc_progress.specs.Beside.{IsNoFailure, HasRead}
 use Rattle.dc_poll.specs.Happening.{Happening, does, tells}
+use Rattle.dc_poll.specs.declared.event.Event.{Event as Told}
+use Rattle.dc_poll.specs.declared.event.Event.TheVariants.{Read as told_read}
 use Rattle.dc_poll_progress.specs.Carried.{Wire, IsSupplied}
 use Rattle.dc_poll_progress.specs.Every.{IsWired}
 
@@ -32,6 +34,11 @@ pub record WasRead (line : ℕ) (state : State) (wire : Wire) (all : List Turn) 
   pub settled : (leads (opened state) (front ++ (starts line x, started (Ok tt)) ∷ since)).pending ≡ []
   pub read : HasRead x row wired.parts (present (leads (opened state) front))
       (leads (opened state) (front ++ (starts line x, started (Ok tt)) ∷ since)).committed
+
+-- this is the serial of a reading in which its readout ended
+pub record WasNew (line : ℕ) (state : State) (wire : Wire) (all : List Turn) (x : Identity) (serial : ℕ) : Type 0 where
+  pub was : WasRead line state wire all x
+  pub serial_is : serial ≡ was.read.serial
 
 -- ---- along the line
 
@@ -75,7 +82,16 @@ abbrev pub After : Event → Answer → Bool → Type 0 → Type 0
 After (starts line x) (started (Err fault)) false rest = Unit {0}
 After event answer idle rest = rest
 
-module _ (was_read : Identity → Type 0) where
+-- what is told of a meter's reading is of a new one
+abbrev pub IsToldNew : (Identity → ℕ → Type 0) → Identity → Told → Type 0
+IsToldNew new x (told_read meter serial parts) = meter ≡ x → new x serial
+IsToldNew new x told = Unit {0}
+
+abbrev pub TellFact : (Identity → ℕ → Type 0) → Option Identity → Bool → Told → Type 0
+TellFact new (Some x) true told = IsToldNew new x told
+TellFact new m idle told = Unit {0}
+
+module _ (was_read : Identity → Type 0) (new : Identity → ℕ → Type 0) where
   abbrev pub AskFact : Option Identity → ℕ → Option (List ℕ) → Type 0
   AskFact None n request = Unit {0}
   AskFact (Some x) n (Some request) = n < most_requests
@@ -91,7 +107,7 @@ module _ (was_read : Identity → Type 0) where
   Facts m n idle [] = Unit {0}
   Facts m n idle (does turn ∷ more) =
       Fact m n idle turn.0 turn.1 × After turn.0 turn.1 idle (Facts (meter_then m turn.0) (asks_then n turn.0 turn.1) (idle_then m idle turn.0 turn.1) more)
-  Facts m n idle (tells line told ∷ more) = Facts m n idle more
+  Facts m n idle (tells line told ∷ more) = TellFact new m idle told × Facts m n idle more
 
 -- nothing is wanting on the line
 abbrev pub IsSuppliedIn : Happening → Type 0

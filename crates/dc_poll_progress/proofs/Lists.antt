@@ -1,11 +1,14 @@
 -- What holds of each of a list, and what happens on one line.
-use Rattle.std.proofs.Common.{◌≡◌, ℕ, Bool, true, false, List, [], ◌∷◌, ◌++◌, refl, sym, ◌∙◌, ap}
+use Rattle.std.proofs.Common.{◌≡◌, ℕ, Bool, true, false, List, [], ◌∷◌, ◌++◌, refl, sym, ◌∙◌, ap, subst}
 use Rattle.std.specs.Prelude.{if◌then◌else◌, ◌==◌}
 use Rattle.std.specs.List.{AllByRecursion}
 use Rattle.std.proofs.lemmas.Bool.{eq-eqb}
 use Rattle.dc_concentrator.specs.Event.{starts, asks, hears, commits, offices}
-use Rattle.dc_concentrator.specs.Transcript.{Turn}
+use Rattle.dc_concentrator.specs.Core.{Core}
+use Rattle.dc_concentrator.specs.Step.{next}
+use Rattle.dc_concentrator.specs.Transcript.{Turn, leads}
 use Rattle.dc_progress.specs.Beside.{IsElsewhere, IsOfLines}
+use Rattle.dc_poll.specs.Keeping.{AreTrue, Store, behind_answer, store_behind}
 use Rattle.dc_poll.specs.Happening.{Happening, does, tells, is_on, happened_on, happened_turns, turns_of}
 
 pub all_left : {A : Type 0} (P : A → Type 0) (xs ys : List A) → AllByRecursion P (xs ++ ys) → AllByRecursion P xs
@@ -44,6 +47,7 @@ pub record Split (line : ℕ) (x : Happening) (more full : List Happening) : Typ
   pub more_is : more ≡ happened_on line rest
   pub elsewhere : AllByRecursion (λ (turn : Turn). IsElsewhere line turn.0) away
   pub of : AreOfLines rest
+  pub truly : (core : Core) (store : Store) → AreTrue core store full → AreTrue (leads core away) (store_behind store away) (x ∷ rest)
 
 pub split_at : (line : ℕ) (x : Happening) (more full : List Happening) → x ∷ more ≡ happened_on line full → AreOfLines full → Split line x more full
 split_at line x more [] is of = absurd cc
@@ -53,7 +57,7 @@ split_at line x more (does turn ∷ full) is of = by (is_on line turn.0) refl (�
     by true on again e =
         let same : does turn ≡ x = cc in
         let rest : more ≡ happened_on line full = cc in
-        record { away = []; rest = full; turns_are = ap (λ (y : Happening). turns_of y ++ happened_turns full) same; more_is = rest; elsewhere = tt; of = of.1 }
+        record { away = []; rest = full; turns_are = ap (λ (y : Happening). turns_of y ++ happened_turns full) same; more_is = rest; elsewhere = tt; of = of.1; truly = λ core store t. subst (λ (y : Happening). AreTrue core store (y ∷ full)) same t }
     by false off again e =
         let p = again e in
         record {
@@ -63,6 +67,7 @@ split_at line x more (does turn ∷ full) is of = by (is_on line turn.0) refl (�
           more_is = p.more_is;
           elsewhere = (is_away line turn of.0 off, p.elsewhere);
           of = p.of;
+          truly = λ core store t. p.truly (next core turn.0 turn.1) (behind_answer store turn.1) t;
         }
 split_at line x more (tells other told ∷ full) is of = by (other == line) refl (λ e. split_at line x more full e of) is
   where
@@ -70,7 +75,7 @@ split_at line x more (tells other told ∷ full) is of = by (other == line) refl
     by true on again e =
         let same : tells other told ≡ x = cc in
         let rest : more ≡ happened_on line full = cc in
-        record { away = []; rest = full; turns_are = ap (λ (y : Happening). turns_of y ++ happened_turns full) same; more_is = rest; elsewhere = tt; of = of }
+        record { away = []; rest = full; turns_are = ap (λ (y : Happening). turns_of y ++ happened_turns full) same; more_is = rest; elsewhere = tt; of = of; truly = λ core store t. subst (λ (y : Happening). AreTrue core store (y ∷ full)) same t }
     by false off again e =
         let p = again e in
-        record { away = p.away; rest = p.rest; turns_are = p.turns_are; more_is = p.more_is; elsewhere = p.elsewhere; of = p.of }
+        record { away = p.away; rest = p.rest; turns_are = p.turns_are; more_is = p.more_is; elsewhere = p.elsewhere; of = p.of; truly = λ core store t. p.truly core store t.2 }

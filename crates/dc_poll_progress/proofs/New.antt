@@ -43,7 +43,7 @@ none_at_first (suc n) zero s e = cc
 none_at_first (suc n) (suc k) s e = none_at_first n k s e
 
 -- where nothing is pending, what is present is committed
-present_is : (core : Core) → core.pending ≡ [] → present core ≡ core.committed
+pub present_is : (core : Core) → core.pending ≡ [] → present core ≡ core.committed
 present_is core none = ap (λ (changes : List Change). after core.committed changes) none
 
 -- ---- one reading more
@@ -108,14 +108,14 @@ module _ (budget line : ℕ) (state : State) (wire : Wire) (all : List Turn) (ch
   away_at_end : IsAway line x at_end
   away_at_end s there = absurd (let bad = sym w.free ∙ there in cc)
 
-  keeps_front : Keeps x state (present at_start)
+  pub keeps_front : Keeps x state (present at_start)
   keeps_front = all_stay budget line x w.wired.row begins.0 on (opened state) w.front of_front chain_front.0 (on_their_rows budget state [] tt tt) (placed [] tt) away_at_first others.0
 
-  keeps_back : Keeps x (present at_end) (present last)
+  pub keeps_back : Keeps x (present at_end) (present last)
   keeps_back = all_stay budget line x w.wired.row begins.0 on at_end w.back (all_right IsOfLines chunk w.back of_both) chain_back (on_their_rows budget state chunk of_chunk chain_chunk) (placed chunk of_chunk) away_at_end
       (lacks_right x (starts_on line w.since) (starts_on line w.back) others.1)
 
-  row_is : w.row ≡ w.wired.row
+  pub row_is : w.row ≡ w.wired.row
   row_is =
       let both : Some w.row ≡ Some w.wired.row = sym w.registered ∙ keeps_front.rows w.wired.row w.wired.registered in
       cc
@@ -123,10 +123,10 @@ module _ (budget line : ℕ) (state : State) (wire : Wire) (all : List Turn) (ch
   abbrev reading_in : MeterRow → ReadingRow
   reading_in row = record { serial = w.read.serial; meter = x; flat = row.flat; parts = w.read.read }
 
-  last_is : leads (opened state) all ≡ last
+  pub last_is : leads (opened state) all ≡ last
   last_is = ap (leads (opened state)) w.all_are ∙ leads_append (opened state) chunk w.back
 
-  pub is_read : (leads (opened state) all).pending ≡ [] → IsRead line state (leads (opened state) all).committed wire x
+  abbrev pub is_read : (leads (opened state) all).pending ≡ [] → IsRead line state (leads (opened state) all).committed wire x
   is_read none =
       let final : Core = leads (opened state) all in
       let behind : present last ≡ final.committed = ap present (sym last_is) ∙ present_is final none in

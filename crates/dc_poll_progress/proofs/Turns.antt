@@ -107,12 +107,12 @@ not_unkept budget core (hears line moment bytes) (replied reply) store of may we
 not_unkept budget core commits (replied reply) store of may well not e = may
 not_unkept budget core (offices text) (replied reply) store of may well not e = of
 
-never_unkept : (budget : ℕ) (core : Core) (turns : List Turn) (store : Store) → AllByRecursion IsOfLines turns → IsChain budget core turns → AllByRecursion (λ (turn : Turn). IsSupplied turn.1) turns → (store ≡ unkept → ⊥) → store_behind store turns ≡ unkept → ⊥
+pub never_unkept : (budget : ℕ) (core : Core) (turns : List Turn) (store : Store) → AllByRecursion IsOfLines turns → IsChain budget core turns → AllByRecursion (λ (turn : Turn). IsSupplied turn.1) turns → (store ≡ unkept → ⊥) → store_behind store turns ≡ unkept → ⊥
 never_unkept budget core [] store of chain well not e = not e
 never_unkept budget core (turn ∷ turns) store of chain well not e =
     never_unkept budget (next core turn.0 turn.1) turns (behind_answer store turn.1) of.1 chain.1 well.1 (not_unkept budget core turn.0 turn.1 store of.0 chain.0 well.0 not) e
 
-settled_kept : (store : Store) → IsSettled store → (store ≡ unkept → ⊥) → store ≡ all_kept
+pub settled_kept : (store : Store) → IsSettled store → (store ≡ unkept → ⊥) → store ≡ all_kept
 settled_kept all_kept settled not = refl
 settled_kept some_wait settled not = absurd settled
 settled_kept unkept settled not = absurd (not refl)

@@ -18,12 +18,13 @@ use Rattle.dc_world.specs.Meter.{Meter}
 use Rattle.dc_progress.specs.Beside.{HasRead, bus_at_first}
 use Rattle.dc_progress.specs.Needs.{IsThere}
 use Rattle.dc_poll.specs.Bus.{Bus}
-use Rattle.dc_poll.specs.Happening.{Happening, happened_on, happened_turns}
+use Rattle.dc_poll.specs.Happening.{Happening, does, tells, happened_on, happened_turns}
 use Rattle.dc_poll.specs.ImagePoll.{ImageTurned, PlanPolled}
 use Rattle.dc_poll.specs.Planned.{asked_for, has_bus, queue_on, refused_count}
 use Rattle.dc_poll.specs.Queue.{GoesWell, read_in}
 use Rattle.dc_poll.specs.Round.{HasFew, LineGoes, meters_left, most_lines}
 use Rattle.dc_poll.specs.declared.event.Event.{Event as Told}
+use Rattle.dc_poll.specs.declared.event.Event.TheVariants.{Read as was_read}
 use Rattle.dc_poll.specs.declared.outcome.Outcome.{Outcome}
 use Rattle.dc_poll.specs.declared.station.Station.{Station}
 use Rattle.dc_poll_progress.specs.Carried.{Wire, IsCarried, NothingIsWanting}
@@ -62,11 +63,20 @@ pub record IsRead (line : ℕ) (before now : State) (wire : Wire) (identity : Id
   pub wired : IsWired line before wire identity
   pub read : HasRead identity wired.row wired.parts before now
 
--- THE LINE IS READ: what was read on it is its queue, in order, and each meter of it is read.
+-- Where it is told that a meter was read, the serial that is told is that of the new reading.
+abbrev pub IsOfNew : ℕ → State → State → Wire → Happening → Type 0
+IsOfNew line before now wire (does turn) = Unit {0}
+IsOfNew line before now wire (tells other (was_read meter serial parts)) =
+    (new : IsRead line before now wire meter) × (serial ≡ new.read.serial)
+IsOfNew line before now wire (tells other told) = Unit {0}
+
+-- THE LINE IS READ: what was read on it is its queue, in order, each meter of it is read, and what is
+-- told is of these readings.
 pub record LineIsRead (line : ℕ) (before now : State) (wire : Wire) (queue : List Identity)
     (happened : List Happening) : Type 0 where
   pub in_order : read_in happened ≡ queue
   pub each : AllByRecursion (IsRead line before now wire) queue
+  pub told : AllByRecursion (IsOfNew line before now wire) happened
 
 -- EVERY METER IS READ, line by line, and that is committed: where the disk kept the disk model, each
 -- image that it may be left as stands for it. No readout fails, and the counts say so: as many meters
