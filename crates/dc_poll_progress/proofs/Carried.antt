@@ -41,8 +41,7 @@ use Rattle.dc_poll.proofs.Polling.{store_append}
 use Rattle.dc_poll.specs.declared.phase.Request.{Request}
 use Rattle.dc_poll.specs.declared.phase.Request.TheVariants.{Quiet, Sent, Answered}
 use Rattle.dc_poll_progress.specs.Carried.{Wire, IsCarried, IsSupplied}
-use Rattle.dc_poll_progress.specs.Every.{IsWired}
-use Rattle.dc_poll_progress.proofs.Facts.{TellFact, WasNew, WasRead, Facts, IsSuppliedIn, most_requests}
+use Rattle.dc_poll_progress.proofs.Facts.{IsWiredOn, TellFact, WasNew, WasRead, Facts, IsSuppliedIn, most_requests}
 use Rattle.dc_poll_progress.proofs.Free.{all_free, commit_free, heard_ok, start_ok}
 use Rattle.dc_poll_progress.proofs.New.{present_is}
 use Rattle.dc_poll_progress.proofs.Turns.{never_unkept, none_pends, settled_kept}
@@ -91,7 +90,7 @@ module _ (budget line : ℕ) (state : State) (wire : Wire) (all : List Turn) (ch
   -- ---- a readout that was started
 
   record Since (x : Identity) (before : List Turn) (now : Line) : Type 0 where
-    wired : IsWired line state wire x
+    wired : IsWiredOn line state wire x
     row : MeterRow
     front : List Turn
     since : List Turn
@@ -224,7 +223,6 @@ module _ (budget line : ℕ) (state : State) (wire : Wire) (all : List Turn) (ch
   told_fact x true (came_late late answers) before more now is s free kept newest = tt
   told_fact x true (has_ended read failed) before more now is s free kept newest = tt
 
-
   -- ---- the next thing on the line
 
   -- it comes behind turns of other lines
@@ -261,7 +259,7 @@ module _ (budget line : ℕ) (state : State) (wire : Wire) (all : List Turn) (ch
   free_away before h more full p is free = free_by before p.away (turns_of h ++ happened_turns p.rest) (at_it before h more full p is) p.elsewhere free
 
   -- there no start is refused
-  never_refused : (y : Identity) (fault : StartFault) (before more : List Turn) → all ≡ before ++ (starts line y, started (Err fault)) ∷ more → IsWired line state wire y → IsFree before → ⊥
+  never_refused : (y : Identity) (fault : StartFault) (before more : List Turn) → all ≡ before ++ (starts line y, started (Err fault)) ∷ more → IsWiredOn line state wire y → IsFree before → ⊥
   never_refused y fault before more is w free =
       let turn : Turn = (starts line y, started (Err fault)) in
       let core : Core = core_at before in
@@ -283,7 +281,7 @@ module _ (budget line : ℕ) (state : State) (wire : Wire) (all : List Turn) (ch
   counted_after outcome frame now counted = length-after outcome frame wire.meters now.positions counted
 
   -- a readout begins
-  begun : (x : Identity) (before : List Turn) (now : Line) → AllByRecursion IsOfLines before → IsCounted now → IsWired line state wire x → Since x (before ++ start_of x ∷ []) (bus_at_first now.positions)
+  begun : (x : Identity) (before : List Turn) (now : Line) → AllByRecursion IsOfLines before → IsCounted now → IsWiredOn line state wire x → Since x (before ++ start_of x ∷ []) (bus_at_first now.positions)
   begun x before now of counted w =
       let at : IsPlaced x w.row (present (core_at before)) =
       stays_placed x w.row (opened state) before of (record { now = w.row; found = w.registered; line_is = refl; address_is = refl }) in
@@ -338,7 +336,7 @@ module _ (budget line : ℕ) (state : State) (wire : Wire) (all : List Turn) (ch
 
   -- a readout begins, and its facts begin anew
   starts_one : (m : Option Identity) (n : ℕ) (idle : Bool) (y : Identity) (answer : Result (Unit {0}) StartFault) (before : List Turn) (later full : List Happening) (now : Line) → all ≡ before ++ happened_turns full → AreTrueAt before full → IsCounted now → (idle ≡ true → IsFree before)
-      → (p : Split line (does (starts line y, started answer)) later full) → IsWired line state wire y
+      → (p : Split line (does (starts line y, started answer)) later full) → IsWiredOn line state wire y
       → (all ≡ ((before ++ p.away) ++ start_of y ∷ []) ++ happened_turns p.rest → AreTrueAt ((before ++ p.away) ++ start_of y ∷ []) p.rest → Since y ((before ++ p.away) ++ start_of y ∷ []) (bus_at_first now.positions) → FactsOf (Some y) 0 false later) → FactsOf m n idle (does (starts line y, started answer) ∷ later)
   starts_one m n true y (Err fault) before later full now is truth counted free p w then_so =
       let h : Happening = does (starts line y, started (Err fault)) in
@@ -406,7 +404,7 @@ module _ (budget line : ℕ) (state : State) (wire : Wire) (all : List Turn) (ch
 
   module _ {B : Type 0} {g : Bus B} where
     along : {first last : Talk B} {on : List Happening} (talk : Talks g line first on last) (x : Identity) (idle : Bool) (full : List Happening) (before : List Turn) (now start : Line) → on ≡ happened_on line full → AreOfLines full → all ≡ before ++ happened_turns full → AreTrueAt before full
-        → last.request ≡ Quiet → Stands first.request now start → IsCounted start → (idle ≡ true → IsFree before) → Since x before start → IsCarried wire.meters now talk → AllByRecursion IsSuppliedIn on → AllByRecursion (IsWired line state wire) (starts_in on) → Going x first.request start idle on
+        → last.request ≡ Quiet → Stands first.request now start → IsCounted start → (idle ≡ true → IsFree before) → Since x before start → IsCarried wire.meters now talk → AllByRecursion IsSuppliedIn on → AllByRecursion (IsWiredOn line state wire) (starts_in on) → Going x first.request start idle on
     along (rests {last = t}) x idle full before now start on of is truth quiet at counted free s carried well wired = record { facts = tt; few = λ out. absurd (subst IsOut quiet out) }
     along (settles_it unready settles more) x idle full before now start on of is truth quiet at counted free s carried well wired =
         along more x idle full before now start on of is truth quiet at counted free s carried well wired
@@ -436,7 +434,7 @@ module _ (budget line : ℕ) (state : State) (wire : Wire) (all : List Turn) (ch
         let here = since_away x before start (does turn) later full p s in
         let there = since_more x (before ++ p.away) (turn ∷ []) start next here (asks_it none_more) in
         let rest = along more x false p.rest ((before ++ p.away) ++ turn ∷ []) (record now { waits = frame_of request }) next p.more_is p.of (behind before (does turn) later full p is) (true_does before turn later full p truth) quiet
-            (ap (λ (l : Line). record l { waits = frame_of request }) at) counted (not_idle ((before ++ p.away) ++ turn ∷ [])) there carried well.1 wired in
+        (ap (λ (l : Line). record l { waits = frame_of request }) at) counted (not_idle ((before ++ p.away) ++ turn ∷ [])) there carried well.1 wired in
         record { facts = (rest.few tt, rest.facts); few = λ out. absurd out }
     along (waits_it waits more) x idle full before now start on of is truth quiet at counted free s carried well wired =
         along more x idle full before now start on of is truth quiet at counted free s carried well wired
@@ -475,7 +473,7 @@ module _ (budget line : ℕ) (state : State) (wire : Wire) (all : List Turn) (ch
 
     -- before the first start
     pub along_first : {first last : Talk B} {on : List Happening} (talk : Talks g line first on last) (n : ℕ) (idle : Bool) (full : List Happening) (before : List Turn) (now : Line) → on ≡ happened_on line full → AreOfLines full → all ≡ before ++ happened_turns full → AreTrueAt before full
-        → last.request ≡ Quiet → length now.positions ≡ length wire.meters → (idle ≡ true → session_of (leads (opened state) before) line ≡ None) → IsCarried wire.meters now talk → AllByRecursion IsSuppliedIn on → AllByRecursion (IsWired line state wire) (starts_in on) → Facts (λ (x : Identity). WasRead line state wire all x) (λ (x : Identity) (serial : ℕ). WasNew line state wire all x serial) None n idle on
+        → last.request ≡ Quiet → length now.positions ≡ length wire.meters → (idle ≡ true → session_of (leads (opened state) before) line ≡ None) → IsCarried wire.meters now talk → AllByRecursion IsSuppliedIn on → AllByRecursion (IsWiredOn line state wire) (starts_in on) → Facts (λ (x : Identity). WasRead line state wire all x) (λ (x : Identity) (serial : ℕ). WasNew line state wire all x serial) None n idle on
     along_first rests n idle full before now on of is truth quiet counted free carried well wired = tt
     along_first (settles_it unready settles more) n idle full before now on of is truth quiet counted free carried well wired = along_first more n idle full before now on of is truth quiet counted free carried well wired
     along_first (begins {meter = y} {answer = answer} {more = later} ready more) n idle full before now on of is truth quiet counted free carried well wired =

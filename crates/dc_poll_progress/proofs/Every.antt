@@ -1,12 +1,12 @@
 -- Every meter is read (the theorem of specs/Every).
-use Rattle.std.proofs.Common.{◌≡◌, ◌≢◌, ◌⊎◌, inl, inr, ⊎_elim, ℕ, zero, suc, ◌+◌, ◌-◌, ◌<◌, ◌≤◌, ◌^◌, min, Bool, true, false, None, List, [], ◌∷◌, ◌++◌, length, get_or, map, take, drop, arith, refl, sym, ◌∙◌, ap, subst, append-nil}
+use Rattle.std.proofs.Common.{Some, ◌≡◌, ◌≢◌, ◌⊎◌, inl, inr, ⊎_elim, ℕ, zero, suc, ◌+◌, ◌-◌, ◌<◌, ◌≤◌, ◌^◌, min, Bool, true, false, None, List, [], ◌∷◌, ◌++◌, length, get_or, map, take, drop, arith, refl, sym, ◌∙◌, ap, subst, append-nil}
 use Rattle.std.specs.List.{All, AllByRecursion}
 use Rattle.std.proofs.lemmas.Bool.{cases_lt}
 use Rattle.std.proofs.lemmas.Bool.Decides.{nat_tests}
 use Rattle.std.proofs.lemmas.List.{length-map, length-take, take_all, drop_all, get_or_past, get_or_default}
 use Rattle.std.proofs.lemmas.List.Elements.{recursion_from_All}
 use Rattle.dc_address.specs.declared.identity.Identity.{Identity}
-use Rattle.dc_change.specs.State.{State}
+use Rattle.dc_change.specs.State.{State, MeterRow, row_of}
 use Rattle.dc_pending.specs.Lines.{is_line}
 use Rattle.dc_concentrator.specs.Core.{opened}
 use Rattle.dc_concentrator.specs.Event.{asks, asked}
@@ -39,12 +39,13 @@ use Rattle.dc_poll_progress.specs.Carried.{Wire, NothingIsWanting}
 use Rattle.dc_poll_progress.specs.Every.{EveryMeterIsRead, IsInOrder, IsOfNew, IsRead, IsWired, LineIsRead}
 use Rattle.dc_poll_progress.proofs.Carried.{along_first}
 use Rattle.dc_poll_progress.proofs.Counted.{IsHere, queues_over, reads_over}
-use Rattle.dc_poll_progress.proofs.Facts.{WasNew, WasRead}
+use Rattle.dc_poll_progress.proofs.Facts.{IsWiredOn, WasNew, WasRead, wired_on}
 use Rattle.dc_poll_progress.proofs.Following.{IsNew, follow}
 use Rattle.dc_poll_progress.proofs.Free.{free_at_first}
 use Rattle.dc_poll_progress.proofs.Kept.{starts_on}
-use Rattle.dc_poll_progress.proofs.Lists.{all_as, all_both, all_left, all_right}
+use Rattle.dc_poll_progress.proofs.Lists.{all_as, all_with, all_both, all_left, all_right}
 use Rattle.dc_poll_progress.proofs.New.{is_read}
+use Rattle.dc_poll_progress.proofs.OwnLine.{queue_of_line}
 use Rattle.dc_poll_progress.proofs.Turns.{no_fault, none_pends, none_pends_at, rounds_of_lines, starts_same, supplied_on}
 use Rattle.dc_poll_progress.proofs.Whole.{IsWellOn, all_running, all_well, none_failed, none_left}
 
@@ -97,10 +98,10 @@ module _ (budget : ℕ) (state : State) (happened : List Happening) (chain : IsC
   now = (leads (opened state) (happened_turns happened)).committed
 
   record LineWell (wire : Wire) (queue : List Identity) (line : ℕ) : Type 0 where
-    line_read : LineIsRead line state now wire queue (happened_on line happened)
+    line_read : LineIsRead state now wire queue (happened_on line happened)
     line_well : AllByRecursion GoesWell (happened_on line happened)
 
-  new_of : (line : ℕ) (wire : Wire) → AreApart (starts_on line (happened_turns happened)) → (h : Happening) → IsNew (λ (x : Identity). WasRead line state wire (happened_turns happened) x) (λ (x : Identity) (serial : ℕ). WasNew line state wire (happened_turns happened) x serial) h → IsOfNew line state now wire h
+  new_of : (line : ℕ) (wire : Wire) → AreApart (starts_on line (happened_turns happened)) → (h : Happening) → IsNew (λ (x : Identity). WasRead line state wire (happened_turns happened) x) (λ (x : Identity) (serial : ℕ). WasNew line state wire (happened_turns happened) x serial) h → IsOfNew state now wire h
   new_of line wire once (does turn) new = tt
   new_of line wire once (tells other (told_read m serial parts)) new = (is_read budget line state wire (happened_turns happened) chain of once m new.was none_last, new.serial_is)
   new_of line wire once (tells other (has_failed m why)) new = tt
@@ -110,15 +111,16 @@ module _ (budget : ℕ) (state : State) (happened : List Happening) (chain : IsC
   new_of line wire once (tells other (has_ended read failed)) new = tt
 
   line_is_read : {B : Type 0} (g : Bus B) (tries line : ℕ) (wire : Wire) (old new : Station B) (goes : LineGoes g tries line old new (happened_on line happened)) → IsFresh old → IsOver new → IsSilent new → is_line line ≡ true
-      → IsInOrder g tries line state wire old new happened goes → AreApart old.left.now → LineWell wire old.left.now line
-  line_is_read g tries line wire old new goes fresh over silent is_one order apart =
+      → IsInOrder g tries line state wire old new happened goes → AreApart old.left.now → AllByRecursion (λ (x : Identity). (row : MeterRow) → row_of x state ≡ Some row → row.line ≡ line) old.left.now → LineWell wire old.left.now line
+  line_is_read g tries line wire old new goes fresh over silent is_one order apart of_line =
       let q : List Identity = old.left.now in
       let on : List Happening = happened_on line happened in
       let turns : List Turn = happened_turns happened in
       let from_first : Goes tries line (part q [] 1 Free) on (part_of new) = subst (λ (p : Part). Goes tries line p on (part_of new)) (part_first old fresh) goes.queue in
       let queue : Goes tries line (part q [] 1 Free) on (part [] [] new.pass Free) = subst (λ (p : Part). Goes tries line (part q [] 1 Free) on p) (part_last new over) from_first in
       let supplied = supplied_on line happened well in
-      let wired : AllByRecursion (IsWired line state wire) (starts_in on) = started_of (IsWired line state wire) queue (subst (AllByRecursion (IsWired line state wire)) (sym (append-nil q)) order.wired) in
+      let on_line : AllByRecursion (IsWiredOn line state wire) q = all_with (IsWired state wire) (λ (x : Identity). (row : MeterRow) → row_of x state ≡ Some row → row.line ≡ line) (IsWiredOn line state wire) q (wired_on line state wire) order.wired of_line in
+      let wired : AllByRecursion (IsWiredOn line state wire) (starts_in on) = started_of (IsWiredOn line state wire) queue (subst (AllByRecursion (IsWiredOn line state wire)) (sym (append-nil q)) on_line) in
       let facts = along_first budget line state wire turns chain of is_one well (none line) goes.talk 0 true happened [] (bus_at_first wire.positions) refl of refl truth silent order.counted (λ e. free_at_first line state) order.carried supplied wired in
       let done = follow (λ (x : Identity). WasRead line state wire turns x) (λ (x : Identity) (serial : ℕ). WasNew line state wire turns x serial) queue (refl, refl) refl supplied (record { meter = None; asks_before = 0; facts = facts }) in
       let both = all_read tries line q on new.pass done.well queue in
@@ -126,8 +128,8 @@ module _ (budget : ℕ) (state : State) (happened : List Happening) (chain : IsC
       record {
         line_read = record {
           in_order = both.1;
-          each = all_as (λ (x : Identity). WasRead line state wire turns x) (IsRead line state now wire) q (λ x w. is_read budget line state wire turns chain of once x w none_last) done.reads;
-          told = all_as (IsNew (λ (x : Identity). WasRead line state wire turns x) (λ (x : Identity) (serial : ℕ). WasNew line state wire turns x serial)) (IsOfNew line state now wire) on (λ h new. new_of line wire once h new) done.told;
+          each = all_as (λ (x : Identity). WasRead line state wire turns x) (IsRead state now wire) q (λ x w. is_read budget line state wire turns chain of once x w none_last) done.reads;
+          told = all_as (IsNew (λ (x : Identity). WasRead line state wire turns x) (λ (x : Identity) (serial : ℕ). WasNew line state wire turns x serial)) (IsOfNew state now wire) on (λ h new. new_of line wire once h new) done.told;
         };
         line_well = done.well;
       }
@@ -220,7 +222,8 @@ each_is_read {D = D} {B = B} g bus told passes warned takes disk new buses only 
     let station : Station B = get_or olds k e in
     let planned = plan.planned.each k e low in
     let apart : AreApart station.left.now = subst AreApart (sym planned.queue) (queue_apart state only (k + 1) (bus.lost station.bus) sorted) in
-    let one = line_is_read budget state happened chain of well none none_last polls.are_true bus tries (k + 1) (wires (k + 1)) station (get_or news k e) (polls.rounds.goes k e low) planned.fresh (over_at news k e over.0 (refl, refl)) (silent_at news k e over.1 refl) (line_is olds buses plan.planned.buses_are k low) (order k e low) apart in
+    let of_line = subst (AllByRecursion (λ (x : Identity). (row : MeterRow) → row_of x state ≡ Some row → row.line ≡ k + 1)) (sym planned.queue) (queue_of_line state only (k + 1) (bus.lost station.bus) sorted) in
+    let one = line_is_read budget state happened chain of well none none_last polls.are_true bus tries (k + 1) (wires (k + 1)) station (get_or news k e) (polls.rounds.goes k e low) planned.fresh (over_at news k e over.0 (refl, refl)) (silent_at news k e over.1 refl) (line_is olds buses plan.planned.buses_are k low) (order k e low) apart of_line in
     let queue : station.left.now ≡ queue_on state only (k + 1) (bus.lost (get_or olds k d).bus) = planned.queue ∙ ap (λ (s : Station B). queue_on state only (k + 1) (bus.lost s.bus)) (get_or_default olds k e d low) in
     subst (λ (q : List Identity). LineWell budget state happened chain of well none none_last polls.are_true (wires (k + 1)) q (k + 1)) queue one in
     let each_well : (k : ℕ) → k < length olds → AllByRecursion GoesWell (happened_on (k + 1) happened) = λ k low. (lines k (one_of olds k low) low).line_well in

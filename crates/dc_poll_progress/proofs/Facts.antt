@@ -9,6 +9,8 @@ use Rattle.dc_concentrator.specs.declared.line_heard.LineHeard.{LineHeard}
 use Rattle.dc_concentrator.specs.Core.{present, opened, session_of}
 use Rattle.dc_concentrator.specs.Event.{Event, Answer, starts, asks, hears, commits, offices, started, asked, heard}
 use Rattle.dc_concentrator.specs.Transcript.{Turn, leads}
+use Rattle.dc_world.specs.Meter.{Meter}
+use Rattle.dc_progress.specs.Needs.{IsThere}
 use Rattle.dc_progress.specs.Beside.{IsNoFailure, HasRead}
 use Rattle.dc_poll.specs.Happening.{Happening, does, tells}
 use Rattle.dc_poll.specs.declared.event.Event.{Event as Told}
@@ -20,10 +22,47 @@ use Rattle.dc_poll_progress.specs.Every.{IsWired}
 abbrev pub most_requests : ℕ
 most_requests = 102
 
+-- a meter as the theorem says it, and its row is of the line
+pub record IsWiredOn (line : ℕ) (state : State) (wire : Wire) (identity : Identity) : Type 0 where
+  pub place : ℕ
+  pub meter : Meter
+  pub row : MeterRow
+  pub parts : List (List ℕ)
+  pub who : meter.identity ≡ identity
+  pub there : IsThere wire.meters wire.positions place meter parts
+  pub registered : row_of identity state ≡ Some row
+  pub address : row.address ≡ meter.address
+  pub on_line : row.line ≡ line
+
+abbrev pub wired_of : (line : ℕ) (state : State) (wire : Wire) (identity : Identity) → IsWiredOn line state wire identity → IsWired state wire identity
+wired_of line state wire identity w = record {
+  place = w.place;
+  meter = w.meter;
+  row = w.row;
+  parts = w.parts;
+  who = w.who;
+  there = w.there;
+  registered = w.registered;
+  address = w.address;
+}
+
+abbrev pub wired_on : (line : ℕ) (state : State) (wire : Wire) (identity : Identity) → IsWired state wire identity → ((row : MeterRow) → row_of identity state ≡ Some row → row.line ≡ line) → IsWiredOn line state wire identity
+wired_on line state wire identity w on = record {
+  place = w.place;
+  meter = w.meter;
+  row = w.row;
+  parts = w.parts;
+  who = w.who;
+  there = w.there;
+  registered = w.registered;
+  address = w.address;
+  on_line = on w.row w.registered;
+}
+
 -- ---- a readout of a meter that ended in a reading, within all turns
 
 pub record WasRead (line : ℕ) (state : State) (wire : Wire) (all : List Turn) (x : Identity) : Type 0 where
-  pub wired : IsWired line state wire x
+  pub wired : IsWiredOn line state wire x
   pub row : MeterRow
   pub front : List Turn
   pub since : List Turn

@@ -2,7 +2,6 @@
 use Rattle.std.proofs.Common.{◌≡◌, inl, inr, ℕ, zero, suc, ◌-◌, Bool, true, false, not, Option, Some, None, Result, Ok, Err, List, [], ◌∷◌, get_or, refl, sym, ◌∙◌, ap, subst, get_or-set_other}
 use Rattle.std.specs.Prelude.{is_some, replicate, if◌then◌else◌}
 use Rattle.std.specs.List.{AllByRecursion}
-use Rattle.dc_address.specs.declared.identity.Identity.{Identity}
 use Rattle.dc_readout.specs.Summary.{Summary, begun, verdict_by}
 use Rattle.dc_change.specs.declared.change.Change.{Change}
 use Rattle.dc_pending.specs.Lines.{is_line, line_count, settled_on}
@@ -13,7 +12,7 @@ use Rattle.dc_concentrator.specs.declared.fault.HearFault.{HearFault}
 use Rattle.dc_concentrator.specs.declared.fault.HearFault.TheVariants.{Full, Idle, NoLine, NoMemory, PendingFull, Stopped}
 use Rattle.dc_concentrator.specs.declared.line_heard.LineHeard.{LineHeard}
 use Rattle.dc_concentrator.specs.Core.{Core, present, session_of, opened}
-use Rattle.dc_concentrator.specs.Event.{Event, Answer, starts, asks, hears, commits, offices, started, heard, committed}
+use Rattle.dc_concentrator.specs.Event.{Event, Answer, starts, hears, commits, offices, started, heard, committed}
 use Rattle.dc_concentrator.specs.Step.{May, MayHear, next, is_on, address_in, answer_on, session_after, heard_on, settled_core}
 use Rattle.dc_concentrator.specs.Transcript.{Turn, leads, IsChain}
 use Rattle.dc_progress.specs.Beside.{IsElsewhere, IsTakenUnlessFull}

@@ -18,6 +18,8 @@ pub mod Following
 pub mod New
 -- the turns of a poll, and what is pending after them
 pub mod Turns
+-- the meters of a line's queue have that line in their rows
+pub mod OwnLine
 -- where each line goes well, all does
 pub mod Whole
 -- as many meters are counted as read as the queues have

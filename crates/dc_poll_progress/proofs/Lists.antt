@@ -27,6 +27,10 @@ pub all_as : {A : Type 0} (P Q : A → Type 0) (xs : List A) → ((x : A) → P 
 all_as P Q [] f a = tt
 all_as P Q (x ∷ xs) f a = (f x a.0, all_as P Q xs f a.1)
 
+pub all_with : {A : Type 0} (P Q R : A → Type 0) (xs : List A) → ((x : A) → P x → Q x → R x) → AllByRecursion P xs → AllByRecursion Q xs → AllByRecursion R xs
+all_with P Q R [] f a b = tt
+all_with P Q R (x ∷ xs) f a b = (f x a.0 b.0, all_with P Q R xs f a.1 b.1)
+
 -- ---- the first thing on a line
 
 abbrev pub AreOfLines : List Happening → Type 0

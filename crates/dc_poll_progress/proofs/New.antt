@@ -16,12 +16,12 @@ use Rattle.dc_concentrator.specs.Transcript.{Turn, leads, IsChain}
 use Rattle.dc_concentrator.proofs.Going.{leads_append}
 use Rattle.dc_concentrator.proofs.Told.{chain_parts}
 use Rattle.dc_progress.specs.Beside.{IsOfLines, readings_of}
-use Rattle.dc_progress.proofs.Others.{Keeps, start_parts, row_line}
+use Rattle.dc_progress.proofs.Others.{Keeps, start_parts}
 use Rattle.dc_progress.proofs.Rows.{on_their_rows}
 use Rattle.dc_poll.specs.Queue.{AreApart, Lacks}
 use Rattle.dc_poll_progress.specs.Carried.{Wire}
 use Rattle.dc_poll_progress.specs.Every.{IsRead}
-use Rattle.dc_poll_progress.proofs.Facts.{WasRead}
+use Rattle.dc_poll_progress.proofs.Facts.{WasRead, wired_of}
 use Rattle.dc_poll_progress.proofs.Kept.{IsPlaced, IsAway, all_stay, lacks_right, starts_append, starts_on, stays_placed}
 use Rattle.dc_poll_progress.proofs.Lists.{all_left, all_right}
 
@@ -126,13 +126,13 @@ module _ (budget line : ℕ) (state : State) (wire : Wire) (all : List Turn) (ch
   pub last_is : leads (opened state) all ≡ last
   last_is = ap (leads (opened state)) w.all_are ∙ leads_append (opened state) chunk w.back
 
-  abbrev pub is_read : (leads (opened state) all).pending ≡ [] → IsRead line state (leads (opened state) all).committed wire x
+  abbrev pub is_read : (leads (opened state) all).pending ≡ [] → IsRead state (leads (opened state) all).committed wire x
   is_read none =
       let final : Core = leads (opened state) all in
       let behind : present last ≡ final.committed = ap present (sym last_is) ∙ present_is final none in
       let here : present at_end ≡ at_end.committed = present_is at_end w.settled in
       record {
-        wired = w.wired;
+        wired = wired_of line state wire x w.wired;
         read = record {
           serial = w.read.serial;
           read = w.read.read;

@@ -20,8 +20,8 @@ pub record Wire : Type 0 where
   pub positions : List Position
 
 -- THE LINE CARRIES THE TALK. What the bus gives of a request is what the meters of the line make of
--- it, and nothing is lost three times in a row. The bus isn't lost. With each start of a readout the
--- losses are counted anew.
+-- it, and nothing is lost three times in a row. The bus isn't lost. With each start of a readout
+-- the losses are counted anew.
 abbrev pub IsCarried : {B : Type 0} {g : Bus B} {line : ℕ} {first last : Talk B}
     {happened : List Happening} → List Meter → Line → Talks g line first happened last → Type 0
 IsCarried meters now rests = Unit {0}

@@ -33,7 +33,7 @@ use Rattle.dc_poll_progress.specs.Carried.{Wire, IsCarried, NothingIsWanting}
 
 -- A meter of the register is on its line, with these parts to read, and its primary address is that
 -- of its row.
-pub record IsWired (line : ℕ) (state : State) (wire : Wire) (identity : Identity) : Type 0 where
+pub record IsWired (state : State) (wire : Wire) (identity : Identity) : Type 0 where
   pub place : ℕ
   pub meter : Meter
   pub row : MeterRow
@@ -41,52 +41,50 @@ pub record IsWired (line : ℕ) (state : State) (wire : Wire) (identity : Identi
   pub who : meter.identity ≡ identity
   pub there : IsThere wire.meters wire.positions place meter parts
   pub registered : row_of identity state ≡ Some row
-  pub on_line : row.line ≡ line
   pub address : row.address ≡ meter.address
 
--- THE LINE IS IN ORDER: each meter of its queue is on it, and it carries what is said. Its queue has no
--- more meters than a register.
+-- THE LINE IS IN ORDER: each meter of its queue is on it, and it carries what is said. Its queue has
+-- no more meters than a register.
 pub record IsInOrder {B : Type 0} (g : Bus B) (tries line : ℕ) (state : State) (wire : Wire)
     (old new : Station B) (happened : List Happening)
     (goes : LineGoes g tries line old new (happened_on line happened)) : Type 0 where
   pub few : HasFew old
   pub counted : length wire.positions ≡ length wire.meters
-  pub wired : AllByRecursion (IsWired line state wire) old.left.now
+  pub wired : AllByRecursion (IsWired state wire) old.left.now
   pub carried : IsCarried wire.meters (bus_at_first wire.positions) goes.talk
 
 -- ---- the conclusion
 
 -- This meter of the line has one reading more than before, in its flat, with its parts whole and in
 -- order, and none of its parts is open.
-pub record IsRead (line : ℕ) (before now : State) (wire : Wire) (identity : Identity)
-    : Type 0 where
-  pub wired : IsWired line before wire identity
+pub record IsRead (before now : State) (wire : Wire) (identity : Identity) : Type 0 where
+  pub wired : IsWired before wire identity
   pub read : HasRead identity wired.row wired.parts before now
 
 -- Where it is told that a meter was read, the serial that is told is that of the new reading.
-abbrev pub IsOfNew : ℕ → State → State → Wire → Happening → Type 0
-IsOfNew line before now wire (does turn) = Unit {0}
-IsOfNew line before now wire (tells other (was_read meter serial parts)) =
-    (new : IsRead line before now wire meter) × (serial ≡ new.read.serial)
-IsOfNew line before now wire (tells other told) = Unit {0}
+abbrev pub IsOfNew : State → State → Wire → Happening → Type 0
+IsOfNew before now wire (does turn) = Unit {0}
+IsOfNew before now wire (tells line (was_read meter serial parts)) =
+    (new : IsRead before now wire meter) × (serial ≡ new.read.serial)
+IsOfNew before now wire (tells line told) = Unit {0}
 
--- THE LINE IS READ: what was read on it is its queue, in order, each meter of it is read, and what is
--- told is of these readings.
-pub record LineIsRead (line : ℕ) (before now : State) (wire : Wire) (queue : List Identity)
+-- THE LINE IS READ: what was read on it is its queue, in order, each meter of it is read, and what
+-- is told is of these readings.
+pub record LineIsRead (before now : State) (wire : Wire) (queue : List Identity)
     (happened : List Happening) : Type 0 where
   pub in_order : read_in happened ≡ queue
-  pub each : AllByRecursion (IsRead line before now wire) queue
-  pub told : AllByRecursion (IsOfNew line before now wire) happened
+  pub each : AllByRecursion (IsRead before now wire) queue
+  pub told : AllByRecursion (IsOfNew before now wire) happened
 
--- EVERY METER IS READ, line by line, and that is committed: where the disk kept the disk model, each
--- image that it may be left as stands for it. No readout fails, and the counts say so: as many meters
--- are read as the queues have, and those that failed are those that were refused before.
+-- EVERY METER IS READ, line by line, and that is committed: where the disk kept the disk model,
+-- each image that it may be left as stands for it. No readout fails, and the counts say so: as many
+-- meters are read as the queues have, and those that failed are those that were refused before.
 pub record EachIsRead {D B : Type 0} (g : Ghosts D) (origin new : D) (lost : B → Bool)
     (state : State) (only : List Identity) (buses : List B) (olds : List (Station B))
     (wires : ℕ → Wire) (outcome : Outcome) (happened : List Happening) (now : Core)
     : Type 0 where
   pub lines : (k : ℕ) (d : Station B) → k < length olds
-      → LineIsRead (k + 1) state now.committed (wires (k + 1))
+      → LineIsRead state now.committed (wires (k + 1))
       (queue_on state only (k + 1) (lost (slice_index_or olds k d).bus))
       (happened_on (k + 1) happened)
   pub committed : now.pending ≡ []
@@ -105,8 +103,8 @@ pub record EachIsRead {D B : Type 0} (g : Ghosts D) (origin new : D) (lost : B �
 abbrev pub EveryMeterIsRead : {D B T N : Type 0} → Ghosts D → Bus B → (T → ℕ → T → Type 0)
     → (T → Bool → T → Type 0) → (T → T → Type 0) → (N → Told → N → Type 0) → Type 0
 EveryMeterIsRead {D} {B} {T} {N} g bus told passes warned takes =
-    (disk new : D) (buses : List B) (only : List Identity) (tries : ℕ) (first last : T) (old fresh : N)
-    (outcome : Outcome) (wires : ℕ → Wire)
+    (disk new : D) (buses : List B) (only : List Identity) (tries : ℕ) (first last : T)
+    (old fresh : N) (outcome : Outcome) (wires : ℕ → Wire)
     (poll : ImageTurned g (λ core happened. PlanPolled bus told passes warned takes buses only tries
     first last old fresh outcome core happened) disk new)
     → IsStrictlySortedBy identity_cmp (keys_of poll.state.meters)
@@ -115,5 +113,6 @@ EveryMeterIsRead {D} {B} {T} {N} g bus told passes warned takes =
     → IsInOrder bus tries (k + 1) poll.state (wires (k + 1))
     (slice_index_or poll.happens.are_such.olds k d) (slice_index_or poll.happens.are_such.news k d)
     poll.happens.happened (poll.happens.are_such.polls.polled.polls.rounds.goes k d low))
-    → EachIsRead g poll.first.store.disk new bus.lost poll.state only buses poll.happens.are_such.olds wires outcome
+    → EachIsRead g poll.first.store.disk new bus.lost poll.state only buses
+    poll.happens.are_such.olds wires outcome
     poll.happens.happened (leads (opened poll.state) (happened_turns poll.happens.happened))
