@@ -62,6 +62,7 @@ class Checker:
 
     def __init__(self, truth: Truth) -> None:
         self.truth, self.count, self.problems = truth, 0, []  # type: Truth, int, List[str]
+        self.told: Dict[Tuple[str, str, str], Dict[Tuple[str, str], str]] = {}  # by house, flat and language
 
     def same(self, where: str, found: str, wanted: str) -> None:
         self.count += 1
@@ -131,8 +132,10 @@ class Checker:
 
     def readings(self, page: Page, where: str, house: House, flat: str, language: str) -> None:
         """Each reading that is named is what the meter told then."""
-        told = {(device.identity, moment_text(at, language)): value_text(device.shown(digits), device, language)
-                for place in house.places if place.flat == flat for device, at, digits in told_by(place)}
+        told = self.told.setdefault((house.name, flat, language), {})
+        if not told:
+            told.update({(device.identity, moment_text(at, language)): value_text(device.shown(digits), device, language)
+                         for place in house.places if place.flat == flat for device, at, digits in told_by(place)})
         for row in page.readings:
             if len(row) == 5 and not any(WORDS[language]["estimated"] in cell for cell in row):
                 self.same(f"{where} {row[:2]}", row[2], told.get((row[1].strip(), row[0].strip()), "nothing"))

@@ -30,6 +30,7 @@ class Truth:
         self.houses, self.factors = houses, factors
         self.now = begin_of(datetime.date(2000, 1, 1))
         self.estimated: Set[Tuple[Place_, datetime.date]] = set()  # places that office/estimate gave a value
+        self.averages: Dict[Tuple[str, str, datetime.date], Optional[Fraction]] = {}  # as long as nothing more is known
 
     def unit(self, house: str, use: str) -> str:
         if use == "heat" or (house, use) in self.factors:
@@ -78,6 +79,12 @@ class Truth:
 
     def average(self, use: str, unit: str, month: datetime.date) -> Optional[Fraction]:
         """What a square metre used on the average, of the flats with a measured number that can be told in that unit."""
+        key = use, unit, month
+        if key not in self.averages:
+            self.averages[key] = self.average_of(use, unit, month)
+        return self.averages[key]
+
+    def average_of(self, use: str, unit: str, month: datetime.date) -> Optional[Fraction]:
         total, area, count = Fraction(), 0, 0
         for house in self.houses:
             for flat, size in house.flats.items():
