@@ -22,17 +22,21 @@ WORDS: Dict[str, Tuple[str, str]] = {  # German, English
     "meter": ("Zähler", "Meter"), "moment": ("Zeitpunkt", "Moment"), "value": ("Stand", "Meter reading"),
     "source": ("Herkunft", "Source"), "telegram": ("Telegramm", "Telegram"), "check": ("prüfen", "check"),
     "check_of": ("Telegramm prüfen: Zähler {meter}, {moment}", "Check the telegram: meter {meter}, {moment}"),
-    "chart": ("Verbrauch der letzten 13 Monate: {use}", "Consumption of the last 13 months: {use}"),
+    "chart": ("Verbrauch nach Monaten: {use}", "Consumption by month: {use}"),
     "none": ("kein Wert", "no value"), "not_yet": ("noch nicht eingezogen", "before you moved in"),
     "part_of": ("nur {period}", "only {period}"), "place": ("Messstelle {number}", "Place {number}"),
     "consumed": ("Verbrauch", "Consumption"), "contact": ("Fragen beantwortet", "Questions are answered by"),
     "explain": (
         "Der Verbrauch ist der Unterschied zweier Zählerstände. Liegt ein Stand nicht genau am Anfang oder Ende des "
-        "Zeitraums, wird zwischen dem Stand davor und dem danach gleichmäßig verteilt. Der Link bei einem Stand öffnet das "
-        "Telegramm, das der Zähler gesendet hat; Ihr Browser dekodiert es selbst.",
+        "Zeitraums, wird zwischen dem Stand davor und dem danach gleichmäßig verteilt.",
         "The consumption is the difference of two meter readings. Where no reading lies exactly at the beginning or end of "
-        "the period, the one before and the one after are taken, and what lies between them is spread evenly. The link at a "
-        "reading opens the telegram that the meter sent; your browser decodes it by itself."),
+        "the period, the one before and the one after are taken, and what lies between them is spread evenly."),
+    "explain_links": (
+        "Der Link bei einem Stand öffnet das Telegramm, das der Zähler gesendet hat; Ihr Browser dekodiert es selbst.",
+        "The link at a reading opens the telegram that the meter sent; your browser decodes it by itself."),
+    "explain_codes": (
+        "Die Codes am Ende öffnen die Telegramme, die die Zähler gesendet haben; Ihr Browser dekodiert sie selbst.",
+        "The codes at the end open the telegrams that the meters sent; your browser decodes them by itself."),
     "average_explain": (
         "Durchschnitt: Verbrauch je m² aller vergleichbaren Wohnungen mit gemessenem Wert, mal Ihre Wohnfläche, ganzer Monat.",
         "Average: consumption per m² of all comparable flats with a measured value, times your floor area, whole month."),
@@ -55,6 +59,7 @@ WORDS: Dict[str, Tuple[str, str]] = {  # German, English
     "grade": ("Güte", "Grade"), "state": ("Zustand", "State"), "silent": ("stumm", "silent"),
     "never heard": ("noch nie gelesen", "never heard"), "stamp in the future": ("Uhr der Box geht vor", "stamp in the future"),
     "sum": ("Haus gesamt", "Whole house"), "without": ("{count} Messstellen ohne Wert", "{count} places without a value"),
+    "without one": ("1 Messstelle ohne Wert", "1 place without a value"),
     "collected": ("Zuletzt abgeholt", "Last collected"), "never": ("noch nie", "never"), "fault": ("Fehler", "Fault"),
     "box": ("Box", "Box"), "alarms": ("Offene Meldungen", "Open alarms"), "no_alarms": ("Keine.", "None."),
     "leap": ("auffällig hoch", "unusually high"), "sheets": ("Blätter", "Sheets"), "vacant": ("leer", "vacant"),

@@ -32,19 +32,20 @@ class Shape(NamedTuple):
 class Chart(NamedTuple):
     width: int
     height: int
-    base: int
+    base: int  # where the bars stand
+    end: float  # of the line below them
     shapes: List[Shape]
 
 
 def chart_of(bars: List[Bar]) -> Chart:
-    """The bars, the highest as high as the chart, the last one at its right end; as wide as for thirteen of them."""
+    """The bars from the left, the highest as high as the chart, which is as wide as for thirteen of them."""
     most = max((bar.value for bar in bars if bar.value is not None), default=decimal.Decimal())
     step = (WIDTH - 2 * LEFT) / PLACES
     room = HEIGHT - TOP - BOTTOM
     shapes = []
-    for place, bar in enumerate(bars, PLACES - len(bars)):
+    for place, bar in enumerate(bars):
         height = float(bar.value / most) * room if bar.value is not None and most > 0 else 0.0
         x = LEFT + place * step
         shapes.append(Shape(round(x + GAP / 2, 1), round(HEIGHT - BOTTOM - height, 1), round(step - GAP, 1),
                             round(height, 1), round(x + step / 2, 1), bar))
-    return Chart(WIDTH, HEIGHT, HEIGHT - BOTTOM, shapes)
+    return Chart(WIDTH, HEIGHT, HEIGHT - BOTTOM, round(2 * LEFT + len(bars) * step, 1), shapes)

@@ -7,7 +7,7 @@ import psycopg2
 import psycopg2.extensions
 import psycopg2.extras
 
-Cursor = psycopg2.extensions.cursor
+Cursor = Any  # psycopg2's, which has no types
 Row = Tuple[Any, ...]
 
 # A visit whose machine is gone holds its lock for at most IDLE_RUNS runs at the box and GRACE seconds; another one
@@ -40,7 +40,7 @@ class Database:
 
 def one(cursor: Cursor) -> Row:
     """The next row of a result that has one."""
-    row = cursor.fetchone()
+    row: Optional[Row] = cursor.fetchone()
     assert row is not None
     return row
 

@@ -2,11 +2,13 @@
 
 import datetime
 import decimal
+import re
 from typing import Any, Dict, List, NamedTuple, Optional, Tuple
 
 from database import Cursor
-from sheet_data import ORDER, Amount, Number, number_of, unit_of
+from sheet_data import ORDER, Amount, Number, number_of, sum_of, unit_of
 
+DIGITS = re.compile("([0-9]+)")
 BOXES = "SELECT name, collected_at, fault FROM boxes WHERE house = %s AND active ORDER BY name"
 METERS = """
 SELECT p.flat, p.use, p.number, f.identity, d.at, d.value, d.unit, d.source, coalesce(s.says, ''), coalesce(o.why, ''),
@@ -19,10 +21,10 @@ LEFT JOIN LATERAL (SELECT * FROM day_values k WHERE k.fitting = f.id AND k.struc
 LEFT JOIN meter_states s ON s.box = f.box AND s.identity = f.identity
 LEFT JOIN overdue o ON o.box = f.box AND o.identity = f.identity
 LEFT JOIN month_use u ON u.place = p.id AND u.month = %(month)s AND u.part = 0
-WHERE p.house = %(house)s ORDER BY p.flat, p.use, p.number"""
+WHERE p.house = %(house)s"""
 AMOUNTS = """
-SELECT NULL, month, use, number, begins, ends, grade, kwh, units, NULL, flat FROM month_kwh
-WHERE house = %s AND month = %s AND part = 0 ORDER BY flat, use, number"""
+SELECT NULL, month, use, number, begins, ends, grade, amount, has_kwh, kwh, units, NULL, flat FROM month_kwh
+WHERE house = %s AND month = %s AND part = 0 ORDER BY use, number"""
 ALARMS = "SELECT since, kind, subject, says, known_by FROM alarms WHERE house = %s AND ended_at IS NULL ORDER BY id"
 USERS = """
 SELECT flat, person, token FROM tenancies WHERE house = %s AND days && daterange(%s, %s) ORDER BY flat, days"""
@@ -67,9 +69,15 @@ class House(NamedTuple):
     meters: List[Meter]
     uses: List[Tuple[str, str]]  # with its unit
     flats: Dict[str, Dict[str, Number]]  # by flat and use
-    sums: Dict[str, Tuple[decimal.Decimal, int]]  # by use: the sum of the flats, and how many places have no value
+    # By use: the sum of the places that have a value (None: none has), and how many have none
+    sums: Dict[str, Tuple[Optional[decimal.Decimal], int]]
     alarms: List[Alarm]
     users: Dict[str, List[Tuple[str, str]]]  # by flat: name and token
+
+
+def natural(flat: str) -> List[Tuple[int, str]]:
+    """A key by which A2 comes before A10."""
+    return [(int(part), "") if part.isdecimal() else (-1, part) for part in DIGITS.split(flat)]
 
 
 def house_of(cursor: Cursor, house: str, month: datetime.date, after: datetime.date) -> House:
@@ -78,7 +86,7 @@ def house_of(cursor: Cursor, house: str, month: datetime.date, after: datetime.d
     cursor.execute(BOXES, (house,))
     boxes = [Box(*row) for row in cursor]
     cursor.execute(METERS, {"house": house, "month": month, "after": after})
-    meters = [Meter(*row) for row in cursor]
+    meters = sorted((Meter(*row) for row in cursor), key=lambda it: (natural(it.flat), ORDER.index(it.use), it.number))
     cursor.execute(ALARMS, (house,))
     alarms = [Alarm(*row) for row in cursor]
     users: Dict[str, List[Tuple[str, str]]] = {}
@@ -86,7 +94,7 @@ def house_of(cursor: Cursor, house: str, month: datetime.date, after: datetime.d
     for flat, person, token in cursor:
         users.setdefault(flat, []).append((person, token))
     cursor.execute(AMOUNTS, (house, month))
-    rows = [(row[10], Amount(*row[:10])) for row in cursor]
+    rows = sorted(((row[-1], Amount(*row[:-1])) for row in cursor), key=lambda it: natural(it[0]))
     return House(house, address, zone, month, boxes, meters, *summed(rows), alarms, users)
 
 
@@ -102,7 +110,6 @@ def summed(rows: List[Tuple[str, Amount]]) -> Tuple[Any, Any, Any]:
         flats.setdefault(flat, {})[use] = number_of(of_flat, units[use])
     sums = {}
     for use, unit in uses:
-        values = [row.value(unit) for _, row in rows if row.use == use]
-        known = [value for value in values if value is not None]
-        sums[use] = (sum(known, decimal.Decimal()), len(values) - len(known))
+        of_use = [row for _, row in rows if row.use == use]
+        sums[use] = (sum_of(of_use, unit), sum(row.value(unit) is None for row in of_use))
     return uses, flats, sums

@@ -14,6 +14,7 @@ from periods import later_month
 MONTHS = 13  # of the chart
 FEWEST_COMPARED = 3  # flats of an average, so that it tells of nobody
 NO_FACTOR = "no factor"
+ENERGIES, SMALLEST_OF_KWH = ("heat", "electricity"), 3_600_000_000  # millijoules
 ORDER = ("heat", "allocator", "warm water", "cold water", "electricity")
 
 USERS = """
@@ -22,8 +23,8 @@ SELECT t.id, t.person, t.language, t.wants, t.token, t.house, t.flat, h.address,
 FROM tenancies t JOIN houses h ON h.house = t.house JOIN flats f ON f.house = t.house AND f.flat = t.flat
 WHERE t.house = ANY (%s) AND t.days && daterange(%s, %s) ORDER BY t.house, t.flat, t.days"""
 AMOUNTS = """
-SELECT tenancy, month, use, number, begins, ends, grade, kwh, units, basis FROM (
-    SELECT tenancy, month, use, number, begins, ends, grade, kwh, units,
+SELECT tenancy, month, use, number, begins, ends, grade, amount, has_kwh, kwh, units, basis FROM (
+    SELECT tenancy, month, use, number, begins, ends, grade, amount, has_kwh, kwh, units,
            CASE WHEN month = %(month)s THEN basis END AS basis
     FROM month_kwh WHERE tenancy = ANY (%(tenancies)s) AND month BETWEEN %(first)s AND %(month)s) AS of_each
 ORDER BY tenancy, use, month, number, begins"""
@@ -127,6 +128,8 @@ class Amount(NamedTuple):
     begins: datetime.datetime
     ends: datetime.datetime
     grade: str
+    amount: Optional[int]  # in the smallest unit
+    has_kwh: bool  # whether an amount of that use and month can be shown in kWh
     kwh: Optional[decimal.Decimal]
     units: Optional[decimal.Decimal]
     basis: Optional[List[Dict[str, Any]]]
@@ -180,20 +183,28 @@ def uses_of(user: User, month: datetime.date, amounts: List[Amount], averages: A
 
 
 def unit_of(use: str, rows: List[Amount]) -> str:
-    """The unit of a use: kWh where each number has it, or none of them has another."""
-    if use == "cold water" or use != "heat" and any(row.units is not None and row.kwh is None for row in rows):
-        return "HCA" if use == "allocator" else "m³"
-    return "kWh"
+    """The unit of a use: kWh where each amount can be shown in it, whether there is one or not."""
+    if use != "cold water" and all(row.has_kwh for row in rows):
+        return "kWh"
+    return "HCA" if use == "allocator" else "m³"
 
 
 def number_of(rows: List[Amount], unit: str) -> Number:
-    """The sum over the places, exact in the database's numbers; no value where one of them has none."""
+    """The sum over the places; no value where one of them has none."""
     values = [row.value(unit) for row in rows]
     grades = [NO_FACTOR if value is None and row.grade in ("measured", "zero", "estimated") else row.grade
               for row, value in zip(rows, values)]
-    known = [value for value in values if value is not None]
-    total = sum(known, decimal.Decimal()) if len(known) == len(values) else None
+    total = None if None in values else sum_of(rows, unit)
     return Number(total, max(grades, key=WORST.index), min(row.begins for row in rows), max(row.ends for row in rows))
+
+
+def sum_of(rows: List[Amount], unit: str) -> Optional[decimal.Decimal]:
+    """The sum of those of these rows of a use that have a value; None where none has. Exact: energies are divided after
+    they are added."""
+    known = [value for value in (row.value(unit) for row in rows) if value is not None]
+    if known and rows[0].use in ENERGIES:
+        return decimal.Decimal(sum(row.amount or 0 for row in rows)) / SMALLEST_OF_KWH
+    return sum(known, decimal.Decimal()) if known else None
 
 
 def average_of(user: User, unit: str, average: Optional[Average]) -> Optional[decimal.Decimal]:

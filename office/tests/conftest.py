@@ -81,7 +81,7 @@ class Office:
     def sql(self, query: str, *values: Any) -> List[Tuple[Any, ...]]:
         with self.connection.cursor() as cursor:
             cursor.execute(query, values or None)
-            return cursor.fetchall() if cursor.description else []
+            return list(cursor.fetchall()) if cursor.description else []
 
     def box(self, name: str, room: int = 100) -> "Box":
         self.sql("INSERT INTO boxes (name, command) VALUES (%s, %s)", name, f"{TESTS}/way {self.folder} {{box}}")

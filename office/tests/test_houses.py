@@ -1,0 +1,109 @@
+"""A month of whole houses: one of 2,000 flats, one without a reading, and sums that have no end in decimals."""
+
+import pathlib
+from typing import List
+
+import pytest
+from conftest import Office
+from supplied import ALLOCATOR, HEAT, WATER, Supplied
+from test_bills import billed
+from test_sheets import checked, sheet_of, written
+
+FLATS = 2000
+HOUSE = """
+INSERT INTO flats (house, flat, area_m2) SELECT 'elm-1', 'A' || n, 50 FROM generate_series(1, {flats}) n;
+INSERT INTO places (house, flat, use, number) SELECT house, flat, 'heat', 1 FROM flats;
+INSERT INTO fittings (place, box, identity, during)
+SELECT id, house, to_char(substr(flat, 2)::integer, 'FM00000000') || '.PAD.01.04', '[2024-01-01Z,)' FROM places;
+INSERT INTO day_values (fitting, day, at, value, unit, source, month, serial, part)
+SELECT f.id, k.day, day_begins(k.day + 1, 'Europe/Berlin'), k.value + CASE k.value WHEN 0 THEN 0 ELSE substr(p.flat, 2)::integer END,
+       'Wh', 'stored', '2025-01-01', 1, 1
+FROM fittings f JOIN places p ON p.id = f.place, (VALUES (date '2024-12-31', 0), ('2025-01-31', 300000)) AS k (day, value);
+INSERT INTO tenancies (house, flat, days, person) SELECT house, flat, '[2024-01-01,)', 'A. Person' FROM flats"""
+
+
+@pytest.fixture
+def elm(office: Office) -> Supplied:
+    return Supplied(office)
+
+
+def page_of(out: pathlib.Path, house: str = "elm-1") -> str:
+    return (out / f"houses/{house}.html").read_text(encoding="utf-8")
+
+
+def foot_of(text: str) -> List[str]:
+    """The words of the sums of a house."""
+    return text[text.index("<tfoot>"):text.index("</tfoot>")].replace("<", " <").replace(">", "> ").split()
+
+
+def test_a_house_of_2000_flats(office: Office, elm: Supplied, tmp_path: pathlib.Path) -> None:
+    """Each flat has its row and sheet, and the house is their sum."""
+    office.sql(HOUSE.format(flats=FLATS))
+    rows = elm.month("2025-01")
+    assert len(rows) == FLATS and {row[3] for row in rows} == {"measured"}
+    written(office, tmp_path, "--pdf", "none")
+    text = page_of(tmp_path)
+    checked(text)
+    total = (300_000 * FLATS + FLATS * (FLATS + 1) // 2) / 1000
+    assert f"{total:,.1f}".translate(str.maketrans(",.", ".,")) in foot_of(text)
+    assert text.count("<tr data-flat=") == FLATS == len(list(tmp_path.glob("sheets/*/2025-01.html")))
+
+
+def test_a_month_without_a_reading(office: Office, elm: Supplied, tmp_path: pathlib.Path) -> None:
+    """It has no number anywhere, says so, and isn't taken for nothing used; nor is anything estimated of nothing."""
+    for number in (1, 2):
+        elm.meter(number, HEAT, f"A{number}")
+    tenancy = elm.tenancy("A1", "2024-01-01", None)
+    assert "2 without a value" in office.run("close", "2025-01-31").printed
+    assert elm.month("2025-01") == [(f"A{number}", 0, None, "missing") for number in (1, 2)]
+    assert office.run("estimate", "2025-01").printed.count("not estimated") == 2
+    written(office, tmp_path, "--pdf", "none")
+    cell = checked(sheet_of(office, tmp_path, tenancy).read_text(encoding="utf-8")).cells["heat", "2025-01-01"]
+    assert cell.split() == ["–", "Wert", "fehlt"]
+    text = page_of(tmp_path)
+    assert "–" in foot_of(text) and "2 Messstellen ohne Wert" in text and "0,0" not in text
+    assert [row["amount"] for row in billed(office, "elm-1", "2025-01", status=1)] == ["", ""]
+
+
+def test_a_month_without_a_value_keeps_its_unit(office: Office, elm: Supplied, tmp_path: pathlib.Path) -> None:
+    """The month before is shown in units also where all allocators of a flat have none, and no factor."""
+    for number in (1, 2):
+        elm.days(elm.meter(number, ALLOCATOR, "A1"), "2024-11-29", 35, 0, 10, "HCA")
+    elm.days(elm.meter(3, WATER, "A1"), "2024-11-29", 35, 0, 1, "m3")
+    tenancy = elm.tenancy("A1", "2024-01-01", None)
+    for month in ("2024-12", "2025-01"):
+        elm.month(month)
+    written(office, tmp_path, "--pdf", "none")
+    cells = checked(sheet_of(office, tmp_path, tenancy).read_text(encoding="utf-8")).cells
+    assert cells["allocator", "2025-01-01"].split() == ["–", "Wert", "fehlt"]
+    assert cells["allocator", "2024-12-01"].split() == ["620,0"]
+    assert cells["warm water", "2024-12-01"].split() == ["31,00"]
+
+
+def test_what_has_no_end_in_decimals_adds_up(office: Office, elm: Supplied, tmp_path: pathlib.Path) -> None:
+    """Joules as kWh: three places of a third of something are 0.05 kWh, which is rounded up, on all pages."""
+    for number, joules in ((1, 48_000), (2, 48_000), (3, 84_000)):
+        elm.values(elm.meter(number, HEAT, "A1"), {"2024-12-31": 0, "2025-01-31": joules}, "J")
+    tenancy = elm.tenancy("A1", "2024-01-01", None)
+    elm.month("2025-01")
+    written(office, tmp_path, "--pdf", "none")
+    assert checked(sheet_of(office, tmp_path, tenancy).read_text(encoding="utf-8")).cells[
+        "heat", "2025-01-01"].split() == ["0,1"]
+    assert "0,1" in foot_of(page_of(tmp_path))
+
+
+def test_a_bill_rounds_half_up(office: Office, elm: Supplied) -> None:
+    """0.0045 kWh, which no binary fraction is."""
+    elm.values(elm.meter(1, HEAT, "A1"), {"2024-12-31": 0, "2025-01-31": 16_200}, "J")
+    assert [(row["amount"], row["consumption"]) for row in billed(office, "elm-1", "2025-01")] == [("16200000", "0.005")]
+
+
+def test_a_link_cannot_be_guessed(office: Office, elm: Supplied) -> None:
+    """Users of the same number have other tokens each time."""
+    elm.meter(1, HEAT, "A1")
+    tokens = set()
+    for _ in range(3):
+        elm.tenancy("A1", "2024-01-01", None)
+        tokens |= {row[0] for row in office.sql("SELECT token FROM tenancies")}
+        office.sql("TRUNCATE tenancies RESTART IDENTITY CASCADE")
+    assert len(tokens) == 3 and all(len(token) == 32 for token in tokens)
