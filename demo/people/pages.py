@@ -16,6 +16,7 @@ WORDS = {"de": {"estimated": "geschätzt", MISSING: "fehlt", BACKWARDS: "rückw�
           "only": "only"}}
 MONTHS = {"de": "Jan Feb Mär Apr Mai Jun Jul Aug Sep Okt Nov Dez".split(),
           "en": "Jan Feb Mar Apr May Jun Jul Aug Sep Oct Nov Dec".split()}
+METER_CELLS = 6  # of a meter's row on a house page
 CHARTED, CHART_MONTHS = ("heat", "allocator", "warm water"), 13
 NUMBER = re.compile(r"-?[\d.,]*\d")
 
@@ -28,6 +29,7 @@ class Page(html.parser.HTMLParser):
         self.cells: Dict[Tuple[str, str], str] = {}
         self.charts: List[str] = []
         self.readings: List[List[str]] = []
+        self.heads: List[str] = []  # of the rows
         self.use, self.flat, self.at = "", "", None  # type: str, str, Any
         self.feed(path.read_text(encoding="utf-8"))
         self.close()
@@ -37,6 +39,9 @@ class Page(html.parser.HTMLParser):
         if tag == "tr":
             self.use, self.flat = of.get("data-use", ""), of.get("data-flat", "")
             self.readings.append([])
+            self.heads.append("")
+        elif tag == "th" and of.get("scope") == "row":
+            self.at = "th"
         elif tag == "td":
             self.readings[-1].append("")
             self.at = (self.use, of["data-month"]) if "data-month" in of else (
@@ -46,12 +51,14 @@ class Page(html.parser.HTMLParser):
             self.at = "desc"
 
     def handle_endtag(self, tag: str) -> None:
-        if tag in ("td", "desc"):
+        if tag in ("td", "th", "desc"):
             self.at = None
 
     def handle_data(self, data: str) -> None:
         if self.at == "desc":
             self.charts[-1] += data
+        elif self.at == "th":
+            self.heads[-1] += data
         elif self.at is not None:
             self.cells[self.at] = self.cells.get(self.at, "") + data
             self.readings[-1][-1] += data
@@ -130,34 +137,58 @@ class Checker:
                     self.same(f"{where} chart {label}", found,
                               written(number.value, 0 if number.value >= 100 else 1, user.language))
 
-    def readings(self, page: Page, where: str, house: House, flat: str, language: str) -> None:
-        """Each reading that is named is what the meter told then."""
+    def told_in(self, house: House, flat: str, language: str) -> Dict[Tuple[str, str], str]:
+        """What the meters of a flat told, by meter and moment as they are written."""
         told = self.told.setdefault((house.name, flat, language), {})
         if not told:
             told.update({(device.identity, moment_text(at, language)): value_text(device.shown(digits), device, language)
                          for place in house.places if place.flat == flat for device, at, digits in told_by(place)})
+        return told
+
+    def readings(self, page: Page, where: str, house: House, flat: str, language: str) -> None:
+        """Each reading that is named is what the meter told then."""
+        told = self.told_in(house, flat, language)
         for row in page.readings:
             if len(row) == 5 and not any(WORDS[language]["estimated"] in cell for cell in row):
                 self.same(f"{where} {row[:2]}", row[2], told.get((row[1].strip(), row[0].strip()), "nothing"))
 
     def house(self, path: pathlib.Path, house: House, month: datetime.date) -> None:
-        """The flats of a house page, and that they add up to the house."""
+        """The flats of a house page, that they add up to the house, and what each meter stands at."""
         page, begins, ends = Page(path), begin_of(month), begin_of(next_month(month))
+        office = User("", "de", month, None)
         for use in sorted({place.use for place in house.places}):
-            unit = self.truth.unit(house.name, use)
-            numbers = {flat: self.truth.of_places(places_of(house, flat, use), begins, ends) for flat in house.flats
-                       if places_of(house, flat, use)}
-            for flat, number in numbers.items():
-                if number.value is not None:
-                    found = page.cells.get((use, flat), "").split()[:1]
-                    self.same(f"{house.name} {flat} {use} {month}", "".join(found),
-                              written(number.value, DECIMALS[unit], "de"))
+            unit, where = self.truth.unit(house.name, use), f"{house.name} {use} {month}"
+            for flat in house.flats:
+                if places := places_of(house, flat, use):
+                    number = self.truth.of_places(places, begins, ends)
+                    self.cell(f"{where} {flat}", page.cells.get((use, flat), ""), number, unit, office, month)
             places = [place for place in house.places if place.use == use]
-            values = [self.truth.of_place(place, begins, ends) for place in places]
-            if not any(number.is_estimated and number.value is None for number in values):
-                total = sum((number.value for number in values if number.value is not None), Fraction())
-                self.same(f"{house.name} {use} {month}", page.cells.get((use, ""), "").split()[0],
-                          written(total, DECIMALS[unit], "de"))
+            self.total(where, page.cells.get((use, ""), ""), [self.truth.of_place(it, begins, ends) for it in places], unit)
+        self.meters(page, house, month)
+
+    def total(self, where: str, found: str, numbers: List[Number], unit: str) -> None:
+        """The sum of a house, and how many of its places have no number."""
+        number, *rest = found.split()
+        without = sum(it.state != "value" for it in numbers)
+        places = "Messstelle" if without == 1 else "Messstellen"
+        self.same(f"{where} without", " ".join(rest), f"{without} {places} ohne Wert" if without else "")
+        if without == len(numbers):
+            self.same(where, number, "–")
+        elif all(it.value is not None for it in numbers if it.state == "value"):
+            total = sum((it.value for it in numbers if it.value is not None), Fraction())
+            self.same(where, number, written(total, DECIMALS[unit], "de"))
+
+    def meters(self, page: Page, house: House, month: datetime.date) -> None:
+        """The last value of each meter is what it told then; and there is a row of each meter at the month's end."""
+        end = begin_of(next_month(month))
+        wanted = {device.identity for place in house.places for device in place.devices
+                  if device.begins < end and (device.ends is None or device.ends >= end)}
+        told = {key: value for flat in house.flats for key, value in self.told_in(house, flat, "de").items()}
+        rows = {head: row for head, row in zip(page.heads, page.readings) if len(row) == METER_CELLS}
+        self.same(f"{house.name} {month} meters", " ".join(sorted(rows)), " ".join(sorted(wanted)))
+        for identity, (_, _, value, moment, *_) in rows.items():
+            if WORDS["de"]["estimated"] not in moment and moment != "–":
+                self.same(f"{house.name} {identity} {moment}", value, told.get((identity, moment.strip()), "nothing"))
 
 
 def told_by(place: Place) -> Iterator[Tuple[Any, datetime.datetime, int]]:

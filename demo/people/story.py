@@ -16,8 +16,8 @@ SECONDS = 1200
 class Office:
     """The commands of an office over one database."""
 
-    def __init__(self, root: pathlib.Path, database: Any, mbdc: pathlib.Path, houses: List[House]) -> None:
-        self.programs, self.database, self.houses = root / "office", database, houses
+    def __init__(self, programs: pathlib.Path, database: Any, mbdc: pathlib.Path, houses: List[House]) -> None:
+        self.programs, self.database, self.houses = programs, database, houses
         self.environment = {**os.environ, "MBDC": str(mbdc)}
         os.environ["MBDC"] = str(mbdc)
         sys.path.insert(0, str(self.programs))

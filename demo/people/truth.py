@@ -12,6 +12,8 @@ WORST = (VALUE, BACKWARDS, MISSING)
 FEWEST_COMPARED = 3
 ENERGY = 3_600_000_000  # millijoules of a kWh
 DECIMALS = {"kWh": 1, "m³": 2, "HCA": 1}
+# How many of the smallest unit are one of a bill's
+BILLED = {"heat": ENERGY, "warm water": 10**6, "cold water": 10**6, "allocator": 1000}
 
 
 class Number(NamedTuple):
