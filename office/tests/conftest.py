@@ -33,7 +33,7 @@ class Server:
             shutil.chown(folder, "postgres", "postgres")
         programs = PROGRAMS[-1].parent
         self.run([programs / "initdb", "-D", folder / "data", "-A", "trust", "-U", OWNER, "--no-sync"])
-        self.ctl([programs / "pg_ctl", "-D", folder / "data", "-w", "-l", folder / "log", "-o",
+        self.ctl([programs / "pg_ctl", "-D", folder / "data", "-w", "-t", "300", "-l", folder / "log", "-o",
                   f"-k {folder} -c listen_addresses= -c fsync=off", "start"])
 
     def run(self, words: List[Any]) -> None:
