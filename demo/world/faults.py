@@ -22,6 +22,7 @@ from world.meters import Meter
 CLOSE = None
 STALL = 0.8  # seconds: longer than the gap that ends an answer
 SHARE = 0.3  # of the answers
+NOISE, BABBLING = b"\x00", 0.1  # a byte that begins no frame, and seconds between two of them
 SILENT_BYTE = 0xFF  # what an idle line adds to others' bits
 
 Piece = tuple[float, Optional[bytes]]
@@ -48,6 +49,12 @@ def stalls(rng: random.Random, request: bytes, answer: bytes) -> list[Piece]:
         return [(0, answer)]
     cut = rng.randrange(1, len(answer))
     return [(0, answer[:cut]), (STALL, answer[cut:] if rng.random() < 0.5 else b"")]
+
+
+def babbles(seconds: float) -> Fault:
+    """After its first answer the line isn't quiet for so long: each tenth of a second a byte comes."""
+    noise: list[Piece] = [(place * BABBLING, NOISE) for place in range(1, round(seconds / BABBLING))]
+    return lambda rng, request, answer: [(0, answer), *noise]
 
 
 def echoes(rng: random.Random, request: bytes, answer: bytes) -> list[Piece]:

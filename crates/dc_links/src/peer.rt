@@ -30,7 +30,7 @@ pub enum Peer<C: Clock + Copy> {
 }
 
 /// The bus of a transparent link, which tolerates late answers.
-pub type RawBus<S, C> = Steady<Line<PollWire<S, C>>>;
+pub type RawBus<S, C> = Steady<Line<PollWire<S, S, C>>>;
 
 /// The bus of a TCP stream or of a terminal.
 pub type ByteBus<'a, C> = LinkBus<RawBus<Tcp<'a>, C>, RawBus<Terminal<'a>, C>>;
@@ -70,11 +70,12 @@ impl<C: Clock + Copy> Peer<C> {
     pub fn bus(&self, clock: C, patience: u16) -> io::Result<SystemBus<'_, C>> {
         match self {
             Peer::Tcp(stream) => {
-                let wire = PollWire::new(Tcp { stream }, clock, patience)?;
+                let wire = PollWire::new(Tcp { stream }, Tcp { stream }, clock, patience)?;
                 Ok(LinkBus::First(LinkBus::First(Steady::new(Line::new(wire)))))
             }
             Peer::Serial(held) => {
-                let wire = PollWire::new(Terminal { file: &held.file }, clock, patience)?;
+                let terminal = Terminal { file: &held.file };
+                let wire = PollWire::new(terminal, terminal, clock, patience)?;
                 Ok(LinkBus::First(LinkBus::Second(Steady::new(Line::new(wire)))))
             }
             Peer::Blocks(connection) => {

@@ -1,10 +1,19 @@
 //! Connections that pass the bytes of a bus on.
 
+use libc::net::{POLLOUT, poll};
+use libc::types::pollfd;
 use std::fs::File;
 use std::io;
-use std::io::{Read, Write};
+use std::io::{ErrorKind, Read, Write};
 use std::net::TcpStream;
 use std::os::fd::AsRawFd;
+
+// Time limit of a write to a terminal in milliseconds: one that takes no more bytes, as where its
+// peer holds it by flow control, is then lost. The other lines wait as long.
+const WRITING: i32 = 5_000;
+
+// Maximum number of polls repeated because a signal interrupted one.
+const MOST_POLLS: usize = 1_000;
 
 /// A TCP stream, by reference.
 #[derive(Clone, Copy, Drop)]
@@ -53,6 +62,9 @@ impl Read for Terminal<'_> {
 
 impl Write for Terminal<'_> {
     fn write(&mut self, bytes: &[u8]) -> io::Result<usize> {
+        if !takes_bytes(self.file.as_raw_fd()) {
+            return Err(io::Error::from(ErrorKind::TimedOut));
+        }
         let mut file = self.file;
         file.write(bytes)
     }
@@ -66,4 +78,20 @@ impl AsRawFd for Terminal<'_> {
     fn as_raw_fd(&self) -> i32 {
         self.file.as_raw_fd()
     }
+}
+
+// Whether a terminal takes bytes within the time limit. It has then room for a request.
+fn takes_bytes(fd: i32) -> bool {
+    for _ in 0..MOST_POLLS {
+        let mut asked = [pollfd {
+            fd,
+            events: POLLOUT,
+            revents: 0,
+        }];
+        let ready = poll(&mut asked, WRITING);
+        if ready >= 0 {
+            return ready > 0;
+        }
+    }
+    false
 }

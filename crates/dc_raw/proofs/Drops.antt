@@ -1,10 +1,10 @@
 -- Late bytes that are dropped until a gap.
-use Rattle.std.proofs.Common.{◌≡◌, ℕ, ◌+◌, ◌<◌, ◌≤◌, true, false, List, [], ◌∷◌, ◌++◌, length, take, refl, ap, sym, ◌∙◌, subst, arith, append-nil}
+use Rattle.std.proofs.Common.{◌≡◌, ℕ, ◌+◌, ◌<◌, ◌≤◌, true, false, List, [], ◌∷◌, ◌++◌, length, take, refl, sym, ◌∙◌, subst, arith, append-nil}
 use Rattle.std.specs.List.{All}
 use Rattle.std.proofs.lemmas.List.Elements.{All-nil, All-push}
 use Rattle.std.proofs.lemmas.List.{length-append, map-append, length-take-le}
 use Rattle.dc_raw.specs.Wire.{Sound, AreHeard, piece, nothing, gap, silence, pieces}
-use Rattle.dc_raw.specs.Heard.{HasByte, IsPast, Passes, not_yet, at_gap, at_silence, never_quiet, most_drops}
+use Rattle.dc_raw.specs.Heard.{HasByte, Passes, not_yet, at_gap, at_silence, never_quiet, most_drops}
 use Rattle.dc_raw.proofs.Pieces.{heard_one}
 
 module _ {W : Type 0} (hears : W → Sound → W → Type 0) where

@@ -1,5 +1,5 @@
 -- What is received, piece by piece.
-use Rattle.std.proofs.Common.{◌≡◌, ℕ, ◌-◌, ◌+◌, ◌<◌, ◌≤◌, Bool, true, false, not, List, [], ◌∷◌, ◌++◌, length, take, map, get_or, ◌==◌, refl, ap, sym, subst, ◌∙◌, arith, append_assoc, append-nil}
+use Rattle.std.proofs.Common.{◌≡◌, ℕ, ◌-◌, ◌<◌, ◌≤◌, Bool, true, false, not, List, [], ◌∷◌, ◌++◌, length, take, ◌==◌, refl, ap, sym, subst, ◌∙◌, arith, append_assoc, append-nil}
 use Rattle.std.specs.List.{All, concat}
 use Rattle.std.proofs.lemmas.Bool.{ne_eqb}
 use Rattle.std.proofs.lemmas.List.Elements.{All-nil, All-push}
@@ -9,8 +9,8 @@ use Rattle.dc_frame.specs.declared.needs.Need.{Need}
 use Rattle.dc_frame.specs.declared.needs.Need.TheVariants.{More, Whole, Bad}
 use Rattle.dc_frame.specs.Need.{need_of, up_to}
 use Rattle.dc_bus.specs.Limits.{most_answer}
-use Rattle.dc_raw.specs.Wire.{Sound, AreHeard, piece, nothing, gap, silence, pieces, bytes_in}
-use Rattle.dc_raw.specs.Heard.{Answers, Ends, Hearing, HasByte, Lasts, Waits, answer_of, and_bytes, heard_of, front_by, is_over, missing_of, missing_by, is_whole, is_silent, has_gap, still, still_none}
+use Rattle.dc_raw.specs.Wire.{Sound, AreHeard, piece, gap, silence, pieces}
+use Rattle.dc_raw.specs.Heard.{Answers, Ends, Hearing, HasByte, Lasts, Waits, answer_of, and_bytes, heard_of, front_by, is_over, missing_of, missing_by, is_whole, is_silent, has_gap}
 
 -- ---- the bytes
 

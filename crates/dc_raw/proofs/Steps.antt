@@ -1,5 +1,5 @@
 -- What a line receives in several steps, and how it depends on the bytes.
-use Rattle.std.proofs.Common.{◌≡◌, ℕ, ◌-◌, ◌+◌, suc, ◌<◌, ◌≤◌, Bool, true, false, List, [], ◌∷◌, ◌++◌, length, take, drop, get_or, ◌==◌, Option, Some, None, refl, ap, sym, subst, ◌∙◌, arith, rules, if◌then◌else◌, append_assoc, append-nil, ◌⊎◌, inl, inr}
+use Rattle.std.proofs.Common.{◌≡◌, ℕ, ◌-◌, suc, ◌<◌, ◌≤◌, Bool, true, false, List, [], ◌∷◌, ◌++◌, length, take, drop, get_or, ◌==◌, Option, Some, None, refl, ap, sym, subst, ◌∙◌, arith, rules, if◌then◌else◌, append_assoc, append-nil, ◌⊎◌, inl, inr}
 use Rattle.std.specs.List.{All, concat}
 use Rattle.std.proofs.lemmas.Bool.{false≢true}
 use Rattle.std.proofs.lemmas.Bool.Decides.{nat_tests}
@@ -10,9 +10,9 @@ use Rattle.dc_frame.specs.Need.{need_of}
 use Rattle.dc_bus.specs.Limits.{most_answer}
 use Rattle.dc_raw.specs.declared.line.Line.{Line}
 use Rattle.dc_raw.specs.declared.wire.Wire.{Ghosts as WireGhosts}
-use Rattle.dc_raw.specs.Wire.{Sound, AreHeard, bytes_in, bytes_of, piece, nothing, gap, silence, pieces}
-use Rattle.dc_raw.specs.Heard.{Answers, ComesFrom, Ends, Heard, Hearing, IsByte, IsFrame, Lasts, Waits, and_bytes, answer_of, begins, past_echo, heard_of, front_by, is_over, missing_of, missing_by, is_whole, is_silent, has_gap, still, still_none, Releases, goes_out, waits_on}
-use Rattle.dc_raw.specs.Line.{GivesOver, IsHeardAfterGap, IsHeld, LineGives, LineWaits, WaitsBy, WaitsOn, gives_now, gives_then, released_by}
+use Rattle.dc_raw.specs.Wire.{Sound, AreHeard, bytes_in, bytes_of, pieces}
+use Rattle.dc_raw.specs.Heard.{Answers, ComesFrom, Ends, Heard, Hearing, IsByte, IsFrame, Lasts, Waits, answer_of, begins, past_echo, heard_of, front_by, is_over, missing_of, missing_by, is_whole, is_silent, has_gap, still, still_none, Releases, goes_out, waits_on}
+use Rattle.dc_raw.specs.Line.{GivesOver, IsHeardAfterGap, IsHeld, WaitsBy, WaitsOn, gives_now, gives_then, released_by}
 use Rattle.dc_raw.proofs.Echoes.{begins_front, begins_same, past_plain, past_echoed, shorter_front}
 use Rattle.dc_raw.proofs.Pieces.{heard-append, stays_bad}
 

@@ -7,7 +7,7 @@ use Rattle.dc_frame.specs.declared.needs.Need.{Need}
 use Rattle.dc_frame.specs.declared.needs.Need.TheVariants.{More, Whole, Bad}
 use Rattle.dc_frame.specs.Need.{need_of}
 use Rattle.dc_bus.specs.Limits.{most_answer}
-use Rattle.dc_raw.specs.Wire.{Sound, piece, nothing, gap, silence, pieces, bytes_in, AreHeard}
+use Rattle.dc_raw.specs.Wire.{Sound, nothing, gap, silence, pieces, bytes_in, AreHeard}
 
 -- ---- the bytes
 

@@ -10,3 +10,7 @@ pub mod Line
 pub mod Tape
 -- how long a wire is looked at
 pub mod Looks
+-- how long an answer is waited for, by the pace of a line
+pub mod Pace
+-- a wire over a reader and a writer
+pub mod PollWire

@@ -3,7 +3,7 @@ use Rattle.std.specs.Prelude.{◌≡◌, ℕ, ◌+◌, ◌-◌, ◌^◌, min, Bo
 use Rattle.std.specs.Prelude.{None, if◌then◌else◌}
 use Rattle.dc_io.specs.Failures.{HasRisen}
 use Rattle.dc_raw.specs.Looks.{most_looks}
-use Rattle.dc_raw.specs.Heard.{Hearing, Answers, Heard, Passes, Puts, Releases, Waits}
+use Rattle.dc_raw.specs.Heard.{Answers, Heard, Passes, Puts, Releases, Waits}
 use Rattle.dc_raw.specs.Wire.{Sound, AreHeard}
 use Rattle.dc_raw.specs.declared.line.Line.{Line}
 use Rattle.dc_raw.specs.declared.wire.Wire.{Ghosts as WireGhosts}

@@ -1,5 +1,5 @@
 -- The sounds of a wire, one after the other (this product).
-use Rattle.std.specs.Prelude.{◌≡◌, ℕ, ◌≤◌, ◌<◌, List, [], ◌∷◌, ◌++◌, length, map, take}
+use Rattle.std.specs.Prelude.{◌≡◌, ℕ, ◌≤◌, ◌<◌, List, [], ◌∷◌, ◌++◌, map, take}
 use Rattle.dc_raw.specs.declared.wire.Came.{Came}
 use Rattle.dc_raw.specs.declared.wire.Came.TheVariants.{Bytes, Nothing, Gap, Silence}
 

@@ -16,7 +16,9 @@ mod hearing;
 mod laws;
 mod line;
 mod listening;
+mod pace;
 mod poll_wire;
+mod polling;
 mod tape;
 mod wire;
 
@@ -24,6 +26,7 @@ pub use hearing::Hearing;
 pub use laws::{what_a_line_gives_is_heard, what_is_heard_depends_on_the_bytes_alone};
 pub use line::Line;
 pub use listening::{hear, release, send};
+pub use pace::Pace;
 pub use poll_wire::{GAP, PollWire};
 pub use tape::{Event, Tape};
 pub use wire::{Came, Wire};

@@ -1,17 +1,16 @@
 //! A wire over a descriptor that can be polled: a TCP stream or a terminal.
 
-ghost use Rattle.std.specs.Prelude.{◌≡◌, ◌≤◌, ◌<◌, length, take, IfOk, OnOk, OnErr};
-ghost use Rattle.std.specs.Io.KnownBytes.{Appends, Consumes};
-ghost use Rattle.dc_io.specs.Failures.{HasRisen};
+ghost use Rattle.std.specs.Prelude.{◌≡◌, ◌*◌, ◌≤◌, ◌<◌, [], length, IfOk, OnOk};
 ghost use Rattle.dc_raw.specs.Looks.{waits_of};
-ghost use Rattle.dc_raw.specs.Wire.{FitsRoom, Wanes, bytes_of, sound_of};
+ghost use Rattle.dc_raw.specs.PollWire.{WireDrops, WireHears, WireSends};
+ghost use Rattle.dc_raw.specs.Wire.{FitsRoom, Wanes, sound_of};
 
+use crate::pace::Pace;
+use crate::polling::{drop_late, elapsed, millis_of, now, read_within};
 use crate::wire::{Came, Wire};
 use dc_io::{IoFault, one_failure_more};
-use libc::net::{POLLIN, poll};
-use libc::types::pollfd;
 use std::io;
-use std::io::{ErrorKind, Read, Write};
+use std::io::{Read, Write};
 use std::os::fd::AsRawFd;
 use std::rt::Clock;
 use std::time::{Duration, Instant};
@@ -19,47 +18,75 @@ use std::time::{Duration, Instant};
 /// The gap that ends an answer which has begun, in milliseconds.
 pub const GAP: u64 = 500;
 
-// Maximum number of reads that drop late bytes.
-const MOST_DISCARDS: usize = 64;
+// The same in microseconds.
+const GAP_MICROS: u64 = 500_000;
 
-// Maximum number of polls repeated because a signal interrupted a poll or a read.
-const MOST_POLLS: usize = 1_000;
+// How long bytes may keep coming: this many patiences, or this many microseconds where that is longer.
+// The longest answer takes 10 s at 300 baud.
+const MOST_PATIENCES: u64 = 10;
+
+const LONGEST_ANSWER: u64 = 15_000_000;
 
 // Maximum number of times that nothing may come after a request, before the wire itself waits for
 // the rest of its time-out.
 const MOST_WAITS: u16 = 32_767;
 
-/// A TCP stream or a terminal as a wire, by polls that don't wait. A read that returns no byte when
-/// the descriptor is readable means the end of the stream.
+/// A TCP stream or a terminal as a wire, by polls that don't wait: its reader and its writer. A read
+/// that returns no byte when the descriptor is readable means the end of the stream.
+///
+/// After a request the time-out is the patience. Where no meter is selected, none answers the reset
+/// of all selected meters, so it is shorter after that one: as long as an acknowledgement takes at
+/// most, by the [`Pace`] of the line. A line on which bytes keep coming for ten patiences, or 15 s
+/// where that is longer, without a request or silence between them, fails.
 #[derive(Drop)]
-pub struct PollWire<S: Read + Write + AsRawFd + Drop, C: Clock + Drop> {
-    stream: S,
+pub struct PollWire<R: Read + AsRawFd + Drop, W: Write + Drop, C: Clock + Drop> {
+    reader: R,
+    writer: W,
     clock: C,
-    patience: Duration,
+    // The time-outs of the line and of the request, and for how long nothing had come at the last
+    // call, in microseconds.
+    patience: u64,
+    limit: u64,
+    waited: u64,
+    // The time at which the request was sent.
+    asked: Instant,
     // The time at which the request was sent, the last byte came or was dropped, or the last silence
     // was returned.
     since: Instant,
     // Whether a byte came since, and no gap after it was returned.
     begun: bool,
+    pace: Pace,
+    // For how long bytes have kept coming since the last request or silence, in microseconds.
+    noise: u64,
     waits: u16,
     failures: u64,
 }
 
-impl<S: Read + Write + AsRawFd + Drop, C: Clock + Drop> PollWire<S, C> {
-    /// Returns the stream as a wire with a time-out of this many milliseconds.
+impl<R: Read + AsRawFd + Drop, W: Write + Drop, C: Clock + Drop> PollWire<R, W, C> {
+    /// Returns the reader and the writer of a stream as a wire with a time-out of this many
+    /// milliseconds.
     ///
     /// # Errors
     /// The clock fails.
-    pub fn new(stream: S, clock: C, patience: u16) -> io::Result<Self>
-        ensures { IfOk result (λ wire. wire.failures ≡ 0) }
+    pub fn new(reader: R, writer: W, clock: C, patience: u16) -> io::Result<Self>
+        ensures failures { IfOk result (λ wire. wire.failures ≡ 0) }
+        ensures patience { IfOk result (λ wire. wire.patience ≡ patience * 1_000) }
+        ensures limit { IfOk result (λ wire. wire.limit ≡ patience * 1_000) }
     {
         let since = Instant::now(&clock)?;
+        let micros = u64::from(patience) * 1_000;
         Ok(PollWire {
-            stream,
+            reader,
+            writer,
             clock,
-            patience: Duration::from_millis(u64::from(patience)),
+            patience: micros,
+            limit: micros,
+            waited: 0,
+            asked: since,
             since,
             begun: false,
+            pace: Pace::new(),
+            noise: 0,
             waits: MOST_WAITS,
             failures: 0,
         })
@@ -67,18 +94,18 @@ impl<S: Read + Write + AsRawFd + Drop, C: Clock + Drop> PollWire<S, C> {
 
     /// The descriptor, for a caller that waits for the bytes of several wires at once.
     pub fn fd(&self) -> i32 {
-        self.stream.as_raw_fd()
+        self.reader.as_raw_fd()
     }
 
     /// The time until the next gap or silence, if no byte comes; zero if the clock fails.
     pub fn left(&self) -> Duration {
         let limit = if self.begun {
-            Duration::from_millis(GAP).min(self.patience)
+            GAP_MICROS.min(self.limit)
         } else {
-            self.patience
+            self.limit
         };
-        match self.since.elapsed(&self.clock) {
-            Ok(spent) => limit.saturating_sub(spent),
+        match elapsed(self.since, &self.clock) {
+            Ok(spent) => Duration::from_micros(limit.saturating_sub(spent)),
             Err(_) => Duration::ZERO,
         }
     }
@@ -91,40 +118,74 @@ impl<S: Read + Write + AsRawFd + Drop, C: Clock + Drop> PollWire<S, C> {
         ensures fewer { IfOk result (λ came. Wanes came
             (waits_of self.old.waits) (waits_of self.new.waits)) }
         ensures well { self.new.failures ≡ self.old.failures }
-        ensures reader { IfOk result (λ came. Consumes (S.remaining self.old.stream)
-            (S.remaining self.new.stream) (bytes_of (sound_of came room.new))) }
+        ensures step { IfOk result (λ came.
+            WireHears R.remaining self.old (sound_of came room.new) self.new) }
     {
-        let spent = spent_since(self.since, &self.clock)?;
-        let millis = if self.waits == 0 {
-            millis_of(self.patience.saturating_sub(spent))
+        let spent = elapsed(self.since, &self.clock)?;
+        let wait = if self.waits == 0 {
+            self.limit.saturating_sub(spent)
         } else {
             0
         };
-        let count = read_within(&mut self.stream, millis, room)?;
+        let count = read_within(&mut self.reader, millis_of(wait), room)?;
         if count == 0 {
-            return self.nothing(spent);
+            return self.nothing(spent.saturating_add(wait));
         }
-        self.since = now(&self.clock)?;
-        self.begun = true;
+        let (given, _) = room.split_at(count);
+        self.heard(given, spent)?;
         Ok(Came::Bytes(count))
     }
 
+    // Some bytes came, this long after the last ones. A longer time than the patience counts as one:
+    // the line wasn't looked at.
+    fn heard(&mut self, bytes: &[u8], spent: u64) -> Result<(), IoFault>
+        ensures well { self.new.failures ≡ self.old.failures }
+        ensures waits { self.new.waits ≡ self.old.waits }
+        ensures reader { self.new.reader ≡ self.old.reader }
+        ensures writer { self.new.writer ≡ self.old.writer }
+        ensures patience { self.new.patience ≡ self.old.patience }
+        ensures limit { OnOk result (self.new.limit ≡ self.old.patience) }
+    {
+        self.noise = self.noise.saturating_add(spent.min(self.patience));
+        if self.noise
+            > self
+                .patience
+                .saturating_mul(MOST_PATIENCES)
+                .max(LONGEST_ANSWER)
+        {
+            return Err(IoFault);
+        }
+        self.pace.take(elapsed(self.asked, &self.clock)?, bytes);
+        self.since = now(&self.clock)?;
+        self.begun = true;
+        self.limit = self.patience;
+        Ok(())
+    }
+
     // The result where nothing has come for this long.
-    fn nothing(&mut self, spent: Duration) -> Result<Came, IoFault>
+    fn nothing(&mut self, spent: u64) -> Result<Came, IoFault>
+        requires { self.old.waits ≡ 0 → self.old.limit ≤ spent }
         ensures fits { IfOk result (λ came. FitsRoom came 0) }
         ensures fewer { IfOk result (λ came. Wanes came
             (waits_of self.old.waits) (waits_of self.new.waits)) }
         ensures well { self.new.failures ≡ self.old.failures }
-        ensures stream { self.new.stream ≡ self.old.stream }
+        ensures reader { self.new.reader ≡ self.old.reader }
+        ensures step { IfOk result (λ came.
+            WireHears R.remaining self.old (sound_of came []) self.new) }
     {
-        if self.waits == 0 || spent >= self.patience {
+        self.waited = spent;
+        if spent >= self.limit {
             self.since = now(&self.clock)?;
             self.begun = false;
+            self.noise = 0;
+            self.pace.end_silent();
+            self.limit = self.patience;
             return Ok(Came::Silence);
         }
         self.waits = self.waits.min(MOST_WAITS) - 1;
-        if self.begun && spent >= Duration::from_millis(GAP) {
+        if self.begun && spent >= GAP_MICROS {
             self.begun = false;
+            self.pace.end_broken();
             return Ok(Came::Gap);
         }
         Ok(Came::Nothing)
@@ -132,12 +193,15 @@ impl<S: Read + Write + AsRawFd + Drop, C: Clock + Drop> PollWire<S, C> {
 
     // Drops what has arrived; then a gap is awaited, as after a byte that was heard.
     fn drop_late(&mut self) -> Result<bool, IoFault>
-        ensures { self.new.failures ≡ self.old.failures }
+        ensures well { self.new.failures ≡ self.old.failures }
+        ensures step { IfOk result (λ dropped. WireDrops self.old dropped self.new) }
     {
-        let dropped = drop_late(&mut self.stream)?;
+        let dropped = drop_late(&mut self.reader)?;
         if dropped {
             self.since = now(&self.clock)?;
             self.begun = true;
+            self.pace.end_broken();
+            self.limit = self.patience;
             self.waits = MOST_WAITS;
         }
         Ok(dropped)
@@ -145,22 +209,26 @@ impl<S: Read + Write + AsRawFd + Drop, C: Clock + Drop> PollWire<S, C> {
 
     fn put(&mut self, bytes: &[u8]) -> Result<(), IoFault>
         ensures well { self.new.failures ≡ self.old.failures }
-        ensures writer { OnOk result (Appends (S.contents self.old.stream)
-            (S.contents self.new.stream) bytes.now) }
+        ensures step { OnOk result (WireSends W.contents self.old bytes.now self.new) }
     {
-        if self.stream.write_all(bytes).is_err() {
+        if self.writer.write_all(bytes).is_err() {
             return Err(IoFault);
         }
         self.since = now(&self.clock)?;
+        self.asked = self.since;
         self.begun = false;
+        self.noise = 0;
         self.waits = MOST_WAITS;
+        self.pace.begin(bytes);
+        self.limit = self.pace.limit(self.patience);
         Ok(())
     }
 }
 
-impl<S: Read + Write + AsRawFd + Drop, C: Clock + Drop> Wire for PollWire<S, C> {
+impl<R: Read + AsRawFd + Drop, W: Write + Drop, C: Clock + Drop> Wire for PollWire<R, W, C> {
     ghost use Rattle.std.proofs.Math.Nat.{min-le_right};
     ghost use Rattle.dc_raw.specs.Looks.{most_looks, waits_of};
+    ghost use Rattle.dc_raw.specs.PollWire.{WireDrops, WireHears, WireSends};
 
     ghost failures = { λ wire. wire.failures };
 
@@ -168,19 +236,13 @@ impl<S: Read + Write + AsRawFd + Drop, C: Clock + Drop> Wire for PollWire<S, C> 
 
     ghost few = { λ wire. min-le_right wire.waits most_looks };
 
-    ghost sends = { λ _ _ _. Unit {0} };
+    ghost sends = { WireSends W.contents };
 
-    ghost hears = { λ _ _ _. Unit {0} };
+    ghost hears = { WireHears R.remaining };
 
-    ghost drops = { λ _ _ _. Unit {0} };
+    ghost drops = { WireDrops };
 
-    // The last clause states of the writer what the trait's clauses don't.
-    fn send(&mut self, bytes: &[u8]) -> Result<(), IoFault>
-        ensures well { OnOk result (self.new.failures ≡ self.old.failures) }
-        ensures failed { OnErr result (HasRisen self.old.failures self.new.failures) }
-        ensures writer { OnOk result (Appends (S.contents self.old.stream)
-            (S.contents self.new.stream) bytes.now) }
-    {
+    fn send(&mut self, bytes: &[u8]) -> Result<(), IoFault> {
         let sent = self.put(bytes);
         if sent.is_err() {
             self.failures = one_failure_more(self.failures);
@@ -188,17 +250,7 @@ impl<S: Read + Write + AsRawFd + Drop, C: Clock + Drop> Wire for PollWire<S, C> 
         sent
     }
 
-    // The last clause states of the reader what the trait's clauses don't.
-    fn hear(&mut self, room: &mut [u8]) -> Result<Came, IoFault>
-        requires { 0 < length room.old }
-        ensures fits { IfOk result (λ came. FitsRoom came (length room.old)) }
-        ensures fewer { IfOk result (λ came. Wanes came
-            (waits_of self.old.waits) (waits_of self.new.waits)) }
-        ensures well { OnOk result (self.new.failures ≡ self.old.failures) }
-        ensures failed { OnErr result (HasRisen self.old.failures self.new.failures) }
-        ensures reader { IfOk result (λ came. Consumes (S.remaining self.old.stream)
-            (S.remaining self.new.stream) (bytes_of (sound_of came room.new))) }
-    {
+    fn hear(&mut self, room: &mut [u8]) -> Result<Came, IoFault> {
         let came = self.look(room);
         if came.is_err() {
             self.failures = one_failure_more(self.failures);
@@ -213,67 +265,4 @@ impl<S: Read + Write + AsRawFd + Drop, C: Clock + Drop> Wire for PollWire<S, C> 
         }
         dropped
     }
-}
-
-fn now<C: Clock>(clock: &C) -> Result<Instant, IoFault> {
-    Instant::now(clock).map_err(|_| IoFault)
-}
-
-fn spent_since<C: Clock>(since: Instant, clock: &C) -> Result<Duration, IoFault> {
-    since.elapsed(clock).map_err(|_| IoFault)
-}
-
-// Rounded up, so that the time is over when the wait ends.
-fn millis_of(time: Duration) -> i32 {
-    i32::try_from(time.as_millis()).map_or(i32::MAX, |millis| millis.saturating_add(1))
-}
-
-// Reads what comes within this many milliseconds; no byte if nothing comes.
-fn read_within<S: Read + AsRawFd>(
-    stream: &mut S,
-    millis: i32,
-    room: &mut [u8],
-) -> Result<usize, IoFault>
-    ensures count { IfOk result (λ n. n ≤ length room.old) }
-    ensures bytes { IfOk result (λ n. Consumes (S.remaining stream.old)
-        (S.remaining stream.new) (take n room.new)) }
-{
-    for _ in 0..MOST_POLLS {
-        let mut asked = [pollfd {
-            fd: stream.as_raw_fd(),
-            events: POLLIN,
-            revents: 0,
-        }];
-        let ready = poll(&mut asked, millis);
-        if ready == 0 {
-            return Ok(0);
-        }
-        // A signal interrupted the poll: a read might wait.
-        if ready < 0 {
-            continue;
-        }
-        match stream.read(room) {
-            Ok(0) => return Err(IoFault),
-            Ok(count) => return Ok(count),
-            Err(error) => {
-                if error.kind() != ErrorKind::Interrupted {
-                    break;
-                }
-            }
-        }
-    }
-    Err(IoFault)
-}
-
-// Drops what has arrived already, and returns whether there was anything.
-fn drop_late<S: Read + AsRawFd>(stream: &mut S) -> Result<bool, IoFault> {
-    let mut room = [0; 300];
-    let mut dropped = false;
-    for _ in 0..MOST_DISCARDS {
-        if read_within(stream, 0, &mut room)? == 0 {
-            return Ok(dropped);
-        }
-        dropped = true;
-    }
-    Ok(dropped)
 }

@@ -267,7 +267,7 @@ fn a_block_link_exchanges_once(rt: HostRuntime) -> Result<(), Fail> {
 #[test]
 fn a_wire_polls_a_socket(rt: HostRuntime) -> Result<(), Fail> {
     let (near, mut far) = UnixStream::pair(&rt)?;
-    let mut line = Line::new(PollWire::new(near, rt, 30)?);
+    let mut line = Line::new(PollWire::new(near.try_clone()?, near, rt, 30)?);
     far.write_all(&OTHER)?;
     line.send(&request(false));
     assert!(rt; line.hear().is_none());

@@ -1,10 +1,9 @@
-use Rattle.std.proofs.Common.{◌≡◌, ◌<◌, ◌≤◌, Bool, true, false, not, ℕ, List, length, take, refl, ap, sym, ◌∙◌, subst, arith, ◌==◌}
+use Rattle.std.proofs.Common.{◌≡◌, ◌<◌, ℕ, List, length, take, refl, sym, ◌∙◌, subst, arith, ◌==◌}
 use Rattle.std.proofs.lemmas.List.{take-append-le}
-use Rattle.dc_bus.specs.Limits.{most_answer}
-use Rattle.dc_raw.specs.Wire.{FitsRoom, Wanes, Sound, sound_of, piece, nothing, gap, silence}
+use Rattle.dc_raw.specs.Wire.{FitsRoom, Wanes, sound_of, piece, nothing, gap}
 use Rattle.dc_raw.specs.declared.wire.Came.{Came}
-use Rattle.dc_raw.specs.declared.wire.Came.TheVariants.{Bytes, Nothing, Gap, Silence}
-use Rattle.dc_raw.specs.Heard.{answer_of, missing_of, still, still_none, wanted_of}
+use Rattle.dc_raw.specs.declared.wire.Came.TheVariants.{Bytes}
+use Rattle.dc_raw.specs.Heard.{answer_of, still, still_none, wanted_of}
 use Rattle.dc_raw.proofs.Echoes.{none_missing, some_missing}
 use Rattle.dc_raw.proofs.Pieces.{far_gap, far_more, far_none, far_over, far_silent, far_waits, has_length, no_length, not_false, not_of_true}
 use Rattle.dc_raw.proofs.listening.hear.Goals as goal

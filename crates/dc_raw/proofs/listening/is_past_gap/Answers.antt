@@ -1,8 +1,7 @@
-use Rattle.std.proofs.Common.{◌≡◌, ◌≤◌, ◌<◌, ℕ, List, length, take, refl, sym, ◌∙◌, subst, arith}
+use Rattle.std.proofs.Common.{◌≡◌, ℕ, length, take, refl, ◌∙◌, subst, arith}
 use Rattle.dc_raw.specs.Wire.{FitsRoom, Wanes, sound_of, piece}
 use Rattle.dc_raw.specs.declared.wire.Came.{Came}
-use Rattle.dc_raw.specs.declared.wire.Came.TheVariants.{Bytes, Nothing, Gap, Silence}
-use Rattle.dc_raw.specs.Heard.{most_drops}
+use Rattle.dc_raw.specs.declared.wire.Came.TheVariants.{Bytes}
 use Rattle.dc_raw.proofs.Drops.{came_some, dropped_more, dropped_none, not_past, past_gap, past_most, past_silence}
 use Rattle.dc_raw.proofs.listening.is_past_gap.Goals as goal
 

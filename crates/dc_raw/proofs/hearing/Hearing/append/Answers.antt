@@ -1,7 +1,7 @@
-use Rattle.std.proofs.Common.{◌≡◌, Bool, true, false, ℕ, List, [], ap, sym, subst, ◌∙◌, refl}
+use Rattle.std.proofs.Common.{◌≡◌, Bool, true, ℕ, List, ap, sym, subst, ◌∙◌}
 use Rattle.std.proofs.lemmas.Bool.{false≢true}
 use Rattle.std.proofs.lemmas.Slice.Eq.{bytes_eq-Decides}
-use Rattle.dc_raw.proofs.Echoes.{echo_came, hearing_of, kept_echo, more_came, more_kept}
+use Rattle.dc_raw.proofs.Echoes.{echo_came, hearing_of, more_came, more_kept}
 use Rattle.dc_raw.specs.Heard.{IsKept}
 use Rattle.dc_raw.proofs.hearing.Hearing.append.Goals as goal
 

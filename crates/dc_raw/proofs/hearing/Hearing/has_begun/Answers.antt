@@ -1,4 +1,4 @@
-use Rattle.std.proofs.Common.{ℕ, List, length, ◌==◌, not, ap, sym, ◌∙◌}
+use Rattle.std.proofs.Common.{ℕ, List, length, ◌==◌, not, ap, ◌∙◌}
 use Rattle.dc_raw.proofs.Echoes.{hearing_answer}
 use Rattle.dc_raw.proofs.hearing.Hearing.has_begun.Goals as goal
 
