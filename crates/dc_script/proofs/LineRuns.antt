@@ -9,6 +9,7 @@ use Rattle.dc_concentrator.specs.Text.{answer_text}
 use Rattle.dc_concentrator.specs.Transcript.{Turn, leads, IsChain}
 use Rattle.dc_concentrator.specs.Images.{Machine, IsAt}
 use Rattle.dc_address.specs.declared.identity.Identity.{Identity}
+use Rattle.dc_script.specs.Run.{run_of}
 use Rattle.dc_script.specs.Halt.{OnNoMemory, OnWrite}
 use Rattle.dc_script.specs.declared.halt.Halt.{Halt}
 use Rattle.dc_script.specs.declared.halt.Halt.TheVariants.{Write, NoMemory}
@@ -67,7 +68,7 @@ on_err (Err e) B b = b
 module _ {D : Type 0} (g : Ghosts D) (origin : D) where
   -- the lines so far, and how the bus lines are after them
   pub record LinesSoFar (budget : ℕ) (state : State) (before : List Turn) (link now : List LineLink) (done : List LineSeen) (wrote : List ℕ → Type 0) (carries : List Traffic → Type 0) (first new : Machine D) : Type 0 where
-    pub lines : LinesRan g origin budget state before link done wrote carries first new
+    pub lines : LinesRan g (run_of origin budget state before first new) link done wrote carries
     pub link_is : links_after link lines.deeds ≡ now
 
   -- no line yet
@@ -83,7 +84,7 @@ module _ {D : Type 0} (g : Ghosts D) (origin : D) where
   pub lines_more : (budget : ℕ) (state : State) (before : List Turn) (link now left : List LineLink) (done : List LineSeen) (asked : LineSeen) (moment : ℕ) (wrote piece all : List ℕ → Type 0) (carries both : List Traffic → Type 0) (talked : List Exchange → Type 0) (first old new : Machine D)
       → moment ≡ moment_after 0 done
       → (so_far : LinesSoFar budget state before link now done wrote carries first old)
-      → LineRan g origin budget state (before ++ deeds_turns so_far.lines.deeds) moment asked now left piece talked old new
+      → LineRan g (run_of origin budget state (before ++ deeds_turns so_far.lines.deeds) old new) moment asked now left piece talked
       → ((text more : List ℕ) → wrote text → piece more → all (text ++ more))
       → ((traffic : List Traffic) (exchanges : List Exchange) → carries traffic → talked exchanges → both (traffic ++ record { asked = asked; exchanges = exchanges } ∷ []))
       → LinesSoFar budget state before link left (done ++ asked ∷ []) all both first new
@@ -115,7 +116,7 @@ module _ {D : Type 0} (g : Ghosts D) (origin : D) where
   pub one_more : (budget : ℕ) (link now left : List LineLink) (input : List (List ℕ)) (line : List ℕ) (rest : List (List ℕ)) (asked : LineSeen) (moment count : ℕ) (wrote piece all : List ℕ → Type 0) (carries both : List Traffic → Type 0) (talked : List Exchange → Type 0) (first old new : Machine D)
       → SoFar budget link now input (line ∷ rest) moment count wrote carries first old → IsLineOf line asked
       → ((state : State) (before : List Turn) → IsChain budget (opened state) before → IsAt g origin old (leads (opened state) before)
-      → LineRan g origin budget state before moment asked now left piece talked old new)
+      → LineRan g (run_of origin budget state before old new) moment asked now left piece talked)
       → ((text more : List ℕ) → wrote text → piece more → all (text ++ more))
       → ((traffic : List Traffic) (exchanges : List Exchange) → carries traffic → talked exchanges → both (traffic ++ record { asked = asked; exchanges = exchanges } ∷ []))
       → SoFar budget link left input rest (moment_behind moment asked) (count + 1) all both first new
@@ -140,7 +141,7 @@ module _ {D : Type 0} (g : Ghosts D) (origin : D) where
       → FailsAt moment now (line ∷ rest) part part_traffic
       → ((traffic : List Traffic) → carries traffic → both (traffic ++ part_traffic))
       → Went g origin budget state (before ++ deeds_turns (so_far.ran state before chain is_at).lines.deeds) part old new
-      → ScriptCut g origin budget state before link input both first new
+      → ScriptCut g (run_of origin budget state before first new) link input both
   cut_here budget link now input line rest moment count wrote carries both part part_traffic first old new so_far state before chain is_at fails adds went =
       let ran = so_far.ran state before chain is_at in
       record {
@@ -163,9 +164,9 @@ module _ {D : Type 0} (g : Ghosts D) (origin : D) where
       → TurnWent g origin budget state before event (λ answer. OnOk result (wrote (answer_text answer))) first new
       → ((turns : List Turn) (text : List ℕ) → IsOneTurn event turns text → Does moment asked link link turns [] text)
       → talked []
-      → OnOk result (LineRan g origin budget state before moment asked link link wrote talked first new)
+      → OnOk result (LineRan g (run_of origin budget state before first new) moment asked link link wrote talked)
   event_ran budget state before event moment asked link wrote talked first new result one does still =
-      on_ok result (wrote (answer_text one.answer)) (LineRan g origin budget state before moment asked link link wrote talked first new)
+      on_ok result (wrote (answer_text one.answer)) (LineRan g (run_of origin budget state before first new) moment asked link link wrote talked)
       (λ text. record {
         turns = (event, one.answer) ∷ [];
         exchanges = [];
@@ -180,34 +181,34 @@ module _ {D : Type 0} (g : Ghosts D) (origin : D) where
       → TurnWent g origin budget state before event such first new
       → ((turns : List Turn) → IsTurnOf event turns → DoesPart moment asked link turns [])
       → talked []
-      → OnErr result (LineCut g origin budget state before moment asked link talked first new)
+      → OnErr result (LineCut g (run_of origin budget state before first new) moment asked link talked)
   event_cut budget state before event moment asked link such talked first new result one does still =
-      on_err result (LineCut g origin budget state before moment asked link talked first new)
+      on_err result (LineCut g (run_of origin budget state before first new) moment asked link talked)
       (record { turns = (event, one.answer) ∷ []; exchanges = []; does = does ((event, one.answer) ∷ []) (one.answer, refl); went = one.went; over = still })
 
   -- a line that is no event, and what it writes
   pub said_ran : {X E : Type 0} (budget : ℕ) (state : State) (before : List Turn) (moment : ℕ) (asked : LineSeen) (link left : List LineLink) (said : List ℕ) (wrote : List ℕ → Type 0) (talked : List Exchange → Type 0) (machine : Machine D) (result : Result X E)
       → Does moment asked link left [] [] said → talked [] → Went g origin budget state before [] machine machine → OnOk result (wrote said)
-      → OnOk result (LineRan g origin budget state before moment asked link left wrote talked machine machine)
+      → OnOk result (LineRan g (run_of origin budget state before machine machine) moment asked link left wrote talked)
   said_ran budget state before moment asked link left said wrote talked machine result does still went text =
-      on_ok result (wrote said) (LineRan g origin budget state before moment asked link left wrote talked machine machine)
+      on_ok result (wrote said) (LineRan g (run_of origin budget state before machine machine) moment asked link left wrote talked)
       (λ text. record { turns = []; exchanges = []; line = said; does = does; went = went; text = text; over = still }) text
 
   pub said_cut : {X E : Type 0} (budget : ℕ) (state : State) (before : List Turn) (moment : ℕ) (asked : LineSeen) (link : List LineLink) (talked : List Exchange → Type 0) (machine : Machine D) (result : Result X E)
       → DoesPart moment asked link [] [] → talked [] → Went g origin budget state before [] machine machine
-      → OnErr result (LineCut g origin budget state before moment asked link talked machine machine)
+      → OnErr result (LineCut g (run_of origin budget state before machine machine) moment asked link talked)
   said_cut budget state before moment asked link talked machine result does still went =
-      on_err result (LineCut g origin budget state before moment asked link talked machine machine)
+      on_err result (LineCut g (run_of origin budget state before machine machine) moment asked link talked)
       (record { turns = []; exchanges = []; does = does; went = went; over = still })
 
   -- a poll over a line that is found so, and has a bus
   pub polled_ran : {X E : Type 0} (budget : ℕ) (state : State) (before : List Turn) (moment line : ℕ) (meter : Identity) (links : List LineLink) (found : LineLink) (after : Link) (ends : List Happening → Phase → Type 0) (wrote : List ℕ → Type 0) (talked : List Exchange → Type 0) (first new : Machine D) (result : Result X E) → line_in links line ≡ found → HasBus found.link
-      → Way g origin budget state before (record { line = line; is_gateway = found.is_gateway }) moment meter (record { due = to_start; link = found.link }) ends (λ text. OnOk result (wrote text)) first new
+      → Way g (run_of origin budget state before first new) (record { line = line; is_gateway = found.is_gateway }) moment meter (record { due = to_start; link = found.link }) ends (λ text. OnOk result (wrote text))
       → ((happened : List Happening) (last : Phase) → ends happened last → OnOk result (IsEnd happened last.due × (last.link ≡ after)))
       → ((happened : List Happening) (last : Phase) → ends happened last → talked (happened_exchanges happened))
-      → OnOk result (LineRan g origin budget state before moment (poll line meter) links (with_link links line after) wrote talked first new)
+      → OnOk result (LineRan g (run_of origin budget state before first new) moment (poll line meter) links (with_link links line after) wrote talked)
   polled_ran budget state before moment line meter links found after ends wrote talked first new (Ok x) is has_bus found_way ends_so talks_so =
-      let way = subst (λ (f : LineLink). Way g origin budget state before (record { line = line; is_gateway = f.is_gateway }) moment meter (record { due = to_start; link = f.link }) ends wrote first new) (sym is) found_way in
+      let way = subst (λ (f : LineLink). Way g (run_of origin budget state before first new) (record { line = line; is_gateway = f.is_gateway }) moment meter (record { due = to_start; link = f.link }) ends wrote) (sym is) found_way in
       record {
         turns = happened_turns way.happened;
         exchanges = happened_exchanges way.happened;
@@ -225,12 +226,12 @@ module _ {D : Type 0} (g : Ghosts D) (origin : D) where
   polled_ran budget state before moment line meter links found after ends wrote talked first new (Err e) is has_bus found_way ends_so talks_so = tt
 
   pub polled_cut : {X E : Type 0} (budget : ℕ) (state : State) (before : List Turn) (moment line : ℕ) (meter : Identity) (links : List LineLink) (found : LineLink) (ends : List Happening → Phase → Type 0) (wrote : List ℕ → Type 0) (talked : List Exchange → Type 0) (first new : Machine D) (result : Result X E) → line_in links line ≡ found → HasBus found.link
-      → Way g origin budget state before (record { line = line; is_gateway = found.is_gateway }) moment meter (record { due = to_start; link = found.link }) ends wrote first new
+      → Way g (run_of origin budget state before first new) (record { line = line; is_gateway = found.is_gateway }) moment meter (record { due = to_start; link = found.link }) ends wrote
       → ((happened : List Happening) (last : Phase) → ends happened last → talked (happened_exchanges happened))
-      → OnErr result (LineCut g origin budget state before moment (poll line meter) links talked first new)
+      → OnErr result (LineCut g (run_of origin budget state before first new) moment (poll line meter) links talked)
   polled_cut budget state before moment line meter links found ends wrote talked first new result is has_bus found_way talks_so =
-      let way = subst (λ (f : LineLink). Way g origin budget state before (record { line = line; is_gateway = f.is_gateway }) moment meter (record { due = to_start; link = f.link }) ends wrote first new) (sym is) found_way in
-      on_err result (LineCut g origin budget state before moment (poll line meter) links talked first new)
+      let way = subst (λ (f : LineLink). Way g (run_of origin budget state before first new) (record { line = line; is_gateway = f.is_gateway }) moment meter (record { due = to_start; link = f.link }) ends wrote) (sym is) found_way in
+      on_err result (LineCut g (run_of origin budget state before first new) moment (poll line meter) links talked)
       (record {
         turns = happened_turns way.happened;
         exchanges = happened_exchanges way.happened;
@@ -243,8 +244,8 @@ module _ {D : Type 0} (g : Ghosts D) (origin : D) where
 
   ran_so : (budget : ℕ) (state : State) (before : List Turn) (moment : ℕ) (asked : LineSeen) (links left : List LineLink) (wrote : List ℕ → Type 0) (talked also : List Exchange → Type 0) (first new : Machine D)
       → ((exchanges : List Exchange) → talked exchanges → also exchanges)
-      → LineRan g origin budget state before moment asked links left wrote talked first new
-      → LineRan g origin budget state before moment asked links left wrote also first new
+      → LineRan g (run_of origin budget state before first new) moment asked links left wrote talked
+      → LineRan g (run_of origin budget state before first new) moment asked links left wrote also
   ran_so budget state before moment asked links left wrote talked also first new so line = record {
     turns = line.turns;
     exchanges = line.exchanges;
@@ -257,8 +258,8 @@ module _ {D : Type 0} (g : Ghosts D) (origin : D) where
 
   cut_so : (budget : ℕ) (state : State) (before : List Turn) (moment : ℕ) (asked : LineSeen) (links : List LineLink) (talked also : List Exchange → Type 0) (first new : Machine D)
       → ((exchanges : List Exchange) → talked exchanges → also exchanges)
-      → LineCut g origin budget state before moment asked links talked first new
-      → LineCut g origin budget state before moment asked links also first new
+      → LineCut g (run_of origin budget state before first new) moment asked links talked
+      → LineCut g (run_of origin budget state before first new) moment asked links also
   cut_so budget state before moment asked links talked also first new so line = record {
     turns = line.turns;
     exchanges = line.exchanges;
@@ -269,8 +270,8 @@ module _ {D : Type 0} (g : Ghosts D) (origin : D) where
 
   starved_so : (budget : ℕ) (state : State) (before : List Turn) (asked : LineSeen) (links : List LineLink) (wrote : List ℕ → Type 0) (talked also : List Exchange → Type 0) (first new : Machine D)
       → ((exchanges : List Exchange) → talked exchanges → also exchanges)
-      → LineStarved g origin budget state before asked links wrote talked first new
-      → LineStarved g origin budget state before asked links wrote also first new
+      → LineStarved g (run_of origin budget state before first new) asked links wrote talked
+      → LineStarved g (run_of origin budget state before first new) asked links wrote also
   starved_so budget state before asked links wrote talked also first new so line = record {
     last = line.last;
     starves = line.starves;
@@ -281,23 +282,23 @@ module _ {D : Type 0} (g : Ghosts D) (origin : D) where
 
   pub ran_as : {X E : Type 0} (result : Result X E) (budget : ℕ) (state : State) (before : List Turn) (moment : ℕ) (asked : LineSeen) (links left : List LineLink) (wrote : List ℕ → Type 0) (talked also : List Exchange → Type 0) (first new : Machine D)
       → ((exchanges : List Exchange) → talked exchanges → also exchanges)
-      → OnOk result (LineRan g origin budget state before moment asked links left wrote talked first new)
-      → OnOk result (LineRan g origin budget state before moment asked links left wrote also first new)
+      → OnOk result (LineRan g (run_of origin budget state before first new) moment asked links left wrote talked)
+      → OnOk result (LineRan g (run_of origin budget state before first new) moment asked links left wrote also)
   ran_as (Ok x) budget state before moment asked links left wrote talked also first new so line = ran_so budget state before moment asked links left wrote talked also first new so line
   ran_as (Err e) budget state before moment asked links left wrote talked also first new so line = tt
 
   -- where a write failed
   pub cut_as : {X E : Type 0} (result : Result X E) (budget : ℕ) (state : State) (before : List Turn) (moment : ℕ) (asked : LineSeen) (links : List LineLink) (talked also : List Exchange → Type 0) (first new : Machine D)
       → ((exchanges : List Exchange) → talked exchanges → also exchanges)
-      → OnErr result (LineCut g origin budget state before moment asked links talked first new)
-      → OnErr result (LineCut g origin budget state before moment asked links also first new)
+      → OnErr result (LineCut g (run_of origin budget state before first new) moment asked links talked)
+      → OnErr result (LineCut g (run_of origin budget state before first new) moment asked links also)
   cut_as (Ok x) budget state before moment asked links talked also first new so line = tt
   cut_as (Err e) budget state before moment asked links talked also first new so line = cut_so budget state before moment asked links talked also first new so line
 
   pub halted_as : {X : Type 0} (result : Result X Halt) (budget : ℕ) (state : State) (before : List Turn) (moment : ℕ) (asked : LineSeen) (links : List LineLink) (talked also : List Exchange → Type 0) (first new : Machine D)
       → ((exchanges : List Exchange) → talked exchanges → also exchanges)
-      → OnWrite result (LineCut g origin budget state before moment asked links talked first new)
-      → OnWrite result (LineCut g origin budget state before moment asked links also first new)
+      → OnWrite result (LineCut g (run_of origin budget state before first new) moment asked links talked)
+      → OnWrite result (LineCut g (run_of origin budget state before first new) moment asked links also)
   halted_as (Ok x) budget state before moment asked links talked also first new so line = tt
   halted_as (Err Write) budget state before moment asked links talked also first new so line = cut_so budget state before moment asked links talked also first new so line
   halted_as (Err NoMemory) budget state before moment asked links talked also first new so line = tt
@@ -305,8 +306,8 @@ module _ {D : Type 0} (g : Ghosts D) (origin : D) where
   -- if memory runs out
   pub starved_as : {X : Type 0} (result : Result X Halt) (budget : ℕ) (state : State) (before : List Turn) (asked : LineSeen) (links : List LineLink) (wrote : List ℕ → Type 0) (talked also : List Exchange → Type 0) (first new : Machine D)
       → ((exchanges : List Exchange) → talked exchanges → also exchanges)
-      → OnNoMemory result (LineStarved g origin budget state before asked links wrote talked first new)
-      → OnNoMemory result (LineStarved g origin budget state before asked links wrote also first new)
+      → OnNoMemory result (LineStarved g (run_of origin budget state before first new) asked links wrote talked)
+      → OnNoMemory result (LineStarved g (run_of origin budget state before first new) asked links wrote also)
   starved_as (Ok x) budget state before asked links wrote talked also first new so line = tt
   starved_as (Err Write) budget state before asked links wrote talked also first new so line = tt
   starved_as (Err NoMemory) budget state before asked links wrote talked also first new so line = starved_so budget state before asked links wrote talked also first new so line

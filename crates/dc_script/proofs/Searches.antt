@@ -14,6 +14,7 @@ use Rattle.dc_bus.specs.Bus.{AreAskedBy, Exchange}
 use Rattle.dc_search.specs.State.{SearchState, new_search}
 use Rattle.dc_io.specs.declared.stream.IoFault.{IoFault}
 use Rattle.dc_disk.specs.declared.device.Disk.{Ghosts}
+use Rattle.dc_script.specs.Run.{run_of}
 use Rattle.dc_script.specs.Halt.{OnNoMemory, OnWrite, halted_by}
 use Rattle.dc_script.specs.Link.{HasBus, LineLink, Link, line_in, link_by, link_in, loss_text, lost, port_in, with_link}
 use Rattle.dc_script.specs.Script.{LineRan, LineCut}
@@ -136,7 +137,7 @@ module _ {D : Type 0} (g : Ghosts D) (origin : D) where
   pub searched_ran : (budget : ℕ) (state : State) (before : List Turn) (moment most line late : ℕ) (meters : Option (List Identity)) (links : List LineLink) (found : LineLink) (after : Link) (talked : List Exchange → Type 0) (wrote : List ℕ → Type 0) (first new : Machine D) (result : Result (Unit {0}) Halt) → line_in links line ≡ found → HasBus found.link
       → (found.is_gateway ≡ true → late ≡ 0)
       → TurnsWent g origin budget state before (Comes meters (record { line = line; is_gateway = found.is_gateway }) most late found.link after talked wrote result) first new
-      → OnOk result (LineRan g origin budget state before moment (search most line) links (with_link links line after) wrote talked first new)
+      → OnOk result (LineRan g (run_of origin budget state before first new) moment (search most line) links (with_link links line after) wrote talked)
   searched_ran budget state before moment most line late meters links found after talked wrote first new (Ok done) is has_found prompt_found some_found =
       let has_bus = subst (λ (f : LineLink). HasBus f.link) (sym is) has_found in
       let prompt = subst (λ (f : LineLink). f.is_gateway ≡ true → late ≡ 0) (sym is) prompt_found in
@@ -153,7 +154,7 @@ module _ {D : Type 0} (g : Ghosts D) (origin : D) where
 
   pub searched_cut : (budget : ℕ) (state : State) (before : List Turn) (moment most line late : ℕ) (meters : Option (List Identity)) (links : List LineLink) (found : LineLink) (after : Link) (talked : List Exchange → Type 0) (wrote : List ℕ → Type 0) (first new : Machine D) (result : Result (Unit {0}) Halt) → line_in links line ≡ found → HasBus found.link
       → TurnsWent g origin budget state before (Comes meters (record { line = line; is_gateway = found.is_gateway }) most late found.link after talked wrote result) first new
-      → OnWrite result (LineCut g origin budget state before moment (search most line) links talked first new)
+      → OnWrite result (LineCut g (run_of origin budget state before first new) moment (search most line) links talked)
   searched_cut budget state before moment most line late meters links found after talked wrote first new (Ok done) is has_found some = tt
   searched_cut budget state before moment most line late meters links found after talked wrote first new (Err Write) is has_found some_found =
       let has_bus = subst (λ (f : LineLink). HasBus f.link) (sym is) has_found in
@@ -163,7 +164,7 @@ module _ {D : Type 0} (g : Ghosts D) (origin : D) where
 
   pub searched_starved : (budget : ℕ) (state : State) (before : List Turn) (most line late : ℕ) (meters : Option (List Identity)) (links : List LineLink) (found : LineLink) (after : Link) (talked : List Exchange → Type 0) (wrote : List ℕ → Type 0) (first new : Machine D) (result : Result (Unit {0}) Halt) → line_in links line ≡ found → HasBus found.link
       → TurnsWent g origin budget state before (Comes meters (record { line = line; is_gateway = found.is_gateway }) most late found.link after talked wrote result) first new
-      → OnNoMemory result (LineStarved g origin budget state before (search most line) links wrote talked first new)
+      → OnNoMemory result (LineStarved g (run_of origin budget state before first new) (search most line) links wrote talked)
   searched_starved budget state before most line late meters links found after talked wrote first new (Ok done) is has_found some = tt
   searched_starved budget state before most line late meters links found after talked wrote first new (Err Write) is has_found some = tt
   searched_starved budget state before most line late meters links found after talked wrote first new (Err NoMemory) is has_found some_found =

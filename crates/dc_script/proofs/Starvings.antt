@@ -5,6 +5,7 @@ use Rattle.dc_change.specs.State.{State}
 use Rattle.dc_concentrator.specs.Core.{opened}
 use Rattle.dc_concentrator.specs.Images.{Machine, IsAt}
 use Rattle.dc_concentrator.specs.Transcript.{Turn, leads, IsChain}
+use Rattle.dc_script.specs.Run.{run_of}
 use Rattle.dc_script.specs.Link.{LineLink}
 use Rattle.dc_bus.specs.Bus.{Exchange}
 use Rattle.dc_script.specs.Script.{deeds_turns, deeds_text, traffic_of}
@@ -21,12 +22,12 @@ module _ {D : Type 0} (g : Ghosts D) (origin : D) where
       → ((text more : List ℕ) → wrote text → piece more → all (text ++ more))
       → ((traffic : List Traffic) (exchanges : List Exchange) → carries traffic → talked exchanges → both (traffic ++ record { asked = asked; exchanges = exchanges } ∷ []))
       → (state : State) (before : List Turn) (chain : IsChain budget (opened state) before) (is_at : IsAt g origin first (leads (opened state) before))
-      → LineStarved g origin old.house.budget state (before ++ deeds_turns (so_far.ran state before chain is_at).lines.deeds) asked now piece talked old new
-      → ScriptStarved g origin budget state before link input all both first new
+      → LineStarved g (run_of origin old.house.budget state (before ++ deeds_turns (so_far.ran state before chain is_at).lines.deeds) old new) asked now piece talked
+      → ScriptStarved g (run_of origin budget state before first new) link input all both
   starved_here budget link now input line rest asked moment count wrote piece all carries both talked first old new so_far is same joins adds state before chain is_at one =
       let ran = so_far.ran state before chain is_at in
       let turns = deeds_turns ran.lines.deeds in
-      let starved = subst (λ (b : ℕ). LineStarved g origin b state (before ++ turns) asked now piece talked old new) same one in
+      let starved = subst (λ (b : ℕ). LineStarved g (run_of origin b state (before ++ turns) old new) asked now piece talked) same one in
       record {
         asked = so_far.done;
         rest = line ∷ rest;

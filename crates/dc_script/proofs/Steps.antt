@@ -1,5 +1,5 @@
 -- The lines of an input, answered one after the other.
-use Rattle.std.proofs.Common.{◌≡◌, ℕ, List, [], ◌∷◌, Bool, false, refl, sym, append_assoc, append-nil}
+use Rattle.std.proofs.Common.{ℕ, List, [], ◌∷◌, Bool, false, refl, sym, append_assoc, append-nil}
 use Rattle.std.specs.Prelude.{◌||◌}
 use Rattle.dc_change.specs.State.{Held}
 use Rattle.dc_script.specs.Fold.{IsStep, AreSteps, line_answer, answers, after_line}

@@ -69,12 +69,12 @@ goes_nowhere {B} lost does old is = subst (λ (s : Option (Slot B)). GoesOver lo
 
 module _ {B : Type 0} (lost : B → Bool) (asks : B → List ℕ → List ℕ → B → Type 0) (settles : B → B → Type 0) (ready : B → Bool) where
   pub polls_over : (line : ℕ) (exchanges : List Exchange) (old : Option (Slot B)) (slot : Slot B) (bus : B) → old ≡ Some slot → IsPolled settles ready asks (record { line = line; is_gateway = slot.is_gateway }) slot.bus exchanges bus → (lost slot.bus ≡ true → bus ≡ slot.bus)
-      → PollsOver lost asks settles ready line exchanges old (Some (record { bus = bus; is_gateway = slot.is_gateway }))
+      → PollsOver lost asks settles ready line old (Some (record { bus = bus; is_gateway = slot.is_gateway })) exchanges
   polls_over line exchanges old slot bus is so untouched =
       goes_over lost (λ is_gateway before after. IsPolled settles ready asks (record { line = line; is_gateway = is_gateway }) before exchanges after) old slot bus is so untouched
 
   pub searches_over : (exchanges : List Exchange) (old : Option (Slot B)) (slot : Slot B) (bus : B) → old ≡ Some slot → IsSearchedFor asks settles ready slot.bus exchanges bus → (lost slot.bus ≡ true → bus ≡ slot.bus)
-      → SearchesOver lost asks settles ready exchanges old (Some (record { bus = bus; is_gateway = slot.is_gateway }))
+      → SearchesOver lost asks settles ready old (Some (record { bus = bus; is_gateway = slot.is_gateway })) exchanges
   searches_over exchanges old slot bus is so untouched = goes_over lost (λ is_gateway before after. IsSearchedFor asks settles ready before exchanges after) old slot bus is so untouched
 
   -- ---- the lines of a script

@@ -15,6 +15,7 @@ use Rattle.dc_concentrator.specs.Transcript.{Turn, leads, IsChain}
 use Rattle.dc_concentrator.specs.declared.fault.HearFault.{HearFault}
 use Rattle.dc_concentrator.specs.declared.fault.HearFault.TheVariants.{NoLine, Idle, Full, NoMemory, PendingFull, Stopped}
 use Rattle.dc_concentrator.specs.declared.line_heard.LineHeard.{LineHeard}
+use Rattle.dc_script.specs.Run.{run_of}
 use Rattle.dc_script.specs.Link.{Link, linked, lost, link_by, loss_line, loss_text, IsHeardOver}
 use Rattle.dc_script.specs.Poll.{Happening, does, talks, loses, Due, to_start, to_send, to_hear, Phase, IsDueEvent, IsWay, behind, behind_turn, turns_of, exchanges_of, told_text, happening_text, happened_turns, happened_exchanges, happened_text, rounds_in, count_of, IsEnd, behind_first_heard, is_over}
 use Rattle.dc_bus.specs.Limits.{most_answer}
@@ -211,17 +212,17 @@ if_round_after (Err fault) link rounds front happened last is round = tt
 
 module _ {D : Type 0} (g : Ghosts D) (origin : D) where
   pub way_chain : (budget : ℕ) (state : State) (before : List Turn) (port : Port) (moment : ℕ) (meter : Identity) (phase : Phase) (ends : List Happening → Phase → Type 0) (wrote : List ℕ → Type 0) (first new : Machine D)
-      → (way : Way g origin budget state before port moment meter phase ends wrote first new) → IsChain budget (opened state) (before ++ happened_turns way.happened)
+      → (way : Way g (run_of origin budget state before first new) port moment meter phase ends wrote) → IsChain budget (opened state) (before ++ happened_turns way.happened)
   way_chain budget state before port moment meter phase ends wrote first new way = went_chain g origin budget state before (happened_turns way.happened) first new way.went
 
   pub way_at : (budget : ℕ) (state : State) (before : List Turn) (port : Port) (moment : ℕ) (meter : Identity) (phase : Phase) (ends : List Happening → Phase → Type 0) (wrote : List ℕ → Type 0) (first new : Machine D)
-      → (way : Way g origin budget state before port moment meter phase ends wrote first new) → IsAt g origin new (leads (opened state) (before ++ happened_turns way.happened))
+      → (way : Way g (run_of origin budget state before first new) port moment meter phase ends wrote) → IsAt g origin new (leads (opened state) (before ++ happened_turns way.happened))
   way_at budget state before port moment meter phase ends wrote first new way = went_at g origin budget state before (happened_turns way.happened) first new way.went
 
   -- nothing happens
   pub way_none : (budget : ℕ) (state : State) (before : List Turn) (port : Port) (moment : ℕ) (meter : Identity) (phase : Phase) (ends : List Happening → Phase → Type 0) (wrote : List ℕ → Type 0) (machine : Machine D)
       → Went g origin budget state before [] machine machine → ends [] phase → wrote []
-      → Way g origin budget state before port moment meter phase ends wrote machine machine
+      → Way g (run_of origin budget state before machine machine) port moment meter phase ends wrote
   way_none budget state before port moment meter phase ends wrote machine went ends_so text = record { happened = []; last = phase; way = refl; ends_so = ends_so; went = went; text = text }
 
   -- one turn
@@ -230,7 +231,7 @@ module _ {D : Type 0} (g : Ghosts D) (origin : D) where
       → (one : TurnWent g origin budget state before event such first new)
       → ((answer : Answer) → such answer → ends (does (event, answer) ∷ []) (record { due = behind_turn due event answer; link = link }))
       → ((answer : Answer) → such answer → wrote (told_text answer))
-      → Way g origin budget state before port moment meter (record { due = due; link = link }) ends wrote first new
+      → Way g (run_of origin budget state before first new) port moment meter (record { due = due; link = link }) ends wrote
   way_turn budget state before port moment meter due link event such ends wrote first new is_due one ends_so text =
       record {
         happened = does (event, one.answer) ∷ [];
@@ -243,11 +244,11 @@ module _ {D : Type 0} (g : Ghosts D) (origin : D) where
 
   -- and then more
   pub way_both : (budget : ℕ) (state : State) (before : List Turn) (port : Port) (moment : ℕ) (meter : Identity) (phase : Phase) (mid : Phase) (ends then_ends all_ends : List Happening → Phase → Type 0) (wrote then_wrote all : List ℕ → Type 0) (first old new : Machine D)
-      → (one : Way g origin budget state before port moment meter phase ends wrote first old) → one.last ≡ mid
-      → Way g origin budget state (before ++ happened_turns one.happened) port moment meter mid then_ends then_wrote old new
+      → (one : Way g (run_of origin budget state before first old) port moment meter phase ends wrote) → one.last ≡ mid
+      → Way g (run_of origin budget state (before ++ happened_turns one.happened) old new) port moment meter mid then_ends then_wrote
       → ((more : List Happening) (last : Phase) → then_ends more last → all_ends (one.happened ++ more) last)
       → ((text more : List ℕ) → wrote text → then_wrote more → all (text ++ more))
-      → Way g origin budget state before port moment meter phase all_ends all first new
+      → Way g (run_of origin budget state before first new) port moment meter phase all_ends all
   way_both budget state before port moment meter phase mid ends then_ends all_ends wrote then_wrote all first old new one is more ends_so joins =
       record {
         happened = one.happened ++ more.happened;
@@ -261,24 +262,24 @@ module _ {D : Type 0} (g : Ghosts D) (origin : D) where
 
   -- the same, and less is said of it
   pub way_as : (budget : ℕ) (state : State) (before : List Turn) (port : Port) (moment : ℕ) (meter : Identity) (phase : Phase) (ends other_ends : List Happening → Phase → Type 0) (wrote other : List ℕ → Type 0) (first new : Machine D)
-      → Way g origin budget state before port moment meter phase ends wrote first new
+      → Way g (run_of origin budget state before first new) port moment meter phase ends wrote
       → ((happened : List Happening) (last : Phase) → ends happened last → other_ends happened last)
       → ((text : List ℕ) → wrote text → other text)
-      → Way g origin budget state before port moment meter phase other_ends other first new
+      → Way g (run_of origin budget state before first new) port moment meter phase other_ends other
   way_as budget state before port moment meter phase ends other_ends wrote other first new way ends_so goes =
       record { happened = way.happened; last = way.last; way = way.way; ends_so = ends_so way.happened way.last way.ends_so; went = way.went; text = goes (happened_text port way.happened) way.text }
 
   -- and then what a call does
   pub way_then : (budget : ℕ) (state : State) (before : List Turn) (port : Port) (moment : ℕ) (meter : Identity) (phase mid : Phase) (ends then_ends all_ends : List Happening → Phase → Type 0) (wrote then_wrote all : List ℕ → Type 0) (first old new : Machine D)
-      → (one : Way g origin budget state before port moment meter phase ends wrote first old) → one.last ≡ mid → old.house.budget ≡ budget
-      → ((behind : List Turn) → IsChain old.house.budget (opened state) behind → IsAt g origin old (leads (opened state) behind) → Way g origin old.house.budget state behind port moment meter mid then_ends then_wrote old new)
+      → (one : Way g (run_of origin budget state before first old) port moment meter phase ends wrote) → one.last ≡ mid → old.house.budget ≡ budget
+      → ((behind : List Turn) → IsChain old.house.budget (opened state) behind → IsAt g origin old (leads (opened state) behind) → Way g (run_of origin old.house.budget state behind old new) port moment meter mid then_ends then_wrote)
       → ((more : List Happening) (last : Phase) → then_ends more last → all_ends (one.happened ++ more) last)
       → ((text more : List ℕ) → wrote text → then_wrote more → all (text ++ more))
-      → Way g origin budget state before port moment meter phase all_ends all first new
+      → Way g (run_of origin budget state before first new) port moment meter phase all_ends all
   way_then budget state before port moment meter phase mid ends then_ends all_ends wrote then_wrote all first old new one is same next_way ends_so joins =
       let turns = happened_turns one.happened in
       way_both budget state before port moment meter phase mid ends then_ends all_ends wrote then_wrote all first old new one is
-      (subst (λ (b : ℕ). Way g origin b state (before ++ turns) port moment meter mid then_ends then_wrote old new) same
+      (subst (λ (b : ℕ). Way g (run_of origin b state (before ++ turns) old new) port moment meter mid then_ends then_wrote) same
       (next_way (before ++ turns) (subst (λ (b : ℕ). IsChain b (opened state) (before ++ turns)) (sym same) (way_chain budget state before port moment meter phase ends wrote first old one))
       (way_at budget state before port moment meter phase ends wrote first old one)))
       ends_so joins
@@ -288,10 +289,10 @@ module _ {D : Type 0} (g : Ghosts D) (origin : D) where
       → IsDueEvent port moment meter due event
       → TurnWent g origin budget state before event such first old → ((answer : Answer) → such answer → answer ≡ told) → old.house.budget ≡ budget
       → ((behind : List Turn) → IsChain old.house.budget (opened state) behind → IsAt g origin old (leads (opened state) behind)
-      → Way g origin old.house.budget state behind port moment meter (record { due = behind_turn due event told; link = link }) then_ends then_wrote old new)
+      → Way g (run_of origin old.house.budget state behind old new) port moment meter (record { due = behind_turn due event told; link = link }) then_ends then_wrote)
       → ((more : List Happening) (last : Phase) → then_ends more last → ends (does (event, told) ∷ more) last)
       → ((more : List ℕ) → then_wrote more → wrote (told_text told ++ more))
-      → Way g origin budget state before port moment meter (record { due = due; link = link }) ends wrote first new
+      → Way g (run_of origin budget state before first new) port moment meter (record { due = due; link = link }) ends wrote
   turn_then budget state before port moment meter due link event such told then_ends ends then_wrote wrote first old new is_due turn is same next_way ends_so joins =
       let mid : Phase = record { due = behind_turn due event told; link = link } in
       let one = way_turn budget state before port moment meter due link event such (λ happened last. (happened ≡ does (event, told) ∷ []) × (last ≡ mid)) (λ text. text ≡ told_text told) first old is_due turn
@@ -304,8 +305,7 @@ module _ {D : Type 0} (g : Ghosts D) (origin : D) where
   -- An exchange over the bus, which may be lost over it.
   pub way_exchange : (budget : ℕ) (state : State) (before : List Turn) (port : Port) (moment : ℕ) (meter : Identity) (was is : Bool) (request answer : List ℕ) (wrote : List ℕ → Type 0) (machine : Machine D)
       → Went g origin budget state before [] machine machine → (was ≡ true → is ≡ true) → length answer ≤ most_answer → IsHeardOver (link_by is) answer → wrote (loss_text port (link_by was) (link_by is))
-      → Way g origin budget state before port moment meter (record { due = to_send request; link = link_by was })
-      (λ happened last. (happened ≡ exchange_happening was is (record { request = request; answer = answer })) × (last ≡ record { due = to_hear answer; link = link_by is })) wrote machine machine
+      → Way g (run_of origin budget state before machine machine) port moment meter (record { due = to_send request; link = link_by was }) (λ happened last. (happened ≡ exchange_happening was is (record { request = request; answer = answer })) × (last ≡ record { due = to_hear answer; link = link_by is })) wrote
   way_exchange budget state before port moment meter false false request answer wrote machine went stays short over text =
       record { happened = talks (record { request = request; answer = answer }) ∷ []; last = record { due = to_hear answer; link = linked }; way = ((refl, short, tt), refl); ends_so = (refl, refl); went = went; text = text }
   way_exchange budget state before port moment meter true true request answer wrote machine went stays short over text =
@@ -324,8 +324,7 @@ module _ {D : Type 0} (g : Ghosts D) (origin : D) where
   -- A bus settles, which may be lost over it; a gateway isn't.
   pub way_settled : (budget : ℕ) (state : State) (before : List Turn) (port : Port) (moment : ℕ) (meter : Identity) (was is : Bool) (wrote : List ℕ → Type 0) (machine : Machine D)
       → Went g origin budget state before [] machine machine → (was ≡ true → is ≡ true) → (was ≡ false → is ≡ true → port.is_gateway ≡ false) → wrote (loss_text port (link_by was) (link_by is))
-      → Way g origin budget state before port moment meter (record { due = to_start; link = link_by was })
-      (λ happened last. (happened ≡ settle_happening was is) × (last ≡ record { due = to_start; link = link_by is })) wrote machine machine
+      → Way g (run_of origin budget state before machine machine) port moment meter (record { due = to_start; link = link_by was }) (λ happened last. (happened ≡ settle_happening was is) × (last ≡ record { due = to_start; link = link_by is })) wrote
   way_settled budget state before port moment meter false false wrote machine went stays other text =
       record { happened = []; last = record { due = to_start; link = linked }; way = refl; ends_so = (refl, refl); went = went; text = text }
   way_settled budget state before port moment meter true true wrote machine went stays other text =
@@ -346,7 +345,7 @@ module _ {D : Type 0} (g : Ghosts D) (origin : D) where
       → IsDueEvent port moment meter due event
       → TurnWent g origin budget state before event such first new → ((answer : Answer) → such answer → answer ≡ told)
       → ends (does (event, told) ∷ []) (record { due = behind_turn due event told; link = link }) → wrote (told_text told)
-      → Way g origin budget state before port moment meter (record { due = due; link = link }) ends wrote first new
+      → Way g (run_of origin budget state before first new) port moment meter (record { due = due; link = link }) ends wrote
   turn_last budget state before port moment meter due link event such told ends wrote first new is_due turn is ends_so text =
       way_turn budget state before port moment meter due link event such ends wrote first new is_due turn
       (λ answer s. subst (λ (a : Answer). ends (does (event, a) ∷ []) (record { due = behind_turn due event a; link = link })) (sym (is answer s)) ends_so)

@@ -1,9 +1,13 @@
 -- What `run` does to an image (this product): the concentrator is opened, runs the script, and is closed.
-use Rattle.std.specs.Prelude.{◌≡◌, ℕ, Bool, Option, IfSome, List, [], ◌++◌}
+use Rattle.std.specs.Prelude.{◌≡◌, ◌≤◌, ℕ, Bool, Option, IfSome, List, ◌++◌}
 use Rattle.dc_change.specs.State.{State}
-use Rattle.dc_log.specs.Halves.{budget_of, half_of}
-use Rattle.dc_pending.specs.Images.{Reads, StandsForOne}
-use Rattle.dc_concentrator.specs.Headline.{IsOpened, WasStopped, IsKept}
+use Rattle.dc_io.specs.Failures.{HasRisen}
+use Rattle.dc_log.specs.Halves.{fewest_sectors, half_of}
+use Rattle.dc_log.specs.Refusal.{TellsOfImage}
+use Rattle.dc_log.specs.declared.fault.OpenFault.{OpenFault}
+use Rattle.dc_log.specs.declared.fault.OpenFault.TheVariants.{Worn, Device}
+use Rattle.dc_pending.specs.Images.{IsRefused, EachStands, StandsForOne}
+use Rattle.dc_concentrator.specs.Headline.{WasStopped}
 use Rattle.dc_concentrator.specs.Images.{Machine}
 use Rattle.dc_concentrator.specs.Transcript.{Turn}
 use Rattle.dc_io.specs.Lines.{lines_of}
@@ -11,8 +15,13 @@ use Rattle.dc_disk.specs.declared.device.Disk.{Ghosts}
 use Rattle.dc_disk.specs.Runs.{LeavesOnly, WasLeft}
 use Rattle.dc_concentrator.specs.OpenedOn.{IsOpenedOn}
 use Rattle.dc_script.specs.Link.{LineLink}
+use Rattle.dc_script.specs.Run.{run_from}
 use Rattle.dc_script.specs.Script.{ScriptRan, ScriptCut}
 use Rattle.dc_script.specs.Traffic.{Traffic}
+
+-- Where the disk keeps the disk model, each image that it may hold stands for some state.
+abbrev pub Stands : {D : Type 0} → Ghosts D → D → Type 0
+Stands g disk = g.keeps disk → EachStands (half_of g disk) (g.choices disk)
 
 -- A run from the disk to the disk: `left` is what the reader had left, where it says that, and `script` what the
 -- lines of the input did to the concentrator that was opened. The turns of the script are one life (law
@@ -33,15 +42,14 @@ abbrev pub ImageRan : {D : Type 0} → Ghosts D → List LineLink → Option (Li
     → (List ℕ → Type 0) → (List Traffic → Type 0) → D → D → Type 0
 ImageRan g links left faulty wrote carries =
     ImageWent g left (λ lines state first last.
-    ScriptRan g first.store.disk first.house.budget state [] links lines faulty wrote carries first
-    last)
+    ScriptRan g (run_from state first last) links lines faulty wrote carries)
 
 -- A failed write ended it.
 abbrev pub ImageCut : {D : Type 0} → Ghosts D → List LineLink → Option (List ℕ)
     → (List Traffic → Type 0) → D → D → Type 0
 ImageCut g links left carries =
     ImageWent g left (λ lines state first last.
-    ScriptCut g first.store.disk first.house.budget state [] links lines carries first last)
+    ScriptCut g (run_from state first last) links lines carries)
 
 -- THE TURNS ARE ONE LIFE, which began with the state and ended at the last machine. Wherever the
 -- turns are split, a machine was between the two parts, and a disk with what a power cut left at
@@ -50,3 +58,17 @@ abbrev pub IsOneLife : {D : Type 0} → Ghosts D → State → List Turn → Mac
 IsOneLife {D} g state turns last = (done more : List Turn) → done ++ more ≡ turns
     → (now : Machine D) × ((disk : D) → WasLeft g now.store.disk last.store.disk disk
     → WasStopped g state done more disk)
+
+-- THE IMAGE ISN'T OPENED, and this is left of its disk: the fault is that of the store, which for an
+-- image that stands for a state is an exhausted counter; an image that is refused isn't written; a
+-- device that failed counted it; and a stop leaves what stands for a state that one of the disk's
+-- images stood for.
+pub record IsUnopened {D : Type 0} (g : Ghosts D) (disk left : D) (fault : OpenFault) : Type 0 where
+  pub refused : g.keeps left → fewest_sectors ≤ g.sectors disk
+      → IsRefused (half_of g disk) (g.reads disk) fault
+  pub premise : g.keeps left → fewest_sectors ≤ g.sectors disk
+      → EachStands (half_of g disk) (g.choices disk) → TellsOfImage fault → fault ≡ Worn
+  pub unwritten : TellsOfImage fault → g.reads left ≡ g.reads disk
+  pub device : fault ≡ Device → HasRisen (g.failures disk) (g.failures left)
+  pub any_moment : g.keeps left → EachStands (half_of g disk) (g.choices disk)
+      → LeavesOnly g disk left (StandsForOne (half_of g disk) (g.choices disk))

@@ -13,7 +13,9 @@ pub mod Script
 pub mod ScriptLine
 -- a search for meters over a bus line
 pub mod Search
--- the effect of a line on a slot
+-- a stretch of the concentrator's run
+pub mod Run
+-- the effect of a line on the slots
 pub mod Slots
 -- a script that ended because a search ran out of memory
 pub mod Starved

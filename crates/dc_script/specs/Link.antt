@@ -98,6 +98,10 @@ only_gateway absent = unlinked ∷ []
 only_gateway linked = record { is_gateway = true; link = linked } ∷ []
 only_gateway lost = record { is_gateway = true; link = lost } ∷ []
 
+-- the lines of a script of which line 1 alone may have a bus: a gateway of these ends
+abbrev pub gateway_links : {X : Type 0} → Option X → List LineLink
+gateway_links ends = only_gateway (link_at_first ends)
+
 -- ---- a loss
 
 abbrev pub loss_line : Port → List ℕ

@@ -1,9 +1,7 @@
 -- What a script does (this product): its lines, up to the first that spells nothing, are done one after the other.
 use Rattle.std.specs.Prelude.{◌≡◌, ◌⊎◌, ℕ, ◌+◌, Bool, true, false, List, [], ◌∷◌, ◌++◌, codes}
 use Rattle.std.specs.Prelude.{length, flat_map}
-use Rattle.dc_change.specs.State.{State}
 use Rattle.dc_concentrator.specs.Event.{Event, Answer, starts, asks, hears, commits, offices}
-use Rattle.dc_concentrator.specs.Images.{Machine}
 use Rattle.dc_concentrator.specs.Text.{answer_text}
 use Rattle.dc_concentrator.specs.Transcript.{Turn}
 use Rattle.dc_bus.specs.Bus.{Exchange}
@@ -13,7 +11,7 @@ use Rattle.dc_script.specs.Link.{LineLink, HasBus, Through, link_in, port_in}
 use Rattle.dc_script.specs.Poll.{Polls, PollsPart}
 use Rattle.dc_script.specs.Search.{SearchesOn, SearchesPart}
 use Rattle.dc_script.specs.Traffic.{Traffic}
-use Rattle.dc_concentrator.specs.Went.{Went}
+use Rattle.dc_script.specs.Run.{Run, IsRunOf}
 use Rattle.dc_script.specs.ScriptLine.{LineSeen, nothing, at, start, ask, hear, commit, office}
 use Rattle.dc_script.specs.ScriptLine.{poll, search, IsLineOf}
 
@@ -147,27 +145,25 @@ ending true count = codes "LINE" ++ number_word (count + 1) ++ codes " SYNTAX\n"
 
 -- These lines are done one after the other, their turns are run after those that were before, what was written is
 -- their text, and what went over the buses is their traffic.
-pub record LinesRan {D : Type 0} (g : Ghosts D) (origin : D) (budget : ℕ)
-    (state : State) (before : List Turn) (links : List LineLink) (asked : List LineSeen)
-    (wrote : List ℕ → Type 0) (carries : List Traffic → Type 0)
-    (first new : Machine D) : Type 0 where
+pub record LinesRan {D : Type 0} (g : Ghosts D) (run : Run D) (links : List LineLink)
+    (asked : List LineSeen) (wrote : List ℕ → Type 0) (carries : List Traffic → Type 0)
+    : Type 0 where
   pub deeds : List Deed
   pub done : AreDone 0 links asked deeds
-  pub went : Went g origin budget state before (deeds_turns deeds) first new
+  pub went : IsRunOf g run (deeds_turns deeds)
   pub text : wrote (deeds_text deeds)
   pub carried : carries (traffic_of asked deeds)
 
 -- A script of these lines: those up to its end are done.
-pub record ScriptRan {D : Type 0} (g : Ghosts D) (origin : D) (budget : ℕ)
-    (state : State) (before : List Turn) (links : List LineLink) (lines : List (List ℕ))
-    (faulty : Bool) (wrote : List ℕ → Type 0) (carries : List Traffic → Type 0)
-    (first new : Machine D) : Type 0 where
+pub record ScriptRan {D : Type 0} (g : Ghosts D) (run : Run D) (links : List LineLink)
+    (lines : List (List ℕ)) (faulty : Bool) (wrote : List ℕ → Type 0)
+    (carries : List Traffic → Type 0) : Type 0 where
   pub asked : List LineSeen
   pub rest : List (List ℕ)
   pub are_read : AskFor lines asked rest
   pub ends : EndsAt rest faulty
-  pub done : LinesRan g origin budget state before
-      links asked (λ text. wrote (text ++ ending faulty (length asked))) carries first new
+  pub done : LinesRan g run links asked (λ text. wrote (text ++ ending faulty (length asked)))
+      carries
 
 -- ---- a write failed
 
@@ -203,9 +199,8 @@ FailsAt moment links (line ∷ rest) turns traffic =
     ⊎ (((asked : LineSeen) → ¬ (IsLineOf line asked)) × (turns ≡ []) × (traffic ≡ []))
 
 -- A script that a failed write ended: the lines before the one at which it failed are done, and of that one some turns.
-pub record ScriptCut {D : Type 0} (g : Ghosts D) (origin : D) (budget : ℕ)
-    (state : State) (before : List Turn) (links : List LineLink) (lines : List (List ℕ))
-    (carries : List Traffic → Type 0) (first new : Machine D) : Type 0 where
+pub record ScriptCut {D : Type 0} (g : Ghosts D) (run : Run D) (links : List LineLink)
+    (lines : List (List ℕ)) (carries : List Traffic → Type 0) : Type 0 where
   pub asked : List LineSeen
   pub rest : List (List ℕ)
   pub are_read : AskFor lines asked rest
@@ -214,30 +209,28 @@ pub record ScriptCut {D : Type 0} (g : Ghosts D) (origin : D) (budget : ℕ)
   pub part : List Turn
   pub part_traffic : List Traffic
   pub fails : FailsAt (moment_after 0 asked) (links_after links deeds) rest part part_traffic
-  pub went : Went g origin budget state before (deeds_turns deeds ++ part) first new
+  pub went : IsRunOf g run (deeds_turns deeds ++ part)
   pub carried : carries (traffic_of asked deeds ++ part_traffic)
 
 -- ---- one line
 
 -- A line is done, this was written, and these exchanges went over a bus; the bus lines are left like that.
-pub record LineRan {D : Type 0} (g : Ghosts D) (origin : D) (budget : ℕ)
-    (state : State) (before : List Turn) (moment : ℕ) (asked : LineSeen)
+pub record LineRan {D : Type 0} (g : Ghosts D) (run : Run D) (moment : ℕ) (asked : LineSeen)
     (links left : List LineLink) (wrote : List ℕ → Type 0) (talked : List Exchange → Type 0)
-    (first new : Machine D) : Type 0 where
+    : Type 0 where
   pub turns : List Turn
   pub exchanges : List Exchange
   pub line : List ℕ
   pub does : Does moment asked links left turns exchanges line
-  pub went : Went g origin budget state before turns first new
+  pub went : IsRunOf g run turns
   pub text : wrote line
   pub over : talked exchanges
 
 -- A write failed on a line.
-pub record LineCut {D : Type 0} (g : Ghosts D) (origin : D) (budget : ℕ)
-    (state : State) (before : List Turn) (moment : ℕ) (asked : LineSeen) (links : List LineLink)
-    (talked : List Exchange → Type 0) (first new : Machine D) : Type 0 where
+pub record LineCut {D : Type 0} (g : Ghosts D) (run : Run D) (moment : ℕ) (asked : LineSeen)
+    (links : List LineLink) (talked : List Exchange → Type 0) : Type 0 where
   pub turns : List Turn
   pub exchanges : List Exchange
   pub does : DoesPart moment asked links turns exchanges
-  pub went : Went g origin budget state before turns first new
+  pub went : IsRunOf g run turns
   pub over : talked exchanges

@@ -1,10 +1,8 @@
 -- A search for meters over a bus line (this product): the pending changes are committed first, and
 -- nothing is selected while a readout of that line is pending.
-use Rattle.std.specs.Prelude.{◌≡◌, ◌⊎◌, ℕ, zero, suc, Bool, true, false, ◌+◌, ◌-◌, ◌≤◌, IsTrue}
+use Rattle.std.specs.Prelude.{◌≡◌, ◌⊎◌, ℕ, zero, suc, Bool, true, false, ◌-◌, ◌≤◌, IsTrue}
 use Rattle.std.specs.Prelude.{Option, None, Some, IfSome, Result, Ok, Err, List, [], ◌∷◌, ◌++◌}
-use Rattle.std.specs.Prelude.{codes, flat_map, map}
-use Rattle.dc_address.specs.Digits.{decimal_digits}
-use Rattle.dc_address.specs.Text.{decimal_code, text_of}
+use Rattle.std.specs.Prelude.{codes}
 use Rattle.dc_address.specs.declared.identity.Identity.{Identity}
 use Rattle.dc_concentrator.specs.Event.{asks, commits, started, asked, committed}
 use Rattle.dc_concentrator.specs.Text.{answer_text}
@@ -14,12 +12,10 @@ use Rattle.dc_concentrator.specs.declared.fault.StartFault.TheVariants.{Busy}
 use Rattle.dc_bus.specs.Bus.{AreAskedBy, Exchange, IsSearched}
 use Rattle.dc_search.specs.Found.{search_text}
 use Rattle.dc_search.specs.State.{SearchState, is_idle, new_search, step_of}
-use Rattle.dc_search.specs.declared.step.Step.{Step}
-use Rattle.dc_search.specs.declared.step.Step.TheVariants.{Select, Request, Done, Budget}
 use Rattle.dc_io.specs.Words.{number_word}
 use Rattle.dc_script.specs.declared.halt.Halt.{Halt}
 use Rattle.dc_script.specs.declared.halt.Halt.TheVariants.{Write, NoMemory}
-use Rattle.dc_script.specs.Link.{Link, absent, linked, lost, loss_text}
+use Rattle.dc_script.specs.Link.{Link, absent, linked, lost, link_by, loss_text}
 use Rattle.dc_script.specs.declared.port.Port.{Port}
 
 -- ---- its late answers
@@ -159,3 +155,11 @@ Comes meters port budget late link left talked wrote (Err Write) turns =
 Comes meters port budget late link left talked wrote (Err NoMemory) turns =
     (text : List ℕ) × (exchanges : List Exchange)
     × Starves port budget link left turns exchanges text × talked exchanges × wrote text
+
+-- A search over this bus, by how its ghosts tell of it before and after.
+abbrev pub ComesOver : {B : Type 0} → (B → Option (List Identity)) → (B → Bool) → (B → ℕ) → Port → ℕ
+    → B → B → (List Exchange → Type 0) → (List ℕ → Type 0) → Result (Unit {0}) Halt → List Turn
+    → Type 0
+ComesOver meters lost_is late port budget old new talked wrote result turns =
+    Comes (meters old) port budget (late_by port.is_gateway (late old) (late new))
+    (link_by (lost_is old)) (link_by (lost_is new)) talked wrote result turns

@@ -1,9 +1,6 @@
 -- A script that ended because a search ran out of memory (this product).
 use Rattle.std.specs.Prelude.{◌≡◌, ℕ, List, [], ◌∷◌, ◌++◌, Option}
 use Rattle.dc_disk.specs.declared.device.Disk.{Ghosts}
-use Rattle.dc_change.specs.State.{State}
-use Rattle.dc_concentrator.specs.Images.{Machine}
-use Rattle.dc_concentrator.specs.Transcript.{Turn}
 use Rattle.dc_script.specs.ImageRun.{ImageWent}
 use Rattle.dc_ending.specs.declared.fault.ProgramFault.{ProgramFault}
 use Rattle.dc_ending.specs.declared.fault.ProgramFault.TheVariants.{NoMemory}
@@ -14,7 +11,7 @@ use Rattle.dc_script.specs.ScriptLine.{LineSeen, search, IsLineOf}
 use Rattle.dc_bus.specs.Bus.{Exchange}
 use Rattle.dc_script.specs.Search.{Starves}
 use Rattle.dc_script.specs.Traffic.{Traffic}
-use Rattle.dc_concentrator.specs.Went.{Went}
+use Rattle.dc_script.specs.Run.{Run, IsRunOf, run_from}
 
 -- the line is a search over a line with a bus, of which this was done
 pub record SearchStarves (asked : LineSeen) (links : List LineLink) (deed : Deed) : Type 0 where
@@ -32,10 +29,9 @@ StarvesAt links (line ∷ rest) starving deed =
 
 -- The lines before it are done, what was written is their text and what it told, and what went over the buses their
 -- traffic and its own.
-pub record ScriptStarved {D : Type 0} (g : Ghosts D) (origin : D) (budget : ℕ) (state : State)
-    (before : List Turn)
-    (links : List LineLink) (lines : List (List ℕ)) (wrote : List ℕ → Type 0)
-    (carries : List Traffic → Type 0) (first new : Machine D) : Type 0 where
+pub record ScriptStarved {D : Type 0} (g : Ghosts D) (run : Run D) (links : List LineLink)
+    (lines : List (List ℕ)) (wrote : List ℕ → Type 0) (carries : List Traffic → Type 0)
+    : Type 0 where
   pub asked : List LineSeen
   pub rest : List (List ℕ)
   pub are_read : AskFor lines asked rest
@@ -44,19 +40,18 @@ pub record ScriptStarved {D : Type 0} (g : Ghosts D) (origin : D) (budget : ℕ)
   pub starving : LineSeen
   pub last : Deed
   pub starves : StarvesAt (links_after links deeds) rest starving last
-  pub went : Went g origin budget state before (deeds_turns deeds ++ last.turns) first new
+  pub went : IsRunOf g run (deeds_turns deeds ++ last.turns)
   pub text : wrote (deeds_text deeds ++ last.text)
   pub carried : carries (traffic_of asked deeds
       ++ record { asked = starving; exchanges = last.exchanges } ∷ [])
 
 -- one line, with what it wrote
-pub record LineStarved {D : Type 0} (g : Ghosts D) (origin : D) (budget : ℕ)
-    (state : State) (before : List Turn) (asked : LineSeen) (links : List LineLink)
-    (wrote : List ℕ → Type 0) (talked : List Exchange → Type 0)
-    (first new : Machine D) : Type 0 where
+pub record LineStarved {D : Type 0} (g : Ghosts D) (run : Run D) (asked : LineSeen)
+    (links : List LineLink) (wrote : List ℕ → Type 0) (talked : List Exchange → Type 0)
+    : Type 0 where
   pub last : Deed
   pub starves : SearchStarves asked links last
-  pub went : Went g origin budget state before last.turns first new
+  pub went : IsRunOf g run last.turns
   pub text : wrote last.text
   pub over : talked last.exchanges
 
@@ -65,8 +60,7 @@ abbrev pub ImageStarved : {D : Type 0} → Ghosts D → List LineLink → Option
     → (List ℕ → Type 0) → (List Traffic → Type 0) → D → D → Type 0
 ImageStarved g links left wrote carries =
     ImageWent g left (λ lines state first last.
-    ScriptStarved g first.store.disk first.house.budget state [] links lines wrote carries first
-    last)
+    ScriptStarved g (run_from state first last) links lines wrote carries)
 
 -- a search ran out of memory, on a line that has a bus
 abbrev pub IsOfSearch : List LineLink → ProgramFault → Type 0

@@ -35,11 +35,11 @@ GoesOver lost does (Some slot) new = IsLeftBy lost (does slot.is_gateway) slot n
 
 -- A POLL of a line: its bus settles, and then these exchanges are all that happens to it.
 abbrev pub PollsOver : {B : Type 0} → (B → Bool) → (B → List ℕ → List ℕ → B → Type 0)
-    → (B → B → Type 0) → (B → Bool) → ℕ → List Exchange → Option (Slot B) → Option (Slot B) → Type 0
-PollsOver lost asks settles ready line exchanges =
+    → (B → B → Type 0) → (B → Bool) → ℕ → Option (Slot B) → Option (Slot B) → List Exchange → Type 0
+PollsOver lost asks settles ready line old new exchanges =
     GoesOver lost (λ is_gateway before after.
     IsPolled settles ready asks (record { line = line; is_gateway = is_gateway }) before
-    exchanges after)
+    exchanges after) old new
 
 -- Nothing happened to a bus; or it settled, and then a search took these exchanges, and dropped others
 -- while an answer may have been under way.
@@ -51,9 +51,10 @@ IsSearchedFor asks settles ready before exchanges after =
 
 -- A SEARCH of a line: a refused one does nothing to its bus.
 abbrev pub SearchesOver : {B : Type 0} → (B → Bool) → (B → List ℕ → List ℕ → B → Type 0)
-    → (B → B → Type 0) → (B → Bool) → List Exchange → Option (Slot B) → Option (Slot B) → Type 0
-SearchesOver lost asks settles ready exchanges =
-    GoesOver lost (λ is_gateway before after. IsSearchedFor asks settles ready before exchanges after)
+    → (B → B → Type 0) → (B → Bool) → Option (Slot B) → Option (Slot B) → List Exchange → Type 0
+SearchesOver lost asks settles ready old new exchanges =
+    GoesOver lost (λ is_gateway before after.
+    IsSearchedFor asks settles ready before exchanges after) old new
 
 -- the line that is named goes on like that, and any other stays as it is
 abbrev pub OnNamed : {B : Type 0} → (Option (Slot B) → Option (Slot B) → Type 0) → ℕ → ℕ
@@ -72,9 +73,11 @@ Carries lost asks settles ready line (hear named answer) exchanges old new = new
 Carries lost asks settles ready line commit exchanges old new = new ≡ old
 Carries lost asks settles ready line (office text) exchanges old new = new ≡ old
 Carries lost asks settles ready line (poll named meter) exchanges old new =
-    OnNamed (PollsOver lost asks settles ready named exchanges) named line old new
+    OnNamed (λ before after. PollsOver lost asks settles ready named before after exchanges)
+    named line old new
 Carries lost asks settles ready line (search budget named) exchanges old new =
-    OnNamed (SearchesOver lost asks settles ready exchanges) named line old new
+    OnNamed (λ before after. SearchesOver lost asks settles ready before after exchanges)
+    named line old new
 
 -- and some lines of a script, one after the other
 abbrev pub CarriesAll : {B : Type 0} → (B → Bool) → (B → List ℕ → List ℕ → B → Type 0)

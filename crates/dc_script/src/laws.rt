@@ -1,6 +1,6 @@
 //! Theorems about the definitions of scripts.
 
-ghost use Rattle.std.specs.Prelude.{◌≡◌, ℕ, Bool, List, [], Option};
+ghost use Rattle.std.specs.Prelude.{◌≡◌, ℕ, Bool, List, Option};
 ghost use Rattle.dc_change.specs.declared.change.Change.{Change};
 ghost use Rattle.dc_change.specs.State.{State};
 ghost use Rattle.dc_concentrator.specs.Headline.{IsOpened};
@@ -9,7 +9,7 @@ ghost use Rattle.dc_concentrator.specs.Transcript.{Turn};
 ghost use Rattle.dc_script.specs.Fold.{IsFolded, IsReadAs};
 ghost use Rattle.dc_script.specs.ImageRun.{IsOneLife};
 ghost use Rattle.dc_script.specs.ScriptLine.{LineSeen, IsLineOf};
-ghost use Rattle.dc_concentrator.specs.Went.{Went};
+ghost use Rattle.dc_script.specs.Run.{IsRunOf, run_from};
 
 use dc_change::a_line_has_one_change;
 use dc_disk::Disk;
@@ -25,8 +25,8 @@ pub fn a_script_line_asks_for_one_thing()
 /// it, the disk was stopped in the sense of the headline (the clause `the_headline` of `Concentrator::open`).
 pub fn a_run_is_one_life<D: Disk + Drop>()
     ensures { (state : State) (turns : List Turn) (first last : Machine D)
-        → IsOpened D.Disk state first → D.keeps first.store.disk → Went D.Disk first.store.disk
-        first.house.budget state [] turns first last → IsOneLife D.Disk state turns last }
+        → IsOpened D.Disk state first → D.keeps first.store.disk
+        → IsRunOf D.Disk (run_from state first last) turns → IsOneLife D.Disk state turns last }
 {}
 
 /// A line is read one way by `fold`, so an input has one text.

@@ -5,15 +5,13 @@ ghost use Rattle.dc_address.specs.declared.identity.Identity.{Identity as Meter}
 ghost use Rattle.dc_io.specs.Failures.{HasRisen};
 ghost use Rattle.dc_concentrator.specs.Step.{longest_request};
 ghost use Rattle.dc_bus.specs.Limits.{most_answer};
-ghost use Rattle.dc_bus.specs.Bus.{AreExchanged};
-ghost use Rattle.dc_io.specs.Written.{PutsInto, Wrote};
+ghost use Rattle.dc_io.specs.Written.{Wrote};
 ghost use Rattle.dc_script.specs.Link.{Link, link_by, loss_text, IsHeardOver};
-ghost use Rattle.dc_script.specs.Poll.{IsEnd, IsPolled, to_start, to_ask, to_send, to_hear};
+ghost use Rattle.dc_script.specs.Poll.{IsPolled, to_start, to_ask, to_send, to_hear};
 ghost use Rattle.dc_script.specs.Poll.{to_commit, to_make_room, to_hear_again, behind_heard};
-ghost use Rattle.dc_script.specs.Poll.{happened_exchanges};
-ghost use Rattle.dc_script.specs.Way.{FailsInLast, IsRound, Way};
-ghost use Rattle.dc_concentrator.specs.Went.{BehindAnyRun};
+ghost use Rattle.dc_script.specs.Way.{phase_at, Polled, PollEnds, RoundEnds, WentOver};
 ghost use Rattle.dc_script.specs.declared.port.Port.{Port};
+ghost use Rattle.dc_script.specs.Run.{AnyRun};
 
 use crate::port::{Port, put_lost};
 use crate::told::{told_ask, told_commit, told_hear, told_start};
@@ -40,24 +38,17 @@ pub fn poll<D: Disk + Drop, A: Allocator + Copy, B: ScriptBus, W: Sink>(
     moment: Moment,
     out: &mut W,
 ) -> Result<(), IoFault>
-    ensures went { BehindAnyRun D.Disk concentrator.old (λ origin state before.
-        Way D.Disk origin concentrator.old.house.budget state before port moment.seconds meter.now
-        (record { due = to_start; link = link_by (B.lost bus.old) })
-        (λ happened last. OnOk result (IsEnd happened last.due
-        × (last.link ≡ link_by (B.lost bus.new)))
-        × OnErr result (FailsInLast W.Sink port out.old out.new happened)
-        × IsPolled B.settles B.ready B.asks port bus.old (happened_exchanges happened) bus.new)
-        (λ text. OnOk result (PutsInto W.Sink out.old out.new text)) concentrator.old
-        concentrator.new) }
+    ensures went { AnyRun D.Disk concentrator.old concentrator.new (λ run.
+        Polled D.Disk run port moment.seconds meter.now (phase_at to_start (B.lost bus.old))
+        W.Sink out.old out.new result (PollEnds result (link_by (B.lost bus.new))) (λ exchanges.
+        IsPolled B.settles B.ready B.asks port bus.old exchanges bus.new)) }
     ensures fault { OnErr result (HasRisen (W.put_failures out.old) (W.put_failures out.new)) }
     ensures well { OnOk result (W.put_failures out.new ≡ W.put_failures out.old) }
     ensures budget { concentrator.new.house.budget ≡ concentrator.old.house.budget }
     ensures untouched { B.lost bus.old ≡ true → bus.new ≡ bus.old }
 {
-    match settle_bus(port, bus, out) {
-        Ok(()) => start_and_read(port, concentrator, bus, meter, moment, out),
-        Err(fault) => Err(fault),
-    }
+    settle_bus(port, bus, out)?;
+    start_and_read(port, concentrator, bus, meter, moment, out)
 }
 
 // Blocks mark the end of a gateway's answer, so none is under way. If another bus is lost, that is
@@ -93,26 +84,19 @@ fn start_and_read<D: Disk + Drop, A: Allocator + Copy, B: ScriptBus, W: Sink>(
     moment: Moment,
     out: &mut W,
 ) -> Result<(), IoFault>
-    ensures went { BehindAnyRun D.Disk concentrator.old (λ origin state before.
-        Way D.Disk origin concentrator.old.house.budget state before port moment.seconds meter.now
-        (record { due = to_start; link = link_by (B.lost bus.old) })
-        (λ happened last. OnOk result (IsEnd happened last.due
-        × (last.link ≡ link_by (B.lost bus.new)))
-        × OnErr result (FailsInLast W.Sink port out.old out.new happened)
-        × AreExchanged B.asks bus.old (happened_exchanges happened) bus.new)
-        (λ text. OnOk result (PutsInto W.Sink out.old out.new text)) concentrator.old
-        concentrator.new) }
+    ensures went { AnyRun D.Disk concentrator.old concentrator.new (λ run.
+        Polled D.Disk run port moment.seconds meter.now (phase_at to_start (B.lost bus.old))
+        W.Sink out.old out.new result (PollEnds result (link_by (B.lost bus.new)))
+        (WentOver B.asks bus.old bus.new)) }
     ensures fault { OnErr result (HasRisen (W.put_failures out.old) (W.put_failures out.new)) }
     ensures well { OnOk result (W.put_failures out.new ≡ W.put_failures out.old) }
     ensures budget { concentrator.new.house.budget ≡ concentrator.old.house.budget }
     ensures untouched { B.lost bus.old ≡ true → bus.new ≡ bus.old }
 {
-    match told_start(concentrator, port.line, meter, out) {
-        Ok(started) => match started {
-            Ok(()) => read_parts(port, concentrator, bus, moment, out),
-            Err(_) => Ok(()),
-        },
-        Err(fault) => Err(fault),
+    let started = told_start(concentrator, port.line, meter, out)?;
+    match started {
+        Ok(()) => read_parts(port, concentrator, bus, moment, out),
+        Err(_) => Ok(()),
     }
 }
 
@@ -124,28 +108,19 @@ fn read_parts<D: Disk + Drop, A: Allocator + Copy, B: ScriptBus, W: Sink>(
     moment: Moment,
     out: &mut W,
 ) -> Result<(), IoFault>
-    ensures went { (meter : Meter) → BehindAnyRun D.Disk concentrator.old (λ origin state before.
-        Way D.Disk origin concentrator.old.house.budget state before port moment.seconds meter
-        (record { due = to_ask; link = link_by (B.lost bus.old) })
-        (λ happened last. OnOk result (IsEnd happened last.due
-        × (last.link ≡ link_by (B.lost bus.new)))
-        × OnErr result (FailsInLast W.Sink port out.old out.new happened)
-        × AreExchanged B.asks bus.old (happened_exchanges happened) bus.new)
-        (λ text. OnOk result (PutsInto W.Sink out.old out.new text)) concentrator.old
-        concentrator.new) }
+    ensures went { (meter : Meter) → AnyRun D.Disk concentrator.old concentrator.new (λ run.
+        Polled D.Disk run port moment.seconds meter (phase_at to_ask (B.lost bus.old)) W.Sink
+        out.old out.new result (PollEnds result (link_by (B.lost bus.new)))
+        (WentOver B.asks bus.old bus.new)) }
     ensures fault { OnErr result (HasRisen (W.put_failures out.old) (W.put_failures out.new)) }
     ensures well { OnOk result (W.put_failures out.new ≡ W.put_failures out.old) }
     ensures budget { concentrator.new.house.budget ≡ concentrator.old.house.budget }
     ensures untouched { B.lost bus.old ≡ true → bus.new ≡ bus.old }
 {
     'rounds: for _ in 0..MOST_ROUNDS {
-        match ask_and_hear(port, concentrator, bus, moment, out) {
-            Ok(more) => {
-                if !more {
-                    return Ok(());
-                }
-            }
-            Err(fault) => return Err(fault),
+        let more = ask_and_hear(port, concentrator, bus, moment, out)?;
+        if !more {
+            return Ok(());
         }
     }
     Ok(())
@@ -160,26 +135,19 @@ fn ask_and_hear<D: Disk + Drop, A: Allocator + Copy, B: ScriptBus, W: Sink>(
     moment: Moment,
     out: &mut W,
 ) -> Result<bool, IoFault>
-    ensures went { (meter : Meter) → BehindAnyRun D.Disk concentrator.old (λ origin state before.
-        Way D.Disk origin concentrator.old.house.budget state before port moment.seconds meter
-        (record { due = to_ask; link = link_by (B.lost bus.old) })
-        (λ happened last. IfOk result (λ more.
-        IsRound more (link_by (B.lost bus.new)) 1 happened last)
-        × OnErr result (FailsInLast W.Sink port out.old out.new happened)
-        × AreExchanged B.asks bus.old (happened_exchanges happened) bus.new)
-        (λ text. OnOk result (PutsInto W.Sink out.old out.new text)) concentrator.old
-        concentrator.new) }
+    ensures went { (meter : Meter) → AnyRun D.Disk concentrator.old concentrator.new (λ run.
+        Polled D.Disk run port moment.seconds meter (phase_at to_ask (B.lost bus.old)) W.Sink
+        out.old out.new result (RoundEnds result (link_by (B.lost bus.new)) 1)
+        (WentOver B.asks bus.old bus.new)) }
     ensures fault { OnErr result (HasRisen (W.put_failures out.old) (W.put_failures out.new)) }
     ensures well { OnOk result (W.put_failures out.new ≡ W.put_failures out.old) }
     ensures budget { concentrator.new.house.budget ≡ concentrator.old.house.budget }
     ensures untouched { B.lost bus.old ≡ true → bus.new ≡ bus.old }
 {
-    match told_ask(concentrator, port.line, out) {
-        Ok(asked) => match asked {
-            Some(request) => exchange(port, concentrator, bus, &request, moment, out),
-            None => Ok(false),
-        },
-        Err(fault) => Err(fault),
+    let asked = told_ask(concentrator, port.line, out)?;
+    match asked {
+        Some(request) => exchange(port, concentrator, bus, &request, moment, out),
+        None => Ok(false),
     }
 }
 
@@ -193,24 +161,17 @@ fn exchange<D: Disk + Drop, A: Allocator + Copy, B: ScriptBus, W: Sink>(
     out: &mut W,
 ) -> Result<bool, IoFault>
     requires { length request.now ≤ longest_request }
-    ensures went { (meter : Meter) → BehindAnyRun D.Disk concentrator.old (λ origin state before.
-        Way D.Disk origin concentrator.old.house.budget state before port moment.seconds meter
-        (record { due = to_send request.now; link = link_by (B.lost bus.old) })
-        (λ happened last. IfOk result (λ more.
-        IsRound more (link_by (B.lost bus.new)) 0 happened last)
-        × OnErr result (FailsInLast W.Sink port out.old out.new happened)
-        × AreExchanged B.asks bus.old (happened_exchanges happened) bus.new)
-        (λ text. OnOk result (PutsInto W.Sink out.old out.new text)) concentrator.old
-        concentrator.new) }
+    ensures went { (meter : Meter) → AnyRun D.Disk concentrator.old concentrator.new (λ run.
+        Polled D.Disk run port moment.seconds meter
+        (phase_at (to_send request.now) (B.lost bus.old)) W.Sink out.old out.new result
+        (RoundEnds result (link_by (B.lost bus.new)) 0) (WentOver B.asks bus.old bus.new)) }
     ensures fault { OnErr result (HasRisen (W.put_failures out.old) (W.put_failures out.new)) }
     ensures well { OnOk result (W.put_failures out.new ≡ W.put_failures out.old) }
     ensures budget { concentrator.new.house.budget ≡ concentrator.old.house.budget }
     ensures untouched { B.lost bus.old ≡ true → bus.new ≡ bus.old }
 {
-    match ask_bus(port, bus, request, out) {
-        Ok(answer) => hear(port, concentrator, moment, answer.as_slice(), out),
-        Err(fault) => Err(fault),
-    }
+    let answer = ask_bus(port, bus, request, out)?;
+    hear(port, concentrator, moment, answer.as_slice(), out)
 }
 
 // Sends the request, and returns the bus's answer. If the bus is lost, that is printed.
@@ -237,10 +198,8 @@ fn ask_bus<B: ScriptBus, W: Sink>(
     if was || !bus.is_lost() {
         return Ok(answer);
     }
-    match put_lost(port, out) {
-        Ok(()) => Ok(answer),
-        Err(fault) => Err(fault),
-    }
+    put_lost(port, out)?;
+    Ok(answer)
 }
 
 // Takes an answer. If the maximum number of changes is pending, they are committed, and the answer
@@ -252,28 +211,22 @@ fn hear<D: Disk + Drop, A: Allocator + Copy, W: Sink>(
     bytes: &[u8],
     out: &mut W,
 ) -> Result<bool, IoFault>
-    ensures went { (meter : Meter) (link : Link)
-        → BehindAnyRun D.Disk concentrator.old (λ origin state before.
-        Way D.Disk origin concentrator.old.house.budget state before port moment.seconds meter
-        (record { due = to_hear bytes.now; link = link })
-        (λ happened last. IfOk result (λ more. IsRound more link 0 happened last)
-        × OnErr result (FailsInLast W.Sink port out.old out.new happened)
-        × (happened_exchanges happened ≡ []))
-        (λ text. OnOk result (PutsInto W.Sink out.old out.new text)) concentrator.old
-        concentrator.new) }
+    ensures went { (meter : Meter) (link : Link) → AnyRun D.Disk concentrator.old concentrator.new
+        (λ run.
+        Polled D.Disk run port moment.seconds meter
+        (record { due = to_hear bytes.now; link = link }) W.Sink out.old out.new result
+        (RoundEnds result link 0) (λ exchanges. exchanges ≡ [])) }
     ensures fault { OnErr result (HasRisen (W.put_failures out.old) (W.put_failures out.new)) }
     ensures well { OnOk result (W.put_failures out.new ≡ W.put_failures out.old) }
     ensures budget { concentrator.new.house.budget ≡ concentrator.old.house.budget }
 {
-    match told_hear(concentrator, port.line, moment, bytes, out) {
-        Ok(answer) => match answer {
-            Ok(heard) => after_heard(concentrator, Ok(heard), out),
-            Err(fault) => match fault {
-                HearFault::PendingFull => hear_again(port, concentrator, moment, bytes, out),
-                _ => Ok(false),
-            },
+    let answer = told_hear(concentrator, port.line, moment, bytes, out)?;
+    match answer {
+        Ok(heard) => after_heard(concentrator, Ok(heard), out),
+        Err(fault) => match fault {
+            HearFault::PendingFull => hear_again(port, concentrator, moment, bytes, out),
+            _ => Ok(false),
         },
-        Err(fault) => Err(fault),
     }
 }
 
@@ -285,25 +238,19 @@ fn hear_again<D: Disk + Drop, A: Allocator + Copy, W: Sink>(
     bytes: &[u8],
     out: &mut W,
 ) -> Result<bool, IoFault>
-    ensures went { (meter : Meter) (link : Link)
-        → BehindAnyRun D.Disk concentrator.old (λ origin state before.
-        Way D.Disk origin concentrator.old.house.budget state before port moment.seconds meter
-        (record { due = to_make_room bytes.now; link = link })
-        (λ happened last. IfOk result (λ more. IsRound more link 0 happened last)
-        × OnErr result (FailsInLast W.Sink port out.old out.new happened)
-        × (happened_exchanges happened ≡ []))
-        (λ text. OnOk result (PutsInto W.Sink out.old out.new text)) concentrator.old
-        concentrator.new) }
+    ensures went { (meter : Meter) (link : Link) → AnyRun D.Disk concentrator.old concentrator.new
+        (λ run.
+        Polled D.Disk run port moment.seconds meter
+        (record { due = to_make_room bytes.now; link = link }) W.Sink out.old out.new result
+        (RoundEnds result link 0) (λ exchanges. exchanges ≡ [])) }
     ensures fault { OnErr result (HasRisen (W.put_failures out.old) (W.put_failures out.new)) }
     ensures well { OnOk result (W.put_failures out.new ≡ W.put_failures out.old) }
     ensures budget { concentrator.new.house.budget ≡ concentrator.old.house.budget }
 {
-    match told_commit(concentrator, out) {
-        Ok(committed) => match committed {
-            Ok(_) => hear_once_more(port, concentrator, moment, bytes, out),
-            Err(_) => Ok(false),
-        },
-        Err(fault) => Err(fault),
+    let committed = told_commit(concentrator, out)?;
+    match committed {
+        Ok(_) => hear_once_more(port, concentrator, moment, bytes, out),
+        Err(_) => Ok(false),
     }
 }
 
@@ -315,23 +262,17 @@ fn hear_once_more<D: Disk + Drop, A: Allocator + Copy, W: Sink>(
     bytes: &[u8],
     out: &mut W,
 ) -> Result<bool, IoFault>
-    ensures went { (meter : Meter) (link : Link)
-        → BehindAnyRun D.Disk concentrator.old (λ origin state before.
-        Way D.Disk origin concentrator.old.house.budget state before port moment.seconds meter
-        (record { due = to_hear_again bytes.now; link = link })
-        (λ happened last. IfOk result (λ more. IsRound more link 0 happened last)
-        × OnErr result (FailsInLast W.Sink port out.old out.new happened)
-        × (happened_exchanges happened ≡ []))
-        (λ text. OnOk result (PutsInto W.Sink out.old out.new text)) concentrator.old
-        concentrator.new) }
+    ensures went { (meter : Meter) (link : Link) → AnyRun D.Disk concentrator.old concentrator.new
+        (λ run.
+        Polled D.Disk run port moment.seconds meter
+        (record { due = to_hear_again bytes.now; link = link }) W.Sink out.old out.new result
+        (RoundEnds result link 0) (λ exchanges. exchanges ≡ [])) }
     ensures fault { OnErr result (HasRisen (W.put_failures out.old) (W.put_failures out.new)) }
     ensures well { OnOk result (W.put_failures out.new ≡ W.put_failures out.old) }
     ensures budget { concentrator.new.house.budget ≡ concentrator.old.house.budget }
 {
-    match told_hear(concentrator, port.line, moment, bytes, out) {
-        Ok(answer) => after_heard(concentrator, answer, out),
-        Err(fault) => Err(fault),
-    }
+    let answer = told_hear(concentrator, port.line, moment, bytes, out)?;
+    after_heard(concentrator, answer, out)
 }
 
 // Commits a part that was accepted. Returns whether the poll goes on.
@@ -340,15 +281,10 @@ fn after_heard<D: Disk + Drop, A: Allocator + Copy, W: Sink>(
     answer: Result<LineHeard, HearFault>,
     out: &mut W,
 ) -> Result<bool, IoFault>
-    ensures went { (port : Port) (moment : ℕ) (meter : Meter) (link : Link)
-        → BehindAnyRun D.Disk concentrator.old (λ origin state before.
-        Way D.Disk origin concentrator.old.house.budget state before port moment meter
-        (record { due = behind_heard answer; link = link })
-        (λ happened last. IfOk result (λ more. IsRound more link 0 happened last)
-        × OnErr result (FailsInLast W.Sink port out.old out.new happened)
-        × (happened_exchanges happened ≡ []))
-        (λ text. OnOk result (PutsInto W.Sink out.old out.new text)) concentrator.old
-        concentrator.new) }
+    ensures went { (port : Port) (moment : ℕ) (meter : Meter) (link : Link) → AnyRun D.Disk
+        concentrator.old concentrator.new (λ run.
+        Polled D.Disk run port moment meter (record { due = behind_heard answer; link = link })
+        W.Sink out.old out.new result (RoundEnds result link 0) (λ exchanges. exchanges ≡ [])) }
     ensures fault { OnErr result (HasRisen (W.put_failures out.old) (W.put_failures out.new)) }
     ensures well { OnOk result (W.put_failures out.new ≡ W.put_failures out.old) }
     ensures budget { concentrator.new.house.budget ≡ concentrator.old.house.budget }
@@ -368,21 +304,14 @@ fn commit_part<D: Disk + Drop, A: Allocator + Copy, W: Sink>(
     concentrator: &mut Concentrator<D, A>,
     out: &mut W,
 ) -> Result<bool, IoFault>
-    ensures went { (port : Port) (moment : ℕ) (meter : Meter) (link : Link)
-        → BehindAnyRun D.Disk concentrator.old (λ origin state before.
-        Way D.Disk origin concentrator.old.house.budget state before port moment meter
-        (record { due = to_commit; link = link })
-        (λ happened last. IfOk result (λ more. IsRound more link 0 happened last)
-        × OnErr result (FailsInLast W.Sink port out.old out.new happened)
-        × (happened_exchanges happened ≡ []))
-        (λ text. OnOk result (PutsInto W.Sink out.old out.new text)) concentrator.old
-        concentrator.new) }
+    ensures went { (port : Port) (moment : ℕ) (meter : Meter) (link : Link) → AnyRun D.Disk
+        concentrator.old concentrator.new (λ run.
+        Polled D.Disk run port moment meter (record { due = to_commit; link = link }) W.Sink
+        out.old out.new result (RoundEnds result link 0) (λ exchanges. exchanges ≡ [])) }
     ensures fault { OnErr result (HasRisen (W.put_failures out.old) (W.put_failures out.new)) }
     ensures well { OnOk result (W.put_failures out.new ≡ W.put_failures out.old) }
     ensures budget { concentrator.new.house.budget ≡ concentrator.old.house.budget }
 {
-    match told_commit(concentrator, out) {
-        Ok(answer) => Ok(answer.is_ok()),
-        Err(fault) => Err(fault),
-    }
+    let answer = told_commit(concentrator, out)?;
+    Ok(answer.is_ok())
 }

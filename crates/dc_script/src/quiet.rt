@@ -2,7 +2,7 @@
 
 ghost use Rattle.std.specs.Prelude.{◌≡◌};
 ghost use Rattle.dc_concentrator.specs.Event.{asks, commits, asked, committed};
-ghost use Rattle.dc_concentrator.specs.Went.{BehindAnyRun, TurnWent};
+ghost use Rattle.dc_script.specs.Run.{AnyRun, OneTurn};
 
 use dc_concentrator::{CommitFault, Concentrator};
 use dc_disk::Disk;
@@ -13,9 +13,8 @@ use std::alloc::Allocator;
 pub fn quiet_commit<D: Disk + Drop, A: Allocator + Copy>(
     concentrator: &mut Concentrator<D, A>,
 ) -> Result<usize, CommitFault>
-    ensures went { BehindAnyRun D.Disk concentrator.old (λ origin state before.
-        TurnWent D.Disk origin concentrator.old.house.budget state before commits
-        (λ answer. answer ≡ committed result) concentrator.old concentrator.new) }
+    ensures went { AnyRun D.Disk concentrator.old concentrator.new (λ run.
+        OneTurn D.Disk run commits (λ answer. answer ≡ committed result)) }
     ensures budget { concentrator.new.house.budget ≡ concentrator.old.house.budget }
 {
     concentrator.commit()
@@ -26,9 +25,8 @@ pub fn quiet_ask<D: Disk + Drop, A: Allocator + Copy>(
     concentrator: &Concentrator<D, A>,
     line: u8,
 ) -> Option<FrameBuf>
-    ensures went { BehindAnyRun D.Disk concentrator.now (λ origin state before.
-        TurnWent D.Disk origin concentrator.now.house.budget state before (asks line)
-        (λ answer. answer ≡ asked result) concentrator.now concentrator.now) }
+    ensures went { AnyRun D.Disk concentrator.now concentrator.now (λ run.
+        OneTurn D.Disk run (asks line) (λ answer. answer ≡ asked result)) }
 {
     concentrator.ask(line)
 }

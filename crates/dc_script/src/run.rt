@@ -3,18 +3,15 @@
 ghost use Rattle.std.specs.Prelude.{◌≡◌, ◌≢◌, ◌∷◌, [], ◌⊎◌, ◌≤◌, ◌<◌, ◌*◌, length, vec_len, IfSome};
 ghost use Rattle.std.specs.Prelude.{IfOk, IfErr, MatchResult, OnOk, IsErrOf};
 ghost use Rattle.dc_io.specs.Failures.{HasRisen};
-ghost use Rattle.dc_log.specs.Halves.{half_of};
-ghost use Rattle.dc_pending.specs.Images.{IsRefused, EachStands, StandsForOne};
-ghost use Rattle.dc_log.specs.Refusal.{TellsOfImage};
-ghost use Rattle.dc_log.specs.declared.fault.OpenFault.TheVariants.{NotImage, Worn, Device};
+ghost use Rattle.dc_log.specs.Halves.{fewest_sectors};
+ghost use Rattle.dc_log.specs.declared.fault.OpenFault.TheVariants.{NotImage};
 ghost use Rattle.dc_io.specs.Stream.{IsAtEnd};
 ghost use Rattle.dc_io.specs.Written.{PutsInto};
 ghost use Rattle.dc_io.specs.Lines.{longest_input_line, most_input};
-ghost use Rattle.dc_disk.specs.Runs.{LeavesOnly};
 ghost use Rattle.dc_ending.specs.Fault.{IfOpen, IsOfReading};
 ghost use Rattle.dc_script.specs.Starved.{IsOfSearch};
-ghost use Rattle.dc_script.specs.ImageRun.{ImageRan, ImageCut};
-ghost use Rattle.dc_script.specs.Link.{link_at_first, links_of, only_gateway};
+ghost use Rattle.dc_script.specs.ImageRun.{ImageCut, ImageRan, IsUnopened, Stands};
+ghost use Rattle.dc_script.specs.Link.{gateway_links, link_at_first, links_of, only_gateway};
 ghost use Rattle.dc_script.specs.Starved.{ImageStarved};
 ghost use Rattle.dc_script.specs.Traffic.{AreCarried, OverGateway, gateway_slot};
 
@@ -74,41 +71,25 @@ pub fn run_script_over<
     // Where each image of the disk stands for some state: the run is that of the script's lines, of which exactly the
     // text is written, and the image is left as that run leaves it. Over the bus of each bus line go the exchanges of
     // the script's lines that name it, in their order, and nothing else; a lost bus is untouched.
-    ensures ran { (D.keeps disk → EachStands (half_of D.Disk disk) (D.choices disk))
-        → IfOk result.1 (λ faulty. ImageRan D.Disk (links_of B.lost lines.old)
-        (R.left reader.old) faulty
-        (PutsInto W.Sink writer.old writer.new)
-        (AreCarried B.lost B.asks B.settles B.ready lines.old lines.new) disk result.0) }
-    ensures cut { (D.keeps disk → EachStands (half_of D.Disk disk) (D.choices disk))
-        → IsErrOf result.1 ProgramFault.Write
-        → ImageCut D.Disk (links_of B.lost lines.old) (R.left reader.old)
-        (AreCarried B.lost B.asks B.settles B.ready lines.old lines.new) disk result.0 }
+    ensures ran { Stands D.Disk disk → IfOk result.1 (λ faulty.
+        ImageRan D.Disk (links_of B.lost lines.old) (R.left reader.old) faulty
+        (PutsInto W.Sink writer.old writer.new) (AreCarried B.lost B.asks B.settles B.ready
+        lines.old lines.new) disk result.0) }
+    ensures cut { Stands D.Disk disk → IsErrOf result.1 ProgramFault.Write → ImageCut D.Disk
+        (links_of B.lost lines.old) (R.left reader.old) (AreCarried B.lost B.asks B.settles
+        B.ready lines.old lines.new) disk result.0 }
     // If memory runs out before the image is opened, or in a search, the image and the text are
     // those of the run up to it.
-    ensures starved { (D.keeps disk → EachStands (half_of D.Disk disk) (D.choices disk))
-        → IsErrOf result.1 ProgramFault.NoMemory → ((result.0 ≡ disk) × (writer.new ≡ writer.old))
-        ⊎ ImageStarved D.Disk (links_of B.lost lines.old) (R.left reader.old)
-        (PutsInto W.Sink writer.old writer.new)
+    ensures starved { Stands D.Disk disk → IsErrOf result.1 ProgramFault.NoMemory
+        → ((result.0 ≡ disk) × (writer.new ≡ writer.old)) ⊎ ImageStarved D.Disk
+        (links_of B.lost lines.old) (R.left reader.old) (PutsInto W.Sink writer.old writer.new)
         (AreCarried B.lost B.asks B.settles B.ready lines.old lines.new) disk result.0 }
 
-    // A refusal is that of the store; an image that stands for a state is refused only for an
-    // exhausted counter.
-    ensures small { D.sectors disk < 131
-        → MatchResult result.1 (λ faulty. ⊥)
-        (λ fault. IfOpen fault (λ e. (e ≡ NotImage) × (result.0 ≡ disk))) }
-    ensures refused { D.keeps result.0 → 131 ≤ D.sectors disk
-        → IfErr result.1 (λ fault. IfOpen fault (λ e.
-        IsRefused (half_of D.Disk disk) (D.reads disk) e)) }
-    ensures premise { D.keeps result.0 → 131 ≤ D.sectors disk
-        → EachStands (half_of D.Disk disk) (D.choices disk)
-        → IfErr result.1 (λ fault. IfOpen fault (λ e. TellsOfImage e → e ≡ Worn)) }
-    ensures unwritten { IfErr result.1 (λ fault.
-        IfOpen fault (λ e. TellsOfImage e → D.reads result.0 ≡ D.reads disk)) }
-    ensures device { IfErr result.1 (λ fault.
-        IfOpen fault (λ e. e ≡ Device → HasRisen (D.failures disk) (D.failures result.0))) }
-    ensures any_moment { D.keeps result.0 → EachStands (half_of D.Disk disk) (D.choices disk)
-        → IfErr result.1 (λ fault. IfOpen fault (λ e. LeavesOnly D.Disk disk result.0
-        (StandsForOne (half_of D.Disk disk) (D.choices disk)))) }
+    // An image that isn't opened is refused as by the store, and nothing is lost of it.
+    ensures small { D.sectors disk < fewest_sectors → MatchResult result.1 (λ faulty. ⊥) (λ fault.
+        IfOpen fault (λ e. (e ≡ NotImage) × (result.0 ≡ disk))) }
+    ensures unopened { IfErr result.1 (λ fault.
+        IfOpen fault (IsUnopened D.Disk disk result.0)) }
 
     // Exactly the scripts over the limit are rejected for their length.
     ensures fits { OnOk result.1 (IfSome (R.left reader.old) (λ input. length input ≤ most_input)) }
@@ -184,40 +165,26 @@ pub fn run_script<
     // Where each image of the disk stands for some state: the run is that of the script's lines, of which exactly the
     // text is written, and the image is left as that run leaves it. Over the gateway go the exchanges of these lines
     // in their order, and nothing else until it is left.
-    ensures ran { (D.keeps disk → EachStands (half_of D.Disk disk) (D.choices disk))
-        → IfOk result.1 (λ faulty. OverGateway GR.Source GW.Sink gateway (λ carries.
-        ImageRan D.Disk (only_gateway (link_at_first gateway)) (R.left reader.old) faulty
+    ensures ran { Stands D.Disk disk → IfOk result.1 (λ faulty.
+        OverGateway GR.Source GW.Sink gateway (λ carries.
+        ImageRan D.Disk (gateway_links gateway) (R.left reader.old) faulty
         (PutsInto W.Sink writer.old writer.new) carries disk result.0)) }
-    ensures cut { (D.keeps disk → EachStands (half_of D.Disk disk) (D.choices disk))
-        → IsErrOf result.1 ProgramFault.Write → OverGateway GR.Source GW.Sink gateway (λ carries.
-        ImageCut D.Disk (only_gateway (link_at_first gateway)) (R.left reader.old) carries disk
-        result.0) }
+    ensures cut { Stands D.Disk disk → IsErrOf result.1 ProgramFault.Write → OverGateway GR.Source
+        GW.Sink gateway (λ carries.
+        ImageCut D.Disk (gateway_links gateway) (R.left reader.old) carries disk result.0) }
     // Memory is refused before the image is opened, or to a search: then what is left of the image and the text are
     // those of the run up to it.
-    ensures starved { (D.keeps disk → EachStands (half_of D.Disk disk) (D.choices disk))
-        → IsErrOf result.1 ProgramFault.NoMemory → ((result.0 ≡ disk) × (writer.new ≡ writer.old))
-        ⊎ OverGateway GR.Source GW.Sink gateway (λ carries.
-        ImageStarved D.Disk (only_gateway (link_at_first gateway)) (R.left reader.old)
+    ensures starved { Stands D.Disk disk → IsErrOf result.1 ProgramFault.NoMemory
+        → ((result.0 ≡ disk) × (writer.new ≡ writer.old)) ⊎ OverGateway GR.Source GW.Sink gateway
+        (λ carries.
+        ImageStarved D.Disk (gateway_links gateway) (R.left reader.old)
         (PutsInto W.Sink writer.old writer.new) carries disk result.0) }
 
-    // A refusal is that of the store; an image that stands for a state is refused only for an
-    // exhausted counter.
-    ensures small { D.sectors disk < 131
-        → MatchResult result.1 (λ faulty. ⊥)
-        (λ fault. IfOpen fault (λ e. (e ≡ NotImage) × (result.0 ≡ disk))) }
-    ensures refused { D.keeps result.0 → 131 ≤ D.sectors disk
-        → IfErr result.1 (λ fault. IfOpen fault (λ e.
-        IsRefused (half_of D.Disk disk) (D.reads disk) e)) }
-    ensures premise { D.keeps result.0 → 131 ≤ D.sectors disk
-        → EachStands (half_of D.Disk disk) (D.choices disk)
-        → IfErr result.1 (λ fault. IfOpen fault (λ e. TellsOfImage e → e ≡ Worn)) }
-    ensures unwritten { IfErr result.1 (λ fault.
-        IfOpen fault (λ e. TellsOfImage e → D.reads result.0 ≡ D.reads disk)) }
-    ensures device { IfErr result.1 (λ fault.
-        IfOpen fault (λ e. e ≡ Device → HasRisen (D.failures disk) (D.failures result.0))) }
-    ensures any_moment { D.keeps result.0 → EachStands (half_of D.Disk disk) (D.choices disk)
-        → IfErr result.1 (λ fault. IfOpen fault (λ e. LeavesOnly D.Disk disk result.0
-        (StandsForOne (half_of D.Disk disk) (D.choices disk)))) }
+    // An image that isn't opened is refused as by the store, and nothing is lost of it.
+    ensures small { D.sectors disk < fewest_sectors → MatchResult result.1 (λ faulty. ⊥) (λ fault.
+        IfOpen fault (λ e. (e ≡ NotImage) × (result.0 ≡ disk))) }
+    ensures unopened { IfErr result.1 (λ fault.
+        IfOpen fault (IsUnopened D.Disk disk result.0)) }
 
     // Exactly the scripts over the limit are rejected for their length.
     ensures fits { OnOk result.1 (IfSome (R.left reader.old) (λ input. length input ≤ most_input)) }
@@ -239,11 +206,10 @@ pub fn run_script<
 
     // What isn't read touches nothing, and after any fault but a failed write the writer is
     // unchanged, unless a search through a gateway ran out of memory.
-    ensures unread { IfErr result.1 (λ fault. IsOfReading fault → (result.0 ≡ disk)
-        ⊎ IsOfSearch (only_gateway (link_at_first gateway)) fault) }
-    ensures untouched { IfErr result.1 (λ fault.
-        fault ≢ ProgramFault.Write → (writer.new ≡ writer.old)
-        ⊎ IsOfSearch (only_gateway (link_at_first gateway)) fault) }
+    ensures unread { IfErr result.1 (λ fault. IsOfReading fault → (result.0 ≡ disk) ⊎ IsOfSearch
+        (gateway_links gateway) fault) }
+    ensures untouched { IfErr result.1 (λ fault. fault ≢ ProgramFault.Write
+        → (writer.new ≡ writer.old) ⊎ IsOfSearch (gateway_links gateway) fault) }
     ensures spared { IsErrOf result.1 ProgramFault.NoMemory
         → W.put_failures writer.new ≡ W.put_failures writer.old }
 {

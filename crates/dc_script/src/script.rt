@@ -1,6 +1,6 @@
 //! Executes the lines of a script on a concentrator.
 
-ghost use Rattle.std.specs.Prelude.{◌≡◌, ◌⊎◌, ◌≤◌, ◌<◌, ◌*◌, ◌++◌, ℕ, suc, List, codes, length};
+ghost use Rattle.std.specs.Prelude.{◌≡◌, ◌⊎◌, ◌≤◌, ◌<◌, ◌*◌, ◌++◌, ℕ, suc, codes, length};
 ghost use Rattle.std.specs.Prelude.{IfOk, IfSome, IfNone, OnOk, OnErr};
 ghost use Rattle.dc_io.specs.Failures.{HasRisen};
 ghost use Rattle.dc_concentrator.specs.Run.{event_of};
@@ -9,15 +9,14 @@ ghost use Rattle.dc_io.specs.Written.{PutsInto, Wrote};
 ghost use Rattle.dc_io.specs.Words.{number_word};
 ghost use Rattle.dc_io.specs.Lines.{lines_of, longest_input_line};
 ghost use Rattle.dc_script.specs.Halt.{IsCounted, OnNoMemory, OnWrite};
-ghost use Rattle.dc_script.specs.Link.{AreAbsent, LineLink, absent, line_in, line_of, links_of};
-ghost use Rattle.dc_script.specs.Link.{with_link};
-ghost use Rattle.dc_script.specs.Slots.{IsKept};
+ghost use Rattle.dc_script.specs.Link.{AreAbsent, absent, line_of, links_of};
+ghost use Rattle.dc_script.specs.Slots.{CutOver, IsKept, OnLine, RanOver, StarvedOver};
 ghost use Rattle.dc_script.specs.Script.{ScriptCut, ScriptRan, LineCut, LineRan, moment_behind};
 ghost use Rattle.dc_script.specs.Script.{no_gateway};
 ghost use Rattle.dc_script.specs.ScriptLine.{IsPlain, poll as polls, search as searches, seen};
 ghost use Rattle.dc_script.specs.Starved.{LineStarved, ScriptStarved};
-ghost use Rattle.dc_script.specs.Traffic.{AreCarried, IsCarried, PollsOver, SearchesOver};
-ghost use Rattle.dc_concentrator.specs.Went.{BehindAnyRun, TurnWent};
+ghost use Rattle.dc_script.specs.Traffic.{AreCarried, PollsOver, SearchesOver};
+ghost use Rattle.dc_script.specs.Run.{AnyRun, OneTurn};
 
 use crate::halt::{Halt, written};
 use crate::poll::poll;
@@ -44,21 +43,18 @@ pub fn run_lines<D: Disk + Drop, A: Allocator + Copy, B: ScriptBus + Drop, W: Si
     out: &mut W,
 ) -> Result<bool, Halt>
     requires { longest_input_line ≤ 2 * length bytes.old }
-    ensures ran { BehindAnyRun D.Disk concentrator.old (λ origin state before.
-        IfOk result (λ faulty. ScriptRan D.Disk origin concentrator.old.house.budget state before
-        (links_of B.lost slots.old) (lines_of input.now) faulty (PutsInto W.Sink out.old out.new)
-        (AreCarried B.lost B.asks B.settles B.ready slots.old slots.new) concentrator.old
-        concentrator.new)) }
-    ensures cut { BehindAnyRun D.Disk concentrator.old (λ origin state before.
-        OnWrite result (ScriptCut D.Disk origin concentrator.old.house.budget state before
-        (links_of B.lost slots.old) (lines_of input.now)
-        (AreCarried B.lost B.asks B.settles B.ready slots.old slots.new) concentrator.old
-        concentrator.new)) }
-    ensures starved { BehindAnyRun D.Disk concentrator.old (λ origin state before.
-        OnNoMemory result (ScriptStarved D.Disk origin concentrator.old.house.budget state before
-        (links_of B.lost slots.old) (lines_of input.now) (PutsInto W.Sink out.old out.new)
-        (AreCarried B.lost B.asks B.settles B.ready slots.old slots.new) concentrator.old
-        concentrator.new)) }
+    ensures ran { AnyRun D.Disk concentrator.old concentrator.new (λ run.
+        IfOk result (λ faulty.
+        ScriptRan D.Disk run (links_of B.lost slots.old) (lines_of input.now) faulty
+        (PutsInto W.Sink out.old out.new) (AreCarried B.lost B.asks B.settles B.ready slots.old
+        slots.new))) }
+    ensures cut { AnyRun D.Disk concentrator.old concentrator.new (λ run.
+        OnWrite result (ScriptCut D.Disk run (links_of B.lost slots.old) (lines_of input.now)
+        (AreCarried B.lost B.asks B.settles B.ready slots.old slots.new))) }
+    ensures starved { AnyRun D.Disk concentrator.old concentrator.new (λ run.
+        OnNoMemory result (ScriptStarved D.Disk run (links_of B.lost slots.old)
+        (lines_of input.now) (PutsInto W.Sink out.old out.new) (AreCarried B.lost B.asks B.settles
+        B.ready slots.old slots.new))) }
     // Memory is refused to a search alone, which needs a line that has a bus.
     ensures through { OnNoMemory result (¬ (AreAbsent (links_of B.lost slots.old))) }
     ensures counted { IsCounted result (W.put_failures out.old) (W.put_failures out.new) }
@@ -93,22 +89,15 @@ fn run_line<D: Disk + Drop, A: Allocator + Copy, B: ScriptBus + Drop, W: Sink>(
     moment: Moment,
     out: &mut W,
 ) -> Result<(), Halt>
-    ensures ran { BehindAnyRun D.Disk concentrator.old (λ origin state before.
-        OnOk result (LineRan D.Disk origin concentrator.old.house.budget state before moment.seconds
-        (seen asked.now) (links_of B.lost slots.old) (links_of B.lost slots.new)
-        (PutsInto W.Sink out.old out.new)
-        (IsCarried B.lost B.asks B.settles B.ready (seen asked.now) slots.old slots.new)
-        concentrator.old concentrator.new)) }
-    ensures cut { BehindAnyRun D.Disk concentrator.old (λ origin state before.
-        OnWrite result (LineCut D.Disk origin concentrator.old.house.budget state before
-        moment.seconds (seen asked.now) (links_of B.lost slots.old)
-        (IsCarried B.lost B.asks B.settles B.ready (seen asked.now) slots.old slots.new)
-        concentrator.old concentrator.new)) }
-    ensures starved { BehindAnyRun D.Disk concentrator.old (λ origin state before.
-        OnNoMemory result (LineStarved D.Disk origin concentrator.old.house.budget state before
-        (seen asked.now) (links_of B.lost slots.old) (PutsInto W.Sink out.old out.new)
-        (IsCarried B.lost B.asks B.settles B.ready (seen asked.now) slots.old slots.new)
-        concentrator.old concentrator.new)) }
+    ensures ran { AnyRun D.Disk concentrator.old concentrator.new (λ run.
+        OnOk result (RanOver D.Disk run moment.seconds (seen asked.now) B.lost B.asks B.settles
+        B.ready slots.old slots.new (PutsInto W.Sink out.old out.new))) }
+    ensures cut { AnyRun D.Disk concentrator.old concentrator.new (λ run.
+        OnWrite result (CutOver D.Disk run moment.seconds (seen asked.now) B.lost B.asks B.settles
+        B.ready slots.old slots.new)) }
+    ensures starved { AnyRun D.Disk concentrator.old concentrator.new (λ run.
+        OnNoMemory result (StarvedOver D.Disk run (seen asked.now) B.lost B.asks B.settles B.ready
+        slots.old slots.new (PutsInto W.Sink out.old out.new))) }
     ensures through { OnNoMemory result (¬ (AreAbsent (links_of B.lost slots.old))) }
     ensures absent { AreAbsent (links_of B.lost slots.old) → AreAbsent (links_of B.lost slots.new) }
     ensures counted { IsCounted result (W.put_failures out.old) (W.put_failures out.new) }
@@ -131,17 +120,12 @@ fn run_plain<D: Disk + Drop, A: Allocator + Copy, B: ScriptBus + Drop, W: Sink>(
     out: &mut W,
 ) -> Result<(), IoFault>
     requires { IsPlain (seen asked.now) }
-    ensures ran { BehindAnyRun D.Disk concentrator.old (λ origin state before.
-        OnOk result (LineRan D.Disk origin concentrator.old.house.budget state before moment.seconds
-        (seen asked.now) (links_of B.lost slots.old) (links_of B.lost slots.new)
-        (PutsInto W.Sink out.old out.new)
-        (IsCarried B.lost B.asks B.settles B.ready (seen asked.now) slots.old slots.new)
-        concentrator.old concentrator.new)) }
-    ensures cut { BehindAnyRun D.Disk concentrator.old (λ origin state before.
-        OnErr result (LineCut D.Disk origin concentrator.old.house.budget state before
-        moment.seconds (seen asked.now) (links_of B.lost slots.old)
-        (IsCarried B.lost B.asks B.settles B.ready (seen asked.now) slots.old slots.new)
-        concentrator.old concentrator.new)) }
+    ensures ran { AnyRun D.Disk concentrator.old concentrator.new (λ run.
+        OnOk result (RanOver D.Disk run moment.seconds (seen asked.now) B.lost B.asks B.settles
+        B.ready slots.old slots.new (PutsInto W.Sink out.old out.new))) }
+    ensures cut { AnyRun D.Disk concentrator.old concentrator.new (λ run.
+        OnErr result (CutOver D.Disk run moment.seconds (seen asked.now) B.lost B.asks B.settles
+        B.ready slots.old slots.new)) }
     ensures fault { OnErr result (HasRisen (W.put_failures out.old) (W.put_failures out.new)) }
     ensures well { OnOk result (W.put_failures out.new ≡ W.put_failures out.old) }
     ensures absent { AreAbsent (links_of B.lost slots.old) → AreAbsent (links_of B.lost slots.new) }
@@ -180,17 +164,12 @@ fn poll_line<D: Disk + Drop, A: Allocator + Copy, B: ScriptBus + Drop, W: Sink>(
     moment: Moment,
     out: &mut W,
 ) -> Result<(), IoFault>
-    ensures ran { BehindAnyRun D.Disk concentrator.old (λ origin state before.
-        OnOk result (LineRan D.Disk origin concentrator.old.house.budget state before moment.seconds
-        (polls line meter.now) (links_of B.lost slots.old) (links_of B.lost slots.new)
-        (PutsInto W.Sink out.old out.new)
-        (IsCarried B.lost B.asks B.settles B.ready (polls line meter.now) slots.old slots.new)
-        concentrator.old concentrator.new)) }
-    ensures cut { BehindAnyRun D.Disk concentrator.old (λ origin state before.
-        OnErr result (LineCut D.Disk origin concentrator.old.house.budget state before
-        moment.seconds (polls line meter.now) (links_of B.lost slots.old)
-        (IsCarried B.lost B.asks B.settles B.ready (polls line meter.now) slots.old slots.new)
-        concentrator.old concentrator.new)) }
+    ensures ran { AnyRun D.Disk concentrator.old concentrator.new (λ run.
+        OnOk result (RanOver D.Disk run moment.seconds (polls line meter.now) B.lost B.asks
+        B.settles B.ready slots.old slots.new (PutsInto W.Sink out.old out.new))) }
+    ensures cut { AnyRun D.Disk concentrator.old concentrator.new (λ run.
+        OnErr result (CutOver D.Disk run moment.seconds (polls line meter.now) B.lost B.asks
+        B.settles B.ready slots.old slots.new)) }
     ensures fault { OnErr result (HasRisen (W.put_failures out.old) (W.put_failures out.new)) }
     ensures well { OnOk result (W.put_failures out.new ≡ W.put_failures out.old) }
     ensures absent { AreAbsent (links_of B.lost slots.old) → AreAbsent (links_of B.lost slots.new) }
@@ -211,19 +190,15 @@ fn poll_slot<D: Disk + Drop, A: Allocator + Copy, B: ScriptBus + Drop, W: Sink>(
     moment: Moment,
     out: &mut W,
 ) -> Result<(), IoFault>
-    ensures ran { (links : List LineLink) → line_in links line ≡ line_of B.lost slot.old
-        → BehindAnyRun D.Disk concentrator.old (λ origin state before.
-        OnOk result (LineRan D.Disk origin concentrator.old.house.budget state before moment.seconds
-        (polls line meter.now) links (with_link links line (line_of B.lost slot.new).link)
-        (PutsInto W.Sink out.old out.new)
-        (λ exchanges. PollsOver B.lost B.asks B.settles B.ready line exchanges slot.old slot.new)
-        concentrator.old concentrator.new)) }
-    ensures cut { (links : List LineLink) → line_in links line ≡ line_of B.lost slot.old
-        → BehindAnyRun D.Disk concentrator.old (λ origin state before.
-        OnErr result (LineCut D.Disk origin concentrator.old.house.budget state before
-        moment.seconds (polls line meter.now) links
-        (λ exchanges. PollsOver B.lost B.asks B.settles B.ready line exchanges slot.old slot.new)
-        concentrator.old concentrator.new)) }
+    ensures ran { OnLine B.lost line slot.old slot.new (λ links left.
+        AnyRun D.Disk concentrator.old concentrator.new (λ run.
+        OnOk result (LineRan D.Disk run moment.seconds (polls line meter.now) links left
+        (PutsInto W.Sink out.old out.new) (PollsOver B.lost B.asks B.settles B.ready line slot.old
+        slot.new)))) }
+    ensures cut { OnLine B.lost line slot.old slot.new (λ links left.
+        AnyRun D.Disk concentrator.old concentrator.new (λ run.
+        OnErr result (LineCut D.Disk run moment.seconds (polls line meter.now) links (PollsOver
+        B.lost B.asks B.settles B.ready line slot.old slot.new)))) }
     ensures fault { OnErr result (HasRisen (W.put_failures out.old) (W.put_failures out.new)) }
     ensures well { OnOk result (W.put_failures out.new ≡ W.put_failures out.old) }
     ensures kept { IsKept B.lost slot.old slot.new }
@@ -250,22 +225,15 @@ fn search_line<D: Disk + Drop, A: Allocator + Copy, B: ScriptBus + Drop, W: Sink
     line: u8,
     out: &mut W,
 ) -> Result<(), Halt>
-    ensures ran { (moment : ℕ) → BehindAnyRun D.Disk concentrator.old (λ origin state before.
-        OnOk result (LineRan D.Disk origin concentrator.old.house.budget state before moment
-        (searches budget line) (links_of B.lost slots.old) (links_of B.lost slots.new)
-        (PutsInto W.Sink out.old out.new)
-        (IsCarried B.lost B.asks B.settles B.ready (searches budget line) slots.old slots.new)
-        concentrator.old concentrator.new)) }
-    ensures cut { (moment : ℕ) → BehindAnyRun D.Disk concentrator.old (λ origin state before.
-        OnWrite result (LineCut D.Disk origin concentrator.old.house.budget state before moment
-        (searches budget line) (links_of B.lost slots.old)
-        (IsCarried B.lost B.asks B.settles B.ready (searches budget line) slots.old slots.new)
-        concentrator.old concentrator.new)) }
-    ensures starved { BehindAnyRun D.Disk concentrator.old (λ origin state before.
-        OnNoMemory result (LineStarved D.Disk origin concentrator.old.house.budget state before
-        (searches budget line) (links_of B.lost slots.old) (PutsInto W.Sink out.old out.new)
-        (IsCarried B.lost B.asks B.settles B.ready (searches budget line) slots.old slots.new)
-        concentrator.old concentrator.new)) }
+    ensures ran { (moment : ℕ) → AnyRun D.Disk concentrator.old concentrator.new (λ run.
+        OnOk result (RanOver D.Disk run moment (searches budget line) B.lost B.asks B.settles
+        B.ready slots.old slots.new (PutsInto W.Sink out.old out.new))) }
+    ensures cut { (moment : ℕ) → AnyRun D.Disk concentrator.old concentrator.new (λ run.
+        OnWrite result (CutOver D.Disk run moment (searches budget line) B.lost B.asks B.settles
+        B.ready slots.old slots.new)) }
+    ensures starved { AnyRun D.Disk concentrator.old concentrator.new (λ run.
+        OnNoMemory result (StarvedOver D.Disk run (searches budget line) B.lost B.asks B.settles
+        B.ready slots.old slots.new (PutsInto W.Sink out.old out.new))) }
     ensures through { OnNoMemory result (¬ (AreAbsent (links_of B.lost slots.old))) }
     ensures absent { AreAbsent (links_of B.lost slots.old) → AreAbsent (links_of B.lost slots.new) }
     ensures counted { IsCounted result (W.put_failures out.old) (W.put_failures out.new) }
@@ -286,27 +254,20 @@ fn search_slot<D: Disk + Drop, A: Allocator + Copy, B: ScriptBus + Drop, W: Sink
     line: u8,
     out: &mut W,
 ) -> Result<(), Halt>
-    ensures ran { (links : List LineLink) (moment : ℕ)
-        → line_in links line ≡ line_of B.lost slot.old
-        → BehindAnyRun D.Disk concentrator.old (λ origin state before.
-        OnOk result (LineRan D.Disk origin concentrator.old.house.budget state before moment
-        (searches budget line) links (with_link links line (line_of B.lost slot.new).link)
-        (PutsInto W.Sink out.old out.new)
-        (λ exchanges. SearchesOver B.lost B.asks B.settles B.ready exchanges slot.old slot.new)
-        concentrator.old concentrator.new)) }
-    ensures cut { (links : List LineLink) (moment : ℕ)
-        → line_in links line ≡ line_of B.lost slot.old
-        → BehindAnyRun D.Disk concentrator.old (λ origin state before.
-        OnWrite result (LineCut D.Disk origin concentrator.old.house.budget state before moment
-        (searches budget line) links
-        (λ exchanges. SearchesOver B.lost B.asks B.settles B.ready exchanges slot.old slot.new)
-        concentrator.old concentrator.new)) }
-    ensures starved { (links : List LineLink) → line_in links line ≡ line_of B.lost slot.old
-        → BehindAnyRun D.Disk concentrator.old (λ origin state before.
-        OnNoMemory result (LineStarved D.Disk origin concentrator.old.house.budget state before
-        (searches budget line) links (PutsInto W.Sink out.old out.new)
-        (λ exchanges. SearchesOver B.lost B.asks B.settles B.ready exchanges slot.old slot.new)
-        concentrator.old concentrator.new)) }
+    ensures ran { (moment : ℕ) → OnLine B.lost line slot.old slot.new (λ links left.
+        AnyRun D.Disk concentrator.old concentrator.new (λ run.
+        OnOk result (LineRan D.Disk run moment (searches budget line) links left
+        (PutsInto W.Sink out.old out.new) (SearchesOver B.lost B.asks B.settles B.ready slot.old
+        slot.new)))) }
+    ensures cut { (moment : ℕ) → OnLine B.lost line slot.old slot.new (λ links left.
+        AnyRun D.Disk concentrator.old concentrator.new (λ run.
+        OnWrite result (LineCut D.Disk run moment (searches budget line) links (SearchesOver
+        B.lost B.asks B.settles B.ready slot.old slot.new)))) }
+    ensures starved { OnLine B.lost line slot.old slot.new (λ links left.
+        AnyRun D.Disk concentrator.old concentrator.new (λ run.
+        OnNoMemory result (LineStarved D.Disk run (searches budget line) links
+        (PutsInto W.Sink out.old out.new) (SearchesOver B.lost B.asks B.settles B.ready slot.old
+        slot.new)))) }
     ensures through { OnNoMemory result (¬ ((line_of B.lost slot.old).link ≡ absent)) }
     ensures kept { IsKept B.lost slot.old slot.new }
     ensures counted { IsCounted result (W.put_failures out.old) (W.put_failures out.new) }
@@ -350,10 +311,9 @@ fn run_event<D: Disk + Drop, A: Allocator + Copy, W: Sink>(
     event: &Event<'_>,
     out: &mut W,
 ) -> Result<(), IoFault>
-    ensures went { BehindAnyRun D.Disk concentrator.old (λ origin state before.
-        TurnWent D.Disk origin concentrator.old.house.budget state before (event_of event.now)
-        (λ answer. OnOk result (PutsInto W.Sink out.old out.new (answer_text answer)))
-        concentrator.old concentrator.new) }
+    ensures went { AnyRun D.Disk concentrator.old concentrator.new (λ run.
+        OneTurn D.Disk run (event_of event.now) (λ answer. OnOk result
+        (PutsInto W.Sink out.old out.new (answer_text answer)))) }
     ensures fault { OnErr result (HasRisen (W.put_failures out.old) (W.put_failures out.new)) }
     ensures well { OnOk result (W.put_failures out.new ≡ W.put_failures out.old) }
     ensures budget { concentrator.new.house.budget ≡ concentrator.old.house.budget }

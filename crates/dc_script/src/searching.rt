@@ -4,10 +4,10 @@ ghost use Rattle.std.specs.Prelude.{◌≡◌, ◌++◌, true};
 ghost use Rattle.dc_io.specs.Written.{PutsInto, Wrote};
 ghost use Rattle.dc_script.specs.Halt.{IsCounted};
 ghost use Rattle.dc_script.specs.Link.{gateway_port, link_by};
-ghost use Rattle.dc_script.specs.Search.{Comes, Talked, late_by, late_text};
+ghost use Rattle.dc_script.specs.Search.{ComesOver, late_by, late_text, Talked};
 ghost use Rattle.dc_script.specs.Traffic.{IsSearchedFor};
 ghost use Rattle.dc_search.specs.Found.{search_text};
-ghost use Rattle.dc_concentrator.specs.Went.{BehindAnyRun, TurnsWent};
+ghost use Rattle.dc_script.specs.Run.{AnyRun, SomeTurns};
 
 use crate::halt::{Halt, written};
 use crate::late::put_late;
@@ -31,14 +31,10 @@ pub fn search<D: Disk + Drop, A: Allocator + Copy, B: ScriptBus, W: Sink>(
     budget: u32,
     out: &mut W,
 ) -> Result<(), Halt>
-    ensures went { BehindAnyRun D.Disk concentrator.old (λ origin state before.
-        TurnsWent D.Disk origin concentrator.old.house.budget state before
-        (Comes (B.meters bus.old) gateway_port budget
-        (late_by gateway_port.is_gateway (B.late bus.old) (B.late bus.new))
-        (link_by (B.lost bus.old)) (link_by (B.lost bus.new))
+    ensures went { AnyRun D.Disk concentrator.old concentrator.new (λ run.
+        SomeTurns D.Disk run (ComesOver B.meters B.lost B.late gateway_port budget bus.old bus.new
         (λ exchanges. IsSearchedFor B.asks B.settles B.ready bus.old exchanges bus.new)
-        (PutsInto W.Sink out.old out.new) result) concentrator.old
-        concentrator.new) }
+        (PutsInto W.Sink out.old out.new) result)) }
     ensures counted { IsCounted result (W.put_failures out.old) (W.put_failures out.new) }
     ensures budget { concentrator.new.house.budget ≡ concentrator.old.house.budget }
     ensures untouched { B.lost bus.old ≡ true → bus.new ≡ bus.old }
@@ -55,14 +51,10 @@ pub fn search_on<D: Disk + Drop, A: Allocator + Copy, B: ScriptBus, W: Sink>(
     budget: u32,
     out: &mut W,
 ) -> Result<(), Halt>
-    ensures went { BehindAnyRun D.Disk concentrator.old (λ origin state before.
-        TurnsWent D.Disk origin concentrator.old.house.budget state before
-        (Comes (B.meters bus.old) port budget
-        (late_by port.is_gateway (B.late bus.old) (B.late bus.new)) (link_by (B.lost bus.old))
-        (link_by (B.lost bus.new))
+    ensures went { AnyRun D.Disk concentrator.old concentrator.new (λ run.
+        SomeTurns D.Disk run (ComesOver B.meters B.lost B.late port budget bus.old bus.new
         (λ exchanges. IsSearchedFor B.asks B.settles B.ready bus.old exchanges bus.new)
-        (PutsInto W.Sink out.old out.new) result) concentrator.old
-        concentrator.new) }
+        (PutsInto W.Sink out.old out.new) result)) }
     ensures counted { IsCounted result (W.put_failures out.old) (W.put_failures out.new) }
     ensures budget { concentrator.new.house.budget ≡ concentrator.old.house.budget }
     ensures untouched { B.lost bus.old ≡ true → bus.new ≡ bus.old }

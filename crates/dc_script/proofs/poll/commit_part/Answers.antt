@@ -1,5 +1,6 @@
 use Rattle.std.proofs.Common.{ℕ, [], ◌∷◌, refl, sym, subst, Bool, Result, Ok, Err}
 use Rattle.std.specs.Prelude.{is_ok}
+use Rattle.std.proofs.lemmas.Result.{err_from_is_err_and}
 use Rattle.dc_io.specs.Stream.{Puts}
 use Rattle.dc_concentrator.specs.Event.{Answer, commits, committed}
 use Rattle.dc_concentrator.specs.declared.fault.CommitFault.{CommitFault}
@@ -13,19 +14,20 @@ round : (link : Link) (told : Result ℕ CommitFault) → IsRound (is_ok told) l
 round link (Ok count) = record { last_is = refl; rounds_are = refl }
 round link (Err fault) = record { last_is = refl; rounds_are = refl }
 
-pub returns-in-Ok-clause-went : goal.returns-in-Ok-clause-went
-returns-in-Ok-clause-went g c port moment meter link origin state before chain at =
+pub returns-clause-went : goal.returns-clause-went
+returns-clause-went g c port moment meter link origin state before chain at =
     way_turn g.D.Disk origin c.args.concentrator.now.house.budget state before port moment meter to_commit link commits _ _ _ c.args.concentrator.now c.told_commit.new.concentrator
-    refl (c.in-Ok.ensures.went origin state before chain at)
+    refl (c.in_ok-answer.ensures.went origin state before chain at)
     (λ answer is. (
       subst (λ (a : Answer). IsRound c.is_ok.result link 0 (does (commits, a) ∷ []) (record { due = behind_turn to_commit commits a; link = link })) (sym is.0)
-          (subst (λ (more : Bool). IsRound more link 0 (does (commits, committed c.in-Ok.answer) ∷ []) (record { due = behind_turn to_commit commits (committed c.in-Ok.answer); link = link })) (sym c.is_ok.ensures.value) (round link c.in-Ok.answer)),
+          (subst (λ (more : Bool). IsRound more link 0 (does (commits, committed c.in_ok-answer.answer) ∷ []) (record { due = behind_turn to_commit commits (committed c.in_ok-answer.answer); link = link })) (sym c.is_ok.ensures.value) (round link c.in_ok-answer.answer)),
       tt,
       refl,
     ))
     (λ answer is. subst (λ (a : Answer). Puts (g.W.Sink.written c.args.out.now) (g.W.Sink.written c.told_commit.new.out) (told_text a)) (sym is.0) is.1)
 
-pub returns-in-Err-clause-went : goal.returns-in-Err-clause-went
-returns-in-Err-clause-went g c port moment meter link origin state before chain at =
-    way_turn g.D.Disk origin c.args.concentrator.now.house.budget state before port moment meter to_commit link commits _ _ _ c.args.concentrator.now c.told_commit.new.concentrator
-    refl (c.told_commit.ensures.went origin state before chain at) (λ answer is. (tt, fails_in_one g.W.Sink port c.args.out.now c.told_commit.new.out (does (commits, answer)) c.in-Err.ensures.fault, refl)) (λ answer is. tt)
+pub returns-in_err-answer-clause-went : goal.returns-in_err-answer-clause-went
+returns-in_err-answer-clause-went g c port moment meter link origin state before chain at =
+    let p = err_from_is_err_and c.from_residual.result c.from_residual.ensures.1 in
+    rw p.1 (way_turn g.D.Disk origin c.args.concentrator.now.house.budget state before port moment meter to_commit link commits _ _ _ c.args.concentrator.now c.told_commit.new.concentrator
+    refl (c.told_commit.ensures.went origin state before chain at) (λ answer is. (tt, fails_in_one g.W.Sink port c.args.out.now c.told_commit.new.out (does (commits, answer)) c.in_err-answer.ensures.fault, refl)) (λ answer is. tt))

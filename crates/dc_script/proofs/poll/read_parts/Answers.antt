@@ -1,4 +1,5 @@
 use Rattle.std.proofs.Common.{inl, inr, arith, ℕ, refl, ap, subst, ◌∙◌, Bool}
+use Rattle.std.proofs.lemmas.Result.{err_from_is_err_and}
 use Rattle.dc_io.proofs.Pieces.{puts-both, puts-none}
 use Rattle.dc_script.specs.Link.{link_by}
 use Rattle.dc_script.specs.Poll.{Phase}
@@ -22,7 +23,7 @@ pub rounds-preserved : goal.rounds-preserved
 rounds-preserved g c =
     record {
       budget = c.ask_and_hear.ensures.budget ∙ c.rounds.invariant.budget;
-      well = c.in-Ok.ensures.well ∙ c.rounds.invariant.well;
+      well = c.in_ok-more.ensures.well ∙ c.rounds.invariant.well;
       untouched = untouched_both g.B.Bus.lost c.args.bus.now c.rounds.bus c.ask_and_hear.new.bus c.rounds.invariant.untouched c.ask_and_hear.ensures.untouched;
       so_far = λ meter origin state before chain at.
           let w = g.W.Sink.written in
@@ -31,7 +32,7 @@ rounds-preserved g c =
           let new = c.ask_and_hear.new.concentrator in
           let one = c.rounds.invariant.so_far meter origin state before chain at in
           way_then g.D.Disk origin first.house.budget state before c.args.port c.args.moment.seconds meter _ _ _ _ _ _ _ _ first old new
-          one one.ends_so.0 c.rounds.invariant.budget (λ behind ch a. c.in-Ok.ensures.went meter origin state behind ch a)
+          one one.ends_so.0 c.rounds.invariant.budget (λ behind ch a. c.in_ok-more.ensures.went meter origin state behind ch a)
           (λ more last e. let r = e.0.rounds_are in let s = one.ends_so.1 in (
             e.0.last_is ∙ ap (λ (b : Bool). record { due = goes_on b; link = link_by (g.B.Bus.lost c.ask_and_hear.new.bus) }) c.if-not-more.false,
             omega (arith, r, s, rounds_append one.happened more),
@@ -48,7 +49,7 @@ returns-then-not-more-clause-went g c meter origin state before chain at =
     let new = c.ask_and_hear.new.concentrator in
     let one = c.rounds.invariant.so_far meter origin state before chain at in
     way_then g.D.Disk origin first.house.budget state before c.args.port c.args.moment.seconds meter _ _ _ _ _ _ _ _ first old new
-    one one.ends_so.0 c.rounds.invariant.budget (λ behind ch a. c.in-Ok.ensures.went meter origin state behind ch a)
+    one one.ends_so.0 c.rounds.invariant.budget (λ behind ch a. c.in_ok-more.ensures.went meter origin state behind ch a)
     (λ more last e. let is = e.0.last_is ∙ ap (λ (b : Bool). record { due = goes_on b; link = link_by (g.B.Bus.lost c.ask_and_hear.new.bus) }) c.if-not-more.true in (
       (inl (ap (λ (p : Phase). p.due) is), ap (λ (p : Phase). p.link) is),
       tt,
@@ -58,7 +59,7 @@ returns-then-not-more-clause-went g c meter origin state before chain at =
 
 pub returns-then-not-more-clause-well : goal.returns-then-not-more-clause-well
 returns-then-not-more-clause-well g c =
-    c.in-Ok.ensures.well ∙ c.rounds.invariant.well
+    c.in_ok-more.ensures.well ∙ c.rounds.invariant.well
 
 pub returns-then-not-more-clause-budget : goal.returns-then-not-more-clause-budget
 returns-then-not-more-clause-budget g c =
@@ -68,32 +69,34 @@ pub returns-then-not-more-clause-untouched : goal.returns-then-not-more-clause-u
 returns-then-not-more-clause-untouched g c =
     untouched_both g.B.Bus.lost c.args.bus.now c.rounds.bus c.ask_and_hear.new.bus c.rounds.invariant.untouched c.ask_and_hear.ensures.untouched
 
-pub returns-in-Err-clause-went : goal.returns-in-Err-clause-went
-returns-in-Err-clause-went g c meter origin state before chain at =
-    let w = g.W.Sink.written in
+pub returns-in_err-more-clause-went : goal.returns-in_err-more-clause-went
+returns-in_err-more-clause-went g c meter origin state before chain at =
+    let p = err_from_is_err_and c.from_residual.result c.from_residual.ensures.1 in
+    rw p.1 (let w = g.W.Sink.written in
     let first = c.args.concentrator.now in
     let old = c.rounds.concentrator in
     let new = c.ask_and_hear.new.concentrator in
     let one = c.rounds.invariant.so_far meter origin state before chain at in
     way_then g.D.Disk origin first.house.budget state before c.args.port c.args.moment.seconds meter _ _ _ _ _ _ _ _ first old new
-    one one.ends_so.0 c.rounds.invariant.budget (λ behind ch a. c.in-Err.ensures.went meter origin state behind ch a)
+    one one.ends_so.0 c.rounds.invariant.budget (λ behind ch a. c.in_err-more.ensures.went meter origin state behind ch a)
     (λ more last e. (
       tt,
       fails_after g.W.Sink c.args.port c.args.out.now c.rounds.out c.ask_and_hear.new.out one.happened more one.text c.rounds.invariant.well e.1,
       exchanged_after g.B.Bus.asks c.args.bus.now c.rounds.bus c.ask_and_hear.new.bus one.happened more one.ends_so.2 e.2,
     ))
-    (λ text more p q. tt)
+    (λ text more p q. tt))
 
-pub returns-in-Err-clause-fault : goal.returns-in-Err-clause-fault
-returns-in-Err-clause-fault g c =
-    subst (λ (n : ℕ). HasRisen n (g.W.Sink.put_failures c.ask_and_hear.new.out)) c.rounds.invariant.well c.in-Err.ensures.fault
+pub returns-in_err-more-clause-fault : goal.returns-in_err-more-clause-fault
+returns-in_err-more-clause-fault g c =
+    let p = err_from_is_err_and c.from_residual.result c.from_residual.ensures.1 in
+    rw p.1 (subst (λ (n : ℕ). HasRisen n (g.W.Sink.put_failures c.ask_and_hear.new.out)) c.rounds.invariant.well c.in_err-more.ensures.fault)
 
-pub returns-in-Err-clause-budget : goal.returns-in-Err-clause-budget
-returns-in-Err-clause-budget g c =
+pub returns-in_err-more-clause-budget : goal.returns-in_err-more-clause-budget
+returns-in_err-more-clause-budget g c =
     c.ask_and_hear.ensures.budget ∙ c.rounds.invariant.budget
 
-pub returns-in-Err-clause-untouched : goal.returns-in-Err-clause-untouched
-returns-in-Err-clause-untouched g c =
+pub returns-in_err-more-clause-untouched : goal.returns-in_err-more-clause-untouched
+returns-in_err-more-clause-untouched g c =
     untouched_both g.B.Bus.lost c.args.bus.now c.rounds.bus c.ask_and_hear.new.bus c.rounds.invariant.untouched c.ask_and_hear.ensures.untouched
 
 pub returns-clause-went : goal.returns-clause-went

@@ -1,4 +1,4 @@
-use Rattle.std.proofs.Common.{Bool, inr, refl, ◌≡◌, List, ℕ, [], sym, subst}
+use Rattle.std.proofs.Common.{rules, Bool, inr, refl, ◌≡◌, List, ℕ, [], sym, subst}
 use Rattle.std.specs.Prelude.{IfSome}
 use Rattle.dc_change.specs.State.{State}
 use Rattle.dc_concentrator.specs.Core.{opened}
@@ -7,6 +7,7 @@ use Rattle.dc_log.specs.Halves.{half_of}
 use Rattle.dc_pending.specs.Images.{EachStands}
 use Rattle.dc_io.specs.Stream.{Puts}
 use Rattle.dc_io.specs.Lines.{lines_of}
+use Rattle.dc_script.specs.Run.{run_of}
 use Rattle.dc_script.specs.ImageRun.{ImageWent}
 use Rattle.dc_script.specs.Link.{AreAbsent, links_of}
 use Rattle.dc_script.specs.Script.{ScriptCut}
@@ -54,16 +55,26 @@ pub returns-in-Write-clause-cut : goal.returns-in-Write-clause-cut
 returns-in-Write-clause-cut g c premise write =
     let first = c.in-Ok-open.concentrator in
     gone_over g (goal.at.returns-in-Write-clause-cut g c).After-run_lines _ c.close-in-Write.result premise
-    (λ at. (of_write Bool c.in-Err-run_lines.halt (ScriptCut g.D.Disk first.store.disk first.house.budget first.house.state [] (links_of g.B.Bus.lost c.args.lines.now) (lines_of c.as_slice.result.now) (AreCarried g.B.Bus.lost g.B.Bus.asks g.B.ScriptBus.settles g.B.ScriptBus.ready c.args.lines.now c.run_lines.new.slots) first c.run_lines.new.concentrator) c.in-Write.is (c.in-Err-run_lines.ensures.cut first.store.disk first.house.state [] tt at))) c.close-in-Write.ensures.disk
+    (λ at. (of_write Bool c.in-Err-run_lines.halt (ScriptCut g.D.Disk (run_of first.store.disk first.house.budget first.house.state [] first c.run_lines.new.concentrator) (links_of g.B.Bus.lost c.args.lines.now) (lines_of c.as_slice.result.now) (AreCarried g.B.Bus.lost g.B.Bus.asks g.B.ScriptBus.settles g.B.ScriptBus.ready c.args.lines.now c.run_lines.new.slots)) c.in-Write.is (c.in-Err-run_lines.ensures.cut first.store.disk first.house.state [] tt at))) c.close-in-Write.ensures.disk
 
 pub returns-clause-starved : goal.returns-clause-starved
 returns-clause-starved g c premise write =
     let first = c.in-Ok-open.concentrator in
     inr (gone_over g (goal.at.returns-clause-starved g c).After-run_lines _ c.close-in-NoMemory.result premise
-    (λ at. (of_no_memory Bool c.in-Err-run_lines.halt (ScriptStarved g.D.Disk first.store.disk first.house.budget first.house.state [] (links_of g.B.Bus.lost c.args.lines.now) (lines_of c.as_slice.result.now) (Puts (g.W.Sink.written c.args.writer.now) (g.W.Sink.written c.run_lines.new.out)) (AreCarried g.B.Bus.lost g.B.Bus.asks g.B.ScriptBus.settles g.B.ScriptBus.ready c.args.lines.now c.run_lines.new.slots) first c.run_lines.new.concentrator) c.in-NoMemory.is (c.in-Err-run_lines.ensures.starved first.store.disk first.house.state [] tt at))) c.close-in-NoMemory.ensures.disk)
+    (λ at. (of_no_memory Bool c.in-Err-run_lines.halt (ScriptStarved g.D.Disk (run_of first.store.disk first.house.budget first.house.state [] first c.run_lines.new.concentrator) (links_of g.B.Bus.lost c.args.lines.now) (lines_of c.as_slice.result.now) (Puts (g.W.Sink.written c.args.writer.now) (g.W.Sink.written c.run_lines.new.out)) (AreCarried g.B.Bus.lost g.B.Bus.asks g.B.ScriptBus.settles g.B.ScriptBus.ready c.args.lines.now c.run_lines.new.slots)) c.in-NoMemory.is (c.in-Err-run_lines.ensures.starved first.store.disk first.house.state [] tt at))) c.close-in-NoMemory.ensures.disk)
 
 pub returns-clause-unread : goal.returns-clause-unread
 returns-clause-unread g c of_reading = inr (refl, of_no_memory Bool c.in-Err-run_lines.halt (¬ (AreAbsent (links_of g.B.Bus.lost c.args.lines.now))) c.in-NoMemory.is c.in-Err-run_lines.ensures.through)
 
 pub returns-clause-untouched : goal.returns-clause-untouched
 returns-clause-untouched g c other = inr (refl, of_no_memory Bool c.in-Err-run_lines.halt (¬ (AreAbsent (links_of g.B.Bus.lost c.args.lines.now))) c.in-NoMemory.is c.in-Err-run_lines.ensures.through)
+
+-- the store's refusal, of the disk as it came
+pub returns-in-Err-open-clause-unopened : goal.returns-in-Err-open-clause-unopened
+returns-in-Err-open-clause-unopened g c = record {
+  refused = search rules;
+  premise = search rules;
+  unwritten = search rules;
+  device = search rules;
+  any_moment = search rules;
+}

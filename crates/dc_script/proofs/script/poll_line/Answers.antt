@@ -1,6 +1,7 @@
 use Rattle.std.proofs.Common.{List, [], get_or, inr, refl, subst}
 use Rattle.std.specs.Prelude.{OnOk}
 use Rattle.dc_io.specs.Stream.{Puts}
+use Rattle.dc_script.specs.Run.{run_of}
 use Rattle.dc_script.specs.Link.{LineLink, link_in, links_of}
 use Rattle.dc_script.specs.Script.{LineRan, no_gateway}
 use Rattle.dc_script.specs.ScriptLine.{poll as polls}
@@ -18,8 +19,8 @@ returns-in-Some-clause-ran g c origin state before chain at =
     let links = links_of lost slots in
     let found = c.in-Some.ensures.found in
     ran_as g.D.Disk origin c.poll_slot.result c.args.concentrator.now.house.budget state before c.args.moment.seconds (polls c.args.line c.args.meter.now) links _ (Puts (g.W.Sink.written c.args.out.now) (g.W.Sink.written c.poll_slot.new.out)) _ _ c.args.concentrator.now c.poll_slot.new.concentrator
-    (λ exchanges goes. is_one g.B.Bus.lost g.B.Bus.asks g.B.ScriptBus.settles g.B.ScriptBus.ready (polls c.args.line c.args.meter.now) slots _ exchanges (named_set (PollsOver g.B.Bus.lost g.B.Bus.asks g.B.ScriptBus.settles g.B.ScriptBus.ready c.args.line exchanges) slots c.in-Some.at c.index-slots-at.result c.poll_slot.new.slot c.args.line found.0 found.1 goes))
-    (subst (λ (left : List LineLink). OnOk c.poll_slot.result (LineRan g.D.Disk origin c.args.concentrator.now.house.budget state before c.args.moment.seconds (polls c.args.line c.args.meter.now) links left (Puts (g.W.Sink.written c.args.out.now) (g.W.Sink.written c.poll_slot.new.out)) (λ exchanges. PollsOver g.B.Bus.lost g.B.Bus.asks g.B.ScriptBus.settles g.B.ScriptBus.ready c.args.line exchanges (get_or slots c.in-Some.at c.index-slots-at.result) c.poll_slot.new.slot) c.args.concentrator.now c.poll_slot.new.concentrator))
+    (λ exchanges goes. is_one g.B.Bus.lost g.B.Bus.asks g.B.ScriptBus.settles g.B.ScriptBus.ready (polls c.args.line c.args.meter.now) slots _ exchanges (named_set (λ old new. PollsOver g.B.Bus.lost g.B.Bus.asks g.B.ScriptBus.settles g.B.ScriptBus.ready c.args.line old new exchanges) slots c.in-Some.at c.index-slots-at.result c.poll_slot.new.slot c.args.line found.0 found.1 goes))
+    (subst (λ (left : List LineLink). OnOk c.poll_slot.result (LineRan g.D.Disk (run_of origin c.args.concentrator.now.house.budget state before c.args.concentrator.now c.poll_slot.new.concentrator) c.args.moment.seconds (polls c.args.line c.args.meter.now) links left (Puts (g.W.Sink.written c.args.out.now) (g.W.Sink.written c.poll_slot.new.out)) (PollsOver g.B.Bus.lost g.B.Bus.asks g.B.ScriptBus.settles g.B.ScriptBus.ready c.args.line (get_or slots c.in-Some.at c.index-slots-at.result) c.poll_slot.new.slot)))
     (slot_left lost slots c.in-Some.at c.index-slots-at.result c.poll_slot.new.slot c.args.line found.0 found.1 c.poll_slot.ensures.kept)
     (c.poll_slot.ensures.ran links (slot_found lost slots c.in-Some.at c.index-slots-at.result c.args.line found.0 found.1) origin state before chain at))
 
@@ -30,7 +31,7 @@ returns-in-Some-clause-cut g c origin state before chain at =
     let links = links_of lost slots in
     let found = c.in-Some.ensures.found in
     cut_as g.D.Disk origin c.poll_slot.result c.args.concentrator.now.house.budget state before c.args.moment.seconds (polls c.args.line c.args.meter.now) links _ _ c.args.concentrator.now c.poll_slot.new.concentrator
-    (λ exchanges goes. is_one g.B.Bus.lost g.B.Bus.asks g.B.ScriptBus.settles g.B.ScriptBus.ready (polls c.args.line c.args.meter.now) slots _ exchanges (named_set (PollsOver g.B.Bus.lost g.B.Bus.asks g.B.ScriptBus.settles g.B.ScriptBus.ready c.args.line exchanges) slots c.in-Some.at c.index-slots-at.result c.poll_slot.new.slot c.args.line found.0 found.1 goes))
+    (λ exchanges goes. is_one g.B.Bus.lost g.B.Bus.asks g.B.ScriptBus.settles g.B.ScriptBus.ready (polls c.args.line c.args.meter.now) slots _ exchanges (named_set (λ old new. PollsOver g.B.Bus.lost g.B.Bus.asks g.B.ScriptBus.settles g.B.ScriptBus.ready c.args.line old new exchanges) slots c.in-Some.at c.index-slots-at.result c.poll_slot.new.slot c.args.line found.0 found.1 goes))
     (c.poll_slot.ensures.cut links (slot_found lost slots c.in-Some.at c.index-slots-at.result c.args.line found.0 found.1) origin state before chain at)
 
 pub returns-in-Some-clause-absent : goal.returns-in-Some-clause-absent

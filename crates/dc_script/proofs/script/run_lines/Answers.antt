@@ -7,6 +7,7 @@ use Rattle.dc_concentrator.specs.Core.{opened}
 use Rattle.dc_concentrator.specs.Images.{IsAt}
 use Rattle.dc_concentrator.specs.Transcript.{Turn, leads, IsChain}
 use Rattle.dc_io.specs.Lines.{lines_of}
+use Rattle.dc_script.specs.Run.{run_of}
 use Rattle.dc_script.specs.Link.{AreAbsent, links_of}
 use Rattle.dc_script.specs.Script.{AskFor, LineRan, LineCut, ScriptCut, deeds_turns, deeds_text}
 use Rattle.dc_script.specs.ScriptLine.{seen}
@@ -93,7 +94,7 @@ lines-preserved g c =
           (sym c.moment_behind-moment.ensures)
           (one_more g.D.Disk origin first.house.budget (links_of g.B.Bus.lost c.args.slots.now) (links_of g.B.Bus.lost c.lines.slots) (links_of g.B.Bus.lost c.run_line.new.slots) (lines_of c.args.input.now) c.first_line.result.0.now (lines_of c.first_line.result.1.now) asked c.lines.moment.0 c.lines.count
           (Puts (w c.args.out.now) (w c.lines.out)) piece (Puts (w c.args.out.now) (w c.run_line.new.out)) (AreCarried g.B.Bus.lost g.B.Bus.asks g.B.ScriptBus.settles g.B.ScriptBus.ready c.args.slots.now c.lines.slots) (AreCarried g.B.Bus.lost g.B.Bus.asks g.B.ScriptBus.settles g.B.ScriptBus.ready c.args.slots.now c.run_line.new.slots) (IsCarried g.B.Bus.lost g.B.Bus.asks g.B.ScriptBus.settles g.B.ScriptBus.ready asked c.lines.slots c.run_line.new.slots) first old new (here g origin (goal.at.lines-preserved g c).After-first_line) c.in-Some.ensures.found
-          (λ state before chain at. subst (λ (b : ℕ). LineRan g.D.Disk origin b state before c.lines.moment.0 asked (links_of g.B.Bus.lost c.lines.slots) (links_of g.B.Bus.lost c.run_line.new.slots) piece (IsCarried g.B.Bus.lost g.B.Bus.asks g.B.ScriptBus.settles g.B.ScriptBus.ready asked c.lines.slots c.run_line.new.slots) old new) b_is
+          (λ state before chain at. subst (λ (b : ℕ). LineRan g.D.Disk (run_of origin b state before old new) c.lines.moment.0 asked (links_of g.B.Bus.lost c.lines.slots) (links_of g.B.Bus.lost c.run_line.new.slots) piece (IsCarried g.B.Bus.lost g.B.Bus.asks g.B.ScriptBus.settles g.B.ScriptBus.ready asked c.lines.slots c.run_line.new.slots)) b_is
           (c.in_default-run_line.ensures.ran origin state before (subst (λ (b : ℕ). IsChain b (opened state) before) (sym b_is) chain) at))
           (λ text more wrote put. puts-both (w c.args.out.now) (w c.lines.out) (w c.run_line.new.out) text more wrote put)
           (λ traffic exchanges so one. carried_both g.B.Bus.lost g.B.Bus.asks g.B.ScriptBus.settles g.B.ScriptBus.ready c.args.slots.now c.lines.slots c.run_line.new.slots traffic (record { asked = asked; exchanges = exchanges } ∷ []) so one));
@@ -108,10 +109,10 @@ returns-in-Err-run_line-clause-cut g c origin state before chain at =
     let old = c.lines.concentrator in
     let new = c.run_line.new.concentrator in
     let turns = turns_here g from origin state before chain at in
-    on_write (Unit {0}) Bool c.in-Err-run_line.halt (LineCut g.D.Disk origin old.house.budget state (before ++ turns) c.lines.moment.0 asked (links_of g.B.Bus.lost c.lines.slots) (IsCarried g.B.Bus.lost g.B.Bus.asks g.B.ScriptBus.settles g.B.ScriptBus.ready asked c.lines.slots c.run_line.new.slots) old new)
-    (ScriptCut g.D.Disk origin first.house.budget state before (links_of g.B.Bus.lost c.args.slots.now) (lines_of c.args.input.now) (AreCarried g.B.Bus.lost g.B.Bus.asks g.B.ScriptBus.settles g.B.ScriptBus.ready c.args.slots.now c.run_line.new.slots) first new)
+    on_write (Unit {0}) Bool c.in-Err-run_line.halt (LineCut g.D.Disk (run_of origin old.house.budget state (before ++ turns) old new) c.lines.moment.0 asked (links_of g.B.Bus.lost c.lines.slots) (IsCarried g.B.Bus.lost g.B.Bus.asks g.B.ScriptBus.settles g.B.ScriptBus.ready asked c.lines.slots c.run_line.new.slots))
+    (ScriptCut g.D.Disk (run_of origin first.house.budget state before first new) (links_of g.B.Bus.lost c.args.slots.now) (lines_of c.args.input.now) (AreCarried g.B.Bus.lost g.B.Bus.asks g.B.ScriptBus.settles g.B.ScriptBus.ready c.args.slots.now c.run_line.new.slots))
     (λ here_cut.
-    let cut = subst (λ (b : ℕ). LineCut g.D.Disk origin b state (before ++ turns) c.lines.moment.0 asked (links_of g.B.Bus.lost c.lines.slots) (IsCarried g.B.Bus.lost g.B.Bus.asks g.B.ScriptBus.settles g.B.ScriptBus.ready asked c.lines.slots c.run_line.new.slots) old new) b_is here_cut in
+    let cut = subst (λ (b : ℕ). LineCut g.D.Disk (run_of origin b state (before ++ turns) old new) c.lines.moment.0 asked (links_of g.B.Bus.lost c.lines.slots) (IsCarried g.B.Bus.lost g.B.Bus.asks g.B.ScriptBus.settles g.B.ScriptBus.ready asked c.lines.slots c.run_line.new.slots)) b_is here_cut in
     cut_here g.D.Disk origin first.house.budget (links_of g.B.Bus.lost c.args.slots.now) (links_of g.B.Bus.lost c.lines.slots) (lines_of c.args.input.now) c.first_line.result.0.now (lines_of c.first_line.result.1.now) c.lines.moment.0 c.lines.count (Puts (g.W.Sink.written c.args.out.now) (g.W.Sink.written c.lines.out)) (AreCarried g.B.Bus.lost g.B.Bus.asks g.B.ScriptBus.settles g.B.ScriptBus.ready c.args.slots.now c.lines.slots) (AreCarried g.B.Bus.lost g.B.Bus.asks g.B.ScriptBus.settles g.B.ScriptBus.ready c.args.slots.now c.run_line.new.slots) cut.turns (record { asked = asked; exchanges = cut.exchanges } ∷ []) first old new (here g origin from) state before chain at
     (inl (asked, cut.exchanges, c.in-Some.ensures.found, cut.does, refl))
     (λ traffic so. carried_both g.B.Bus.lost g.B.Bus.asks g.B.ScriptBus.settles g.B.ScriptBus.ready c.args.slots.now c.lines.slots c.run_line.new.slots traffic (record { asked = asked; exchanges = cut.exchanges } ∷ []) so cut.over) cut.went)
@@ -128,8 +129,8 @@ returns-in-Err-run_line-clause-starved g c origin state before chain at =
     let new = c.run_line.new.concentrator in
     let turns = turns_here g from origin state before chain at in
     let piece : List ℕ → Type 0 = Puts (w c.lines.out) (w c.run_line.new.out) in
-    on_no_memory (Unit {0}) Bool c.in-Err-run_line.halt (LineStarved g.D.Disk origin old.house.budget state (before ++ turns) asked (links_of g.B.Bus.lost c.lines.slots) piece (IsCarried g.B.Bus.lost g.B.Bus.asks g.B.ScriptBus.settles g.B.ScriptBus.ready asked c.lines.slots c.run_line.new.slots) old new)
-    (ScriptStarved g.D.Disk origin first.house.budget state before (links_of g.B.Bus.lost c.args.slots.now) (lines_of c.args.input.now) (Puts (w c.args.out.now) (w c.run_line.new.out)) (AreCarried g.B.Bus.lost g.B.Bus.asks g.B.ScriptBus.settles g.B.ScriptBus.ready c.args.slots.now c.run_line.new.slots) first new)
+    on_no_memory (Unit {0}) Bool c.in-Err-run_line.halt (LineStarved g.D.Disk (run_of origin old.house.budget state (before ++ turns) old new) asked (links_of g.B.Bus.lost c.lines.slots) piece (IsCarried g.B.Bus.lost g.B.Bus.asks g.B.ScriptBus.settles g.B.ScriptBus.ready asked c.lines.slots c.run_line.new.slots))
+    (ScriptStarved g.D.Disk (run_of origin first.house.budget state before first new) (links_of g.B.Bus.lost c.args.slots.now) (lines_of c.args.input.now) (Puts (w c.args.out.now) (w c.run_line.new.out)) (AreCarried g.B.Bus.lost g.B.Bus.asks g.B.ScriptBus.settles g.B.ScriptBus.ready c.args.slots.now c.run_line.new.slots))
     (λ starved. starved_here g.D.Disk origin first.house.budget (links_of g.B.Bus.lost c.args.slots.now) (links_of g.B.Bus.lost c.lines.slots) (lines_of c.args.input.now) c.first_line.result.0.now (lines_of c.first_line.result.1.now) asked c.lines.moment.0 c.lines.count
     (Puts (w c.args.out.now) (w c.lines.out)) piece (Puts (w c.args.out.now) (w c.run_line.new.out)) (AreCarried g.B.Bus.lost g.B.Bus.asks g.B.ScriptBus.settles g.B.ScriptBus.ready c.args.slots.now c.lines.slots) (AreCarried g.B.Bus.lost g.B.Bus.asks g.B.ScriptBus.settles g.B.ScriptBus.ready c.args.slots.now c.run_line.new.slots) (IsCarried g.B.Bus.lost g.B.Bus.asks g.B.ScriptBus.settles g.B.ScriptBus.ready asked c.lines.slots c.run_line.new.slots) first old new (here g origin from) c.in-Some.ensures.found b_is
     (λ text more wrote put. puts-both (w c.args.out.now) (w c.lines.out) (w c.run_line.new.out) text more wrote put)

@@ -1,6 +1,7 @@
 use Rattle.std.proofs.Common.{List, [], get_or, inr, refl, sym, subst, ap, ◌∙◌}
 use Rattle.std.specs.Prelude.{OnOk}
 use Rattle.dc_io.specs.Stream.{Puts}
+use Rattle.dc_script.specs.Run.{run_of}
 use Rattle.dc_script.specs.Link.{AreAbsent, LineLink, link_in, links_of}
 use Rattle.dc_script.specs.Script.{LineRan, no_gateway}
 use Rattle.dc_script.specs.ScriptLine.{search as searches}
@@ -19,10 +20,10 @@ returns-in-Some-clause-ran g c moment origin state before chain at =
     let links = links_of lost slots in
     let found = c.in-Some.ensures.found in
     ran_as g.D.Disk origin c.search_slot.result c.args.concentrator.now.house.budget state before moment (searches c.args.budget c.args.line) links _ (Puts (g.W.Sink.written c.args.out.now) (g.W.Sink.written c.search_slot.new.out)) _ _ c.args.concentrator.now c.search_slot.new.concentrator
-    (λ exchanges goes. is_one g.B.Bus.lost g.B.Bus.asks g.B.ScriptBus.settles g.B.ScriptBus.ready (searches c.args.budget c.args.line) slots _ exchanges (named_set (SearchesOver g.B.Bus.lost g.B.Bus.asks g.B.ScriptBus.settles g.B.ScriptBus.ready exchanges) slots c.in-Some.at c.index-slots-at.result c.search_slot.new.slot c.args.line found.0 found.1 goes))
-    (subst (λ (left : List LineLink). OnOk c.search_slot.result (LineRan g.D.Disk origin c.args.concentrator.now.house.budget state before moment (searches c.args.budget c.args.line) links left (Puts (g.W.Sink.written c.args.out.now) (g.W.Sink.written c.search_slot.new.out)) (λ exchanges. SearchesOver g.B.Bus.lost g.B.Bus.asks g.B.ScriptBus.settles g.B.ScriptBus.ready exchanges (get_or slots c.in-Some.at c.index-slots-at.result) c.search_slot.new.slot) c.args.concentrator.now c.search_slot.new.concentrator))
+    (λ exchanges goes. is_one g.B.Bus.lost g.B.Bus.asks g.B.ScriptBus.settles g.B.ScriptBus.ready (searches c.args.budget c.args.line) slots _ exchanges (named_set (λ old new. SearchesOver g.B.Bus.lost g.B.Bus.asks g.B.ScriptBus.settles g.B.ScriptBus.ready old new exchanges) slots c.in-Some.at c.index-slots-at.result c.search_slot.new.slot c.args.line found.0 found.1 goes))
+    (subst (λ (left : List LineLink). OnOk c.search_slot.result (LineRan g.D.Disk (run_of origin c.args.concentrator.now.house.budget state before c.args.concentrator.now c.search_slot.new.concentrator) moment (searches c.args.budget c.args.line) links left (Puts (g.W.Sink.written c.args.out.now) (g.W.Sink.written c.search_slot.new.out)) (SearchesOver g.B.Bus.lost g.B.Bus.asks g.B.ScriptBus.settles g.B.ScriptBus.ready (get_or slots c.in-Some.at c.index-slots-at.result) c.search_slot.new.slot)))
     (slot_left lost slots c.in-Some.at c.index-slots-at.result c.search_slot.new.slot c.args.line found.0 found.1 c.search_slot.ensures.kept)
-    (c.search_slot.ensures.ran links moment (slot_found lost slots c.in-Some.at c.index-slots-at.result c.args.line found.0 found.1) origin state before chain at))
+    (c.search_slot.ensures.ran moment links (slot_found lost slots c.in-Some.at c.index-slots-at.result c.args.line found.0 found.1) origin state before chain at))
 
 pub returns-in-Some-clause-cut : goal.returns-in-Some-clause-cut
 returns-in-Some-clause-cut g c moment origin state before chain at =
@@ -31,8 +32,8 @@ returns-in-Some-clause-cut g c moment origin state before chain at =
     let links = links_of lost slots in
     let found = c.in-Some.ensures.found in
     halted_as g.D.Disk origin c.search_slot.result c.args.concentrator.now.house.budget state before moment (searches c.args.budget c.args.line) links _ _ c.args.concentrator.now c.search_slot.new.concentrator
-    (λ exchanges goes. is_one g.B.Bus.lost g.B.Bus.asks g.B.ScriptBus.settles g.B.ScriptBus.ready (searches c.args.budget c.args.line) slots _ exchanges (named_set (SearchesOver g.B.Bus.lost g.B.Bus.asks g.B.ScriptBus.settles g.B.ScriptBus.ready exchanges) slots c.in-Some.at c.index-slots-at.result c.search_slot.new.slot c.args.line found.0 found.1 goes))
-    (c.search_slot.ensures.cut links moment (slot_found lost slots c.in-Some.at c.index-slots-at.result c.args.line found.0 found.1) origin state before chain at)
+    (λ exchanges goes. is_one g.B.Bus.lost g.B.Bus.asks g.B.ScriptBus.settles g.B.ScriptBus.ready (searches c.args.budget c.args.line) slots _ exchanges (named_set (λ old new. SearchesOver g.B.Bus.lost g.B.Bus.asks g.B.ScriptBus.settles g.B.ScriptBus.ready old new exchanges) slots c.in-Some.at c.index-slots-at.result c.search_slot.new.slot c.args.line found.0 found.1 goes))
+    (c.search_slot.ensures.cut moment links (slot_found lost slots c.in-Some.at c.index-slots-at.result c.args.line found.0 found.1) origin state before chain at)
 
 pub returns-in-Some-clause-starved : goal.returns-in-Some-clause-starved
 returns-in-Some-clause-starved g c origin state before chain at =
@@ -41,7 +42,7 @@ returns-in-Some-clause-starved g c origin state before chain at =
     let links = links_of lost slots in
     let found = c.in-Some.ensures.found in
     starved_as g.D.Disk origin c.search_slot.result c.args.concentrator.now.house.budget state before (searches c.args.budget c.args.line) links (Puts (g.W.Sink.written c.args.out.now) (g.W.Sink.written c.search_slot.new.out)) _ _ c.args.concentrator.now c.search_slot.new.concentrator
-    (λ exchanges goes. is_one g.B.Bus.lost g.B.Bus.asks g.B.ScriptBus.settles g.B.ScriptBus.ready (searches c.args.budget c.args.line) slots _ exchanges (named_set (SearchesOver g.B.Bus.lost g.B.Bus.asks g.B.ScriptBus.settles g.B.ScriptBus.ready exchanges) slots c.in-Some.at c.index-slots-at.result c.search_slot.new.slot c.args.line found.0 found.1 goes))
+    (λ exchanges goes. is_one g.B.Bus.lost g.B.Bus.asks g.B.ScriptBus.settles g.B.ScriptBus.ready (searches c.args.budget c.args.line) slots _ exchanges (named_set (λ old new. SearchesOver g.B.Bus.lost g.B.Bus.asks g.B.ScriptBus.settles g.B.ScriptBus.ready old new exchanges) slots c.in-Some.at c.index-slots-at.result c.search_slot.new.slot c.args.line found.0 found.1 goes))
     (c.search_slot.ensures.starved links (slot_found lost slots c.in-Some.at c.index-slots-at.result c.args.line found.0 found.1) origin state before chain at)
 
 pub returns-in-Some-clause-through : goal.returns-in-Some-clause-through

@@ -12,7 +12,7 @@ use Rattle.dc_concentrator.proofs.Wents.{went_none}
 use Rattle.dc_script.proofs.script.search_slot.Goals as goal
 
 pub returns-in-Some-clause-ran : goal.returns-in-Some-clause-ran
-returns-in-Some-clause-ran g c links moment same origin state before chain at =
+returns-in-Some-clause-ran g c moment links same origin state before chain at =
     let lost = g.B.Bus.lost in
     ran_as g.D.Disk origin c.search_on.result c.args.concentrator.now.house.budget state before moment (searches c.args.budget c.args.line) links _ (Puts (g.W.Sink.written c.args.out.now) (g.W.Sink.written c.search_on.new.out)) _ _ c.args.concentrator.now c.search_on.new.concentrator
     (λ exchanges so. searches_over g.B.Bus.lost g.B.Bus.asks g.B.ScriptBus.settles g.B.ScriptBus.ready exchanges c.args.slot.now c.in-Some.slot c.search_on.new.bus c.in-Some.is so c.search_on.ensures.untouched)
@@ -21,7 +21,7 @@ returns-in-Some-clause-ran g c links moment same origin state before chain at =
     (prompt_by c.in-Some.slot.is_gateway (g.B.ScriptBus.late c.in-Some.slot.bus) (g.B.ScriptBus.late c.search_on.new.bus)) (c.search_on.ensures.went origin state before chain at))
 
 pub returns-in-Some-clause-cut : goal.returns-in-Some-clause-cut
-returns-in-Some-clause-cut g c links moment same origin state before chain at =
+returns-in-Some-clause-cut g c moment links same origin state before chain at =
     let lost = g.B.Bus.lost in
     halted_as g.D.Disk origin c.search_on.result c.args.concentrator.now.house.budget state before moment (searches c.args.budget c.args.line) links _ _ c.args.concentrator.now c.search_on.new.concentrator
     (λ exchanges so. searches_over g.B.Bus.lost g.B.Bus.asks g.B.ScriptBus.settles g.B.ScriptBus.ready exchanges c.args.slot.now c.in-Some.slot c.search_on.new.bus c.in-Some.is so c.search_on.ensures.untouched)
@@ -53,7 +53,7 @@ returns-in-Some-clause-kept g c =
     }
 
 pub returns-in-None-clause-ran : goal.returns-in-None-clause-ran
-returns-in-None-clause-ran g c links moment same origin state before chain at =
+returns-in-None-clause-ran g c moment links same origin state before chain at =
     let link_is = ap (λ (l : LineLink). l.link) same in
     halted_ok c.put_no_bus.result c.written.result _ c.written.ensures
     (said_ran g.D.Disk origin c.args.concentrator.now.house.budget state before moment (searches c.args.budget c.args.line) links _ no_gateway (Puts (g.W.Sink.written c.args.out.now) (g.W.Sink.written c.put_no_bus.new.out)) _ c.args.concentrator.now c.put_no_bus.result
@@ -67,7 +67,7 @@ returns-in-None-clause-ran g c links moment same origin state before chain at =
     (went_none g.D.Disk origin c.args.concentrator.now.house.budget state before c.args.concentrator.now chain at (λ h image left. g.met.D.Disk.only_now c.args.concentrator.now.store.disk image left)) c.put_no_bus.ensures.0)
 
 pub returns-in-None-clause-cut : goal.returns-in-None-clause-cut
-returns-in-None-clause-cut g c links moment same origin state before chain at =
+returns-in-None-clause-cut g c moment links same origin state before chain at =
     let link_is = ap (λ (l : LineLink). l.link) same in
     halted_write c.put_no_bus.result c.written.result _ c.written.ensures
     (said_cut g.D.Disk origin c.args.concentrator.now.house.budget state before moment (searches c.args.budget c.args.line) links _ c.args.concentrator.now c.put_no_bus.result
