@@ -48,6 +48,7 @@ set_value() {
     case $1 in
     IMAGE) [ "${2#/}" != "$2" ] && image=$2 ;;
     BAUD) is_number "$2" && baud=$2 ;;
+    BAUD_[1-8]) is_number "$2" && bauds="$bauds ${1#BAUD_}=$2" ;;
     TRIES) is_number "$2" && tries=$2 ;;
     PATIENCE) is_number "$2" && patience=$2 ;;
     LINE_[1-8]) lines="$lines ${1#LINE_}=$2" ;;
@@ -55,11 +56,20 @@ set_value() {
     esac
 }
 
-# Reads /etc/mbdc/HOUSE.conf into image, lines (words N=LINK), baud, tries and patience. (MBDC_SETTINGS names another
+# Prints the speed of a bus line's port, that of all of them where it has none of its own: speed_of N
+speed_of() {
+    speed=$baud
+    for own in $bauds; do
+        [ "${own%%=*}" != "$1" ] || speed=${own#*=}
+    done
+    echo "$speed"
+}
+
+# Reads /etc/mbdc/HOUSE.conf into image, lines (words N=LINK), baud, bauds (words N=BAUD), tries and patience. (MBDC_SETTINGS names another
 # folder, for tries without the package; neither sudo nor a unit passes it on.)
 read_settings() {
     settings=${MBDC_SETTINGS:-/etc/mbdc}/$1.conf
-    image=/var/lib/mbdc/$1.image lines='' baud=2400 tries=2 patience=2000
+    image=/var/lib/mbdc/$1.image lines='' baud=2400 bauds='' tries=2 patience=2000
     [ -r "$settings" ] || fail "$CONFIGURATION" "$settings: it can't be read"
     number=0
     while IFS= read -r line || [ -n "$line" ]; do
