@@ -18,12 +18,12 @@ use Rattle.dc_log.specs.Halves.{half_of}
 use Rattle.dc_pending.specs.Images.{Stands}
 use Rattle.dc_progress.specs.Beside.{IsOfLines, bus_at_first}
 use Rattle.dc_poll.specs.Bus.{Bus}
-use Rattle.dc_poll.specs.Happening.{Happening, does, tells, failures_in, happened_on, happened_turns, reads_in}
+use Rattle.dc_poll.specs.Happening.{Happening, does, tells, failures_in, happened_on, happened_turns, reads_in, happened_events}
 use Rattle.dc_poll.specs.Keeping.{AreTrue, Store, all_kept, some_wait, unkept}
-use Rattle.dc_poll.specs.Planned.{asked_for, has_bus, queue_on, refused_count}
+use Rattle.dc_poll.specs.Planned.{asked_for, has_bus, queue_on, refused_count, refused_events}
 use Rattle.dc_poll.specs.Polls.{store_of}
 use Rattle.dc_poll.specs.Queue.{AreApart, Goes, GoesWell, Part, part, read_in, starts_in, stays, passes_on, starts_it, is_refused, asks_it, has_no_request, is_given_up, goes_on, is_accepted, is_put_off, fails_at_last, is_faulty, is_stored, is_unstored, stands_by, is_told, loses_it}
-use Rattle.dc_poll.specs.Round.{HasFew, IsCommitTurn, IsFresh, IsOver, IsSilent, LineGoes, meters_left, most_lines}
+use Rattle.dc_poll.specs.Round.{HasFew, IsCommitTurn, IsFresh, IsOver, IsSilent, LineGoes, lates_from, meters_left, most_lines}
 use Rattle.dc_poll.specs.Station.{part_of}
 use Rattle.dc_poll.specs.declared.phase.Phase.TheVariants.{Free}
 use Rattle.dc_poll.specs.declared.phase.Request.TheVariants.{Quiet}
@@ -35,6 +35,7 @@ use Rattle.dc_poll.specs.declared.station.Station.{Station}
 use Rattle.dc_poll.proofs.Apart.{queue_apart}
 use Rattle.dc_poll.proofs.Queues.{part_is}
 use Rattle.dc_poll.proofs.Reading.{all_read}
+use Rattle.dc_poll.proofs.Taking.{takes_both}
 use Rattle.dc_poll_progress.specs.Carried.{Wire, NothingIsWanting}
 use Rattle.dc_poll_progress.specs.Every.{EveryMeterIsRead, IsInOrder, IsOfNew, IsRead, IsWired, LineIsRead}
 use Rattle.dc_poll_progress.proofs.Carried.{along_first}
@@ -239,6 +240,8 @@ each_is_read {D = D} {B = B} g bus told passes warned takes disk new buses only 
       running = running;
       stored = λ keeps image. subst (λ (d : D). IsImage (g.choices d) image → Stands (half_of g d) (leads (opened state) turns).committed image) (sym poll.disk_is) (at.stands keeps running image);
       well = all;
+      told = takes_both takes old plan.between fresh (refused_events (has_bus bus.lost (take most_lines buses)) state (asked_for only state))
+          (happened_events happened ++ (lates_from bus 1 news ++ has_ended outcome.read outcome.failed ∷ [])) plan.refuses polls.events;
       read = counted_read outcome.read plan.polls.between.read polled.counts.read (reads_in happened) (meters_left olds) plan.polls.read polled.read polls.read (sym (reads_over (length olds) happened (here_on happened (length olds) polls.rounds.alone)) ∙ queues_over olds (λ (line : ℕ). length (read_in (happened_on line happened))) in_queues);
       failed = counted_failed outcome.failed plan.polls.between.failed polled.counts.failed (refused_count (has_bus bus.lost (take most_lines buses)) state (asked_for only state)) (failures_in happened) (meters_left news)
           plan.polls.failed polled.failed polls.failed (none_failed happened all) (none_left news (recursion_from_All IsOver news over.0));

@@ -1,7 +1,7 @@
 -- Every meter is read (this product): a poll goes through the meters of the register, and where its
--- lines carry what is said and nothing is refused, each has one reading more.
+-- lines carry what is said and nothing is wanting, each has one reading more.
 use Rattle.std.specs.Prelude.{◌≡◌, ℕ, ◌+◌, ◌-◌, ◌<◌, ◌^◌, min, Bool, false, None, Some, List, []}
-use Rattle.std.specs.Prelude.{take, length, slice_index_or}
+use Rattle.std.specs.Prelude.{◌∷◌, ◌++◌, take, length, slice_index_or}
 use Rattle.std.specs.List.{AllByRecursion}
 use Rattle.std.specs.List.Sorted.{IsStrictlySortedBy}
 use Rattle.std.specs.Map.{keys_of}
@@ -18,13 +18,16 @@ use Rattle.dc_world.specs.Meter.{Meter}
 use Rattle.dc_progress.specs.Beside.{HasRead, bus_at_first}
 use Rattle.dc_progress.specs.Needs.{IsThere}
 use Rattle.dc_poll.specs.Bus.{Bus}
-use Rattle.dc_poll.specs.Happening.{Happening, does, tells, happened_on, happened_turns}
+use Rattle.dc_poll.specs.Happening.{Happening, does, tells, happened_events}
+use Rattle.dc_poll.specs.Happening.{happened_on, happened_turns}
 use Rattle.dc_poll.specs.ImagePoll.{ImageTurned, PlanPolled}
 use Rattle.dc_poll.specs.Planned.{asked_for, has_bus, queue_on, refused_count}
+use Rattle.dc_poll.specs.Planned.{refused_events}
 use Rattle.dc_poll.specs.Queue.{GoesWell, read_in}
-use Rattle.dc_poll.specs.Round.{HasFew, LineGoes, meters_left, most_lines}
+use Rattle.dc_poll.specs.Round.{HasFew, LineGoes, lates_from, meters_left, most_lines}
+use Rattle.dc_poll.specs.Telling.{TakesAll}
 use Rattle.dc_poll.specs.declared.event.Event.{Event as Told}
-use Rattle.dc_poll.specs.declared.event.Event.TheVariants.{Read as was_read}
+use Rattle.dc_poll.specs.declared.event.Event.TheVariants.{Read as was_read, End as has_ended}
 use Rattle.dc_poll.specs.declared.outcome.Outcome.{Outcome}
 use Rattle.dc_poll.specs.declared.station.Station.{Station}
 use Rattle.dc_poll_progress.specs.Carried.{Wire, IsCarried, NothingIsWanting}
@@ -43,8 +46,8 @@ pub record IsWired (state : State) (wire : Wire) (identity : Identity) : Type 0 
   pub registered : row_of identity state ≡ Some row
   pub address : row.address ≡ meter.address
 
--- THE LINE IS IN ORDER: each meter of its queue is on it, and it carries what is said. Its queue has
--- no more meters than a register.
+-- THE LINE IS IN ORDER: each meter of its queue is on it, and it carries what is said. Its queue
+-- has no more meters than a register.
 pub record IsInOrder {B : Type 0} (g : Bus B) (tries line : ℕ) (state : State) (wire : Wire)
     (old new : Station B) (happened : List Happening)
     (goes : LineGoes g tries line old new (happened_on line happened)) : Type 0 where
@@ -77,24 +80,28 @@ pub record LineIsRead (before now : State) (wire : Wire) (queue : List Identity)
   pub told : AllByRecursion (IsOfNew before now wire) happened
 
 -- EVERY METER IS READ, line by line, and that is committed: where the disk kept the disk model,
--- each image that it may be left as stands for it. No readout fails, and the counts say so: as many
--- meters are read as the queues have, and those that failed are those that were refused before.
-pub record EachIsRead {D B : Type 0} (g : Ghosts D) (origin new : D) (lost : B → Bool)
-    (state : State) (only : List Identity) (buses : List B) (olds : List (Station B))
-    (wires : ℕ → Wire) (outcome : Outcome) (happened : List Happening) (now : Core)
-    : Type 0 where
+-- each image that it may be left as stands for it. No readout fails. Told are the meters that are
+-- refused before, by name, then what happens, the late answers and the counts: as many are read as
+-- the queues have, and as many failed as were refused.
+pub record EachIsRead {D B : Type 0} (g : Ghosts D) (origin new : D) (bus : Bus B)
+    (took : List Told → Type 0) (state : State) (only : List Identity) (buses : List B)
+    (olds news : List (Station B)) (wires : ℕ → Wire) (outcome : Outcome)
+    (happened : List Happening) (now : Core) : Type 0 where
   pub lines : (k : ℕ) (d : Station B) → k < length olds
       → LineIsRead state now.committed (wires (k + 1))
-      (queue_on state only (k + 1) (lost (slice_index_or olds k d).bus))
+      (queue_on state only (k + 1) (bus.lost (slice_index_or olds k d).bus))
       (happened_on (k + 1) happened)
   pub committed : now.pending ≡ []
   pub running : now.stopped ≡ false
   pub stored : g.keeps origin → (image : Image) → IsImage (g.choices new) image
       → Stands (half_of g new) now.committed image
   pub well : AllByRecursion GoesWell happened
+  pub told : took (refused_events (has_bus bus.lost (take most_lines buses)) state
+      (asked_for only state) ++ (happened_events happened ++ (lates_from bus 1 news
+      ++ has_ended outcome.read outcome.failed ∷ [])))
   pub read : outcome.read ≡ meters_left olds
   pub failed : outcome.failed ≡ min (2 ^ 32 - 1)
-      (refused_count (has_bus lost (take most_lines buses)) state (asked_for only state))
+      (refused_count (has_bus bus.lost (take most_lines buses)) state (asked_for only state))
   pub fault : outcome.fault ≡ None
 
 -- EVERY METER IS READ. A poll of an image did this plan, and its concentrator had what it needs: no
@@ -113,6 +120,6 @@ EveryMeterIsRead {D} {B} {T} {N} g bus told passes warned takes =
     → IsInOrder bus tries (k + 1) poll.state (wires (k + 1))
     (slice_index_or poll.happens.are_such.olds k d) (slice_index_or poll.happens.are_such.news k d)
     poll.happens.happened (poll.happens.are_such.polls.polled.polls.rounds.goes k d low))
-    → EachIsRead g poll.first.store.disk new bus.lost poll.state only buses
-    poll.happens.are_such.olds wires outcome
+    → EachIsRead g poll.first.store.disk new bus (TakesAll takes old fresh) poll.state only buses
+    poll.happens.are_such.olds poll.happens.are_such.news wires outcome
     poll.happens.happened (leads (opened poll.state) (happened_turns poll.happens.happened))
