@@ -17,10 +17,11 @@ pub fn each_readout_of_a_poll_ends_in_a_reading<B: QuietBus>()
 
 /// Every meter is read by a poll of an image, and that is committed.
 ///
-/// The meters of its lines follow the standard, each line carries what is said, losing nothing
-/// three times in a row, and the concentrator refuses no start, no answer and no commit. Then what
-/// is read on each line is its queue, in order, and each meter of it has one reading more than
-/// before, whole and in order. No readout fails, and the counts say so.
+/// The meters of its lines are there and follow the standard, each line carries what is said and
+/// loses nothing three times in a row, no telegram is refused for want of room or memory, and no
+/// commit fails. Then what is read on each line is its queue, in order, and each meter of it has one
+/// reading more than before, whole and in order, whose serial is told. No readout fails, and the
+/// counts say so.
 pub fn every_meter_is_read<D: Disk + Drop, B: QuietBus + Drop, T: Timer<B>, N: Teller>()
     ensures { EveryMeterIsRead D.Disk B.QuietBus T.tells T.passes T.warns N.takes }
 {}
