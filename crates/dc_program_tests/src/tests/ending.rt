@@ -4,130 +4,96 @@ use dc_concentrator::CommitFault;
 use dc_ending::{Ending, ProgramFault, ending_of};
 use dc_io::{Bytes, FixedSink, IoFault, Sink};
 use dc_log::{FormatFault, OpenFault};
-use std::alloc::Global;
+use std::process::Abort;
 use std::test::Fail;
 
-fn line_of(alloc: Global, ending: &Ending) -> Result<Bytes<Global>, IoFault> {
-    let mut out = Bytes::new(alloc);
+// An ending, its status and its line.
+struct Row(Ending<'static>, u8, &'static [u8]);
+
+// The statuses and lines of docs/COMMANDS.md.
+const ENDINGS: [Row; 12] = [
+    Row(Ending::Clean, 0, b""),
+    Row(Ending::Faulty, 1, b""),
+    Row(
+        Ending::Words("unexpected argument 'a\tb'; try mbdc --help"),
+        2,
+        b"mbdc: unexpected argument 'a\\tb'; try mbdc --help\n",
+    ),
+    Row(
+        Ending::Format(FormatFault::AlreadyFormatted),
+        3,
+        b"mbdc: format: 2 AlreadyFormatted\n",
+    ),
+    Row(
+        Ending::Open(OpenFault::Damaged(3)),
+        3,
+        b"mbdc: open: 2 Damaged 3\n",
+    ),
+    Row(
+        Ending::Open(OpenFault::NotImage),
+        3,
+        b"mbdc: open: 1 NotImage\n",
+    ),
+    Row(
+        Ending::Disk(CommitFault::Device),
+        3,
+        b"mbdc: disk: 1 Device\n",
+    ),
+    Row(Ending::File("day.txt"), 4, b"mbdc: file: day.txt\n"),
+    Row(Ending::Gateway, 4, b"mbdc: gateway\n"),
+    Row(Ending::Clock, 4, b"mbdc: clock: outside 1970 to 9999\n"),
+    Row(Ending::Memory, 4, b"mbdc: memory\n"),
+    // Control characters are escaped, and no others.
+    Row(
+        Ending::File("a\n\u{1b}\u{7f}\u{85} z\u{e4}hler's\\.txt"),
+        4,
+        b"mbdc: file: a\\n\\u{1b}\\u{7f}\\u{85} z\xC3\xA4hler's\\.txt\n",
+    ),
+];
+
+fn ends(
+    rt: &(impl Abort + AllocGlobal),
+    ending: &Ending<'_>,
+    status: u8,
+    line: &[u8],
+) -> Result<(), Fail> {
+    assert_eq!(rt; ending.status(), status);
+    let mut out = Bytes::new(rt.alloc());
     ending.put_line(&mut out)?;
-    Ok(out)
-}
-
-#[test]
-fn nothing_is_said_where_all_was_told(rt: HostRuntime) -> Result<(), Fail> {
-    assert_eq!(rt; Ending::Clean.status(), 0);
-    assert_eq!(rt;
-        line_of(rt.alloc(), &Ending::Clean)?.as_slice(),
-        b"".as_slice()
-    );
-    assert_eq!(rt; Ending::Faulty.status(), 1);
-    assert_eq!(rt;
-        line_of(rt.alloc(), &Ending::Faulty)?.as_slice(),
-        b"".as_slice()
-    );
+    assert_eq!(rt; out.as_slice(), line);
     Ok(())
 }
 
 #[test]
-fn words_are_told_on_one_line(rt: HostRuntime) -> Result<(), Fail> {
-    let ending = Ending::Words("unexpected argument 'a\tb'; try mbdc --help");
-    assert_eq!(rt; ending.status(), 2);
-    let want = b"mbdc: unexpected argument 'a\\tb'; try mbdc --help\n";
-    assert_eq!(rt; line_of(rt.alloc(), &ending)?.as_slice(), want.as_slice());
+fn each_ending_has_a_status_and_a_line(rt: HostRuntime) -> Result<(), Fail> {
+    for Row(ending, status, line) in &ENDINGS {
+        ends(&rt, ending, *status, line)?;
+    }
     Ok(())
 }
 
-#[test]
-fn a_store_is_told_with_number_and_name(rt: HostRuntime) -> Result<(), Fail> {
-    let ending = Ending::Format(FormatFault::AlreadyFormatted);
-    assert_eq!(rt; ending.status(), 3);
-    assert_eq!(rt;
-        line_of(rt.alloc(), &ending)?.as_slice(),
-        b"mbdc: format: 2 AlreadyFormatted\n".as_slice()
-    );
-    let ending = Ending::Open(OpenFault::Damaged(3));
-    assert_eq!(rt; ending.status(), 3);
-    assert_eq!(rt;
-        line_of(rt.alloc(), &ending)?.as_slice(),
-        b"mbdc: open: 2 Damaged 3\n".as_slice()
-    );
-    let ending = Ending::Open(OpenFault::NotImage);
-    assert_eq!(rt;
-        line_of(rt.alloc(), &ending)?.as_slice(),
-        b"mbdc: open: 1 NotImage\n".as_slice()
-    );
-    let ending = Ending::Disk(CommitFault::Device);
-    assert_eq!(rt; ending.status(), 3);
-    assert_eq!(rt;
-        line_of(rt.alloc(), &ending)?.as_slice(),
-        b"mbdc: disk: 1 Device\n".as_slice()
-    );
-    Ok(())
-}
-
-#[test]
-fn files_gateway_clock_and_memory_have_one_status(rt: HostRuntime) -> Result<(), Fail> {
-    let ending = Ending::File("day.txt");
-    assert_eq!(rt; ending.status(), 4);
-    assert_eq!(rt;
-        line_of(rt.alloc(), &ending)?.as_slice(),
-        b"mbdc: file: day.txt\n".as_slice()
-    );
-    assert_eq!(rt; Ending::Gateway.status(), 4);
-    assert_eq!(rt;
-        line_of(rt.alloc(), &Ending::Gateway)?.as_slice(),
-        b"mbdc: gateway\n".as_slice()
-    );
-    assert_eq!(rt; Ending::Clock.status(), 4);
-    assert_eq!(rt;
-        line_of(rt.alloc(), &Ending::Clock)?.as_slice(),
-        b"mbdc: clock: outside 1970 to 9999\n".as_slice()
-    );
-    assert_eq!(rt; Ending::Memory.status(), 4);
-    assert_eq!(rt;
-        line_of(rt.alloc(), &Ending::Memory)?.as_slice(),
-        b"mbdc: memory\n".as_slice()
-    );
-    Ok(())
-}
-
-#[test]
-fn control_characters_are_escaped_and_no_others(rt: HostRuntime) -> Result<(), Fail> {
-    let ending = Ending::File("a\n\u{1b}\u{7f}\u{85} z\u{e4}hler's\\.txt");
-    let want = "mbdc: file: a\\n\\u{1b}\\u{7f}\\u{85} z\u{e4}hler's\\.txt\n";
-    assert_eq!(rt; line_of(rt.alloc(), &ending)?.as_slice(), want.as_bytes());
-    Ok(())
+// The ending of a run over `day.txt`, whose engine answered this.
+fn ends_so(
+    rt: &(impl Abort + AllocGlobal),
+    answer: Result<bool, ProgramFault>,
+    status: u8,
+    line: &[u8],
+) -> Result<(), Fail> {
+    ends(rt, &ending_of(answer, "day.txt"), status, line)
 }
 
 #[test]
 fn an_answer_of_an_engine_ends_a_run(rt: HostRuntime) -> Result<(), Fail> {
-    assert_eq!(rt; ending_of(Ok(false), "day.txt").status(), 0);
-    assert_eq!(rt; ending_of(Ok(true), "day.txt").status(), 1);
-    let ending = ending_of(Err(ProgramFault::TooLong), "day.txt");
-    assert_eq!(rt;
-        line_of(rt.alloc(), &ending)?.as_slice(),
-        b"mbdc: file: day.txt\n".as_slice()
-    );
-    let ending = ending_of(Err(ProgramFault::Write), "day.txt");
-    assert_eq!(rt;
-        line_of(rt.alloc(), &ending)?.as_slice(),
-        b"mbdc: file: -\n".as_slice()
-    );
-    let ending = ending_of(Err(ProgramFault::Open(OpenFault::Worn)), "day.txt");
-    assert_eq!(rt;
-        line_of(rt.alloc(), &ending)?.as_slice(),
-        b"mbdc: open: 4 Worn\n".as_slice()
-    );
+    ends_so(&rt, Ok(false), 0, b"")?;
+    ends_so(&rt, Ok(true), 1, b"")?;
+    let file = b"mbdc: file: day.txt\n";
+    ends_so(&rt, Err(ProgramFault::TooLong), 4, file)?;
+    ends_so(&rt, Err(ProgramFault::Write), 4, b"mbdc: file: -\n")?;
+    let worn = ProgramFault::Open(OpenFault::Worn);
+    ends_so(&rt, Err(worn), 3, b"mbdc: open: 4 Worn\n")?;
+    ends_so(&rt, Err(ProgramFault::NoMemory), 4, b"mbdc: memory\n")?;
     let refused = ProgramFault::Open(OpenFault::NoMemory);
-    for fault in [ProgramFault::NoMemory, refused] {
-        let ending = ending_of(Err(fault), "day.txt");
-        assert_eq!(rt; ending.status(), 4);
-        assert_eq!(rt;
-            line_of(rt.alloc(), &ending)?.as_slice(),
-            b"mbdc: memory\n".as_slice()
-        );
-    }
-    Ok(())
+    ends_so(&rt, Err(refused), 4, b"mbdc: memory\n")
 }
 
 #[test]

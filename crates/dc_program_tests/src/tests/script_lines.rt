@@ -6,6 +6,7 @@ use dc_frame::FrameBuf;
 use dc_io::{Bytes, Sink};
 use dc_script::{Slot, run_script_over};
 use std::alloc::Global;
+use std::process::Abort;
 use std::test::Fail;
 
 // A line that answers as a gateway does. With each request some answers come late, and it may be lost while it settles.
@@ -101,17 +102,39 @@ fn line(bus: Wired) -> Option<Slot<Wired>> {
     })
 }
 
-// Whether a script over these lines writes that.
-fn writes(
+// What a script over these lines writes, and whether a line of it spells nothing.
+fn written(
     heap: Global,
     script: &[u8],
     lines: &mut [Option<Slot<Wired>>],
-    text: &[u8],
-) -> Result<bool, Fail> {
+) -> Result<(Bytes<Global>, bool), Fail> {
     let mut reader = Bytes::from_slice(heap, script)?;
     let mut writer = Bytes::new(heap);
-    let (_, outcome) = run_script_over(heap, blank(heap)?, &mut reader, &mut writer, lines);
-    Ok(outcome == Ok(false) && writer.as_slice() == text)
+    match run_script_over(heap, blank(heap)?, &mut reader, &mut writer, lines) {
+        (_, Ok(faulty)) => Ok((writer, faulty)),
+        (_, Err(fault)) => Err(Fail::from(fault)),
+    }
+}
+
+// A script over these lines writes that.
+fn writes(
+    rt: &(impl Abort + AllocGlobal),
+    script: &[u8],
+    lines: &mut [Option<Slot<Wired>>],
+    text: &[u8],
+    faulty: bool,
+) -> Result<(), Fail> {
+    let (told, found) = written(rt.alloc(), script, lines)?;
+    assert_eq!(rt; told.as_slice(), text);
+    assert_eq!(rt; found, faulty);
+    Ok(())
+}
+
+// The lines settled this often.
+fn settled(rt: &impl Abort, lines: &[Option<Slot<Wired>>], counts: &[u32]) {
+    for (line, count) in lines.iter().zip(counts) {
+        assert_eq!(rt; settles_of(line), *count);
+    }
 }
 
 // How often the line of a slot settled.
@@ -130,19 +153,16 @@ const READ: &[u8] =
 const ALONE: &[u8] =
     b"\x01\xE5\x00\x15\x68\x0F\x0F\x68\x08\x00\x72\x78\x56\x34\x12\x24\x40\x01\x07\x00\x00\x00\x00\xFA\x16\x00";
 
+// A gateway on line 1, and a meter on line 8.
+fn eight_lines(heap: Global) -> Result<[Option<Slot<Wired>>; 8], Fail> {
+    let first = gateway(bus_of(heap, b"")?);
+    let last = line(bus_of(heap, READ)?);
+    Ok([first, None, None, None, None, None, None, last])
+}
+
 #[test]
 fn a_meter_on_line_8_is_polled(rt: HostRuntime) -> Result<(), Fail> {
-    let heap = rt.alloc();
-    let mut lines = [
-        gateway(bus_of(heap, b"")?),
-        None,
-        None,
-        None,
-        None,
-        None,
-        None,
-        line(bus_of(heap, READ)?),
-    ];
+    let mut lines = eight_lines(rt.alloc())?;
     let script = b"OFFICE 1 FIT 12345678.PAD.01.07 8 1 A1
 POLL 8 12345678.PAD.01.07
 POLL 2 12345678.PAD.01.07
@@ -160,23 +180,24 @@ NO GATEWAY
 NO GATEWAY
 NO GATEWAY
 ";
-    assert!(rt; writes(heap, script, &mut lines, text)?);
-    assert_eq!(rt; settles_of(&lines[7]), 1);
-    assert_eq!(rt; settles_of(&lines[0]), 0);
+    writes(&rt, script, &mut lines, text, false)?;
+    settled(&rt, &lines, &[0, 0, 0, 0, 0, 0, 0, 1]);
     Ok(())
+}
+
+// A gateway and a line that are lost at their first request, and one that is lost while it settles.
+fn lines_lost(heap: Global) -> Result<[Option<Slot<Wired>>; 3], Fail> {
+    let mut loud = bus_of(heap, ALONE)?;
+    loud.is_loud = true;
+    let first = gateway(bus_of(heap, b"")?);
+    let second = line(bus_of(heap, b"")?);
+    Ok([first, second, line(loud)])
 }
 
 // Each loss is printed once, in the words of its line. A search and a readout settle their bus, until it is lost.
 #[test]
 fn each_line_tells_its_loss_once(rt: HostRuntime) -> Result<(), Fail> {
-    let heap = rt.alloc();
-    let mut loud = bus_of(heap, ALONE)?;
-    loud.is_loud = true;
-    let mut lines = [
-        gateway(bus_of(heap, b"")?),
-        line(bus_of(heap, b"")?),
-        line(loud),
-    ];
+    let mut lines = lines_lost(rt.alloc())?;
     let script = b"SEARCH 1
 SEARCH 1 2
 SEARCH 1
@@ -194,23 +215,25 @@ LINE 3 LOST
 REFUSED 2 Unknown
 REFUSED 2 Unknown
 ";
-    assert!(rt; writes(heap, script, &mut lines, text)?);
-    assert_eq!(rt; settles_of(&lines[0]), 1);
-    assert_eq!(rt; settles_of(&lines[1]), 1);
-    assert_eq!(rt; settles_of(&lines[2]), 1);
+    writes(&rt, script, &mut lines, text, false)?;
+    settled(&rt, &lines, &[1, 1, 1]);
     Ok(())
 }
 
-// Late answers are counted by search, and never of a gateway.
-#[test]
-fn late_answers_are_counted(rt: HostRuntime) -> Result<(), Fail> {
-    let heap = rt.alloc();
+// A gateway and a line on each of which some answers come late with each request.
+fn late_lines(heap: Global) -> Result<[Option<Slot<Wired>>; 2], Fail> {
     let mut ends = bus_of(heap, ALONE)?;
     ends.late_each = 7;
     let mut late = bus_of(heap, ALONE)?;
     late.late_each = 2;
     late.late = 5;
-    let mut lines = [gateway(ends), line(late)];
+    Ok([gateway(ends), line(late)])
+}
+
+// Late answers are counted by search, and never of a gateway.
+#[test]
+fn late_answers_are_counted(rt: HostRuntime) -> Result<(), Fail> {
+    let mut lines = late_lines(rt.alloc())?;
     let script = b"SEARCH 9 2
 SEARCH 0 2
 SEARCH 9 1
@@ -227,11 +250,5 @@ SELECTIONS 1
 NO GATEWAY
 LINE 5 SYNTAX
 ";
-    let mut reader = Bytes::from_slice(heap, script)?;
-    let mut writer = Bytes::new(heap);
-    let disk = blank(heap)?;
-    let (_, outcome) = run_script_over(heap, disk, &mut reader, &mut writer, &mut lines);
-    assert_eq!(rt; outcome, Ok(true));
-    assert_eq!(rt; writer.as_slice(), text.as_slice());
-    Ok(())
+    writes(&rt, script, &mut lines, text, true)
 }

@@ -5,6 +5,7 @@ use dc_io::{Bytes, IoFault, Source};
 use dc_script::run_script;
 use refusing_alloc::Refusing;
 use std::alloc::Allocator;
+use std::process::Abort;
 use std::test::Fail;
 
 // A meter acknowledges the selection of all, and sends its telegram.
@@ -31,37 +32,36 @@ impl<'a, A: Allocator> Source for Starving<'a, A> {
     }
 }
 
-#[test]
-fn a_search_without_memory_ends_the_script(rt: HostRuntime) -> Result<(), Fail> {
+// A script over a gateway that gives these blocks, and in which a search runs out of memory, writes this.
+fn starves(
+    rt: &(impl Abort + AllocGlobal),
+    script: &[u8],
+    blocks: &[u8],
+    text: &[u8],
+) -> Result<(), Fail> {
     let heap = Refusing::new(rt.alloc());
-    let mut reader = Bytes::from_slice(rt.alloc(), b"SEARCH 0\nSEARCH 9\nCOMMIT\n")?;
+    let mut reader = Bytes::from_slice(rt.alloc(), script)?;
     let mut writer = Bytes::new(rt.alloc());
     let ends = Starving {
         heap: &heap,
-        bytes: Bytes::from_slice(rt.alloc(), ALONE)?,
+        bytes: Bytes::from_slice(rt.alloc(), blocks)?,
     };
     let gateway = Some((ends, Bytes::new(rt.alloc())));
     let disk = blank(rt.alloc())?;
     let (_, outcome) = run_script(&heap, disk, &mut reader, &mut writer, gateway);
     assert_eq!(rt; outcome, Err(ProgramFault::NoMemory));
-    assert_eq!(rt; writer.as_slice(), b"BUDGET\nSELECTIONS 0\n".as_slice());
+    assert_eq!(rt; writer.as_slice(), text);
     Ok(())
+}
+
+#[test]
+fn a_search_without_memory_ends_the_script(rt: HostRuntime) -> Result<(), Fail> {
+    let script = b"SEARCH 0\nSEARCH 9\nCOMMIT\n";
+    starves(&rt, script, ALONE, b"BUDGET\nSELECTIONS 0\n")
 }
 
 // The gateway is lost, then a growth is refused: the loss is printed.
 #[test]
 fn a_loss_is_told_where_memory_is_refused(rt: HostRuntime) -> Result<(), Fail> {
-    let heap = Refusing::new(rt.alloc());
-    let mut reader = Bytes::from_slice(rt.alloc(), b"SEARCH 9\n")?;
-    let mut writer = Bytes::new(rt.alloc());
-    let ends = Starving {
-        heap: &heap,
-        bytes: Bytes::from_slice(rt.alloc(), b"\x01\xE5\x00")?,
-    };
-    let gateway = Some((ends, Bytes::new(rt.alloc())));
-    let disk = blank(rt.alloc())?;
-    let (_, outcome) = run_script(&heap, disk, &mut reader, &mut writer, gateway);
-    assert_eq!(rt; outcome, Err(ProgramFault::NoMemory));
-    assert_eq!(rt; writer.as_slice(), b"GATEWAY LOST\n".as_slice());
-    Ok(())
+    starves(&rt, b"SEARCH 9\n", b"\x01\xE5\x00", b"GATEWAY LOST\n")
 }
