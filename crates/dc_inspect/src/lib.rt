@@ -22,6 +22,6 @@ mod text;
 mod values;
 
 pub use inspecting::inspect;
-pub use status::show_status;
+pub use status::{StatusForm, show_status};
 pub use table::{Form, Report, report_on};
 pub use values::{ValuesForm, show_values};

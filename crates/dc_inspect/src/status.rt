@@ -10,6 +10,7 @@ ghost use Rattle.dc_log.specs.Halves.{fewest_sectors};
 ghost use Rattle.dc_log.specs.declared.fault.OpenFault.TheVariants.{Device};
 ghost use Rattle.dc_inspect.specs.Look.{seen_of};
 ghost use Rattle.dc_inspect.specs.Status.{TellsAt, TellsStatus, seen_silent, seen_status};
+ghost use Rattle.dc_inspect.specs.Status.{status_in};
 ghost use Rattle.dc_inspect.specs.Told.{IsOfLook};
 
 use crate::look::look_at;
@@ -18,22 +19,50 @@ use dc_ending::ProgramFault;
 use dc_io::{Bytes, IoFault, Sink};
 use dc_log::{FEWEST_SECTORS, Found, OpenFault, half_len_of};
 use dc_register::House;
-use dc_status::{Clock, any_silent, put_status};
+use dc_status::{Clock, any_silent, put_metrics, put_status, put_status_objects};
 use std::alloc::Allocator;
+
+/// How the status is written.
+#[derive(Clone, Copy, Debug, PartialEq, Eq)]
+pub enum StatusForm {
+    /// Lines of words, one a meter.
+    Text,
+    /// JSON Lines (RFC 8259), an object a meter and one for the image.
+    Json,
+    /// The text format of Prometheus.
+    Metrics,
+}
+
+// Writes the status of a house.
+fn put_house<A: Allocator + Copy, W: Sink>(
+    out: &mut W,
+    form: StatusForm,
+    clock: Clock,
+    house: &House<A>,
+) -> Result<(), IoFault>
+    ensures { Wrote W.Sink result out.old out.new (status_in form clock house.now) }
+{
+    match form {
+        StatusForm::Text => put_status(out, house, clock),
+        StatusForm::Json => put_status_objects(out, house, clock),
+        StatusForm::Metrics => put_metrics(out, house, clock),
+    }
+}
 
 // Writes the status of the state that was found.
 #[tactic(auto, using(dc_io::proofs::Pieces::written))]
 fn put_found<A: Allocator + Copy, W: Sink>(
     out: &mut W,
+    form: StatusForm,
     clock: Clock,
     found: &Option<Found<House<A>>>,
 ) -> Result<(), IoFault>
     ensures { (budget : ℕ) → IfSome found.now (λ f. f.house.budget ≡ budget)
         → Wrote W.Sink result out.old out.new
-        (seen_status clock budget (option_map seen_of found.now)) }
+        (seen_status form clock budget (option_map seen_of found.now)) }
 {
     match found {
-        Some(found) => put_status(out, &found.house, clock),
+        Some(found) => put_house(out, form, clock, &found.house),
         None => Ok(()),
     }
 }
@@ -52,13 +81,14 @@ fn tell_image<A: Allocator + Copy, D: Disk>(
     alloc: A,
     disk: &mut D,
     sectors: u32,
+    form: StatusForm,
     clock: Clock,
     text: &mut Bytes<A>,
 ) -> Result<(Option<OpenFault>, bool), ProgramFault>
     requires sectors { sectors ≡ D.sectors disk.old }
     requires enough { fewest_sectors ≤ sectors }
     ensures told { D.keeps disk.new → IfOk result (λ answer.
-        TellsStatus clock sectors (D.reads disk.old) answer.0 answer.1
+        TellsStatus form clock sectors (D.reads disk.old) answer.0 answer.1
         (Puts (Some text.old.bytes) (Some text.new.bytes))) }
     ensures looked { OnlyLooked D.Disk disk.old disk.new }
     ensures counts { Counts D.Disk disk.old disk.new (IsErrOf result (ProgramFault.Open Device)) }
@@ -66,7 +96,7 @@ fn tell_image<A: Allocator + Copy, D: Disk>(
         (HasRisen (D.failures disk.old) (D.failures disk.new)) ⊥) }
 {
     let look = look_at(alloc, disk, half_len_of(sectors))?;
-    match put_found(text, clock, &look.found) {
+    match put_found(text, form, clock, &look.found) {
         Ok(()) => Ok((look.refusal, is_silent(clock, &look.found))),
         Err(IoFault) => Err(ProgramFault::NoMemory),
     }
@@ -76,11 +106,12 @@ fn tell_image<A: Allocator + Copy, D: Disk>(
 fn tell_disk<A: Allocator + Copy, D: Disk>(
     alloc: A,
     disk: &mut D,
+    form: StatusForm,
     clock: Clock,
     text: &mut Bytes<A>,
 ) -> Result<(Option<OpenFault>, bool), ProgramFault>
     ensures told { D.keeps disk.new → IfOk result (λ answer.
-        TellsAt clock (D.sectors disk.old) (D.reads disk.old) answer.0 answer.1
+        TellsAt form clock (D.sectors disk.old) (D.reads disk.old) answer.0 answer.1
         (Puts (Some text.old.bytes) (Some text.new.bytes))) }
     ensures looked { OnlyLooked D.Disk disk.old disk.new }
     ensures counts { Counts D.Disk disk.old disk.new (IsErrOf result (ProgramFault.Open Device)) }
@@ -91,7 +122,7 @@ fn tell_disk<A: Allocator + Copy, D: Disk>(
     if sectors < FEWEST_SECTORS {
         return Ok((Some(OpenFault::NotImage), false));
     }
-    tell_image(alloc, disk, sectors, clock, text)
+    tell_image(alloc, disk, sectors, form, clock, text)
 }
 
 /// Reads the image and writes when its meters were last heard, and how full it is, at a clock. Nothing is written to
@@ -104,11 +135,12 @@ fn tell_disk<A: Allocator + Copy, D: Disk>(
 pub fn show_status<D: Disk, A: Allocator + Copy, W: Sink>(
     alloc: A,
     disk: &mut D,
+    form: StatusForm,
     clock: Clock,
     writer: &mut W,
 ) -> Result<(Option<OpenFault>, bool), ProgramFault>
     ensures told { D.keeps disk.new → IfOk result (λ answer.
-        TellsAt clock (D.sectors disk.old) (D.reads disk.old) answer.0 answer.1
+        TellsAt form clock (D.sectors disk.old) (D.reads disk.old) answer.0 answer.1
         (PutsInto W.Sink writer.old writer.new)) }
     ensures well { OnOk result (W.put_failures writer.new ≡ W.put_failures writer.old) }
 
@@ -124,7 +156,7 @@ pub fn show_status<D: Disk, A: Allocator + Copy, W: Sink>(
         fault ≢ ProgramFault.Write → writer.new ≡ writer.old) }
 {
     let mut text = Bytes::new(alloc);
-    let (refusal, is_silent) = tell_disk(alloc, disk, clock, &mut text)?;
+    let (refusal, is_silent) = tell_disk(alloc, disk, form, clock, &mut text)?;
     match writer.put(text.as_slice()) {
         Ok(()) => Ok((refusal, is_silent)),
         Err(IoFault) => Err(ProgramFault::Write),

@@ -1,6 +1,6 @@
 -- The lines of `status` (this product): of each registered meter when it was last heard, and how full the image is.
 use Rattle.std.specs.Prelude.{ℕ, ◌-◌, ◌/◌, max, ◌==◌, if◌then◌else◌, Bool, true, false, List, [], ◌∷◌, ◌++◌}
-use Rattle.std.specs.Prelude.{codes, slice_get, Option, None, Some, Result, Ok, Err}
+use Rattle.std.specs.Prelude.{codes, length, slice_get, Option, None, Some, Result, Ok, Err}
 use Rattle.std.specs.List.{flat_map, list_any}
 use Rattle.dc_io.specs.Words.{number_word}
 use Rattle.dc_address.specs.Text.{text_of}
@@ -85,6 +85,22 @@ days_words (Some days) = codes "DAYS" ++ (number_word days ++ codes "\n")
 unfoldable pub size_line : ℕ → State → List ℕ
 size_line budget s = codes "SIZE" ++ (number_word (size_of s) ++ (number_word budget ++ codes "\n"))
 
+-- the bytes that a reading takes, of those that are held
+abbrev pub bytes_a_reading : State → ℕ
+bytes_a_reading s =
+    if length s.readings == 0 then 0
+    else (size_of s - empty_size) / length s.readings
+
+-- how many more readings of that size the budget has room for; none where none is held
+abbrev pub readings_left : ℕ → State → Option ℕ
+readings_left budget s =
+    if bytes_a_reading s == 0 then None
+    else Some ((budget - size_of s) / bytes_a_reading s)
+
+unfoldable pub room_words : Option ℕ → List ℕ
+room_words None = codes "ROOM NONE\n"
+room_words (Some readings) = codes "ROOM" ++ (number_word readings ++ codes "\n")
+
 -- ---- all
 
 unfoldable pub meter_lines : ℕ → ℕ → State → List ℕ
@@ -93,7 +109,9 @@ meter_lines patience now s = flat_map (meter_line patience now s) (by_flat s.met
 -- THE TEXT at a clock, where a meter is silent after so many seconds
 unfoldable pub status_text : ℕ → ℕ → Held → List ℕ
 status_text patience now house = meter_lines patience now house.state
-    ++ (size_line house.budget house.state ++ days_words (days_left house.budget now house.state))
+    ++ (size_line house.budget house.state
+    ++ (days_words (days_left house.budget now house.state)
+    ++ room_words (readings_left house.budget house.state)))
 
 -- one of them is silent
 abbrev pub any_silent : ℕ → ℕ → State → Bool

@@ -2,14 +2,20 @@
 //!
 //! [`put_status`] writes, at a clock that is handed in, a line for each registered meter by flat: the newest telegram
 //! of it that the register holds, how long ago that was, whether it is silent, and what its status byte says; then how
-//! full the image is, and in how many days it is full at this pace. [`any_silent`] says whether a meter is silent.
+//! full the image is, in how many days it is full at this pace, and how many more readings it has room for.
+//! [`put_status_objects`] writes the same as JSON objects, [`put_metrics`] as metrics for Prometheus. [`any_silent`]
+//! says whether a meter is silent.
 //!
-//! Proved: the text is exactly the one that `specs/Status.antt` defines of the state and the clock.
+//! Proved: each text is exactly the one that `specs/` defines of the state and the clock.
 #![tactic(auto)]
 
 mod full;
 mod lines;
+mod metrics;
+mod object;
 mod silence;
 
 pub use lines::put_status;
+pub use metrics::put_metrics;
+pub use object::put_status_objects;
 pub use silence::{Clock, any_silent};

@@ -5,10 +5,10 @@ ghost use Rattle.dc_io.specs.Written.{Wrote};
 ghost use Rattle.dc_change.specs.Valid.{last_moment};
 ghost use Rattle.dc_latest.specs.Values.{bit_words, bits_words};
 ghost use Rattle.dc_status.specs.Status.{byte_words, days_words, heard_words, meter_line};
-ghost use Rattle.dc_status.specs.Status.{meter_lines, meter_words, moment_words, silent_words};
+ghost use Rattle.dc_status.specs.Status.{meter_lines, meter_words, moment_words, room_words, silent_words};
 ghost use Rattle.dc_status.specs.Status.{size_line, state_words, status_text};
 
-use crate::full::days_left;
+use crate::full::{days_left, readings_left};
 use crate::silence::{Clock, heard, is_silent, part_in};
 use dc_io::{IoFault, Sink, put_number_word};
 use dc_latest::{last_reading, minute};
@@ -29,7 +29,8 @@ pub fn put_status<A: Allocator + Copy, W: Sink>(
 {
     put_all(out, house, clock)?;
     put_size(out, house)?;
-    put_days(out, days_left(house, clock.now))
+    put_days(out, days_left(house, clock.now))?;
+    put_room(out, readings_left(house))
 }
 
 // Writes the line of each meter.
@@ -173,5 +174,20 @@ fn put_days<W: Sink>(out: &mut W, days: Option<u64>) -> Result<(), IoFault>
             out.put(b"\n")
         }
         None => out.put(b"DAYS NONE\n"),
+    }
+}
+
+// Writes how many more readings there is room for.
+#[tactic(auto, using(dc_io::proofs::Pieces::written), unfolding(crate::specs::Status::room_words))]
+fn put_room<W: Sink>(out: &mut W, readings: Option<u64>) -> Result<(), IoFault>
+    ensures { Wrote W.Sink result out.old out.new (room_words readings) }
+{
+    match readings {
+        Some(readings) => {
+            out.put(b"ROOM")?;
+            put_number_word(out, readings)?;
+            out.put(b"\n")
+        }
+        None => out.put(b"ROOM NONE\n"),
     }
 }

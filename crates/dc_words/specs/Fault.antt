@@ -1,7 +1,7 @@
 -- What is wrong with the words (this product).
 use Rattle.dc_words.specs.declared.fault.WordsFault.{WordsFault}
 use Rattle.dc_words.specs.declared.fault.WordsFault.TheVariants.{Clap, Link, Meter, NoLink}
-use Rattle.dc_words.specs.declared.fault.WordsFault.TheVariants.{Boundaries, NoMemory}
+use Rattle.dc_words.specs.declared.fault.WordsFault.TheVariants.{Boundaries, Silence, NoMemory}
 
 -- what is said where they are a mistake of which `clap` knows nothing
 abbrev pub IfMistake : WordsFault → Type 0 → Type 0
@@ -10,4 +10,5 @@ IfMistake (Link fault) said = said
 IfMistake Meter said = said
 IfMistake NoLink said = said
 IfMistake Boundaries said = said
+IfMistake Silence said = said
 IfMistake NoMemory said = Unit {0}

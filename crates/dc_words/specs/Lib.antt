@@ -5,3 +5,5 @@ pub mod Fault
 pub mod Link
 -- which line has which link
 pub mod Links
+-- how long a meter may be silent
+pub mod Silence

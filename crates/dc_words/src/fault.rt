@@ -46,6 +46,8 @@ pub enum WordsFault {
     NoLink,
     /// A word that has to be boundaries of periods isn't.
     Boundaries,
+    /// A word that has to be a time of silence isn't.
+    Silence,
     /// Out of memory.
     NoMemory,
 }

@@ -47,7 +47,9 @@ With 2, 3 and 4 one line on standard error says what happened.";
 pub const DECODE: &str = "Example:
   echo 10 40 05 45 16 | mbdc decode --explain
 
-Each line of the input is bytes in hex digits. Printed of each frame:
+Each line of the input is bytes in hex digits; with --loose it is what people
+paste: words of hex digits among others, arrays, hexdump -C, xxd, log lines,
+frames that go on in the next line. Printed of each frame:
   ACK | SHORT C A | LONG C A CI length
   METER ident access status
   RECORD storage tariff subunit function vib data = value unit
@@ -175,13 +177,13 @@ Faults: mbdc: open: 1 NotImage, 2 Damaged sector, 3 Version, 4 Worn, 5 Device;
 
 /// Of `status`.
 pub const STATUS: &str = "Example:
-  mbdc status house.image --silent 3
+  mbdc status house.image --silent 12h
 
 Printed, for each registered meter by flat: METER flat ident, the minute (UTC)
   at which it was last heard and the seconds since, or NONE where nothing of it
-  is held; SILENT where that is longer ago than DAYS; and the status byte of its
-  last reading in words. Then SIZE bytes most, and DAYS n: in n days the image
-  is full at this pace
+  is held; SILENT where that is longer ago than TIME; and the status byte of its
+  last reading in words. Then SIZE bytes most; DAYS n: in n days the image is
+  full at this pace; ROOM n: n more readings fit
 A meter of which nothing is held is silent as long as the office has confirmed
 no reading. Nothing is written.
 Status: 0 no meter is silent, 1 one is, 3 the image, 4 a file or memory.";

@@ -10,6 +10,7 @@ mod help;
 mod link;
 mod links;
 mod near;
+mod silence;
 mod task;
 mod words;
 
@@ -18,5 +19,5 @@ pub use help::VERSION;
 pub use link::LinkName;
 pub use links::{LINES, Links};
 pub use near::nearest;
-pub use task::{Call, Engine, Form, MeterName, PollTask, RunTask, Scan, Task};
+pub use task::{Call, Engine, Form, MeterName, PollTask, RunTask, Scan, StatusForm, Task};
 pub use words::call_of;

@@ -22,8 +22,21 @@ pub enum Form {
 pub enum Engine {
     /// Print each frame.
     Decode(Form),
+    /// Print each frame of a pasted text.
+    Loose(Form),
     /// Answer each telegram and command, and print the register after them.
     Fold,
+}
+
+/// How the status of an image is printed.
+#[derive(Clone, Copy, Debug, PartialEq, Eq)]
+pub enum StatusForm {
+    /// Lines of words, one a meter.
+    Text,
+    /// JSON Lines: an object a meter and one for the image.
+    Json,
+    /// The text format of Prometheus.
+    Prometheus,
 }
 
 /// How meters are searched for on a bus without an image.
@@ -136,8 +149,10 @@ pub enum Task<'a> {
     Status {
         /// The image's file.
         image: &'a str,
-        /// The number of days after which a meter is silent.
-        days: u16,
+        /// The number of seconds after which a meter is silent.
+        silent: u64,
+        /// How it is printed.
+        form: StatusForm,
     },
     /// The meters of a list, added to the register of an image.
     Fit {

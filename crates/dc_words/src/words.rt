@@ -4,7 +4,8 @@ use crate::fault::{LinkFault, WordsFault};
 use crate::help;
 use crate::link::LinkName;
 use crate::links::Links;
-use crate::task::{Call, Engine, Form, MeterName, PollTask, RunTask, Scan, Task};
+use crate::silence::silence_of;
+use crate::task::{Call, Engine, Form, MeterName, PollTask, RunTask, Scan, StatusForm, Task};
 use clap::{Arg, ArgAction, ArgMatches, Command, value_parser};
 use dc_address::{Identity, Primary};
 use dc_change::parse_number;
@@ -127,6 +128,12 @@ fn decode_command<'a>(alloc: Global) -> Result<Command<'a>, AllocError> {
             "Prints JSON Lines, an object a frame or fault"
         ),
         table,
+        flag_arg(
+            alloc,
+            "LOOSE",
+            "loose",
+            "Takes what people paste: logs, dumps, arrays; says what it drops"
+        ),
         Arg::new(alloc, "FILE").help("Lines of hex digits [default: standard input]"),
     ]?;
     let about = "Prints what each M-Bus frame says: link fields, meter, records, end";
@@ -226,11 +233,27 @@ fn values_command<'a>(alloc: Global) -> Result<Command<'a>, AllocError> {
 }
 
 fn status_command<'a>(alloc: Global) -> Result<Command<'a>, AllocError> {
-    let silent = option_arg(alloc, "SILENT", "silent", "DAYS")
-        .value_parser(value_parser!(u16).range(1..=366))
-        .default_value("2")
-        .help("A meter not heard for longer is silent, from 1 to 366");
-    let args = vec![in alloc; image_arg(alloc), silent]?;
+    let silent = option_arg(alloc, "SILENT", "silent", "TIME")
+        .default_value("2d")
+        .help("A meter not heard for longer is silent: days, as 2 or 2d, or hours, as 12h");
+    let metrics = flag_arg(
+        alloc,
+        "PROMETHEUS",
+        "prometheus",
+        "Prints metrics in the text format of Prometheus",
+    )
+    .conflicts_with("JSON")?;
+    let args = vec![in alloc;
+        image_arg(alloc),
+        silent,
+        flag_arg(
+            alloc,
+            "JSON",
+            "json",
+            "Prints JSON Lines, an object a meter"
+        ),
+        metrics,
+    ]?;
     let about = "Prints when each meter was last heard, and how full the image is";
     command_of(alloc, "status", about, help::STATUS, args)
 }
@@ -324,7 +347,7 @@ fn task_of<'a>(alloc: Global, matches: &ArgMatches<'a>) -> Result<Task<'a>, Word
     };
     match name {
         "decode" => Ok(Task::Lines {
-            engine: Engine::Decode(form_of(inner)),
+            engine: decoder_of(inner),
             file: inner.get_str("FILE"),
         }),
         "fold" => Ok(Task::Lines {
@@ -338,6 +361,15 @@ fn task_of<'a>(alloc: Global, matches: &ArgMatches<'a>) -> Result<Task<'a>, Word
         "demo" => Ok(Task::Demo),
         "scan" | "read" => bus_task(name, inner),
         _ => image_task(alloc, name, inner),
+    }
+}
+
+fn decoder_of(inner: &ArgMatches<'_>) -> Engine {
+    let form = form_of(inner);
+    if inner.get_flag("LOOSE") {
+        Engine::Loose(form)
+    } else {
+        Engine::Decode(form)
     }
 }
 
@@ -398,10 +430,7 @@ fn image_task<'a>(
             image,
             is_json: inner.get_flag("JSON"),
         }),
-        "status" => Ok(Task::Status {
-            image,
-            days: inner.get_one("SILENT").unwrap_or_default(),
-        }),
+        "status" => status_task(image, inner),
         "fit" => Ok(Task::Fit {
             image,
             list: inner.get_str("LIST").unwrap_or_default(),
@@ -409,6 +438,22 @@ fn image_task<'a>(
         "run" => run_task(image, inner),
         _ => poll_task(alloc, image, inner),
     }
+}
+
+fn status_task<'a>(image: &'a str, inner: &ArgMatches<'a>) -> Result<Task<'a>, WordsFault> {
+    let word = inner.get_str("SILENT").unwrap_or_default();
+    let form = if inner.get_flag("JSON") {
+        StatusForm::Json
+    } else if inner.get_flag("PROMETHEUS") {
+        StatusForm::Prometheus
+    } else {
+        StatusForm::Text
+    };
+    Ok(Task::Status {
+        image,
+        silent: silence_of(word.as_bytes()).ok_or(WordsFault::Silence)?,
+        form,
+    })
 }
 
 fn run_task<'a>(image: &'a str, inner: &ArgMatches<'a>) -> Result<Task<'a>, WordsFault> {

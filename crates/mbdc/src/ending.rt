@@ -28,6 +28,10 @@ const NO_METER: &str =
 const NO_BOUNDARIES: &str =
     "BOUNDARIES are two moments or more, each later than the last; try mbdc consumption --help";
 
+// A word that has to be a time of silence isn't.
+const NO_SILENCE: &str =
+    "--silent takes days, as 2 or 2d, from 1 to 366, or hours, as 12h; try mbdc status --help";
+
 // No bus is connected.
 const NO_LINK: &str = "no bus line has a link; try mbdc poll --help";
 
@@ -161,6 +165,7 @@ pub fn told_words(rt: &HostRuntime, fault: &WordsFault, words: &[String]) -> Exi
         WordsFault::Meter => told(rt, &Ending::Words(NO_METER)),
         WordsFault::NoLink => told(rt, &Ending::Words(NO_LINK)),
         WordsFault::Boundaries => told(rt, &Ending::Words(NO_BOUNDARIES)),
+        WordsFault::Silence => told(rt, &Ending::Words(NO_SILENCE)),
     }
 }
 

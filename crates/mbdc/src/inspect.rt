@@ -5,15 +5,13 @@ use crate::tasks::{ROOM, flushed};
 use dc_disk::FileDisk;
 use dc_ending::{Ending, ProgramFault, STREAM, ending_of};
 use dc_files::{Host, Noted, open_to_look};
-use dc_inspect::{ValuesForm, inspect, show_status, show_values};
+use dc_inspect::{StatusForm, ValuesForm, inspect, show_status, show_values};
 use dc_io::{Buffered, WriteSink};
 use dc_log::OpenFault;
 use std::fs::{File, OpenFile};
 use std::io;
 use std::os::unix::fs::FileExt;
 use std::rt::{Clock, Files};
-
-const SECONDS_A_DAY: u64 = 86_400;
 
 /// What is printed of an image.
 #[derive(Clone, Copy)]
@@ -23,7 +21,7 @@ pub enum Look {
     /// What its meters stand at.
     Values(ValuesForm),
     /// When its meters were last heard.
-    Status(dc_status::Clock),
+    Status(StatusForm, dc_status::Clock),
 }
 
 /// Prints what is asked for of the image in that file. The file is opened read-only, and nobody writes it meanwhile.
@@ -47,8 +45,13 @@ where
     }
 }
 
-/// Prints when the meters of the image in that file were last heard; one is silent after so many days.
-pub fn tell_status<'a, R>(host: &Host<'_, R>, image: &'a str, days: u16) -> Ending<'a>
+/// Prints when the meters of the image in that file were last heard; one is silent after so many seconds.
+pub fn tell_status<'a, R>(
+    host: &Host<'_, R>,
+    image: &'a str,
+    silent: u64,
+    form: dc_words::StatusForm,
+) -> Ending<'a>
 where
     R: Files<File = File> + Clock + Print + AllocGlobal,
 {
@@ -57,9 +60,14 @@ where
     };
     let clock = dc_status::Clock {
         now: moment.seconds,
-        patience: u64::from(days) * SECONDS_A_DAY,
+        patience: silent,
     };
-    look_into(host, Look::Status(clock), image)
+    let form = match form {
+        dc_words::StatusForm::Text => StatusForm::Text,
+        dc_words::StatusForm::Json => StatusForm::Json,
+        dc_words::StatusForm::Prometheus => StatusForm::Metrics,
+    };
+    look_into(host, Look::Status(form, clock), image)
 }
 
 // Writes it to standard output, and returns why the image doesn't open, and whether a meter is silent.
@@ -74,7 +82,7 @@ fn print<D: FileExt + OpenFile + Drop, R: Print + AllocGlobal>(
     let found = match look {
         Look::Inspect => (inspect(alloc, disk, &mut writer)?, false),
         Look::Values(form) => (show_values(alloc, disk, form, &mut writer)?, false),
-        Look::Status(clock) => show_status(alloc, disk, clock, &mut writer)?,
+        Look::Status(form, clock) => show_status(alloc, disk, form, clock, &mut writer)?,
     };
     flushed(writer)?;
     Ok(found)

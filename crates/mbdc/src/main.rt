@@ -10,6 +10,7 @@ mod demo;
 mod ending;
 mod fit;
 mod inspect;
+mod loose;
 mod poll;
 mod reaching;
 mod report;

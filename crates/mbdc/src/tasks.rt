@@ -4,6 +4,7 @@ use crate::bench::{read_on_bus, scan_bus};
 use crate::consumption::consumption_of_file;
 use crate::fit::fit_on_image;
 use crate::inspect::{Look, look_into, tell_status};
+use crate::loose::decode_pasted;
 use crate::poll::poll_on_image;
 use crate::report::report_on_image;
 use crate::script::run_on_image;
@@ -61,7 +62,11 @@ where
             };
             look_into(host, Look::Values(form), image)
         }
-        Task::Status { image, days } => tell_status(host, image, *days),
+        Task::Status {
+            image,
+            silent,
+            form,
+        } => tell_status(host, image, *silent, *form),
         Task::Fit { image, list } => fit_on_image(host, image, list),
         Task::Scan {
             link,
@@ -80,7 +85,7 @@ where
     }
 }
 
-fn work_on_file<'a, R: Files + Print + AllocGlobal>(
+fn work_on_file<'a, R: Files + Print + Eprint + AllocGlobal>(
     host: &Host<'_, R>,
     engine: Engine,
     name: &'a str,
@@ -91,7 +96,7 @@ fn work_on_file<'a, R: Files + Print + AllocGlobal>(
     }
 }
 
-fn work_on<'a, R: Print + AllocGlobal, F: Read + Drop>(
+fn work_on<'a, R: Print + Eprint + AllocGlobal, F: Read + Drop>(
     host: &Host<'_, R>,
     engine: Engine,
     file: F,
@@ -110,7 +115,7 @@ pub fn ended<'a>(why: &Why, outcome: Result<bool, ProgramFault>, input: &'a str)
 }
 
 // Runs the engine from what the source has left to standard output. It writes in large pieces.
-fn work<R: Print + AllocGlobal, S: Source>(
+fn work<R: Print + Eprint + AllocGlobal, S: Source>(
     host: &Host<'_, R>,
     engine: Engine,
     reader: &mut S,
@@ -122,6 +127,7 @@ fn work<R: Print + AllocGlobal, S: Source>(
         Engine::Decode(Form::Text) => decode_lines(alloc, reader, &mut writer)?,
         Engine::Decode(Form::Json) => json_lines(alloc, reader, &mut writer)?,
         Engine::Decode(Form::Table) => explain_lines(alloc, reader, &mut writer)?,
+        Engine::Loose(form) => decode_pasted(host, form, reader, &mut writer)?,
         Engine::Fold => fold_lines(alloc, reader, &mut writer)?,
     };
     flushed(writer)?;

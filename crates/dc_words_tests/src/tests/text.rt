@@ -3,7 +3,8 @@
 use clap::error::ErrorKind;
 use dc_address::Identity;
 use dc_words::{
-    Call, Engine, Form, LinkName, Links, MeterName, PollTask, RunTask, Scan, Task, WordsFault,
+    Call, Engine, Form, LinkName, Links, MeterName, PollTask, RunTask, Scan, StatusForm, Task,
+    WordsFault,
 };
 use std::alloc::{AllocError, Global};
 use std::str;
@@ -32,6 +33,7 @@ pub fn fault_text(alloc: Global, fault: &WordsFault) -> Result<String, AllocErro
         WordsFault::Meter => String::from_str(alloc, "refused Meter"),
         WordsFault::NoLink => String::from_str(alloc, "refused NoLink"),
         WordsFault::Boundaries => String::from_str(alloc, "refused Boundaries"),
+        WordsFault::Silence => String::from_str(alloc, "refused Silence"),
         WordsFault::NoMemory => String::from_str(alloc, "memory"),
     }
 }
@@ -54,7 +56,13 @@ fn task_text(alloc: Global, task: &Task<'_>) -> Result<String, AllocError> {
         Task::Values { image, is_json } => {
             format!(in alloc; "values {image}{}", json_text(*is_json))
         }
-        Task::Status { image, days } => format!(in alloc; "status {image} silent {days}"),
+        Task::Status {
+            image,
+            silent,
+            form,
+        } => {
+            format!(in alloc; "status {image} silent {silent}{}", status_form_text(*form))
+        }
         Task::Fit { image, list } => format!(in alloc; "fit {image} {list}"),
         Task::Poll(task) => poll_text(alloc, task),
         Task::Demo => String::from_str(alloc, "demo"),
@@ -67,6 +75,9 @@ fn lines_text(alloc: Global, engine: Engine, file: Option<&str>) -> Result<Strin
         Engine::Decode(Form::Text) => "decode text",
         Engine::Decode(Form::Json) => "decode json",
         Engine::Decode(Form::Table) => "decode table",
+        Engine::Loose(Form::Text) => "decode loose text",
+        Engine::Loose(Form::Json) => "decode loose json",
+        Engine::Loose(Form::Table) => "decode loose table",
         Engine::Fold => "fold",
     };
     match file {
@@ -120,6 +131,14 @@ fn poll_text(alloc: Global, task: &PollTask<'_>) -> Result<String, AllocError> {
         "poll {}{links}{only} tries {} patience {}{json}",
         task.image, task.tries, task.patience
     )
+}
+
+fn status_form_text(form: StatusForm) -> &'static str {
+    match form {
+        StatusForm::Text => "",
+        StatusForm::Json => " json",
+        StatusForm::Prometheus => " prometheus",
+    }
 }
 
 fn json_text(is_json: bool) -> &'static str {
