@@ -1,14 +1,14 @@
 -- Addresses that are asked in turn.
-use Rattle.std.proofs.Common.{◌≡◌, ℕ, zero, suc, ◌+◌, ◌-◌, ◌≤◌, Bool, true, false, List, [], ◌∷◌, ◌++◌, Option, None, refl, sym, ◌∙◌, subst, arith}
+use Rattle.std.proofs.Common.{◌≡◌, ℕ, zero, suc, ◌+◌, ◌-◌, ◌≤◌, Bool, true, false, List, [], ◌∷◌, Option, None, refl, sym, ap, ◌∙◌, subst, arith}
 use Rattle.std.specs.List.{range_with_len}
 use Rattle.dc_address.specs.declared.identity.Identity.{Identity}
 use Rattle.dc_bus.specs.Bus.{AreExchanged, Exchange}
-use Rattle.dc_bus.proofs.Exchanges.{exchanged-both, exchanged-one}
+use Rattle.dc_bus.proofs.Exchanges.{exchanged-one}
 use Rattle.dc_frame.specs.Control.{request_to, reset_to}
 use Rattle.dc_frame.specs.Frame.{spelling}
 use Rattle.dc_frame.specs.Reading.{frame_of}
 use Rattle.dc_search.specs.Answer.{answer_of}
-use Rattle.dc_installer.specs.Scan.{AsksEach, AsksOne, Identifies, address_line, answers, is_ack, is_silent, prints, prints_none, requests, resets}
+use Rattle.dc_installer.specs.Scan.{Acknowledges, AsksOne, Identifies, address_line, answers, is_ack, is_silent, prints, prints_none, requests, resets}
 
 module _ {B : Type 0} (asks : B → List ℕ → List ℕ → B → Type 0) where
   -- what a reset comes to
@@ -30,30 +30,32 @@ module _ {B : Type 0} (asks : B → List ℕ → List ℕ → B → Type 0) wher
   both old mid new address answer telegram first second = (mid, first, exchanged-one asks mid new (spelling (request_to true address)) telegram second)
 
   pub unacknowledged : (old new : B) (address : ℕ) (acked : Bool) → IsReset old new address acked → acked ≡ false
-      → Asked old new (λ exchanges. Identifies address exchanges None) × Asked old new (λ exchanges. AsksOne address exchanges [])
-  unacknowledged old new address acked reset not = let one = exchanged-one asks old new (spelling (reset_to address)) reset.0 reset.1 in let is = sym reset.2 ∙ not in (
-    (resets address reset.0 ∷ [], one, is_silent is),
-    (resets address reset.0 ∷ [], one, prints_none is),
-  )
+      → Asked old new (λ exchanges. Identifies address exchanges None)
+  unacknowledged old new address acked reset not = let one = exchanged-one asks old new (spelling (reset_to address)) reset.0 reset.1 in
+      (resets address reset.0 ∷ [], one, is_silent (sym reset.2 ∙ not))
 
   pub acknowledged : (old mid new : B) (address : ℕ) (acked : Bool) (meter : Option Identity) → IsReset old mid address acked → acked ≡ true
       → IsRequested mid new address meter
-      → Asked old new (λ exchanges. Identifies address exchanges meter) × Asked old new (λ exchanges. AsksOne address exchanges (address_line address meter))
+      → Asked old new (λ exchanges. Identifies address exchanges meter)
   acknowledged old mid new address acked meter reset is_acked request =
       let is = sym reset.2 ∙ is_acked in
       let all = both old mid new address reset.0 request.0 reset.1 request.1 in
       let P : Option Identity → Type 0 = λ m. Identifies address (resets address reset.0 ∷ requests address request.0 ∷ []) m in
-      let Q : Option Identity → Type 0 = λ m. AsksOne address (resets address reset.0 ∷ requests address request.0 ∷ []) (address_line address m) in (
-        (resets address reset.0 ∷ requests address request.0 ∷ [], all, subst P (sym request.2) (answers is)),
-        (resets address reset.0 ∷ requests address request.0 ∷ [], all, subst Q (sym request.2) (prints is)),
-      )
+      (resets address reset.0 ∷ requests address request.0 ∷ [], all, subst P (sym request.2) (answers is))
 
-  -- one address, and then others
-  pub and_others : (old mid new : B) (address : ℕ) (more : List ℕ) (line later : List ℕ) → Asked old mid (λ exchanges. AsksOne address exchanges line)
-      → Asked mid new (λ exchanges. AsksEach more exchanges later)
-      → Asked old new (λ exchanges. AsksEach (address ∷ more) exchanges (line ++ later))
-  and_others old mid new address more line later first rest =
-      (first.0 ++ rest.0, exchanged-both asks old mid new first.0 rest.0 first.1 rest.1, (first.0, rest.0, line, later, refl, refl, first.2, rest.2))
+module _ {B : Type 0} (asks : B → List ℕ → List ℕ → B → Type 0) (settles : B → B → Type 0) (ready : B → Bool) where
+  -- the address isn't printed
+  pub unprinted : (old new : B) (address : ℕ) (acked : Bool) → Acknowledges asks settles ready address old acked new → acked ≡ false
+      → AsksOne asks settles ready address old [] new
+  unprinted old new address acked came not = prints_none (subst (λ (a : Bool). Acknowledges asks settles ready address old a new) not came) refl
+
+  -- the address is printed, with the meter that its telegram names
+  pub printed : (old mid new : B) (address : ℕ) (acked : Bool) (meter : Option Identity) → Acknowledges asks settles ready address old acked mid
+      → acked ≡ true → IsRequested asks mid new address meter
+      → AsksOne asks settles ready address old (address_line address meter) new
+  printed old mid new address acked meter came is_acked request =
+      prints mid request.0 (subst (λ (a : Bool). Acknowledges asks settles ready address old a mid) is_acked came) request.1
+      (ap (address_line address) request.2)
 
 -- the last this many addresses are the first of them and the ones after it
 pub last_addresses : (left : ℕ) → 1 ≤ left → left ≤ 250

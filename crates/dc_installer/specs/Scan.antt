@@ -87,18 +87,36 @@ pub data Identifies (address : ℕ) : List Exchange → Option Identity → Type
       → Identifies address (resets address answer ∷ requests address telegram ∷ [])
       (answer_of telegram)
 
--- The same, with what is printed of it.
-pub data AsksOne (address : ℕ) : List Exchange → List ℕ → Type 0 where
-  prints_none : {answer : List ℕ} → is_ack (frame_of answer) ≡ false
-      → AsksOne address (resets address answer ∷ []) []
-  prints : {answer telegram : List ℕ} → is_ack (frame_of answer) ≡ true
-      → AsksOne address (resets address answer ∷ requests address telegram ∷ [])
-      (address_line address (answer_of telegram))
+-- Whether an address acknowledges a reset while no answer is under way: where one was, and an
+-- acknowledgement came, the bus settles, and it is asked again.
+pub data Acknowledges {B : Type 0} (asks : B → List ℕ → List ℕ → B → Type 0)
+    (settles : B → B → Type 0) (ready : B → Bool) (address : ℕ) (old : B) (acked : Bool)
+    (new : B) : Type 0 where
+  at_once : (answer : List ℕ) → asks old (spelling (reset_to address)) answer new
+      → acked ≡ is_ack (frame_of answer) → (acked ≡ true → ready old ≡ true)
+      → Acknowledges asks settles ready address old acked new
+  asked_again : (answer again : List ℕ) (doubted settled : B)
+      → asks old (spelling (reset_to address)) answer doubted → is_ack (frame_of answer) ≡ true
+      → ready old ≡ false → settles doubted settled → ready settled ≡ true
+      → asks settled (spelling (reset_to address)) again new → acked ≡ is_ack (frame_of again)
+      → Acknowledges asks settles ready address old acked new
+
+-- An address is asked; if it acknowledges, its telegram is requested, and it is printed.
+pub data AsksOne {B : Type 0} (asks : B → List ℕ → List ℕ → B → Type 0) (settles : B → B → Type 0)
+    (ready : B → Bool) (address : ℕ) (old : B) (text : List ℕ) (new : B) : Type 0 where
+  prints_none : Acknowledges asks settles ready address old false new → text ≡ []
+      → AsksOne asks settles ready address old text new
+  prints : (between : B) (telegram : List ℕ)
+      → Acknowledges asks settles ready address old true between
+      → asks between (spelling (request_to true address)) telegram new
+      → text ≡ address_line address (answer_of telegram)
+      → AsksOne asks settles ready address old text new
 
 -- These addresses are asked in turn, and nothing else goes out.
-abbrev pub AsksEach : List ℕ → List Exchange → List ℕ → Type 0
-AsksEach [] exchanges text = (exchanges ≡ []) × (text ≡ [])
-AsksEach (address ∷ more) exchanges text =
-    (first rest : List Exchange) × (line later : List ℕ) × (exchanges ≡ first ++ rest)
-    × (text ≡ line ++ later)
-    × AsksOne address first line × AsksEach more rest later
+abbrev pub AsksEach : {B : Type 0} → (B → List ℕ → List ℕ → B → Type 0) → (B → B → Type 0)
+    → (B → Bool) → List ℕ → B → List ℕ → B → Type 0
+AsksEach asks settles ready [] old text new = (new ≡ old) × (text ≡ [])
+AsksEach {B} asks settles ready (address ∷ more) old text new =
+    (line later : List ℕ) × (between : B) × (text ≡ line ++ later)
+    × AsksOne asks settles ready address old line between
+    × AsksEach asks settles ready more between later new

@@ -9,11 +9,11 @@ ghost use Rattle.dc_frame.specs.Control.{request_to, reset_to};
 ghost use Rattle.dc_frame.specs.Frame.{spelling};
 ghost use Rattle.dc_frame.specs.Reading.{frame_of};
 ghost use Rattle.dc_io.specs.Written.{PutsInto, Wrote};
-ghost use Rattle.dc_installer.specs.Scan.{AsksEach, AsksOne, Identifies, address_line, greatest};
-ghost use Rattle.dc_installer.specs.Scan.{identity_word, is_ack};
+ghost use Rattle.dc_installer.specs.Scan.{Acknowledges, AsksEach, AsksOne, Identifies};
+ghost use Rattle.dc_installer.specs.Scan.{address_line, greatest, identity_word, is_ack};
 
 use dc_address::{Identity, Primary};
-use dc_bus::Bus;
+use dc_bus::{Bus, ScriptBus};
 use dc_frame::control::{write_request, write_reset};
 use dc_frame::{Frame, FrameBuf, parse};
 use dc_io::{IoFault, Sink, put_number_word};
@@ -23,14 +23,14 @@ use dc_search::meter_of;
 const GREATEST: u8 = 250;
 
 /// Requests each primary address from 1 to 250 (EN 13757-2), and prints each that acknowledges,
-/// with the meter whose telegram it sends, if that can be read.
+/// with the meter whose telegram it sends, if that can be read. An acknowledgement that may be a
+/// late one, of another address, doesn't count: the bus settles, and the address is asked again.
 ///
 /// # Errors
 /// A write failed.
-pub fn scan_primary<B: Bus, W: Sink>(bus: &mut B, out: &mut W) -> Result<(), IoFault>
-    ensures asked { OnOk result ((exchanges : List Exchange) × (text : List ℕ)
-        × AreExchanged B.asks bus.old exchanges bus.new
-        × AsksEach (range_with_len 1 greatest) exchanges text
+pub fn scan_primary<B: ScriptBus, W: Sink>(bus: &mut B, out: &mut W) -> Result<(), IoFault>
+    ensures asked { OnOk result ((text : List ℕ)
+        × AsksEach B.asks B.settles B.ready (range_with_len 1 greatest) bus.old text bus.new
         × PutsInto W.Sink out.old out.new text) }
     ensures failed { OnErr result (HasRisen (W.put_failures out.old) (W.put_failures out.new)) }
     ensures well { OnOk result (W.put_failures out.new ≡ W.put_failures out.old) }
@@ -53,11 +53,10 @@ pub fn identify<B: Bus>(bus: &mut B, address: Primary) -> Option<Identity>
 }
 
 // The last this many addresses.
-fn scan_last<B: Bus, W: Sink>(left: u8, bus: &mut B, out: &mut W) -> Result<(), IoFault>
+fn scan_last<B: ScriptBus, W: Sink>(left: u8, bus: &mut B, out: &mut W) -> Result<(), IoFault>
     requires { left ≤ greatest }
-    ensures asked { OnOk result ((exchanges : List Exchange) × (text : List ℕ)
-        × AreExchanged B.asks bus.old exchanges bus.new
-        × AsksEach (range_with_len (251 - left) left) exchanges text
+    ensures asked { OnOk result ((text : List ℕ)
+        × AsksEach B.asks B.settles B.ready (range_with_len (251 - left) left) bus.old text bus.new
         × PutsInto W.Sink out.old out.new text) }
     ensures failed { OnErr result (HasRisen (W.put_failures out.old) (W.put_failures out.new)) }
     ensures well { OnOk result (W.put_failures out.new ≡ W.put_failures out.old) }
@@ -71,18 +70,31 @@ fn scan_last<B: Bus, W: Sink>(left: u8, bus: &mut B, out: &mut W) -> Result<(), 
     }
 }
 
-fn scan_one<B: Bus, W: Sink>(address: u8, bus: &mut B, out: &mut W) -> Result<(), IoFault>
-    ensures asked { OnOk result ((exchanges : List Exchange) × (line : List ℕ)
-        × AreExchanged B.asks bus.old exchanges bus.new × AsksOne address exchanges line
+fn scan_one<B: ScriptBus, W: Sink>(address: u8, bus: &mut B, out: &mut W) -> Result<(), IoFault>
+    ensures asked { OnOk result ((line : List ℕ)
+        × AsksOne B.asks B.settles B.ready address bus.old line bus.new
         × PutsInto W.Sink out.old out.new line) }
     ensures failed { OnErr result (HasRisen (W.put_failures out.old) (W.put_failures out.new)) }
     ensures well { OnOk result (W.put_failures out.new ≡ W.put_failures out.old) }
 {
-    if !resets(bus, address) {
+    if !acknowledges(bus, address) {
         return Ok(());
     }
     let meter = requests(bus, address);
     put_address(address, meter, out)
+}
+
+// Resets an address, and returns whether it acknowledged while no answer was under way.
+fn acknowledges<B: ScriptBus>(bus: &mut B, address: u8) -> bool
+    ensures { Acknowledges B.asks B.settles B.ready address bus.old result bus.new }
+{
+    let sure = bus.is_ready();
+    let acked = resets(bus, address);
+    if sure || !acked {
+        return acked;
+    }
+    bus.settle();
+    resets(bus, address)
 }
 
 // Resets an address, and returns whether it acknowledged.

@@ -1,29 +1,29 @@
 use Rattle.std.proofs.Common.{◌≡◌, ℕ, ◌-◌, ◌≤◌, ◌++◌, List, [], refl, rules, arith, sym, subst}
 use Rattle.std.proofs.lemmas.Grind.{common_steps}
 use Rattle.std.specs.List.{range_with_len}
-use Rattle.dc_bus.specs.Bus.{AreExchanged, Exchange}
 use Rattle.dc_io.specs.Stream.{Puts}
 use Rattle.dc_io.proofs.Pieces.{puts-both, puts-none}
 use Rattle.dc_installer.specs.Scan.{AsksEach}
-use Rattle.dc_installer.proofs.Addresses.{and_others, last_addresses}
+use Rattle.dc_installer.proofs.Addresses.{last_addresses}
 use Rattle.dc_installer.proofs.Results.{on_ok}
 use Rattle.dc_installer.proofs.primary.+scan_last.Goals as goal
 
 pub returns-then-left-eq0-clause-asked : goal.returns-then-left-eq0-clause-asked
 returns-then-left-eq0-clause-asked g t c =
     let none : c.args.left ≡ 0 = search rules in
-    let P : ℕ → Type 0 = λ left. AsksEach (range_with_len (251 - left) left) [] [] in
-    ([], [], refl, subst P (sym none) (refl, refl), puts-none (g.W.Sink.written c.args.out.now))
+    let P : ℕ → Type 0 = λ left. AsksEach g.B.Bus.asks g.B.ScriptBus.settles g.B.ScriptBus.ready (range_with_len (251 - left) left) c.args.bus.now [] c.args.bus.now in
+    ([], subst P (sym none) (refl, refl), puts-none (g.W.Sink.written c.args.out.now))
 
 pub returns-in-Ok-clause-asked : goal.returns-in-Ok-clause-asked
 returns-in-Ok-clause-asked g t c =
     let some : 1 ≤ c.args.left = grind (arith, common_steps) in
     let first = c.in-Ok.ensures.asked in
     let split = last_addresses c.args.left some c.requires in
-    let Q : List ℕ → Type 0 = λ addresses. (x : List Exchange) × (x' : List ℕ) × AreExchanged g.B.Bus.asks c.args.bus.now x c.scan_last.new.bus × AsksEach addresses x x'
-    × Puts (g.W.Sink.written c.args.out.now) (g.W.Sink.written c.scan_last.new.out) x' in
+    let Q : List ℕ → Type 0 = λ addresses. (x : List ℕ) × AsksEach g.B.Bus.asks g.B.ScriptBus.settles g.B.ScriptBus.ready addresses c.args.bus.now x c.scan_last.new.bus
+    × Puts (g.W.Sink.written c.args.out.now) (g.W.Sink.written c.scan_last.new.out) x in
     on_ok c.scan_last.result (λ rest. subst Q (sym split) (
-    let all = and_others g.B.Bus.asks c.args.bus.now c.scan_one.new.bus c.scan_last.new.bus (251 - c.args.left) (range_with_len (251 - (c.args.left - 1)) (c.args.left - 1)) first.1 rest.1
-    (first.0, first.2, first.3) (rest.0, rest.2, rest.3) in
-    (all.0, first.1 ++ rest.1, all.1, all.2, puts-both (g.W.Sink.written c.args.out.now) (g.W.Sink.written c.scan_one.new.out) (g.W.Sink.written c.scan_last.new.out) first.1 rest.1 first.4 rest.4)))
+      first.0 ++ rest.0,
+      (first.0, rest.0, c.scan_one.new.bus, refl, first.1, rest.1),
+      puts-both (g.W.Sink.written c.args.out.now) (g.W.Sink.written c.scan_one.new.out) (g.W.Sink.written c.scan_last.new.out) first.0 rest.0 first.2 rest.2,
+    ))
     c.scan_last.ensures.asked
