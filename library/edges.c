@@ -1,4 +1,4 @@
-/* Tries mbdc_decode_text at the edges of its slices: each ends before a page that nobody may touch.
+/* Tries the functions of libmbdc at the edges of their slices: each ends before a page that nobody may touch.
  *
  *     cc -std=c99 edges.c $(pkg-config --cflags --libs mbdc) -o edges
  *     ./edges <LINES
@@ -15,6 +15,10 @@
 
 #include <mbdc.h>
 
+typedef size_t decoder(const uint8_t *, size_t, uint8_t *, size_t);
+
+static decoder *const DECODERS[] = {mbdc_decode_text, mbdc_decode_json};
+
 enum { ROOM = 1 << 20, GUARD = 64, UNTOUCHED = 0xA5 };
 
 /* Memory whose last byte is followed by a page that can't be read. Returns the address after the last byte. */
@@ -30,32 +34,47 @@ static uint8_t *end_of_memory(void)
 }
 
 /* One call with a room of `size` bytes, for an input whose text has `length`. Returns whether all is well. */
-static int is_well(const uint8_t *input, size_t input_size, uint8_t *end, size_t size, size_t length, const uint8_t *text)
+static int is_well(decoder *call, const uint8_t *input, size_t input_size, uint8_t *end, size_t size, size_t length,
+                   const uint8_t *text)
 {
     uint8_t *out = end - size;
     memset(end - size - GUARD, UNTOUCHED, size + GUARD);
-    size_t count = mbdc_decode_text(input, input_size, out, size);
+    size_t count = call(input, input_size, out, size);
     for (const uint8_t *at = out - GUARD; at < out; at++)
         if (*at != UNTOUCHED)
             return 0;
     return count == (size < length ? MBDC_TOO_LONG : length) && (size < length || memcmp(out, text, length) == 0);
 }
 
+/* All calls for an input whose last byte is before `in`. Returns their number, or 0 after one that goes wrong. */
+static unsigned long tried(decoder *call, const uint8_t *in, size_t size, uint8_t *out)
+{
+    static uint8_t text[ROOM];
+    size_t length = call(in - size, size, text, sizeof text);
+    for (size_t room = 0; room <= length + 1; room++)
+        if (!is_well(call, in - size, size, out, room, length, text)) {
+            printf("a room of %zu bytes: ", room);
+            return 0;
+        }
+    return length + 2;
+}
+
 int main(void)
 {
     static char line[8192];
-    static uint8_t text[ROOM];
     uint8_t *in = end_of_memory(), *out = end_of_memory();
     unsigned long calls = 0;
     while (fgets(line, sizeof line, stdin)) {
         size_t size = strcspn(line, "\n");
         memcpy(in - size, line, size);
-        size_t length = mbdc_decode_text(in - size, size, text, sizeof text);
-        for (size_t room = 0; room <= length + 1; room++, calls++)
-            if (!is_well(in - size, size, out, room, length, text)) {
-                printf("a room of %zu bytes: %s", room, line);
+        for (size_t n = 0; n < sizeof DECODERS / sizeof DECODERS[0]; n++) {
+            unsigned long done = tried(DECODERS[n], in, size, out);
+            if (!done) {
+                printf("%s", line);
                 return EXIT_FAILURE;
             }
+            calls += done;
+        }
     }
     printf("%lu calls\n", calls);
     return EXIT_SUCCESS;

@@ -1,4 +1,4 @@
-/* libmbdc: link frames and telegrams of wired M-Bus (EN 13757-2, EN 13757-3) as text.
+/* libmbdc: link frames and telegrams of wired M-Bus (EN 13757-2, EN 13757-3) as text and as JSON.
  *
  * What the comments here say of a function is proved of it (crates/dc_library), if the caller keeps
  * to what C asks of any caller: each address is that of as many bytes as the size after it says, and
@@ -31,6 +31,11 @@ extern "C" {
  * other character, prints HEX FAULT. It may have any size.
  */
 size_t mbdc_decode_text(const uint8_t *input, size_t input_size, uint8_t *out, size_t out_size);
+
+/* The same with the text that `mbdc decode --json` prints: JSON Lines (RFC 8259), an object for each
+ * frame and for each fault, in ASCII. Their fields are in docs/JSON.md of the project.
+ */
+size_t mbdc_decode_json(const uint8_t *input, size_t input_size, uint8_t *out, size_t out_size);
 
 #ifdef __cplusplus
 }

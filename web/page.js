@@ -1,5 +1,5 @@
 "use strict";
-// The page of the decoder. MODULE (base64) and NAMES (tables of codes, from the definitions) are set before this text.
+// The page of the decoder. MODULE (base64) is set before this text.
 
 const SHOWN = 200; // frames; more would make the page slow
 const MOST_LINE = 4096; // characters of a line that the decoder takes
@@ -82,39 +82,26 @@ function makeRoom(size) {
   if (missing > 0) exported.memory.grow(BigInt(Math.ceil(missing / PAGE)));
 }
 
-// The lines that the decoder prints for an input of bytes.
-function textOf(input) {
+// What a call of the decoder writes for an input of bytes.
+function writtenBy(call, input) {
   for (let room = PAGE; ; room *= 4) {
     makeRoom(input.length + room);
     const at = base + input.length;
     new Uint8Array(exported.memory.buffer, base, input.length).set(input);
-    const count = BigInt.asUintN(64, exported.mbdc_decode_text(BigInt(base), BigInt(input.length), BigInt(at), BigInt(room)));
+    const count = BigInt.asUintN(64, call(BigInt(base), BigInt(input.length), BigInt(at), BigInt(room)));
     if (count !== TOO_LONG) return new TextDecoder().decode(new Uint8Array(exported.memory.buffer, at, Number(count)));
   }
 }
+
+// The lines of `mbdc decode` and of `mbdc decode --json`.
+const textOf = (input) => writtenBy(exported.mbdc_decode_text, input);
+const jsonOf = (input) => writtenBy(exported.mbdc_decode_json, input);
 
 const encoder = new TextEncoder();
 const hexOf = (bytes) => Array.from(bytes, (byte) => byte.toString(16).toUpperCase().padStart(2, "0")).join("");
 const bytesOf = (digits) => Uint8Array.from(digits.match(/../g) ?? [], (pair) => parseInt(pair, 16));
 
-// ---- names
-
-const nameIn = (rows, code) => (rows.find((row) => code <= row[0]) ?? [0, "reserved"])[1];
-
-function quantityOf(vib) {
-  if (vib.length > 1 && vib[0] === 0xFB) return nameIn(NAMES.first, vib[1] % 128);
-  if (vib.length > 1 && vib[0] === 0xFD) return nameIn(NAMES.second, vib[1] % 128);
-  return vib.length ? nameIn(NAMES.primary, vib[0] % 128) : "reserved";
-}
-
-function qualifiersOf(vib) {
-  if (vib.length < 2 || vib[0] === 0x7C || vib[0] === 0xFF) return [];
-  const others = Array.from(vib.slice([0xEF, 0xFB, 0xFD].includes(vib[0]) ? 2 : 1));
-  const end = others.findIndex((vife) => vife === 0xFF || vife === 0xFC);
-  return (end < 0 ? others : others.slice(0, end + 1)).map((vife) => nameIn(NAMES.vife, vife % 128));
-}
-
-// ---- from the printed lines to objects, with the field names of `mbdc decode --json`
+// ---- the objects of `mbdc decode --json`, and the bytes of each
 
 // The texts of the frames in a line's bytes: each has its length in it, or is all that is left.
 function splitFrames(bytes) {
@@ -129,95 +116,23 @@ function splitFrames(bytes) {
   return texts;
 }
 
-function meterOf(id) {
-  const [number, manufacturer, version, medium] = id.split(".");
-  const code = parseInt(medium, 16);
-  return { id, number, manufacturer, version: parseInt(version, 16), medium: nameIn(NAMES.media, code), medium_code: code };
-}
-
-function statusOf(code) {
-  return {
-    code, application: nameIn(NAMES.states, code % 4), power_low: (code & 4) !== 0, permanent_error: (code & 8) !== 0,
-    temporary_error: (code & 16) !== 0, manufacturer_bits: code >> 5,
-  };
-}
-
-function recordOf(words) {
-  const [storage, tariff, subunit, code] = words.slice(1, 5).map(Number);
-  const vib = bytesOf(words[5]);
-  const isRead = words[8] !== "other";
-  return {
-    storage, tariff, subunit, function: nameIn(NAMES.functions, code), vib: words[5] === "-" ? "" : words[5],
-    data: words[6] === "-" ? "" : words[6], quantity: quantityOf(vib), qualifiers: qualifiersOf(vib),
-    reading: isRead ? "point" : "other", value: isRead && words[8] !== "none" ? words[8] : null, unit: words[9] ?? null,
-  };
-}
-
-function faultOf(words) {
-  return words[0] === "HEX" ? { kind: "hex", number: 1, name: "Hex" } : { kind: words[0].toLowerCase(), number: Number(words[2]), name: words[3] };
-}
-
-// The lines that the decoder printed, from the first to the last.
-class Printed {
-  constructor(text) {
-    this.lines = text.split("\n");
-    this.at = 0;
-  }
-
-  get next() {
-    return this.lines[this.at];
-  }
-
-  words() {
-    return this.lines[this.at++].split(" ");
-  }
-
-  // (after the last line feed is nothing)
-  get isEnd() {
-    return this.at === this.lines.length - 1;
-  }
-}
-
-// The telegram's lines up to its end, or the body's fault.
-function bodyOf(printed, body) {
-  const words = printed.words();
-  if (words[0] !== "METER") return { body: hexOf(body), fault: faultOf(words) };
-  const records = [];
-  while (printed.next.startsWith("RECORD ")) records.push(recordOf(printed.words()));
-  const [end, count] = printed.words();
-  const rest = count === undefined ? null : hexOf(body.slice(body.length - Number(count)));
-  return {
-    meter: meterOf(words[1]), access: Number(words[2]), status: statusOf(Number(words[3])), records, more: end === "MORE",
-    manufacturer_data: rest,
-  };
-}
-
-// The next frame of the printed lines, whose bytes are `text`.
-function frameOf(printed, line, text) {
-  const words = printed.words();
-  const [control, address, ci] = words.slice(1, 4).map((word) => parseInt(word, 16));
-  const link = { control, control_name: nameIn(NAMES.controls, control), address };
-  if (words[0] === "ACK") return { line, frame: "ack" };
-  if (words[0] === "SHORT") return { line, frame: "short", ...link };
-  if (words[0] !== "LONG") return { line, frame: "none", ...(words[0] === "HEX" ? {} : { bytes: hexOf(text) }), fault: faultOf(words) };
-  const body = text.slice(7, 7 + Number(words[4]));
-  const inside = ci === CI_VARIABLE ? bodyOf(printed, body) : { body: hexOf(body) };
-  return { line, frame: "long", ...link, ci, ci_name: nameIn(NAMES.informations, ci), ...inside };
-}
-
-// The frames of a line. A line of spaces alone prints nothing.
-function framesOf(printed, line, number) {
+// The bytes of each object of a line. A line of spaces alone has none, and one at fault has no bytes.
+function textsOf(line, isHexFault) {
   const digits = line.replaceAll(" ", "");
   if (digits === "" && line.length <= MOST_LINE) return [];
-  const texts = printed.next === "HEX FAULT" ? [new Uint8Array()] : splitFrames(bytesOf(digits));
-  return texts.map((text) => ({ object: frameOf(printed, number, text), text }));
+  return isHexFault ? [new Uint8Array()] : splitFrames(bytesOf(digits));
 }
 
-// The frames of all lines, by one call of the decoder.
+// The objects of all lines, by one call of the decoder, and the bytes of each.
 function decodeLines(lines, first = 1) {
-  const printed = new Printed(textOf(encoder.encode(lines.join("\n"))));
-  const found = lines.flatMap((line, n) => framesOf(printed, line, first + n));
-  if (!printed.isEnd) throw new Error("the frames of a line weren't split as the decoder does");
+  const objects = jsonOf(encoder.encode(lines.join("\n"))).split("\n").slice(0, -1).map((one) => JSON.parse(one));
+  let next = 0;
+  const found = lines.flatMap((line, n) => textsOf(line, objects[next]?.fault?.kind === "hex").map((text) => {
+    const object = objects[next++];
+    if (object?.line !== n + 1) throw new Error("the frames of a line weren't split as the decoder does");
+    return { object: { ...object, line: first + n }, text };
+  }));
+  if (next !== objects.length) throw new Error("the frames of a line weren't split as the decoder does");
   return found;
 }
 

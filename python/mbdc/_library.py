@@ -1,4 +1,4 @@
-"""The call of libmbdc, by ctypes.
+"""The calls of libmbdc, by ctypes.
 
 The library is the one that the variable MBDC_LIBRARY names, else the checkout's own (out/library, made by
 tools/library), else the system's.
@@ -8,11 +8,12 @@ import ctypes
 import os
 import pathlib
 import threading
+from collections.abc import Callable
 from typing import Union
 
 _NAME = "libmbdc.so.0"
 _FIRST_ROOM = 65_536  # bytes; a telegram's text has some hundred
-_MOST_ROOM_A_BYTE = 128  # bytes of text for a byte of the input, far above that of a fault (10): a guard, for no clause bounds it
+_MOST_ROOM_A_BYTE = 1024  # bytes of text for a byte of the input, far above JSON's of a fault (100): a guard, for no clause bounds it
 _TOO_LONG = ctypes.c_size_t(-1).value
 
 
@@ -31,12 +32,14 @@ def _load() -> ctypes.CDLL:
         library = ctypes.CDLL(_path())
     except OSError as fault:
         raise LibraryFault(f"{_path()}: {fault}") from fault
-    library.mbdc_decode_text.restype = ctypes.c_size_t
-    library.mbdc_decode_text.argtypes = [ctypes.c_char_p, ctypes.c_size_t, ctypes.c_void_p, ctypes.c_size_t]
+    for call in (library.mbdc_decode_text, library.mbdc_decode_json):
+        call.restype = ctypes.c_size_t
+        call.argtypes = [ctypes.c_char_p, ctypes.c_size_t, ctypes.c_void_p, ctypes.c_size_t]
     return library
 
 
-_decode_text = _load().mbdc_decode_text
+_library = _load()
+_Call = Callable[[bytes, int, int, int], int]
 
 
 class _Room(threading.local):
@@ -55,6 +58,22 @@ class _Room(threading.local):
 _room = _Room()
 
 
+def _written(call: _Call, frames: Union[str, bytes]) -> str:
+    """What a call of the library writes for lines of hex digits."""
+    digits = frames.encode("utf-8", "surrogatepass") if isinstance(frames, str) else frames
+    room = _room
+    count = call(digits, len(digits), room.address, room.size)
+    while count == _TOO_LONG:
+        if room.size > _MOST_ROOM_A_BYTE * len(digits) + _FIRST_ROOM:
+            raise LibraryFault(f"the text of {len(digits)} bytes has more than {room.size}")
+        try:
+            room.grow(4 * room.size)
+        except MemoryError as fault:
+            raise LibraryFault("memory was refused") from fault
+        count = call(digits, len(digits), room.address, room.size)
+    return ctypes.string_at(room.address, count).decode("ascii")
+
+
 def decode_text(frames: Union[str, bytes]) -> str:
     """The lines that `mbdc decode` prints for lines of hex digits.
 
@@ -63,15 +82,15 @@ def decode_text(frames: Union[str, bytes]) -> str:
     >>> decode_text("E5 10 40 05 45 16")
     'ACK\\nSHORT 40 05\\n'
     """
-    digits = frames.encode("utf-8", "surrogatepass") if isinstance(frames, str) else frames
-    room = _room
-    count: int = _decode_text(digits, len(digits), room.address, room.size)
-    while count == _TOO_LONG:
-        if room.size > _MOST_ROOM_A_BYTE * len(digits) + _FIRST_ROOM:
-            raise LibraryFault(f"the text of {len(digits)} bytes has more than {room.size}")
-        try:
-            room.grow(4 * room.size)
-        except MemoryError as fault:
-            raise LibraryFault("memory was refused") from fault
-        count = _decode_text(digits, len(digits), room.address, room.size)
-    return ctypes.string_at(room.address, count).decode("ascii")
+    return _written(_library.mbdc_decode_text, frames)
+
+
+def decode_json(frames: Union[str, bytes]) -> str:
+    """The lines that `mbdc decode --json` prints for lines of hex digits: a JSON object each, with the names of codes.
+
+    Raises LibraryFault where memory for them is refused.
+
+    >>> decode_json("E5")
+    '{"line":1,"frame":"ack"}\\n'
+    """
+    return _written(_library.mbdc_decode_json, frames)

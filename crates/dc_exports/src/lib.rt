@@ -6,8 +6,9 @@
 
 ghost use Rattle.std.specs.Prelude.{◌≡◌, ◌≢◌, ◌-◌, ◌^◌, ◌<◌, ◌≤◌, length, take};
 ghost use Rattle.dc_decode.specs.Text.{text_of};
+ghost use Rattle.dc_frame_json.specs.Text.{json_text};
 
-use dc_library::decode_text_into;
+use dc_library::{decode_json_into, decode_text_into};
 
 /// Writes the text that `decode` prints for an input to the front of `out`, and returns its number
 /// of bytes; `usize::MAX` if it has more than `out`.
@@ -18,4 +19,15 @@ pub extern "C" fn mbdc_decode_text(input: &[u8], out: &mut [u8]) -> usize
     ensures fits { result ≢ 2 ^ 64 - 1 → result ≤ length out.old }
 {
     decode_text_into(input, out)
+}
+
+/// Writes the JSON lines that `decode --json` prints for an input to the front of `out`, and returns
+/// their number of bytes; `usize::MAX` if they have more than `out`.
+#[unsafe(no_mangle)]
+pub extern "C" fn mbdc_decode_json(input: &[u8], out: &mut [u8]) -> usize
+    ensures text { result ≢ 2 ^ 64 - 1 → take result out.new ≡ json_text input.now }
+    ensures full { result ≡ 2 ^ 64 - 1 → length out.old < length (json_text input.now) }
+    ensures fits { result ≢ 2 ^ 64 - 1 → result ≤ length out.old }
+{
+    decode_json_into(input, out)
 }

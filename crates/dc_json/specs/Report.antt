@@ -13,10 +13,10 @@ use Rattle.dc_value.specs.declared.point.Point.{Point}
 use Rattle.dc_value.specs.Date.{Day}
 use Rattle.dc_value.specs.Quantity.{unit_of}
 use Rattle.dc_value.specs.Text.{day_text}
-use Rattle.dc_json.specs.Object.{Field, object_of, count}
-use Rattle.dc_json.specs.Meter.{identity_fields}
-use Rattle.dc_json.specs.Record.{value_json, unit_json}
-use Rattle.dc_json.specs.Text.{value_line}
+use Rattle.dc_tokens.specs.Object.{Field, object_of, count}
+use Rattle.dc_frame_json.specs.Meter.{identity_fields}
+use Rattle.dc_frame_json.specs.Record.{value_json, unit_json}
+use Rattle.dc_frame_json.specs.Text.{value_line}
 
 -- a primary address; null for secondary addressing
 abbrev pub address_json : Option ℕ → Json

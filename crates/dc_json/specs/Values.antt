@@ -12,11 +12,11 @@ use Rattle.dc_register.specs.Points.{points_of}
 use Rattle.dc_register.specs.declared.place.Place.{Place}
 use Rattle.dc_latest.specs.Utc.{minute_of}
 use Rattle.dc_latest.specs.Values.{is_current, last_part, last_reading}
-use Rattle.dc_json.specs.Object.{Field, object_of, array_of, count}
-use Rattle.dc_json.specs.Meter.{status_fields}
-use Rattle.dc_json.specs.Record.{value_json, unit_json}
+use Rattle.dc_tokens.specs.Object.{Field, object_of, array_of, count}
+use Rattle.dc_frame_json.specs.Meter.{status_fields}
+use Rattle.dc_frame_json.specs.Record.{value_json, unit_json}
 use Rattle.dc_json.specs.Report.{whose_fields}
-use Rattle.dc_json.specs.Text.{value_line}
+use Rattle.dc_frame_json.specs.Text.{value_line}
 
 -- a current value: its tariff, its subunit, and the value with its unit
 unfoldable pub current_fields : Point → List Field

@@ -4,87 +4,132 @@ ghost use Rattle.std.specs.Prelude.{◌≡◌, ◌++◌, IfOk};
 ghost use Rattle.std.specs.List.{flat_map};
 ghost use Rattle.dc_register.specs.Places.{by_flat};
 ghost use Rattle.json.specs.Tree.{json_tokens};
-ghost use Rattle.dc_json.specs.Object.{Adds, fields_tokens};
+ghost use Rattle.dc_io.specs.Written.{Wrote};
+ghost use Rattle.dc_tokens.specs.Object.{fields_tokens};
+ghost use Rattle.dc_tokens.specs.Writing.{Added};
 ghost use Rattle.dc_json.specs.Report.{address_json, date_fields, due_lines, line_at, meter_json};
 ghost use Rattle.dc_json.specs.Report.{point_fields, register_lines, row_json, row_line};
 ghost use Rattle.dc_json.specs.Report.{station_fields, whose_fields};
-ghost use Rattle.dc_json.specs.Text.{value_line};
+ghost use Rattle.dc_frame_json.specs.Text.{value_line};
 
-use crate::meter::put_meter;
-use crate::put::{ascii, begin_object, end_object, put_count, put_name, put_text};
-use crate::record::{put_unit, put_value};
+use crate::grown::Grown;
 use dc_address::{Identity, Primary};
 use dc_change::Flat;
-use dc_io::NoMemory;
+use dc_frame_json::{put_meter, put_unit, put_value};
+use dc_io::{IoFault, NoMemory, Sink};
 use dc_names::function_name;
 use dc_register::{House, Meter};
 use dc_table::{Row, rows};
+use dc_tokens::TokenWriter;
 use dc_value::{Date, Point, TEXT_ROOM, Value};
-use json::Writer;
 use std::alloc::Allocator;
 
 /// Writes a flat and a meter.
-pub(crate) fn put_whose<A: Allocator>(
-    out: &mut Writer<A>,
-    flat: &Flat,
-    meter: &Identity,
-) -> Result<(), NoMemory>
-    ensures { Adds result out.old out.new (fields_tokens (whose_fields flat.now meter.now)) }
+pub(crate) fn put_whose<W: Sink>(out: &mut TokenWriter<'_, W>, flat: &Flat, meter: &Identity)
+    ensures { Added W.Sink out.old out.new (fields_tokens (whose_fields flat.now meter.now)) }
 {
-    put_text(out, "flat", ascii(flat.as_slice()))?;
-    put_name(out, "meter")?;
-    put_meter(out, meter)?;
-    Ok(())
+    out.put_name("flat");
+    out.put_string(flat.as_slice());
+    out.put_name("meter");
+    put_meter(out, meter);
 }
 
 // Writes a primary address, or null.
-fn put_address<A: Allocator>(out: &mut Writer<A>, address: Option<Primary>) -> Result<(), NoMemory>
-    ensures { Adds result out.old out.new (json_tokens (address_json address)) }
+fn put_address<W: Sink>(out: &mut TokenWriter<'_, W>, address: Option<Primary>)
+    ensures { Added W.Sink out.old out.new (json_tokens (address_json address)) }
 {
     match address {
-        Some(number) => out.u64(u64::from(number.get()))?,
-        None => out.null()?,
+        Some(number) => out.put_whole(u64::from(number.get())),
+        None => out.put_null(),
     }
-    Ok(())
 }
 
 // Writes a meter's bus line and address, and the number of its open parts.
-fn put_station<A: Allocator + Copy>(out: &mut Writer<A>, row: &Meter<A>) -> Result<(), NoMemory>
-    ensures { Adds result out.old out.new (fields_tokens (station_fields row.now)) }
+fn put_station<A: Allocator + Copy, W: Sink>(out: &mut TokenWriter<'_, W>, row: &Meter<A>)
+    ensures { Added W.Sink out.old out.new (fields_tokens (station_fields row.now)) }
 {
-    put_count(out, "line", u64::from(row.line()))?;
-    put_name(out, "address")?;
-    put_address(out, row.address())?;
-    put_count(out, "open", row.parts().len() as u64)?;
-    Ok(())
+    out.put_count("line", u64::from(row.line()));
+    out.put_name("address");
+    put_address(out, row.address());
+    out.put_count("open", row.parts().len() as u64);
 }
 
 // Writes the due date of a row.
-fn put_date<A: Allocator>(out: &mut Writer<A>, date: Date) -> Result<(), NoMemory>
-    ensures { Adds result out.old out.new (fields_tokens (date_fields date)) }
+fn put_date<W: Sink>(out: &mut TokenWriter<'_, W>, date: Date)
+    ensures { Added W.Sink out.old out.new (fields_tokens (date_fields date)) }
 {
     let mut room = [0u8; TEXT_ROOM];
-    put_text(out, "date", ascii(Value::Day(date).write_into(&mut room)))?;
-    Ok(())
+    out.put_name("date");
+    out.put_string(Value::Day(date).write_into(&mut room));
 }
 
 // Writes a point of a reading.
-fn put_point<A: Allocator>(out: &mut Writer<A>, serial: u64, point: &Point) -> Result<(), NoMemory>
-    ensures { Adds result out.old out.new (fields_tokens (point_fields serial point.now)) }
+fn put_point<W: Sink>(out: &mut TokenWriter<'_, W>, serial: u64, point: &Point)
+    ensures { Added W.Sink out.old out.new (fields_tokens (point_fields serial point.now)) }
 {
-    put_count(out, "serial", serial)?;
-    put_count(out, "storage", point.storage)?;
-    put_count(out, "tariff", u64::from(point.tariff))?;
-    put_count(out, "subunit", u64::from(point.subunit))?;
-    put_text(out, "function", function_name(point.function))?;
-    put_name(out, "value")?;
-    put_value(out, &point.value)?;
-    put_name(out, "unit")?;
-    put_unit(out, point.quantity.unit())?;
-    Ok(())
+    out.put_count("serial", serial);
+    out.put_count("storage", point.storage);
+    out.put_count("tariff", u64::from(point.tariff));
+    out.put_count("subunit", u64::from(point.subunit));
+    out.put_text("function", function_name(point.function));
+    out.put_name("value");
+    put_value(out, &point.value);
+    out.put_name("unit");
+    put_unit(out, point.quantity.unit());
 }
 
-// Appends the object of a registered meter.
+// Writes the object of a registered meter.
+fn put_meter_json<A: Allocator + Copy, W: Sink>(
+    out: &mut TokenWriter<'_, W>,
+    meter: &Identity,
+    row: &Meter<A>,
+)
+    ensures { Added W.Sink out.old out.new (json_tokens (meter_json meter.now row.now)) }
+{
+    out.begin_object();
+    put_whose(out, &row.flat(), meter);
+    put_station(out, row);
+    out.end_object();
+}
+
+// Writes the line of a registered meter.
+#[tactic(auto, using(dc_tokens::proofs::Adding::whole, dc_io::proofs::Pieces::written), unfolding(dc_frame_json::specs::Text::value_line))]
+fn put_meter_line<A: Allocator + Copy, W: Sink>(
+    out: &mut W,
+    meter: &Identity,
+    row: &Meter<A>,
+) -> Result<(), IoFault>
+    ensures { Wrote W.Sink result out.old out.new (value_line (meter_json meter.now row.now)) }
+{
+    let mut tokens = TokenWriter::new(out);
+    put_meter_json(&mut tokens, meter, row);
+    tokens.outcome()?;
+    out.put(b"\n")
+}
+
+// Writes the object of a row of the due-date table.
+fn put_row_json<W: Sink>(out: &mut TokenWriter<'_, W>, date: Date, row: &Row)
+    ensures { Added W.Sink out.old out.new (json_tokens (row_json date row.now)) }
+{
+    out.begin_object();
+    put_date(out, date);
+    put_whose(out, &row.flat, &row.meter);
+    put_point(out, row.serial, &row.point);
+    out.end_object();
+}
+
+// Writes the line of a row of the due-date table.
+#[tactic(auto, using(dc_tokens::proofs::Adding::whole, dc_io::proofs::Pieces::written), unfolding(dc_frame_json::specs::Text::value_line))]
+fn put_row_line<W: Sink>(out: &mut W, date: Date, row: &Row) -> Result<(), IoFault>
+    ensures { Wrote W.Sink result out.old out.new (value_line (row_json date row.now)) }
+{
+    let mut tokens = TokenWriter::new(out);
+    put_row_json(&mut tokens, date, row);
+    tokens.outcome()?;
+    out.put(b"\n")
+}
+
+// Appends the line of a registered meter.
 fn add_meter<A: Allocator + Copy>(
     text: Vec<u8, A>,
     meter: &Identity,
@@ -93,17 +138,14 @@ fn add_meter<A: Allocator + Copy>(
     ensures { IfOk result (λ added. added.items ≡ text.items
         ++ value_line (meter_json meter.now row.now)) }
 {
-    let mut out = Writer::new(text);
-    begin_object(&mut out)?;
-    put_whose(&mut out, &row.flat(), meter)?;
-    put_station(&mut out, row)?;
-    end_object(&mut out)?;
-    let mut grown = out.into_inner();
-    grown.push(b'\n')?;
-    Ok(grown)
+    let mut out = Grown::new(text);
+    match put_meter_line(&mut out, meter, row) {
+        Ok(()) => Ok(out.items),
+        Err(IoFault) => Err(NoMemory),
+    }
 }
 
-// Appends the object of a row of the due-date table.
+// Appends the line of a row of the due-date table.
 fn add_row<A: Allocator + Copy>(
     text: Vec<u8, A>,
     date: Date,
@@ -112,15 +154,11 @@ fn add_row<A: Allocator + Copy>(
     ensures { IfOk result (λ added. added.items ≡ text.items
         ++ value_line (row_json date row.now)) }
 {
-    let mut out = Writer::new(text);
-    begin_object(&mut out)?;
-    put_date(&mut out, date)?;
-    put_whose(&mut out, &row.flat, &row.meter)?;
-    put_point(&mut out, row.serial, &row.point)?;
-    end_object(&mut out)?;
-    let mut grown = out.into_inner();
-    grown.push(b'\n')?;
-    Ok(grown)
+    let mut out = Grown::new(text);
+    match put_row_line(&mut out, date, row) {
+        Ok(()) => Ok(out.items),
+        Err(IoFault) => Err(NoMemory),
+    }
 }
 
 // Appends the lines of a house's meters.

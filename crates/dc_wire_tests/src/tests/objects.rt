@@ -1,7 +1,8 @@
 //! What no clause says of JSON lines and of the table for people: telegrams whole, and refused memory.
 
+use dc_frame_json::json_lines;
 use dc_io::{Bytes, TextFault};
-use dc_json::{explain_lines, json_lines};
+use dc_json::explain_lines;
 use refusing_alloc::Refusing;
 use std::alloc::{Allocator, Global};
 use std::process::Abort;

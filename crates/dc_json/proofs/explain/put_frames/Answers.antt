@@ -1,5 +1,5 @@
 use Rattle.dc_decode.specs.Frames.{frames_of}
-use Rattle.dc_json.proofs.InputObjects.{one_fault_more}
+use Rattle.dc_json.proofs.Faults.{one_fault_more}
 use Rattle.dc_json.proofs.explain.put_frames.Goals as goal
 
 pub frames-preserved : goal.frames-preserved

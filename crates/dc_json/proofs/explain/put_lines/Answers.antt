@@ -1,6 +1,6 @@
 use Rattle.std.proofs.Common.{arith}
 use Rattle.dc_io.specs.Lines.{lines_of}
-use Rattle.dc_json.proofs.InputObjects.{one_line_fault_more}
+use Rattle.dc_json.proofs.Faults.{one_line_fault_more}
 use Rattle.dc_json.proofs.explain.put_lines.Goals as goal
 
 pub lines-preserved : goal.lines-preserved

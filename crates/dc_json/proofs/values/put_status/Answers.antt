@@ -1,13 +1,11 @@
-use Rattle.std.proofs.Common.{append_assoc, append-nil, ◌∷◌, []}
-use Rattle.json.specs.Tree.{json_tokens}
-use Rattle.dc_json.specs.Object.{fields_tokens}
+use Rattle.std.proofs.Common.{◌∷◌, []}
+use Rattle.dc_tokens.specs.Object.{fields_tokens}
 use Rattle.dc_json.specs.Values.{status_field}
-use Rattle.dc_json.proofs.Objects.{members_are, items_are, fields-append}
-use Rattle.dc_json.proofs.Adding.{◌>>◌, unchanged, said}
+use Rattle.dc_tokens.proofs.Adding.{◌>>◌, unchanged, said}
 use Rattle.dc_json.proofs.values.put_status.Goals as goal
 
 pub returns : goal.returns
 unfolding fields_tokens status_field
 returns g c =
     said (fields_tokens (status_field c.args.status ∷ []))
-    (c.in_ok-put_name.ensures >> c.in_ok-put_status_object.ensures >> unchanged) cc
+    (c.put_name.ensures >> c.put_status_object.ensures >> unchanged) cc

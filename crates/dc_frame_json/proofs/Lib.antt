@@ -1,0 +1,2 @@
+-- the objects of an input
+mod InputObjects

@@ -1,0 +1,10 @@
+use Rattle.dc_tokens.specs.Object.{fields_tokens}
+use Rattle.dc_frame_json.specs.Frame.{link_fields}
+use Rattle.dc_tokens.proofs.Adding.{◌>>◌, unchanged, said}
+use Rattle.dc_frame_json.proofs.frame.put_link.Goals as goal
+
+pub returns : goal.returns
+unfolding fields_tokens link_fields
+returns g c =
+    said (fields_tokens (link_fields c.args.control c.args.address))
+    (c.put_count.ensures >> c.put_text.ensures >> c.put_count-2.ensures >> unchanged) cc

@@ -1,0 +1,37 @@
+-- Texts that need no escape, and one byte more of those that do.
+use Rattle.std.proofs.Common.{◌≡◌, ℕ, suc, ◌+◌, ◌/◌, ◌%◌, ◌<◌, true, List, [], ◌∷◌, ◌++◌, length, take, get_or, refl, ap, sym, ◌∙◌, arith, append_assoc, append-nil}
+use Rattle.std.proofs.lemmas.Bool.Decides.{nat_tests}
+use Rattle.std.proofs.lemmas.Grind.{common_steps}
+use Rattle.std.proofs.lemmas.List.Concat.{flat_map-append}
+use Rattle.json.specs.Print.{escape, escape_byte, quoted}
+use Rattle.json.specs.Run.{is_plain}
+use Rattle.json.proofs.Printed.Plain.{escape_on_plain}
+use Rattle.json.proofs.Printed.Strings.{escape_byte_plain}
+use Rattle.dc_io.specs.Hex.{upper_digit, upper_pair, upper_hex}
+
+pub plain_escaped : (text : List ℕ) → ((k : ℕ) → k < length text → is_plain (get_or text k 0) ≡ true) → escape text ≡ text
+plain_escaped text plain = escape_on_plain true text (λ k least below. plain k below)
+
+pub escape_of_one_more : (text : List ℕ) (i : ℕ) → i < length text → escape (take (i + 1) text) ≡ escape (take i text) ++ escape_byte (get_or text i 0)
+escape_of_one_more text i below =
+    let more : take (i + 1) text ≡ take i text ++ (get_or text i 0 ∷ []) = grind (arith, common_steps) in
+    rw (more, flat_map-append escape_byte (take i text) (get_or text i 0 ∷ [])) (ap (λ (t : List ℕ). escape (take i text) ++ t) (append-nil (escape_byte (get_or text i 0))))
+
+digit_escaped : (n : ℕ) → n < 16 → escape_byte (upper_digit n) ≡ upper_digit n ∷ []
+digit_escaped n below = escape_byte_plain (upper_digit n) (grind (arith, nat_tests)) (grind (arith, nat_tests)) (grind (arith, nat_tests))
+
+pub hex_escaped : (bytes : List ℕ) → ((i : ℕ) → get_or bytes i 0 < 256) → escape (upper_hex bytes) ≡ upper_hex bytes
+unfolding upper_hex
+hex_escaped [] small = refl
+hex_escaped (b ∷ bytes) small =
+    let high : b / 16 < 16 = omega (arith, small 0) in
+    let low : b % 16 < 16 = omega arith in
+    ap (λ (s : List ℕ). s ++ (escape_byte (upper_digit (b % 16)) ++ escape (upper_hex bytes))) (digit_escaped (b / 16) high)
+    ∙ ap (λ (s : List ℕ). upper_digit (b / 16) ∷ (s ++ escape (upper_hex bytes))) (digit_escaped (b % 16) low)
+    ∙ ap (λ (s : List ℕ). upper_pair b ++ s) (hex_escaped bytes (λ i. small (suc i)))
+
+-- a name with its quotes and its colon, after what stands before it
+pub name_text : (before name : List ℕ) → (before ++ 34 ∷ []) ++ (escape name ++ 34 ∷ 58 ∷ []) ≡ before ++ (quoted name ++ 58 ∷ [])
+name_text before name =
+    append_assoc before (34 ∷ []) (escape name ++ 34 ∷ 58 ∷ [])
+    ∙ ap (λ (s : List ℕ). before ++ 34 ∷ s) (sym (append_assoc (escape name) (34 ∷ []) (58 ∷ [])))

@@ -1,0 +1,8 @@
+-- tokens that are written one after the other
+pub mod Adding
+-- texts that need no escape, and one byte more of those that do
+mod Escapes
+-- the tokens of objects and arrays
+pub mod Objects
+-- tokens that a loop writes
+pub mod Rests

@@ -1,0 +1,6 @@
+-- the definitions that contracts cite
+
+-- objects as lists of fields, and their tokens
+pub mod Object
+-- what the tokens that are written make of a sink
+pub mod Writing
