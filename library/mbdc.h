@@ -37,6 +37,12 @@ size_t mbdc_decode_text(const uint8_t *input, size_t input_size, uint8_t *out, s
  */
 size_t mbdc_decode_json(const uint8_t *input, size_t input_size, uint8_t *out, size_t out_size);
 
+/* Decodes the body of one telegram, as bytes, without a frame around it: writes one JSON line with
+ * the fields that a telegram has in a line of mbdc_decode_json, or `body` and `fault`. The results
+ * are those of the other functions. A body may have any size.
+ */
+size_t mbdc_decode_body(const uint8_t *body, size_t body_size, uint8_t *out, size_t out_size);
+
 #ifdef __cplusplus
 }
 #endif

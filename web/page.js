@@ -16,7 +16,7 @@ const WORDS = {
     input: "Hex digits, one or more frames a line", joined: "The lines belong together", decode: "Decode",
     csv: "Copy as CSV", json: "Copy as JSON", link: "Copy link", other: "Deutsch",
     proved: "The decoder in this page is proved: it prints what the definitions of mbdc say for each input, byte for byte. "
-      + "The names of codes and this page's own words are not.",
+      + "This page's own words, and where it marks bytes, are not.",
     refused: "This page needs a browser with 64-bit WebAssembly memory: Chrome or Edge 133, Firefox 134, or later.",
     frames: (n, bad) => `${n} ${n === 1 ? "frame" : "frames"}, ${bad} with a fault.`, nothing: "There are no digits.",
     cleaned: (what) => `Left out: ${what}.`, more: (n) => `${n} more are not shown; the copies have them.`, copied: "Copied.",
@@ -41,7 +41,7 @@ const WORDS = {
     input: "Hexziffern, je Zeile ein Rahmen oder mehrere", joined: "Die Zeilen gehören zusammen", decode: "Dekodieren",
     csv: "Als CSV kopieren", json: "Als JSON kopieren", link: "Link kopieren", other: "English",
     proved: "Der Decoder dieser Seite ist bewiesen: Er schreibt zu jeder Eingabe Byte für Byte, was die Definitionen von mbdc sagen. "
-      + "Die Namen der Codes (englisch, wie in mbdc) und die Wörter dieser Seite sind es nicht.",
+      + "Die Wörter dieser Seite, und wo sie Bytes markiert, sind es nicht. Die Namen der Codes sind englisch, wie in mbdc.",
     refused: "Diese Seite braucht einen Browser mit 64-Bit-Speicher für WebAssembly: Chrome oder Edge 133, Firefox 134 oder neuer.",
     frames: (n, bad) => `${n} Rahmen, davon ${bad} mit Fehler.`, nothing: "Es gibt keine Ziffern.",
     cleaned: (what) => `Weggelassen: ${what}.`, more: (n) => `${n} weitere werden nicht gezeigt; die Kopien enthalten sie.`, copied: "Kopiert.",

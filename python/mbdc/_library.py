@@ -5,11 +5,12 @@ tools/library), else the system's.
 """
 
 import ctypes
+import json
 import os
 import pathlib
 import threading
 from collections.abc import Callable
-from typing import Union
+from typing import Any, Union
 
 _NAME = "libmbdc.so.0"
 _FIRST_ROOM = 65_536  # bytes; a telegram's text has some hundred
@@ -32,7 +33,7 @@ def _load() -> ctypes.CDLL:
         library = ctypes.CDLL(_path())
     except OSError as fault:
         raise LibraryFault(f"{_path()}: {fault}") from fault
-    for call in (library.mbdc_decode_text, library.mbdc_decode_json):
+    for call in (library.mbdc_decode_text, library.mbdc_decode_json, library.mbdc_decode_body):
         call.restype = ctypes.c_size_t
         call.argtypes = [ctypes.c_char_p, ctypes.c_size_t, ctypes.c_void_p, ctypes.c_size_t]
     return library
@@ -58,9 +59,12 @@ class _Room(threading.local):
 _room = _Room()
 
 
-def _written(call: _Call, frames: Union[str, bytes]) -> str:
-    """What a call of the library writes for lines of hex digits."""
-    digits = frames.encode("utf-8", "surrogatepass") if isinstance(frames, str) else frames
+def _digits(frames: Union[str, bytes]) -> bytes:
+    return frames.encode("utf-8", "surrogatepass") if isinstance(frames, str) else frames
+
+
+def _written(call: _Call, digits: bytes) -> str:
+    """What a call of the library writes for its input."""
     room = _room
     count = call(digits, len(digits), room.address, room.size)
     while count == _TOO_LONG:
@@ -82,7 +86,7 @@ def decode_text(frames: Union[str, bytes]) -> str:
     >>> decode_text("E5 10 40 05 45 16")
     'ACK\\nSHORT 40 05\\n'
     """
-    return _written(_library.mbdc_decode_text, frames)
+    return _written(_library.mbdc_decode_text, _digits(frames))
 
 
 def decode_json(frames: Union[str, bytes]) -> str:
@@ -93,4 +97,19 @@ def decode_json(frames: Union[str, bytes]) -> str:
     >>> decode_json("E5")
     '{"line":1,"frame":"ack"}\\n'
     """
-    return _written(_library.mbdc_decode_json, frames)
+    return _written(_library.mbdc_decode_json, _digits(frames))
+
+
+def decode_body(body: bytes) -> dict[str, Any]:
+    """The telegram that a body without a frame holds, as an object with the fields of `mbdc decode --json`: `meter`,
+    `access`, `status`, `records`, `more`, `manufacturer_data`; of a body at fault `body` and `fault`.
+
+    Raises LibraryFault where memory is refused.
+
+    >>> decode_body(bytes.fromhex("78563412244001075500000003131531 00"))["records"][0]["value"]
+    '12.565'
+    >>> decode_body(b"")["fault"]
+    {'kind': 'body', 'number': 1, 'name': 'Short'}
+    """
+    found: dict[str, Any] = json.loads(_written(_library.mbdc_decode_body, body))
+    return found

@@ -6,9 +6,10 @@
 
 ghost use Rattle.std.specs.Prelude.{◌≡◌, ◌≢◌, ◌-◌, ◌^◌, ◌<◌, ◌≤◌, length, take};
 ghost use Rattle.dc_decode.specs.Text.{text_of};
-ghost use Rattle.dc_frame_json.specs.Text.{json_text};
+ghost use Rattle.dc_frame_json.specs.Frame.{body_json};
+ghost use Rattle.dc_frame_json.specs.Text.{json_text, value_line};
 
-use dc_library::{decode_json_into, decode_text_into};
+use dc_library::{decode_body_into, decode_json_into, decode_text_into};
 
 /// Writes the text that `decode` prints for an input to the front of `out`, and returns its number
 /// of bytes; `usize::MAX` if it has more than `out`.
@@ -30,4 +31,16 @@ pub extern "C" fn mbdc_decode_json(input: &[u8], out: &mut [u8]) -> usize
     ensures fits { result ≢ 2 ^ 64 - 1 → result ≤ length out.old }
 {
     decode_json_into(input, out)
+}
+
+/// Writes the JSON line of a telegram's body, without a frame around it, to the front of `out`, and
+/// returns its number of bytes; `usize::MAX` if it has more than `out`.
+#[unsafe(no_mangle)]
+pub extern "C" fn mbdc_decode_body(body: &[u8], out: &mut [u8]) -> usize
+    ensures text { result ≢ 2 ^ 64 - 1 → take result out.new ≡ value_line (body_json body.now) }
+    ensures full { result ≡ 2 ^ 64 - 1 →
+        length out.old < length (value_line (body_json body.now)) }
+    ensures fits { result ≢ 2 ^ 64 - 1 → result ≤ length out.old }
+{
+    decode_body_into(body, out)
 }

@@ -49,6 +49,10 @@ body_fields body (Err f) =
     bytes_field (codes "body") body ∷ fault_field (codes "body") (records.number_of f)
     (records.name_of f) ∷ []
 
+-- a body without a frame around it
+unfoldable pub body_json : List ℕ → Json
+body_json body = object_of (body_fields body (telegram_at body))
+
 -- a body is decoded for CI 72
 unfoldable pub content_fields : ℕ → List ℕ → List Field
 content_fields ci body =

@@ -1,6 +1,6 @@
 //! A link frame or its fault.
 
-ghost use Rattle.std.specs.Prelude.{◌≡◌, ◌∷◌, [], ◌++◌, codes, Err};
+ghost use Rattle.std.specs.Prelude.{◌≡◌, ◌∷◌, [], ◌++◌, codes, Err, is_err};
 ghost use Rattle.json.specs.Tree.{json_tokens};
 ghost use Rattle.dc_frame.specs.Frame.{seen, long};
 ghost use Rattle.dc_decode.specs.Frames.{is_bad_content, is_bad_frame, is_bad};
@@ -9,7 +9,8 @@ ghost use Rattle.dc_tokens.specs.Writing.{Added};
 ghost use Rattle.dc_frame_json.specs.Frame.{fault_fields, fault_field, place_fields, link_fields};
 ghost use Rattle.dc_frame_json.specs.Frame.{ci_fields, bytes_field, body_fields, content_fields};
 ghost use Rattle.dc_frame_json.specs.Frame.{frame_fields, read_fields, text_fields, text_json};
-ghost use Rattle.dc_frame_json.specs.Frame.{hex_fault_json};
+ghost use Rattle.dc_frame_json.specs.Frame.{body_json, hex_fault_json};
+ghost use Rattle.dc_record.specs.Telegram.{telegram_at};
 
 use crate::telegram::put_telegram;
 use dc_decode::read_frame;
@@ -97,6 +98,35 @@ fn put_frame_fault<W: Sink>(out: &mut TokenWriter<'_, W>, line: u64, text: &[u8]
     put_fault(out, "frame", fault.number(), fault.name());
 }
 
+// Writes a telegram, or its bytes and its fault, and returns whether it has one.
+fn put_body<W: Sink>(out: &mut TokenWriter<'_, W>, body: &[u8]) -> bool
+    ensures tokens { Added W.Sink out.old out.new
+        (fields_tokens (body_fields body.now (telegram_at body.now))) }
+    ensures fault { result ≡ is_err (telegram_at body.now) }
+{
+    match Telegram::parse(body) {
+        Ok(telegram) => {
+            put_telegram(out, &telegram);
+            false
+        }
+        Err(fault) => {
+            put_body_fault(out, body, fault);
+            true
+        }
+    }
+}
+
+/// Writes the object of a body without a frame, and returns whether it has a fault.
+pub(crate) fn put_body_json<W: Sink>(out: &mut TokenWriter<'_, W>, body: &[u8]) -> bool
+    ensures tokens { Added W.Sink out.old out.new (json_tokens (body_json body.now)) }
+    ensures fault { result ≡ is_err (telegram_at body.now) }
+{
+    out.begin_object();
+    let bad = put_body(out, body);
+    out.end_object();
+    bad
+}
+
 // Writes a telegram if the CI field states one, otherwise the body's bytes, and returns whether the
 // body has a fault.
 #[tactic(auto, unfolding(crate::specs::Frame::content_fields, dc_decode::specs::Frames::is_bad_content))]
@@ -108,16 +138,7 @@ fn put_content<W: Sink>(out: &mut TokenWriter<'_, W>, ci: u8, body: &[u8]) -> bo
         put_bytes(out, "body", body);
         return false;
     }
-    match Telegram::parse(body) {
-        Ok(telegram) => {
-            put_telegram(out, &telegram);
-            false
-        }
-        Err(fault) => {
-            put_body_fault(out, body, fault);
-            true
-        }
-    }
+    put_body(out, body)
 }
 
 // Writes the fields of a short frame.

@@ -6,15 +6,19 @@
 //! whole input, byte for byte: each object is the compact text of the value that `specs/Frame.antt`
 //! defines. [`put_json_lines`] does the same for an input that is at hand, and takes no memory.
 //!
+//! [`put_body_line`] writes the object of a body without a frame around it.
+//!
 //! Other crates write a meter's identity, a status byte, a value and a unit as here.
 #![tactic(auto)]
 
+mod body;
 mod frame;
 mod lines;
 mod meter;
 mod record;
 mod telegram;
 
+pub use body::put_body_line;
 pub use lines::{json_lines, put_json_lines};
 pub use meter::{put_meter, put_status_object};
 pub use record::{put_unit, put_value};

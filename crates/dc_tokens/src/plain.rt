@@ -8,7 +8,7 @@ ghost use Rattle.json.specs.Run.{is_plain};
 ghost use Rattle.json.specs.Token.{boolean};
 
 // Whether a byte of a string stands for itself.
-#[inline]
+#[inline(always)]
 fn is_plain_byte(byte: u8) -> bool
     ensures { result ≡ is_plain byte }
 {
@@ -16,7 +16,7 @@ fn is_plain_byte(byte: u8) -> bool
 }
 
 /// Whether a text needs no escape.
-#[inline]
+#[inline(always)]
 pub(crate) fn is_plain(text: &[u8]) -> bool
     ensures { OnTrue result (escape text.now ≡ text.now) }
 {

@@ -52,7 +52,7 @@ impl<'a, W: Sink> TokenWriter<'a, W> {
     }
 
     // Puts bytes, unless a put has failed.
-    #[inline]
+    #[inline(always)]
     fn put(&mut self, bytes: &[u8])
         ensures { Sent W.Sink self.old self.new bytes.now }
     {
@@ -80,7 +80,7 @@ impl<'a, W: Sink> TokenWriter<'a, W> {
     }
 
     // Puts a comma if a value stands before.
-    #[inline]
+    #[inline(always)]
     fn put_comma(&mut self)
         ensures { Sent W.Sink self.old self.new (cond self.old.after_value (44 ∷ []) []) }
     {
@@ -90,7 +90,7 @@ impl<'a, W: Sink> TokenWriter<'a, W> {
     }
 
     // Puts the bytes that begin a value or a member, after a comma if a value stands before.
-    #[inline]
+    #[inline(always)]
     fn put_first(&mut self, bytes: &[u8])
         ensures { Sent W.Sink self.old self.new
             (cond self.old.after_value (44 ∷ []) [] ++ bytes.now) }
@@ -100,14 +100,16 @@ impl<'a, W: Sink> TokenWriter<'a, W> {
     }
 
     // Notes whether the last token ended a value.
-    #[inline]
+    #[inline(always)]
     fn note(&mut self, ends: bool)
         ensures { self.new ≡ record self.old { after_value = ends } }
     {
         self.after_value = ends;
     }
 
-    // Puts a text with its escapes.
+    // Puts a text with its escapes. Inlined, so that a name of the program's own is tested when it is
+    // compiled.
+    #[inline(always)]
     fn put_escaped(&mut self, text: &[u8])
         ensures { Sent W.Sink self.old self.new (escape text.now) }
     {
@@ -120,6 +122,7 @@ impl<'a, W: Sink> TokenWriter<'a, W> {
 
     // Puts a text with its escapes, byte by byte.
     #[cold]
+    #[inline(never)]
     fn put_escapes(&mut self, text: &[u8])
         ensures { Sent W.Sink self.old self.new (escape text.now) }
     {
@@ -162,6 +165,7 @@ impl<'a, W: Sink> TokenWriter<'a, W> {
     }
 
     /// Writes the name of a field.
+    #[inline(always)]
     pub fn put_name(&mut self, name: &str)
         ensures { Added W.Sink self.old self.new (Token.key name.now ∷ []) }
     {
@@ -217,6 +221,7 @@ impl<'a, W: Sink> TokenWriter<'a, W> {
     }
 
     /// Writes a field whose value is a string.
+    #[inline(always)]
     pub fn put_text(&mut self, name: &str, text: &str)
         ensures { Added W.Sink self.old self.new
             (Token.key name.now ∷ Token.string text.now ∷ []) }
@@ -226,6 +231,7 @@ impl<'a, W: Sink> TokenWriter<'a, W> {
     }
 
     /// Writes a field whose value is a whole number.
+    #[inline(always)]
     pub fn put_count(&mut self, name: &str, number: u64)
         ensures { Added W.Sink self.old self.new
             (Token.key name.now ∷ Token.number (decimal number) ∷ []) }
@@ -235,6 +241,7 @@ impl<'a, W: Sink> TokenWriter<'a, W> {
     }
 
     /// Writes a field whose value is true or false.
+    #[inline(always)]
     pub fn put_flag(&mut self, name: &str, flag: bool)
         ensures { Added W.Sink self.old self.new
             (Token.key name.now ∷ Token.boolean flag ∷ []) }
