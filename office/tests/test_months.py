@@ -51,6 +51,9 @@ def test_late_readings_and_what_people_put(office: Office, elm: Supplied) -> Non
     assert "0 written" in office.run("close", "2025-01-31").printed
     assert days_of(office) == [("2025-01-31", 1025.0, "by hand")]
     assert office.sql("SELECT count(*), count(struck_by) FROM day_values WHERE struck_at IS NOT NULL") == [(2, 2)]
+    elm.reads(meter, at("2025-02-04T06:00"), 1060, ("2025-01-31", 1031))
+    assert "0 written" in office.run("close", "2025-01-31").printed
+    assert days_of(office) == [("2025-01-31", 1025.0, "by hand")]
 
 
 def test_a_month_of_stored_values(office: Office, elm: Supplied) -> None:
