@@ -159,11 +159,23 @@ fn the_status_is_told_in_each_form(rt: HostRuntime) -> Result<(), Fail> {
     let heap = rt.alloc();
     let mut fitted = after(heap, formatted(heap)?, FITTED)?;
     is_told_in(&rt, &mut fitted, StatusForm::Json, at(READ_AT), NEVER_JSON)?;
-    is_told_in(&rt, &mut fitted, StatusForm::Metrics, at(READ_AT), NEVER_METRICS)?;
+    is_told_in(
+        &rt,
+        &mut fitted,
+        StatusForm::Metrics,
+        at(READ_AT),
+        NEVER_METRICS,
+    )?;
     let mut read_out = after(heap, formatted(heap)?, LIFE)?;
     let clock = at(READ_AT + 60);
     is_told_in(&rt, &mut read_out, StatusForm::Json, clock, READ_OUT_JSON)?;
-    is_told_in(&rt, &mut read_out, StatusForm::Metrics, clock, READ_OUT_METRICS)
+    is_told_in(
+        &rt,
+        &mut read_out,
+        StatusForm::Metrics,
+        clock,
+        READ_OUT_METRICS,
+    )
 }
 
 #[test]
@@ -206,18 +218,36 @@ fn an_image_that_does_not_open_tells_nothing(rt: HostRuntime) -> Result<(), Fail
 fn what_fails_tells_nothing(rt: HostRuntime) -> Result<(), Fail> {
     let mut disk = after(rt.alloc(), formatted(rt.alloc())?, LIFE)?;
     let mut full: FixedSink<8> = FixedSink::new();
-    let told = show_status(rt.alloc(), &mut disk, StatusForm::Text, at(READ_AT + 60), &mut full);
+    let told = show_status(
+        rt.alloc(),
+        &mut disk,
+        StatusForm::Text,
+        at(READ_AT + 60),
+        &mut full,
+    );
     assert_eq!(rt; told, Err(ProgramFault::Write));
     disk.fail_once(2);
     let mut writer = Bytes::new(rt.alloc());
-    let told = show_status(rt.alloc(), &mut disk, StatusForm::Text, at(READ_AT + 60), &mut writer);
+    let told = show_status(
+        rt.alloc(),
+        &mut disk,
+        StatusForm::Text,
+        at(READ_AT + 60),
+        &mut writer,
+    );
     assert_eq!(rt; told, Err(ProgramFault::Open(OpenFault::Device)));
     assert_eq!(rt; writer.as_slice().len(), 0);
     let heap = Refusing::new(rt.alloc());
     for k in 1..200 {
         heap.refuse(k);
         let mut writer = Bytes::new(rt.alloc());
-        let told = show_status(&heap, &mut disk, StatusForm::Text, at(READ_AT + 60), &mut writer);
+        let told = show_status(
+            &heap,
+            &mut disk,
+            StatusForm::Text,
+            at(READ_AT + 60),
+            &mut writer,
+        );
         if heap.is_waiting() {
             assert_eq!(rt; told, Ok((None, false)));
             assert_eq!(rt; writer.as_slice(), READ_OUT);

@@ -15,10 +15,7 @@ const LINES: Rows = &[
     ("decode --json", "decode json from standard input"),
     ("decode --explain frames.txt", "decode table frames.txt"),
     ("decode --json --explain", "refused"),
-    (
-        "decode --loose",
-        "decode loose text from standard input",
-    ),
+    ("decode --loose", "decode loose text from standard input"),
     (
         "decode --loose --json frames.txt",
         "decode loose json frames.txt",

@@ -60,9 +60,7 @@ fn task_text(alloc: Global, task: &Task<'_>) -> Result<String, AllocError> {
             image,
             silent,
             form,
-        } => {
-            format!(in alloc; "status {image} silent {silent}{}", status_form_text(*form))
-        }
+        } => { format!(in alloc; "status {image} silent {silent}{}", status_form_text(*form)) }
         Task::Fit { image, list } => format!(in alloc; "fit {image} {list}"),
         Task::Poll(task) => poll_text(alloc, task),
         Task::Demo => String::from_str(alloc, "demo"),
