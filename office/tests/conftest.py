@@ -7,6 +7,7 @@ import pathlib
 import shutil
 import subprocess
 import sys
+import tempfile
 from typing import Any, Dict, Iterator, List, Tuple
 
 import psycopg2
@@ -33,7 +34,7 @@ class Server:
             shutil.chown(folder, "postgres", "postgres")
         programs = PROGRAMS[-1].parent
         self.run([programs / "initdb", "-D", folder / "data", "-A", "trust", "-U", OWNER, "--no-sync"])
-        self.ctl([programs / "pg_ctl", "-D", folder / "data", "-w", "-t", "300", "-l", folder / "log", "-o",
+        self.ctl([programs / "pg_ctl", "-D", folder / "data", "-w", "-l", folder / "log", "-o",
                   f"-k {folder} -c listen_addresses= -c fsync=off", "start"])
 
     def run(self, words: List[Any]) -> None:
@@ -151,11 +152,10 @@ def telegram(litres: int, status: int = 0, due: str = "") -> str:
 
 
 @pytest.fixture(scope="session")
-def server(tmp_path_factory: pytest.TempPathFactory) -> Iterator[Server]:
-    folder = tmp_path_factory.mktemp("postgres")
-    for above in (folder, *folder.parents):  # the server's user has to get there
-        if above.stat().st_uid == os.geteuid() and above != above.parent:
-            above.chmod(above.stat().st_mode | 0o011)
+def server() -> Iterator[Server]:
+    """Not in pytest's folder, which the next pytest closes to the server's user."""
+    folder = pathlib.Path(tempfile.mkdtemp(prefix="office-tests-"))
+    folder.chmod(0o711)
     running = Server(folder)
     connection = running.connect("postgres")
     connection.cursor().execute(f"CREATE DATABASE {TEMPLATE}")
@@ -163,6 +163,7 @@ def server(tmp_path_factory: pytest.TempPathFactory) -> Iterator[Server]:
     subprocess.run([OFFICE / "migrate", "--database", running.name(TEMPLATE)], check=True, stdout=subprocess.DEVNULL)
     yield running
     running.stop()
+    shutil.rmtree(folder)
 
 
 @pytest.fixture
