@@ -3,8 +3,9 @@
 use dc_decode::decode_lines;
 use dc_ending::ProgramFault;
 use dc_files::Host;
+use dc_frame_json::json_lines;
 use dc_io::{CHUNK, MOST, Sink, Source, read_input, room};
-use dc_json::{explain_lines, json_lines};
+use dc_json::explain_lines;
 use dc_paste::{clean, times_dropped};
 use dc_words::Form;
 use std::alloc::{AllocError, Global};
