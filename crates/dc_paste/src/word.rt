@@ -1,6 +1,7 @@
 //! The words of a line, and the bytes that a word spells.
 
-ghost use Rattle.std.specs.Prelude.{◌≡◌, ℕ, ◌&&◌, ◌<◌, ◌≤◌, ◌∷◌, length, slice_index, take, None, Some, IfSome, MatchOption, filter, true, false};
+ghost use Rattle.std.specs.Prelude.{◌≡◌, ℕ, ◌&&◌, ◌<◌, ◌≤◌, ◌∷◌, length, slice_index, take};
+ghost use Rattle.std.specs.Prelude.{None, Some, IfSome, MatchOption, filter, true, false};
 ghost use Rattle.dc_paste.specs.Word.{are_marked_pairs, is_gap, is_mark, is_marked, is_unmarked, is_x};
 ghost use Rattle.dc_paste.specs.Word.{prefix_len, spelled, word_bytes, words_of};
 
