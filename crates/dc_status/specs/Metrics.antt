@@ -13,7 +13,7 @@ use Rattle.dc_register.specs.declared.place.Place.{Place}
 use Rattle.dc_latest.specs.Values.{last_reading}
 use Rattle.dc_status.specs.Heard.{ago, heard, is_silent, part_in}
 use Rattle.dc_status.specs.Object.{text_field}
-use Rattle.dc_status.specs.Status.{days_left, readings_left}
+use Rattle.dc_status.specs.Status.{readings_left}
 use Rattle.dc_status.specs.declared.metrics.Metric.{Metric}
 use Rattle.dc_status.specs.declared.metrics.Metric.TheVariants.{Silent, Age, Code}
 
@@ -91,19 +91,17 @@ gauge_text name help None = head_of name help
 gauge_text name help (Some value) =
     head_of name help ++ (name ++ (codes " " ++ (decimal value ++ codes "\n")))
 
-unfoldable pub image_text : ℕ → ℕ → State → List ℕ
-image_text budget now s =
+unfoldable pub image_text : ℕ → State → List ℕ
+image_text budget s =
     gauge_text (codes "mbdc_image_bytes") (codes "Size of the state.") (Some (size_of s))
     ++ (gauge_text (codes "mbdc_image_budget_bytes") (codes "Largest size of the state.")
     (Some budget)
-    ++ (gauge_text (codes "mbdc_image_days_left") (codes "Days until the image is full.")
-    (days_left budget now s)
     ++ gauge_text (codes "mbdc_image_readings_left") (codes "Readings that still fit.")
-    (readings_left budget s)))
+    (readings_left budget s))
 
 -- THE METRICS at a clock, where a meter is silent after so many seconds
 unfoldable pub metrics_text : ℕ → ℕ → Held → List ℕ
 metrics_text patience now house = metric_text Silent patience now house.state
     ++ (metric_text Age patience now house.state
     ++ (metric_text Code patience now house.state
-    ++ image_text house.budget now house.state))
+    ++ image_text house.budget house.state))

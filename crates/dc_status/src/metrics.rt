@@ -7,7 +7,7 @@ ghost use Rattle.dc_status.specs.Metrics.{after, code_of, gauge_text, head_of, h
 ghost use Rattle.dc_status.specs.Metrics.{image_text, labels_of, meter_samples, metric_text, metrics_text};
 ghost use Rattle.dc_status.specs.Metrics.{name_of, sample_of, type_line, value_of};
 
-use crate::full::{days_left, readings_left};
+use crate::full::readings_left;
 use crate::object::put_text;
 use crate::silence::{Clock, heard, is_silent, part_in};
 use dc_io::{IoFault, Sink, put_number};
@@ -61,7 +61,7 @@ pub fn put_metrics<A: Allocator + Copy, W: Sink>(
     put_metric(out, house, clock, Metric::Silent)?;
     put_metric(out, house, clock, Metric::Age)?;
     put_metric(out, house, clock, Metric::Code)?;
-    put_image(out, house, clock.now)
+    put_image(out, house)
 }
 
 // Writes a metric of the meters.
@@ -208,13 +208,9 @@ fn put_head<W: Sink>(out: &mut W, name: &[u8], help: &[u8]) -> Result<(), IoFaul
 
 // Writes the metrics of the image.
 #[tactic(auto, using(dc_io::proofs::Pieces::written), unfolding(crate::specs::Metrics::image_text))]
-fn put_image<A: Allocator + Copy, W: Sink>(
-    out: &mut W,
-    house: &House<A>,
-    now: u64,
-) -> Result<(), IoFault>
+fn put_image<A: Allocator + Copy, W: Sink>(out: &mut W, house: &House<A>) -> Result<(), IoFault>
     ensures { Wrote W.Sink result out.old out.new
-        (image_text house.now.budget now house.now.state) }
+        (image_text house.now.budget house.now.state) }
 {
     let size = Some(u64::from(house.size()));
     let budget = Some(u64::from(house.budget()));
@@ -224,13 +220,6 @@ fn put_image<A: Allocator + Copy, W: Sink>(
         b"mbdc_image_budget_bytes",
         b"Largest size of the state.",
         budget,
-    )?;
-    let days = days_left(house, now);
-    put_gauge(
-        out,
-        b"mbdc_image_days_left",
-        b"Days until the image is full.",
-        days,
     )?;
     let room = readings_left(house);
     put_gauge(

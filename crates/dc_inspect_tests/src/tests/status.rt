@@ -90,9 +90,6 @@ mbdc_image_bytes 246
 # HELP mbdc_image_budget_bytes Largest size of the state.
 # TYPE mbdc_image_budget_bytes gauge
 mbdc_image_budget_bytes 15616
-# HELP mbdc_image_days_left Days until the image is full.
-# TYPE mbdc_image_days_left gauge
-mbdc_image_days_left 165
 # HELP mbdc_image_readings_left Readings that still fit.
 # TYPE mbdc_image_readings_left gauge
 mbdc_image_readings_left 165
@@ -111,8 +108,6 @@ mbdc_image_bytes 167
 # HELP mbdc_image_budget_bytes Largest size of the state.
 # TYPE mbdc_image_budget_bytes gauge
 mbdc_image_budget_bytes 15616
-# HELP mbdc_image_days_left Days until the image is full.
-# TYPE mbdc_image_days_left gauge
 # HELP mbdc_image_readings_left Readings that still fit.
 # TYPE mbdc_image_readings_left gauge
 "#;
