@@ -1,0 +1,2 @@
+-- the entries that count are in order
+mod Kept
