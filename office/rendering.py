@@ -13,6 +13,7 @@ import markupsafe
 
 from catalogue import Catalogue
 from chart import Bar, Chart, chart_of
+from checking import check_link
 from codes import Code, code_of
 from database import plain
 from periods import begin_of, day_before, later_month, next_month
@@ -24,8 +25,10 @@ CHARTED = ("heat", "allocator", "warm water")
 
 
 class Options(NamedTuple):
-    """How sheets are made: the page that decodes a telegram (a relative or an absolute link; none: no links)."""
+    """How sheets are made: the pages that decode a telegram and that compute a consumption again (a relative or an
+    absolute link; none: no links)."""
     decoder: str
+    checker: str
 
 
 @functools.lru_cache(maxsize=None)
@@ -58,6 +61,7 @@ def sheet_html(sheet: Sheet, options: Options, with_codes: bool = False) -> str:
                    charts=charts_of(sheet, words), last_of=lambda month: day_before(next_month(month)),
                    is_estimated=any(number.grade == "estimated" for number in numbers),
                    is_whole=lambda number, month: is_whole(number, month, user.zone), decoder=options.decoder,
+                   check_link=lambda use, place: check_link(options.checker, words, use, place), checker=options.checker,
                    codes=codes_of(sheet, options) if with_codes else [])
 
 

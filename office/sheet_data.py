@@ -7,9 +7,11 @@ from typing import Any, Dict, Iterable, List, NamedTuple, Optional, Tuple
 
 import psycopg2.extras
 
+from consumption import Line
 from database import Cursor
 from decoding import frame_of
 from periods import later_month
+from supply import seconds
 
 MONTHS = 13  # of the chart
 FEWEST_COMPARED = 3  # flats of an average, so that it tells of nobody
@@ -73,6 +75,7 @@ class Reading(NamedTuple):
     is_estimated: bool
     meter: str
     frame: Optional[str]  # its telegram, in hex digits, while the database has it
+    entry: Optional[Line]  # as it was computed with; none of a month that an older office computed
 
 
 class PlaceUse(NamedTuple):
@@ -235,4 +238,10 @@ def frames_of(cursor: Cursor, amounts: Iterable[Amount]) -> Dict[TelegramKey, st
 def reading_of(basis: Dict[str, Any], frames: Dict[TelegramKey, str]) -> Reading:
     key = key_of(basis)
     return Reading(datetime.datetime.fromisoformat(basis["at"]), basis["value"], basis["unit"], basis["source"],
-                   basis["estimated"], basis["meter"], None if key is None else frames.get(key))
+                   basis["estimated"], basis["meter"], None if key is None else frames.get(key), entry_of(basis))
+
+
+def entry_of(basis: Dict[str, Any]) -> Optional[Line]:
+    if "amount" not in basis:
+        return None
+    return Line(basis["fitting"], seconds(datetime.datetime.fromisoformat(basis["at"])), basis["amount"])

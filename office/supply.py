@@ -28,7 +28,7 @@ class Value(NamedTuple):
         """As `month_use.basis` keeps it."""
         return {"at": self.at.isoformat(), "value": self.shown, "unit": self.unit, "source": self.source,
                 "estimated": self.is_estimated, "meter": fitting.identity, "box": fitting.box, "id": self.id,
-                "telegram": self.telegram}
+                "telegram": self.telegram, "amount": self.amount, "fitting": fitting.id}
 
 
 class Fitting:

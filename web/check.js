@@ -4,6 +4,7 @@
 const PAGE = 65536; // bytes of a page of the module's memory
 const ENTRY = 3; // numbers of an entry: moment, meter, value
 const PERIOD = 4; // numbers of a period: known, amount, backwards, exchanges
+const DECIMALS = 3; // of an amount in a sheet's unit, where the sheet says nothing
 const SHOWN = 2000; // rows; more would make the page slow
 const HEADER = "place,meter,moment,value";
 const NUMBER = /^(0|[1-9][0-9]{0,17})$/;
@@ -161,12 +162,14 @@ function amountShown(row) {
   return row.known === 1 ? row.amount.toLocaleString(language) : row.known === 2 ? words.large : words.unknown;
 }
 
-// What the sheet says of a row beside what was computed, and whether it is the same; null where it says nothing.
+// Whether a link names the sheet's unit, or what it says.
+const hasSheet = () => sheet.unit !== "" || sheet.numbers.length > 0;
+
+// What the sheet says of a row, null where it says nothing, beside what was computed, and whether it is the same.
 function compared(row, n) {
-  const said = sheet.numbers[n];
-  if (said === undefined || said === "-") return null;
-  const plain = said.replace(",", ".");
-  const decimals = (plain.split(".")[1] ?? "").length;
+  const said = sheet.numbers[n] === "-" ? null : sheet.numbers[n] ?? null;
+  const plain = said?.replace(",", ".");
+  const decimals = plain === undefined ? DECIMALS : (plain.split(".")[1] ?? "").length;
   const computed = row.known === 1 ? inUnit(row.amount, sheet.scale, decimals) : null;
   return { said, computed, isSame: computed === plain };
 }
@@ -178,14 +181,14 @@ function rowShown(row, n) {
   const beside = compared(row, n);
   const marks = row.backwards ? `${row.backwards} (${words.marked})` : "0";
   const cells = [
-    [words.place, row.place], [words.from, momentShown(row.from), "whole moment"], [words.to, momentShown(row.to), "whole moment"],
+    [words.place, row.place, "place"], [words.from, momentShown(row.from), "whole"], [words.to, momentShown(row.to), "whole"],
     [words.amount, amountShown(row), row.known === 1 ? "number" : "whole bad"], [words.backwards, marks, row.backwards ? "whole bad" : "number"],
     [words.exchanges, row.exchanges.toString(), "number"],
   ];
-  if (sheet.numbers.length) {
-    const verdict = beside && ` (${beside.isSame ? words.same : words.differs})`;
-    cells.push([words.shown, beside?.computed ? `${local(beside.computed)} ${sheet.unit}` : "–", "number"]);
-    cells.push([words.sheet, beside ? `${local(beside.said)} ${sheet.unit}${verdict}` : "–", beside && !beside.isSame ? "whole bad" : "whole"]);
+  if (hasSheet()) {
+    const verdict = ` (${beside.isSame ? words.same : words.differs})`;
+    cells.push([words.shown, beside.computed ? `${local(beside.computed)} ${sheet.unit}` : "–", "number"]);
+    cells.push([words.sheet, beside.said ? `${local(beside.said)} ${sheet.unit}${verdict}` : "–", beside.said && !beside.isSame ? "whole bad" : "whole"]);
   }
   const made = element("tr", null, { role: "row", tabindex: "0" });
   for (const [label, text, kind] of cells) made.append(element("td", text, { role: "cell", "data-label": label, ...(kind ? { class: kind } : {}) }));
@@ -197,7 +200,7 @@ function tableShown() {
   // (roles, since a narrow page lays out the cells one below the other)
   const table = element("table", null, { role: "table" });
   const heads = element("tr", null, { role: "row" });
-  const names = ["place", "from", "to", "amount", "backwards", "exchanges", ...(sheet.numbers.length ? ["shown", "sheet"] : [])];
+  const names = ["place", "from", "to", "amount", "backwards", "exchanges", ...(hasSheet() ? ["shown", "sheet"] : [])];
   for (const [n, name] of names.entries()) heads.append(element("th", words[name], { scope: "col", role: "columnheader", class: n > 2 && n < 7 ? "number" : "whole" }));
   const head = element("thead", null, { role: "rowgroup" });
   const body = element("tbody", null, { role: "rowgroup" });
@@ -210,7 +213,7 @@ function tableShown() {
 function sentences() {
   const words = WORDS[language];
   const said = [words.rows(rows.length)];
-  const beside = rows.map(compared).filter((one) => one);
+  const beside = rows.map(compared).filter((one) => one.said);
   const differing = beside.filter((one) => !one.isSame).length;
   if (beside.length) said.push(differing ? words.differing(differing) : words.agreeing);
   if (rows.length > SHOWN) said.push(words.more(rows.length - SHOWN));
@@ -243,7 +246,7 @@ function csv() {
 
 function link() {
   const words = new URLSearchParams({ entries: $("entries").value.trim(), boundaries: $("boundaries").value.trim() });
-  if (sheet.numbers.length) for (const [name, value] of [["said", sheet.numbers.join(";")], ["scale", sheet.scale], ["unit", sheet.unit]]) words.set(name, value);
+  if (hasSheet()) for (const [name, value] of [["said", sheet.numbers.join(";")], ["scale", sheet.scale], ["unit", sheet.unit]]) words.set(name, value);
   return `${location.href.split("#")[0]}#${words}`;
 }
 
@@ -268,8 +271,9 @@ function speak() {
   $("refused").textContent = words.refused;
 }
 
-function openLink() {
-  const words = new URLSearchParams(location.hash.slice(1));
+// Opens what is after the # of a link.
+function openLink(text) {
+  const words = new URLSearchParams(text);
   if (!words.has("entries")) return;
   $("entries").value = words.get("entries");
   $("boundaries").value = words.get("boundaries") ?? "";
@@ -296,8 +300,8 @@ async function main() {
   $("csv").addEventListener("click", () => copy(csv()));
   $("link").addEventListener("click", () => copy(link()));
   $("language").addEventListener("click", () => { language = language === "en" ? "de" : "en"; speak(); if (rows.length) show(); });
-  addEventListener("hashchange", openLink);
-  openLink();
+  addEventListener("hashchange", () => openLink(location.hash.slice(1)));
+  openLink(location.hash.slice(1));
   document.documentElement.dataset.ready = "yes";
 }
 
