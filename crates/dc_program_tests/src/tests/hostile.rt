@@ -1,8 +1,8 @@
 //! A script over gateways that fail, stall or lie: it goes on, and says once that the gateway is lost.
 use super::common::{FIT, blank, joined};
+use super::run::run_over;
 use super::streams::{FailingSink, FailingSource};
 use dc_io::{Bytes, Sink, Source};
-use dc_script::run_script;
 use std::alloc::Global;
 use std::process::Abort;
 use std::test::Fail;
@@ -42,7 +42,7 @@ fn polled<R: Source + Drop, W: Sink + Drop>(
     let lines = joined(heap, FIT, POLL)?;
     let mut reader = Bytes::from_slice(heap, lines.as_slice())?;
     let mut writer = Bytes::new(heap);
-    let (_, outcome) = run_script(heap, blank(heap)?, &mut reader, &mut writer, Some(gateway));
+    let (_, outcome) = run_over(heap, blank(heap)?, &mut reader, &mut writer, Some(gateway));
     assert_eq!(rt; outcome, Ok(false));
     Ok(writer)
 }

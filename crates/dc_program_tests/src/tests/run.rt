@@ -46,6 +46,25 @@ OFFICE REGISTER
 OFFICE
 ";
 
+// A run, as `run_script` does it. It has no contract: what a test needs it compares, and its proof
+// doesn't go through what the engine promises.
+pub fn run_over<
+    D: Disk + Drop,
+    A: Allocator + Copy,
+    R: Source,
+    W: Sink,
+    GR: Source + Drop,
+    GW: Sink + Drop,
+>(
+    alloc: A,
+    disk: D,
+    reader: &mut R,
+    writer: &mut W,
+    gateway: Option<(GR, GW)>,
+) -> (D, Result<bool, ProgramFault>) {
+    run_script(alloc, disk, reader, writer, gateway)
+}
+
 // A run with no gateway.
 pub fn run<D: Disk + Drop, A: Allocator + Copy, R: Source, W: Sink>(
     alloc: A,
@@ -54,7 +73,7 @@ pub fn run<D: Disk + Drop, A: Allocator + Copy, R: Source, W: Sink>(
     writer: &mut W,
 ) -> (D, Result<bool, ProgramFault>) {
     let gateway: Option<(Bytes<A>, Bytes<A>)> = None;
-    run_script(alloc, disk, reader, writer, gateway)
+    run_over(alloc, disk, reader, writer, gateway)
 }
 
 // How many readings the image has, and how many bytes its register.

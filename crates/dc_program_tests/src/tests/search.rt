@@ -1,8 +1,8 @@
 //! Searches that are out of memory.
 use super::common::blank;
+use super::run::run_over;
 use dc_ending::ProgramFault;
 use dc_io::{Bytes, IoFault, Source};
-use dc_script::run_script;
 use refusing_alloc::Refusing;
 use std::alloc::Allocator;
 use std::process::Abort;
@@ -48,7 +48,7 @@ fn starves(
     };
     let gateway = Some((ends, Bytes::new(rt.alloc())));
     let disk = blank(rt.alloc())?;
-    let (_, outcome) = run_script(&heap, disk, &mut reader, &mut writer, gateway);
+    let (_, outcome) = run_over(&heap, disk, &mut reader, &mut writer, gateway);
     assert_eq!(rt; outcome, Err(ProgramFault::NoMemory));
     assert_eq!(rt; writer.as_slice(), text);
     Ok(())

@@ -1,7 +1,7 @@
 //! Each call of the disk fails once: nothing is taken then until the image is opened again.
 
 use super::images::{images_of, stopped};
-use super::life::{Deed, Life, Step, state_of, states_of};
+use super::life::{Deed, Life, Step, open, state_of, states_of};
 use super::stops::{Span, is_in, span_at, stopped_life};
 use super::turns::{Told, Way, go, turn};
 use dc_concentrator::Concentrator;
@@ -43,7 +43,7 @@ fn comes_again(
     step: &Step<'_>,
 ) -> Result<(), Fail> {
     let Step(deed, _, _, _) = *step;
-    match (deed, Concentrator::open(heap, disk)) {
+    match (deed, open(heap, disk)) {
         (Deed::Office(_), Ok(mut core)) => {
             assert_eq!(rt; turn(heap, &mut core, way, step)?, Told::Done);
             Ok(())
@@ -64,7 +64,7 @@ fn fails_at(
 ) -> Result<bool, Fail> {
     let mut disk = life.disk.copy()?;
     disk.fail_once(passes);
-    let mut core = match Concentrator::open(heap, disk) {
+    let mut core = match open(heap, disk) {
         Ok(core) => core,
         Err((fault, disk)) => {
             assert_eq!(rt; fault, OpenFault::Device);
@@ -136,7 +136,7 @@ fn opens_in_the_end(
 ) -> Result<Option<u64>, Fail> {
     let mut disk = image.copy()?;
     disk.fuse(passes);
-    let stopped = match Concentrator::open(heap, disk) {
+    let stopped = match open(heap, disk) {
         Ok(_) => return Ok(None),
         Err((fault, disk)) => {
             assert_eq!(rt; fault, OpenFault::Device);
@@ -145,7 +145,7 @@ fn opens_in_the_end(
     };
     let mut once = image.copy()?;
     once.fail_once(passes);
-    match Concentrator::open(heap, once) {
+    match open(heap, once) {
         Ok(_) => return Err(Fail::from("no call failed")),
         Err((fault, disk)) => {
             assert_eq!(rt; fault, OpenFault::Device);
@@ -160,7 +160,7 @@ const TRIED_CALLS: u64 = 16;
 
 /// Number of calls of the disk that opening this image makes.
 fn calls_of_open(heap: Global, image: &MemoryDisk<Global>) -> Result<u64, Fail> {
-    match Concentrator::open(heap, image.copy()?) {
+    match open(heap, image.copy()?) {
         Ok(core) => Ok(core.close().calls().saturating_sub(image.calls())),
         Err((fault, _)) => Err(Fail::from(fault)),
     }

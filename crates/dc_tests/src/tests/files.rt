@@ -1,15 +1,13 @@
 //! A life on a file. A copy of the file from before each step is opened as a state from the
 //! promised one to all that was accepted.
 
-use super::life::{Life, blank, state_of, states_of};
+use super::life::{self, Life, blank, format, state_of, states_of};
 use super::lives::{READOUT, READOUT_DONE};
 use super::stops::{is_in, span_at};
 use super::turns::{Told, Way, turn};
 use dc_concentrator::Concentrator;
 use dc_disk::FileDisk;
 use dc_io::Bytes;
-use dc_log::Store;
-use dc_register::House;
 use std::alloc::Global;
 use std::fs::File;
 use std::test::Fail;
@@ -20,12 +18,8 @@ type OnFile = Concentrator<FileDisk<File>, Global>;
 /// A file with a blank image of 131 sectors, opened.
 fn opened(rt: &HostRuntime, path: &str) -> Result<OnFile, Fail> {
     File::create(rt, path)?.set_len(131 * 512)?;
-    let disk = match Store::format::<House<Global>>(FileDisk::open(rt, path)?) {
-        Ok(disk) => disk,
-        Err((fault, _)) => return Err(Fail::from(fault)),
-    };
-    match Concentrator::open(rt.alloc(), disk) {
-        Ok(core) => Ok(core),
+    match format(FileDisk::open(rt, path)?) {
+        Ok(disk) => life::opened(rt.alloc(), disk),
         Err((fault, _)) => Err(Fail::from(fault)),
     }
 }

@@ -2,11 +2,10 @@
 //! empty; and if it isn't one already, it can be formatted again.
 
 use super::images::{images_of, rested, stopped};
-use super::life::{blank, state_of};
+use super::life::{blank, format, open_store, state_of};
 use super::stops::Tried;
 use dc_disk::{Disk, MemoryDisk};
-use dc_log::{FormatFault, OpenFault, Store};
-use dc_register::House;
+use dc_log::{FormatFault, OpenFault};
 use std::alloc::Global;
 use std::ops::Range;
 use std::process::Abort;
@@ -20,7 +19,7 @@ fn is_opened(
     image: MemoryDisk<Global>,
     empty: &[u8],
 ) -> Result<bool, Fail> {
-    match Store::open::<House<Global>>(heap, image) {
+    match open_store(heap, image) {
         Ok((store, _)) => {
             assert!(rt; state_of(heap, store.close())?.as_slice() == empty);
             Ok(true)
@@ -38,7 +37,7 @@ fn is_image(
     empty: &[u8],
 ) -> Result<bool, Fail> {
     let is_one = is_opened(rt, heap, image.copy()?, empty)?;
-    match Store::format::<House<Global>>(image) {
+    match format(image) {
         Ok(disk) => {
             assert!(rt; !is_one);
             assert!(rt; state_of(heap, disk)?.as_slice() == empty);
@@ -75,7 +74,7 @@ fn stopped_format(
 ) -> Result<Option<MemoryDisk<Global>>, Fail> {
     let mut disk = disk.copy()?;
     disk.fuse(passes);
-    match Store::format::<House<Global>>(disk) {
+    match format(disk) {
         Ok(_) => Ok(None),
         Err((FormatFault::Device, disk)) => Ok(Some(disk)),
         Err((fault, _)) => Err(Fail::from(fault)),

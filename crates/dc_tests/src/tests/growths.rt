@@ -1,7 +1,7 @@
 //! Each growth is refused in turn: that of the register is answered as out of memory and the same
 //! call then succeeds, that of the disk or of a writer is its failure.
 
-use super::life::{Life, blank_on, state_of, states_of};
+use super::life::{Life, blank_on, open, state_of, states_of};
 use super::stops::{Span, is_in, span_at};
 use super::turns::{Told, Way, go, turn};
 use dc_concentrator::Concentrator;
@@ -21,14 +21,14 @@ fn opened<'a>(
     heap: &'a Refusing<Global>,
     disk: MemoryDisk<Global>,
 ) -> Result<(OverRefusing<'a>, u64), Fail> {
-    let disk = match Concentrator::open(heap, disk) {
+    let disk = match open(heap, disk) {
         Ok(core) => return Ok((core, 0)),
         Err((fault, disk)) => {
             assert_eq!(rt; fault, OpenFault::NoMemory);
             disk
         }
     };
-    match Concentrator::open(heap, disk) {
+    match open(heap, disk) {
         Ok(core) => Ok((core, 1)),
         Err((fault, _)) => Err(Fail::from(fault)),
     }
@@ -110,7 +110,7 @@ fn disk_refuses_at(
         promised: 0,
         accepted: 0,
     };
-    let disk = match Concentrator::open(alloc, disk) {
+    let disk = match open(alloc, disk) {
         Ok(mut core) => match go(alloc, &mut core, way, life.steps)? {
             Some((at, told)) => {
                 assert!(rt; told == Told::Device || told == Told::Store);

@@ -3,10 +3,10 @@
 use super::images::rested;
 use dc_address::Identity;
 use dc_change::{Change, Moment};
-use dc_concentrator::Event;
+use dc_concentrator::{Concentrator, Event};
 use dc_disk::{Disk, MemoryDisk};
 use dc_io::Bytes;
-use dc_log::Store;
+use dc_log::{FormatFault, OpenFault, Store};
 use dc_register::House;
 use std::alloc::{Allocator, Global};
 use std::test::Fail;
@@ -68,6 +68,38 @@ pub fn event_of<'a>(deed: &Deed<'a>) -> Result<Event<'a>, Fail> {
     })
 }
 
+// Three calls of the store and of the concentrator as they are. They have no contract: what a test
+// needs it compares, and its proof doesn't go through what the calls promise.
+
+/// [`Concentrator::open`].
+pub fn open<D: Disk + Drop, A: Allocator + Copy>(
+    alloc: A,
+    disk: D,
+) -> Result<Concentrator<D, A>, (OpenFault, D)> {
+    Concentrator::open(alloc, disk)
+}
+
+/// [`Store::open`], of a house.
+pub fn open_store<D: Disk + Drop>(
+    heap: Global,
+    disk: D,
+) -> Result<(Store<D>, House<Global>), (OpenFault, D)> {
+    Store::open(heap, disk)
+}
+
+/// [`Store::format`], for a house.
+pub fn format<D: Disk + Drop>(disk: D) -> Result<D, (FormatFault, D)> {
+    Store::format::<House<Global>>(disk)
+}
+
+/// The image, opened.
+pub fn opened<D: Disk + Drop>(heap: Global, disk: D) -> Result<Concentrator<D, Global>, Fail> {
+    match open(heap, disk) {
+        Ok(core) => Ok(core),
+        Err((fault, _)) => Err(Fail::from(fault)),
+    }
+}
+
 /// A blank image of 131 sectors, formatted.
 pub fn blank(heap: Global) -> Result<MemoryDisk<Global>, Fail> {
     blank_on(heap, heap)
@@ -75,7 +107,7 @@ pub fn blank(heap: Global) -> Result<MemoryDisk<Global>, Fail> {
 
 /// A blank image of 131 sectors, formatted, which keeps its record in this memory.
 pub fn blank_on<A: Allocator + Copy>(heap: Global, alloc: A) -> Result<MemoryDisk<A>, Fail> {
-    match Store::format::<House<Global>>(MemoryDisk::new(alloc, 131)?) {
+    match format(MemoryDisk::new(alloc, 131)?) {
         Ok(disk) => Ok(rested(heap, &disk)?),
         Err((fault, _)) => Err(Fail::from(fault)),
     }
@@ -83,7 +115,7 @@ pub fn blank_on<A: Allocator + Copy>(heap: Global, alloc: A) -> Result<MemoryDis
 
 /// The bytes of the state that an image is opened as.
 pub fn state_of<D: Disk + Drop>(heap: Global, disk: D) -> Result<Bytes<Global>, Fail> {
-    match Store::open(heap, disk) {
+    match open_store(heap, disk) {
         Ok((_, house)) => encoded(heap, &house),
         Err((fault, _)) => Err(Fail::from(fault)),
     }
@@ -91,7 +123,7 @@ pub fn state_of<D: Disk + Drop>(heap: Global, disk: D) -> Result<Bytes<Global>, 
 
 /// The states before the changes and after each of them, by a house that replays them.
 pub fn states_of(heap: Global, life: &Life<'_>) -> Result<Vec<Bytes<Global>, Global>, Fail> {
-    let mut house = match Store::open(heap, life.disk.copy()?) {
+    let mut house = match open_store(heap, life.disk.copy()?) {
         Ok((_, house)) => house,
         Err((fault, _)) => return Err(Fail::from(fault)),
     };

@@ -2,8 +2,7 @@
 //! and a command that moves the register into the other half.
 
 use super::images::rested;
-use super::life::{Deed, Life, Step, blank};
-use dc_concentrator::Concentrator;
+use super::life::{Deed, Life, Step, blank, opened};
 use dc_disk::{Disk, MemoryDisk};
 use dc_io::FixedSink;
 use std::alloc::Global;
@@ -180,10 +179,7 @@ pub const UPGRADED_DONE: [&[u8]; 1] = [MOVE];
 /// An image of version 1 with the one meter. Its roots, pages and commit sectors differ from those
 /// of version 2 in the byte of the version alone.
 pub fn of_version_1(rt: &impl Abort, heap: Global) -> Result<MemoryDisk<Global>, Fail> {
-    let mut core = match Concentrator::open(heap, blank(heap)?) {
-        Ok(core) => core,
-        Err((fault, _)) => return Err(Fail::from(fault)),
-    };
+    let mut core = opened(heap, blank(heap)?)?;
     core.office(FIT, &mut FixedSink::<16>::new())?;
     let mut disk = core.close();
     for n in 1..7u32 {
@@ -198,10 +194,7 @@ pub fn of_version_1(rt: &impl Abort, heap: Global) -> Result<MemoryDisk<Global>,
 
 /// An image of 131 sectors whose half 31 commands fill.
 pub fn full(heap: Global) -> Result<MemoryDisk<Global>, Fail> {
-    let mut core = match Concentrator::open(heap, blank(heap)?) {
-        Ok(core) => core,
-        Err((fault, _)) => return Err(Fail::from(fault)),
-    };
+    let mut core = opened(heap, blank(heap)?)?;
     for number in 1..=31u64 {
         let line = format!(in heap; "{number} CONFIRM 0")?;
         let mut reply = FixedSink::<16>::new();

@@ -2,9 +2,8 @@
 //! that was accepted.
 
 use super::images::{images_of, stopped};
-use super::life::{Life, Step, state_of, states_of};
+use super::life::{Life, Step, open, state_of, states_of};
 use super::turns::{Way, go};
-use dc_concentrator::Concentrator;
 use dc_disk::MemoryDisk;
 use dc_io::Bytes;
 use dc_log::OpenFault;
@@ -49,7 +48,7 @@ pub fn stopped_life(
 ) -> Result<Option<(MemoryDisk<Global>, Span)>, Fail> {
     let mut disk = life.disk.copy()?;
     disk.fuse(passes);
-    match Concentrator::open(heap, disk) {
+    match open(heap, disk) {
         Ok(mut core) => match go(heap, &mut core, way, life.steps)? {
             Some((at, _)) => Ok(Some((core.close(), span_at(life.steps, at)))),
             None => Ok(None),

@@ -3,7 +3,7 @@
 
 ghost use Rattle.std.specs.Prelude.{◌≡◌, ◌+◌, ◌-◌, ◌^◌, min, None};
 
-use super::life::{Deed, Life, Step, event_of, state_of, states_of};
+use super::life::{Deed, Life, Step, event_of, opened, state_of, states_of};
 use super::turns::{Told, Way, call, turn};
 use dc_concentrator::{Concentrator, WriteFault};
 use dc_disk::Disk;
@@ -87,10 +87,7 @@ fn breaks_at(
     number: u64,
     last: &[u8],
 ) -> Result<bool, Fail> {
-    let mut core = match Concentrator::open(heap, life.disk.copy()?) {
-        Ok(core) => core,
-        Err((fault, _)) => return Err(Fail::from(fault)),
-    };
+    let mut core = opened(heap, life.disk.copy()?)?;
     let mut out = Breaking {
         until: number,
         failures: 0,
