@@ -3,6 +3,7 @@ use Rattle.std.proofs.Common.{◌≡◌, ◌≢◌, ◌⊎◌, inl, inr, ⊎_eli
 use Rattle.std.specs.Prelude.{slice_get, option_map, unwrap_or, is_some, if◌then◌else◌, IsSome, nat_le}
 use Rattle.std.specs.List.{AllByRecursion}
 use Rattle.std.proofs.Math.ListN.{set}
+use Rattle.std.proofs.Math.Seq.{drop-append_seam}
 use Rattle.std.proofs.lemmas.List.{length-map, length-set}
 use Rattle.std.proofs.lemmas.Bool.{cases_eq}
 use Rattle.dc_frame.specs.Frame.{FrameSeen, spelling}
@@ -37,11 +38,11 @@ use Rattle.dc_concentrator.specs.Core.{Core, present, session_of, with_session}
 use Rattle.dc_concentrator.specs.Event.{Event, Answer, starts, asks, hears, commits, offices, started, asked, heard, committed, replied}
 use Rattle.dc_concentrator.specs.Step.{May, next, MayHear, is_on, address_in, ask_answer, hear_answer, answer_on, verdict_answer, session_after, judged, heard_on, settled_core}
 use Rattle.dc_concentrator.specs.Transcript.{Turn, leads, IsChain}
-use Rattle.dc_progress.specs.Beside.{Bus, bus_at_first, bus_after, IsElsewhere, Serves, rests, asks_it, has_none, gives_it, commits_it, goes_by, IsOnlyOn, HasRead, IsHeardOn, IsNoFailure, IsTakenUnlessFull, GoesBeside, ReadoutsEndBesideOthers}
+use Rattle.dc_progress.specs.Beside.{Bus, bus_at_first, bus_after, IsElsewhere, Serves, rests, asks_it, has_none, gives_it, commits_it, goes_by, IsOnlyOn, HasRead, IsHeardOn, IsNoFailure, IsNextPart, IsTakenUnlessFull, GoesBeside, ReadoutsEndBesideOthers}
 use Rattle.dc_progress.specs.Needs.{IsOwnTelegram, CanBegin}
 use Rattle.dc_progress.specs.Progress.{requests_of}
 use Rattle.dc_progress.specs.Rounds.{Scene, begun_on, losses_by, row_after}
-use Rattle.dc_progress.proofs.Heard.{Judged, resets_all, resets_again, selects_again, requests_again, resets, selects, requests}
+use Rattle.dc_progress.proofs.Heard.{Judged, who, resets_all, resets_again, selects_again, requests_again, resets, selects, requests}
 use Rattle.dc_progress.proofs.Rounds.{get_settled, asks_nothing, right_answer, asked_is, hear_is, room_alone, some_more}
 use Rattle.dc_progress.proofs.Left.{IsLeft, IsDue, within_due, one_less, one_lost, some_asked}
 use Rattle.dc_progress.proofs.Own.{Open, Telegram, some_left, telegram, told_by, told_is, open_more, is_read}
@@ -143,12 +144,7 @@ module _ (budget line : ℕ) (meters : List Meter) (start : Scene) (place : ℕ)
   Same old fresh = Keeps meter.identity old fresh
 
   open_kept : (past : List (List ℕ)) (old fresh : State) → Same old fresh → OpenAt past old → OpenAt past fresh
-  open_kept past old fresh same held = record {
-    opened = held.opened;
-    found = same.rows (record row { parts = held.opened }) held.found;
-    are_open = held.are_open;
-    readings = same.readings ∙ held.readings;
-  }
+  open_kept past old fresh same held = record { opened = held.opened; found = same.rows (record row { parts = held.opened }) held.found; are_open = held.are_open; readings = same.readings ∙ held.readings }
 
   abbrev facts_kept : (bus : Bus) (old fresh : State) → Same old fresh → FactsOf bus old → FactsOf bus fresh
   facts_kept bus old fresh same f = record {
@@ -173,13 +169,7 @@ module _ (budget line : ℕ) (meters : List Meter) (start : Scene) (place : ℕ)
   }
 
   read_kept : (old fresh : State) → Same old fresh → Read old → Read fresh
-  read_kept old fresh same read = record {
-    serial = read.serial;
-    read = read.read;
-    bodies_are = read.bodies_are;
-    one_more = same.readings ∙ read.one_more;
-    none_open = same.rows (record row { parts = [] }) read.none_open;
-  }
+  read_kept old fresh same read = record { serial = read.serial; read = read.read; bodies_are = read.bodies_are; one_more = same.readings ∙ read.one_more; none_open = same.rows (record row { parts = [] }) read.none_open }
 
   after_kept : (o : Option Summary) (bus : Bus) (old fresh : State) → Same old fresh → AfterCommit o bus old → AfterCommit o bus fresh
   after_kept (Some s) bus old fresh same a = (facts_kept bus old fresh same a.0, a.1)
@@ -281,21 +271,12 @@ module _ (budget line : ℕ) (meters : List Meter) (start : Scene) (place : ℕ)
   elsewhere : (bus : Bus) (core : Core) (event : Event) (answer : Answer) → IsElsewhere line event → May budget core event answer → Known bus core → Known bus (next core event answer)
   elsewhere bus core (starts other m) (started (Ok done)) ne is k = starts_beside bus core other m done ne is k
   elsewhere bus core (starts other m) (started (Err fault)) ne is k = k
-  elsewhere bus core (starts other m) (asked answer) ne is k = absurd is
-  elsewhere bus core (starts other m) (heard answer) ne is k = absurd is
-  elsewhere bus core (starts other m) (committed answer) ne is k = absurd is
-  elsewhere bus core (starts other m) (replied answer) ne is k = absurd is
+  elsewhere bus core (starts other m) answer ne is k = absurd is
   elsewhere bus core (asks other) (asked answer) ne is k = k
-  elsewhere bus core (asks other) (started answer) ne is k = absurd is
-  elsewhere bus core (asks other) (heard answer) ne is k = absurd is
-  elsewhere bus core (asks other) (committed answer) ne is k = absurd is
-  elsewhere bus core (asks other) (replied answer) ne is k = absurd is
+  elsewhere bus core (asks other) answer ne is k = absurd is
   elsewhere bus core (hears other moment bytes) (heard (Ok good)) ne is k = hears_beside bus core other moment bytes good ne is k
   elsewhere bus core (hears other moment bytes) (heard (Err fault)) ne is k = k
-  elsewhere bus core (hears other moment bytes) (started answer) ne is k = absurd is
-  elsewhere bus core (hears other moment bytes) (asked answer) ne is k = absurd is
-  elsewhere bus core (hears other moment bytes) (committed answer) ne is k = absurd is
-  elsewhere bus core (hears other moment bytes) (replied answer) ne is k = absurd is
+  elsewhere bus core (hears other moment bytes) answer ne is k = absurd is
   elsewhere bus core commits answer ne is k = absurd ne
   elsewhere bus core (offices text) answer ne is k = absurd ne
 
@@ -437,6 +418,7 @@ module _ (budget line : ℕ) (meters : List Meter) (start : Scene) (place : ℕ)
       verdict : Verdict
       is : verdict_by s bytes ≡ verdict
       fits : IsTakenUnlessFull (verdict_answer budget core moment verdict)
+      part : IsNextPart (drop s.settled parts) verdict
       known : Known now (judged core line moment s verdict)
 
     ready_runs : (j : Judgement ready) (stage : Stage) → after_command f.stage s.address ≡ stage → IsDue total stage s.address now.heard now.lost now.row (length f.left) → Went
@@ -444,6 +426,7 @@ module _ (budget line : ℕ) (meters : List Meter) (start : Scene) (place : ℕ)
       verdict = ready;
       is = judged_here ready j;
       fits = tt;
+      part = tt;
       known = goes_on_by ready j (heard_by s ready) stage refl refl (ap (λ (y : Stage). after_command y s.address) f.stage_is ∙ next_stage) refl refl refl (omega arith) due;
     }
 
@@ -452,6 +435,7 @@ module _ (budget line : ℕ) (meters : List Meter) (start : Scene) (place : ℕ)
       verdict = again;
       is = judged_here again j;
       fits = tt;
+      part = tt;
       known = goes_on_by again j (heard_by s again) stage refl refl (f.stage_is ∙ e) refl refl refl tried due;
     }
 
@@ -543,6 +527,12 @@ module _ (budget line : ℕ) (meters : List Meter) (start : Scene) (place : ℕ)
         verdict = verdict_new;
         is = judged_here verdict_new j;
         fits = room_alone (nat_le most_waiting (length core.pending)) (is_some (refusal budget (change_of moment (s.settled + 1) p.t) (present core))) (s.settled + 1) (continues p.t.ending);
+        part = (
+          p.next_one.rest,
+          ap (λ (n : ℕ). drop n parts) (sym f.count) ∙ ap (drop (length f.past)) (sym f.parts_are) ∙ drop-append_seam f.past f.left
+              ∙ p.next_one.left_is ∙ ap (λ (b : List ℕ). b ∷ p.next_one.rest) (sym p.body_is),
+          λ last. p.next_one.ends (p.more_is ∙ last),
+        );
         known = record {
           going = going_then verdict_new;
           at = inr (inl (record {
@@ -637,6 +627,13 @@ module _ (budget line : ℕ) (meters : List Meter) (start : Scene) (place : ℕ)
         let w = step_by outcome refl in
         subst IsTakenUnlessFull (sym (hear_is budget line core s begins.0 g.goes x.on moment bytes frame (x.out frame waits) ∙ ap (verdict_answer budget core moment) w.is)) w.fits
 
+    step_part : (y : Summary) → session_of core line ≡ Some y → (y.meter ≡ meter.identity) × IsNextPart (drop y.settled parts) (verdict_by y bytes)
+    step_part y on =
+        let w = step_by outcome refl in
+        let same : s ≡ y = (let both = sym x.on ∙ on in cc) in
+        subst (λ (z : Summary). (z.meter ≡ meter.identity) × IsNextPart (drop z.settled parts) (verdict_by z bytes)) same
+        (who meters may.there.regular f.world f.running meter agrees place_there, subst (IsNextPart (drop s.settled parts)) (sym w.is) w.part)
+
     step : Known now (heard_on core line moment bytes (session_of core line))
     step =
         let w = step_by outcome refl in
@@ -657,6 +654,12 @@ module _ (budget line : ℕ) (meters : List Meter) (start : Scene) (place : ℕ)
   fits_at bus core moment outcome frame waits few g (inl x) = step_fits bus core moment g x outcome frame waits few
   fits_at bus core moment outcome frame waits few g (inr (inl x)) = absurd (let bad = sym x.silent ∙ waits in cc)
   fits_at bus core moment outcome frame waits few g (inr (inr x)) = absurd (let bad = sym x.silent ∙ waits in cc)
+
+  part_at : (bus : Bus) (core : Core) (y : Summary) (outcome : Outcome) (frame : FrameSeen) → session_of core line ≡ Some y → bus.waits ≡ Some frame → row_after bus.row outcome < 3
+      → Going core → IsAt bus core → (y.meter ≡ meter.identity) × IsNextPart (drop y.settled parts) (verdict_by y (heard_in outcome frame meters bus.positions))
+  part_at bus core y outcome frame on waits few g (inl x) = step_part bus core 0 g x outcome frame waits few y on
+  part_at bus core y outcome frame on waits few g (inr (inl x)) = absurd (let bad = sym x.silent ∙ waits in cc)
+  part_at bus core y outcome frame on waits few g (inr (inr x)) = absurd (let bad = sym x.silent ∙ waits in cc)
 
   good_at : (bus : Bus) (core : Core) (moment : ℕ) (bytes : List ℕ) (answer : LineHeard) (outcome : Outcome) (frame : FrameSeen) → bus.waits ≡ Some frame → bytes ≡ heard_in outcome frame meters bus.positions → row_after bus.row outcome < 3
       → MayHear (hear_answer budget core line moment bytes) (Ok answer) → Known bus core → IsNoFailure (heard (Ok answer))
@@ -740,15 +743,11 @@ module _ (budget line : ℕ) (meters : List Meter) (start : Scene) (place : ℕ)
 
   -- ---- the end
 
-  bounds : (bus : Bus) (state : State) (f : FactsOf bus state) → (bus.heard ≤ total + bus.lost) × (bus.heard ≤ 3 * total)
-  bounds bus state f =
-      let w = within_due total f.stage f.running.session.address bus.heard bus.lost bus.row (length f.left) f.few (some_left first meter row parts f.running.session.settled f.left f.whole) f.due in
-      let most = w.0 in
-      let thrice = w.1 in
-      (omega (arith, most), omega (arith, thrice))
+  bounds : (bus : Bus) (state : State) (f : FactsOf bus state) → (bus.heard < total + bus.lost) × (bus.heard < 3 * total)
+  bounds bus state f = within_due total f.stage f.running.session.address bus.heard bus.lost bus.row (length f.left) f.few (some_left first meter row parts f.running.session.settled f.left f.whole) f.due
 
   bounds_after : (o : Option Summary) (bus : Bus) (state : State) → AfterCommit o bus state → (bus.heard ≤ total + bus.lost) × (bus.heard ≤ 3 * total)
-  bounds_after (Some s) bus state a = bounds bus state a.0
+  bounds_after (Some s) bus state a = let b = bounds bus state a.0 in let most = b.0 in let thrice = b.1 in (omega (arith, most), omega (arith, thrice))
   bounds_after None bus state a = let most = a.all.most in let thrice = a.all.thrice in (omega (arith, most), omega (arith, thrice))
 
   asks_some : (bus : Bus) (core : Core) → Going core → Asks bus core → (request : List ℕ) × (ask_answer core line ≡ Some request) × IsSome (frame_of request)
@@ -759,38 +758,37 @@ module _ (budget line : ℕ) (meters : List Meter) (start : Scene) (place : ℕ)
       let is : asked_by s ≡ Some asks_it.0 = ap (λ (y : Stage). asked_at y s.meter s.address s.settled) f.stage_is ∙ asks_it.1 in
       (spelling asks_it.0, asked_is budget line core s begins.0 g.goes x.on ∙ ap (option_map spelling) is, ap is_some (frame_of-spelling asks_it.0))
 
+  bounds_at : (bus : Bus) (core : Core) → IsAt bus core → (bus.heard ≤ total + bus.lost) × (bus.heard ≤ 3 * total)
+  bounds_at bus core (inl x) = let b = bounds bus (present core) x.facts in let most = b.0 in let thrice = b.1 in (omega (arith, most), omega (arith, thrice))
+  bounds_at bus core (inr (inl x)) = bounds_after (settled_on (Some x.session)) bus (present core) x.later
+  bounds_at bus core (inr (inr x)) = let most = x.all.most in let thrice = x.all.thrice in (omega (arith, most), omega (arith, thrice))
+
+  few_at : (bus : Bus) (core : Core) (request : List ℕ) → Going core → IsAt bus core → ask_answer core line ≡ Some request → bus.heard < 3 * total
+  few_at bus core request g (inl x) sent = (bounds bus (present core) x.facts).1
+  few_at bus core request g (inr (inl x)) sent = absurd (let bad = sym sent ∙ asks_none_of core x.session g x.on x.asks_none in cc)
+  few_at bus core request g (inr (inr x)) sent = absurd (let bad = sym sent ∙ asks_nothing core line x.free in cc)
+
+  asks_at : (bus : Bus) (core : Core) (s : Summary) → Going core → IsAt bus core → session_of core line ≡ Some s → core.pending ≡ [] → (request : List ℕ) × (ask_answer core line ≡ Some request) × IsSome (frame_of request)
+  asks_at bus core s g (inl x) on none = asks_some bus core g x
+  asks_at bus core s g (inr (inl x)) on none = absurd (x.pends none)
+  asks_at bus core s g (inr (inr x)) on none = absurd (let bad = sym x.free ∙ on in cc)
+
+  ends_at : (bus : Bus) (core : Core) → IsAt bus core → session_of core line ≡ None → Read core.committed
+  ends_at bus core (inl x) none = absurd (let bad = sym x.on ∙ none in cc)
+  ends_at bus core (inr (inl x)) none = absurd (let bad = sym x.on ∙ none in cc)
+  ends_at bus core (inr (inr x)) none = x.kept_read
+
   goes_beside : (turns : List Turn) (last : Bus) (core : Core) → NeverFails turns → Going core → IsAt last core → GoesBeside budget line meters meter row parts start.core core turns last
-  goes_beside turns last core never g (inl x) =
-      let b = bounds last (present core) x.facts in
-      record {
-        never_fails = never;
-        within = b.0;
-        thrice = b.1;
-        asks_on = λ s on none. asks_some last core g x;
-        takes = λ outcome frame moment waits few. fits_at last core moment outcome frame waits few g (inl x);
-        ends = λ none. absurd (let bad = sym x.on ∙ none in cc);
-      }
-  goes_beside turns last core never g (inr (inl x)) =
-      let b = bounds_after (settled_on (Some x.session)) last (present core) x.later in
-      record {
-        never_fails = never;
-        within = b.0;
-        thrice = b.1;
-        asks_on = λ s on none. absurd (x.pends none);
-        takes = λ outcome frame moment waits few. fits_at last core moment outcome frame waits few g (inr (inl x));
-        ends = λ none. absurd (let bad = sym x.on ∙ none in cc);
-      }
-  goes_beside turns last core never g (inr (inr x)) =
-      let most = x.all.most in
-      let thrice = x.all.thrice in
-      record {
-        never_fails = never;
-        within = omega (arith, most);
-        thrice = omega (arith, thrice);
-        asks_on = λ s on none. absurd (let bad = sym x.free ∙ on in cc);
-        takes = λ outcome frame moment waits few. fits_at last core moment outcome frame waits few g (inr (inr x));
-        ends = λ none. x.kept_read;
-      }
+  goes_beside turns last core never g at = record {
+    never_fails = never;
+    within = (bounds_at last core at).0;
+    thrice = (bounds_at last core at).1;
+    asks_few = λ request sent. few_at last core request g at sent;
+    asks_on = λ s on none. asks_at last core s g at on none;
+    takes = λ outcome frame moment waits few. fits_at last core moment outcome frame waits few g at;
+    next_part = λ s outcome frame on waits few. part_at last core s outcome frame on waits few g at;
+    ends = λ none. ends_at last core at none;
+  }
 
 pub readouts_end_beside_others : ReadoutsEndBesideOthers
 readouts_end_beside_others budget line meters scene place meter row parts turns last may only chain serves =

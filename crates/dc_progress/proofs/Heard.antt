@@ -124,7 +124,7 @@ module _ (meters : List Meter) (regular : AreRegular meters) (w : World) (r : Ru
   same : a.meter ≡ meter
   same = let b = a.stands.0 in cc
 
-  who : r.session.meter ≡ meter.identity
+  pub who : r.session.meter ≡ meter.identity
   who = a.whom.0 ∙ ap (λ (m : Meter). m.identity) same
 
   pub whom : r.session.address ≡ meter.address

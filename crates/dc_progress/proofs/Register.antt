@@ -90,12 +90,12 @@ no_more : (b : Bool) (n : ℕ) → cond b 0 n ≤ n
 no_more true n = omega arith
 no_more false n = omega arith
 
-size_open : (meter : Identity) (number : ℕ) (piece : PartRow) (now : MeterRow) (state : State) → row_of meter state ≡ Some now
+pub size_open : (meter : Identity) (number : ℕ) (piece : PartRow) (now : MeterRow) (state : State) → row_of meter state ≡ Some now
     → size_of (heard meter true number piece (Some now) state) ≤ size_of state + part_size piece
 size_open meter number piece now state found =
     omega (arith, size_of-heard_open meter number piece now state found, parts_size-joined number piece now.parts, no_more (number == 1) (parts_size now.parts))
 
-size_last : (meter : Identity) (number : ℕ) (piece : PartRow) (now : MeterRow) (state : State) → row_of meter state ≡ Some now
+pub size_last : (meter : Identity) (number : ℕ) (piece : PartRow) (now : MeterRow) (state : State) → row_of meter state ≡ Some now
     → size_of (heard meter false number piece (Some now) state) ≤ size_of state + (18 + length now.flat + part_size piece)
 size_last meter number piece now state found =
     omega (arith, size_of-heard_last meter number piece now state found, parts_size-joined number piece now.parts, no_more (number == 1) (parts_size now.parts))

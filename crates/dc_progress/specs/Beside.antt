@@ -2,11 +2,12 @@
 -- commits, other lines begin, ask and hear in any order.
 use Rattle.std.specs.List.{AllByRecursion}
 use Rattle.std.specs.Prelude.{◌≡◌, ◌≢◌, ℕ, ◌+◌, ◌*◌, ◌≤◌, ◌<◌, Option, None, Some, IsSome, Ok, List}
-use Rattle.std.specs.Prelude.{[], ◌∷◌, ◌++◌, map, filter, Result, Err}
+use Rattle.std.specs.Prelude.{[], ◌∷◌, ◌++◌, map, filter, drop, false, Result, Err}
 use Rattle.dc_frame.specs.Frame.{FrameSeen}
 use Rattle.dc_frame.specs.Reading.{frame_of}
 use Rattle.dc_address.specs.declared.identity.Identity.{Identity}
-use Rattle.dc_readout.specs.Summary.{Summary}
+use Rattle.dc_record.specs.Body.{continues}
+use Rattle.dc_readout.specs.Summary.{Summary, Verdict, again, ready, new, failed, verdict_by}
 use Rattle.dc_world.specs.declared.event.Outcome.{Outcome}
 use Rattle.dc_world.specs.Meter.{Meter, Position}
 use Rattle.dc_world.specs.World.{positions_after, heard_in}
@@ -125,22 +126,36 @@ IsTakenUnlessFull (Err Full) = Unit {0}
 IsTakenUnlessFull (Err PendingFull) = Unit {0}
 IsTakenUnlessFull (Err fault) = ⊥
 
+-- A telegram that the session takes is the first of the parts that are left, and where it is the
+-- last one of the readout, no other is left.
+abbrev pub IsNextPart : List (List ℕ) → Verdict → Type 0
+IsNextPart left (new part telegram) = (more : List (List ℕ)) × (left ≡ telegram.body ∷ more)
+    × (continues telegram.ending ≡ false → more ≡ [])
+IsNextPart left verdict = Unit {0}
+
 -- By these turns the readout never fails. The exchanges are at most its requests and one for each
 -- loss, and at most three for each request. While the session is on the line and nothing is
 -- pending, a request is sent, and while one waits, whatever the line makes of it is taken, unless
--- room runs out. Once the session has left the line, the meter is read, and that is committed.
+-- room runs out, and a telegram is the next of the parts. Once the session has left the line, the
+-- meter is read, and that is committed.
 pub record GoesBeside (budget line : ℕ) (meters : List Meter) (meter : Meter) (row : MeterRow)
     (parts : List (List ℕ)) (before now : Core) (turns : List Turn) (last : Bus) : Type 0 where
   pub never_fails :
       AllByRecursion (λ (turn : Turn). IsHeardOn line turn.0 → IsNoFailure turn.1) turns
   pub within : last.heard ≤ requests_of meter.address parts + last.lost
   pub thrice : last.heard ≤ 3 * requests_of meter.address parts
+  pub asks_few : (request : List ℕ) → ask_answer now line ≡ Some request
+      → last.heard < 3 * requests_of meter.address parts
   pub asks_on : (s : Summary) → session_of now line ≡ Some s → now.pending ≡ []
       → (request : List ℕ) × (ask_answer now line ≡ Some request) × IsSome (frame_of request)
   pub takes : (outcome : Outcome) (frame : FrameSeen) (moment : ℕ)
       → last.waits ≡ Some frame → row_after last.row outcome < 3
       → IsTakenUnlessFull
       (hear_answer budget now line moment (heard_in outcome frame meters last.positions))
+  pub next_part : (s : Summary) (outcome : Outcome) (frame : FrameSeen)
+      → session_of now line ≡ Some s → last.waits ≡ Some frame → row_after last.row outcome < 3
+      → (s.meter ≡ meter.identity) × IsNextPart (drop s.settled parts)
+      (verdict_by s (heard_in outcome frame meters last.positions))
   pub ends : session_of now line ≡ None
       → HasRead meter.identity row parts (present before) now.committed
 
