@@ -65,7 +65,7 @@ round_reads moment store turns settled one =
     let behind : Store = store_behind store one.asking in
     subst (Reads store) (sym one.turns_are)
     (reads_both store one.asking (one.hearing ++ one.last) (asking_reads store one.asking settled one.are_asking)
-    (reads_both behind one.hearing one.last (hearing_reads moment behind one.hearing one.are_hearing) (commit_reads (store_behind behind one.hearing) one.last one.is_commit)))
+    (reads_both behind one.hearing one.last (hearing_reads moment behind one.hearing one.are_heard.are_hearing) (commit_reads (store_behind behind one.hearing) one.last one.is_commit)))
 
 rounds_read : {T : Type 0} {told : T → ℕ → T → Type 0} {passes : T → Bool → T → Type 0} {first last : T} {turns : List Turn} → InRounds told passes first turns last → Reads some_wait turns
 rounds_read (at_first {turns = turns} one) = commit_reads some_wait turns one

@@ -24,6 +24,10 @@ pub mod Bounded
 pub mod Reading
 -- where the turns of a run say that all is committed, nothing is pending
 pub mod Meanings
+-- answers that find room among the pending telegrams
+pub mod Hearing
+-- each answer of a poll finds room among the pending changes
+pub mod Finding
 -- in rounds, all is committed where a line has no request any more
 pub mod Leaving
 -- what is told of a line after a commit

@@ -1,5 +1,5 @@
 -- Where the turns of a run say that all is committed, nothing is pending.
-use Rattle.std.proofs.Common.{◌≡◌, ℕ, Bool, true, false, not, List, [], ◌∷◌, length, Option, Some, None, Result, Ok, Err, inl, inr, refl, ap, ◌∙◌, if◌then◌else◌}
+use Rattle.std.proofs.Common.{◌≡◌, ◌⊎◌, ⊎_elim, sym, ℕ, Bool, true, false, not, List, [], ◌∷◌, length, Option, Some, None, Result, Ok, Err, inl, inr, refl, ap, ◌∙◌, if◌then◌else◌}
 use Rattle.std.specs.Prelude.{is_some}
 use Rattle.dc_change.specs.declared.change.Change.{Change}
 use Rattle.dc_readout.specs.Summary.{Summary, Verdict, again, ready, new, failed, asked_by, verdict_by}
@@ -15,13 +15,9 @@ use Rattle.dc_concentrator.specs.declared.fault.HearFault.{HearFault}
 use Rattle.dc_concentrator.specs.declared.fault.HearFault.TheVariants.{NoLine, Idle, Stopped}
 use Rattle.dc_concentrator.specs.declared.line_heard.LineHeard.{LineHeard}
 use Rattle.dc_concentrator.specs.declared.line_heard.LineHeard.TheVariants.{Again, Ready, Accepted, Failed}
-use Rattle.dc_poll.specs.Keeping.{Store, all_kept, behind_answer, store_behind}
+use Rattle.dc_poll.specs.Keeping.{Store, all_kept, behind_answer, is_accepted, some_wait, store_behind}
 
 -- ---- an answer that isn't accepted adds nothing
-
-abbrev is_accepted : Result LineHeard HearFault → Bool
-is_accepted (Ok (Accepted number more)) = true
-is_accepted answer = false
 
 by_refusal : (refusal : Option TakeFault) (number : ℕ) (more : Bool) (answer : LineHeard) → Ok answer ≡ unless_refused refusal (Accepted number more) → is_accepted (Ok answer) ≡ true
 by_refusal None number more answer is = ap is_accepted is
@@ -51,7 +47,7 @@ by_memory : (right : Result LineHeard HearFault) (answer : LineHeard) → MayHea
 by_memory right answer (inl is) = is
 by_memory right answer (inr none) = absurd (let no = none.0 in cc)
 
-same_waits : (budget : ℕ) (core : Core) (line moment : ℕ) (bytes : List ℕ) (answer : LineHeard) → MayHear (hear_answer budget core line moment bytes) (Ok answer) → is_accepted (Ok answer) ≡ false → (after_hear core line moment bytes (Ok answer)).pending ≡ core.pending
+pub same_waits : (budget : ℕ) (core : Core) (line moment : ℕ) (bytes : List ℕ) (answer : LineHeard) → MayHear (hear_answer budget core line moment bytes) (Ok answer) → is_accepted (Ok answer) ≡ false → (after_hear core line moment bytes (Ok answer)).pending ≡ core.pending
 same_waits budget core line moment bytes answer may none =
     by_session (session_of core line) budget core line moment bytes answer (by_line (is_line line) core.stopped (answer_on budget core moment bytes (session_of core line)) answer (by_memory (hear_answer budget core line moment bytes) answer may)) none
 
@@ -65,7 +61,7 @@ hear_step budget core line moment bytes (Ok (Accepted number more)) store may wa
 hear_step budget core line moment bytes (Ok (Failed why)) store may was is = same_waits budget core line moment bytes (Failed why) may refl ∙ was is
 hear_step budget core line moment bytes (Err fault) store may was is = was is
 
-settled_none : (core : Core) (changes : List Change) → core.pending ≡ changes → (settled_core core changes).pending ≡ []
+pub settled_none : (core : Core) (changes : List Change) → core.pending ≡ changes → (settled_core core changes).pending ≡ []
 settled_none core [] is = is
 settled_none core (change ∷ changes) is = refl
 
@@ -117,3 +113,41 @@ means_all budget core (turn ∷ turns) store chain was is =
 
 pub none_waits : (budget : ℕ) (core : Core) (turns : List Turn) → core.pending ≡ [] → IsChain budget core turns → store_behind all_kept turns ≡ all_kept → (leads core turns).pending ≡ []
 none_waits budget core turns empty chain is = means_all budget core turns all_kept chain (λ e. empty) is
+
+-- ---- from whatever was known before
+
+-- an answer leaves what is known of the store, or says it anew
+abbrev IsSaying : Answer → Type 0
+IsSaying answer = ((store : Store) → behind_answer store answer ≡ store) ⊎ ((one other : Store) → behind_answer one answer ≡ behind_answer other answer)
+
+says : (answer : Answer) → IsSaying answer
+says (started done) = inl (λ store. refl)
+says (asked request) = inl (λ store. refl)
+says (heard (Ok Again)) = inl (λ store. refl)
+says (heard (Ok Ready)) = inl (λ store. refl)
+says (heard (Ok (Accepted number more))) = inr (λ one other. refl)
+says (heard (Ok (Failed why))) = inl (λ store. refl)
+says (heard (Err fault)) = inl (λ store. refl)
+says (committed (Ok count)) = inr (λ one other. refl)
+says (committed (Err fault)) = inr (λ one other. refl)
+says (replied unread) = inl (λ store. refl)
+says (replied (unstored fault)) = inr (λ one other. refl)
+says (replied (repeated number)) = inr (λ one other. refl)
+says (replied (refused code)) = inr (λ one other. refl)
+says (replied (shown text)) = inr (λ one other. refl)
+says (replied out_of_memory) = inr (λ one other. refl)
+says (replied (obeyed number change)) = inr (λ one other. refl)
+says (replied (uncommitted change fault)) = inr (λ one other. refl)
+
+-- all is kept, whatever was before
+kept_from : (turns : List Turn) (store : Store) → store_behind some_wait turns ≡ all_kept → store_behind store turns ≡ all_kept
+kept_from [] store is = absurd cc
+kept_from (turn ∷ turns) store is = ⊎_elim
+    (λ (same : (s : Store) → behind_answer s turn.1 ≡ s).
+    ap (λ (s : Store). store_behind s turns) (same store) ∙ kept_from turns store (ap (λ (s : Store). store_behind s turns) (sym (same some_wait)) ∙ is))
+    (λ (anew : (one other : Store) → behind_answer one turn.1 ≡ behind_answer other turn.1). ap (λ (s : Store). store_behind s turns) (anew store some_wait) ∙ is)
+    (says turn.1)
+
+-- where all is kept after some turns, nothing is pending
+pub none_pends : (budget : ℕ) (core : Core) (turns : List Turn) → core.pending ≡ [] → IsChain budget core turns → store_behind some_wait turns ≡ all_kept → (leads core turns).pending ≡ []
+none_pends budget core turns empty chain is = none_waits budget core turns empty chain (kept_from turns all_kept is)

@@ -89,8 +89,8 @@ pub record RoundTurns (moment : ℕ) (stored : Result (Unit {0}) CommitFault) (t
   pub ends : EndsIn (fault_of stored) turns
 
 pub round_turns : (moment : ℕ) (stored : Result (Unit {0}) CommitFault) (turns next : List Turn) → All IsAsking turns → EndsInCommit moment stored next → RoundTurns moment stored (turns ++ next)
-round_turns moment stored turns next asking (front, last, is, hearing, one) = record {
-  is_round = record { asking = turns; hearing = front; last = last; turns_are = ap (λ (ts : List Turn). turns ++ ts) is; are_asking = asking; are_hearing = hearing; is_commit = is_commit_as stored last one };
+round_turns moment stored turns next asking (front, last, waiting, is, hearing, one) = record {
+  is_round = record { asking = turns; hearing = front; last = last; waiting = waiting; turns_are = ap (λ (ts : List Turn). turns ++ ts) is; are_asking = asking; are_heard = hearing; is_commit = is_commit_as stored last one };
   keeps = λ store. store_append store turns next ∙ ap (store_behind (store_behind store turns)) is ∙ store_append (store_behind store turns) front last ∙ store_stored (store_behind (store_behind store turns) front) stored last one;
   ends = subst (EndsIn (fault_of stored)) (sym (ap (λ (ts : List Turn). turns ++ ts) is)) (ends_behind (fault_of stored) turns (front ++ last) (ends_stored stored front last one));
 }
@@ -114,8 +114,8 @@ is_round_of : {B : Type 0} {g : Bus B} (tries moment : ℕ) (stored : Result (Un
 is_round_of tries moment stored asked mids asking rest turns same are a = by_parts a.are_such
   where
     by_parts : EndsInCommit moment stored (happened_turns rest) → (round : IsRound moment turns) × (round.asking ≡ asking)
-    by_parts (front, last, is, hearing, one) =
-        (record { asking = asking; hearing = front; last = last; turns_are = same ∙ ap (λ (ts : List Turn). asking ++ ts) is; are_asking = are; are_hearing = hearing; is_commit = is_commit_as stored last one }, refl)
+    by_parts (front, last, waiting, is, hearing, one) =
+        (record { asking = asking; hearing = front; last = last; waiting = waiting; turns_are = same ∙ ap (λ (ts : List Turn). asking ++ ts) is; are_asking = are; are_heard = hearing; is_commit = is_commit_as stored last one }, refl)
 
 module _ {B T N : Type 0} (g : Bus B) (told : T → ℕ → T → Type 0) (passes : T → Bool → T → Type 0) (takes : N → Told → N → Type 0) where
   pub goes_round : (tries moment : ℕ) (stored : Result (Unit {0}) CommitFault) (olds asked mids news : List (Station B)) (first passed last : T) (old new : N) (was now : Counts) (core : Core) (happened more : List Happening)

@@ -1,5 +1,5 @@
 -- What becomes of a line's part by a commit.
-use Rattle.std.proofs.Common.{◌≡◌, ℕ, zero, suc, ◌+◌, ◌-◌, ◌<◌, ◌≤◌, Bool, inl, inr, List, [], ◌∷◌, ◌*◌, Result, Ok, Err, length, take, drop, get_or, refl, sym, subst, ◌∙◌, arith}
+use Rattle.std.proofs.Common.{◌≡◌, ℕ, zero, suc, ◌+◌, ◌-◌, ◌<◌, ◌≤◌, Bool, List, [], ◌∷◌, ◌*◌, Result, Ok, Err, length, take, drop, get_or, refl, sym, subst, ◌∙◌, arith}
 use Rattle.std.specs.List.{All}
 use Rattle.std.proofs.lemmas.List.Elements.{All-nil, All-cons}
 use Rattle.dc_concentrator.specs.Transcript.{Turn}
@@ -10,8 +10,7 @@ use Rattle.dc_poll.specs.Bus.{Bus}
 use Rattle.dc_poll.specs.Happening.{Happening, does}
 use Rattle.dc_poll.specs.Queue.{Part, part, Goes, stays, is_stored, is_unstored, stands_by}
 use Rattle.dc_poll.specs.Talking.{Talk, Talks, rests, stands_by as talk_stands_by}
-use Rattle.dc_poll.specs.Round.{LineGoes, AllSteps, IsStored, AreStored, EachFewer, IsCommitTurn, IsRoom, IsStoredAs, uncounted}
-use Rattle.dc_poll.specs.Keeping.{IsHearing}
+use Rattle.dc_poll.specs.Round.{LineGoes, AllSteps, IsStored, AreStored, EachFewer, IsCommitTurn, IsStoredAs, uncounted}
 use Rattle.std.specs.Prelude.{OnOk}
 use Rattle.dc_bus.specs.Halves.{most_settles}
 use Rattle.dc_poll.specs.Station.{IsSoundIn, IsSound, Next, part_of, talk_of, rounds_a_start, rounds_a_request, rounds_to_settle, rounds_in, rounds_of, stored_by}
@@ -107,11 +106,6 @@ module _ {B : Type 0} (g : Bus B) where
 pub stored_as : (stored : Result ℕ CommitFault) (told : Result (Unit {0}) CommitFault) → told ≡ uncounted stored → IsStoredAs told ((commits, committed stored) ∷ [])
 stored_as (Ok count) told e = subst (λ (x : Result (Unit {0}) CommitFault). IsStoredAs x ((commits, committed (Ok count)) ∷ [])) (sym e) (count, refl)
 stored_as (Err fault) told e = subst (λ (x : Result (Unit {0}) CommitFault). IsStoredAs x ((commits, committed (Err fault)) ∷ [])) (sym e) refl
-
--- a commit where one was due
-pub room_heard : (moment pending : ℕ) (turns : List Turn) → IsRoom (Ok pending) turns → All (IsHearing moment) turns
-room_heard moment pending turns (inl none) = subst (λ (ts : List Turn). All (IsHearing moment) ts) (sym none) (All-nil (IsHearing moment))
-room_heard moment pending turns (inr one) = subst (λ (ts : List Turn). All (IsHearing moment) ts) (sym one.1) (All-cons (IsHearing moment) (commits, committed (Ok one.0)) [] tt (All-nil (IsHearing moment)))
 
 pub on_any : {X E : Type 0} (result : Result X E) (P : Type 0) → P → OnOk result P
 on_any (Ok x) P p = p

@@ -1,5 +1,6 @@
 -- What a round commits (this product).
-use Rattle.std.specs.Prelude.{◌≡◌, ℕ, Bool, false, List, [], ◌∷◌, ◌++◌, None, Result, Ok}
+use Rattle.std.specs.Prelude.{◌≡◌, ℕ, ◌+◌, ◌<◌, Bool, false, true, List, [], ◌∷◌, ◌++◌, None, Result}
+use Rattle.std.specs.Prelude.{Ok}
 use Rattle.std.specs.Prelude.{Err}
 use Rattle.std.specs.List.{All}
 use Rattle.dc_change.specs.State.{State}
@@ -9,6 +10,8 @@ use Rattle.dc_concentrator.specs.Event.{committed, replied, unread, unstored, un
 use Rattle.dc_concentrator.specs.Step.{next}
 use Rattle.dc_concentrator.specs.Transcript.{Turn}
 use Rattle.dc_concentrator.specs.declared.fault.CommitFault.{CommitFault}
+use Rattle.dc_concentrator.specs.declared.fault.HearFault.{HearFault}
+use Rattle.dc_concentrator.specs.declared.line_heard.LineHeard.{LineHeard}
 use Rattle.dc_concentrator.specs.declared.line_heard.LineHeard.TheVariants.{Accepted}
 use Rattle.dc_poll.specs.Happening.{Happening, does, tells, newest_serial, newest_parts}
 use Rattle.dc_poll.specs.declared.event.Event.{Event as Told}
@@ -46,6 +49,35 @@ IsSettled all_kept = Unit {0}
 IsSettled some_wait = ⊥
 IsSettled unkept = Unit {0}
 
+-- ---- how many telegrams are pending
+
+-- maximum number of pending telegrams
+abbrev pub most_pending : ℕ
+most_pending = 4
+
+-- a telegram is accepted, which is pending then
+abbrev pub is_accepted : Result LineHeard HearFault → Bool
+is_accepted (Ok (Accepted number more)) = true
+is_accepted (Ok answer) = false
+is_accepted (Err fault) = false
+
+abbrev pub waiting_after : ℕ → Answer → ℕ
+waiting_after waiting (heard (Ok (Accepted number more))) = waiting + 1
+waiting_after waiting (committed (Ok count)) = 0
+waiting_after waiting answer = waiting
+
+-- An answer is received only if fewer than the maximum are pending.
+abbrev pub FindsRoom : ℕ → Event → Type 0
+FindsRoom waiting (hears line at bytes) = waiting < most_pending
+FindsRoom waiting event = Unit {0}
+
+-- EACH ANSWER FINDS ROOM: this many telegrams are pending before these turns, and that many after
+-- them.
+abbrev pub AllFindRoom : ℕ → List Turn → ℕ → Type 0
+AllFindRoom waiting [] last = waiting ≡ last
+AllFindRoom waiting (turn ∷ turns) last =
+    FindsRoom waiting turn.0 × AllFindRoom (waiting_after waiting turn.1) turns last
+
 -- ---- a round
 
 -- its first half: lines begin and are asked
@@ -67,19 +99,26 @@ IsHearingBy moment event answer = ⊥
 abbrev pub IsHearing : ℕ → Turn → Type 0
 IsHearing moment turn = IsHearingBy moment turn.0 turn.1
 
+-- Answers are received, and each finds room. This many telegrams are pending after them, and none
+-- before.
+pub record AreHeard (moment waiting : ℕ) (turns : List Turn) : Type 0 where
+  pub are_hearing : All (IsHearing moment) turns
+  pub find_room : AllFindRoom 0 turns waiting
+
 -- one commit
 abbrev pub IsCommit : List Turn → Type 0
 IsCommit turns = (stored : Result ℕ CommitFault) × (turns ≡ (commits, committed stored) ∷ [])
 
--- A ROUND: first its lines begin and send requests, then answers are taken, and then all that was
--- accepted is committed.
+-- A ROUND: first its lines begin and send requests, then answers are taken, each with fewer than the
+-- maximum of telegrams pending, and then all that was accepted is committed.
 pub record IsRound (moment : ℕ) (turns : List Turn) : Type 0 where
   pub asking : List Turn
   pub hearing : List Turn
   pub last : List Turn
+  pub waiting : ℕ
   pub turns_are : turns ≡ asking ++ (hearing ++ last)
   pub are_asking : All IsAsking asking
-  pub are_hearing : All (IsHearing moment) hearing
+  pub are_heard : AreHeard moment waiting hearing
   pub is_commit : IsCommit last
 
 -- One commit, and then round after round, as long as all is kept. In each round time passes after

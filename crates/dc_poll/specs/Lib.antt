@@ -28,3 +28,5 @@ pub mod Planned
 pub mod ImagePoll
 -- where a readout ends, what was accepted is committed
 pub mod Committed
+-- each answer finds room among the pending changes
+pub mod PendingRoom

@@ -1,6 +1,6 @@
 -- What a poll does on all lines (this product).
 use Rattle.std.specs.Prelude.{◌≡◌, ◌≢◌, ◌⊎◌, ℕ, zero, suc, ◌+◌, ◌-◌, ◌<◌, ◌≤◌, List, [], ◌∷◌, ◌++◌}
-use Rattle.std.specs.Prelude.{length, sum, map, slice_index_or, Result, Ok, Err}
+use Rattle.std.specs.Prelude.{length, sum, map, slice_index_or, Result, Ok, Err, Bool, true, false}
 use Rattle.std.specs.List.{All}
 use Rattle.dc_change.specs.State.{State}
 use Rattle.dc_concentrator.specs.Core.{Core, opened}
@@ -21,7 +21,8 @@ use Rattle.dc_poll.specs.declared.event.Event.TheVariants.{Read as was_read, Fai
 use Rattle.dc_poll.specs.declared.event.Event.TheVariants.{Refused as was_refused}
 use Rattle.dc_poll.specs.declared.event.Event.TheVariants.{Late as came_late}
 use Rattle.dc_disk.specs.declared.device.Disk.{Ghosts}
-use Rattle.dc_poll.specs.Keeping.{AreTrue, IsHearing, IsSettled, Store}
+use Rattle.dc_poll.specs.Keeping.{AllFindRoom, AreHeard, AreTrue, IsHearing, IsSettled, Store}
+use Rattle.dc_poll.specs.Keeping.{most_pending}
 use Rattle.dc_poll.specs.Queue.{Goes}
 use Rattle.dc_poll.specs.Talking.{Talks}
 use Rattle.dc_poll.specs.Station.{IsAfter, part_of, stored_by, talk_of}
@@ -102,25 +103,34 @@ abbrev pub uncounted : Result ℕ CommitFault → Result (Unit {0}) CommitFault
 uncounted (Ok count) = Ok tt
 uncounted (Err fault) = Err fault
 
--- maximum number of pending telegrams
-abbrev pub most_pending : ℕ
-most_pending = 4
+-- a telegram more is pending, or not
+abbrev pub and_accepted : ℕ → Bool → ℕ
+and_accepted waiting false = waiting
+and_accepted waiting true = waiting + 1
 
--- a commit, where one was due
-abbrev pub IsRoom : Result ℕ CommitFault → List Turn → Type 0
-IsRoom (Ok pending) turns = (turns ≡ []) ⊎ IsStoredAs (Ok tt) turns
-IsRoom (Err fault) turns = IsStoredAs (Err fault) turns
+-- On this line an answer is received, or none is complete yet. If fewer telegrams than the maximum
+-- are pending, it finds room. Whether it is accepted.
+pub record HearsOne {B : Type 0} (g : Bus B) (tries line moment : ℕ) (accepted : Bool)
+    (old new : Station B) (happened : List Happening) : Type 0 where
+  pub steps : Steps g tries line (IsHearing moment) old new happened
+  pub finds_room : (waiting : ℕ) → waiting < most_pending
+      → AllFindRoom waiting (happened_turns happened) (and_accepted waiting accepted)
 
--- answers are received; if a commit among them returned a fault, that is the last turn
-abbrev pub AreHeardAs : ℕ → Result (Unit {0}) CommitFault → List Turn → Type 0
-AreHeardAs moment (Ok done) turns = All (IsHearing moment) turns
-AreHeardAs moment (Err fault) turns = (front last : List Turn) × (turns ≡ front ++ last)
-    × All (IsHearing moment) front × IsStoredAs (Err fault) last
+-- A commit, where one was due: so many telegrams are pending before, and so many after it.
+abbrev pub IsRoom : ℕ → Result ℕ CommitFault → List Turn → Type 0
+IsRoom waiting (Ok now) turns =
+    ((turns ≡ []) × (now ≡ waiting)) ⊎ (IsStoredAs (Ok tt) turns × (now ≡ 0))
+IsRoom waiting (Err fault) turns = IsStoredAs (Err fault) turns
 
 -- answers are received, and the last turn is the commit with this result
 abbrev pub EndsInCommit : ℕ → Result (Unit {0}) CommitFault → List Turn → Type 0
-EndsInCommit moment stored turns = (front last : List Turn) × (turns ≡ front ++ last)
-    × All (IsHearing moment) front × IsStoredAs stored last
+EndsInCommit moment stored turns = (front last : List Turn) × (waiting : ℕ)
+    × (turns ≡ front ++ last) × AreHeard moment waiting front × IsStoredAs stored last
+
+-- answers are received; if a commit among them returned a fault, that is the last turn
+abbrev pub AreHeardAs : ℕ → Result (Unit {0}) CommitFault → List Turn → Type 0
+AreHeardAs moment (Ok done) turns = (waiting : ℕ) × AreHeard moment waiting turns
+AreHeardAs moment (Err fault) turns = EndsInCommit moment (Err fault) turns
 
 abbrev pub IsStored : {B : Type 0} → Result ℕ CommitFault → Station B → Station B → Type 0
 IsStored stored old new =

@@ -13,6 +13,7 @@ ghost use Rattle.dc_concentrator.specs.Transcript.{Turn, IsChain, leads};
 ghost use Rattle.dc_poll.specs.Committed.{IsCommittedWhereNoneIsAsked};
 ghost use Rattle.dc_poll.specs.Happening.{Happening, happened_turns, tells};
 ghost use Rattle.dc_poll.specs.Keeping.{AreTrue, IsSettled, Store, all_kept, store_behind};
+ghost use Rattle.dc_poll.specs.PendingRoom.{AnswersFindRoom};
 ghost use Rattle.dc_poll.specs.Planned.{queue_on};
 ghost use Rattle.dc_poll.specs.Queue.{Part, part, AreApart, Goes, GoesWell, IsToldAs, IsTried};
 ghost use Rattle.dc_poll.specs.Queue.{Lacks, meter_of, most_asks, read_in, requests_in};
@@ -85,4 +86,10 @@ pub fn what_is_read_is_committed<B: QuietBus + Drop, T: Timer<B>>()
         (told : Told) →
         AreTrue core store (front ++ tells line told ∷ back) →
         IsSettled (store_behind store (happened_turns front)) }
+{}
+
+/// In a poll each answer is received with fewer changes pending than the maximum. So none is refused because too many
+/// are pending.
+pub fn each_answer_finds_room_among_the_pending_changes<B: QuietBus + Drop, T: Timer<B>>()
+    ensures { AnswersFindRoom T.tells T.passes }
 {}

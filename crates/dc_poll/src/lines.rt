@@ -2,10 +2,10 @@
 
 ghost use Rattle.std.specs.Prelude.{◌≡◌, ◌<◌, ◌≤◌, ◌-◌, ◌+◌, ℕ, length, slice_index_or, IfOk, OnOk};
 ghost use Rattle.std.specs.List.{All};
-ghost use Rattle.dc_poll.specs.Keeping.{IsAsking};
+ghost use Rattle.dc_poll.specs.Keeping.{IsAsking, most_pending};
 ghost use Rattle.dc_poll.specs.Round.{AllSteps, AreHeardAs, AreStored, EachFewer, EndsInCommit};
-ghost use Rattle.dc_poll.specs.Round.{IsRoom, IsStoredAs, Runs, most_lines, most_pending};
-ghost use Rattle.dc_poll.specs.Round.{uncounted};
+ghost use Rattle.dc_poll.specs.Round.{IsRoom, IsStoredAs, Runs, most_lines};
+ghost use Rattle.dc_poll.specs.Round.{and_accepted, uncounted};
 ghost use Rattle.dc_poll.specs.Station.{IsSound, rounds_of};
 
 use crate::calls;
@@ -103,7 +103,7 @@ fn make_room<D: Disk + Drop, A: Allocator + Copy, B: QuietBus + Drop>(
     ensures few { IfOk result (λ now. now < most_pending) }
     ensures went { (tries : ℕ) → All (IsSound B.QuietBus tries) stations.old
         → Runs D.Disk (λ core happened.
-        AllSteps B.QuietBus tries (IsRoom result) stations.old stations.new happened)
+        AllSteps B.QuietBus tries (IsRoom pending result) stations.old stations.new happened)
         concentrator.old concentrator.new }
     ensures sound { (tries : ℕ) → All (IsSound B.QuietBus tries) stations.old
         → All (IsSound B.QuietBus tries) stations.new }
@@ -119,6 +119,14 @@ fn make_room<D: Disk + Drop, A: Allocator + Copy, B: QuietBus + Drop>(
         Ok(()) => Ok(0),
         Err(fault) => Err(fault),
     }
+}
+
+// How many telegrams are pending after an answer.
+fn and_accepted(pending: u8, accepted: bool) -> u8
+    requires { pending < most_pending }
+    ensures { result ≡ and_accepted pending accepted }
+{
+    if accepted { pending + 1 } else { pending }
 }
 
 // Every line with a request out takes its answer, if it is complete.
@@ -145,7 +153,10 @@ pub fn hear_all<D: Disk + Drop, A: Allocator + Copy, B: QuietBus + Drop>(
             Ok(now) => pending = now,
             Err(fault) => return Err(fault),
         }
-        pending += u8::from(hear(concentrator, &mut stations[at], line_at(at), tries, moment));
+        pending = and_accepted(
+            pending,
+            hear(concentrator, &mut stations[at], line_at(at), tries, moment),
+        );
     }
     Ok(())
 }

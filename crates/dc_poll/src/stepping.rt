@@ -1,9 +1,9 @@
 //! One step of a line: it settles, begins its next meter and sends its request, or takes an answer.
 
 ghost use Rattle.std.specs.Prelude.{◌≡◌, ◌⊎◌, ◌<◌, ◌≤◌, ◌-◌, ◌∷◌, ℕ, length, drop, true, false};
-ghost use Rattle.dc_poll.specs.Keeping.{IsAsking, IsHearing};
+ghost use Rattle.dc_poll.specs.Keeping.{IsAsking, is_accepted};
 ghost use Rattle.dc_poll.specs.Queue.{most_asks};
-ghost use Rattle.dc_poll.specs.Round.{Runs, Steps};
+ghost use Rattle.dc_poll.specs.Round.{HearsOne, Runs, Steps};
 ghost use Rattle.dc_poll.specs.Station.{IsSound, is_answered, rounds_of};
 ghost use Rattle.dc_poll.specs.declared.phase.Phase.TheVariants.{Free, Busy};
 ghost use Rattle.dc_poll.specs.declared.phase.Request.TheVariants.{Quiet};
@@ -170,7 +170,7 @@ pub fn hear<D: Disk + Drop, A: Allocator + Copy, B: QuietBus + Drop>(
 ) -> bool
     requires { IsSound B.QuietBus tries station.old }
     ensures went { Runs D.Disk (λ core happened.
-        Steps B.QuietBus tries line (IsHearing moment.seconds) station.old station.new happened)
+        HearsOne B.QuietBus tries line moment.seconds result station.old station.new happened)
         concentrator.old concentrator.new }
     ensures sound { IsSound B.QuietBus tries station.new }
     ensures fewer { rounds_of B.QuietBus 1 0 0 tries station.new
@@ -195,7 +195,7 @@ fn judge<D: Disk + Drop, A: Allocator + Copy, B: QuietBus + Drop>(
     requires sound { IsSound B.QuietBus tries station.old }
     requires answered { is_answered station.old.request ≡ true }
     ensures went { Runs D.Disk (λ core happened.
-        Steps B.QuietBus tries line (IsHearing moment.seconds) station.old station.new happened)
+        HearsOne B.QuietBus tries line moment.seconds result station.old station.new happened)
         concentrator.old concentrator.new }
     ensures sound { IsSound B.QuietBus tries station.new }
     ensures fewer { rounds_of B.QuietBus 1 0 0 tries station.new
@@ -213,6 +213,9 @@ fn judge<D: Disk + Drop, A: Allocator + Copy, B: QuietBus + Drop>(
     is_accepted(&answer)
 }
 
-fn is_accepted(answer: &Result<LineHeard, HearFault>) -> bool {
+// Whether a telegram was accepted.
+fn is_accepted(answer: &Result<LineHeard, HearFault>) -> bool
+    ensures { result ≡ is_accepted answer.now }
+{
     matches!(answer, Ok(LineHeard::Accepted { .. }))
 }

@@ -1,5 +1,5 @@
 -- A talk that its line carries, readout after readout (for the theorem of specs/Every).
-use Rattle.std.proofs.Common.{◌≡◌, ℕ, Bool, true, false, ◌+◌, ◌*◌, ◌<◌, ◌≤◌, Option, Some, None, Result, Ok, Err, List, [], ◌∷◌, ◌++◌, length, arith, refl, sym, ◌∙◌, ap, subst, append_assoc, append-nil, map}
+use Rattle.std.proofs.Common.{◌≡◌, ℕ, Bool, true, false, ◌+◌, ◌*◌, ◌<◌, ◌≤◌, Option, Some, None, Result, Ok, Err, List, [], ◌∷◌, ◌++◌, length, arith, refl, sym, ◌∙◌, ap, subst, append_assoc, append-nil, map, drop}
 use Rattle.std.specs.Prelude.{is_some}
 use Rattle.std.proofs.lemmas.Bool.{eq-eqb}
 use Rattle.std.specs.List.{AllByRecursion}
@@ -7,7 +7,7 @@ use Rattle.dc_frame.specs.Frame.{FrameSeen}
 use Rattle.dc_frame.specs.Reading.{frame_of}
 use Rattle.dc_address.specs.declared.identity.Identity.{Identity}
 use Rattle.dc_readout.specs.Session.{commands}
-use Rattle.dc_readout.specs.Summary.{Summary}
+use Rattle.dc_readout.specs.Summary.{Summary, verdict_by}
 use Rattle.dc_world.specs.declared.event.Outcome.{Outcome}
 use Rattle.dc_world.specs.Meter.{Meter, Position}
 use Rattle.dc_world.specs.World.{heard_in}
@@ -16,15 +16,16 @@ use Rattle.dc_change.specs.State.{State, MeterRow, row_of, ReadingRow}
 use Rattle.dc_pending.specs.Lines.{is_line}
 use Rattle.dc_concentrator.specs.declared.line_heard.LineHeard.{LineHeard}
 use Rattle.dc_concentrator.specs.declared.fault.HearFault.{HearFault}
+use Rattle.dc_concentrator.specs.declared.fault.HearFault.TheVariants.{Full, Idle, NoLine, NoMemory, PendingFull, Stopped}
 use Rattle.dc_concentrator.specs.declared.fault.StartFault.{StartFault}
 use Rattle.dc_concentrator.specs.declared.fault.CommitFault.{CommitFault}
 use Rattle.dc_concentrator.specs.Core.{Core, present, opened, session_of}
 use Rattle.dc_concentrator.specs.Event.{starts, asks, hears, commits, started, asked, heard, committed}
 use Rattle.dc_concentrator.specs.Step.{ask_answer, hear_answer, is_on, next}
 use Rattle.dc_concentrator.specs.Transcript.{Turn, leads, IsChain}
-use Rattle.dc_concentrator.proofs.Going.{leads_append}
+use Rattle.dc_concentrator.proofs.Going.{leads_append, leads_push}
 use Rattle.dc_concentrator.proofs.Told.{chain_parts}
-use Rattle.dc_progress.specs.Beside.{Bus as Line, bus_at_first, bus_after, IsElsewhere, HasRead, IsHeardOn, IsNoFailure, IsOfLines, IsTakenUnlessFull, readings_of, Serves, GoesBeside, rests as none_more, asks_it, has_none as asks_none, gives_it, commits_it, goes_by}
+use Rattle.dc_progress.specs.Beside.{Bus as Line, bus_at_first, bus_after, IsElsewhere, HasRead, IsHeardOn, IsNextPart, IsNoFailure, IsOfLines, IsTakenUnlessFull, readings_of, Serves, GoesBeside, rests as none_more, asks_it, has_none as asks_none, gives_it, commits_it, goes_by}
 use Rattle.dc_progress.specs.Needs.{IsThere}
 use Rattle.dc_progress.specs.Rounds.{row_after}
 use Rattle.dc_progress.proofs.Rows.{readouts_of_a_run_end}
@@ -37,17 +38,20 @@ use Rattle.dc_poll.specs.declared.event.Event.TheVariants.{Read as told_read, Fa
 use Rattle.dc_poll.specs.declared.event.Event.TheVariants.{Refused as was_refused, Lost as is_lost}
 use Rattle.dc_poll.specs.declared.event.Event.TheVariants.{Late as came_late, End as has_ended}
 use Rattle.dc_poll.specs.Keeping.{AreTrue, IsNewest, IsSettled, Store, some_wait, store_behind}
+use Rattle.dc_poll.proofs.Meanings.{none_pends}
 use Rattle.dc_poll.proofs.Polling.{store_append}
 use Rattle.dc_poll.specs.declared.phase.Request.{Request}
 use Rattle.dc_poll.specs.declared.phase.Request.TheVariants.{Quiet, Sent, Answered}
-use Rattle.dc_poll_progress.specs.Carried.{Wire, IsCarried, IsSupplied}
-use Rattle.dc_poll_progress.proofs.Facts.{IsWiredOn, TellFact, WasNew, WasRead, Facts, IsSuppliedIn, most_requests}
-use Rattle.dc_poll_progress.proofs.Free.{all_free, commit_free, heard_ok, start_ok}
+use Rattle.dc_poll_progress.specs.Carried.{Wire, IsCarried}
+use Rattle.dc_poll_progress.proofs.Facts.{IsWiredOn, TellFact, WasNew, WasRead, Facts}
+use Rattle.dc_poll_progress.proofs.Free.{all_free, commit_free, heard_full, hears_free, start_ok}
 use Rattle.dc_poll_progress.proofs.New.{present_is}
-use Rattle.dc_poll_progress.proofs.Turns.{never_unkept, none_pends, settled_kept}
+use Rattle.dc_poll_progress.proofs.Parted.{PartAt, CutBy, PartsIn, cut, parts_away, parts_none}
+use Rattle.dc_poll_progress.proofs.Supplied.{IsSupplied, IsSuppliedIn}
+use Rattle.dc_poll_progress.proofs.Turns.{never_unkept, settled_kept}
 use Rattle.dc_poll_progress.proofs.Whole.{all_running}
 use Rattle.dc_poll_progress.proofs.Kept.{IsPlaced, stays_placed}
-use Rattle.dc_poll_progress.proofs.Lists.{AreOfLines, Split, split_at, all_left, all_right}
+use Rattle.dc_poll_progress.proofs.Lists.{AreOfLines, Split, none_on, split_at, all_left, all_right}
 
 -- ---- a readout has few requests
 
@@ -96,7 +100,7 @@ module _ (budget line : ℕ) (state : State) (wire : Wire) (all : List Turn) (ch
     since : List Turn
     before_is : before ≡ front ++ start_of x ∷ since
     positions : List Position
-    there : IsThere wire.meters positions wired.place wired.meter wired.parts
+    there : IsThere wire.meters positions wired.place wired.meter (wire.parts x)
     registered : row_of x (present (core_at front)) ≡ Some row
     address : row.address ≡ wired.meter.address
     serves : Serves line wire.meters (bus_at_first positions) since now
@@ -117,7 +121,7 @@ module _ (budget line : ℕ) (state : State) (wire : Wire) (all : List Turn) (ch
 
   -- so it goes
   goes_as : (x : Identity) (before more : List Turn) (now : Line) → all ≡ before ++ more → (s : Since x before now)
-      → GoesBeside budget line wire.meters s.wired.meter s.row s.wired.parts (core_at s.front) (core_at before) s.since now
+      → GoesBeside budget line wire.meters s.wired.meter s.row (wire.parts x) (core_at s.front) (core_at before) s.since now
   goes_as x before more now is s =
       let start : Turn = start_of s.wired.meter.identity in
       let same : s.front ++ start ∷ s.since ≡ before = ap (λ (i : Identity). s.front ++ start_of i ∷ s.since) s.wired.who ∙ sym s.before_is in
@@ -126,14 +130,16 @@ module _ (budget line : ℕ) (state : State) (wire : Wire) (all : List Turn) (ch
       let of_here = all_left IsOfLines (s.front ++ start ∷ s.since) more (subst (AllByRecursion IsOfLines) here of_all) in
       let of_front = all_left IsOfLines s.front (start ∷ s.since) of_here in
       let registered : row_of s.wired.meter.identity (present (core_at s.front)) ≡ Some s.row = ap (λ (i : Identity). row_of i (present (core_at s.front))) s.wired.who ∙ s.registered in
-      let ends = readouts_of_a_run_end budget state s.front line wire.meters s.positions s.wired.place s.wired.meter s.row s.wired.parts s.since now of_front chain_here s.there registered s.address s.serves in
-      subst (λ (ts : List Turn). GoesBeside budget line wire.meters s.wired.meter s.row s.wired.parts (core_at s.front) (core_at ts) s.since now) same ends
+      let ends = readouts_of_a_run_end budget state s.front line wire.meters s.positions s.wired.place s.wired.meter s.row (wire.parts x) s.since now of_front chain_here s.there registered s.address s.serves in
+      subst (λ (ts : List Turn). GoesBeside budget line wire.meters s.wired.meter s.row (wire.parts x) (core_at s.front) (core_at ts) s.since now) same ends
 
-  few_heard : (x : Identity) (before more : List Turn) (now : Line) → all ≡ before ++ more → Since x before now → now.heard ≤ 102
-  few_heard x before more now is s =
-      let g = goes_as x before more now is s in
-      let most : now.heard ≤ 3 * (commands s.wired.meter.address + length s.wired.parts) = g.thrice in
-      let few = few_requests s.wired.meter.address s.wired.parts s.wired.there.few in
+  few_asked : (x : Identity) (before more : List Turn) (request : List ℕ) (now : Line) → all ≡ before ++ (asks line, asked (Some request)) ∷ more → Since x before now → now.heard < 102
+  few_asked x before more request now is s =
+      let turn : Turn = (asks line, asked (Some request)) in
+      let asks_it_now : Some request ≡ ask_answer (core_at before) line = (chain_parts budget (opened state) before (turn ∷ more) (subst (IsChain budget (opened state)) is chain)).1.0 in
+      let g = goes_as x before (turn ∷ more) now is s in
+      let most : now.heard < 3 * (commands s.wired.meter.address + length (wire.parts x)) = g.asks_few request (sym asks_it_now) in
+      let few = few_requests s.wired.meter.address (wire.parts x) s.wired.there.few in
       omega (arith, most, few)
 
   -- ---- where it has no request any more, its meter was read
@@ -162,8 +168,8 @@ module _ (budget line : ℕ) (state : State) (wire : Wire) (all : List Turn) (ch
         registered = s.registered;
         free = ap (λ (ts : List Turn). session_of (core_at ts) line) (sym same) ∙ free;
         settled = ap (λ (ts : List Turn). (core_at ts).pending) (sym same) ∙ none;
-        read = subst (λ (ts : List Turn). HasRead x s.row s.wired.parts (present (core_at s.front)) (core_at ts).committed) same
-            (subst (λ (i : Identity). HasRead i s.row s.wired.parts (present (core_at s.front)) (core_at before).committed) s.wired.who (g.ends free));
+        read = subst (λ (ts : List Turn). HasRead x s.row (wire.parts x) (present (core_at s.front)) (core_at ts).committed) same
+            (subst (λ (i : Identity). HasRead i s.row (wire.parts x) (present (core_at s.front)) (core_at before).committed) s.wired.who (g.ends free));
       }
 
   none_asked : (x : Identity) (before more : List Turn) (now : Line) → all ≡ before ++ (asks line, asked None) ∷ more → Since x before now → Read x
@@ -316,41 +322,74 @@ module _ (budget line : ℕ) (state : State) (wire : Wire) (all : List Turn) (ch
   Stands Sent now start = now ≡ start
   Stands (Answered bytes) now start = Given bytes now start
 
-  -- how many requests were sent, and whether one is out
+  -- how many requests were sent
   abbrev asks_at : Request → Line → ℕ
   asks_at Quiet start = start.heard
   asks_at Sent start = start.heard + 1
   asks_at (Answered bytes) start = start.heard + 1
 
-  abbrev IsOut : Request → Type 0
-  IsOut Quiet = ⊥
-  IsOut Sent = Unit {0}
-  IsOut (Answered bytes) = Unit {0}
-
   abbrev FactsOf : Option Identity → ℕ → Bool → List Happening → Type 0
   FactsOf m n idle on = Facts Read New m n idle on
 
-  record Going (x : Identity) (request : Request) (start : Line) (idle : Bool) (on : List Happening) : Type 0 where
-    facts : FactsOf (Some x) (asks_at request start) idle on
-    few : IsOut request → start.heard < most_requests
+  abbrev Parts : List Turn → List Happening → Type 0
+  Parts before full = PartsIn line wire (core_at before) (happened_turns full)
+
+  record Going (m : Option Identity) (n : ℕ) (idle : Bool) (on : List Happening) (before : List Turn) (full : List Happening) : Type 0 where
+    facts : FactsOf m n idle on
+    parts : Parts before full
+
+  -- ---- what is said of parts, behind turns of other lines
+
+  parts_does : (before : List Turn) (turn : Turn) (later full : List Happening) (p : Split line (does turn) later full) → PartAt line wire (core_at (before ++ p.away)) turn.0 → CutBy line turn.0 turn.1 (Parts ((before ++ p.away) ++ turn ∷ []) p.rest) → Parts before full
+  parts_does before turn later full p at rest =
+      let more : List Turn = happened_turns p.rest in
+      let there : CutBy line turn.0 turn.1 (PartsIn line wire (next (core_at (before ++ p.away)) turn.0 turn.1) more) =
+      subst (λ (core : Core). CutBy line turn.0 turn.1 (PartsIn line wire core more)) (leads_push (opened state) (before ++ p.away) turn) rest in
+      let here : PartsIn line wire (leads (core_at before) p.away) (turn ∷ more) =
+      subst (λ (core : Core). PartsIn line wire core (turn ∷ more)) (leads_append (opened state) before p.away) (at, there) in
+      subst (PartsIn line wire (core_at before)) (sym p.turns_are) (parts_away line wire (core_at before) p.away (turn ∷ more) p.elsewhere here)
+
+  parts_tells : (before : List Turn) (told : Told) (later full : List Happening) (p : Split line (tells line told) later full) → Parts ((before ++ p.away) ++ []) p.rest → Parts before full
+  parts_tells before told later full p rest =
+      let more : List Turn = happened_turns p.rest in
+      let here : PartsIn line wire (leads (core_at before) p.away) more =
+      subst (λ (core : Core). PartsIn line wire core more) (ap core_at (append-nil (before ++ p.away)) ∙ leads_append (opened state) before p.away) rest in
+      subst (PartsIn line wire (core_at before)) (sym p.turns_are) (parts_away line wire (core_at before) p.away more p.elsewhere here)
+
+  -- a telegram is the next of the meter's parts
+  part_of_it : (x : Identity) (start : Line) (moment : ℕ) (bytes : List ℕ) (before more : List Turn) (now : Line) → Given bytes now start → all ≡ before ++ more → Since x before start → PartAt line wire (core_at before) (hears line moment bytes)
+  part_of_it x start moment bytes before more now given is s same session on =
+      let part = (goes_as x before more start is s).next_part session given.outcome given.frame on given.waited given.few in
+      let who : session.meter ≡ x = part.0 ∙ s.wired.who in
+      subst (λ (i : Identity). IsNextPart (drop session.settled (wire.parts i)) (verdict_by session bytes)) (sym who)
+      (subst (λ (b : List ℕ). IsNextPart (drop session.settled (wire.parts x)) (verdict_by session b)) (sym given.bytes_are) part.1)
+
+  -- ---- each thing on the line
 
   -- a readout begins, and its facts begin anew
   starts_one : (m : Option Identity) (n : ℕ) (idle : Bool) (y : Identity) (answer : Result (Unit {0}) StartFault) (before : List Turn) (later full : List Happening) (now : Line) → all ≡ before ++ happened_turns full → AreTrueAt before full → IsCounted now → (idle ≡ true → IsFree before)
       → (p : Split line (does (starts line y, started answer)) later full) → IsWiredOn line state wire y
-      → (all ≡ ((before ++ p.away) ++ start_of y ∷ []) ++ happened_turns p.rest → AreTrueAt ((before ++ p.away) ++ start_of y ∷ []) p.rest → Since y ((before ++ p.away) ++ start_of y ∷ []) (bus_at_first now.positions) → FactsOf (Some y) 0 false later) → FactsOf m n idle (does (starts line y, started answer) ∷ later)
+      → (all ≡ ((before ++ p.away) ++ start_of y ∷ []) ++ happened_turns p.rest → AreTrueAt ((before ++ p.away) ++ start_of y ∷ []) p.rest → Since y ((before ++ p.away) ++ start_of y ∷ []) (bus_at_first now.positions) → Going (Some y) 0 false later ((before ++ p.away) ++ start_of y ∷ []) p.rest)
+      → Going m n idle (does (starts line y, started answer) ∷ later) before full
   starts_one m n true y (Err fault) before later full now is truth counted free p w then_so =
       let h : Happening = does (starts line y, started (Err fault)) in
       absurd (never_refused y fault (before ++ p.away) (happened_turns p.rest) (at_it before h later full p is) w (free_away before h later full p is (free refl)))
-  starts_one m n false y (Err fault) before later full now is truth counted free p w then_so = (tt, tt)
+  starts_one m n false y (Err fault) before later full now is truth counted free p w then_so =
+      record { facts = (tt, tt); parts = parts_does before (starts line y, started (Err fault)) later full p tt (λ ne. absurd (ne refl)) }
   starts_one m n idle y (Ok none) before later full now is truth counted free p w then_so =
       let h : Happening = does (start_of y) in
-      (tt, then_so (behind before h later full p is) (true_does before (start_of y) later full p truth) (begun y (before ++ p.away) now (of_before (before ++ p.away) (start_of y ∷ happened_turns p.rest) (at_it before h later full p is)) counted w))
+      let rest = then_so (behind before h later full p is) (true_does before (start_of y) later full p truth) (begun y (before ++ p.away) now (of_before (before ++ p.away) (start_of y ∷ happened_turns p.rest) (at_it before h later full p is)) counted w) in
+      record { facts = (tt, rest.facts); parts = parts_does before (start_of y) later full p tt rest.parts }
 
   -- an answer is received
+  full_facts : (m : Option Identity) (n : ℕ) (idle : Bool) (moment : ℕ) (bytes : List ℕ) (fault : HearFault) (later : List Happening) → fault ≡ Full → FactsOf m n idle (does (hears line moment bytes, heard (Err fault)) ∷ later)
+  full_facts None n idle moment bytes fault later e = subst (λ (f : HearFault). FactsOf None n idle (does (hears line moment bytes, heard (Err f)) ∷ later)) (sym e) (tt, tt)
+  full_facts (Some x) n idle moment bytes fault later e = subst (λ (f : HearFault). FactsOf (Some x) n idle (does (hears line moment bytes, heard (Err f)) ∷ later)) (sym e) (tt, tt)
+
   hears_one : (x : Identity) (now start : Line) (idle : Bool) (moment : ℕ) (bytes : List ℕ) (answer : Result LineHeard HearFault) (before : List Turn) (later full : List Happening) → Given bytes now start → IsCounted start → IsSuppliedIn (does (hears line moment bytes, heard answer))
       → all ≡ before ++ happened_turns full → Since x before start → (p : Split line (does (hears line moment bytes, heard answer)) later full)
-      → ((next : Line) → now ≡ next → IsCounted next → Since x ((before ++ p.away) ++ (hears line moment bytes, heard answer) ∷ []) next → Going x Quiet next false later)
-      → Going x (Answered bytes) start idle (does (hears line moment bytes, heard answer) ∷ later)
+      → ((next : Line) → now ≡ next → IsCounted next → Since x ((before ++ p.away) ++ (hears line moment bytes, heard answer) ∷ []) next → Going (Some x) next.heard false later ((before ++ p.away) ++ (hears line moment bytes, heard answer) ∷ []) p.rest)
+      → Going (Some x) (start.heard + 1) idle (does (hears line moment bytes, heard answer) ∷ later) before full
   hears_one x now start idle moment bytes (Err fault) before later full given counted well is s p then_so =
       let turn : Turn = (hears line moment bytes, heard (Err fault)) in
       let here : Since x (before ++ p.away) start = since_away x before start (does turn) later full p s in
@@ -359,86 +398,104 @@ module _ (budget line : ℕ) (state : State) (wire : Wire) (all : List Turn) (ch
       let may = (chain_parts budget (opened state) (before ++ p.away) (turn ∷ happened_turns p.rest) (subst (IsChain budget (opened state)) at chain)).1.0 in
       let core : Core = core_at (before ++ p.away) in
       let taken = g.takes given.outcome given.frame moment given.waited given.few in
-      absurd (heard_ok (hear_answer budget core line moment bytes) fault (subst IsTakenUnlessFull (ap (hear_answer budget core line moment) (sym given.bytes_are)) taken) may well)
+      let full_is : fault ≡ Full = heard_full (hear_answer budget core line moment bytes) fault (subst IsTakenUnlessFull (ap (hear_answer budget core line moment) (sym given.bytes_are)) taken) may well in
+      record {
+        facts = full_facts (Some x) (start.heard + 1) idle moment bytes fault later full_is;
+        parts = parts_does before turn later full p (part_of_it x start moment bytes (before ++ p.away) (turn ∷ happened_turns p.rest) now given at here)
+            (subst (λ (f : HearFault). CutBy line (hears line moment bytes) (heard (Err f)) (Parts ((before ++ p.away) ++ turn ∷ []) p.rest)) (sym full_is) (λ ne. absurd (ne refl)));
+      }
   hears_one x now start idle moment bytes (Ok answer) before later full given counted well is s p then_so =
       let turn : Turn = (hears line moment bytes, heard (Ok answer)) in
       let next : Line = bus_after wire.meters given.outcome given.frame start in
       let here : Since x (before ++ p.away) start = since_away x before start (does turn) later full p s in
       let there : Since x ((before ++ p.away) ++ turn ∷ []) next =
       since_more x (before ++ p.away) (turn ∷ []) start next here (gives_it given.outcome given.frame given.waited given.bytes_are given.few none_more) in
-      let at = behind before (does turn) later full p is in
-      let g = goes_as x ((before ++ p.away) ++ turn ∷ []) (happened_turns p.rest) next at there in
+      let g = goes_as x ((before ++ p.away) ++ turn ∷ []) (happened_turns p.rest) next (behind before (does turn) later full p is) there in
       let good = all_last (λ (t : Turn). IsHeardOn line t.0 → IsNoFailure t.1) here.since turn g.never_fails in
-      let heard_few : start.heard + 1 ≤ 102 = few_heard x ((before ++ p.away) ++ turn ∷ []) (happened_turns p.rest) next at there in
       let rest = then_so next given.now_is (counted_after given.outcome given.frame start counted) there in
-      record { facts = (good refl, rest.facts); few = λ out. omega (arith, heard_few) }
+      record {
+        facts = (good refl, rest.facts);
+        parts = parts_does before turn later full p (part_of_it x start moment bytes (before ++ p.away) (turn ∷ happened_turns p.rest) now given (at_it before (does turn) later full p is) here) rest.parts;
+      }
 
   -- all that waits is committed
-  commits_one : (x : Identity) (request : Request) (start : Line) (idle : Bool) (stored : Result ℕ CommitFault) (before : List Turn) (later full : List Happening) → IsSuppliedIn (does (commits, committed stored)) → all ≡ before ++ happened_turns full → (idle ≡ true → IsFree before) → Since x before start
-      → (p : Split line (does (commits, committed stored)) later full) → ((idle ≡ true → IsFree ((before ++ p.away) ++ (commits, committed stored) ∷ [])) → Since x ((before ++ p.away) ++ (commits, committed stored) ∷ []) start → Going x request start idle later) → Going x request start idle (does (commits, committed stored) ∷ later)
-  commits_one x request start idle (Err fault) before later full well is free s p then_so = absurd well
-  commits_one x request start idle (Ok count) before later full well is free s p then_so =
+  commits_one : (x : Identity) (n : ℕ) (start : Line) (idle : Bool) (stored : Result ℕ CommitFault) (before : List Turn) (later full : List Happening) → IsSuppliedIn (does (commits, committed stored)) → all ≡ before ++ happened_turns full → (idle ≡ true → IsFree before) → Since x before start
+      → (p : Split line (does (commits, committed stored)) later full)
+      → ((idle ≡ true → IsFree ((before ++ p.away) ++ (commits, committed stored) ∷ [])) → Since x ((before ++ p.away) ++ (commits, committed stored) ∷ []) start → Going (Some x) n idle later ((before ++ p.away) ++ (commits, committed stored) ∷ []) p.rest)
+      → Going (Some x) n idle (does (commits, committed stored) ∷ later) before full
+  commits_one x n start idle (Err fault) before later full well is free s p then_so = absurd well
+  commits_one x n start idle (Ok count) before later full well is free s p then_so =
       let turn : Turn = (commits, committed (Ok count)) in
       let here : Since x (before ++ p.away) start = since_away x before start (does turn) later full p s in
       let still : idle ≡ true → IsFree ((before ++ p.away) ++ turn ∷ []) = λ e. free_then (before ++ p.away) turn (commit_free (core_at (before ++ p.away)) line count (free_away before (does turn) later full p is (free e))) in
       let rest = then_so still (since_more x (before ++ p.away) (turn ∷ []) start start here (commits_it none_more)) in
-      record { facts = (tt, rest.facts); few = rest.few }
+      record { facts = (tt, rest.facts); parts = parts_does before turn later full p tt rest.parts }
 
-  free_commit : (stored : Result ℕ CommitFault) (before : List Turn) (later full : List Happening) (idle : Bool) → IsSuppliedIn (does (commits, committed stored)) → all ≡ before ++ happened_turns full → (idle ≡ true → IsFree before)
-      → (p : Split line (does (commits, committed stored)) later full) → idle ≡ true → IsFree ((before ++ p.away) ++ (commits, committed stored) ∷ [])
-  free_commit (Err fault) before later full idle well is free p e = absurd well
-  free_commit (Ok count) before later full idle well is free p e =
+  free_commit : (stored : Result ℕ CommitFault) (before : List Turn) (later full : List Happening) → IsSuppliedIn (does (commits, committed stored)) → all ≡ before ++ happened_turns full → IsFree before
+      → (p : Split line (does (commits, committed stored)) later full) → IsFree ((before ++ p.away) ++ (commits, committed stored) ∷ [])
+  free_commit (Err fault) before later full well is free p = absurd well
+  free_commit (Ok count) before later full well is free p =
       let turn : Turn = (commits, committed (Ok count)) in
-      free_then (before ++ p.away) turn (commit_free (core_at (before ++ p.away)) line count (free_away before (does turn) later full p is (free e)))
+      free_then (before ++ p.away) turn (commit_free (core_at (before ++ p.away)) line count (free_away before (does turn) later full p is free))
 
   -- an event is told
-  free_told : (told : Told) (before : List Turn) (later full : List Happening) (idle : Bool) → all ≡ before ++ happened_turns full → (idle ≡ true → IsFree before) → (p : Split line (tells line told) later full) → idle ≡ true → IsFree ((before ++ p.away) ++ [])
-  free_told told before later full idle is free p e =
-      ap (λ (ts : List Turn). session_of (core_at ts) line) (append-nil (before ++ p.away)) ∙ free_away before (tells line told) later full p is (free e)
-
-  asked_free : (before : List Turn) → IsFree before → IsFree (before ++ (asks line, asked None) ∷ [])
-  asked_free before free = free_then before (asks line, asked None) free
+  free_told : (told : Told) (before : List Turn) (later full : List Happening) → all ≡ before ++ happened_turns full → IsFree before → (p : Split line (tells line told) later full) → IsFree ((before ++ p.away) ++ [])
+  free_told told before later full is free p =
+      ap (λ (ts : List Turn). session_of (core_at ts) line) (append-nil (before ++ p.away)) ∙ free_away before (tells line told) later full p is free
 
   not_idle : (before : List Turn) → false ≡ true → IsFree before
   not_idle before e = absurd cc
 
+  -- no session takes anything
+  part_of_none : (before : List Turn) (moment : ℕ) (bytes : List ℕ) → IsFree before → PartAt line wire (core_at before) (hears line moment bytes)
+  part_of_none before moment bytes free same session on = absurd (let bad = sym free ∙ on in cc)
+
+  cut_of_none : (moment : ℕ) (bytes : List ℕ) (answer : Result LineHeard HearFault) (P : Type 0) → P → CutBy line (hears line moment bytes) (heard answer) P
+  cut_of_none moment bytes answer P p = cut line (hears line moment bytes) (heard answer) P p
+
+  facts_of_none : (n : ℕ) (idle : Bool) (moment : ℕ) (bytes : List ℕ) (answer : Result LineHeard HearFault) (later : List Happening) → FactsOf None n false later → FactsOf None n idle (does (hears line moment bytes, heard answer) ∷ later)
+  facts_of_none n idle moment bytes (Ok good) later rest = (tt, rest)
+  facts_of_none n idle moment bytes (Err NoLine) later rest = (tt, rest)
+  facts_of_none n idle moment bytes (Err Idle) later rest = (tt, rest)
+  facts_of_none n idle moment bytes (Err Full) later rest = (tt, tt)
+  facts_of_none n idle moment bytes (Err NoMemory) later rest = (tt, rest)
+  facts_of_none n idle moment bytes (Err PendingFull) later rest = (tt, rest)
+  facts_of_none n idle moment bytes (Err Stopped) later rest = (tt, rest)
+
   module _ {B : Type 0} {g : Bus B} where
     along : {first last : Talk B} {on : List Happening} (talk : Talks g line first on last) (x : Identity) (idle : Bool) (full : List Happening) (before : List Turn) (now start : Line) → on ≡ happened_on line full → AreOfLines full → all ≡ before ++ happened_turns full → AreTrueAt before full
-        → last.request ≡ Quiet → Stands first.request now start → IsCounted start → (idle ≡ true → IsFree before) → Since x before start → IsCarried wire.meters now talk → AllByRecursion IsSuppliedIn on → AllByRecursion (IsWiredOn line state wire) (starts_in on) → Going x first.request start idle on
-    along (rests {last = t}) x idle full before now start on of is truth quiet at counted free s carried well wired = record { facts = tt; few = λ out. absurd (subst IsOut quiet out) }
-    along (settles_it unready settles more) x idle full before now start on of is truth quiet at counted free s carried well wired =
-        along more x idle full before now start on of is truth quiet at counted free s carried well wired
-    along (begins {meter = y} {answer = answer} {more = later} ready more) x idle full before now start on of is truth quiet at counted free s carried well wired =
-        let h : Happening = does (starts line y, started answer) in
-        let p = split_at line h later full on of in
+        → Stands first.request now start → IsCounted start → (idle ≡ true → IsFree before) → Since x before start → IsCarried wire.meters now talk → AllByRecursion IsSuppliedIn on → AllByRecursion (IsWiredOn line state wire) (starts_in on) → Going (Some x) (asks_at first.request start) idle on before full
+    along (rests {last = t}) x idle full before now start on of is truth at counted free s carried well wired = record { facts = tt; parts = parts_none line wire (core_at before) (happened_turns full) (none_on line full on of) }
+    along (settles_it unready settles more) x idle full before now start on of is truth at counted free s carried well wired =
+        along more x idle full before now start on of is truth at counted free s carried well wired
+    along (begins {meter = y} {answer = answer} {more = later} ready more) x idle full before now start on of is truth at counted free s carried well wired =
+        let p = split_at line (does (starts line y, started answer)) later full on of in
         let counted_now : IsCounted now = ap (λ (l : Line). length l.positions) at ∙ counted in
         let first : Line = bus_at_first now.positions in
-        record {
-          facts = starts_one (Some x) start.heard idle y answer before later full now is truth counted_now free p wired.0 (λ there truly since.
-              (along more y false p.rest ((before ++ p.away) ++ start_of y ∷ []) first first p.more_is p.of there truly quiet refl counted_now (not_idle ((before ++ p.away) ++ start_of y ∷ [])) since carried well.1 wired.1).facts);
-          few = λ out. absurd out;
-        }
-    along (has_none {more = later} more) x idle full before now start on of is truth quiet at counted free s carried well wired =
+        starts_one (Some x) start.heard idle y answer before later full now is truth counted_now free p wired.0 (λ there truly since.
+        along more y false p.rest ((before ++ p.away) ++ start_of y ∷ []) first first p.more_is p.of there truly refl counted_now (not_idle ((before ++ p.away) ++ start_of y ∷ [])) since carried well.1 wired.1)
+    along (has_none {more = later} more) x idle full before now start on of is truth at counted free s carried well wired =
         let turn : Turn = (asks line, asked None) in
         let p = split_at line (does turn) later full on of in
         let here = since_away x before start (does turn) later full p s in
         let there = since_more x (before ++ p.away) (turn ∷ []) start start here (asks_none none_more) in
         let there_is = at_it before (does turn) later full p is in
-        let over = asked_free (before ++ p.away) (free_at x (before ++ p.away) (happened_turns p.rest) start there_is here) in
-        let rest = along more x true p.rest ((before ++ p.away) ++ turn ∷ []) now start p.more_is p.of (behind before (does turn) later full p is) (true_does before turn later full p truth) quiet at counted (λ e. over) there carried well.1 wired in
-        record { facts = (none_asked x (before ++ p.away) (happened_turns p.rest) start there_is here, rest.facts); few = λ out. absurd out }
-    along (sends_it {request = request} {more = later} sends more) x idle full before now start on of is truth quiet at counted free s carried well wired =
+        let over = free_then (before ++ p.away) turn (free_at x (before ++ p.away) (happened_turns p.rest) start there_is here) in
+        let rest = along more x true p.rest ((before ++ p.away) ++ turn ∷ []) now start p.more_is p.of (behind before (does turn) later full p is) (true_does before turn later full p truth) at counted (λ e. over) there carried well.1 wired in
+        record { facts = (none_asked x (before ++ p.away) (happened_turns p.rest) start there_is here, rest.facts); parts = parts_does before turn later full p tt rest.parts }
+    along (sends_it {request = request} {more = later} sends more) x idle full before now start on of is truth at counted free s carried well wired =
         let turn : Turn = (asks line, asked (Some request)) in
         let next : Line = record start { waits = frame_of request } in
         let p = split_at line (does turn) later full on of in
         let here = since_away x before start (does turn) later full p s in
         let there = since_more x (before ++ p.away) (turn ∷ []) start next here (asks_it none_more) in
-        let rest = along more x false p.rest ((before ++ p.away) ++ turn ∷ []) (record now { waits = frame_of request }) next p.more_is p.of (behind before (does turn) later full p is) (true_does before turn later full p truth) quiet
+        let few = few_asked x (before ++ p.away) (happened_turns p.rest) request start (at_it before (does turn) later full p is) here in
+        let rest = along more x false p.rest ((before ++ p.away) ++ turn ∷ []) (record now { waits = frame_of request }) next p.more_is p.of (behind before (does turn) later full p is) (true_does before turn later full p truth)
         (ap (λ (l : Line). record l { waits = frame_of request }) at) counted (not_idle ((before ++ p.away) ++ turn ∷ [])) there carried well.1 wired in
-        record { facts = (rest.few tt, rest.facts); few = λ out. absurd out }
-    along (waits_it waits more) x idle full before now start on of is truth quiet at counted free s carried well wired =
-        along more x idle full before now start on of is truth quiet at counted free s carried well wired
-    along (takes_it {bytes = bytes} gives more) x idle full before now start on of is truth quiet at counted free s carried well wired =
+        record { facts = (few, rest.facts); parts = parts_does before turn later full p tt rest.parts }
+    along (waits_it waits more) x idle full before now start on of is truth at counted free s carried well wired =
+        along more x idle full before now start on of is truth at counted free s carried well wired
+    along (takes_it {bytes = bytes} gives more) x idle full before now start on of is truth at counted free s carried well wired =
         let later : Line = bus_after wire.meters carried.outcome carried.frame now in
         let given : Given bytes later start = record {
           outcome = carried.outcome;
@@ -448,62 +505,72 @@ module _ (budget line : ℕ) (state : State) (wire : Wire) (all : List Turn) (ch
           few = subst (λ (l : Line). row_after l.row carried.outcome < 3) at carried.few;
           now_is = ap (bus_after wire.meters carried.outcome carried.frame) at;
         } in
-        let rest = along more x idle full before later start on of is truth quiet given counted free s carried.then_on well wired in
-        record { facts = rest.facts; few = λ out. rest.few tt }
-    along (hears_it {moment = moment} {bytes = bytes} {answer = answer} {more = later} more) x idle full before now start on of is truth quiet at counted free s carried well wired =
+        along more x idle full before later start on of is truth given counted free s carried.then_on well wired
+    along (hears_it {moment = moment} {bytes = bytes} {answer = answer} {more = later} more) x idle full before now start on of is truth at counted free s carried well wired =
         let turn : Turn = (hears line moment bytes, heard answer) in
         let p = split_at line (does turn) later full on of in
         hears_one x now start idle moment bytes answer before later full at counted well.0 is s p (λ next now_is counted_next there.
-        along more x false p.rest ((before ++ p.away) ++ turn ∷ []) now next p.more_is p.of (behind before (does turn) later full p is) (true_does before turn later full p truth) quiet now_is counted_next (not_idle ((before ++ p.away) ++ turn ∷ [])) there carried well.1 wired)
-    along {first = t} (stands_by {stored = stored} {more = later} more) x idle full before now start on of is truth quiet at counted free s carried well wired =
+        along more x false p.rest ((before ++ p.away) ++ turn ∷ []) now next p.more_is p.of (behind before (does turn) later full p is) (true_does before turn later full p truth) now_is counted_next (not_idle ((before ++ p.away) ++ turn ∷ [])) there carried well.1 wired)
+    along {first = t} (stands_by {stored = stored} {more = later} more) x idle full before now start on of is truth at counted free s carried well wired =
         let turn : Turn = (commits, committed stored) in
         let p = split_at line (does turn) later full on of in
-        commits_one x t.request start idle stored before later full well.0 is free s p (λ still there.
-        along more x idle p.rest ((before ++ p.away) ++ turn ∷ []) now start p.more_is p.of (behind before (does turn) later full p is) (true_does before turn later full p truth) quiet at counted still there carried well.1 wired)
-    along (tells_it {told = told} {more = later} other more) x idle full before now start on of is truth quiet at counted free s carried well wired =
+        commits_one x (asks_at t.request start) start idle stored before later full well.0 is free s p (λ still there.
+        along more x idle p.rest ((before ++ p.away) ++ turn ∷ []) now start p.more_is p.of (behind before (does turn) later full p is) (true_does before turn later full p truth) at counted still there carried well.1 wired)
+    along (tells_it {told = told} {more = later} other more) x idle full before now start on of is truth at counted free s carried well wired =
         let h : Happening = tells line told in
         let p = split_at line h later full on of in
         let there = since_more x (before ++ p.away) [] start start (since_away x before start h later full p s) none_more in
         let told_here = true_away before h later full p truth in
         let free_here : idle ≡ true → IsFree (before ++ p.away) = λ e. free_away before h later full p is (free e) in
         let fact = told_fact x idle told (before ++ p.away) (happened_turns p.rest) start (at_it before h later full p is) (since_away x before start h later full p s) free_here told_here.0 told_here.1 in
-        let rest = along more x idle p.rest ((before ++ p.away) ++ []) now start p.more_is p.of (behind before h later full p is) (true_tells before told later full p truth) quiet at counted (free_told told before later full idle is free p) there carried well.1 wired in
-        record { facts = (fact, rest.facts); few = rest.few }
-    along (loses_it lost more) x idle full before now start on of is truth quiet at counted free s carried well wired = absurd carried
+        let rest = along more x idle p.rest ((before ++ p.away) ++ []) now start p.more_is p.of (behind before h later full p is) (true_tells before told later full p truth) at counted (λ e. free_told told before later full is (free e) p) there carried well.1 wired in
+        record { facts = (fact, rest.facts); parts = parts_tells before told later full p rest.parts }
+    along (loses_it lost more) x idle full before now start on of is truth at counted free s carried well wired = absurd carried
 
     -- before the first start
     pub along_first : {first last : Talk B} {on : List Happening} (talk : Talks g line first on last) (n : ℕ) (idle : Bool) (full : List Happening) (before : List Turn) (now : Line) → on ≡ happened_on line full → AreOfLines full → all ≡ before ++ happened_turns full → AreTrueAt before full
-        → last.request ≡ Quiet → length now.positions ≡ length wire.meters → (idle ≡ true → session_of (leads (opened state) before) line ≡ None) → IsCarried wire.meters now talk → AllByRecursion IsSuppliedIn on → AllByRecursion (IsWiredOn line state wire) (starts_in on) → Facts (λ (x : Identity). WasRead line state wire all x) (λ (x : Identity) (serial : ℕ). WasNew line state wire all x serial) None n idle on
-    along_first rests n idle full before now on of is truth quiet counted free carried well wired = tt
-    along_first (settles_it unready settles more) n idle full before now on of is truth quiet counted free carried well wired = along_first more n idle full before now on of is truth quiet counted free carried well wired
-    along_first (begins {meter = y} {answer = answer} {more = later} ready more) n idle full before now on of is truth quiet counted free carried well wired =
-        let h : Happening = does (starts line y, started answer) in
-        let p = split_at line h later full on of in
+        → length now.positions ≡ length wire.meters → session_of (leads (opened state) before) line ≡ None → IsCarried wire.meters now talk → AllByRecursion IsSuppliedIn on → AllByRecursion (IsWiredOn line state wire) (starts_in on)
+        → Facts (λ (x : Identity). WasRead line state wire all x) (λ (x : Identity) (serial : ℕ). WasNew line state wire all x serial) None n idle on × PartsIn line wire (leads (opened state) before) (happened_turns full)
+    along_first rests n idle full before now on of is truth counted free carried well wired = (tt, parts_none line wire (core_at before) (happened_turns full) (none_on line full on of))
+    along_first (settles_it unready settles more) n idle full before now on of is truth counted free carried well wired = along_first more n idle full before now on of is truth counted free carried well wired
+    along_first (begins {meter = y} {answer = answer} {more = later} ready more) n idle full before now on of is truth counted free carried well wired =
+        let p = split_at line (does (starts line y, started answer)) later full on of in
         let first : Line = bus_at_first now.positions in
-        starts_one None n idle y answer before later full now is truth counted free p wired.0 (λ there truly since.
-        (along more y false p.rest ((before ++ p.away) ++ start_of y ∷ []) first first p.more_is p.of there truly quiet refl counted (not_idle ((before ++ p.away) ++ start_of y ∷ [])) since carried well.1 wired.1).facts)
-    along_first (has_none {more = later} more) n idle full before now on of is truth quiet counted free carried well wired =
+        let one = starts_one None n idle y answer before later full now is truth counted (λ e. free) p wired.0 (λ there truly since.
+        along more y false p.rest ((before ++ p.away) ++ start_of y ∷ []) first first p.more_is p.of there truly refl counted (not_idle ((before ++ p.away) ++ start_of y ∷ [])) since carried well.1 wired.1) in
+        (one.facts, one.parts)
+    along_first (has_none {more = later} more) n idle full before now on of is truth counted free carried well wired =
         let turn : Turn = (asks line, asked None) in
         let p = split_at line (does turn) later full on of in
-        let still : idle ≡ true → IsFree ((before ++ p.away) ++ turn ∷ []) = λ e. asked_free (before ++ p.away) (free_away before (does turn) later full p is (free e)) in
-        (tt, along_first more n idle p.rest ((before ++ p.away) ++ turn ∷ []) now p.more_is p.of (behind before (does turn) later full p is) (true_does before turn later full p truth) quiet counted still carried well.1 wired)
-    along_first (sends_it {request = request} {more = later} sends more) n idle full before now on of is truth quiet counted free carried well wired =
+        let still = free_then (before ++ p.away) turn (free_away before (does turn) later full p is free) in
+        let rest = along_first more n idle p.rest ((before ++ p.away) ++ turn ∷ []) now p.more_is p.of (behind before (does turn) later full p is) (true_does before turn later full p truth) counted still carried well.1 wired in
+        ((tt, rest.0), parts_does before turn later full p tt rest.1)
+    along_first (sends_it {request = request} {more = later} sends more) n idle full before now on of is truth counted free carried well wired =
         let turn : Turn = (asks line, asked (Some request)) in
         let p = split_at line (does turn) later full on of in
-        (tt, along_first more (n + 1) false p.rest ((before ++ p.away) ++ turn ∷ []) (record now { waits = frame_of request }) p.more_is p.of (behind before (does turn) later full p is) (true_does before turn later full p truth) quiet counted (not_idle ((before ++ p.away) ++ turn ∷ [])) carried well.1 wired)
-    along_first (waits_it waits more) n idle full before now on of is truth quiet counted free carried well wired = along_first more n idle full before now on of is truth quiet counted free carried well wired
-    along_first (takes_it gives more) n idle full before now on of is truth quiet counted free carried well wired =
-        along_first more n idle full before (bus_after wire.meters carried.outcome carried.frame now) on of is truth quiet (counted_after carried.outcome carried.frame now counted) free carried.then_on well wired
-    along_first (hears_it {moment = moment} {bytes = bytes} {answer = answer} {more = later} more) n idle full before now on of is truth quiet counted free carried well wired =
+        let still = free_then (before ++ p.away) turn (free_away before (does turn) later full p is free) in
+        let rest = along_first more (n + 1) false p.rest ((before ++ p.away) ++ turn ∷ []) (record now { waits = frame_of request }) p.more_is p.of (behind before (does turn) later full p is) (true_does before turn later full p truth) counted still carried well.1 wired in
+        ((tt, rest.0), parts_does before turn later full p tt rest.1)
+    along_first (waits_it waits more) n idle full before now on of is truth counted free carried well wired = along_first more n idle full before now on of is truth counted free carried well wired
+    along_first (takes_it gives more) n idle full before now on of is truth counted free carried well wired =
+        along_first more n idle full before (bus_after wire.meters carried.outcome carried.frame now) on of is truth (counted_after carried.outcome carried.frame now counted) free carried.then_on well wired
+    along_first (hears_it {moment = moment} {bytes = bytes} {answer = answer} {more = later} more) n idle full before now on of is truth counted free carried well wired =
         let turn : Turn = (hears line moment bytes, heard answer) in
         let p = split_at line (does turn) later full on of in
-        (tt, along_first more n false p.rest ((before ++ p.away) ++ turn ∷ []) now p.more_is p.of (behind before (does turn) later full p is) (true_does before turn later full p truth) quiet counted (not_idle ((before ++ p.away) ++ turn ∷ [])) carried well.1 wired)
-    along_first (stands_by {stored = stored} {more = later} more) n idle full before now on of is truth quiet counted free carried well wired =
+        let here = free_away before (does turn) later full p is free in
+        let still = free_then (before ++ p.away) turn (hears_free (core_at (before ++ p.away)) line moment bytes answer here) in
+        let rest = along_first more n false p.rest ((before ++ p.away) ++ turn ∷ []) now p.more_is p.of (behind before (does turn) later full p is) (true_does before turn later full p truth) counted still carried well.1 wired in (
+          facts_of_none n idle moment bytes answer later rest.0,
+          parts_does before turn later full p (part_of_none (before ++ p.away) moment bytes here) (cut_of_none moment bytes answer (Parts ((before ++ p.away) ++ turn ∷ []) p.rest) rest.1),
+        )
+    along_first (stands_by {stored = stored} {more = later} more) n idle full before now on of is truth counted free carried well wired =
         let turn : Turn = (commits, committed stored) in
         let p = split_at line (does turn) later full on of in
-        (tt, along_first more n idle p.rest ((before ++ p.away) ++ turn ∷ []) now p.more_is p.of (behind before (does turn) later full p is) (true_does before turn later full p truth) quiet counted (free_commit stored before later full idle well.0 is free p) carried well.1 wired)
-    along_first (tells_it {told = told} {more = later} other more) n idle full before now on of is truth quiet counted free carried well wired =
+        let rest = along_first more n idle p.rest ((before ++ p.away) ++ turn ∷ []) now p.more_is p.of (behind before (does turn) later full p is) (true_does before turn later full p truth) counted (free_commit stored before later full well.0 is free p) carried well.1 wired in
+        ((tt, rest.0), parts_does before turn later full p tt rest.1)
+    along_first (tells_it {told = told} {more = later} other more) n idle full before now on of is truth counted free carried well wired =
         let h : Happening = tells line told in
         let p = split_at line h later full on of in
-        (tt, along_first more n idle p.rest ((before ++ p.away) ++ []) now p.more_is p.of (behind before h later full p is) (true_tells before told later full p truth) quiet counted (free_told told before later full idle is free p) carried well.1 wired)
-    along_first (loses_it lost more) n idle full before now on of is truth quiet counted free carried well wired = absurd carried
+        let rest = along_first more n idle p.rest ((before ++ p.away) ++ []) now p.more_is p.of (behind before h later full p is) (true_tells before told later full p truth) counted (free_told told before later full is free p) carried well.1 wired in
+        ((tt, rest.0), parts_tells before told later full p rest.1)
+    along_first (loses_it lost more) n idle full before now on of is truth counted free carried well wired = absurd carried

@@ -4,6 +4,7 @@ use Rattle.std.proofs.Common.{◌≡◌, ℕ, ◌+◌, ◌<◌, Bool, true, fals
 use Rattle.dc_address.specs.declared.identity.Identity.{Identity}
 use Rattle.dc_change.specs.State.{State, MeterRow, row_of}
 use Rattle.dc_concentrator.specs.declared.fault.HearFault.{HearFault}
+use Rattle.dc_concentrator.specs.declared.fault.HearFault.TheVariants.{Full}
 use Rattle.dc_concentrator.specs.declared.fault.StartFault.{StartFault}
 use Rattle.dc_concentrator.specs.declared.line_heard.LineHeard.{LineHeard}
 use Rattle.dc_concentrator.specs.Core.{present, opened, session_of}
@@ -15,7 +16,7 @@ use Rattle.dc_progress.specs.Beside.{IsNoFailure, HasRead}
 use Rattle.dc_poll.specs.Happening.{Happening, does, tells}
 use Rattle.dc_poll.specs.declared.event.Event.{Event as Told}
 use Rattle.dc_poll.specs.declared.event.Event.TheVariants.{Read as told_read}
-use Rattle.dc_poll_progress.specs.Carried.{Wire, IsSupplied}
+use Rattle.dc_poll_progress.specs.Carried.{Wire}
 use Rattle.dc_poll_progress.specs.Every.{IsWired}
 
 -- requests of one readout, at most
@@ -27,9 +28,8 @@ pub record IsWiredOn (line : ℕ) (state : State) (wire : Wire) (identity : Iden
   pub place : ℕ
   pub meter : Meter
   pub row : MeterRow
-  pub parts : List (List ℕ)
   pub who : meter.identity ≡ identity
-  pub there : IsThere wire.meters wire.positions place meter parts
+  pub there : IsThere wire.meters wire.positions place meter (wire.parts identity)
   pub registered : row_of identity state ≡ Some row
   pub address : row.address ≡ meter.address
   pub on_line : row.line ≡ line
@@ -39,7 +39,6 @@ wired_of line state wire identity w = record {
   place = w.place;
   meter = w.meter;
   row = w.row;
-  parts = w.parts;
   who = w.who;
   there = w.there;
   registered = w.registered;
@@ -51,7 +50,6 @@ wired_on line state wire identity w on = record {
   place = w.place;
   meter = w.meter;
   row = w.row;
-  parts = w.parts;
   who = w.who;
   there = w.there;
   registered = w.registered;
@@ -71,7 +69,7 @@ pub record WasRead (line : ℕ) (state : State) (wire : Wire) (all : List Turn) 
   pub registered : row_of x (present (leads (opened state) front)) ≡ Some row
   pub free : session_of (leads (opened state) (front ++ (starts line x, started (Ok tt)) ∷ since)) line ≡ None
   pub settled : (leads (opened state) (front ++ (starts line x, started (Ok tt)) ∷ since)).pending ≡ []
-  pub read : HasRead x row wired.parts (present (leads (opened state) front))
+  pub read : HasRead x row (wire.parts x) (present (leads (opened state) front))
       (leads (opened state) (front ++ (starts line x, started (Ok tt)) ∷ since)).committed
 
 -- this is the serial of a reading in which its readout ended
@@ -114,11 +112,14 @@ StartFact (Err fault) false = Unit {0}
 abbrev pub HearFact : Option Identity → Result LineHeard HearFault → Type 0
 HearFact None answer = Unit {0}
 HearFact (Some x) (Ok answer) = IsNoFailure (heard (Ok answer))
+HearFact (Some x) (Err Full) = Unit {0}
 HearFact (Some x) (Err fault) = ⊥
 
--- after a refused start, where a readout may go on, nothing is said
+-- after a refused start, where a readout may go on, and after a telegram for which the register has no room, nothing
+-- is said
 abbrev pub After : Event → Answer → Bool → Type 0 → Type 0
 After (starts line x) (started (Err fault)) false rest = Unit {0}
+After (hears line moment bytes) (heard (Err Full)) idle rest = Unit {0}
 After event answer idle rest = rest
 
 -- what is told of a meter's reading is of a new one
@@ -147,8 +148,3 @@ module _ (was_read : Identity → Type 0) (new : Identity → ℕ → Type 0) wh
   Facts m n idle (does turn ∷ more) =
       Fact m n idle turn.0 turn.1 × After turn.0 turn.1 idle (Facts (meter_then m turn.0) (asks_then n turn.0 turn.1) (idle_then m idle turn.0 turn.1) more)
   Facts m n idle (tells line told ∷ more) = TellFact new m idle told × Facts m n idle more
-
--- nothing is wanting on the line
-abbrev pub IsSuppliedIn : Happening → Type 0
-IsSuppliedIn (does turn) = IsSupplied turn.1
-IsSuppliedIn (tells line told) = Unit {0}

@@ -5,6 +5,8 @@ use Rattle.dc_address.specs.declared.identity.Identity.{Identity}
 use Rattle.dc_concentrator.specs.declared.line_heard.LineHeard.{LineHeard}
 use Rattle.dc_concentrator.specs.declared.line_heard.LineHeard.TheVariants.{Again, Ready, Accepted, Failed as HasFailed}
 use Rattle.dc_concentrator.specs.declared.fault.CommitFault.{CommitFault}
+use Rattle.dc_concentrator.specs.declared.fault.HearFault.{HearFault}
+use Rattle.dc_concentrator.specs.declared.fault.HearFault.TheVariants.{Full, Idle, NoLine, NoMemory, PendingFull, Stopped}
 use Rattle.dc_concentrator.specs.Event.{hears, commits, heard, committed}
 use Rattle.dc_poll.specs.Happening.{Happening, does, tells}
 use Rattle.dc_poll.specs.declared.event.Event.{Event as Told}
@@ -16,7 +18,8 @@ use Rattle.dc_poll.specs.declared.end.End.TheVariants.{Read, Failed, Refused}
 use Rattle.dc_poll.specs.declared.phase.Phase.{Phase}
 use Rattle.dc_poll.specs.declared.phase.Phase.TheVariants.{Free, Busy, Pending, Over}
 use Rattle.dc_poll.specs.Queue.{Part, part, Goes, GoesWell, IsWellTold, IsToldAs, IsGoingOn, most_asks, stays, passes_on, starts_it, is_refused, asks_it, has_no_request, is_given_up, goes_on, is_accepted, is_put_off, fails_at_last, is_faulty, is_stored, is_unstored, stands_by, is_told, loses_it}
-use Rattle.dc_poll_progress.proofs.Facts.{Facts, IsToldNew, IsSuppliedIn, most_requests}
+use Rattle.dc_poll_progress.proofs.Facts.{Facts, HearFact, IsToldNew, most_requests}
+use Rattle.dc_poll_progress.proofs.Supplied.{IsRoomy, IsRoomyIn, IsSuppliedIn}
 
 abbrev pub failed_of : Part → List Identity
 failed_of (part left failed pass phase) = failed
@@ -83,7 +86,7 @@ module _ (was_read : Identity → Type 0) (new : Identity → ℕ → Type 0) wh
   at_end (part left failed pass phase) end = record { well = tt; told = tt; reads = subst (AllByRecursion was_read) (sym end.0) tt }
 
   -- what happens on the line and isn't of the readout
-  past : (left : List Identity) (phase : Phase) (h : Happening) (on : List Happening) → ((m : Option Identity) (n : ℕ) (idle : Bool) → Facts was_read new m n idle (h ∷ on) → Facts was_read new m n idle on) → At left phase (h ∷ on) → At left phase on
+  pub past : (left : List Identity) (phase : Phase) (h : Happening) (on : List Happening) → ((m : Option Identity) (n : ℕ) (idle : Bool) → Facts was_read new m n idle (h ∷ on) → Facts was_read new m n idle on) → At left phase (h ∷ on) → At left phase on
   past left Free h on step at = record { meter = at.meter; asks_before = at.asks_before; facts = step at.meter at.asks_before true at.facts }
   past [] (Busy n) h on step at = absurd at
   past (m ∷ left) (Busy n) h on step at = record { asks_before = at.asks_before; count = at.count; few = at.few; idle = at.idle; facts = step (Some m) at.asks_before at.idle at.facts }
@@ -93,7 +96,7 @@ module _ (was_read : Identity → Type 0) (new : Identity → ℕ → Type 0) wh
   past left (Over (Failed m why)) h on step at = absurd at
   past left (Over (Refused m refusal)) h on step at = absurd at
 
-  tells_past : (line : ℕ) (old : Part) (told : Told) (on : List Happening) → AtPart old (tells line told ∷ on) → AtPart old on
+  pub tells_past : (line : ℕ) (old : Part) (told : Told) (on : List Happening) → AtPart old (tells line told ∷ on) → AtPart old on
   tells_past line (part left failed pass phase) told on at = past left phase (tells line told) on (λ m n idle facts. facts.1) at
 
   lost_done : (line : ℕ) (old : Part) (on : List Happening) → DonePart old on → DonePart old (tells line (is_lost line) ∷ on)
@@ -120,7 +123,7 @@ module _ (was_read : Identity → Type 0) (new : Identity → ℕ → Type 0) wh
   ends_new (Failed meter why) line told on says at = absurd at
   ends_new (Refused meter refusal) line told on says at = absurd at
 
-  ends_any : (end : End) (line : ℕ) (told : Told) (on : List Happening) → Ending end (tells line told ∷ on) → Any on
+  pub ends_any : (end : End) (line : ℕ) (told : Told) (on : List Happening) → Ending end (tells line told ∷ on) → Any on
   ends_any (Read meter) line told on at = record { meter = Some meter; asks_before = at.asks_before; facts = at.facts.1 }
   ends_any (Failed meter why) line told on at = absurd at
   ends_any (Refused meter refusal) line told on at = absurd at
@@ -135,7 +138,19 @@ module _ (was_read : Identity → Type 0) (new : Identity → ℕ → Type 0) wh
   stored_well (Ok count) well = tt
   stored_well (Err fault) well = absurd well
 
-  pub follow : {tries line : ℕ} {old last : Part} {on : List Happening} → Goes tries line old on last → IsAtEnd last → failed_of old ≡ [] → AllByRecursion IsSuppliedIn on → AtPart old on → DonePart old on
+  -- nothing is wanting
+  abbrev pub IsFine : Happening → Type 0
+  IsFine h = IsSuppliedIn h × IsRoomyIn h
+
+  faultless : (x : Identity) (fault : HearFault) → HearFact (Some x) (Err fault) → IsRoomy (heard (Err fault)) → ⊥
+  faultless x Full fact roomy = roomy
+  faultless x NoLine fact roomy = fact
+  faultless x Idle fact roomy = fact
+  faultless x NoMemory fact roomy = fact
+  faultless x PendingFull fact roomy = fact
+  faultless x Stopped fact roomy = fact
+
+  pub follow : {tries line : ℕ} {old last : Part} {on : List Happening} → Goes tries line old on last → IsAtEnd last → failed_of old ≡ [] → AllByRecursion IsFine on → AtPart old on → DonePart old on
   follow {last = l} stays end none well at = at_end l end
   follow (passes_on less goes) end none well at = absurd cc
   follow (starts_it {meter = m} few goes) end none well at =
@@ -162,14 +177,14 @@ module _ (was_read : Identity → Type 0) (new : Identity → ℕ → Type 0) wh
       record { well = (tt, rest.well); told = (tt, rest.told); reads = rest.reads }
   follow (is_put_off less goes) end none well at = absurd at.facts.0
   follow (fails_at_last most goes) end none well at = absurd at.facts.0
-  follow (is_faulty goes) end none well at = absurd at.facts.0
+  follow (is_faulty {meter = m} {fault = fault} goes) end none well at = absurd (faultless m fault at.facts.0 well.0.1)
   follow (is_stored goes) end none well at =
       let rest = follow goes end none well.1 (record { asks_before = at.asks_before; count = at.count; few = at.few; idle = at.idle; facts = at.facts.1 }) in
       record { well = (tt, rest.well); told = (tt, rest.told); reads = rest.reads }
-  follow (is_unstored goes) end none well at = absurd well.0
+  follow (is_unstored goes) end none well at = absurd well.0.0
   follow (stands_by {left = left} {phase = phase} {stored = stored} {more = more} not goes) end none well at =
       let rest = follow goes end none well.1 (past left phase (does (commits, committed stored)) more (λ m n idle facts. facts.1) at) in
-      record { well = (stored_well stored well.0, rest.well); told = (tt, rest.told); reads = rest.reads }
+      record { well = (stored_well stored well.0.0, rest.well); told = (tt, rest.told); reads = rest.reads }
   follow {line = l} (is_told {end = e} {told = said} {more = more} says goes) end none well at =
       let rest = follow goes end none well.1 (ends_any e l said more at) in
       record { well = (ends_well e said (tells l said ∷ more) says at, rest.well); told = (ends_new e l said more says at, rest.told); reads = rest.reads }

@@ -18,7 +18,7 @@ use Rattle.dc_concentrator.specs.Transcript.{Turn, leads, IsChain}
 use Rattle.dc_progress.specs.Beside.{IsElsewhere, IsTakenUnlessFull}
 use Rattle.dc_progress.proofs.Others.{heard_line, places_differ, start_parts}
 use Rattle.dc_progress.proofs.Rounds.{get_settled}
-use Rattle.dc_poll_progress.specs.Carried.{IsSupplied}
+use Rattle.dc_poll_progress.proofs.Supplied.{IsSupplied}
 
 abbrev nobody : Option Summary
 nobody = None
@@ -74,13 +74,13 @@ start_ok true false true true e f g h = absurd cc
 
 -- ---- nor is an answer
 
-not_refused : (fault : HearFault) → IsTakenUnlessFull (Err fault) → IsSupplied (heard (Err fault)) → ⊥
-not_refused NoLine taken supplied = taken
-not_refused Idle taken supplied = taken
-not_refused Full taken supplied = supplied
-not_refused NoMemory taken supplied = taken
-not_refused PendingFull taken supplied = supplied
-not_refused Stopped taken supplied = taken
+not_refused : (fault : HearFault) → IsTakenUnlessFull (Err fault) → IsSupplied (heard (Err fault)) → fault ≡ Full
+not_refused NoLine taken supplied = absurd taken
+not_refused Idle taken supplied = absurd taken
+not_refused Full taken supplied = refl
+not_refused NoMemory taken supplied = absurd taken
+not_refused PendingFull taken supplied = absurd supplied
+not_refused Stopped taken supplied = absurd taken
 
 memory_wanting : (fault : HearFault) → ◌≡◌ {A = Result LineHeard HearFault} (Err fault) (Err NoMemory) → IsSupplied (heard (Err fault)) → ⊥
 memory_wanting NoLine e supplied = absurd cc
@@ -90,6 +90,12 @@ memory_wanting NoMemory e supplied = supplied
 memory_wanting PendingFull e supplied = absurd cc
 memory_wanting Stopped e supplied = absurd cc
 
-pub heard_ok : (right : Result LineHeard HearFault) (fault : HearFault) → IsTakenUnlessFull right → MayHear right (Err fault) → IsSupplied (heard (Err fault)) → ⊥
-heard_ok right fault taken (inl e) supplied = not_refused fault (subst IsTakenUnlessFull (sym e) taken) supplied
-heard_ok right fault taken (inr none) supplied = memory_wanting fault none.0 supplied
+-- but for want of room
+pub heard_full : (right : Result LineHeard HearFault) (fault : HearFault) → IsTakenUnlessFull right → MayHear right (Err fault) → IsSupplied (heard (Err fault)) → fault ≡ Full
+heard_full right fault taken (inl e) supplied = not_refused fault (subst IsTakenUnlessFull (sym e) taken) supplied
+heard_full right fault taken (inr none) supplied = absurd (memory_wanting fault none.0 supplied)
+
+-- a line without a readout stays so by an answer
+pub hears_free : (core : Core) (line moment : ℕ) (bytes : List ℕ) (answer : Result LineHeard HearFault) → session_of core line ≡ None → session_of (next core (hears line moment bytes) (heard answer)) line ≡ None
+hears_free core line moment bytes (Ok good) free = subst (λ (session : Option Summary). session_of (heard_on core line moment bytes session) line ≡ None) (sym free) free
+hears_free core line moment bytes (Err fault) free = free

@@ -6,6 +6,10 @@ pub mod Talked
 pub mod Lists
 -- what the turns of lines leave of a meter
 pub mod Kept
+-- a concentrator that has what it needs, but for room in the register
+pub mod Supplied
+-- each telegram that a line's session takes is the next of its meter's parts
+pub mod Parted
 -- what is known of each thing on a line that carries its talk
 pub mod Facts
 -- a line on which no readout goes on
@@ -14,6 +18,14 @@ pub mod Free
 pub mod Carried
 -- a queue whose line is served
 pub mod Following
+-- the meters of a queue are started in order
+pub mod Ordered
+-- sums over the lines
+pub mod Sums
+-- how much room a readout needs yet
+pub mod Spending
+-- no telegram is refused for want of room
+pub mod Rooms
 -- a meter that was read has one reading more
 pub mod New
 -- the turns of a poll, and what is pending after them
@@ -24,5 +36,7 @@ pub mod OwnLine
 pub mod Whole
 -- as many meters are counted as read as the queues have
 pub mod Counted
+-- a register whose row ROOM suffices has room (the law of specs/RoomRow)
+pub mod RoomRow
 -- every meter is read (for the theorem of specs/Every)
 pub mod Every

@@ -36,7 +36,7 @@ all_with P Q R (x ∷ xs) f a b = (f x a.0 b.0, all_with P Q R xs f a.1 b.1)
 abbrev pub AreOfLines : List Happening → Type 0
 AreOfLines happened = AllByRecursion IsOfLines (happened_turns happened)
 
-is_away : (line : ℕ) (turn : Turn) → IsOfLines turn → is_on line turn.0 ≡ false → IsElsewhere line turn.0
+pub is_away : (line : ℕ) (turn : Turn) → IsOfLines turn → is_on line turn.0 ≡ false → IsElsewhere line turn.0
 is_away line (starts other meter, answer) of off = λ e. (let on = eq-eqb other line e in let bad : true ≡ false = sym on ∙ off in cc)
 is_away line (asks other, answer) of off = λ e. (let on = eq-eqb other line e in let bad : true ≡ false = sym on ∙ off in cc)
 is_away line (hears other moment bytes, answer) of off = λ e. (let on = eq-eqb other line e in let bad : true ≡ false = sym on ∙ off in cc)
@@ -83,3 +83,17 @@ split_at line x more (tells other told ∷ full) is of = by (other == line) refl
     by false off again e =
         let p = again e in
         record { away = p.away; rest = p.rest; turns_are = p.turns_are; more_is = p.more_is; elsewhere = p.elsewhere; of = p.of; truly = λ core store t. p.truly core store t.2 }
+
+-- where nothing happens on the line, all turns are elsewhere
+pub none_on : (line : ℕ) (full : List Happening) → [] ≡ happened_on line full → AreOfLines full → AllByRecursion (λ (turn : Turn). IsElsewhere line turn.0) (happened_turns full)
+none_on line [] is of = tt
+none_on line (does turn ∷ full) is of = by (is_on line turn.0) refl (λ e. none_on line full e of.1) is
+  where
+    by : (b : Bool) → is_on line turn.0 ≡ b → ([] ≡ happened_on line full → AllByRecursion (λ (t : Turn). IsElsewhere line t.0) (happened_turns full)) → [] ≡ (if b then does turn ∷ [] else []) ++ happened_on line full → IsElsewhere line turn.0 × AllByRecursion (λ (t : Turn). IsElsewhere line t.0) (happened_turns full)
+    by true on again e = absurd cc
+    by false off again e = (is_away line turn of.0 off, again e)
+none_on line (tells other told ∷ full) is of = by (other == line) (λ e. none_on line full e of) is
+  where
+    by : (b : Bool) → ([] ≡ happened_on line full → AllByRecursion (λ (t : Turn). IsElsewhere line t.0) (happened_turns full)) → [] ≡ (if b then tells other told ∷ [] else []) ++ happened_on line full → AllByRecursion (λ (t : Turn). IsElsewhere line t.0) (happened_turns full)
+    by true again e = absurd cc
+    by false again e = again e

@@ -1,11 +1,12 @@
 -- The turns of a poll whose concentrator refuses nothing: they are of lines, and all is committed where a line has no
 -- request any more and after the last of them.
-use Rattle.std.proofs.Common.{◌≡◌, ◌⊎◌, inl, inr, ⊎_elim, ℕ, Bool, true, false, Option, Some, None, Ok, Err, List, [], ◌∷◌, ◌++◌, refl, sym, ◌∙◌, ap, subst}
+use Rattle.std.proofs.Common.{◌≡◌, ◌⊎◌, inl, inr, ⊎_elim, ℕ, Bool, true, false, Option, Some, None, Ok, Err, List, [], ◌∷◌, ◌++◌, append_assoc, refl, sym, ◌∙◌, ap, subst}
 use Rattle.std.specs.Prelude.{if◌then◌else◌, ◌==◌}
 use Rattle.std.specs.List.{AllByRecursion}
 use Rattle.std.proofs.lemmas.List.Elements.{recursion_from_All}
 use Rattle.dc_address.specs.declared.identity.Identity.{Identity}
 use Rattle.dc_concentrator.specs.declared.fault.CommitFault.{CommitFault}
+use Rattle.dc_concentrator.specs.declared.fault.HearFault.TheVariants.{Full, Idle, NoLine, NoMemory, PendingFull, Stopped}
 use Rattle.dc_concentrator.specs.declared.line_heard.LineHeard.TheVariants.{Again, Ready, Accepted, Failed}
 use Rattle.dc_concentrator.specs.Core.{Core}
 use Rattle.dc_concentrator.specs.Event.{Event, Answer, starts, asks, hears, commits, offices, started, asked, heard, committed, replied, unread, unstored, repeated, refused, shown, out_of_memory, obeyed, uncommitted}
@@ -17,10 +18,11 @@ use Rattle.dc_poll.specs.Happening.{Happening, does, tells, is_on, happened_on, 
 use Rattle.dc_poll.specs.Keeping.{InRounds, IsAsking, IsAskingBy, IsCommit, IsHearing, IsHearingBy, IsRound, IsSettled, Store, all_kept, at_first, and_round, behind_answer, some_wait, store_behind, unkept}
 use Rattle.dc_poll.specs.Polls.{EndsIn}
 use Rattle.dc_poll.specs.Queue.{starts_in}
+use Rattle.dc_poll.proofs.Finding.{answers_find_room}
 use Rattle.dc_poll.proofs.Leaving.{settled_at}
-use Rattle.dc_poll.proofs.Meanings.{none_waits}
-use Rattle.dc_poll_progress.specs.Carried.{IsSupplied, NothingIsWanting}
-use Rattle.dc_poll_progress.proofs.Facts.{IsSuppliedIn}
+use Rattle.dc_poll.proofs.Meanings.{none_pends}
+use Rattle.dc_poll_progress.specs.Carried.{IsBacked}
+use Rattle.dc_poll_progress.proofs.Supplied.{AreRoomy, AreSupplied, IsRoomyIn, IsSupplied, IsSuppliedIn}
 use Rattle.dc_poll_progress.proofs.Kept.{starts_by, starts_on}
 use Rattle.dc_poll_progress.proofs.Lists.{all_as, all_both, all_left, all_right}
 
@@ -49,7 +51,7 @@ round_of moment turns one =
     (all_both IsOfLines one.asking (one.hearing ++ one.last)
     (all_as IsAsking IsOfLines one.asking (λ t is. asking_of t.0 t.1 is) (recursion_from_All IsAsking one.asking one.are_asking))
     (all_both IsOfLines one.hearing one.last
-    (all_as (IsHearing moment) IsOfLines one.hearing (λ t is. hearing_of moment t.0 t.1 is) (recursion_from_All (IsHearing moment) one.hearing one.are_hearing))
+    (all_as (IsHearing moment) IsOfLines one.hearing (λ t is. hearing_of moment t.0 t.1 is) (recursion_from_All (IsHearing moment) one.hearing one.are_heard.are_hearing))
     (commit_of one.last one.is_commit)))
 
 pub rounds_of_lines : {T : Type 0} {told : T → ℕ → T → Type 0} {passes : T → Bool → T → Type 0} {first last : T} {turns : List Turn} → InRounds told passes first turns last → AllByRecursion IsOfLines turns
@@ -58,37 +60,37 @@ rounds_of_lines (and_round {moment = moment} {turns = turns} {more = more} a kep
 
 -- ---- what is pending
 
--- an answer leaves what is known of the store, or says it anew
-abbrev IsSaying : Answer → Type 0
-IsSaying answer = ((store : Store) → behind_answer store answer ≡ store) ⊎ ((one other : Store) → behind_answer one answer ≡ behind_answer other answer)
+-- each answer finds room among the pending changes
+one_supplied : (budget : ℕ) (core : Core) (event : Event) (answer : Answer) → May budget core event answer → IsBacked answer → ((line moment : ℕ) (bytes : List ℕ) → event ≡ hears line moment bytes → answer ≡ heard (Err PendingFull) → ⊥) → IsSupplied answer
+one_supplied budget core event (started done) may backed never = tt
+one_supplied budget core event (asked request) may backed never = tt
+one_supplied budget core event (heard (Ok good)) may backed never = tt
+one_supplied budget core (hears line moment bytes) (heard (Err PendingFull)) may backed never = never line moment bytes refl refl
+one_supplied budget core (starts line meter) (heard (Err PendingFull)) may backed never = may
+one_supplied budget core (asks line) (heard (Err PendingFull)) may backed never = may
+one_supplied budget core commits (heard (Err PendingFull)) may backed never = may
+one_supplied budget core (offices text) (heard (Err PendingFull)) may backed never = may
+one_supplied budget core event (heard (Err NoMemory)) may backed never = backed
+one_supplied budget core event (heard (Err NoLine)) may backed never = tt
+one_supplied budget core event (heard (Err Idle)) may backed never = tt
+one_supplied budget core event (heard (Err Full)) may backed never = tt
+one_supplied budget core event (heard (Err Stopped)) may backed never = tt
+one_supplied budget core event (committed (Ok count)) may backed never = tt
+one_supplied budget core event (committed (Err fault)) may backed never = backed
+one_supplied budget core event (replied reply) may backed never = tt
 
-says : (answer : Answer) → IsSaying answer
-says (started done) = inl (λ store. refl)
-says (asked request) = inl (λ store. refl)
-says (heard (Ok Again)) = inl (λ store. refl)
-says (heard (Ok Ready)) = inl (λ store. refl)
-says (heard (Ok (Accepted number more))) = inr (λ one other. refl)
-says (heard (Ok (Failed why))) = inl (λ store. refl)
-says (heard (Err fault)) = inl (λ store. refl)
-says (committed (Ok count)) = inr (λ one other. refl)
-says (committed (Err fault)) = inr (λ one other. refl)
-says (replied unread) = inl (λ store. refl)
-says (replied (unstored fault)) = inr (λ one other. refl)
-says (replied (repeated number)) = inr (λ one other. refl)
-says (replied (refused code)) = inr (λ one other. refl)
-says (replied (shown text)) = inr (λ one other. refl)
-says (replied out_of_memory) = inr (λ one other. refl)
-says (replied (obeyed number change)) = inr (λ one other. refl)
-says (replied (uncommitted change fault)) = inr (λ one other. refl)
-
--- all is kept, whatever was before
-kept_from : (turns : List Turn) (store : Store) → store_behind some_wait turns ≡ all_kept → store_behind store turns ≡ all_kept
-kept_from [] store is = absurd cc
-kept_from (turn ∷ turns) store is = ⊎_elim
-    (λ (same : (s : Store) → behind_answer s turn.1 ≡ s).
-    ap (λ (s : Store). store_behind s turns) (same store) ∙ kept_from turns store (ap (λ (s : Store). store_behind s turns) (sym (same some_wait)) ∙ is))
-    (λ (anew : (one other : Store) → behind_answer one turn.1 ≡ behind_answer other turn.1). ap (λ (s : Store). store_behind s turns) (anew store some_wait) ∙ is)
-    (says turn.1)
+pub are_supplied : {T : Type 0} (told : T → ℕ → T → Type 0) (passes : T → Bool → T → Type 0) (first last : T) (budget : ℕ) (core : Core) (front turns : List Turn) → core.pending ≡ [] → IsChain budget core (front ++ turns) → InRounds told passes first (front ++ turns) last
+    → AllByRecursion (λ (turn : Turn). IsBacked turn.1) turns → AllByRecursion (λ (turn : Turn). IsSupplied turn.1) turns
+are_supplied told passes first last budget core front [] empty chain rounds backed = tt
+are_supplied told passes first last budget core front (turn ∷ turns) empty chain rounds backed =
+    let may = (chain_parts budget core front (turn ∷ turns) chain).1.0 in
+    let more : front ++ turn ∷ turns ≡ (front ++ turn ∷ []) ++ turns = sym (append_assoc front (turn ∷ []) turns) in (
+      one_supplied budget (leads core front) turn.0 turn.1 may backed.0 (λ line moment bytes e f.
+          let same : turn ≡ (hears line moment bytes, heard (Err PendingFull)) = ap (λ (event : Event). (event, turn.1)) e ∙ ap (λ (answer : Answer). (hears line moment bytes, answer)) f in
+          (answers_find_room told passes budget core first last front turns line moment bytes (Err PendingFull) empty
+          (subst (λ (t : Turn). IsChain budget core (front ++ t ∷ turns)) same chain) (subst (λ (t : Turn). InRounds told passes first (front ++ t ∷ turns) last) same rounds)).1 refl),
+      are_supplied told passes first last budget core (front ++ turn ∷ []) turns empty (subst (IsChain budget core) more chain) (subst (λ (ts : List Turn). InRounds told passes first ts last) more rounds) backed.1,
+    )
 
 -- no commit returned a fault
 not_unkept : (budget : ℕ) (core : Core) (event : Event) (answer : Answer) (store : Store) → IsOfLines (event, answer) → May budget core event answer → IsSupplied answer → (store ≡ unkept → ⊥) → behind_answer store answer ≡ unkept → ⊥
@@ -117,10 +119,6 @@ settled_kept all_kept settled not = refl
 settled_kept some_wait settled not = absurd settled
 settled_kept unkept settled not = absurd (not refl)
 
--- where all is kept after some turns, nothing is pending
-pub none_pends : (budget : ℕ) (core : Core) (turns : List Turn) → core.pending ≡ [] → IsChain budget core turns → store_behind some_wait turns ≡ all_kept → (leads core turns).pending ≡ []
-none_pends budget core turns empty chain is = none_waits budget core turns empty chain (kept_from turns all_kept is)
-
 -- where a line has no request any more, nothing is pending
 pub none_pends_at : {T : Type 0} {told : T → ℕ → T → Type 0} {passes : T → Bool → T → Type 0} {first last : T} {turns : List Turn} (budget : ℕ) (core : Core) (line : ℕ) → core.pending ≡ [] → IsChain budget core turns → AllByRecursion IsOfLines turns → AllByRecursion (λ (turn : Turn). IsSupplied turn.1) turns
     → InRounds told passes first turns last → (front back : List Turn) → turns ≡ front ++ (asks line, asked None) ∷ back → (leads core front).pending ≡ []
@@ -141,7 +139,7 @@ no_fault (Some fault) turns ends well =
 
 -- ---- on one line
 
-pub supplied_on : (line : ℕ) (happened : List Happening) → NothingIsWanting happened → AllByRecursion IsSuppliedIn (happened_on line happened)
+pub supplied_on : (line : ℕ) (happened : List Happening) → AreSupplied happened → AllByRecursion IsSuppliedIn (happened_on line happened)
 supplied_on line [] well = tt
 supplied_on line (does turn ∷ happened) well = by (is_on line turn.0) (supplied_on line happened well.1)
   where
@@ -151,6 +149,19 @@ supplied_on line (does turn ∷ happened) well = by (is_on line turn.0) (supplie
 supplied_on line (tells other told ∷ happened) well = by (other == line) (supplied_on line happened well)
   where
     by : (b : Bool) → AllByRecursion IsSuppliedIn (happened_on line happened) → AllByRecursion IsSuppliedIn ((if b then tells other told ∷ [] else []) ++ happened_on line happened)
+    by true rest = (tt, rest)
+    by false rest = rest
+
+pub roomy_on : (line : ℕ) (happened : List Happening) → AreRoomy happened → AllByRecursion IsRoomyIn (happened_on line happened)
+roomy_on line [] roomy = tt
+roomy_on line (does turn ∷ happened) roomy = by (is_on line turn.0) (roomy_on line happened roomy.1)
+  where
+    by : (b : Bool) → AllByRecursion IsRoomyIn (happened_on line happened) → AllByRecursion IsRoomyIn ((if b then does turn ∷ [] else []) ++ happened_on line happened)
+    by true rest = (roomy.0, rest)
+    by false rest = rest
+roomy_on line (tells other told ∷ happened) roomy = by (other == line) (roomy_on line happened roomy)
+  where
+    by : (b : Bool) → AllByRecursion IsRoomyIn (happened_on line happened) → AllByRecursion IsRoomyIn ((if b then tells other told ∷ [] else []) ++ happened_on line happened)
     by true rest = (tt, rest)
     by false rest = rest
 

@@ -19,7 +19,7 @@ use Rattle.dc_poll.specs.declared.event.Event.TheVariants.{Late as came_late, En
 use Rattle.dc_poll.specs.Queue.{GoesWell, IsWell, IsWellTold}
 use Rattle.dc_poll.specs.Round.{IsCommitTurn, IsOver, meters_left}
 use Rattle.dc_poll.specs.declared.station.Station.{Station}
-use Rattle.dc_poll_progress.specs.Carried.{IsSupplied, NothingIsWanting}
+use Rattle.dc_poll_progress.proofs.Supplied.{AreSupplied, IsSupplied}
 use Rattle.dc_poll_progress.proofs.Lists.{AreOfLines, all_left, all_right}
 
 -- ---- where each line goes well, all does
@@ -60,7 +60,7 @@ turn_well budget core (hears line moment bytes) answer happened of may well each
 turn_well budget core commits answer happened of may well each = commit_well budget core answer may well
 turn_well budget core (offices text) answer happened of may well each = absurd of
 
-pub all_well : (budget : ℕ) (core : Core) (happened : List Happening) → AreOfLines happened → IsChain budget core (happened_turns happened) → NothingIsWanting happened → ((line : ℕ) → IsWellOn line happened) → AllByRecursion GoesWell happened
+pub all_well : (budget : ℕ) (core : Core) (happened : List Happening) → AreOfLines happened → IsChain budget core (happened_turns happened) → AreSupplied happened → ((line : ℕ) → IsWellOn line happened) → AllByRecursion GoesWell happened
 all_well budget core [] of chain well each = tt
 all_well budget core (does turn ∷ happened) of chain well each =
     (turn_well budget core turn.0 turn.1 happened of.0 chain.0 well.0 each, all_well budget (next core turn.0 turn.1) happened of.1 chain.1 well.1 (λ line. rest_well line (does turn) happened (each line)))

@@ -2,11 +2,12 @@
 -- what a concentrator needs meanwhile.
 use Rattle.std.specs.Prelude.{ℕ, Err, List}
 use Rattle.std.specs.List.{AllByRecursion}
+use Rattle.dc_address.specs.declared.identity.Identity.{Identity}
 use Rattle.dc_frame.specs.Reading.{frame_of}
 use Rattle.dc_world.specs.Meter.{Meter, Position}
 use Rattle.dc_concentrator.specs.Event.{Answer, heard, committed}
 use Rattle.dc_concentrator.specs.Transcript.{Turn}
-use Rattle.dc_concentrator.specs.declared.fault.HearFault.TheVariants.{Full, NoMemory, PendingFull}
+use Rattle.dc_concentrator.specs.declared.fault.HearFault.TheVariants.{NoMemory}
 use Rattle.dc_progress.specs.Beside.{Bus as Line, bus_at_first}
 use Rattle.dc_poll.specs.Bus.{Bus}
 use Rattle.dc_poll.specs.Happening.{Happening, happened_turns}
@@ -14,10 +15,11 @@ use Rattle.dc_poll.specs.Talking.{Talk, Talks, rests, settles_it, begins, has_no
 use Rattle.dc_poll.specs.Talking.{waits_it, takes_it, hears_it, stands_by, tells_it, loses_it}
 use Rattle.dc_poll_progress.specs.Talked.{GivesTo}
 
--- the meters of a line, and where each of them stands before the poll
+-- the meters of a line, where each of them stands before the poll, and what is to be read of it
 pub record Wire : Type 0 where
   pub meters : List Meter
   pub positions : List Position
+  pub parts : Identity → List (List ℕ)
 
 -- THE LINE CARRIES THE TALK. What the bus gives of a request is what the meters of the line make of
 -- it, and nothing is lost three times in a row. The bus isn't lost. With each start of a readout
@@ -38,16 +40,13 @@ IsCarried meters now (stands_by more) = IsCarried meters now more
 IsCarried meters now (tells_it other more) = IsCarried meters now more
 IsCarried meters now (loses_it is_lost more) = ⊥
 
--- Nothing is wanting: no telegram is refused for want of room, in the register or among the pending
--- changes, or of memory, and no commit fails.
-abbrev pub IsSupplied : Answer → Type 0
-IsSupplied (heard (Err Full)) = ⊥
-IsSupplied (heard (Err PendingFull)) = ⊥
-IsSupplied (heard (Err NoMemory)) = ⊥
-IsSupplied (committed (Err fault)) = ⊥
-IsSupplied answer = Unit {0}
+-- no telegram is refused for want of memory, and no commit fails
+abbrev pub IsBacked : Answer → Type 0
+IsBacked (heard (Err NoMemory)) = ⊥
+IsBacked (committed (Err fault)) = ⊥
+IsBacked answer = Unit {0}
 
--- THE CONCENTRATOR HAS WHAT IT NEEDS in all that happens.
+-- MEMORY AND DISK SERVE THE CONCENTRATOR in all that happens.
 abbrev pub NothingIsWanting : List Happening → Type 0
 NothingIsWanting happened =
-    AllByRecursion (λ (turn : Turn). IsSupplied turn.1) (happened_turns happened)
+    AllByRecursion (λ (turn : Turn). IsBacked turn.1) (happened_turns happened)

@@ -1,13 +1,15 @@
 -- Every meter is read (this product): a poll goes through the meters of the register, and where its
 -- lines carry what is said and nothing is wanting, each has one reading more.
-use Rattle.std.specs.Prelude.{◌≡◌, ℕ, ◌+◌, ◌-◌, ◌<◌, ◌^◌, min, Bool, false, None, Some, List, []}
-use Rattle.std.specs.Prelude.{◌∷◌, ◌++◌, take, length, slice_index_or}
+use Rattle.std.specs.Prelude.{◌≡◌, ℕ, ◌+◌, ◌-◌, ◌<◌, ◌≤◌, ◌^◌, min, Bool, false, Option, None, Some}
+use Rattle.std.specs.Prelude.{List, [], ◌∷◌, ◌++◌, take, length, slice_index_or, sum_by}
 use Rattle.std.specs.List.{AllByRecursion}
 use Rattle.std.specs.List.Sorted.{IsStrictlySortedBy}
 use Rattle.std.specs.Map.{keys_of}
 use Rattle.dc_address.specs.Identity.{identity_cmp}
 use Rattle.dc_address.specs.declared.identity.Identity.{Identity}
+use Rattle.dc_change.specs.Size.{size_of}
 use Rattle.dc_change.specs.State.{State, MeterRow, row_of}
+use Rattle.dc_change.specs.Valid.{end_of_numbers}
 use Rattle.dc_concentrator.specs.Core.{Core, opened}
 use Rattle.dc_concentrator.specs.Transcript.{leads}
 use Rattle.dc_disk.specs.Disk.{Image, IsImage}
@@ -16,7 +18,7 @@ use Rattle.dc_log.specs.Halves.{half_of}
 use Rattle.dc_pending.specs.Images.{Stands}
 use Rattle.dc_world.specs.Meter.{Meter}
 use Rattle.dc_progress.specs.Beside.{HasRead, bus_at_first}
-use Rattle.dc_progress.specs.Needs.{IsThere}
+use Rattle.dc_progress.specs.Needs.{IsThere, room_for}
 use Rattle.dc_poll.specs.Bus.{Bus}
 use Rattle.dc_poll.specs.Happening.{Happening, does, tells, happened_events}
 use Rattle.dc_poll.specs.Happening.{happened_on, happened_turns}
@@ -34,15 +36,14 @@ use Rattle.dc_poll_progress.specs.Carried.{Wire, IsCarried, NothingIsWanting}
 
 -- ---- the premises
 
--- A meter of the register is on its line, with these parts to read, and its primary address is that
--- of its row.
+-- A meter of the register is on its line, with its parts to read, and its primary address is that of
+-- its row.
 pub record IsWired (state : State) (wire : Wire) (identity : Identity) : Type 0 where
   pub place : ℕ
   pub meter : Meter
   pub row : MeterRow
-  pub parts : List (List ℕ)
   pub who : meter.identity ≡ identity
-  pub there : IsThere wire.meters wire.positions place meter parts
+  pub there : IsThere wire.meters wire.positions place meter (wire.parts identity)
   pub registered : row_of identity state ≡ Some row
   pub address : row.address ≡ meter.address
 
@@ -56,13 +57,33 @@ pub record IsInOrder {B : Type 0} (g : Bus B) (tries line : ℕ) (state : State)
   pub wired : AllByRecursion (IsWired state wire) old.left.now
   pub carried : IsCarried wire.meters (bus_at_first wire.positions) goes.talk
 
+abbrev pub flat_in : Option MeterRow → List ℕ
+flat_in None = []
+flat_in (Some row) = row.flat
+
+-- the size in the register of what is to be read of a meter
+abbrev pub room_of : State → Wire → Identity → ℕ
+room_of state wire meter = room_for (flat_in (row_of meter state)) (wire.parts meter)
+
+-- and of all meters that are left on these lines, of which the first has this number
+abbrev pub room_on : {B : Type 0} → State → (ℕ → Wire) → ℕ → List (Station B) → ℕ
+room_on state wires line [] = 0
+room_on state wires line (station ∷ stations) =
+    sum_by (room_of state (wires line)) station.left.now + room_on state wires (line + 1) stations
+
+-- THE REGISTER HAS ROOM for one reading of each meter that is left on these lines, and a serial.
+pub record HasRoom {B : Type 0} (budget : ℕ) (state : State) (wires : ℕ → Wire)
+    (stations : List (Station B)) : Type 0 where
+  pub room : size_of state + room_on state wires 1 stations ≤ budget
+  pub serials : state.next_serial + meters_left stations ≤ end_of_numbers
+
 -- ---- the conclusion
 
 -- This meter of the line has one reading more than before, in its flat, with its parts whole and in
 -- order, and none of its parts is open.
 pub record IsRead (before now : State) (wire : Wire) (identity : Identity) : Type 0 where
   pub wired : IsWired before wire identity
-  pub read : HasRead identity wired.row wired.parts before now
+  pub read : HasRead identity wired.row (wire.parts identity) before now
 
 -- Where it is told that a meter was read, the serial that is told is that of the new reading.
 abbrev pub IsOfNew : State → State → Wire → Happening → Type 0
@@ -104,8 +125,8 @@ pub record EachIsRead {D B : Type 0} (g : Ghosts D) (origin new : D) (bus : Bus 
       (refused_count (has_bus bus.lost (take most_lines buses)) state (asked_for only state))
   pub fault : outcome.fault ≡ None
 
--- EVERY METER IS READ. A poll of an image did this plan, and its concentrator had what it needs: no
--- telegram was refused for want of room or memory, and no commit failed. Each line is in order. The
+-- EVERY METER IS READ. A poll of an image did this plan. No telegram was refused for want of memory,
+-- and no commit failed. The register has room for what is to be read. Each line is in order. The
 -- register's meters ascend, as they always do. Then each is read.
 abbrev pub EveryMeterIsRead : {D B T N : Type 0} → Ghosts D → Bus B → (T → ℕ → T → Type 0)
     → (T → Bool → T → Type 0) → (T → T → Type 0) → (N → Told → N → Type 0) → Type 0
@@ -116,6 +137,7 @@ EveryMeterIsRead {D} {B} {T} {N} g bus told passes warned takes =
     first last old fresh outcome core happened) disk new)
     → IsStrictlySortedBy identity_cmp (keys_of poll.state.meters)
     → NothingIsWanting poll.happens.happened
+    → HasRoom poll.first.house.budget poll.state wires poll.happens.are_such.olds
     → ((k : ℕ) (d : Station B) (low : k < length poll.happens.are_such.olds)
     → IsInOrder bus tries (k + 1) poll.state (wires (k + 1))
     (slice_index_or poll.happens.are_such.olds k d) (slice_index_or poll.happens.are_such.news k d)

@@ -6,3 +6,5 @@ pub mod Talked
 pub mod Carried
 -- every meter is read
 pub mod Every
+-- what the row ROOM of `status` says of a poll
+pub mod RoomRow

@@ -1,6 +1,7 @@
 //! The theorems about a poll. The functions have no effect; their contracts state the theorems.
 
 ghost use Rattle.dc_poll_progress.specs.Every.{EveryMeterIsRead};
+ghost use Rattle.dc_poll_progress.specs.RoomRow.{RoomRowSuffices};
 ghost use Rattle.dc_poll_progress.specs.Talked.{ReadoutsOfAPollEnd};
 
 use dc_bus::QuietBus;
@@ -18,10 +19,18 @@ pub fn each_readout_of_a_poll_ends_in_a_reading<B: QuietBus>()
 /// Every meter is read by a poll of an image, and that is committed.
 ///
 /// The meters of its lines are there and follow the standard, each line carries what is said and
-/// loses nothing three times in a row, no telegram is refused for want of room or memory, and no
-/// commit fails. Then what is read on each line is its queue, in order, and each meter of it has one
+/// loses nothing three times in a row, the register has room for one reading of each, no telegram is
+/// refused for want of memory, and no commit fails. Then what is read on each line is its queue, in order, and each meter of it has one
 /// reading more than before, whole and in order, whose serial is told. No readout fails, and the
 /// counts say so.
 pub fn every_meter_is_read<D: Disk + Drop, B: QuietBus + Drop, T: Timer<B>, N: Teller>()
     ensures { EveryMeterIsRead D.Disk B.QuietBus T.tells T.passes T.warns N.takes }
+{}
+
+/// A register whose row ROOM (`status`, `inspect`) has at least as many readings as meters are to be
+/// read has room for a poll of them.
+///
+/// The reading of each takes no more than those that are held do on average, as that row counts.
+pub fn a_register_has_room_where_the_row_room_suffices<B: QuietBus>()
+    ensures { RoomRowSuffices B.QuietBus }
 {}

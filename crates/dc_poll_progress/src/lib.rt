@@ -6,11 +6,16 @@
 //! row, no answer is refused and no commit fails, a readout that was started on it ends in one
 //! reading more, whatever the other lines do ([`each_readout_of_a_poll_ends_in_a_reading`]).
 //!
-//! Where each line is so, from the first start to the end of the poll, every meter of its queue is
-//! read, in order, and that is committed ([`every_meter_is_read`]). That a line refuses no start,
-//! and no answer but for want of room or memory, follows.
+//! Where each line is so, from the first start to the end of the poll, the register has room for one
+//! reading of each meter of the queues, and memory is never refused, every meter of the queues is
+//! read, in order, and that is committed ([`every_meter_is_read`]). That no start and no answer is
+//! refused follows. Whether there is room, the row ROOM of `status` says
+//! ([`a_register_has_room_where_the_row_room_suffices`]).
 #![tactic(auto)]
 
 mod laws;
 
-pub use laws::{each_readout_of_a_poll_ends_in_a_reading, every_meter_is_read};
+pub use laws::{
+    a_register_has_room_where_the_row_room_suffices, each_readout_of_a_poll_ends_in_a_reading,
+    every_meter_is_read,
+};

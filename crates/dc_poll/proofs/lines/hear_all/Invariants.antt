@@ -2,7 +2,7 @@ use Rattle.std.proofs.Common.{◌≡◌, List, length}
 use Rattle.std.specs.List.{All}
 use Rattle.dc_concentrator.specs.Core.{Core}
 use Rattle.dc_poll.specs.Happening.{Happening}
-use Rattle.dc_poll.specs.Keeping.{IsHearing}
+use Rattle.dc_poll.specs.Keeping.{AreHeard}
 use Rattle.dc_poll.specs.Round.{Runs, AllSteps}
 use Rattle.dc_poll.specs.Station.{IsSound, rounds_of}
 use Rattle.dc_poll.proofs.Rounds.{Falls}
@@ -15,5 +15,5 @@ invariant-lines g l = record {
   count : length l.stations ≡ length l.fn.stations;
   sound : All (IsSound (whole g.B.HalfBus g.B.QuietBus) l.tries) l.stations;
   falls : Falls (rounds_of (whole g.B.HalfBus g.B.QuietBus) 0 0 0 l.tries) (rounds_of (whole g.B.HalfBus g.B.QuietBus) 1 0 0 l.tries) l.at l.fn.stations l.stations;
-  so_far : Runs g.D.Disk (λ (core : Core) (happened : List Happening). AllSteps (whole g.B.HalfBus g.B.QuietBus) l.tries (All (IsHearing l.moment.seconds)) l.fn.stations l.stations happened) l.fn.concentrator l.concentrator;
+  so_far : Runs g.D.Disk (λ (core : Core) (happened : List Happening). AllSteps (whole g.B.HalfBus g.B.QuietBus) l.tries (AreHeard l.moment.seconds l.pending) l.fn.stations l.stations happened) l.fn.concentrator l.concentrator;
 }

@@ -1,6 +1,4 @@
-use Rattle.std.proofs.Common.{ℕ, Err, refl}
-use Rattle.std.specs.List.{All}
-use Rattle.dc_poll.specs.Keeping.{IsHearing}
+use Rattle.std.proofs.Common.{ℕ, Ok, Err, refl}
 use Rattle.dc_poll.specs.Round.{AreHeardAs, EndsInCommit, IsStoredAs}
 use Rattle.dc_poll.specs.Station.{rounds_of}
 use Rattle.dc_poll.proofs.Rounds.{all_then, all_as, fewer_both}
@@ -13,8 +11,8 @@ pub returns-in-Ok-clause-went : goal.returns-in-Ok-clause-went
 returns-in-Ok-clause-went g c =
     let m : ℕ = c.args.moment.seconds in
     runs_then g.D.Disk _ _ _ c.args.concentrator.now c.hear_all.new.concentrator c.commit_all.new.concentrator c.in-Ok.ensures.went c.hear_all.ensures.budget (c.commit_all.ensures.went c.args.tries c.hear_all.ensures.sound)
-    (λ core happened more t r. all_then c.args.tries (All (IsHearing m)) (IsStoredAs c.commit_all.result) (EndsInCommit m c.commit_all.result) c.args.stations.now c.hear_all.new.stations c.commit_all.new.stations happened more c.hear_all.auto.stations t r
-    (λ turns next a n. (turns, next, refl, a, n)))
+    (λ core happened more t r. all_then c.args.tries (AreHeardAs m (Ok tt)) (IsStoredAs c.commit_all.result) (EndsInCommit m c.commit_all.result) c.args.stations.now c.hear_all.new.stations c.commit_all.new.stations happened more c.hear_all.auto.stations t r
+    (λ turns next a n. (turns, next, a.0, refl, a.1, n)))
 
 pub returns-in-Err-clause-went : goal.returns-in-Err-clause-went
 returns-in-Err-clause-went g c =

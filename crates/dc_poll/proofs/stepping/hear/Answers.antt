@@ -1,8 +1,7 @@
-use Rattle.std.proofs.Common.{[], true, false, refl, sym, ◌∙◌}
+use Rattle.std.proofs.Common.{true, false, refl, sym, ◌∙◌}
 use Rattle.std.proofs.Math.Nat.{le_trans}
-use Rattle.dc_poll.specs.Keeping.{IsHearing}
 use Rattle.dc_poll.proofs.Becoming.{line_heard, sound_heard, fewer_with}
-use Rattle.dc_poll.proofs.Queues.{steps_none, steps_both}
+use Rattle.dc_poll.proofs.Hearing.{hears_both, hears_none}
 use Rattle.dc_poll.proofs.Running.{runs_none, runs_as}
 use Rattle.dc_poll.proofs.Whole.{whole}
 use Rattle.dc_poll.proofs.stepping.hear.Goals as goal
@@ -10,13 +9,13 @@ use Rattle.dc_poll.proofs.stepping.hear.Goals as goal
 pub returns-clause-went : goal.returns-clause-went
 returns-clause-went g c =
     runs_as g.D.Disk _ _ c.args.concentrator.now c.judge.new.concentrator c.judge.ensures.went
-    (λ core happened b. steps_both c.args.tries c.args.line (IsHearing c.args.moment.seconds) c.args.station.now c.listen.new.self c.judge.new.station [] happened
-    (steps_none c.args.tries c.args.line (IsHearing c.args.moment.seconds) c.args.station.now c.listen.new.self (line_heard (whole g.B.HalfBus g.B.QuietBus) c.args.tries c.args.line c.args.station.now c.listen.new.self c.listen.ensures.out c.listen.ensures.kept)) b)
+    (λ core happened b. hears_both c.args.tries c.args.line c.args.moment.seconds c.judge.result c.args.station.now c.listen.new.self c.judge.new.station happened
+    (line_heard (whole g.B.HalfBus g.B.QuietBus) c.args.tries c.args.line c.args.station.now c.listen.new.self c.listen.ensures.out c.listen.ensures.kept) b)
 
 pub returns-then-not-has_answer-clause-went : goal.returns-then-not-has_answer-clause-went
 returns-then-not-has_answer-clause-went g c =
     runs_none g.D.Disk _ c.args.concentrator.now (λ image left. g.met.D.Disk.only_now c.args.concentrator.now.store.disk image left)
-    (λ core. steps_none c.args.tries c.args.line (IsHearing c.args.moment.seconds) c.args.station.now c.listen.new.self (line_heard (whole g.B.HalfBus g.B.QuietBus) c.args.tries c.args.line c.args.station.now c.listen.new.self c.listen.ensures.out c.listen.ensures.kept))
+    (λ core. hears_none c.args.tries c.args.line c.args.moment.seconds c.args.station.now c.listen.new.self (line_heard (whole g.B.HalfBus g.B.QuietBus) c.args.tries c.args.line c.args.station.now c.listen.new.self c.listen.ensures.out c.listen.ensures.kept) false refl)
 
 pub returns-then-not-has_answer-clause-sound : goal.returns-then-not-has_answer-clause-sound
 returns-then-not-has_answer-clause-sound g c = sound_heard (whole g.B.HalfBus g.B.QuietBus) c.args.tries c.args.station.now c.listen.new.self c.listen.ensures.out c.listen.ensures.kept c.requires

@@ -1,9 +1,7 @@
-use Rattle.std.proofs.Common.{◌≡◌, ◌∷◌, drop, refl, ap, sym, ◌∙◌}
-use Rattle.dc_concentrator.specs.Event.{hears, heard}
-use Rattle.dc_poll.specs.Keeping.{IsHearing}
+use Rattle.std.proofs.Common.{◌≡◌, ◌∷◌, drop, ap, sym, ◌∙◌}
 use Rattle.dc_poll.specs.declared.phase.Request.TheVariants.{Answered}
 use Rattle.dc_poll.proofs.Becoming.{busy_due, first_of, taken_is, line_judged}
-use Rattle.dc_poll.proofs.Queues.{on_line, off_line, steps_one}
+use Rattle.dc_poll.proofs.Hearing.{hears_one}
 use Rattle.dc_poll.proofs.Running.{runs_as}
 use Rattle.dc_poll.proofs.Whole.{whole}
 use Rattle.dc_poll.proofs.stepping.judge.Goals as goal
@@ -16,7 +14,7 @@ returns-clause-went g c =
     let first : old.left.now ≡ c.in-Some.meter ∷ drop 1 old.left.now = first_of old.left.now c.in-Some.meter (sym c.present.ensures ∙ c.in-Some.is) in
     let took : old.request ≡ Answered bytes = taken_is old.request c.requires.answered ∙ ap Answered (sym c.taken.ensures) in
     runs_as g.D.Disk _ _ c.args.concentrator.now c.hear-answer.new.concentrator c.hear-answer.ensures.went
-    (λ core happened is. steps_one c.args.tries c.args.line (IsHearing c.args.moment.seconds) old c.judged.new.self (hears c.args.line c.args.moment.seconds bytes) (heard c.hear-answer.result) happened is (on_line c.args.line) (λ other not. off_line c.args.line other not) refl
+    (λ core happened is. hears_one c.args.tries c.args.line c.args.moment.seconds bytes c.hear-answer.result c.is_accepted.result old c.judged.new.self happened is c.is_accepted.ensures
     (line_judged b c.args.tries c.args.line c.args.moment.seconds c.in-Busy.asks c.in-Some.meter bytes c.hear-answer.result old c.judged.new.self c.in-Busy.is took first c.requires.sound c.judged.ensures))
 
 pub judged-requires-clause-due : goal.judged-requires-clause-due
