@@ -10,7 +10,6 @@ use Rattle.dc_readout.specs.Session.{commands}
 use Rattle.dc_readout.specs.Summary.{Summary, verdict_by}
 use Rattle.dc_world.specs.declared.event.Outcome.{Outcome}
 use Rattle.dc_world.specs.Meter.{Meter, Position}
-use Rattle.dc_world.specs.World.{heard_in}
 use Rattle.dc_world.proofs.Events.{length-after}
 use Rattle.dc_change.specs.State.{State, MeterRow, row_of, ReadingRow}
 use Rattle.dc_pending.specs.Lines.{is_line}
@@ -25,9 +24,9 @@ use Rattle.dc_concentrator.specs.Step.{ask_answer, hear_answer, is_on, next}
 use Rattle.dc_concentrator.specs.Transcript.{Turn, leads, IsChain}
 use Rattle.dc_concentrator.proofs.Going.{leads_append, leads_push}
 use Rattle.dc_concentrator.proofs.Told.{chain_parts}
-use Rattle.dc_progress.specs.Beside.{Bus as Line, bus_at_first, bus_after, IsElsewhere, HasRead, IsHeardOn, IsNextPart, IsNoFailure, IsOfLines, IsTakenUnlessFull, readings_of, Serves, GoesBeside, rests as none_more, asks_it, has_none as asks_none, gives_it, commits_it, goes_by}
+use Rattle.dc_progress.specs.Beside.{Bus as Line, bus_at_first, bus_after, IsElsewhere, HasRead, IsHeardOn, IsNextPart, IsNoFailure, IsOfLines, readings_of, Serves, GoesBeside, rests as none_more, asks_it, has_none as asks_none, gives_it, commits_it, goes_by}
 use Rattle.dc_progress.specs.Needs.{IsThere}
-use Rattle.dc_progress.specs.Rounds.{row_after}
+use Rattle.dc_progress.specs.Rounds.{IsHeard, row_after}
 use Rattle.dc_progress.proofs.Rows.{readouts_of_a_run_end}
 use Rattle.dc_poll.specs.Bus.{Bus}
 use Rattle.dc_poll.specs.Happening.{Happening, does, tells, happened_on, happened_turns, turns_of, last_of, newest_serial}
@@ -313,7 +312,7 @@ module _ (budget line : ℕ) (state : State) (wire : Wire) (all : List Turn) (ch
     outcome : Outcome
     frame : FrameSeen
     waited : start.waits ≡ Some frame
-    bytes_are : bytes ≡ heard_in outcome frame wire.meters start.positions
+    bytes_are : IsHeard outcome frame wire.meters start.positions bytes
     few : row_after start.row outcome < 3
     now_is : now ≡ bus_after wire.meters outcome frame start
 
@@ -359,10 +358,9 @@ module _ (budget line : ℕ) (state : State) (wire : Wire) (all : List Turn) (ch
   -- a telegram is the next of the meter's parts
   part_of_it : (x : Identity) (start : Line) (moment : ℕ) (bytes : List ℕ) (before more : List Turn) (now : Line) → Given bytes now start → all ≡ before ++ more → Since x before start → PartAt line wire (core_at before) (hears line moment bytes)
   part_of_it x start moment bytes before more now given is s same session on =
-      let part = (goes_as x before more start is s).next_part session given.outcome given.frame on given.waited given.few in
+      let part = (goes_as x before more start is s).next_part session given.outcome given.frame bytes on given.waited given.bytes_are given.few in
       let who : session.meter ≡ x = part.0 ∙ s.wired.who in
-      subst (λ (i : Identity). IsNextPart (drop session.settled (wire.parts i)) (verdict_by session bytes)) (sym who)
-      (subst (λ (b : List ℕ). IsNextPart (drop session.settled (wire.parts x)) (verdict_by session b)) (sym given.bytes_are) part.1)
+      subst (λ (i : Identity). IsNextPart (drop session.settled (wire.parts i)) (verdict_by session bytes)) (sym who) part.1
 
   -- ---- each thing on the line
 
@@ -397,8 +395,8 @@ module _ (budget line : ℕ) (state : State) (wire : Wire) (all : List Turn) (ch
       let g = goes_as x (before ++ p.away) (turn ∷ happened_turns p.rest) start at here in
       let may = (chain_parts budget (opened state) (before ++ p.away) (turn ∷ happened_turns p.rest) (subst (IsChain budget (opened state)) at chain)).1.0 in
       let core : Core = core_at (before ++ p.away) in
-      let taken = g.takes given.outcome given.frame moment given.waited given.few in
-      let full_is : fault ≡ Full = heard_full (hear_answer budget core line moment bytes) fault (subst IsTakenUnlessFull (ap (hear_answer budget core line moment) (sym given.bytes_are)) taken) may well in
+      let taken = g.takes given.outcome given.frame moment bytes given.waited given.bytes_are given.few in
+      let full_is : fault ≡ Full = heard_full (hear_answer budget core line moment bytes) fault taken may well in
       record {
         facts = full_facts (Some x) (start.heard + 1) idle moment bytes fault later full_is;
         parts = parts_does before turn later full p (part_of_it x start moment bytes (before ++ p.away) (turn ∷ happened_turns p.rest) now given at here)
@@ -501,7 +499,7 @@ module _ (budget line : ℕ) (state : State) (wire : Wire) (all : List Turn) (ch
           outcome = carried.outcome;
           frame = carried.frame;
           waited = ap (λ (l : Line). l.waits) (sym at) ∙ carried.waited;
-          bytes_are = carried.bytes_are ∙ ap (λ (l : Line). heard_in carried.outcome carried.frame wire.meters l.positions) at;
+          bytes_are = subst (λ (l : Line). IsHeard carried.outcome carried.frame wire.meters l.positions bytes) at carried.bytes_are;
           few = subst (λ (l : Line). row_after l.row carried.outcome < 3) at carried.few;
           now_is = ap (bus_after wire.meters carried.outcome carried.frame) at;
         } in

@@ -7,14 +7,13 @@ use Rattle.dc_frame.specs.Frame.{FrameSeen}
 use Rattle.dc_frame.specs.Reading.{frame_of}
 use Rattle.dc_world.specs.declared.event.Outcome.{Outcome}
 use Rattle.dc_world.specs.Meter.{Meter}
-use Rattle.dc_world.specs.World.{heard_in}
 use Rattle.dc_concentrator.specs.declared.line_heard.LineHeard.{LineHeard}
 use Rattle.dc_concentrator.specs.declared.fault.HearFault.{HearFault}
 use Rattle.dc_concentrator.specs.declared.fault.CommitFault.{CommitFault}
 use Rattle.dc_concentrator.specs.Event.{starts, asks, hears, commits, offices, asked, heard, committed}
 use Rattle.dc_concentrator.specs.Transcript.{Turn}
 use Rattle.dc_progress.specs.Beside.{Bus as Line, bus_at_first, bus_after, IsElsewhere, IsOfLines, Serves, rests as none_more, asks_it, has_none as asks_none, gives_it, commits_it, goes_by}
-use Rattle.dc_progress.specs.Rounds.{row_after}
+use Rattle.dc_progress.specs.Rounds.{IsHeard, row_after}
 use Rattle.dc_progress.proofs.Rows.{readouts_of_a_run_end}
 use Rattle.dc_poll.specs.Bus.{Bus}
 use Rattle.dc_poll.specs.Happening.{Happening, does, tells, is_on, happened_on, happened_turns, turns_of}
@@ -88,7 +87,7 @@ module _ (line : ℕ) (meters : List Meter) where
     outcome : Outcome
     frame : FrameSeen
     waited : start.waits ≡ Some frame
-    bytes_are : bytes ≡ heard_in outcome frame meters start.positions
+    bytes_are : IsHeard outcome frame meters start.positions bytes
     few : row_after start.row outcome < 3
     now_is : now ≡ bus_after meters outcome frame start
 
@@ -138,7 +137,7 @@ module _ (line : ℕ) (meters : List Meter) where
           outcome = serves.outcome;
           frame = serves.frame;
           waited = ap (λ (l : Line). l.waits) (sym at) ∙ serves.waited;
-          bytes_are = serves.bytes_are ∙ ap (λ (l : Line). heard_in serves.outcome serves.frame meters l.positions) at;
+          bytes_are = subst (λ (l : Line). IsHeard serves.outcome serves.frame meters l.positions bytes) at serves.bytes_are;
           few = subst (λ (l : Line). row_after l.row serves.outcome < 3) at serves.few;
           now_is = ap (bus_after meters serves.outcome serves.frame) at;
         }) serves.then_on

@@ -6,14 +6,13 @@ use Rattle.dc_frame.specs.Frame.{FrameSeen}
 use Rattle.dc_frame.specs.Reading.{frame_of}
 use Rattle.dc_world.specs.declared.event.Outcome.{Outcome}
 use Rattle.dc_world.specs.Meter.{Meter, Position}
-use Rattle.dc_world.specs.World.{heard_in}
 use Rattle.dc_change.specs.State.{State, MeterRow, row_of}
 use Rattle.dc_concentrator.specs.Core.{present, opened}
 use Rattle.dc_concentrator.specs.Event.{starts, started}
 use Rattle.dc_concentrator.specs.Transcript.{Turn, leads, IsChain}
 use Rattle.dc_progress.specs.Beside.{Bus as Line, bus_at_first, bus_after, IsOfLines, GoesBeside}
 use Rattle.dc_progress.specs.Needs.{IsThere}
-use Rattle.dc_progress.specs.Rounds.{row_after}
+use Rattle.dc_progress.specs.Rounds.{IsHeard, row_after}
 use Rattle.dc_poll.specs.Bus.{Bus}
 use Rattle.dc_poll.specs.Happening.{Happening, happened_on, happened_turns}
 use Rattle.dc_poll.specs.Talking.{Talk, Talks, rests, settles_it, begins, has_none, sends_it}
@@ -25,14 +24,14 @@ abbrev pub IsDone : {X E : Type 0} → Result X E → Type 0
 IsDone (Ok x) = Unit {0}
 IsDone (Err e) = ⊥
 
--- What the bus gives of a request is what its meters make of it. It isn't the third loss in a row,
--- and so it goes on.
+-- What the bus gives of a request is what its meters make of it, or no whole answer where something
+-- was lost. It isn't the third loss in a row, and so it goes on.
 pub record GivesTo (meters : List Meter) (now : Line) (bytes : List ℕ) (goes_on : Line → Type 0)
     : Type 0 where
   pub outcome : Outcome
   pub frame : FrameSeen
   pub waited : now.waits ≡ Some frame
-  pub bytes_are : bytes ≡ heard_in outcome frame meters now.positions
+  pub bytes_are : IsHeard outcome frame meters now.positions bytes
   pub few : row_after now.row outcome < 3
   pub then_on : goes_on (bus_after meters outcome frame now)
 

@@ -41,8 +41,9 @@ use Rattle.dc_concentrator.specs.Transcript.{Turn, leads, IsChain}
 use Rattle.dc_progress.specs.Beside.{Bus, bus_at_first, bus_after, IsElsewhere, Serves, rests, asks_it, has_none, gives_it, commits_it, goes_by, IsOnlyOn, HasRead, IsHeardOn, IsNoFailure, IsNextPart, IsTakenUnlessFull, GoesBeside, ReadoutsEndBesideOthers}
 use Rattle.dc_progress.specs.Needs.{IsOwnTelegram, CanBegin}
 use Rattle.dc_progress.specs.Progress.{requests_of}
-use Rattle.dc_progress.specs.Rounds.{Scene, begun_on, losses_by, row_after}
+use Rattle.dc_progress.specs.Rounds.{IsHeard, Scene, begun_on, losses_by, row_after}
 use Rattle.dc_progress.proofs.Heard.{Judged, who, resets_all, resets_again, selects_again, requests_again, resets, selects, requests}
+use Rattle.dc_progress.proofs.Unanswered.{same_verdict}
 use Rattle.dc_progress.proofs.Rounds.{get_settled, asks_nothing, right_answer, asked_is, hear_is, room_alone, some_more}
 use Rattle.dc_progress.proofs.Left.{IsLeft, IsDue, within_due, one_less, one_lost, some_asked}
 use Rattle.dc_progress.proofs.Own.{Open, Telegram, some_left, telegram, told_by, told_is, open_more, is_read}
@@ -188,13 +189,8 @@ module _ (budget line : ℕ) (meters : List Meter) (start : Scene) (place : ℕ)
     pends = λ e. x.pends (pends e);
     later = after_kept (settled_on (Some x.session)) bus (present core) (present fresh) same x.later;
   }))
-  beside bus core fresh on kept_on pends same (inr (inr x)) = inr (inr (record {
-    free = on ∙ x.free;
-    silent = x.silent;
-    all = x.all;
-    kept_read = subst Read (sym kept_on) x.kept_read;
-    read = read_kept (present core) (present fresh) same x.read;
-  }))
+  beside bus core fresh on kept_on pends same (inr (inr x)) =
+      inr (inr (record { free = on ∙ x.free; silent = x.silent; all = x.all; kept_read = subst Read (sym kept_on) x.kept_read; read = read_kept (present core) (present fresh) same x.read }))
 
   abbrev IsOther : Option Summary → Type 0
   IsOther session = (s : Summary) → session ≡ Some s → s.meter ≢ meter.identity
@@ -622,50 +618,57 @@ module _ (budget line : ℕ) (meters : List Meter) (start : Scene) (place : ℕ)
     step_by ReplyUnreadable e = lost_at (ap losses_by e) (ap (row_after bus.row) e) f.stage refl
     step_by AsSent e = sent_at e f.stage refl
 
-    step_fits : IsTakenUnlessFull (hear_answer budget core line moment bytes)
-    step_fits =
-        let w = step_by outcome refl in
-        subst IsTakenUnlessFull (sym (hear_is budget line core s begins.0 g.goes x.on moment bytes frame (x.out frame waits) ∙ ap (verdict_answer budget core moment) w.is)) w.fits
+    -- whatever is heard, it is judged as what the meters make of it
+    module _ (given : List ℕ) (is_heard : IsHeard outcome frame meters bus.positions given) where
+      given_judged : verdict_by s given ≡ verdict_by s bytes
+      given_judged =
+          same_verdict s outcome frame meters bus.positions bus.row given (x.out frame waits)
+          (λ a e. may.there.regular.primary f.running.meter a agrees.meter agrees.stands.0 (sym agrees.whom.1 ∙ e)) f.tried few is_heard
 
-    step_part : (y : Summary) → session_of core line ≡ Some y → (y.meter ≡ meter.identity) × IsNextPart (drop y.settled parts) (verdict_by y bytes)
-    step_part y on =
-        let w = step_by outcome refl in
-        let same : s ≡ y = (let both = sym x.on ∙ on in cc) in
-        subst (λ (z : Summary). (z.meter ≡ meter.identity) × IsNextPart (drop z.settled parts) (verdict_by z bytes)) same
-        (who meters may.there.regular f.world f.running meter agrees place_there, subst (IsNextPart (drop s.settled parts)) (sym w.is) w.part)
+      step_part : (y : Summary) → session_of core line ≡ Some y → (y.meter ≡ meter.identity) × IsNextPart (drop y.settled parts) (verdict_by y given)
+      step_part y on =
+          let w = step_by outcome refl in
+          let same : s ≡ y = (let both = sym x.on ∙ on in cc) in
+          subst (λ (z : Summary). (z.meter ≡ meter.identity) × IsNextPart (drop z.settled parts) (verdict_by z given)) same
+          (who meters may.there.regular f.world f.running meter agrees place_there, subst (IsNextPart (drop s.settled parts)) (sym (given_judged ∙ w.is)) w.part)
 
-    step : Known now (heard_on core line moment bytes (session_of core line))
-    step =
-        let w = step_by outcome refl in
-        subst (λ (o : Option Summary). Known now (heard_on core line moment bytes o)) (sym x.on) (subst (λ (v : Verdict). Known now (judged core line moment s v)) (sym w.is) w.known)
+      step_fits : IsTakenUnlessFull (hear_answer budget core line moment given)
+      step_fits =
+          let w = step_by outcome refl in
+          subst IsTakenUnlessFull (sym (hear_is budget line core s begins.0 g.goes x.on moment given frame (x.out frame waits) ∙ ap (verdict_answer budget core moment) (given_judged ∙ w.is))) w.fits
 
-  heard_at : (bus : Bus) (core : Core) (moment : ℕ) (bytes : List ℕ) (outcome : Outcome) (frame : FrameSeen) → bus.waits ≡ Some frame → bytes ≡ heard_in outcome frame meters bus.positions → row_after bus.row outcome < 3
+      step : Known now (heard_on core line moment given (session_of core line))
+      step =
+          let w = step_by outcome refl in
+          subst (λ (o : Option Summary). Known now (heard_on core line moment given o)) (sym x.on) (subst (λ (v : Verdict). Known now (judged core line moment s v)) (sym (given_judged ∙ w.is)) w.known)
+
+  heard_at : (bus : Bus) (core : Core) (moment : ℕ) (bytes : List ℕ) (outcome : Outcome) (frame : FrameSeen) → bus.waits ≡ Some frame → IsHeard outcome frame meters bus.positions bytes → row_after bus.row outcome < 3
       → Known bus core → Known (bus_after meters outcome frame bus) (heard_on core line moment bytes (session_of core line))
   heard_at bus core moment bytes outcome frame waits bytes_are few k = by k.at
     where
       by : IsAt bus core → Known (bus_after meters outcome frame bus) (heard_on core line moment bytes (session_of core line))
       by (inl x) =
-          subst (λ (b : List ℕ). Known (bus_after meters outcome frame bus) (heard_on core line moment b (session_of core line))) (sym bytes_are) (step bus core moment k.going x outcome frame waits few)
+          step bus core moment k.going x outcome frame waits few bytes bytes_are
       by (inr (inl x)) = absurd (let bad = sym x.silent ∙ waits in cc)
       by (inr (inr x)) = absurd (let bad = sym x.silent ∙ waits in cc)
 
-  fits_at : (bus : Bus) (core : Core) (moment : ℕ) (outcome : Outcome) (frame : FrameSeen) → bus.waits ≡ Some frame → row_after bus.row outcome < 3
-      → Going core → IsAt bus core → IsTakenUnlessFull (hear_answer budget core line moment (heard_in outcome frame meters bus.positions))
-  fits_at bus core moment outcome frame waits few g (inl x) = step_fits bus core moment g x outcome frame waits few
-  fits_at bus core moment outcome frame waits few g (inr (inl x)) = absurd (let bad = sym x.silent ∙ waits in cc)
-  fits_at bus core moment outcome frame waits few g (inr (inr x)) = absurd (let bad = sym x.silent ∙ waits in cc)
+  fits_at : (bus : Bus) (core : Core) (moment : ℕ) (bytes : List ℕ) (outcome : Outcome) (frame : FrameSeen) → bus.waits ≡ Some frame → IsHeard outcome frame meters bus.positions bytes → row_after bus.row outcome < 3
+      → Going core → IsAt bus core → IsTakenUnlessFull (hear_answer budget core line moment bytes)
+  fits_at bus core moment bytes outcome frame waits bytes_are few g (inl x) = step_fits bus core moment g x outcome frame waits few bytes bytes_are
+  fits_at bus core moment bytes outcome frame waits bytes_are few g (inr (inl x)) = absurd (let bad = sym x.silent ∙ waits in cc)
+  fits_at bus core moment bytes outcome frame waits bytes_are few g (inr (inr x)) = absurd (let bad = sym x.silent ∙ waits in cc)
 
-  part_at : (bus : Bus) (core : Core) (y : Summary) (outcome : Outcome) (frame : FrameSeen) → session_of core line ≡ Some y → bus.waits ≡ Some frame → row_after bus.row outcome < 3
-      → Going core → IsAt bus core → (y.meter ≡ meter.identity) × IsNextPart (drop y.settled parts) (verdict_by y (heard_in outcome frame meters bus.positions))
-  part_at bus core y outcome frame on waits few g (inl x) = step_part bus core 0 g x outcome frame waits few y on
-  part_at bus core y outcome frame on waits few g (inr (inl x)) = absurd (let bad = sym x.silent ∙ waits in cc)
-  part_at bus core y outcome frame on waits few g (inr (inr x)) = absurd (let bad = sym x.silent ∙ waits in cc)
+  part_at : (bus : Bus) (core : Core) (y : Summary) (bytes : List ℕ) (outcome : Outcome) (frame : FrameSeen) → session_of core line ≡ Some y → bus.waits ≡ Some frame → IsHeard outcome frame meters bus.positions bytes → row_after bus.row outcome < 3
+      → Going core → IsAt bus core → (y.meter ≡ meter.identity) × IsNextPart (drop y.settled parts) (verdict_by y bytes)
+  part_at bus core y bytes outcome frame on waits bytes_are few g (inl x) = step_part bus core 0 g x outcome frame waits few bytes bytes_are y on
+  part_at bus core y bytes outcome frame on waits bytes_are few g (inr (inl x)) = absurd (let bad = sym x.silent ∙ waits in cc)
+  part_at bus core y bytes outcome frame on waits bytes_are few g (inr (inr x)) = absurd (let bad = sym x.silent ∙ waits in cc)
 
-  good_at : (bus : Bus) (core : Core) (moment : ℕ) (bytes : List ℕ) (answer : LineHeard) (outcome : Outcome) (frame : FrameSeen) → bus.waits ≡ Some frame → bytes ≡ heard_in outcome frame meters bus.positions → row_after bus.row outcome < 3
+  good_at : (bus : Bus) (core : Core) (moment : ℕ) (bytes : List ℕ) (answer : LineHeard) (outcome : Outcome) (frame : FrameSeen) → bus.waits ≡ Some frame → IsHeard outcome frame meters bus.positions bytes → row_after bus.row outcome < 3
       → MayHear (hear_answer budget core line moment bytes) (Ok answer) → Known bus core → IsNoFailure (heard (Ok answer))
   good_at bus core moment bytes answer outcome frame waits bytes_are few may_hear k =
       let right = right_answer (hear_answer budget core line moment bytes) (Ok answer) may_hear (λ e. cc) in
-      subst IsTakenUnlessFull (sym (ap (hear_answer budget core line moment) bytes_are) ∙ sym right) (fits_at bus core moment outcome frame waits few k.going k.at)
+      subst IsTakenUnlessFull (sym right) (fits_at bus core moment bytes outcome frame waits bytes_are few k.going k.at)
 
   -- ---- all turns
 
@@ -785,8 +788,8 @@ module _ (budget line : ℕ) (meters : List Meter) (start : Scene) (place : ℕ)
     thrice = (bounds_at last core at).1;
     asks_few = λ request sent. few_at last core request g at sent;
     asks_on = λ s on none. asks_at last core s g at on none;
-    takes = λ outcome frame moment waits few. fits_at last core moment outcome frame waits few g at;
-    next_part = λ s outcome frame on waits few. part_at last core s outcome frame on waits few g at;
+    takes = λ outcome frame moment bytes waits heard few. fits_at last core moment bytes outcome frame waits heard few g at;
+    next_part = λ s outcome frame bytes on waits heard few. part_at last core s bytes outcome frame on waits heard few g at;
     ends = λ none. ends_at last core at none;
   }
 

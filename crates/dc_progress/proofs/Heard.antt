@@ -72,7 +72,7 @@ pub record Judged (meters : List Meter) (w : World) (r : Running) (outcome : Out
   pub verdict : verdict_by r.session (heard_in outcome frame meters w.positions) ≡ v
 
 -- what is lost is no frame
-nothing_read : (outcome : Outcome) (frame : FrameSeen) (meters : List Meter) (positions : List Position) → 1 ≤ losses_by outcome → frame_of (heard_in outcome frame meters positions) ≡ None
+pub nothing_read : (outcome : Outcome) (frame : FrameSeen) (meters : List Meter) (positions : List Position) → 1 ≤ losses_by outcome → frame_of (heard_in outcome frame meters positions) ≡ None
 nothing_read RequestLost frame meters positions lost = no_frame_of_nothing
 nothing_read ReplyLost frame meters positions lost = no_frame_of_nothing
 nothing_read ReplyUnreadable frame meters positions lost = no_frame_of_zero

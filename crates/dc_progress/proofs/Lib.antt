@@ -6,6 +6,8 @@ pub mod Parts
 pub mod Register
 -- what the meter answers to each request, and how that is judged
 pub mod Heard
+-- a session judges other bytes that are no whole answer as it judges a lost one
+pub mod Unanswered
 -- what a round makes of a concentrator
 pub mod Rounds
 -- a readout, round after round (the theorem of specs/Progress)

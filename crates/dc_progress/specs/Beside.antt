@@ -10,7 +10,7 @@ use Rattle.dc_record.specs.Body.{continues}
 use Rattle.dc_readout.specs.Summary.{Summary, Verdict, again, ready, new, failed, verdict_by}
 use Rattle.dc_world.specs.declared.event.Outcome.{Outcome}
 use Rattle.dc_world.specs.Meter.{Meter, Position}
-use Rattle.dc_world.specs.World.{positions_after, heard_in}
+use Rattle.dc_world.specs.World.{positions_after}
 use Rattle.dc_change.specs.State.{State, MeterRow, PartRow, ReadingRow, row_of}
 use Rattle.dc_register.specs.Orders.{is_of}
 use Rattle.dc_concentrator.specs.declared.line_heard.LineHeard.{LineHeard}
@@ -24,7 +24,7 @@ use Rattle.dc_concentrator.specs.Step.{ask_answer, hear_answer}
 use Rattle.dc_concentrator.specs.Transcript.{Turn, leads, IsChain}
 use Rattle.dc_progress.specs.Needs.{IsThere, CanBegin}
 use Rattle.dc_progress.specs.Progress.{requests_of}
-use Rattle.dc_progress.specs.Rounds.{Scene, begun_on, losses_by, row_after}
+use Rattle.dc_progress.specs.Rounds.{IsHeard, Scene, begun_on, losses_by, row_after}
 
 -- ---- the line
 
@@ -61,7 +61,8 @@ IsElsewhere line commits = ⊥
 IsElsewhere line (offices text) = ⊥
 
 -- THE LINE SERVES these turns. Each request reaches the meters of the line, and their reply is
--- heard, unless something is lost, but nothing is lost three times in a row. No answer is refused:
+-- heard, unless something is lost; then anything is heard that is no whole answer. But nothing is lost
+-- three times in a row. No answer is refused:
 -- memory and room are available. No commit fails. What other lines do is free.
 pub data Serves (line : ℕ) (meters : List Meter) : Bus → List Turn → Bus → Type 0 where
   rests : {bus : Bus} → Serves line meters bus [] bus
@@ -73,7 +74,7 @@ pub data Serves (line : ℕ) (meters : List Meter) : Bus → List Turn → Bus �
       → Serves line meters bus ((asks line, asked None) ∷ more) last
   gives_it : {bus last : Bus} {moment : ℕ} {bytes : List ℕ} {answer : LineHeard} {more : List Turn}
       (outcome : Outcome) (frame : FrameSeen)
-      → bus.waits ≡ Some frame → bytes ≡ heard_in outcome frame meters bus.positions
+      → bus.waits ≡ Some frame → IsHeard outcome frame meters bus.positions bytes
       → row_after bus.row outcome < 3
       → Serves line meters (bus_after meters outcome frame bus) more last
       → Serves line meters bus ((hears line moment bytes, heard (Ok answer)) ∷ more) last
@@ -148,14 +149,14 @@ pub record GoesBeside (budget line : ℕ) (meters : List Meter) (meter : Meter) 
       → last.heard < 3 * requests_of meter.address parts
   pub asks_on : (s : Summary) → session_of now line ≡ Some s → now.pending ≡ []
       → (request : List ℕ) × (ask_answer now line ≡ Some request) × IsSome (frame_of request)
-  pub takes : (outcome : Outcome) (frame : FrameSeen) (moment : ℕ)
-      → last.waits ≡ Some frame → row_after last.row outcome < 3
-      → IsTakenUnlessFull
-      (hear_answer budget now line moment (heard_in outcome frame meters last.positions))
-  pub next_part : (s : Summary) (outcome : Outcome) (frame : FrameSeen)
-      → session_of now line ≡ Some s → last.waits ≡ Some frame → row_after last.row outcome < 3
-      → (s.meter ≡ meter.identity) × IsNextPart (drop s.settled parts)
-      (verdict_by s (heard_in outcome frame meters last.positions))
+  pub takes : (outcome : Outcome) (frame : FrameSeen) (moment : ℕ) (bytes : List ℕ)
+      → last.waits ≡ Some frame → IsHeard outcome frame meters last.positions bytes
+      → row_after last.row outcome < 3
+      → IsTakenUnlessFull (hear_answer budget now line moment bytes)
+  pub next_part : (s : Summary) (outcome : Outcome) (frame : FrameSeen) (bytes : List ℕ)
+      → session_of now line ≡ Some s → last.waits ≡ Some frame
+      → IsHeard outcome frame meters last.positions bytes → row_after last.row outcome < 3
+      → (s.meter ≡ meter.identity) × IsNextPart (drop s.settled parts) (verdict_by s bytes)
   pub ends : session_of now line ≡ None
       → HasRead meter.identity row parts (present before) now.committed
 

@@ -1,7 +1,8 @@
 -- The rounds of a readout on one line, and what the line loses in them (this product). The meters
 -- follow the standard: the frame count bit at both stations (EN 13757-2), selection (EN 13757-3
 -- until 2013, since then EN 13757-7).
-use Rattle.std.specs.Prelude.{◌≡◌, ◌≢◌, ℕ, ◌+◌, ◌<◌, Some, Result, Ok, Err, List, [], ◌∷◌}
+use Rattle.std.specs.Prelude.{◌≡◌, ◌≢◌, ◌⊎◌, ℕ, ◌+◌, ◌<◌, Bool, true, false, Some, Result, Ok, Err}
+use Rattle.std.specs.Prelude.{List, [], ◌∷◌, if◌then◌else◌}
 use Rattle.dc_frame.specs.Frame.{FrameSeen}
 use Rattle.dc_frame.specs.Reading.{frame_of}
 use Rattle.dc_address.specs.declared.identity.Identity.{Identity}
@@ -10,6 +11,7 @@ use Rattle.dc_world.specs.declared.event.Outcome.TheVariants.{RequestLost, Reply
 use Rattle.dc_world.specs.declared.event.Outcome.TheVariants.{ReplyUnreadable, AsSent}
 use Rattle.dc_world.specs.Meter.{Meter, Position}
 use Rattle.dc_world.specs.World.{positions_after, heard_in}
+use Rattle.dc_late.specs.Late.{clear_after, has_answer}
 use Rattle.dc_concentrator.specs.declared.line_heard.LineHeard.{LineHeard}
 use Rattle.dc_concentrator.specs.declared.fault.HearFault.{HearFault}
 use Rattle.dc_concentrator.specs.declared.fault.HearFault.TheVariants.{NoMemory}
@@ -98,3 +100,24 @@ row_after row AsSent = 0
 abbrev pub LoseFew : ℕ → List Round → Type 0
 LoseFew row [] = Unit {0}
 LoseFew row (r ∷ rounds) = (row_after row r.outcome < 3) × LoseFew (row_after row r.outcome) rounds
+
+-- ---- what is heard
+
+-- Whether these bytes are a whole answer to a request: the acknowledgement of a command, a long frame
+-- for another request. The reset of all selected meters has none.
+abbrev pub is_answered : FrameSeen → List ℕ → Bool
+is_answered frame bytes =
+    if has_answer frame then clear_after frame (frame_of bytes) true else false
+
+-- where something is lost, no whole answer; where nothing is, anything after a request without one
+abbrev pub IsUnanswered : Outcome → FrameSeen → List ℕ → Type 0
+IsUnanswered RequestLost frame bytes = is_answered frame bytes ≡ false
+IsUnanswered ReplyLost frame bytes = is_answered frame bytes ≡ false
+IsUnanswered ReplyUnreadable frame bytes = is_answered frame bytes ≡ false
+IsUnanswered AsSent frame bytes = has_answer frame ≡ false
+
+-- WHAT IS HEARD of an exchange: what the meters make of it, or other bytes that are no whole answer
+-- where something was lost, as noise, a piece of an answer, or a late acknowledgement.
+abbrev pub IsHeard : Outcome → FrameSeen → List Meter → List Position → List ℕ → Type 0
+IsHeard outcome frame meters positions bytes =
+    (bytes ≡ heard_in outcome frame meters positions) ⊎ IsUnanswered outcome frame bytes
