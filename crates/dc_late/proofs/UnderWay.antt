@@ -192,7 +192,7 @@ module _ (P : List ℕ → Type 0) (harmless : (x : List ℕ) → IsHarmless x �
       let h = pieces_harmless piece pieces e in
       (harmless piece h.0, pieces_all pieces more h.1 all)
 
-  cut_all : (place count : ℕ) (pieces way : List (List ℕ)) → AllByRecursion P way → AllByRecursion P (cut_at place count pieces way)
+  pub cut_all : (place count : ℕ) (pieces way : List (List ℕ)) → AllByRecursion P way → AllByRecursion P (cut_at place count pieces way)
   cut_all place count pieces [] all = tt
   cut_all zero count pieces (x ∷ xs) all = go (is_long (frame_of x)) (are_no_telegrams pieces) refl
     where
@@ -209,7 +209,7 @@ module _ (P Q : List ℕ → Type 0) (old : (x : List ℕ) → IsHarmless x → 
       let h = pieces_harmless piece pieces e in
       inl (old piece h.0, pieces_ordered pieces more h.1 o)
 
-  cut_ordered : (place count : ℕ) (pieces way : List (List ℕ)) → IsOrdered P Q way → IsOrdered P Q (cut_at place count pieces way)
+  pub cut_ordered : (place count : ℕ) (pieces way : List (List ℕ)) → IsOrdered P Q way → IsOrdered P Q (cut_at place count pieces way)
   cut_ordered place count pieces [] o = tt
   cut_ordered zero count pieces (x ∷ xs) o = go (is_long (frame_of x)) (are_no_telegrams pieces) refl
     where
