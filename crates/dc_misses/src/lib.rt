@@ -1,0 +1,14 @@
+//! What the failed tries of a readout brought.
+//!
+//! A try of a request fails by silence, by bytes that are no frame, or by a frame that isn't the answer. [`Misses`]
+//! counts each kind, and [`put_misses`] writes the counts as a sentence, which names a cause better than
+//! `NoAnswer` does.
+#![tactic(auto)]
+
+mod laws;
+mod misses;
+mod text;
+
+pub use laws::misses_are_counted;
+pub use misses::Misses;
+pub use text::put_misses;
