@@ -4,6 +4,10 @@ pub mod Whole
 pub mod Happenings
 -- turns that were run, one after the other, and what is said of them
 pub mod Running
+-- how many tries of a readout fail at most
+pub mod Few
+-- what the failed tries of a line's readout brought
+pub mod Missing
 -- how the queue of a line goes on, and the talk on its bus
 pub mod Queues
 -- the next state of a line, by the answers

@@ -36,7 +36,7 @@ AreRead (part left failed pass phase) happened = ReadIn left phase happened
 
 told_read : (end : End) (told : Told) → IsToldAs end told → IsWellTold told → read_by told ≡ meter_of end ∷ []
 told_read (Read meter) told is well = ap read_by is.2
-told_read (Failed meter why) told is well = absurd (subst IsWellTold is well)
+told_read (Failed meter why) told is well = absurd (subst IsWellTold is.2 well)
 told_read (Refused meter refusal) told is well = absurd (subst IsWellTold is well)
 
 abbrev IsAtEnd : Part → Type 0

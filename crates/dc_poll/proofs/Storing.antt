@@ -22,6 +22,7 @@ use Rattle.dc_poll.specs.declared.phase.Request.{Request}
 use Rattle.dc_poll.specs.declared.phase.Request.TheVariants.{Quiet}
 use Rattle.dc_poll.specs.declared.station.Station.{Station}
 use Rattle.dc_poll.proofs.Counting.{left_count, pass_less}
+use Rattle.dc_poll.proofs.Missing.{counts_turn}
 use Rattle.dc_poll.proofs.Queues.{part_after, talk_is, of_after}
 
 -- the part that such a next is
@@ -69,17 +70,18 @@ fewer_by tries out pending (m ∷ ms) due pass (Pending n) request waits ready s
 module _ {B : Type 0} (g : Bus B) where
   pub line_stored : (tries line : ℕ) (stored : Result ℕ CommitFault) (old new : Station B) → IsSound g tries old → IsStored stored old new → LineGoes g tries line old new (does (commits, committed stored) ∷ [])
   line_stored tries line stored old new sound is = record {
-    queue = subst (λ (x : Part). Goes tries line (part_of old) (does (commits, committed stored) ∷ []) x) (sym (part_after _ old.bus old.request old.said new is)) (goes_stored tries line old.left.now old.due old.pass old.phase old.request (g.waits_left old.bus) stored sound);
-    talk = subst (λ (x : Talk B). Talks g line (talk_of old) (does (commits, committed stored) ∷ []) x) (sym (talk_is new old.bus old.request old.said is.bus is.request is.said)) (talk_stands_by rests);
+    queue = subst (λ (x : Part). Goes tries line (part_of old) (does (commits, committed stored) ∷ []) x) (sym (part_after _ old.bus old.request old.said new is.0)) (goes_stored tries line old.left.now old.due old.pass old.phase old.request (g.waits_left old.bus) stored sound);
+    talk = subst (λ (x : Talk B). Talks g line (talk_of old) (does (commits, committed stored) ∷ []) x) (sym (talk_is new old.bus old.request old.said is.0.bus is.0.request is.0.said)) (talk_stands_by rests);
+    misses = counts_turn line old.misses new.misses (commits, committed stored) is.1;
   }
 
   pub sound_stored : (tries : ℕ) (stored : Result ℕ CommitFault) (old new : Station B) → IsSound g tries old → IsStored stored old new → IsSound g tries new
   sound_stored tries stored old new sound is =
-      of_after (λ left due pass phase request bus. IsSoundIn tries (length left) due pass phase request (g.waits_left bus)) _ _ _ _ new is (sound_by tries old.left.now old.due old.pass old.phase old.request (g.waits_left old.bus) stored sound)
+      of_after (λ left due pass phase request bus. IsSoundIn tries (length left) due pass phase request (g.waits_left bus)) _ _ _ _ new is.0 (sound_by tries old.left.now old.due old.pass old.phase old.request (g.waits_left old.bus) stored sound)
 
   pub fewer_stored : (tries out pending : ℕ) (stored : Result ℕ CommitFault) (old new : Station B) → IsSound g tries old → IsStored stored old new → rounds_of g out pending 0 tries new ≤ rounds_of g out 0 0 tries old - 0
   fewer_stored tries out pending stored old new sound is =
-      of_after (λ left due pass phase request bus. rounds_in out pending 0 tries (length left) due pass phase request (g.waits_left bus) (g.ready bus) (g.settles_left bus) ≤ rounds_of g out 0 0 tries old - 0) _ _ _ _ new is
+      of_after (λ left due pass phase request bus. rounds_in out pending 0 tries (length left) due pass phase request (g.waits_left bus) (g.ready bus) (g.settles_left bus) ≤ rounds_of g out 0 0 tries old - 0) _ _ _ _ new is.0
       (fewer_by tries out pending old.left.now old.due old.pass old.phase old.request (g.waits_left old.bus) (g.ready old.bus) (g.settles_left old.bus) stored sound)
 
   -- ---- all lines

@@ -138,7 +138,7 @@ pub data InRounds {T : Type 0} (told : T → ℕ → T → Type 0) (passes : T �
 abbrev pub IsNewest : State → Told → Type 0
 IsNewest state (was_read meter serial parts) =
     (serial ≡ newest_serial meter state) × (parts ≡ newest_parts meter state)
-IsNewest state (has_failed meter why) = Unit {0}
+IsNewest state (has_failed at meter why misses) = Unit {0}
 IsNewest state (was_refused meter refusal) = Unit {0}
 IsNewest state (is_lost line) = Unit {0}
 IsNewest state (came_late line answers) = Unit {0}

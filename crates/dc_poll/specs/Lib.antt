@@ -12,10 +12,14 @@ pub mod Queue
 pub mod Talking
 -- what a round commits
 pub mod Keeping
+-- what the failed tries of a readout brought
+pub mod Missed
 -- a line's part of the readout
 pub mod Station
 -- what a round does
 pub mod Round
+-- what is told of the failed readouts of a line
+pub mod Failures
 -- when a poll may sleep
 pub mod Waiting
 -- what a poll does, round after round

@@ -11,6 +11,7 @@ use Rattle.dc_concentrator.specs.declared.fault.StartFault.{StartFault}
 use Rattle.dc_concentrator.specs.declared.line_heard.LineHeard.{LineHeard}
 use Rattle.dc_concentrator.specs.declared.line_heard.LineHeard.TheVariants.{Again, Ready, Accepted}
 use Rattle.dc_concentrator.specs.declared.line_heard.LineHeard.TheVariants.{Failed as HasFailed}
+use Rattle.dc_misses.specs.declared.misses.Misses.{Misses}
 use Rattle.dc_readout.specs.declared.why.Why.{Why}
 use Rattle.dc_readout.specs.declared.why.Why.TheVariants.{NoAnswer}
 use Rattle.dc_poll.specs.Happening.{Happening, does, tells}
@@ -50,7 +51,8 @@ IsUnpending (Over end) = Unit {0}
 -- such an event says how a readout ended
 abbrev pub IsToldAs : End → Told → Type 0
 IsToldAs (Read meter) told = (serial parts : ℕ) × (told ≡ was_read meter serial parts)
-IsToldAs (Failed meter why) told = told ≡ has_failed meter why
+IsToldAs (Failed meter why) told =
+    (at : ℕ) × (misses : Misses) × (told ≡ has_failed at meter why misses)
 IsToldAs (Refused meter refusal) told = told ≡ was_refused meter refusal
 
 -- THE QUEUE OF A LINE GOES ON by what happens on that line, IN PASSES. The present meter is started, asked and heard.
@@ -220,7 +222,7 @@ IsWell (replied reply) = Unit {0}
 
 abbrev pub IsWellTold : Told → Type 0
 IsWellTold (was_read meter serial parts) = Unit {0}
-IsWellTold (has_failed meter why) = ⊥
+IsWellTold (has_failed at meter why misses) = ⊥
 IsWellTold (was_refused meter refusal) = ⊥
 IsWellTold (is_lost line) = Unit {0}
 IsWellTold (came_late line answers) = Unit {0}
@@ -233,7 +235,7 @@ GoesWell (tells line told) = IsWellTold told
 -- the meters of which it is told that they were read
 abbrev pub read_by : Told → List Identity
 read_by (was_read meter serial parts) = meter ∷ []
-read_by (has_failed meter why) = []
+read_by (has_failed at meter why misses) = []
 read_by (was_refused meter refusal) = []
 read_by (is_lost line) = []
 read_by (came_late line answers) = []

@@ -2,6 +2,7 @@
 
 use crate::end::Refusal;
 use dc_address::Identity;
+use dc_misses::Misses;
 use dc_readout::Why;
 
 /// An event of a poll.
@@ -16,12 +17,16 @@ pub enum Event {
         /// Number of telegrams of the reading.
         parts: u64,
     },
-    /// The last try at a meter failed.
+    /// The last readout of a meter failed.
     Failed {
+        /// The line, from 1.
+        line: u8,
         /// The meter.
         meter: Identity,
-        /// Why that try failed.
+        /// Why that readout failed.
         why: Why,
+        /// What its failed tries brought.
+        misses: Misses,
     },
     /// The readout of a meter was refused.
     Refused {

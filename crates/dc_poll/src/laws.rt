@@ -11,6 +11,7 @@ ghost use Rattle.dc_change.specs.State.{State};
 ghost use Rattle.dc_concentrator.specs.Core.{Core};
 ghost use Rattle.dc_concentrator.specs.Transcript.{Turn, IsChain, leads};
 ghost use Rattle.dc_poll.specs.Committed.{IsCommittedWhereNoneIsAsked};
+ghost use Rattle.dc_poll.specs.Failures.{MissesAreTold};
 ghost use Rattle.dc_poll.specs.Happening.{Happening, happened_turns, tells};
 ghost use Rattle.dc_poll.specs.Keeping.{AreTrue, IsSettled, Store, all_kept, store_behind};
 ghost use Rattle.dc_poll.specs.PendingRoom.{AnswersFindRoom};
@@ -53,6 +54,11 @@ pub fn what_is_read_is_not_begun_again()
         AreApart meters → IsToldAs end told →
         Goes tries line (part meters [] 1 Free) (front ++ tells line told ∷ back) last →
         Lacks (meter_of end) (starts_in back) }
+{}
+
+/// The event of a failed readout has its line, and says how many of its failed tries brought what.
+pub fn the_misses_of_a_failed_readout_are_told<B: QuietBus + Drop>()
+    ensures { MissesAreTold B.QuietBus }
 {}
 
 /// The queues of a plan have each meter once, where those of the register ascend.

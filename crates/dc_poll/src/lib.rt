@@ -32,7 +32,8 @@ pub use event::Event;
 pub use image::{Plan, poll_image};
 pub use laws::{
     a_queue_comes_to_its_end, every_meter_of_a_queue_is_started, the_meters_of_a_queue_are_apart,
-    what_is_committed_waits_no_more, what_is_read_is_committed, what_is_read_is_not_begun_again,
+    the_misses_of_a_failed_readout_are_told, what_is_committed_waits_no_more,
+    what_is_read_is_committed, what_is_read_is_not_begun_again,
     where_nothing_fails_every_meter_is_read,
 };
 pub use outcome::{Counts, Outcome};

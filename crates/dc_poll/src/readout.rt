@@ -190,14 +190,12 @@ fn finish<B: QuietBus + Drop, N: Teller>(
     ensures well { OnOk result (N.failures teller.new ≡ N.failures teller.old) }
 {
     let failed = between.failed.saturating_add(meters_left(stations));
-    match tell_finish(stations, between.read, failed, teller) {
-        Ok(()) => Ok(Outcome {
-            read: between.read,
-            failed,
-            fault: between.fault,
-        }),
-        Err(fault) => Err(fault),
-    }
+    tell_finish(stations, between.read, failed, teller)?;
+    Ok(Outcome {
+        read: between.read,
+        failed,
+        fault: between.fault,
+    })
 }
 
 fn tell_finish<B: QuietBus + Drop, N: Teller>(

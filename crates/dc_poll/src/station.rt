@@ -1,9 +1,11 @@
 //! One line of a poll: its bus, and the meters left to read on it.
 
-ghost use Rattle.std.specs.Prelude.{◌≡◌, ◌⊎◌, ◌<◌, ◌≤◌, ◌+◌, ◌-◌, ℕ, List, IfNone, IfSome, OnOk};
+ghost use Rattle.std.specs.Prelude.{◌≡◌, ◌⊎◌, ◌<◌, ◌≤◌, ◌+◌, ◌-◌, ℕ, List, [], IfNone, IfSome, OnOk};
 ghost use Rattle.std.specs.Prelude.{IfErr, length, nat_lt, slice_get, true, false};
 ghost use Rattle.dc_concentrator.specs.Step.{longest_request};
 ghost use Rattle.dc_bus.specs.Halves.{most_waits};
+ghost use Rattle.dc_misses.specs.Misses.{misses_of};
+ghost use Rattle.dc_poll.specs.Missed.{is_miss, is_missing, misses_heard};
 ghost use Rattle.dc_poll.specs.Queue.{most_asks};
 ghost use Rattle.dc_poll.specs.Station.{IsAfter, Listens, after_answer, ended, is_answered};
 ghost use Rattle.dc_poll.specs.Station.{lost_by, next_pass, put_off, stored_by, taken_of};
@@ -19,6 +21,8 @@ use dc_address::Identity;
 use dc_bus::QuietBus;
 use dc_concentrator::{CommitFault, HearFault, LineHeard, StartFault};
 use dc_frame::FrameBuf;
+use dc_misses::Misses;
+use dc_readout::Why;
 use std::mem;
 
 // No readout asks more often: three tries at a reset, a selection and each of 32 parts, and once more where nothing
@@ -44,6 +48,8 @@ pub struct Station<'a, B: QuietBus + Drop> {
     pub request: Request,
     /// Whether the loss of the line was told.
     pub said: bool,
+    /// What the failed tries of its readout brought.
+    pub misses: Misses,
 }
 
 impl<'a, B: QuietBus + Drop> Station<'a, B> {
@@ -52,6 +58,7 @@ impl<'a, B: QuietBus + Drop> Station<'a, B> {
         ensures fresh { IsAfter
             (record { left = meters.old; due = length meters.old; pass = 1; phase = Free }) bus Quiet
             false result }
+        ensures misses { result.misses ≡ misses_of [] }
     {
         let due = meters.len();
         Station {
@@ -62,6 +69,7 @@ impl<'a, B: QuietBus + Drop> Station<'a, B> {
             phase: Phase::Free,
             request: Request::Quiet,
             said: false,
+            misses: Misses::none(),
         }
     }
 
@@ -82,9 +90,10 @@ impl<'a, B: QuietBus + Drop> Station<'a, B> {
     // Where no meter is left in this pass, the next one goes through those that failed.
     pub(crate) fn pass_on(&mut self)
         requires { self.old.due ≡ 0 → self.old.pass < 255 }
-        ensures { IsAfter
+        ensures after { IsAfter
             (next_pass self.old.left.now self.old.due self.old.pass self.old.phase)
             self.old.bus self.old.request self.old.said self.new }
+        ensures misses { self.new.misses ≡ self.old.misses }
     {
         if self.due == 0 {
             self.due = self.left.len();
@@ -103,7 +112,9 @@ impl<'a, B: QuietBus + Drop> Station<'a, B> {
         ensures err { IfErr answer (λ fault. IsAfter
             (ended self.old.left.now self.old.due self.old.pass (Refused meter (Start fault)))
             self.old.bus self.old.request self.old.said self.new) }
+        ensures misses { self.new.misses ≡ misses_of [] }
     {
+        self.misses = Misses::none();
         match answer {
             Ok(()) => self.phase = Phase::Busy(MOST_ASKS),
             Err(fault) => self.leave(End::Refused(meter, Refusal::Start(fault))),
@@ -124,6 +135,7 @@ impl<'a, B: QuietBus + Drop> Station<'a, B> {
         ensures over { IfNone request (IsAfter
             (ended self.old.left.now self.old.due self.old.pass (Read meter))
             self.old.bus self.old.request self.old.said self.new) }
+        ensures misses { self.new.misses ≡ self.old.misses }
     {
         match request {
             Some(request) => {
@@ -159,10 +171,7 @@ impl<'a, B: QuietBus + Drop> Station<'a, B> {
     pub(crate) fn taken(&self) -> &[u8]
         ensures { result.now ≡ taken_of self.now.request }
     {
-        match &self.request {
-            Request::Answered(bytes) => bytes.as_slice(),
-            _ => &[],
-        }
+        taken_of(&self.request)
     }
 
     // What becomes of the readout by what was heard. Whether a telegram was accepted.
@@ -175,10 +184,13 @@ impl<'a, B: QuietBus + Drop> Station<'a, B> {
     )
         requires busy { self.old.phase ≡ Busy asks }
         requires due { (0 < self.old.due) × (self.old.due ≤ length self.old.left.now) }
-        ensures { IsAfter (after_answer (nat_lt self.old.pass tries)
+        ensures after { IsAfter (after_answer (nat_lt self.old.pass tries)
             self.old.left.now self.old.due self.old.pass asks meter answer)
             self.old.bus Quiet self.old.said self.new }
+        ensures misses { self.new.misses
+            ≡ misses_heard (taken_of self.old.request) answer self.old.misses }
     {
+        self.count_miss(&answer);
         self.request = Request::Quiet;
         match answer {
             Ok(LineHeard::Again) | Ok(LineHeard::Ready) => {}
@@ -194,11 +206,23 @@ impl<'a, B: QuietBus + Drop> Station<'a, B> {
         }
     }
 
+    // Where the try failed, what it brought is counted.
+    fn count_miss(&mut self, answer: &Result<LineHeard, HearFault>)
+        ensures { self.new ≡ record self.old {
+          misses = misses_heard (taken_of self.old.request) answer.now self.old.misses;
+        } }
+    {
+        if is_miss(answer) {
+            self.misses.count(taken_of(&self.request));
+        }
+    }
+
     // What becomes of it by a commit.
     pub(crate) fn stored(&mut self, stored: &Result<usize, CommitFault>)
-        ensures { IsAfter (stored_by
+        ensures after { IsAfter (stored_by
             self.old.left.now self.old.due self.old.pass self.old.phase stored.now)
             self.old.bus self.old.request self.old.said self.new }
+        ensures misses { self.new.misses ≡ self.old.misses }
     {
         if let Phase::Pending(asks) = self.phase {
             match stored {
@@ -210,9 +234,10 @@ impl<'a, B: QuietBus + Drop> Station<'a, B> {
 
     // The present meter's telegram isn't stored.
     fn lose(&mut self, fault: CommitFault)
-        ensures { IsAfter (lost_by
+        ensures after { IsAfter (lost_by
             self.old.left.now self.old.due self.old.pass self.old.phase fault)
             self.old.bus self.old.request self.old.said self.new }
+        ensures misses { self.new.misses ≡ self.old.misses }
     {
         if let Some(meter) = self.present() {
             self.leave(End::Refused(meter, Refusal::Commit(fault)));
@@ -222,8 +247,9 @@ impl<'a, B: QuietBus + Drop> Station<'a, B> {
     // The present meter failed, and comes last in the next pass.
     fn put_off(&mut self)
         requires { (0 < self.old.due) × (self.old.due ≤ length self.old.left.now) }
-        ensures { IsAfter (put_off self.old.left.now self.old.due self.old.pass)
+        ensures after { IsAfter (put_off self.old.left.now self.old.due self.old.pass)
             self.old.bus self.old.request self.old.said self.new }
+        ensures misses { self.new.misses ≡ self.old.misses }
     {
         self.left.rotate_left(1);
         self.due -= 1;
@@ -232,8 +258,9 @@ impl<'a, B: QuietBus + Drop> Station<'a, B> {
 
     // The present meter is done with.
     pub(crate) fn leave(&mut self, end: End)
-        ensures { IsAfter (ended self.old.left.now self.old.due self.old.pass end)
+        ensures after { IsAfter (ended self.old.left.now self.old.due self.old.pass end)
             self.old.bus self.old.request self.old.said self.new }
+        ensures misses { self.new.misses ≡ self.old.misses }
     {
         let left = mem::replace(&mut self.left, &mut []);
         if let Some((_, more)) = left.split_first_mut() {
@@ -241,5 +268,36 @@ impl<'a, B: QuietBus + Drop> Station<'a, B> {
         }
         self.due = self.due.saturating_sub(1);
         self.phase = Phase::Over(end);
+    }
+}
+
+// What was heard; nothing is silence.
+fn taken_of(request: &Request) -> &[u8]
+    ensures { result.now ≡ taken_of request.now }
+{
+    match request {
+        Request::Answered(bytes) => bytes.as_slice(),
+        _ => &[],
+    }
+}
+
+// Whether the try failed.
+fn is_miss(answer: &Result<LineHeard, HearFault>) -> bool
+    ensures { result ≡ is_miss answer.now }
+{
+    match answer {
+        Ok(LineHeard::Again) => true,
+        Ok(LineHeard::Failed(why)) => is_missing(why),
+        Ok(LineHeard::Ready) | Ok(LineHeard::Accepted { .. }) | Err(_) => false,
+    }
+}
+
+// Whether a readout that fails so had no answer of the meter itself.
+fn is_missing(why: &Why) -> bool
+    ensures { result ≡ is_missing why.now }
+{
+    match why {
+        Why::NoAnswer | Why::WrongFrame | Why::WrongAddress | Why::Stranger => true,
+        Why::ApplicationError | Why::Content(_) | Why::TooManyParts => false,
     }
 }

@@ -21,6 +21,7 @@ use dc_bus::QuietBus;
 use dc_concentrator::Concentrator;
 use dc_disk::Disk;
 use dc_io::IoFault;
+use dc_misses::Misses;
 use dc_register::House;
 use std::alloc::Allocator;
 
@@ -31,9 +32,9 @@ pub(crate) fn tell_one<N: Teller>(event: &Event, teller: &mut N) -> Result<(), I
     teller.tell(event)
 }
 
-// The event of an end.
-fn told_of<A: Allocator + Copy>(house: &House<A>, end: &End) -> Event
-    ensures { result ≡ told_of house.now.state end.now }
+// The event of an end on a line, where these were the misses of the readout.
+fn told_of<A: Allocator + Copy>(house: &House<A>, line: u8, misses: Misses, end: &End) -> Event
+    ensures { result ≡ told_of house.now.state line misses end.now }
 {
     match *end {
         End::Read(meter) => Event::Read {
@@ -41,7 +42,12 @@ fn told_of<A: Allocator + Copy>(house: &House<A>, end: &End) -> Event
             serial: newest_serial(house, &meter),
             parts: newest_parts(house, &meter) as u64,
         },
-        End::Failed(meter, why) => Event::Failed { meter, why },
+        End::Failed(meter, why) => Event::Failed {
+            line,
+            meter,
+            why,
+            misses,
+        },
         End::Refused(meter, refusal) => Event::Refused { meter, refusal },
     }
 }
@@ -84,7 +90,8 @@ fn tell_end<D: Disk + Drop, A: Allocator + Copy, B: QuietBus + Drop, N: Teller>(
     };
     station.phase = Phase::Free;
     count(&end, outcome);
-    teller.tell(&told_of(concentrator.house(), &end))
+    let told = told_of(concentrator.house(), line, station.misses, &end);
+    teller.tell(&told)
 }
 
 // That a line is lost is told once.

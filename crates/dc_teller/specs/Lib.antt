@@ -4,6 +4,8 @@
 pub mod Text
 -- the events of a poll as JSON objects
 pub mod Object
+-- what is said of a failed readout on standard error
+pub mod Reason
 -- output that a poll goes on without
 pub mod Unfailing
 -- the meters that a poll is done with

@@ -4,6 +4,7 @@ use Rattle.dc_address.specs.Text.{text_of}
 use Rattle.dc_address.specs.declared.identity.Identity.{Identity}
 use Rattle.dc_concentrator.specs.Fault.{start_number, start_name, hear_number, hear_name, commit_number}
 use Rattle.dc_concentrator.specs.Fault.{commit_name}
+use Rattle.dc_misses.specs.declared.misses.Misses.{Misses}
 use Rattle.dc_poll.specs.declared.end.Refusal.{Refusal}
 use Rattle.dc_poll.specs.declared.end.Refusal.TheVariants.{Start, Hear, Commit}
 use Rattle.dc_poll.specs.declared.event.Event.{Event}
@@ -51,6 +52,14 @@ body_field ApplicationError = []
 body_field Stranger = []
 body_field TooManyParts = []
 
+-- the line of a failed readout, and how many of its failed tries brought what
+unfoldable pub heard_fields : ℕ → Misses → List ℕ
+heard_fields line misses =
+    field (codes ",\"line\":") line
+    ++ field (codes ",\"heard\":{\"silent\":") misses.silent
+    ++ field (codes ",\"noise\":") misses.noise
+    ++ field (codes ",\"others\":") misses.others ++ codes "}"
+
 -- the fields of the fault of the call that refused
 unfoldable pub refusal_fields : Refusal → List ℕ
 refusal_fields (Start fault) = own_fault (start_number fault) (start_name fault)
@@ -58,8 +67,10 @@ refusal_fields (Hear fault) = own_fault (hear_number fault) (hear_name fault)
 refusal_fields (Commit fault) = own_fault (commit_number fault) (commit_name fault)
 
 -- the end of an object, after the meter
-unfoldable pub why_rest : Why → List ℕ
-why_rest why = own_fault (why_number why) (why_name why) ++ body_field why ++ codes "}\n"
+unfoldable pub why_rest : Why → ℕ → Misses → List ℕ
+why_rest why line misses =
+    own_fault (why_number why) (why_name why) ++ body_field why
+    ++ heard_fields line misses ++ codes "}\n"
 
 unfoldable pub refusal_rest : Refusal → List ℕ
 refusal_rest refusal = refusal_fields refusal ++ codes "}\n"
@@ -72,8 +83,8 @@ reading_rest serial parts =
 abbrev pub object_of : Event → List ℕ
 object_of (Read meter serial parts) =
     meter_field (codes "{\"event\":\"read\",\"meter\":\"") meter ++ reading_rest serial parts
-object_of (Failed meter why) =
-    meter_field (codes "{\"event\":\"failed\",\"meter\":\"") meter ++ why_rest why
+object_of (Failed line meter why misses) =
+    meter_field (codes "{\"event\":\"failed\",\"meter\":\"") meter ++ why_rest why line misses
 object_of (Refused meter refusal) =
     meter_field (codes "{\"event\":\"refused\",\"meter\":\"") meter ++ refusal_rest refusal
 object_of (Lost line) = field (codes "{\"event\":\"lost\",\"line\":") line ++ codes "}\n"

@@ -7,10 +7,12 @@ ghost use Rattle.dc_poll.specs.declared.event.Event.TheVariants.{Late, End};
 ghost use Rattle.dc_teller.specs.Object.{object_of, field, text_field, meter_field, fault_fields};
 ghost use Rattle.dc_teller.specs.Object.{own_fault};
 ghost use Rattle.dc_teller.specs.Object.{body_field, body_fault, refusal_fields, why_rest, refusal_rest};
+ghost use Rattle.dc_teller.specs.Object.{heard_fields};
 ghost use Rattle.dc_teller.specs.Object.{reading_rest};
 
 use dc_address::Identity;
 use dc_io::{IoFault, Sink, put_number};
+use dc_misses::Misses;
 use dc_poll::{Event, Refusal, Teller};
 use dc_readout::Why;
 use dc_record::BodyFault;
@@ -46,7 +48,12 @@ pub fn put_object<W: Sink>(out: &mut W, event: &Event) -> Result<(), IoFault>
             serial,
             parts,
         } => put_read(out, meter, *serial, *parts),
-        Event::Failed { meter, why } => put_failed(out, meter, *why),
+        Event::Failed {
+            line,
+            meter,
+            why,
+            misses,
+        } => put_failed(out, *line, meter, *why, misses),
         Event::Refused { meter, refusal } => put_refused(out, meter, *refusal),
         Event::Lost { line } => put_lost(out, *line),
         Event::Late { line, answers } => put_late(out, *line, *answers),
@@ -56,7 +63,7 @@ pub fn put_object<W: Sink>(out: &mut W, event: &Event) -> Result<(), IoFault>
 
 // Writes what stands before a number, and the number.
 #[tactic(auto, using(dc_io::proofs::Pieces::written), unfolding(crate::specs::Object::field))]
-fn put_field<W: Sink>(out: &mut W, before: &[u8], number: u64) -> Result<(), IoFault>
+pub(crate) fn put_field<W: Sink>(out: &mut W, before: &[u8], number: u64) -> Result<(), IoFault>
     ensures { Wrote W.Sink result out.old out.new (field before.now number) }
 {
     out.put(before)?;
@@ -129,20 +136,40 @@ fn put_reading_rest<W: Sink>(out: &mut W, serial: u64, parts: u64) -> Result<(),
 
 // Writes the object of a meter whose readout failed.
 #[tactic(auto, using(dc_io::proofs::Pieces::written))]
-fn put_failed<W: Sink>(out: &mut W, meter: &Identity, why: Why) -> Result<(), IoFault>
-    ensures { Wrote W.Sink result out.old out.new (object_of (Failed meter.now why)) }
+fn put_failed<W: Sink>(
+    out: &mut W,
+    line: u8,
+    meter: &Identity,
+    why: Why,
+    misses: &Misses,
+) -> Result<(), IoFault>
+    ensures { Wrote W.Sink result out.old out.new
+        (object_of (Failed line meter.now why misses.now)) }
 {
     put_meter_field(out, b"{\"event\":\"failed\",\"meter\":\"", meter)?;
-    put_why_rest(out, why)
+    put_why_rest(out, why, line, misses)
 }
 
 #[tactic(auto, using(dc_io::proofs::Pieces::written), unfolding(crate::specs::Object::why_rest))]
-fn put_why_rest<W: Sink>(out: &mut W, why: Why) -> Result<(), IoFault>
-    ensures { Wrote W.Sink result out.old out.new (why_rest why) }
+fn put_why_rest<W: Sink>(out: &mut W, why: Why, line: u8, misses: &Misses) -> Result<(), IoFault>
+    ensures { Wrote W.Sink result out.old out.new (why_rest why line misses.now) }
 {
     put_fault(out, why.number(), why.name())?;
     put_body_field(out, why)?;
+    put_heard_fields(out, line, misses)?;
     out.put(b"}\n")
+}
+
+// Writes the line of a failed readout, and how many of its failed tries brought what.
+#[tactic(auto, using(dc_io::proofs::Pieces::written), unfolding(crate::specs::Object::heard_fields))]
+fn put_heard_fields<W: Sink>(out: &mut W, line: u8, misses: &Misses) -> Result<(), IoFault>
+    ensures { Wrote W.Sink result out.old out.new (heard_fields line misses.now) }
+{
+    put_line_field(out, b",\"line\":", line)?;
+    put_field(out, b",\"heard\":{\"silent\":", u64::from(misses.silent))?;
+    put_field(out, b",\"noise\":", u64::from(misses.noise))?;
+    put_field(out, b",\"others\":", u64::from(misses.others))?;
+    out.put(b"}")
 }
 
 // Writes the field of the body's fault, of a fault of content.

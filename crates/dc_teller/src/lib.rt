@@ -2,12 +2,14 @@
 //!
 //! [`TextTeller`] prints a line of text for each event, [`JsonTeller`] a JSON object (RFC 8259);
 //! `specs/Text.antt` and `specs/Object.antt` define them. [`Unfailing`] goes on without output
-//! where another teller fails. [`Progress`] shows a terminal how many meters are done with.
+//! where another teller fails. [`Progress`] shows a terminal how many meters are done with, and
+//! [`put_reason`] writes what the failed tries of a readout brought.
 #![tactic(auto)]
 
 mod json;
 mod laws;
 mod progress;
+mod reason;
 mod tally;
 mod text;
 mod unfailing;
@@ -17,6 +19,7 @@ pub use laws::{
     events_are_printed_as_json, events_are_printed_as_text, events_are_taken_up_to_a_failure,
 };
 pub use progress::{Progress, Shown};
+pub use reason::put_reason;
 pub use tally::Tally;
 pub use text::{TextTeller, put_line};
 pub use unfailing::Unfailing;

@@ -1,13 +1,14 @@
 //! The progress of a poll, on a terminal.
 
+use crate::reason::put_reason;
 use crate::tally::Tally;
 use dc_bus::QuietBus;
-use dc_io::IoFault;
+use dc_io::{FixedSink, IoFault};
 use dc_poll::{Event, Phase, Station, Teller};
 use std::cell::Cell;
-use std::io;
 use std::rt::Clock;
 use std::time::Instant;
+use std::{io, str};
 
 // Back to the first column, and nothing after it.
 const CLEAR: &str = "\r\u{1b}[K";
@@ -96,6 +97,20 @@ fn meters_of<B: QuietBus + Drop>(stations: &[Station<'_, B>]) -> u64 {
     count
 }
 
+// Room for the longest line of a failed readout.
+const LONGEST_REASON: usize = 160;
+
+// Says on standard error what the failed tries of a readout brought, where the event is of one.
+fn explain<R: Eprint>(rt: &R, event: &Event) {
+    let mut reason: FixedSink<LONGEST_REASON> = FixedSink::new();
+    if put_reason(&mut reason, event).is_ok()
+        && let Ok(line) = str::from_utf8(reason.as_slice())
+        && !line.is_empty()
+    {
+        let _ = rt.eprint(line);
+    }
+}
+
 /// Hands events on to a teller. The progress counts them, and its line is cleared before.
 #[derive(Drop)]
 pub struct Shown<'p, 'h, R, N: Teller + Drop> {
@@ -103,6 +118,8 @@ pub struct Shown<'p, 'h, R, N: Teller + Drop> {
     pub teller: N,
     /// The progress.
     pub progress: &'p Progress<'h, R>,
+    /// Whether standard error says what the failed tries of a readout brought.
+    pub explains: bool,
 }
 
 impl<R: Clock + Eprint, N: Teller + Drop> Teller for Shown<'_, '_, R, N> {
@@ -116,6 +133,10 @@ impl<R: Clock + Eprint, N: Teller + Drop> Teller for Shown<'_, '_, R, N> {
         self.progress.clear();
         let tally = &self.progress.tally;
         tally.set(tally.get().after(event));
-        self.teller.tell(event)
+        let told = self.teller.tell(event);
+        if self.explains {
+            explain(self.progress.rt, event);
+        }
+        told
     }
 }

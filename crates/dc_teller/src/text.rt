@@ -3,7 +3,7 @@
 ghost use Rattle.std.specs.Prelude.{◌≡◌, ◌++◌, codes};
 ghost use Rattle.dc_address.specs.Text.{text_of};
 ghost use Rattle.dc_io.specs.Written.{Wrote};
-ghost use Rattle.dc_poll.specs.declared.event.Event.TheVariants.{Read, Failed, Refused, Lost};
+ghost use Rattle.dc_poll.specs.declared.event.Event.TheVariants.{Read, Refused, Lost};
 ghost use Rattle.dc_poll.specs.declared.event.Event.TheVariants.{Late, End};
 ghost use Rattle.dc_teller.specs.Text.{line_of, why_text, why_end, refusal_text, refusal_end};
 
@@ -52,7 +52,7 @@ pub fn put_line<W: Sink>(out: &mut W, event: &Event) -> Result<(), IoFault>
             serial,
             parts,
         } => put_read(out, meter, *serial, *parts),
-        Event::Failed { meter, why } => put_failed(out, meter, *why),
+        Event::Failed { meter, why, .. } => put_failed(out, meter, *why),
         Event::Refused { meter, refusal } => put_refused(out, meter, *refusal),
         Event::Lost { line } => put_lost(out, *line),
         Event::Late { line, answers } => put_late(out, *line, *answers),
@@ -75,7 +75,8 @@ fn put_read<W: Sink>(out: &mut W, meter: &Identity, serial: u64, parts: u64) -> 
 // Writes `FAILED ident n Name`.
 #[tactic(auto, using(dc_io::proofs::Pieces::written))]
 fn put_failed<W: Sink>(out: &mut W, meter: &Identity, why: Why) -> Result<(), IoFault>
-    ensures { Wrote W.Sink result out.old out.new (line_of (Failed meter.now why)) }
+    ensures { Wrote W.Sink result out.old out.new
+        (codes "FAILED " ++ text_of meter.now ++ why_end why) }
 {
     match out.put(b"FAILED ") {
         Ok(()) => put_meter_why(out, meter, why),

@@ -161,10 +161,10 @@ where
     };
     let out = WriteSink::new(writer);
     let (outcome, is_printed) = if is_json {
-        let (outcome, done) = poll_with(host, disk, plan, JsonTeller { out });
+        let (outcome, done) = poll_with(host, disk, plan, JsonTeller { out }, false);
         (outcome, is_printed(done.has_failed, done.teller.out))
     } else {
-        let (outcome, done) = poll_with(host, disk, plan, TextTeller { out });
+        let (outcome, done) = poll_with(host, disk, plan, TextTeller { out }, true);
         (outcome, is_printed(done.has_failed, done.teller.out))
     };
     match outcome {
@@ -173,12 +173,14 @@ where
     }
 }
 
-// Reads the meters of the plan. The teller gets their events up to its first failure.
+// Reads the meters of the plan. The teller gets their events up to its first failure. Where it explains, standard error
+// says what the failed tries of a failed readout brought.
 fn poll_with<D, R, N>(
     host: &Host<'_, R>,
     disk: FileDisk<D>,
     plan: Plan<'_, Global, SystemBus<'_, R>>,
     teller: N,
+    explains: bool,
 ) -> (Result<Outcome, ProgramFault>, Unfailing<N>)
 where
     D: FileExt + OpenFile + Drop,
@@ -187,7 +189,7 @@ where
     requires { 0 < plan.tries }
 {
     let progress = Progress::new(host.rt, host.is_watched);
-    poll_shown(&progress, *host.rt, disk, plan, teller)
+    poll_shown(&progress, *host.rt, disk, plan, teller, explains)
 }
 
 // The same, with this progress.
@@ -197,6 +199,7 @@ fn poll_shown<'p, 'h, D, R, N>(
     disk: FileDisk<D>,
     plan: Plan<'_, Global, SystemBus<'_, R>>,
     teller: N,
+    explains: bool,
 ) -> (Result<Outcome, ProgramFault>, Unfailing<N>)
 where
     D: FileExt + OpenFile + Drop,
@@ -207,6 +210,7 @@ where
     let mut shown = Shown {
         teller: Unfailing::new(teller),
         progress,
+        explains,
     };
     let mut timer = SystemTimer {
         clock: rt,

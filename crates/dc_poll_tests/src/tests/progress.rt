@@ -3,6 +3,7 @@
 use super::house::{Row, line_of};
 use dc_address::Identity;
 use dc_io::Bytes;
+use dc_misses::Misses;
 use dc_poll::{Event, Station, Teller};
 use dc_readout::Why;
 use dc_teller::{Progress, Shown, TextTeller};
@@ -67,6 +68,9 @@ const ONE_READ: &str = "\r\u{1b}[K1 of 2 meters, 0 failed, 7 s";
 
 const BOTH_DONE: &str = "\r\u{1b}[K2 of 2 meters, 1 failed, 7 s";
 
+const TWO_FAILED: &str =
+    "mbdc: line 1: 00000011.PAD.01.07: 2 tries failed: 1 silent, 1 unreadable\n";
+
 const NO_ROWS: [Row; 0] = [];
 
 // An event clears the line, and counts; it is shown once, until a meter or a second is more.
@@ -84,6 +88,7 @@ fn progress_counts_the_events(rt: HostRuntime) -> Result<(), Fail> {
             out: Bytes::new(heap),
         },
         progress: &progress,
+        explains: false,
     };
     progress.show(stations.as_slice());
     assert_eq!(rt; printed(&terminal).as_deref(), Some(AT_FIRST));
@@ -100,11 +105,41 @@ fn progress_counts_the_events(rt: HostRuntime) -> Result<(), Fail> {
     assert_eq!(rt; printed(&terminal).as_deref(), Some(ONE_READ));
     shown.tell(&Event::Lost { line: 1 })?;
     shown.tell(&Event::Failed {
+        line: 1,
         meter,
         why: Why::NoAnswer,
+        misses: Misses::none(),
     })?;
     progress.show(stations.as_slice());
     assert_eq!(rt; printed(&terminal).as_deref(), Some(BOTH_DONE));
+    Ok(())
+}
+
+// After the event of a failed readout standard error says what its failed tries brought.
+#[test]
+fn a_failed_readout_is_explained(rt: HostRuntime) -> Result<(), Fail> {
+    let heap = rt.alloc();
+    let terminal = Terminal::new(heap);
+    let progress = Progress::new(&terminal, false);
+    let mut shown = Shown {
+        teller: TextTeller {
+            out: Bytes::new(heap),
+        },
+        progress: &progress,
+        explains: true,
+    };
+    let mut misses = Misses::none();
+    misses.count(b"");
+    misses.count(b"\x10\x5B\x01\x00\x16");
+    shown.tell(&Event::Failed {
+        line: 1,
+        meter: Identity::parse_text(b"00000011.PAD.01.07")?,
+        why: Why::NoAnswer,
+        misses,
+    })?;
+    assert_eq!(rt; printed(&terminal).as_deref(), Some(TWO_FAILED));
+    shown.tell(&Event::Lost { line: 1 })?;
+    assert_eq!(rt; printed(&terminal).as_deref(), None);
     Ok(())
 }
 

@@ -6,15 +6,23 @@ use dc_address::Identity;
 use dc_concentrator::{CommitFault, HearFault, StartFault};
 use dc_disk::MemoryDisk;
 use dc_io::{Bytes, FixedSink};
+use dc_misses::Misses;
 use dc_poll::{Event, Outcome, Refusal, Teller};
 use dc_readout::Why;
 use dc_record::BodyFault;
-use dc_teller::{JsonTeller, TextTeller, Unfailing, put_line, put_object};
+use dc_teller::{JsonTeller, TextTeller, Unfailing, put_line, put_object, put_reason};
 use std::alloc::Global;
 use std::process::Abort;
 use std::test::Fail;
 
 const METER: &[u8] = b"00000011.PAD.01.07";
+
+// Three tries failed, and one of them brought bytes that are no frame.
+const TWO_SILENT: Misses = Misses {
+    silent: 2,
+    noise: 1,
+    others: 0,
+};
 
 // An event with the line and the object that docs/COMMANDS.md and docs/JSON.md give it.
 #[derive(Drop)]
@@ -52,19 +60,23 @@ fn events_as_text_and_as_json(rt: HostRuntime) -> Result<(), Fail> {
         ),
         Case(
             Event::Failed {
+                line: 2,
                 meter,
                 why: Why::NoAnswer,
+                misses: TWO_SILENT,
             },
             "FAILED 00000011.PAD.01.07 1 NoAnswer\n",
-            "{\"event\":\"failed\",\"meter\":\"00000011.PAD.01.07\",\"number\":1,\"name\":\"NoAnswer\"}\n",
+            "{\"event\":\"failed\",\"meter\":\"00000011.PAD.01.07\",\"number\":1,\"name\":\"NoAnswer\",\"line\":2,\"heard\":{\"silent\":2,\"noise\":1,\"others\":0}}\n",
         ),
         Case(
             Event::Failed {
+                line: 1,
                 meter,
                 why: Why::Content(BodyFault::Encrypted),
+                misses: Misses::none(),
             },
             "FAILED 00000011.PAD.01.07 5 Content 3 Encrypted\n",
-            "{\"event\":\"failed\",\"meter\":\"00000011.PAD.01.07\",\"number\":5,\"name\":\"Content\",\"fault\":{\"number\":3,\"name\":\"Encrypted\"}}\n",
+            "{\"event\":\"failed\",\"meter\":\"00000011.PAD.01.07\",\"number\":5,\"name\":\"Content\",\"fault\":{\"number\":3,\"name\":\"Encrypted\"},\"line\":1,\"heard\":{\"silent\":0,\"noise\":0,\"others\":0}}\n",
         ),
         Case(
             refused(Refusal::Start(StartFault::NoLine)),
@@ -109,6 +121,45 @@ fn events_as_text_and_as_json(rt: HostRuntime) -> Result<(), Fail> {
     Ok(())
 }
 
+// What is said of an event on standard error.
+fn says(rt: &impl Abort, heap: Global, event: &Event, line: &str) -> Result<(), Fail> {
+    let mut text = Bytes::new(heap);
+    put_reason(&mut text, event)?;
+    assert_eq!(rt; text_of_bytes(&text)?, line);
+    Ok(())
+}
+
+#[test]
+fn failed_tries_are_named(rt: HostRuntime) -> Result<(), Fail> {
+    let heap = rt.alloc();
+    let meter = Identity::parse_text(METER)?;
+    let failed = |misses| Event::Failed {
+        line: 2,
+        meter,
+        why: Why::NoAnswer,
+        misses,
+    };
+    says(
+        &rt,
+        heap,
+        &failed(TWO_SILENT),
+        "mbdc: line 2: 00000011.PAD.01.07: 3 tries failed: 2 silent, 1 unreadable\n",
+    )?;
+    let other = Misses {
+        silent: 0,
+        noise: 0,
+        others: 1,
+    };
+    says(
+        &rt,
+        heap,
+        &failed(other),
+        "mbdc: line 2: 00000011.PAD.01.07: 1 try failed: 1 with a wrong frame\n",
+    )?;
+    says(&rt, heap, &failed(Misses::none()), "")?;
+    says(&rt, heap, &Event::Lost { line: 2 }, "")
+}
+
 // Line 2 is lost with its third request, after the first part, and had late answers; line 3 has no bus.
 const ROWS: [Row; 3] = [
     Row("00000011.PAD.01.07", 1, Some(1), Kind::Sends(1), SHORT),
@@ -120,7 +171,7 @@ const OBJECTS: &str =
     "{\"event\":\"refused\",\"meter\":\"00000031.PAD.01.07\",\"number\":1,\"name\":\"NoLine\"}
 {\"event\":\"read\",\"meter\":\"00000011.PAD.01.07\",\"serial\":1,\"parts\":1}
 {\"event\":\"lost\",\"line\":2}
-{\"event\":\"failed\",\"meter\":\"00000021.PAD.01.07\",\"number\":1,\"name\":\"NoAnswer\"}
+{\"event\":\"failed\",\"meter\":\"00000021.PAD.01.07\",\"number\":1,\"name\":\"NoAnswer\",\"line\":2,\"heard\":{\"silent\":3,\"noise\":0,\"others\":0}}
 {\"event\":\"late\",\"line\":2,\"answers\":3}
 {\"event\":\"end\",\"read\":1,\"failed\":2}
 ";
@@ -170,6 +221,35 @@ fn a_poll_as_text_and_as_json(rt: HostRuntime) -> Result<(), Fail> {
     };
     poll_rows(&rt, heap, &mut json)?;
     assert_eq!(rt; text_of_bytes(&json.out)?, OBJECTS);
+    Ok(())
+}
+
+// Each is started twice: nobody answers, another meter does, and two at once.
+const UNHEARD: [Row; 3] = [
+    Row("00000011.PAD.01.07", 1, Some(1), Kind::Dead, SHORT),
+    Row("00000012.PAD.01.07", 1, Some(2), Kind::Stranger, SHORT),
+    Row("00000013.PAD.01.07", 1, Some(3), Kind::Collides, SHORT),
+];
+
+// The failed tries of the second start alone. At a reset two acknowledgements are one; two telegrams are noise.
+const UNHEARD_OBJECTS: &str =
+    "{\"event\":\"failed\",\"meter\":\"00000011.PAD.01.07\",\"number\":1,\"name\":\"NoAnswer\",\"line\":1,\"heard\":{\"silent\":3,\"noise\":0,\"others\":0}}
+{\"event\":\"failed\",\"meter\":\"00000012.PAD.01.07\",\"number\":6,\"name\":\"Stranger\",\"line\":1,\"heard\":{\"silent\":0,\"noise\":0,\"others\":1}}
+{\"event\":\"failed\",\"meter\":\"00000013.PAD.01.07\",\"number\":1,\"name\":\"NoAnswer\",\"line\":1,\"heard\":{\"silent\":0,\"noise\":3,\"others\":0}}
+{\"event\":\"end\",\"read\":0,\"failed\":3}
+";
+
+#[test]
+fn what_failed_tries_brought(rt: HostRuntime) -> Result<(), Fail> {
+    let heap = rt.alloc();
+    let mut json = JsonTeller {
+        out: Bytes::new(heap),
+    };
+    let lines = lines_of(heap, heap, &UNHEARD)?;
+    let disk = registered(heap, &UNHEARD)?;
+    let (_, outcome, _) = poll_told(heap, disk, lines, &[], NEW_YEAR, &mut json)?;
+    assert!(rt; outcome.is_ok());
+    assert_eq!(rt; text_of_bytes(&json.out)?, UNHEARD_OBJECTS);
     Ok(())
 }
 

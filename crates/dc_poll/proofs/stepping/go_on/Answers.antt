@@ -14,13 +14,13 @@ returns-clause-went g c =
     runs_as g.D.Disk _ _ c.args.concentrator.now c.prepare.new.concentrator c.prepare.ensures.went
     (λ core happened b. steps_both c.args.tries c.args.line IsAsking c.args.station.now c.pass_on.new.self c.prepare.new.station [] happened
     (steps_none c.args.tries c.args.line IsAsking c.args.station.now c.pass_on.new.self
-    (line_passed (whole g.B.HalfBus g.B.QuietBus) c.args.tries c.args.line c.args.station.now c.pass_on.new.self c.requires.free some c.requires.sound c.pass_on.ensures)) b)
+    (line_passed (whole g.B.HalfBus g.B.QuietBus) c.args.tries c.args.line c.args.station.now c.pass_on.new.self c.requires.free some c.requires.sound c.pass_on.ensures.after c.pass_on.ensures.misses)) b)
 
 pub returns-clause-fewer : goal.returns-clause-fewer
 returns-clause-fewer g c =
     let some : 0 < length c.args.station.now.left.now = let count = ap length c.requires.first in omega (arith, count) in
     subst (λ (n : ℕ). rounds_of (whole g.B.HalfBus g.B.QuietBus) 0 0 0 c.args.tries c.prepare.new.station ≤ n - 1)
-    (rounds_passed (whole g.B.HalfBus g.B.QuietBus) 1 1 1 c.args.tries c.args.station.now c.pass_on.new.self c.requires.free some c.requires.sound c.pass_on.ensures)
+    (rounds_passed (whole g.B.HalfBus g.B.QuietBus) 1 1 1 c.args.tries c.args.station.now c.pass_on.new.self c.requires.free some c.requires.sound c.pass_on.ensures.after)
     c.prepare.ensures.fewer
 
 pub pass_on-requires : goal.pass_on-requires
@@ -32,20 +32,20 @@ pass_on-requires g c none =
 pub prepare-requires-clause-sound : goal.prepare-requires-clause-sound
 prepare-requires-clause-sound g c =
     let some : 0 < length c.args.station.now.left.now = let count = ap length c.requires.first in omega (arith, count) in
-    (sound_passed (whole g.B.HalfBus g.B.QuietBus) c.args.tries c.args.station.now c.pass_on.new.self c.requires.free some c.requires.sound c.pass_on.ensures).0
+    (sound_passed (whole g.B.HalfBus g.B.QuietBus) c.args.tries c.args.station.now c.pass_on.new.self c.requires.free some c.requires.sound c.pass_on.ensures.after).0
 
 pub prepare-requires-clause-free : goal.prepare-requires-clause-free
 prepare-requires-clause-free g c =
     let old = c.args.station.now in
-    c.pass_on.ensures.phase ∙ passed_phase old.left.now old.due old.pass old.phase ∙ c.requires.free
+    c.pass_on.ensures.after.phase ∙ passed_phase old.left.now old.due old.pass old.phase ∙ c.requires.free
 
 pub prepare-requires-clause-due : goal.prepare-requires-clause-due
 prepare-requires-clause-due g c =
     let some : 0 < length c.args.station.now.left.now = let count = ap length c.requires.first in omega (arith, count) in
-    (sound_passed (whole g.B.HalfBus g.B.QuietBus) c.args.tries c.args.station.now c.pass_on.new.self c.requires.free some c.requires.sound c.pass_on.ensures).1
+    (sound_passed (whole g.B.HalfBus g.B.QuietBus) c.args.tries c.args.station.now c.pass_on.new.self c.requires.free some c.requires.sound c.pass_on.ensures.after).1
 
 pub prepare-requires-clause-first : goal.prepare-requires-clause-first
 prepare-requires-clause-first g c =
     let old = c.args.station.now in
-    let same = c.pass_on.ensures.left ∙ passed_left old.left.now old.due old.pass old.phase in
+    let same = c.pass_on.ensures.after.left ∙ passed_left old.left.now old.due old.pass old.phase in
     subst (λ (xs : List Identity). xs ≡ c.args.meter ∷ drop 1 xs) (sym same) c.requires.first

@@ -12,7 +12,7 @@ returns-clause-went g c =
     let silent = free_quiet (whole g.B.HalfBus g.B.QuietBus) c.args.tries old c.requires.free c.requires.sound in
     runs_as g.D.Disk _ _ c.args.concentrator.now c.start-answer.new.concentrator c.start-answer.ensures.went
     (λ core happened is. steps_one c.args.tries c.args.line IsAsking old c.started.new.self (starts c.args.line c.args.meter) (started c.start-answer.result) happened is (on_line c.args.line) (λ other not. off_line c.args.line other not) tt
-    (line_started (whole g.B.HalfBus g.B.QuietBus) c.args.tries c.args.line c.args.meter c.start-answer.result old c.started.new.self c.requires.free silent c.requires.ready c.requires.first c.requires.due (free_pass (whole g.B.HalfBus g.B.QuietBus) c.args.tries old c.requires.free c.requires.sound).1 c.started.ensures.ok c.started.ensures.err))
+    (line_started (whole g.B.HalfBus g.B.QuietBus) c.args.tries c.args.line c.args.meter c.start-answer.result old c.started.new.self c.requires.free silent c.requires.ready c.requires.first c.requires.due (free_pass (whole g.B.HalfBus g.B.QuietBus) c.args.tries old c.requires.free c.requires.sound).1 c.started.ensures.ok c.started.ensures.err c.started.ensures.misses))
 
 pub returns-clause-fewer : goal.returns-clause-fewer
 returns-clause-fewer g c =
