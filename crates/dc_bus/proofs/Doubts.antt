@@ -52,10 +52,10 @@ again_by s (digits ∷ rest) false true is was selects =
     ∙ ap (λ (a : Bool). record s { due = s.due; answered = a; selections = s.selections + 1 - 1 }) (sym was)
     ∙ ap (λ (n : ℕ). record s { due = s.due; answered = s.answered; selections = n }) made
 
-again : (s : SearchState) → is_selection (step_of s) ≡ true → given_back (next_due s.due) None (after [] s) ≡ s
+pub again : (s : SearchState) → is_selection (step_of s) ≡ true → given_back (next_due s.due) None (after [] s) ≡ s
 again s selects = again_by s s.due s.answered (nat_lt s.selections s.budget) refl refl selects
 
-back_twice : (last before : Option (List ℕ)) (x : List ℕ) (s t : SearchState) → last ≡ Some x → given_back last None s ≡ t → given_back last before s ≡ given_back before None t
+pub back_twice : (last before : Option (List ℕ)) (x : List ℕ) (s t : SearchState) → last ≡ Some x → given_back last None s ≡ t → given_back last before s ≡ given_back before None t
 back_twice None before x s t is same = absurd cc
 back_twice (Some y) None x s t is same = same
 back_twice (Some y) (Some z) x s t is same = ap (taken_back z) same

@@ -18,3 +18,5 @@ pub mod Halves
 pub mod Doubts
 -- a bus that answers at once
 pub mod AtOnce
+-- steps of a search that takes only what is certain
+pub mod Certains

@@ -10,3 +10,5 @@ pub mod Halves
 pub mod Both
 -- a search on a bus whose answers may be late
 pub mod Late
+-- what such a search may take for certain
+pub mod Certain

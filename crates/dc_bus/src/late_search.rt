@@ -1,6 +1,7 @@
 //! A search on a bus whose answers may be late.
 
-ghost use Rattle.std.specs.Prelude.{◌≡◌, ◌≢◌, ◌≤◌, ◌<◌, ◌+◌, ℕ, true, false, List, [], None, Some};
+ghost use Rattle.std.specs.Prelude.{◌≡◌, ◌≢◌, ◌≤◌, ◌<◌, ◌+◌, ◌-◌, ℕ, true, false, List, [], None};
+ghost use Rattle.std.specs.Prelude.{Some};
 ghost use Rattle.std.specs.Prelude.{IfOk, OnOk, OnErr, IfSome, IsTrue, option_map, Ok};
 ghost use Rattle.std.specs.Prelude.{if◌then◌else◌};
 ghost use Rattle.dc_address.specs.declared.identity.Identity.{Identity as Meter};
@@ -8,6 +9,7 @@ ghost use Rattle.dc_frame.specs.Frame.{spelling};
 ghost use Rattle.dc_bus.specs.Bus.{HasHeard, IsSearched};
 ghost use Rattle.dc_bus.specs.Late.{InDoubt, IsPlain, Sought, SoughtFrom, given_back, is_selection};
 ghost use Rattle.dc_bus.specs.Late.{steps_left};
+ghost use Rattle.dc_bus.specs.Certain.{CertainOrGivenUp, EndsCertain, IsCertain, most_tries};
 ghost use Rattle.dc_search.specs.Request.{request_by};
 ghost use Rattle.dc_search.specs.State.{SearchState, after, is_idle, next_due, step_of};
 
@@ -39,7 +41,8 @@ struct Doubt {
 /// it, or another answer came. Where a later selection is acknowledged and its request met by
 /// silence, or a late answer shows, the answer may be that to a selection in doubt: the bus settles,
 /// and these selections are made again. A request whose answer was late is sent again. Selections
-/// that are made again aren't counted.
+/// that are made again aren't counted. After 64 such repeats in a row answers are taken as they
+/// come.
 ///
 /// # Errors
 /// Out of memory.
@@ -57,6 +60,9 @@ pub fn search_late<A: Allocator + Copy, B: ScriptBus>(
         Sought B.asks B.settles B.ready budget bus.old bus.new search) }
     ensures stopped { OnErr result ((search : SearchState)
         × Sought B.asks B.settles B.ready budget bus.old bus.new search) }
+    // It takes only what is certain on a bus that is first in first out, unless it gives up.
+    ensures certain { IfOk result (λ search.
+        EndsCertain B.asks B.settles B.ready B.late budget bus.old bus.new search) }
     // Where the bus states its meters, it follows their walk.
     ensures walk { IfOk result (λ search.
         IfSome (B.meters bus.old) (λ told. IsSearched told budget search)) }
@@ -98,11 +104,17 @@ fn step<A: Allocator + Copy, B: ScriptBus>(
         doubt.old.before
         → OnErr result ((some : SearchState)
         × SoughtFrom B.asks B.settles B.ready budget first bus.new some) }
+    ensures certain { (budget : ℕ) (first : B)
+        → CertainOrGivenUp B.asks B.settles B.ready B.late budget first bus.old search.old
+        doubt.old.last doubt.old.before doubt.old.tries
+        → OnOk result (CertainOrGivenUp B.asks B.settles B.ready B.late budget first bus.new
+        search.new doubt.new.last doubt.new.before doubt.new.tries) }
     ensures smaller { IfOk result (λ goes_on.
         steps_left search.new doubt.new.last doubt.new.before doubt.new.tries
         + (if goes_on then 1 else 0)
         < steps_left search.old doubt.old.last doubt.old.before doubt.old.tries + 1) }
     ensures ended { result ≡ Ok false → IsTrue (is_idle (step_of search.new)) }
+    ensures over { result ≡ Ok false → doubt.new.last ≡ None }
     ensures meters { B.meters bus.new ≡ B.meters bus.old }
     ensures listed { (told : List Meter) → B.meters bus.old ≡ Some told → doubt.old.last ≡ None
         → OnOk result ((doubt.new.last ≡ None)
@@ -134,6 +146,8 @@ fn take<A: Allocator + Copy>(
     requires { is_idle (step_of search.old) ≡ false }
     ensures ok { OnOk result (search.new ≡ after answer.now search.old) }
     ensures sure { OnOk result (doubt.new.last ≡ None) }
+    ensures none { OnOk result (doubt.new.before ≡ None) }
+    ensures tries { OnOk result (doubt.new.tries ≡ most_tries) }
     ensures smaller { OnOk result
         (steps_left search.new doubt.new.last doubt.new.before doubt.new.tries
         < steps_left search.old doubt.old.last doubt.old.before doubt.old.tries) }
@@ -155,6 +169,8 @@ fn give_back<A: Allocator + Copy>(search: &mut Search<A>, doubt: &mut Doubt) -> 
     ensures ok { OnOk result (search.new
         ≡ given_back doubt.old.last doubt.old.before search.old) }
     ensures sure { OnOk result (doubt.new.last ≡ None) }
+    ensures none { OnOk result (doubt.new.before ≡ None) }
+    ensures tries { OnOk result (doubt.new.tries ≡ doubt.old.tries - 1) }
     ensures smaller { OnOk result
         (steps_left search.new doubt.new.last doubt.new.before doubt.new.tries
         < steps_left search.old doubt.old.last doubt.old.before doubt.old.tries) }
@@ -182,6 +198,7 @@ fn keep_silence<A: Allocator + Copy>(
     ensures ok { OnOk result (search.new ≡ after [] search.old) }
     ensures last { OnOk result (doubt.new.last ≡ next_due search.old.due) }
     ensures before { OnOk result (doubt.new.before ≡ doubt.old.last) }
+    ensures tries { OnOk result (doubt.new.tries ≡ doubt.old.tries) }
     ensures smaller { OnOk result
         (steps_left search.new doubt.new.last doubt.new.before doubt.new.tries
         < steps_left search.old doubt.old.last doubt.old.before doubt.old.tries) }
@@ -215,11 +232,17 @@ fn finish<A: Allocator + Copy, B: ScriptBus>(
         doubt.old.before
         → OnErr result ((some : SearchState)
         × SoughtFrom B.asks B.settles B.ready budget first bus.new some) }
+    ensures certain { (budget : ℕ) (first : B)
+        → CertainOrGivenUp B.asks B.settles B.ready B.late budget first bus.old search.old
+        doubt.old.last doubt.old.before doubt.old.tries
+        → OnOk result (CertainOrGivenUp B.asks B.settles B.ready B.late budget first bus.new
+        search.new doubt.new.last doubt.new.before doubt.new.tries) }
     ensures smaller { IfOk result (λ goes_on.
         steps_left search.new doubt.new.last doubt.new.before doubt.new.tries
         + (if goes_on then 1 else 0)
         < steps_left search.old doubt.old.last doubt.old.before doubt.old.tries + 1) }
     ensures meters { B.meters bus.new ≡ B.meters bus.old }
+    ensures still { result ≡ Ok false → doubt.new.last ≡ None }
     ensures over { doubt.old.last ≡ None → OnOk result ((search.new ≡ search.old)
         × (doubt.new.last ≡ None)) }
     ensures untouched { doubt.old.last ≡ None → bus.new ≡ bus.old }
@@ -243,6 +266,8 @@ fn finish<A: Allocator + Copy, B: ScriptBus>(
 // Settles the bus, and returns whether late answers came meanwhile.
 fn settles_late<B: ScriptBus>(bus: &mut B) -> bool
     ensures settled { B.settles bus.old bus.new }
+    ensures late { result ≡ true → B.late bus.new ≢ B.late bus.old }
+    ensures quiet { result ≡ false → B.late bus.new ≡ B.late bus.old }
     ensures meters { B.meters bus.new ≡ B.meters bus.old }
 {
     let before = bus.late();
@@ -274,6 +299,13 @@ fn weigh<A: Allocator + Copy, B: ScriptBus>(
         → B.asks asked request answer.now bus.old
         → OnErr result ((some : SearchState)
         × SoughtFrom B.asks B.settles B.ready budget first bus.new some) }
+    ensures certain { (budget : ℕ) (first asked : B) (request : List ℕ)
+        → CertainOrGivenUp B.asks B.settles B.ready B.late budget first asked search.old
+        doubt.old.last doubt.old.before doubt.old.tries
+        → option_map spelling (request_by (step_of search.old)) ≡ Some request
+        → B.asks asked request answer.now bus.old → late ≡ B.late asked
+        → OnOk result (CertainOrGivenUp B.asks B.settles B.ready B.late budget first bus.new
+        search.new doubt.new.last doubt.new.before doubt.new.tries) }
     ensures smaller { OnOk result
         (steps_left search.new doubt.new.last doubt.new.before doubt.new.tries
         < steps_left search.old doubt.old.last doubt.old.before doubt.old.tries) }
@@ -330,6 +362,13 @@ fn confirm<A: Allocator + Copy, B: ScriptBus>(
         → B.asks asked request acknowledgement.now bus.old
         → OnErr result ((some : SearchState)
         × SoughtFrom B.asks B.settles B.ready budget first bus.new some) }
+    ensures certain { (budget : ℕ) (first asked : B) (request : List ℕ)
+        → CertainOrGivenUp B.asks B.settles B.ready B.late budget first asked search.old
+        doubt.old.last doubt.old.before doubt.old.tries
+        → option_map spelling (request_by (step_of search.old)) ≡ Some request
+        → B.asks asked request acknowledgement.now bus.old → B.late bus.old ≡ B.late asked
+        → OnOk result (CertainOrGivenUp B.asks B.settles B.ready B.late budget first bus.new
+        search.new doubt.new.last doubt.new.before doubt.new.tries) }
     ensures smaller { OnOk result
         (steps_left search.new doubt.new.last doubt.new.before doubt.new.tries
         < steps_left search.old doubt.old.last doubt.old.before doubt.old.tries) }

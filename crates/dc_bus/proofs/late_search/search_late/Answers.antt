@@ -1,8 +1,10 @@
-use Rattle.std.proofs.Common.{◌+◌, ◌<◌, Bool, [], None, Ok, refl, ap, sym, subst, ◌∙◌}
+use Rattle.std.proofs.Common.{inl, ◌+◌, ◌<◌, Bool, [], None, Ok, refl, ap, sym, subst, ◌∙◌}
 use Rattle.std.specs.Prelude.{if◌then◌else◌}
-use Rattle.dc_search.specs.State.{SearchState, step_of}
+use Rattle.dc_search.specs.State.{SearchState, new_search, step_of}
 use Rattle.dc_bus.specs.Bus.{IsSearched}
+use Rattle.dc_bus.specs.Certain.{most_tries, starts}
 use Rattle.dc_bus.specs.Late.{SoughtFrom, steps_left}
+use Rattle.dc_bus.proofs.Certains.{named}
 use Rattle.dc_bus.proofs.Doubts.{certain, each_told, from_new, idle_none, plain_listed, plain_lost, sought, sought_heard, sought_within}
 use Rattle.dc_bus.proofs.Searching.{Searching, searched, searching_new}
 use Rattle.dc_bus.proofs.late_search.search_late.Goals as goal
@@ -15,6 +17,8 @@ steps-init g c =
       meters = refl;
       sought = certain g.B.Bus.asks g.B.ScriptBus.settles g.B.ScriptBus.ready c.args.budget c.settle.new.self first c.new-search.result None None
           (subst (λ (s : SearchState). SoughtFrom g.B.Bus.asks g.B.ScriptBus.settles g.B.ScriptBus.ready c.args.budget c.settle.new.self first s) new (from_new g.B.Bus.asks g.B.ScriptBus.settles g.B.ScriptBus.ready c.args.budget c.settle.new.self)) refl;
+      certain = named g.B.Bus.asks g.B.ScriptBus.settles g.B.ScriptBus.ready g.B.ScriptBus.late c.args.budget c.settle.new.self first (new_search c.args.budget) c.new-search.result None None None None most_tries most_tries c.new-search.ensures refl refl refl (inl (starts refl));
+      over = λ is. absurd cc;
       ended = λ is. absurd cc;
       walk = λ told is. (refl, subst (λ (s : SearchState). Searching told c.args.budget s (g.B.Bus.selected first)) new (searching_new told c.args.budget (g.B.Bus.selected first)));
       silent = λ is. (refl, refl, subst (λ (s : SearchState). Searching [] c.args.budget s []) new (searching_new [] c.args.budget []));
@@ -37,6 +41,8 @@ steps-preserved g c =
     record {
       meters = c.step.ensures.meters ∙ inv.meters;
       sought = c.in-Ok.ensures.sought c.args.budget c.settle.new.self inv.sought;
+      certain = c.in-Ok.ensures.certain c.args.budget c.settle.new.self inv.certain;
+      over = λ is. c.step.ensures.over (c.in-Ok.is ∙ ap (λ b. Ok b) is);
       ended = λ is. c.step.ensures.ended (c.in-Ok.is ∙ ap (λ (b : Bool). Ok b) is);
       walk = λ told is.
           let so = inv.walk told is in
@@ -47,6 +53,17 @@ steps-preserved g c =
           let still = ap g.B.Bus.lost so.0 ∙ is in
           let plain = c.in-Ok.ensures.lost still so.1 in
           (c.step.ensures.untouched still so.1 ∙ so.0, plain.0, plain_lost g.B.Bus.meters g.B.Bus.selected g.B.Bus.lost c.args.budget c.steps.bus c.step.new.bus c.steps.search c.step.new.search plain.1 still so.2);
+    }
+
+pub returns-clause-certain : goal.returns-clause-certain
+returns-clause-certain g c =
+    let l = c.steps in
+    record {
+      between = c.settle.new.self;
+      settled = c.settle.ensures.step;
+      before = l.doubt.before;
+      tries = l.doubt.tries;
+      ended = named g.B.Bus.asks g.B.ScriptBus.settles g.B.ScriptBus.ready g.B.ScriptBus.late c.args.budget c.settle.new.self l.bus l.search l.search l.doubt.last None l.doubt.before l.doubt.before l.doubt.tries l.doubt.tries refl (sym (l.invariant.over c.steps-test.false)) refl refl l.invariant.certain;
     }
 
 pub returns-clause-within : goal.returns-clause-within

@@ -1,10 +1,12 @@
-use Rattle.std.proofs.Common.{ap, sym, ◌∙◌}
+use Rattle.std.proofs.Common.{inl, None, ap, sym, ◌∙◌}
 use Rattle.std.specs.Prelude.{option_map}
 use Rattle.dc_frame.specs.Frame.{spelling}
 use Rattle.dc_search.specs.Request.{request_by}
 use Rattle.dc_search.specs.State.{after}
 use Rattle.dc_search.specs.declared.step.Step.{Step}
+use Rattle.dc_bus.specs.Certain.{most_tries}
 use Rattle.dc_bus.specs.Late.{goes}
+use Rattle.dc_bus.proofs.Certains.{named, taken}
 use Rattle.dc_bus.proofs.Doubts.{of_err, hear, heard, on_err}
 use Rattle.dc_bus.proofs.late_search.step.Goals as goal
 
@@ -42,3 +44,11 @@ pub returns-clause-sought : goal.returns-clause-sought
 returns-clause-sought g c budget first doubt =
     let next = sym (c.in-Some.ensures.exact ∙ ap (λ (s : Step). option_map spelling (request_by s)) c.next.ensures) in
     c.in_ok-weigh.ensures.sought budget first c.args.bus.now c.in-Some.request doubt next c.ask-answer.ensures.asked
+
+pub returns-then-is_ready-clause-certain : goal.returns-then-is_ready-clause-certain
+returns-then-is_ready-clause-certain g c budget first sure =
+    let next = sym (c.in-Some.ensures.exact ∙ ap (λ (s : Step). option_map spelling (request_by s)) c.next.ensures) in
+    let so = taken g.B.Bus.asks g.B.ScriptBus.settles g.B.ScriptBus.ready g.B.ScriptBus.late budget first c.args.bus.now c.ask-answer.new.self c.args.search.now c.args.doubt.now.last c.args.doubt.now.before c.args.doubt.now.tries c.in-Some.request c.ask-answer.result sure next c.ask-answer.ensures.asked (inl (sym c.is_ready.ensures ∙ c.if-is_ready.true)) in
+    let call = c.take.new in
+    let ok = c.in_ok-take.ensures in
+    named g.B.Bus.asks g.B.ScriptBus.settles g.B.ScriptBus.ready g.B.ScriptBus.late budget first c.ask-answer.new.self (after c.ask-answer.result c.args.search.now) call.search None call.doubt.last None call.doubt.before most_tries call.doubt.tries ok.ok ok.sure ok.none ok.tries so

@@ -1,0 +1,4 @@
+-- the definitions that contracts cite
+
+-- a bus whose answers come over a late link
+pub mod LateLink

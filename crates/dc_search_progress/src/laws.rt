@@ -1,0 +1,25 @@
+//! The theorem about searches over a late link. The function has no effect; its contract states it.
+
+ghost use Rattle.std.specs.Prelude.{◌⊎◌, ℕ, Bool, IsTrue, List};
+ghost use Rattle.dc_address.specs.declared.identity.Identity.{Identity as Meter};
+ghost use Rattle.dc_search.specs.State.{SearchState, is_idle, step_of};
+ghost use Rattle.dc_bus.specs.Bus.{IsSearched};
+ghost use Rattle.dc_bus.specs.Certain.{EndsCertain};
+ghost use Rattle.dc_search_progress.specs.LateLink.{IsGivenUp, IsLateLink, LateLink, On};
+
+use dc_bus::ScriptBus;
+
+/// A search that takes only what is certain made the selections of the walk over the meters of a
+/// late link, as far as its budget went: within the budget it found every meter whose number no
+/// other has, and every number of several meters. Or 64 answers were late.
+///
+/// The link is first in first out and loses nothing; each answer comes within twice the time-out
+/// after it was given up.
+pub fn every_meter_is_found<B: ScriptBus>()
+    ensures { (meters : List Meter) (link : B → LateLink → Bool) (budget : ℕ) (old new : B)
+        (first : LateLink) (search : SearchState)
+        → IsLateLink meters B.asks B.settles B.ready B.late (On link) → On link old first
+        → EndsCertain B.asks B.settles B.ready B.late budget old new search
+        → IsTrue (is_idle (step_of search))
+        → IsSearched meters budget search ⊎ IsGivenUp (On link) first }
+{}
