@@ -1,2 +1,0 @@
--- the entries that count are in order
-mod Kept

@@ -23,4 +23,4 @@ pub mod OnBoundaries
 -- where no step of a period is marked, its values count
 pub mod Clean
 -- the entries that count are in order
-mod Kept
+pub mod Kept
