@@ -2,7 +2,7 @@
 //!
 //! The office sends numbered commands that change the register, and asks for readings and for the
 //! meters. Each of its lines is parsed ([`parse_line`]), judged on the house ([`judge`]) and
-//! answered ([`write_reply`]).
+//! answered by that verdict ([`write_reply`]).
 #![tactic(auto)]
 
 mod code;

@@ -3,22 +3,21 @@
 ghost use Rattle.std.specs.Prelude.{◌≡◌, ◌++◌, IfErr, OnOk};
 ghost use Rattle.dc_change.specs.Valid.{IsState};
 ghost use Rattle.dc_io.specs.Written.{PutsInto, Wrote};
-ghost use Rattle.dc_office.specs.Line.{IsOfficeLine};
 ghost use Rattle.dc_office.specs.Reply.{detail_of, done_line, end_line, refusal_line};
 ghost use Rattle.dc_office.specs.Reply.{register_text, reply_text, report_text, shown_text, Tells};
 ghost use Rattle.dc_office.specs.Verdict.{IfDo, verdict_of};
 
 use crate::register::write_meters;
 use crate::window::write_window;
-use crate::{Code, OfficeLine, ReplyFault, Verdict, judge};
+use crate::{Code, OfficeLine, ReplyFault, Verdict};
 use dc_io::{IoFault, Sink, put_number_word};
 use dc_register::House;
 use dc_table::{Date, counted_due_table};
 use std::alloc::Allocator;
 
-/// Writes the reply to a line that is no new command; a command that was just done is a repeat. A
-/// REPORT allocates its table before anything is written; no other line uses memory, and a WINDOW
-/// costs what it shows.
+/// Writes the reply to a line by the verdict on it ([`judge`](crate::judge)). The line is no new
+/// command; one that was just done is a repeat. A REPORT allocates its table before anything is
+/// written; no other line uses memory, and a WINDOW costs what it shows.
 ///
 /// # Errors
 /// NoMemory: out of memory for a REPORT's table; nothing was written. Write: a write failed; a
@@ -28,20 +27,21 @@ pub fn write_reply<A: Allocator + Copy, W: Sink>(
     alloc: A,
     house: &House<A>,
     line: &OfficeLine,
+    verdict: &Verdict,
     out: &mut W,
 ) -> Result<(), ReplyFault>
-    requires line { IsOfficeLine line.now }
-    requires answered { IfDo (verdict_of house.now line.now) (λ _. ⊥) }
+    requires verdict { verdict.now ≡ verdict_of house.now line.now }
+    requires answered { IfDo verdict.now (λ _. ⊥) }
     ensures text { OnOk result (PutsInto W.Sink out.old out.new
         (reply_text house.now line.now)) }
     ensures well { OnOk result (W.put_failures out.new ≡ W.put_failures out.old) }
     ensures fault { IfErr result (λ fault. Tells W.Sink line.now
         (reply_text house.now line.now) out.old out.new fault) }
 {
-    match judge(house, line) {
+    match verdict {
         Verdict::Repeat => Ok(write_done(house.last_number(), out)?),
         Verdict::Show => write_shown(alloc, house, line, out),
-        Verdict::Refuse(code) => Ok(write_refusal(code, out)?),
+        Verdict::Refuse(code) => Ok(write_refusal(*code, out)?),
         Verdict::Do(_) => unreachable!(),
     }
 }

@@ -70,8 +70,11 @@ fn is_repeat<A: Allocator + Copy>(house: &House<A>, ordered: &Numbered) -> bool
     requires { IsOfficeLine (OfficeLine.Command ordered.now) }
     ensures { result ≡ is_repeat ordered.now house.now.state }
 {
+    if ordered.number != house.last_number() {
+        return false;
+    }
     let line = ordered.command.line(ordered.number);
-    ordered.number == house.last_number() && line.as_slice() == house.last_line()
+    line.as_slice() == house.last_line()
 }
 
 #[tactic(auto, unfolding(crate::specs::Verdict::verdict_of))]

@@ -99,10 +99,8 @@ impl<D: Disk + Drop, A: Allocator + Copy> Concentrator<D, A> {
         if self.store.is_stopped() {
             return Err(CommitFault::Stopped);
         }
-        match self.commit() {
-            Ok(_) => Ok(()),
-            Err(fault) => Err(fault),
-        }
+        self.commit()?;
+        Ok(())
     }
 
     // Answers a line when nothing is pending.
@@ -118,10 +116,11 @@ impl<D: Disk + Drop, A: Allocator + Copy> Concentrator<D, A> {
         ensures fault { OnErr result (HasRisen (W.put_failures out.old) (W.put_failures out.new)) }
         ensures well { OnOk result (W.put_failures out.new ≡ W.put_failures out.old) }
     {
-        match judge(&self.house, line) {
-            Verdict::Do(change) => self.obey(&change, line, out),
+        let verdict = judge(&self.house, line);
+        match &verdict {
+            Verdict::Do(change) => self.obey(change, line, out),
             Verdict::Repeat | Verdict::Show | Verdict::Refuse(_) => {
-                write_answer(self.alloc, &self.house, line, out)
+                write_answer(self.alloc, &self.house, line, &verdict, out)
             }
         }
     }
@@ -133,7 +132,6 @@ impl<D: Disk + Drop, A: Allocator + Copy> Concentrator<D, A> {
         line: &OfficeLine,
         out: &mut W,
     ) -> Result<(), IoFault>
-        requires line { IsOfficeLine line.now }
         requires empty { self.old.waiting.count ≡ 0 }
         requires is_change { IsChange change.now }
         requires accepted { Accepts self.old.house.budget change.now self.old.house.state }
@@ -156,7 +154,7 @@ impl<D: Disk + Drop, A: Allocator + Copy> Concentrator<D, A> {
             Err(_) => return write_refusal(Code::Store, out),
         }
         // the line is a repeat now
-        write_answer(self.alloc, &self.house, line, out)
+        write_answer(self.alloc, &self.house, line, &Verdict::Repeat, out)
     }
 
     // Takes a command when nothing is pending: adds it to the register and the pending changes, and
@@ -179,15 +177,16 @@ impl<D: Disk + Drop, A: Allocator + Copy> Concentrator<D, A> {
     }
 }
 
-// Writes the reply to a line that is no new command, or to a command for which memory ran out.
+// Writes the reply to a line that is no new command, by its verdict; or that memory ran out.
 fn write_answer<A: Allocator + Copy, W: Sink>(
     alloc: A,
     house: &House<A>,
     line: &OfficeLine,
+    verdict: &Verdict,
     out: &mut W,
 ) -> Result<(), IoFault>
-    requires line { IsOfficeLine line.now }
-    requires answered { IfDo (verdict_of house.now line.now) (λ _. ⊥) }
+    requires verdict { verdict.now ≡ verdict_of house.now line.now }
+    requires answered { IfDo verdict.now (λ _. ⊥) }
     ensures told { Wrote W.Sink result out.old out.new
         (reply_text house.now line.now)
         ⊎ (TakesMemory line.now × Wrote W.Sink result out.old out.new
@@ -195,7 +194,7 @@ fn write_answer<A: Allocator + Copy, W: Sink>(
     ensures fault { OnErr result (HasRisen (W.put_failures out.old) (W.put_failures out.new)) }
     ensures well { OnOk result (W.put_failures out.new ≡ W.put_failures out.old) }
 {
-    match write_reply(alloc, house, line, out) {
+    match write_reply(alloc, house, line, verdict, out) {
         Ok(()) => Ok(()),
         Err(ReplyFault::NoMemory) => write_refusal(Code::Memory, out),
         Err(ReplyFault::Write) => Err(IoFault),

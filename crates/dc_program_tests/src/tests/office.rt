@@ -47,11 +47,15 @@ fn answer<A: Allocator + Copy, W: Sink>(
     let Some(line) = parse_line(text) else {
         return Ok(refuse(Code::Syntax, out));
     };
-    if let Verdict::Do(change) = judge(house, &line) {
-        house.apply(&change)?;
-        a_done_command_is_repeated();
-    }
-    Ok(write_reply(alloc, house, &line, out))
+    let verdict = match judge(house, &line) {
+        Verdict::Do(change) => {
+            house.apply(&change)?;
+            a_done_command_is_repeated();
+            Verdict::Repeat
+        }
+        judged => judged,
+    };
+    Ok(write_reply(alloc, house, &line, &verdict, out))
 }
 
 fn is_answered(

@@ -2,9 +2,8 @@ use Rattle.std.proofs.Common.{◌≡◌, ⊎_elim, ap, sym, subst, ◌∙◌, Li
 use Rattle.dc_io.specs.Written.{Wrote}
 use Rattle.dc_change.specs.State.{Held}
 use Rattle.dc_change.specs.Apply.{applied}
-use Rattle.dc_office.specs.declared.verdict.Verdict.{Verdict}
 use Rattle.dc_office.specs.declared.verdict.Verdict.TheVariants.{Repeat}
-use Rattle.dc_office.specs.Verdict.{verdict_of, IfDo}
+use Rattle.dc_office.specs.Verdict.{verdict_of}
 use Rattle.dc_office.specs.Reply.{reply_text}
 use Rattle.dc_office.proofs.Verdicts.{done_without_memory, repeated}
 use Rattle.dc_concentrator.specs.Step.{ordered}
@@ -19,13 +18,13 @@ returns-in-Err-clause-answered g c origin core at running =
     c.args.self.now c.order.new.self core c.args.line.now c.args.change.now wrote at c.requires.empty
     (λ h image left. g.met.D.Disk.only_now c.args.self.now.store.disk image left) c.requires.verdict c.in-Err.ensures.err c.write_refusal.ensures
 
-pub write_answer-requires-clause-answered : goal.write_answer-requires-clause-answered
-write_answer-requires-clause-answered g c =
+pub write_answer-requires-clause-verdict : goal.write_answer-requires-clause-verdict
+write_answer-requires-clause-verdict g c =
     let house : c.self.inside.house ≡ record c.args.self.now.house { state = applied c.args.change.now c.args.self.now.house.state } =
     ap (λ (b : Machine (g.row.D.Denot)). b.house) c.self.view_is ∙ c.in-Ok-settle.ensures.house ∙ c.in-Ok.ensures.house in
     let is : verdict_of c.self.inside.house c.args.line.now ≡ Repeat =
     ap (λ (h : Held). verdict_of h c.args.line.now) house ∙ repeated c.args.self.now.house c.args.line.now c.args.change.now c.requires.verdict in
-    subst (λ (v : Verdict). IfDo v (λ change. ⊥)) (sym is) tt
+    sym is
 
 pub returns-clause-answered : goal.returns-clause-answered
 returns-clause-answered g c origin core at running =
