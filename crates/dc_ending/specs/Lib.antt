@@ -8,3 +8,5 @@ pub mod Ending
 pub mod Escape
 -- the ending of a run, by its engine's result
 pub mod Outcome
+-- an image that isn't opened
+pub mod Unopened

@@ -1,20 +1,18 @@
 //! The engine of `fit`.
 
-ghost use Rattle.std.specs.Prelude.{◌≡◌, ◌≢◌, ◌<◌, ◌≤◌, ◌==◌, ◌||◌, not, [], IfErr, IfOk, IsErrOf};
+ghost use Rattle.std.specs.Prelude.{◌≡◌, ◌<◌, ◌==◌, ◌||◌, not, [], IfErr, IfOk, IsErrOf};
 ghost use Rattle.std.specs.Prelude.{MatchResult, OnErr, map};
 ghost use Rattle.dc_io.specs.Failures.{HasRisen};
 ghost use Rattle.dc_io.specs.Written.{PutsInto};
-ghost use Rattle.dc_disk.specs.Runs.{LeavesOnly};
 ghost use Rattle.dc_change.specs.State.{State};
-ghost use Rattle.dc_log.specs.Halves.{half_of};
-ghost use Rattle.dc_log.specs.Refusal.{TellsOfImage};
-ghost use Rattle.dc_log.specs.declared.fault.OpenFault.TheVariants.{NotImage, Worn, Device};
-ghost use Rattle.dc_pending.specs.Images.{IsRefused, EachStands, StandsForOne};
+ghost use Rattle.dc_log.specs.Halves.{fewest_sectors};
+ghost use Rattle.dc_log.specs.declared.fault.OpenFault.TheVariants.{NotImage};
 ghost use Rattle.dc_concentrator.specs.Core.{opened};
 ghost use Rattle.dc_concentrator.specs.Event.{offices};
 ghost use Rattle.dc_concentrator.specs.Images.{IsAt};
 ghost use Rattle.dc_concentrator.specs.Run.{event_of};
 ghost use Rattle.dc_ending.specs.Fault.{IfOpen, IsOfImage};
+ghost use Rattle.dc_ending.specs.Unopened.{IsUnopened, Stands};
 ghost use Rattle.dc_fit.specs.Fit.{Does, DoesSome, Fits, IsCut, OnImage, office_lines};
 
 use dc_change::{CommandLine, DecodeFault};
@@ -155,35 +153,22 @@ pub fn fit_on<D: Disk + Drop, A: Allocator + Copy, W: Sink>(
     out: &mut W,
 ) -> (D, Result<bool, ProgramFault>)
     // Where each image of the disk stands for some state: all of the plan is run, or nothing.
-    ensures fitted { (D.keeps disk → EachStands (half_of D.Disk disk) (D.choices disk))
-        → IfOk result.1 (λ faulty. OnImage D.Disk (λ state first last.
-        Fits D.Disk first.store.disk state list.now faulty (PutsInto W.Sink out.old out.new) first
-        last) disk result.0) }
-    ensures cut { (D.keeps disk → EachStands (half_of D.Disk disk) (D.choices disk))
-        → IsErrOf result.1 ProgramFault.Write → OnImage D.Disk (λ state first last.
+    ensures fitted { Stands D.Disk disk → IfOk result.1 (λ faulty.
+        OnImage D.Disk (λ state first last. Fits D.Disk first.store.disk state list.now faulty
+        (PutsInto W.Sink out.old out.new) first last) disk result.0) }
+    ensures cut { Stands D.Disk disk → IsErrOf result.1 ProgramFault.Write
+        → OnImage D.Disk (λ state first last.
         IsCut D.Disk first.store.disk state list.now first last) disk result.0 }
-    ensures starved { (D.keeps disk → EachStands (half_of D.Disk disk) (D.choices disk))
-        → IsErrOf result.1 ProgramFault.NoMemory → (out.new ≡ out.old)
+    ensures starved { Stands D.Disk disk → IsErrOf result.1 ProgramFault.NoMemory
+        → (out.new ≡ out.old)
         × OnImage D.Disk (λ state first last. last ≡ first) disk result.0 }
 
-    // A refusal is that of the store; an image that stands for a state is refused only for an
-    // exhausted counter.
-    ensures small { D.sectors disk < 131
-        → MatchResult result.1 (λ faulty. ⊥)
-        (λ fault. IfOpen fault (λ e. (e ≡ NotImage) × (result.0 ≡ disk))) }
-    ensures refused { D.keeps result.0 → 131 ≤ D.sectors disk
-        → IfErr result.1 (λ fault. IfOpen fault (IsRefused (half_of D.Disk disk) (D.reads disk))) }
-    ensures premise { D.keeps result.0 → 131 ≤ D.sectors disk
-        → EachStands (half_of D.Disk disk) (D.choices disk)
-        → IfErr result.1 (λ fault. IfOpen fault (λ e. TellsOfImage e → e ≡ Worn)) }
-    ensures unwritten { IfErr result.1 (λ fault.
-        IfOpen fault (λ e. TellsOfImage e → D.reads result.0 ≡ D.reads disk)) }
-    ensures device { IfErr result.1 (λ fault. IfOpen fault (λ e. e ≡ Device
-        → HasRisen (D.failures disk) (D.failures result.0))) }
-    ensures any_moment { D.keeps result.0 → EachStands (half_of D.Disk disk) (D.choices disk)
-        → IfErr result.1 (λ fault. IfOpen fault (λ e. LeavesOnly D.Disk disk result.0
-        (StandsForOne (half_of D.Disk disk) (D.choices disk)))) }
-    ensures unopened { IfErr result.1 (λ fault. IfOpen fault (λ e. out.new ≡ out.old)) }
+    // An image that isn't opened is refused as by the store, and nothing is lost of it.
+    ensures small { D.sectors disk < fewest_sectors → MatchResult result.1 (λ faulty. ⊥) (λ fault.
+        IfOpen fault (λ e. (e ≡ NotImage) × (result.0 ≡ disk))) }
+    ensures unopened { IfErr result.1 (λ fault.
+        IfOpen fault (IsUnopened D.Disk disk result.0)) }
+    ensures untouched { IfErr result.1 (λ fault. IfOpen fault (λ e. out.new ≡ out.old)) }
     ensures faults { IfErr result.1 IsOfImage }
     ensures write { IsErrOf result.1 ProgramFault.Write
         → HasRisen (W.put_failures out.old) (W.put_failures out.new) }

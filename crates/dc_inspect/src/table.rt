@@ -1,18 +1,17 @@
 //! The engine of `report`: a table of an image's contents, as CSV or as JSON Lines.
 
-ghost use Rattle.std.specs.Prelude.{◌≡◌, ◌≢◌, ◌≤◌, ◌<◌, ◌⊎◌, IsTrue, Some, Err, codes, IfSome};
+ghost use Rattle.std.specs.Prelude.{◌≡◌, ◌≢◌, ◌<◌, ◌⊎◌, IsTrue, Some, Err, codes, IfSome};
 ghost use Rattle.std.specs.Prelude.{IfOk, IfErr, OnOk, OnErr, IsErrOf};
 ghost use Rattle.dc_io.specs.Failures.{HasRisen};
 ghost use Rattle.dc_log.specs.Halves.{fewest_sectors, half_of};
-ghost use Rattle.dc_pending.specs.Images.{IsRefused, EachStands, StandsForOne};
-ghost use Rattle.dc_log.specs.Refusal.{TellsOfImage};
-ghost use Rattle.dc_log.specs.declared.fault.OpenFault.TheVariants.{NotImage, Worn, Device};
+ghost use Rattle.dc_pending.specs.Images.{EachStands, StandsForOne};
+ghost use Rattle.dc_log.specs.declared.fault.OpenFault.TheVariants.{NotImage};
 ghost use Rattle.dc_io.specs.Written.{PutsInto};
-ghost use Rattle.dc_disk.specs.Disk.{IsImage};
 ghost use Rattle.dc_disk.specs.Runs.{LeavesOnly};
 ghost use Rattle.dc_value.specs.Date.{Day, exists};
 ghost use Rattle.dc_value.specs.Text.{day_text};
 ghost use Rattle.dc_ending.specs.Fault.{IfOpen, IsOfImage};
+ghost use Rattle.dc_ending.specs.Unopened.{IsUnopened};
 ghost use Rattle.dc_inspect.specs.Table.{IsTold, report_word, table_text};
 
 use dc_disk::Disk;
@@ -79,24 +78,12 @@ pub fn report_on<D: Disk + Drop, A: Allocator + Copy, W: Sink>(
         (PutsInto W.Sink writer.old writer.new)) }
     ensures well { OnOk result.1 (W.put_failures writer.new ≡ W.put_failures writer.old) }
 
-    // A refusal is that of the store; an image that stands for a state is refused only for an
-    // exhausted counter.
+    // An image that isn't opened is refused as by the store, and nothing is lost of it.
     ensures small { D.sectors disk < fewest_sectors → result.1 ≡ Err (ProgramFault.Open NotImage) }
-    ensures refused { D.keeps result.0 → fewest_sectors ≤ D.sectors disk
-        → IfErr result.1 (λ fault. IfOpen fault (λ e.
-        IsRefused (half_of D.Disk disk) (D.reads disk) e)) }
-    ensures premise { D.keeps result.0 → fewest_sectors ≤ D.sectors disk
-        → EachStands (half_of D.Disk disk) (D.choices disk)
-        → IfErr result.1 (λ fault. IfOpen fault (λ e. TellsOfImage e → e ≡ Worn)) }
-    // An image that is refused isn't written: it reads as before, and so does each image of every moment.
-    ensures unwritten { IfErr result.1 (λ fault.
-        IfOpen fault (λ e. e ≢ Device → D.reads result.0 ≡ D.reads disk)) }
-    ensures spares_images { IfErr result.1 (λ fault. IfOpen fault (λ e. e ≢ Device
-        → LeavesOnly D.Disk disk result.0 (IsImage (D.choices disk)))) }
-    ensures device { IfErr result.1 (λ fault.
-        IfOpen fault (λ e. e ≡ Device → HasRisen (D.failures disk) (D.failures result.0))) }
+    ensures unopened { IfErr result.1 (λ fault.
+        IfOpen fault (IsUnopened D.Disk disk result.0)) }
 
-    // Whatever happens, a stop leaves an image that stands for a state that one of the disk's images stood for.
+    // Whatever happens, a crash leaves an image that stands for a state that one of the disk's images stood for.
     ensures any_moment { D.keeps result.0 → EachStands (half_of D.Disk disk) (D.choices disk)
         → LeavesOnly D.Disk disk result.0 (StandsForOne (half_of D.Disk disk) (D.choices disk)) }
 

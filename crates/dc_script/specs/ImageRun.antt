@@ -1,27 +1,17 @@
 -- What `run` does to an image (this product): the concentrator is opened, runs the script, and is closed.
-use Rattle.std.specs.Prelude.{◌≡◌, ◌≤◌, ℕ, Bool, Option, IfSome, List, ◌++◌}
+use Rattle.std.specs.Prelude.{◌≡◌, ℕ, Bool, Option, IfSome, List, ◌++◌}
 use Rattle.dc_change.specs.State.{State}
-use Rattle.dc_io.specs.Failures.{HasRisen}
-use Rattle.dc_log.specs.Halves.{fewest_sectors, half_of}
-use Rattle.dc_log.specs.Refusal.{TellsOfImage}
-use Rattle.dc_log.specs.declared.fault.OpenFault.{OpenFault}
-use Rattle.dc_log.specs.declared.fault.OpenFault.TheVariants.{Worn, Device}
-use Rattle.dc_pending.specs.Images.{IsRefused, EachStands, StandsForOne}
 use Rattle.dc_concentrator.specs.Headline.{WasStopped}
 use Rattle.dc_concentrator.specs.Images.{Machine}
 use Rattle.dc_concentrator.specs.Transcript.{Turn}
 use Rattle.dc_io.specs.Lines.{lines_of}
 use Rattle.dc_disk.specs.declared.device.Disk.{Ghosts}
-use Rattle.dc_disk.specs.Runs.{LeavesOnly, WasLeft}
+use Rattle.dc_disk.specs.Runs.{WasLeft}
 use Rattle.dc_concentrator.specs.OpenedOn.{IsOpenedOn}
 use Rattle.dc_script.specs.Link.{LineLink}
 use Rattle.dc_script.specs.Run.{run_from}
 use Rattle.dc_script.specs.Script.{ScriptRan, ScriptCut}
 use Rattle.dc_script.specs.Traffic.{Traffic}
-
--- Where the disk keeps the disk model, each image that it may hold stands for some state.
-abbrev pub Stands : {D : Type 0} → Ghosts D → D → Type 0
-Stands g disk = g.keeps disk → EachStands (half_of g disk) (g.choices disk)
 
 -- A run from the disk to the disk: `left` is what the reader had left, where it says that, and `script` what the
 -- lines of the input did to the concentrator that was opened. The turns of the script are one life (law
@@ -58,17 +48,3 @@ abbrev pub IsOneLife : {D : Type 0} → Ghosts D → State → List Turn → Mac
 IsOneLife {D} g state turns last = (done more : List Turn) → done ++ more ≡ turns
     → (now : Machine D) × ((disk : D) → WasLeft g now.store.disk last.store.disk disk
     → WasStopped g state done more disk)
-
--- THE IMAGE ISN'T OPENED, and this is left of its disk: the fault is that of the store, which for an
--- image that stands for a state is an exhausted counter; an image that is refused isn't written; a
--- device that failed counted it; and a stop leaves what stands for a state that one of the disk's
--- images stood for.
-pub record IsUnopened {D : Type 0} (g : Ghosts D) (disk left : D) (fault : OpenFault) : Type 0 where
-  pub refused : g.keeps left → fewest_sectors ≤ g.sectors disk
-      → IsRefused (half_of g disk) (g.reads disk) fault
-  pub premise : g.keeps left → fewest_sectors ≤ g.sectors disk
-      → EachStands (half_of g disk) (g.choices disk) → TellsOfImage fault → fault ≡ Worn
-  pub unwritten : TellsOfImage fault → g.reads left ≡ g.reads disk
-  pub device : fault ≡ Device → HasRisen (g.failures disk) (g.failures left)
-  pub any_moment : g.keeps left → EachStands (half_of g disk) (g.choices disk)
-      → LeavesOnly g disk left (StandsForOne (half_of g disk) (g.choices disk))

@@ -3,12 +3,13 @@ use Rattle.std.specs.Prelude.{IfOk}
 use Rattle.dc_concentrator.specs.OpenedOn.{IsOpenedOn}
 use Rattle.dc_log.specs.Halves.{half_of}
 use Rattle.dc_pending.specs.Images.{EachStands}
+use Rattle.dc_ending.specs.Unopened.{Stands}
 use Rattle.dc_fit.proofs.Runs.{on_image, on_image_ok}
 use Rattle.dc_fit.proofs.fitting.fit_on.Given.{Over}
 use Rattle.dc_fit.proofs.fitting.fit_on.Goals.{After-fit-fitted}
 use Rattle.dc_fit.proofs.fitting.fit_on.Goals as goal
 
-opening : (g : Over) (c : After-fit-fitted g) → (g.D.Disk.keeps c.args.disk → EachStands (half_of g.D.Disk c.args.disk) (g.D.Disk.choices c.args.disk))
+opening : (g : Over) (c : After-fit-fitted g) → Stands g.D.Disk c.args.disk
     → IsOpenedOn g.D.Disk c.args.disk c.in-Ok.concentrator.house.state c.in-Ok.concentrator
 opening g c premise =
     let each : g.D.Disk.keeps c.in-Ok.concentrator.store.disk → EachStands (half_of g.D.Disk c.args.disk) (g.D.Disk.choices c.args.disk) = λ h. premise (c.in-Ok.ensures.before h) in
@@ -39,3 +40,16 @@ returns-clause-starved g c premise starved =
     let opens = opening g (goal.at.returns-clause-starved g c).After-fit-fitted premise in
     let none = c.fit-fitted.ensures.starved starved in
     (none.0, on_image g.D.Disk c.args.disk c.close.result first.house.state first c.fit-fitted.new.concentrator _ opens none.1 c.close.ensures.disk)
+
+-- the store's refusal, of the disk as it came
+pub returns-in-Err-clause-unopened : goal.returns-in-Err-clause-unopened
+returns-in-Err-clause-unopened g c =
+    let refusal = c.in-Err.ensures in
+    record {
+      refused = λ keeps long. refusal.refused long keeps;
+      premise = λ keeps long each tells. refusal.premise long each keeps tells;
+      unwritten = λ other. refusal.unwritten other;
+      spares = λ other. refusal.spares_images other;
+      device = λ is. refusal.counts.failed is;
+      any_moment = λ keeps each. refusal.any_moment each keeps;
+    }

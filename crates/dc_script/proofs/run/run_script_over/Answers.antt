@@ -1,4 +1,4 @@
-use Rattle.std.proofs.Common.{rules, Bool, inr, refl, ◌≡◌, List, ℕ, [], sym, subst}
+use Rattle.std.proofs.Common.{Bool, inr, refl, ◌≡◌, List, ℕ, [], sym, subst}
 use Rattle.std.specs.Prelude.{IfSome}
 use Rattle.dc_change.specs.State.{State}
 use Rattle.dc_concentrator.specs.Core.{opened}
@@ -71,10 +71,13 @@ returns-clause-untouched g c other = inr (refl, of_no_memory Bool c.in-Err-run_l
 
 -- the store's refusal, of the disk as it came
 pub returns-in-Err-open-clause-unopened : goal.returns-in-Err-open-clause-unopened
-returns-in-Err-open-clause-unopened g c = record {
-  refused = search rules;
-  premise = search rules;
-  unwritten = search rules;
-  device = search rules;
-  any_moment = search rules;
-}
+returns-in-Err-open-clause-unopened g c =
+    let refusal = c.in-Err-open.ensures in
+    record {
+      refused = λ keeps long. refusal.refused long keeps;
+      premise = λ keeps long each tells. refusal.premise long each keeps tells;
+      unwritten = λ other. refusal.unwritten other;
+      spares = λ other. refusal.spares_images other;
+      device = λ is. refusal.counts.failed is;
+      any_moment = λ keeps each. refusal.any_moment each keeps;
+    }
