@@ -7,7 +7,7 @@ use Rattle.std.specs.Io.KnownBytes.{prepend_known}
 use Rattle.std.specs.List.{AllByRecursion}
 use Rattle.std.specs.Prelude.{codes}
 use Rattle.dc_io.specs.Hex.{digit_value, pair_value, onto_bytes, bytes_of, upper_digit, upper_pair, upper_hex}
-use Rattle.dc_io.specs.Words.{hex_word}
+use Rattle.dc_io.specs.Words.{byte_word, hex_word}
 
 pub hex_of_none : upper_hex [] ≡ []
 unfolding upper_hex
@@ -34,6 +34,12 @@ pub word_of_some : (bytes : List ℕ) → 0 < length bytes → hex_word bytes �
 unfolding hex_word
 word_of_some [] some = absurd (omega arith)
 word_of_some (b ∷ bytes) some = refl
+
+pub word_of_one : (bytes : List ℕ) → length bytes ≡ 1 → hex_word bytes ≡ byte_word (get_or bytes 0 0)
+unfolding hex_word upper_hex
+word_of_one [] one = absurd (omega arith)
+word_of_one (b ∷ []) one = refl
+word_of_one (b ∷ c ∷ bytes) one = absurd (omega arith)
 
 pub ruleset words = (word_of_none, word_of_some)
 

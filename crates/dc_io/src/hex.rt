@@ -87,20 +87,24 @@ pub(crate) fn decode_spaced(line: &[u8], out: &mut [u8]) -> Option<usize>
     Some(count + 1)
 }
 
-#[inline]
-fn digit_of(n: u8) -> u8
-    requires { n < 16 }
-    ensures { result ≡ upper_digit n }
-{
-    if n < 10 { b'0' + n } else { b'A' - 10 + n }
-}
+// Each byte as two capital hex digits, one after the other.
+static PAIRS: [u8; 512] = *b"000102030405060708090A0B0C0D0E0F101112131415161718191A1B1C1D1E1F\
+    202122232425262728292A2B2C2D2E2F303132333435363738393A3B3C3D3E3F\
+    404142434445464748494A4B4C4D4E4F505152535455565758595A5B5C5D5E5F\
+    606162636465666768696A6B6C6D6E6F707172737475767778797A7B7C7D7E7F\
+    808182838485868788898A8B8C8D8E8F909192939495969798999A9B9C9D9E9F\
+    A0A1A2A3A4A5A6A7A8A9AAABACADAEAFB0B1B2B3B4B5B6B7B8B9BABBBCBDBEBF\
+    C0C1C2C3C4C5C6C7C8C9CACBCCCDCECFD0D1D2D3D4D5D6D7D8D9DADBDCDDDEDF\
+    E0E1E2E3E4E5E6E7E8E9EAEBECEDEEEFF0F1F2F3F4F5F6F7F8F9FAFBFCFDFEFF";
 
 // A byte as two capital hex digits.
 #[inline]
+#[tactic(auto, using(crate::proofs::Values::PAIRS_at))]
 fn pair_of(byte: u8) -> [u8; 2]
     ensures { result ≡ upper_pair byte }
 {
-    [digit_of(byte / 16), digit_of(byte % 16)]
+    let at = 2 * usize::from(byte);
+    [PAIRS[at], PAIRS[at + 1]]
 }
 
 /// Writes a byte as two capital hex digits.
@@ -146,17 +150,27 @@ fn put_few<W: Sink>(out: &mut W, bytes: &[u8]) -> Result<(), IoFault>
     out.put(&text[..2 * bytes.len() + 1])
 }
 
-/// Writes a space and bytes in capital hex digits, or `-` for no bytes.
-#[tactic(auto, using(crate::proofs::Pieces::written, crate::proofs::Digits::words))]
-pub fn put_hex_word<W: Sink>(out: &mut W, bytes: &[u8]) -> Result<(), IoFault>
-    ensures { Wrote W.Sink result out.old out.new (hex_word bytes.now) }
+// Writes a space and bytes in capital hex digits.
+#[tactic(auto, using(crate::proofs::Pieces::written))]
+fn put_many<W: Sink>(out: &mut W, bytes: &[u8]) -> Result<(), IoFault>
+    ensures { Wrote W.Sink result out.old out.new (32 ∷ upper_hex bytes.now) }
 {
-    if bytes.is_empty() {
-        return out.put(b" -");
-    }
     if bytes.len() <= FEW {
         return put_few(out, bytes);
     }
     out.put(b" ")?;
     put_hex(out, bytes)
+}
+
+/// Writes a space and bytes in capital hex digits, or `-` for no bytes.
+#[tactic(auto, using(crate::proofs::Pieces::written, crate::proofs::Digits::words))]
+pub fn put_hex_word<W: Sink>(out: &mut W, bytes: &[u8]) -> Result<(), IoFault>
+    ensures { Wrote W.Sink result out.old out.new (hex_word bytes.now) }
+{
+    match bytes {
+        [] => out.put(b" -"),
+        // Most VIBs have one byte.
+        [byte] => put_byte_word(out, *byte),
+        _ => put_many(out, bytes),
+    }
 }

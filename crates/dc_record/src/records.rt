@@ -64,6 +64,7 @@ impl<'a> Iterator for Records<'a> {
 
     ghost remaining = { item_count (λ r. r) };
 
+    #[inline(always)]
     fn next(&mut self) -> Option<Record<'a>> {
         'fronts: loop {
             match front_of(self.left) {

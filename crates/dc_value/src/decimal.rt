@@ -17,6 +17,7 @@ pub struct Decimal {
 
 impl Decimal {
     /// Writes the text so that it ends at `end`, and says where it begins.
+    #[inline(always)]
     #[tactic(auto, using(crate::proofs::Ascii::sign_ascii))]
     pub(crate) fn put(&self, room: &mut [u8], end: usize) -> usize
         requires { (160 ≤ end) × (end ≤ length room.old) }
@@ -34,6 +35,7 @@ impl Decimal {
 }
 
 /// Writes n times a power of ten so that it ends at `end`, and says where it begins.
+#[inline(always)]
 fn put_magnitude(n: u64, exponent: i8, room: &mut [u8], end: usize) -> usize
     requires { (160 ≤ end) × (end ≤ length room.old) }
     ensures start { (0 < result) × (result ≤ end) × (end ≤ result + 150) }
@@ -49,6 +51,7 @@ fn put_magnitude(n: u64, exponent: i8, room: &mut [u8], end: usize) -> usize
 }
 
 /// Writes n with this many digits after the point.
+#[inline(always)]
 #[tactic(auto, using(crate::proofs::Ascii::fraction_ascii))]
 fn put_fraction(n: u64, places: usize, room: &mut [u8], end: usize) -> usize
     requires few { places ≤ 128 }
@@ -63,6 +66,7 @@ fn put_fraction(n: u64, places: usize, room: &mut [u8], end: usize) -> usize
 }
 
 /// Writes n and this many zeros, but nothing as `0`.
+#[inline(always)]
 #[tactic(auto, using(crate::proofs::Ascii::whole_ascii))]
 fn put_whole(n: u64, zeros: usize, room: &mut [u8], end: usize) -> usize
     requires few { zeros ≤ 128 }

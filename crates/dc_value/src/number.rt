@@ -1,13 +1,14 @@
 //! The numbers of data fields (types A and B).
 
-ghost use Rattle.std.specs.Prelude.{◌≡◌, ◌-◌, ◌*◌, ◌^◌, ◌<◌, ◌≤◌, length, IfSome};
+ghost use Rattle.std.specs.Prelude.{◌≡◌, ◌-◌, ◌*◌, ◌^◌, ◌<◌, ◌≤◌, ◌==◌, ◌-ℤ◌, length, nat_lt, pos};
+ghost use Rattle.std.specs.Prelude.{if◌then◌else◌, IfSome, Some, None};
 ghost use Rattle.dc_value.specs.Number.{unsigned, integer, bcd, bcd_digits, number_after};
 ghost use Rattle.dc_value.specs.Number.{digit_pair};
 
 use byteorder::{ByteOrder, LittleEndian};
 
 /// Whole number of 1 to 8 bytes, the lowest first, without a sign.
-#[inline]
+#[inline(always)]
 #[tactic(auto, using(crate::proofs::Bytes::unsigned_bytes))]
 pub(crate) fn unsigned(bytes: &[u8]) -> u64
     requires { (1 ≤ length bytes.now) × (length bytes.now ≤ 8) }
@@ -17,8 +18,46 @@ pub(crate) fn unsigned(bytes: &[u8]) -> u64
 }
 
 /// Two's complement of 1 to 8 bytes, the lowest first (type B). The least number counts as no number.
-#[tactic(auto, using(crate::proofs::Bytes::signed_bytes))]
+#[inline(always)]
 pub(crate) fn integer(bytes: &[u8]) -> Option<i64>
+    requires { (1 ≤ length bytes.now) × (length bytes.now ≤ 8) }
+    ensures { result ≡ integer bytes.now }
+{
+    // Most meters send four bytes at most, which are read without a copy.
+    match bytes {
+        [a] => signed(u64::from(*a), 0x80),
+        [a, b] => signed(u64::from(*a) + 256 * u64::from(*b), 0x8000),
+        [a, b, c] => signed(
+            u64::from(*a) + 256 * (u64::from(*b) + 256 * u64::from(*c)),
+            0x80_0000,
+        ),
+        [a, b, c, d] => signed(
+            u64::from(*a) + 256 * (u64::from(*b) + 256 * (u64::from(*c) + 256 * u64::from(*d))),
+            0x8000_0000,
+        ),
+        _ => long_integer(bytes),
+    }
+}
+
+/// The number whose bits are those of n, where the highest bit, which is worth `top`, means minus.
+#[inline(always)]
+fn signed(n: u64, top: u64) -> Option<i64>
+    requires { (n < 2 * top) × (top ≤ 2 ^ 31) }
+    ensures { result ≡ (if n == top then None
+        else Some (if nat_lt n top then pos n else pos n -ℤ pos (2 * top))) }
+{
+    if n == top {
+        return None;
+    }
+    if n < top {
+        return Some(n as i64);
+    }
+    Some(n as i64 - 2 * top as i64)
+}
+
+/// Two's complement of 1 to 8 bytes, by way of a copy.
+#[tactic(auto, using(crate::proofs::Bytes::signed_bytes))]
+fn long_integer(bytes: &[u8]) -> Option<i64>
     requires { (1 ≤ length bytes.now) × (length bytes.now ≤ 8) }
     ensures { result ≡ integer bytes.now }
 {
@@ -39,6 +78,7 @@ fn least(len: usize) -> u64
 
 /// Packed BCD of 1 to 6 bytes, the lowest first (type A). F as the highest digit means minus, any other
 /// digit above 9 is no number.
+#[inline(always)]
 pub(crate) fn bcd(bytes: &[u8]) -> Option<i64>
     requires { (1 ≤ length bytes.now) × (length bytes.now ≤ 6) }
     ensures { result ≡ bcd bytes.now }

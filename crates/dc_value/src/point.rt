@@ -35,6 +35,7 @@ pub enum Seen {
 
 /// The data point of a record. Both ways: what is answered is a point of the table, and what is a point of
 /// the table is answered; any other record is other.
+#[inline(always)]
 pub fn point_of(record: &Record<'_>) -> Seen
     ensures found { IfPoint result (IsPoint (view «record».now)) }
     ensures only { (p : Point) → IsPoint (view «record».now) p → result ≡ Seen.Point p }
@@ -44,6 +45,7 @@ pub fn point_of(record: &Record<'_>) -> Seen
 }
 
 /// The point of a record, by its row in the table.
+#[inline(always)]
 fn look_up(record: &Record<'_>) -> Seen
     ensures { result ≡ seen_of (view «record».now) }
 {
@@ -65,6 +67,7 @@ fn look_up(record: &Record<'_>) -> Seen
 }
 
 /// How many bytes a data field has.
+#[inline(always)]
 fn width(field: u8) -> usize
     ensures { result ≡ width field }
 {
@@ -83,6 +86,7 @@ fn width(field: u8) -> usize
 }
 
 /// The value of a quantity and a power of ten in a data field.
+#[inline(always)]
 fn value_in(quantity: Quantity, exponent: i8, field: u8, content: &[u8]) -> Value
     requires taken { IsTrue (takes quantity field) }
     requires whole { length content.now ≡ width field }

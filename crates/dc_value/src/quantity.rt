@@ -69,6 +69,7 @@ impl Quantity {
     }
 
     /// Whether it comes in this data field.
+    #[inline(always)]
     pub(crate) fn takes(&self, field: u8) -> bool
         ensures { result ≡ takes self.now field }
     {
@@ -82,6 +83,7 @@ impl Quantity {
 }
 
 /// Whether a data field has whole numbers in two's complement.
+#[inline(always)]
 pub(crate) fn is_integer(field: u8) -> bool
     ensures { result ≡ is_integer field }
 {
@@ -89,6 +91,7 @@ pub(crate) fn is_integer(field: u8) -> bool
 }
 
 /// Whether a data field has numbers in BCD.
+#[inline(always)]
 pub(crate) fn is_bcd(field: u8) -> bool
     ensures { result ≡ is_bcd field }
 {

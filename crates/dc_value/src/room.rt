@@ -30,7 +30,7 @@ pub(crate) fn put_byte(byte: u8, room: &mut [u8], end: usize)
 }
 
 /// Writes the last `count` digits of n just before `end`, and returns what is left of n.
-#[inline]
+#[inline(always)]
 pub(crate) fn put_digits(base: u64, count: usize, n: u64, room: &mut [u8], end: usize) -> u64
     requires base { (2 ≤ base) × (base ≤ 16) }
     requires place { (count ≤ end) × (end ≤ length room.old) }

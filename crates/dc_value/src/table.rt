@@ -6,6 +6,7 @@ ghost use Rattle.dc_value.specs.Table.{unit_at};
 use crate::Quantity;
 
 /// The quantity of a value information block, and the power of ten of its values.
+#[inline(always)]
 #[tactic(auto, unfolding(crate::specs::Table::row_of))]
 pub(crate) fn unit_at(vib: &[u8]) -> Option<(Quantity, i8)>
     ensures { result ≡ unit_at vib.now }
@@ -19,6 +20,7 @@ pub(crate) fn unit_at(vib: &[u8]) -> Option<(Quantity, i8)>
 }
 
 /// The units of VIFs that no further byte extends.
+#[inline(always)]
 #[tactic(auto, unfolding(crate::specs::Table::row_of))]
 fn primary(vif: u8) -> Option<(Quantity, i8)>
     ensures { result ≡ unit_at (vif ∷ []) }

@@ -34,6 +34,7 @@ impl Value {
     }
 
     /// Writes the text, as `{}` prints it, into a room, and returns it.
+    #[inline(always)]
     pub fn write_into<'r>(&self, room: &'r mut [u8]) -> &'r [u8]
         requires { TEXT_ROOM ≤ length room.old }
         ensures text { result.now ≡ value_text self.now }
@@ -47,6 +48,7 @@ impl Value {
     }
 
     /// Writes the text so that it ends at `end`, and says where it begins.
+    #[inline(always)]
     #[tactic(auto, using(crate::proofs::Ascii::value_texts))]
     fn put(&self, room: &mut [u8], end: usize) -> usize
         requires { (TEXT_ROOM ≤ end) × (end ≤ length room.old) }
