@@ -1,9 +1,8 @@
 //! Power cuts, refused memory and failing ends.
 
-use super::images::{fitted, formatted};
+use super::images::{fit, fitted, formatted};
 use dc_disk::MemoryDisk;
 use dc_ending::ProgramFault;
-use dc_fit::fit_on;
 use dc_io::{Bytes, FixedSink};
 use dc_log::OpenFault;
 use refusing_alloc::Refusing;
@@ -25,7 +24,7 @@ OK 2
 fn the_same_list_goes_on(rt: HostRuntime) -> Result<(), Fail> {
     let heap = rt.alloc();
     let mut writer: FixedSink<86> = FixedSink::new();
-    let (disk, outcome) = fit_on(heap, formatted(heap)?, LIST, &mut writer);
+    let (disk, outcome) = fit(heap, formatted(heap)?, LIST, &mut writer);
     assert_eq!(rt; outcome, Err(ProgramFault::Write));
     let stand = b"line 2: 12345678.PAD.01.07 stands already
 line 3: 18034063.PAD.49.06 stands already
@@ -42,14 +41,14 @@ fn a_failing_disk_leaves_a_first_part(rt: HostRuntime) -> Result<(), Fail> {
         let mut disk = formatted(heap)?;
         disk.fail_once(k);
         let mut writer = Bytes::new(heap);
-        let (disk, outcome) = fit_on(heap, disk, LIST, &mut writer);
+        let (disk, outcome) = fit(heap, disk, LIST, &mut writer);
         if outcome == Ok(false) {
             assert_eq!(rt; writer.as_slice(), DONE);
             return Ok(());
         }
         assert!(rt; outcome == Ok(true) || outcome == Err(ProgramFault::Open(OpenFault::Device)));
         let mut again = Bytes::new(heap);
-        let (_, outcome) = fit_on(heap, disk, LIST, &mut again);
+        let (_, outcome) = fit(heap, disk, LIST, &mut again);
         assert_eq!(rt; outcome, Ok(false));
     }
     Err(Fail::from("no end"))
@@ -63,7 +62,7 @@ fn refused_memory_does_nothing_or_is_answered(rt: HostRuntime) -> Result<(), Fai
         let disk = formatted(rt.alloc())?;
         heap.refuse(k);
         let mut writer = Bytes::new(rt.alloc());
-        let (_, outcome) = fit_on(&heap, disk, LIST, &mut writer);
+        let (_, outcome) = fit(&heap, disk, LIST, &mut writer);
         if heap.is_waiting() {
             assert_eq!(rt; outcome, Ok(false));
             assert_eq!(rt; writer.as_slice(), DONE);
@@ -80,7 +79,7 @@ fn refused_memory_does_nothing_or_is_answered(rt: HostRuntime) -> Result<(), Fai
 fn an_image_that_does_not_open_takes_nothing(rt: HostRuntime) -> Result<(), Fail> {
     let heap = rt.alloc();
     let mut writer = Bytes::new(heap);
-    let (_, outcome) = fit_on(heap, MemoryDisk::new(heap, 131)?, LIST, &mut writer);
+    let (_, outcome) = fit(heap, MemoryDisk::new(heap, 131)?, LIST, &mut writer);
     assert_eq!(rt; outcome, Err(ProgramFault::Open(OpenFault::NotImage)));
     assert_eq!(rt; writer.as_slice().len(), 0);
     Ok(())
