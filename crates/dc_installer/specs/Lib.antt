@@ -3,3 +3,5 @@
 pub mod Read
 -- the search for meters
 pub mod Scan
+-- how far a search is
+pub mod Course

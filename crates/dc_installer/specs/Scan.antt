@@ -1,9 +1,9 @@
 -- The search for meters on a bus, without an image (EN 13757-3, wildcards; EN 13757-2, primary addresses).
 use Rattle.std.specs.Prelude.{◌≡◌, ℕ, ◌-◌, ◌≤◌, Bool, true, false, ◌&&◌, ◌==◌, if◌then◌else◌}
-use Rattle.std.specs.Prelude.{IsTrue, List, [], ◌∷◌, ◌++◌, codes, Option, None, Some, IfSome}
+use Rattle.std.specs.Prelude.{IsTrue, List, [], ◌∷◌, ◌++◌, codes, Option, None, Some, IfSome, length}
 use Rattle.dc_address.specs.Text.{text_of}
 use Rattle.dc_address.specs.declared.identity.Identity.{Identity}
-use Rattle.dc_bus.specs.Bus.{Exchange, IsSearched}
+use Rattle.dc_bus.specs.Bus.{AreExchanged, Exchange, IsSearched}
 use Rattle.dc_bus.specs.Late.{Sought}
 use Rattle.dc_frame.specs.Control.{request_to, reset_to}
 use Rattle.dc_frame.specs.Frame.{FrameSeen, ack, short, long, spelling}
@@ -12,6 +12,7 @@ use Rattle.dc_search.specs.Found.{search_text, search_text_after}
 use Rattle.dc_search.specs.Answer.{answer_of}
 use Rattle.dc_search.specs.State.{SearchState, is_idle, step_of}
 use Rattle.dc_io.specs.Words.{number_word}
+use Rattle.dc_installer.specs.declared.wildcards.Count.{Count}
 
 -- A wildcard search that ended within its budget, on a bus that settled before it.
 pub record IsLook {B : Type 0} (settles : B → B → Type 0) (ready : B → Bool)
@@ -36,21 +37,28 @@ finds_nobody search = is_none search.found && is_none search.shared
 abbrev pub is_enough : ℕ → SearchState → Bool
 is_enough budget search = if finds_nobody search then search.selections == budget else true
 
+-- how much a search found
+pub record Counts (count : Count) (search : SearchState) : Type 0 where
+  pub meters : count.meters ≡ length search.found
+  pub shared : count.shared ≡ length search.shared
+
 -- THE SCAN OF A BUS, as it is printed: one search. If it finds nothing and budget is left, a second
 -- one follows with the rest, and the text is that of the second one, with the selections of both.
+-- What is counted is what the printed search found.
 pub data Scanned {B : Type 0} (settles : B → B → Type 0) (ready : B → Bool)
     (asks : B → List ℕ → List ℕ → B → Type 0)
     (meters : B → Option (List Identity)) (budget : ℕ) (old new : B)
-    (wrote : List ℕ → Type 0) : Type 0 where
+    (wrote : List ℕ → Type 0) (counts : SearchState → Type 0) : Type 0 where
   at_once : (search : SearchState) → IsLook settles ready asks meters budget old new search
       → is_enough budget search ≡ true
-      → wrote (search_text search) → Scanned settles ready asks meters budget old new wrote
+      → wrote (search_text search) → counts search
+      → Scanned settles ready asks meters budget old new wrote counts
   once_more : (first second : SearchState) (between : B)
       → IsLook settles ready asks meters budget old between first
       → is_enough budget first ≡ false
       → IsLook settles ready asks meters (budget - first.selections) between new second
-      → wrote (search_text_after first.selections second)
-      → Scanned settles ready asks meters budget old new wrote
+      → wrote (search_text_after first.selections second) → counts second
+      → Scanned settles ready asks meters budget old new wrote counts
 
 -- ---- primary addresses
 
@@ -86,6 +94,12 @@ pub data Identifies (address : ℕ) : List Exchange → Option Identity → Type
   answers : {answer telegram : List ℕ} → is_ack (frame_of answer) ≡ true
       → Identifies address (resets address answer ∷ requests address telegram ∷ [])
       (answer_of telegram)
+
+-- these exchanges were all that went over the bus
+abbrev pub AreIdentified : {B : Type 0} → (B → List ℕ → List ℕ → B → Type 0) → ℕ → B
+    → Option Identity → B → Type 0
+AreIdentified asks address old meter new = (exchanges : List Exchange)
+    × AreExchanged asks old exchanges new × Identifies address exchanges meter
 
 -- Whether an address acknowledges a reset while no answer is under way: where one was, and an
 -- acknowledgement came, the bus settles, and it is asked again.

@@ -9,7 +9,8 @@ ghost use Rattle.dc_frame.specs.Control.{request_to, reset_to};
 ghost use Rattle.dc_frame.specs.Frame.{spelling};
 ghost use Rattle.dc_frame.specs.Reading.{frame_of};
 ghost use Rattle.dc_io.specs.Written.{PutsInto, Wrote};
-ghost use Rattle.dc_installer.specs.Scan.{Acknowledges, AsksEach, AsksOne, Identifies};
+ghost use Rattle.dc_installer.specs.Scan.{Acknowledges, AreIdentified, AsksEach, AsksOne};
+ghost use Rattle.dc_installer.specs.Scan.{Identifies};
 ghost use Rattle.dc_installer.specs.Scan.{address_line, greatest, identity_word, is_ack};
 
 use dc_address::{Identity, Primary};
@@ -19,8 +20,8 @@ use dc_frame::{Frame, FrameBuf, parse};
 use dc_io::{IoFault, Sink, put_number_word};
 use dc_search::meter_of;
 
-// The greatest primary address.
-const GREATEST: u8 = 250;
+/// The greatest primary address (EN 13757-2).
+pub const GREATEST: u8 = 250;
 
 /// Requests each primary address from 1 to 250 (EN 13757-2), and prints each that acknowledges,
 /// with the meter whose telegram it sends, if that can be read. An acknowledgement that may be a
@@ -44,9 +45,15 @@ pub fn identify<B: Bus>(bus: &mut B, address: Primary) -> Option<Identity>
     ensures { (exchanges : List Exchange) × AreExchanged B.asks bus.old exchanges bus.new
         × Identifies address exchanges result }
 {
-    let number = address.get();
-    if resets(bus, number) {
-        requests(bus, number)
+    meter_at(bus, address.get())
+}
+
+// Identifies the meter at an address.
+pub(crate) fn meter_at<B: Bus>(bus: &mut B, address: u8) -> Option<Identity>
+    ensures { AreIdentified B.asks address bus.old result bus.new }
+{
+    if resets(bus, address) {
+        requests(bus, address)
     } else {
         None
     }
@@ -98,7 +105,7 @@ fn acknowledges<B: ScriptBus>(bus: &mut B, address: u8) -> bool
 }
 
 // Resets an address, and returns whether it acknowledged.
-fn resets<B: Bus>(bus: &mut B, address: u8) -> bool
+pub(crate) fn resets<B: Bus>(bus: &mut B, address: u8) -> bool
     ensures { (answer : List ℕ) × B.asks bus.old (spelling (reset_to address)) answer bus.new
         × (result ≡ is_ack (frame_of answer)) }
 {
@@ -109,7 +116,7 @@ fn resets<B: Bus>(bus: &mut B, address: u8) -> bool
 }
 
 // Requests a telegram, and returns the meter that sent it.
-fn requests<B: Bus>(bus: &mut B, address: u8) -> Option<Identity>
+pub(crate) fn requests<B: Bus>(bus: &mut B, address: u8) -> Option<Identity>
     ensures { (answer : List ℕ) × B.asks bus.old (spelling (request_to true address)) answer bus.new
         × (result ≡ answer_of answer) }
 {
@@ -120,7 +127,11 @@ fn requests<B: Bus>(bus: &mut B, address: u8) -> Option<Identity>
 }
 
 #[tactic(auto, using(dc_io::proofs::Pieces::joined))]
-fn put_address<W: Sink>(address: u8, meter: Option<Identity>, out: &mut W) -> Result<(), IoFault>
+pub(crate) fn put_address<W: Sink>(
+    address: u8,
+    meter: Option<Identity>,
+    out: &mut W,
+) -> Result<(), IoFault>
     ensures { Wrote W.Sink result out.old out.new (address_line address meter) }
 {
     out.put(b"ADDRESS")?;

@@ -3,6 +3,7 @@
 use crate::bus::LinkBus;
 use crate::peer::{ByteBus, SystemBus};
 use dc_bus::{HalfBus, Pause};
+use dc_trace::{Observed, Observer};
 use libc::net::{POLLIN, poll};
 use libc::types::pollfd;
 use std::rt::Clock;
@@ -84,6 +85,14 @@ impl<C: Clock + Copy> Pause<SystemBus<'_, C>> for Waiter {
     fn pause(&mut self, bus: &SystemBus<'_, C>) {
         let mut watch = Watch::new();
         watch.add(bus);
+        watch.wait();
+    }
+}
+
+impl<C: Clock + Copy, O: Observer + Drop> Pause<Observed<SystemBus<'_, C>, O>> for Waiter {
+    fn pause(&mut self, bus: &Observed<SystemBus<'_, C>, O>) {
+        let mut watch = Watch::new();
+        watch.add(&bus.bus);
         watch.wait();
     }
 }

@@ -260,7 +260,10 @@ Printed: FOUND ident for each meter, SHARED number for a number that more than
 one meter has, BUDGET where the budget was spent, SELECTIONS n, and LATE n where
 n late answers were dropped. With --primary: ADDRESS n for each address that
 acknowledges, and its ident where its telegram can be read. A meter begins its
-readout anew afterwards; nothing is stored.
+readout anew afterwards; nothing is stored. On a terminal, standard error shows
+how far it is, and each meter as it answers, with its medium and value.
+Nobody answers: is the bus powered, are speed and parity right? SHARED: read
+these meters by their primary addresses (scan --primary).
 Faults: mbdc: gateway where the link can't be connected or is lost; mbdc: memory";
 
 /// Of `read`.

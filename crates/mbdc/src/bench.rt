@@ -1,20 +1,31 @@
 //! The commands `scan` and `read`: one bus, without an image.
 
+use crate::watching::{Addresses, Cleared, Progress, Show};
 use dc_bus::{Both, Bus, QuietBus, ScriptBus};
 use dc_ending::{Ending, STREAM};
 use dc_files::{Host, Noted, Why};
-use dc_installer::{Readout, ScanFault, identify, read, scan, scan_primary};
+use dc_installer::{Count, GREATEST, Readout, ScanFault, identify, read, scan, scan_primary};
 use dc_io::{IoFault, Sink, WriteSink, put_number_word};
 use dc_links::{Peer, ScriptLink, SystemBus, Waiter};
+use dc_trace::{Observed, Observer};
 use dc_words::{LinkName, MeterName, Scan};
+use std::alloc::Global;
 use std::fs::File;
 use std::io;
 use std::io::{LineWriter, Write};
 use std::net::{Net, TcpStream};
 use std::rt::{Clock, Files};
 
-// A bus that is used alone.
-type OneBus<'a, C> = ScriptLink<SystemBus<'a, C>, Waiter>;
+// A bus that is used alone, with an observer.
+type OneBus<'a, C, O> = ScriptLink<Observed<SystemBus<'a, C>, O>, Waiter>;
+
+// Said to a person of a search that found nothing.
+const NOBODY: &str = "nobody answered: is the bus powered, are speed and parity right?\n";
+
+const NO_METER: &str = "answers came, but of no meter: look at speed, parity and noise\n";
+
+// Said to a person of numbers that more than one meter has.
+const SHARED: &str = "SHARED: find these meters by scan --primary, and read each by its address\n";
 
 /// Searches a bus for meters, and prints those that it finds.
 pub fn scan_bus<'a, R>(
@@ -24,7 +35,7 @@ pub fn scan_bus<'a, R>(
     patience: u16,
 ) -> Ending<'a>
 where
-    R: Files<File = File> + Net<Stream = TcpStream> + Clock + Copy + Print + AllocGlobal,
+    R: Files<File = File> + Net<Stream = TcpStream> + Clock + Copy + Print + Eprint + AllocGlobal,
 {
     let peer = match Peer::connect(host.rt, link) {
         Ok(peer) => peer,
@@ -35,33 +46,102 @@ where
     ending
 }
 
+// Searches over a connected link; a terminal is shown how far it is.
 fn scan_over<'a, R>(host: &Host<'_, R>, peer: &Peer<R>, what: Scan, patience: u16) -> Ending<'a>
 where
-    R: Clock + Copy + Print + AllocGlobal,
+    R: Clock + Copy + Print + Eprint + AllocGlobal,
 {
-    let mut bus = match quiet_bus(host.rt, peer, patience) {
+    if !host.is_watched {
+        return scan_watched(host, peer, what, patience, None);
+    }
+    let addresses = match what {
+        Scan::Wildcards(_) => None,
+        Scan::Primary => Some(Addresses {
+            last: GREATEST,
+            each: patience,
+        }),
+    };
+    let progress = Progress::new(host.rt, addresses);
+    let ending = scan_watched(host, peer, what, patience, Some(&progress));
+    progress.clear();
+    ending
+}
+
+fn scan_watched<'a, R>(
+    host: &Host<'_, R>,
+    peer: &Peer<R>,
+    what: Scan,
+    patience: u16,
+    progress: Option<&Progress<'_, R>>,
+) -> Ending<'a>
+where
+    R: Clock + Copy + Print + Eprint + AllocGlobal,
+{
+    let show = match progress {
+        Some(progress) => Some(Show { progress }),
+        None => None,
+    };
+    let mut bus = match quiet_bus(host.rt, peer, patience, show) {
         Ok(bus) => bus,
         Err(error) => return host.why.link(None, error),
     };
-    let printer = Noted::new(io::writer(host.rt), host.why);
+    let printer = Cleared {
+        writer: Noted::new(io::writer(host.rt), host.why),
+        progress,
+    };
     let Ok(printer) = LineWriter::new(host.rt.alloc(), printer) else {
         return Ending::Memory;
     };
     let mut writer = WriteSink::new(printer);
-    let found = match what {
-        Scan::Wildcards(budget) => scan(host.rt.alloc(), budget, &mut bus, &mut writer),
-        Scan::Primary => scan_primary(&mut bus, &mut writer).map_err(|_| ScanFault::Write),
-    };
-    let ending = if bus.late() > 0 {
-        Ending::Faulty
-    } else {
-        Ending::Clean
-    };
-    match found {
-        Ok(()) => end_of(host.why, &bus, writer, ending),
+    match search(host.rt.alloc(), what, &mut bus, &mut writer) {
+        Ok(count) => {
+            let ending = if bus.late() > 0 {
+                Ending::Faulty
+            } else {
+                Ending::Clean
+            };
+            let ending = end_of(host.why, &bus, writer, ending);
+            if let Some(progress) = progress
+                && matches!(ending, Ending::Clean | Ending::Faulty)
+            {
+                advise(host.rt, progress, count);
+            }
+            ending
+        }
         Err(ScanFault::Write) => Ending::File(STREAM),
         Err(ScanFault::NoMemory) => Ending::Memory,
     }
+}
+
+// Searches, and prints what is found; how much that is isn't counted of primary addresses.
+fn search<B: ScriptBus, W: Sink>(
+    alloc: Global,
+    what: Scan,
+    bus: &mut B,
+    out: &mut W,
+) -> Result<Option<Count>, ScanFault> {
+    match what {
+        Scan::Wildcards(budget) => match scan(alloc, budget, bus, out) {
+            Ok(count) => Ok(Some(count)),
+            Err(fault) => Err(fault),
+        },
+        Scan::Primary => match scan_primary(bus, out) {
+            Ok(()) => Ok(None),
+            Err(IoFault) => Err(ScanFault::Write),
+        },
+    }
+}
+
+// Says what to do where nothing was found, and with numbers that several meters have.
+fn advise<R: Clock + Eprint>(rt: &R, progress: &Progress<'_, R>, count: Option<Count>) {
+    progress.clear();
+    let advice = match count {
+        _ if !progress.is_answered() => NOBODY,
+        Some(count) if count.shared > 0 => SHARED,
+        Some(count) if count.meters == 0 => NO_METER,
+        _ => return,
+    };
+    let _ = rt.eprint(advice);
 }
 
 /// Reads a meter on a bus, and prints its telegrams.
@@ -72,7 +152,7 @@ pub fn read_on_bus<'a, R>(
     patience: u16,
 ) -> Ending<'a>
 where
-    R: Files<File = File> + Net<Stream = TcpStream> + Clock + Copy + Print + AllocGlobal,
+    R: Files<File = File> + Net<Stream = TcpStream> + Clock + Copy + Print + Eprint + AllocGlobal,
 {
     let peer = match Peer::connect(host.rt, link) {
         Ok(peer) => peer,
@@ -90,9 +170,10 @@ fn read_over<'a, R>(
     patience: u16,
 ) -> Ending<'a>
 where
-    R: Clock + Copy + Print + AllocGlobal,
+    R: Clock + Copy + Print + Eprint + AllocGlobal,
 {
-    let mut bus = match quiet_bus(host.rt, peer, patience) {
+    let unseen: Option<Show<'_, '_, R>> = None;
+    let mut bus = match quiet_bus(host.rt, peer, patience, unseen) {
         Ok(bus) => bus,
         Err(error) => return host.why.link(None, error),
     };
@@ -108,14 +189,18 @@ where
     }
 }
 
-// Returns the bus of a link, once no answer is under way on it.
-fn quiet_bus<'b, C: Clock + Copy>(
+// Returns the bus of a link with an observer, once no answer is under way on it.
+fn quiet_bus<'b, C: Clock + Copy, O: Observer + Drop>(
     clock: &C,
     peer: &'b Peer<C>,
     patience: u16,
-) -> io::Result<OneBus<'b, C>> {
+    observer: O,
+) -> io::Result<OneBus<'b, C, O>> {
     let mut both = Both {
-        bus: peer.bus(*clock, patience)?,
+        bus: Observed {
+            bus: peer.bus(*clock, patience)?,
+            observer,
+        },
         pause: Waiter,
     };
     both.make_ready();
@@ -141,13 +226,13 @@ fn read_named<B: Bus, W: Sink>(
 }
 
 // Ends the command: flushes the output, prints the number of late answers, and names a lost link.
-fn end_of<'a, C: Clock + Copy, W: Write + Drop>(
+fn end_of<'a, C: Clock + Copy, O: Observer + Drop, W: Write + Drop>(
     why: &Why,
-    bus: &OneBus<'_, C>,
+    bus: &OneBus<'_, C, O>,
     mut writer: WriteSink<W>,
     ending: Ending<'a>,
 ) -> Ending<'a> {
-    if put_late(bus.both.bus.late(), &mut writer).is_err() || writer.flush().is_err() {
+    if put_late(bus.late(), &mut writer).is_err() || writer.flush().is_err() {
         return Ending::File(STREAM);
     }
     if bus.is_lost() {

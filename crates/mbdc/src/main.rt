@@ -16,6 +16,7 @@ mod reaching;
 mod report;
 mod script;
 mod tasks;
+mod watching;
 
 use dc_ending::Ending;
 use dc_files::{Host, NOWHERE, Why, hold};

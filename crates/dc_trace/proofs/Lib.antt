@@ -1,0 +1,1 @@
+-- lemmas by topic

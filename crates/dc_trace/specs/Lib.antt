@@ -1,0 +1,7 @@
+-- the definitions that contracts cite
+-- a bus with an observer
+pub mod Observed
+-- the text of a trace
+pub mod Line
+-- a trace
+pub mod Trace
