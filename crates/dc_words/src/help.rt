@@ -247,8 +247,9 @@ readout ends:
                            --patience longer
   END read failed
 With --json an object an event. On a terminal, standard error shows how far it
-is. Where the clock is earlier than a time stamp of the register: mbdc: clock:
-behind the newest reading
+is. --trace FILE gets a line for each request and answer, as of scan. Where the
+clock is earlier than a time stamp of the register: mbdc: clock: behind the
+newest reading
 Status: 0 every meter was read, 1 one wasn't, 3 the image, 4 a link, a file or
   memory.";
 
@@ -264,6 +265,8 @@ readout anew afterwards; nothing is stored. On a terminal, standard error shows
 how far it is, and each meter as it answers, with its medium and value.
 Nobody answers: is the bus powered, are speed and parity right? SHARED: read
 these meters by their primary addresses (scan --primary).
+--trace FILE gets milliseconds, bus line, > or <, hex digits, and what they are:
+frame, E5, no frame or silence.
 Faults: mbdc: gateway where the link can't be connected or is lost; mbdc: memory";
 
 /// Of `read`.
@@ -273,5 +276,5 @@ pub const READ: &str = "Example:
 Printed is what decode prints of the telegrams, each before the meter is asked
 for the next one. Nothing is stored. Where the readout fails, FAILED n Name
 follows and the status is 1. LATE n comes last where n late answers were
-dropped.
+dropped. --trace FILE gets each request and answer, as of scan.
 Faults: mbdc: gateway where the link can't be connected or is lost; mbdc: memory";

@@ -87,6 +87,8 @@ pub struct PollTask<'a> {
     pub is_json: bool,
     /// The time-out of an answer in milliseconds.
     pub patience: u16,
+    /// The file of the trace, if one is written.
+    pub trace: Option<&'a str>,
 }
 
 /// A call of the program: what it is asked to do, and how much it says.
@@ -171,6 +173,8 @@ pub enum Task<'a> {
         scan: Scan,
         /// The time-out of an answer in milliseconds.
         patience: u16,
+        /// The file of the trace, if one is written.
+        trace: Option<&'a str>,
     },
     /// The readout of one meter on one bus, without an image.
     Read {
@@ -180,6 +184,8 @@ pub enum Task<'a> {
         meter: MeterName,
         /// The time-out of an answer in milliseconds.
         patience: u16,
+        /// The file of the trace, if one is written.
+        trace: Option<&'a str>,
     },
     /// A house of one simulated meter, in memory.
     Demo,

@@ -63,6 +63,12 @@ fn patience_arg<'a>(alloc: Global) -> Arg<'a> {
         .help("Milliseconds without a first byte that are silence, from 1 to 60000")
 }
 
+fn trace_arg<'a>(alloc: Global) -> Arg<'a> {
+    option_arg(alloc, "TRACE", "trace", "FILE").help(
+        "Writes each request and answer to this file, a line each",
+    )
+}
+
 fn only_arg<'a>(alloc: Global) -> Arg<'a> {
     option_arg(alloc, "ONLY", "only", "IDENT")
         .action(ArgAction::Append)
@@ -176,6 +182,7 @@ fn poll_command<'a>(alloc: Global) -> Result<Command<'a>, AllocError> {
             "Prints JSON Lines, an object an event"
         ),
         patience_arg(alloc),
+        trace_arg(alloc),
     ]?;
     let about = "Reads the registered meters, all connected lines at once";
     command_of(alloc, "poll", about, help::POLL, args)
@@ -273,6 +280,7 @@ fn scan_command<'a>(alloc: Global) -> Result<Command<'a>, AllocError> {
         budget_arg(alloc),
         primary,
         patience_arg(alloc),
+        trace_arg(alloc),
     ]?;
     let about = "Searches one bus for meters, without an image";
     command_of(alloc, "scan", about, help::SCAN, args)
@@ -284,6 +292,7 @@ fn read_command<'a>(alloc: Global) -> Result<Command<'a>, AllocError> {
         link_arg(alloc),
         required_arg(alloc, "METER", meter),
         patience_arg(alloc),
+        trace_arg(alloc),
     ]?;
     let about = "Reads one meter on one bus and prints its telegrams, without an image";
     command_of(alloc, "read", about, help::READ, args)
@@ -398,6 +407,7 @@ fn bus_task<'a>(name: &str, inner: &ArgMatches<'a>) -> Result<Task<'a>, WordsFau
                 Scan::Wildcards(budget)
             },
             patience,
+            trace: inner.get_str("TRACE"),
         });
     }
     let meter = meter_of(inner.get_str("METER").unwrap_or_default()).ok_or(WordsFault::Meter)?;
@@ -405,6 +415,7 @@ fn bus_task<'a>(name: &str, inner: &ArgMatches<'a>) -> Result<Task<'a>, WordsFau
         link,
         meter,
         patience,
+        trace: inner.get_str("TRACE"),
     })
 }
 
@@ -496,6 +507,7 @@ fn poll_task<'a>(
         tries: inner.get_one("TRIES").unwrap_or_default(),
         is_json: inner.get_flag("JSON"),
         patience: patience_of(inner),
+        trace: inner.get_str("TRACE"),
     }))
 }
 

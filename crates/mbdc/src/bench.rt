@@ -1,5 +1,6 @@
 //! The commands `scan` and `read`: one bus, without an image.
 
+use crate::tracing::{Book, book_of, trace_of};
 use crate::watching::{Addresses, Cleared, Progress, Show};
 use dc_bus::{Both, Bus, QuietBus, ScriptBus};
 use dc_ending::{Ending, STREAM};
@@ -7,7 +8,7 @@ use dc_files::{Host, Noted, Why};
 use dc_installer::{Count, GREATEST, Readout, ScanFault, identify, read, scan, scan_primary};
 use dc_io::{IoFault, Sink, WriteSink, put_number_word};
 use dc_links::{Peer, ScriptLink, SystemBus, Waiter};
-use dc_trace::{Observed, Observer};
+use dc_trace::{Observed, Observer, Pair};
 use dc_words::{LinkName, MeterName, Scan};
 use std::alloc::Global;
 use std::fs::File;
@@ -33,26 +34,37 @@ pub fn scan_bus<'a, R>(
     link: &LinkName<'_>,
     what: Scan,
     patience: u16,
+    trace: Option<&'a str>,
 ) -> Ending<'a>
 where
     R: Files<File = File> + Net<Stream = TcpStream> + Clock + Copy + Print + Eprint + AllocGlobal,
 {
+    let book = match book_of(host, trace) {
+        Ok(book) => book,
+        Err(error) => return host.why.file(trace.unwrap_or_default(), error),
+    };
     let peer = match Peer::connect(host.rt, link) {
         Ok(peer) => peer,
         Err(error) => return host.why.link(None, error),
     };
-    let ending = scan_over(host, &peer, what, patience);
+    let ending = scan_over(host, &peer, what, patience, book.as_ref());
     peer.release(host.rt);
     ending
 }
 
 // Searches over a connected link; a terminal is shown how far it is.
-fn scan_over<'a, R>(host: &Host<'_, R>, peer: &Peer<R>, what: Scan, patience: u16) -> Ending<'a>
+fn scan_over<'a, R>(
+    host: &Host<'_, R>,
+    peer: &Peer<R>,
+    what: Scan,
+    patience: u16,
+    book: Option<&Book<'_, R>>,
+) -> Ending<'a>
 where
     R: Clock + Copy + Print + Eprint + AllocGlobal,
 {
     if !host.is_watched {
-        return scan_watched(host, peer, what, patience, None);
+        return scan_watched(host, peer, what, patience, (book, None));
     }
     let addresses = match what {
         Scan::Wildcards(_) => None,
@@ -62,7 +74,7 @@ where
         }),
     };
     let progress = Progress::new(host.rt, addresses);
-    let ending = scan_watched(host, peer, what, patience, Some(&progress));
+    let ending = scan_watched(host, peer, what, patience, (book, Some(&progress)));
     progress.clear();
     ending
 }
@@ -72,16 +84,20 @@ fn scan_watched<'a, R>(
     peer: &Peer<R>,
     what: Scan,
     patience: u16,
-    progress: Option<&Progress<'_, R>>,
+    watchers: (Option<&Book<'_, R>>, Option<&Progress<'_, R>>),
 ) -> Ending<'a>
 where
     R: Clock + Copy + Print + Eprint + AllocGlobal,
 {
-    let show = match progress {
+    let (book, progress) = watchers;
+    let Ok(first) = trace_of(book, 1) else {
+        return Ending::Memory;
+    };
+    let second = match progress {
         Some(progress) => Some(Show { progress }),
         None => None,
     };
-    let mut bus = match quiet_bus(host.rt, peer, patience, show) {
+    let mut bus = match quiet_bus(host.rt, peer, patience, Pair { first, second }) {
         Ok(bus) => bus,
         Err(error) => return host.why.link(None, error),
     };
@@ -150,15 +166,20 @@ pub fn read_on_bus<'a, R>(
     link: &LinkName<'_>,
     meter: MeterName,
     patience: u16,
+    trace: Option<&'a str>,
 ) -> Ending<'a>
 where
     R: Files<File = File> + Net<Stream = TcpStream> + Clock + Copy + Print + Eprint + AllocGlobal,
 {
+    let book = match book_of(host, trace) {
+        Ok(book) => book,
+        Err(error) => return host.why.file(trace.unwrap_or_default(), error),
+    };
     let peer = match Peer::connect(host.rt, link) {
         Ok(peer) => peer,
         Err(error) => return host.why.link(None, error),
     };
-    let ending = read_over(host, &peer, meter, patience);
+    let ending = read_over(host, &peer, meter, patience, book.as_ref());
     peer.release(host.rt);
     ending
 }
@@ -168,12 +189,15 @@ fn read_over<'a, R>(
     peer: &Peer<R>,
     meter: MeterName,
     patience: u16,
+    book: Option<&Book<'_, R>>,
 ) -> Ending<'a>
 where
     R: Clock + Copy + Print + Eprint + AllocGlobal,
 {
-    let unseen: Option<Show<'_, '_, R>> = None;
-    let mut bus = match quiet_bus(host.rt, peer, patience, unseen) {
+    let Ok(trace) = trace_of(book, 1) else {
+        return Ending::Memory;
+    };
+    let mut bus = match quiet_bus(host.rt, peer, patience, trace) {
         Ok(bus) => bus,
         Err(error) => return host.why.link(None, error),
     };

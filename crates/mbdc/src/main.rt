@@ -16,6 +16,7 @@ mod reaching;
 mod report;
 mod script;
 mod tasks;
+mod tracing;
 mod watching;
 
 use dc_ending::Ending;

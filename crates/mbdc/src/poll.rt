@@ -4,6 +4,7 @@ ghost use Rattle.std.specs.Prelude.{◌<◌};
 
 use crate::connecting::release_all;
 use crate::reaching::reach_all;
+use crate::tracing::{Book, LineTrace, book_of, trace_of};
 use dc_bus::QuietBus;
 use dc_change::Moment;
 use dc_disk::FileDisk;
@@ -13,6 +14,7 @@ use dc_io::WriteSink;
 use dc_links::{LinkBus, Peer, SystemBus, Watch};
 use dc_poll::{Outcome, Plan, Station, Teller, Timer, is_awaited, poll_image};
 use dc_teller::{JsonTeller, Progress, Shown, TextTeller, Unfailing};
+use dc_trace::{Observed, Observer};
 use dc_words::PollTask;
 use std::alloc::Global;
 use std::fs::{File, OpenFile};
@@ -23,6 +25,9 @@ use std::os::unix::fs::FileExt;
 use std::rt::{Clock, Files};
 use std::time::{SystemTime, UNIX_EPOCH};
 
+// The bus of a line, and its trace where one is written.
+type TracedBus<'p, 't, 'h, R> = Observed<SystemBus<'p, R>, Option<LineTrace<'t, 'h, R>>>;
+
 /// The clock of a poll, and its wait for all lines at once.
 #[derive(Drop)]
 struct SystemTimer<'p, 'h, C: Clock + Copy> {
@@ -32,7 +37,8 @@ struct SystemTimer<'p, 'h, C: Clock + Copy> {
     progress: &'p Progress<'h, C>,
 }
 
-impl<C: Clock + Copy + Eprint> Timer<SystemBus<'_, C>> for SystemTimer<'_, '_, C> {
+impl<C: Clock + Copy + Eprint, O: Observer + Drop> Timer<Observed<SystemBus<'_, C>, O>>
+    for SystemTimer<'_, '_, C> {
     ghost use Rattle.std.specs.Prelude.{⊤};
 
     ghost tells = { λ _ _ _. ⊤ };
@@ -51,7 +57,7 @@ impl<C: Clock + Copy + Eprint> Timer<SystemBus<'_, C>> for SystemTimer<'_, '_, C
         self.last
     }
 
-    fn pause(&mut self, stations: &[Station<'_, SystemBus<'_, C>>], may_sleep: bool) {
+    fn pause(&mut self, stations: &[Station<'_, Observed<SystemBus<'_, C>, O>>], may_sleep: bool) {
         self.progress.show(stations);
         if may_sleep {
             awaited(stations).wait();
@@ -71,9 +77,9 @@ trait Watched {
     fn add_to(&self, watch: &mut Watch);
 }
 
-impl<C: Clock + Copy> Watched for SystemBus<'_, C> {
+impl<C: Clock + Copy, O: Observer + Drop> Watched for Observed<SystemBus<'_, C>, O> {
     fn add_to(&self, watch: &mut Watch) {
-        watch.add(self);
+        watch.add(&self.bus);
     }
 }
 
@@ -102,11 +108,15 @@ where
         Ok(disk) => disk,
         Err(error) => return host.why.file(task.image, error),
     };
+    let book = match book_of(host, task.trace) {
+        Ok(book) => book,
+        Err(error) => return host.why.file(task.trace.unwrap_or_default(), error),
+    };
     let peers = match reach_all(host, &task.links) {
         Ok(peers) => peers,
         Err(ending) => return ending,
     };
-    let ending = poll_over(host, disk, peers.as_slice(), task);
+    let ending = poll_over(host, disk, peers.as_slice(), book.as_ref(), task);
     release_all(host.rt, peers.as_slice());
     ending
 }
@@ -116,13 +126,14 @@ fn poll_over<'a, D, R>(
     host: &Host<'_, R>,
     disk: FileDisk<D>,
     peers: &[Option<Peer<R>>],
+    book: Option<&Book<'_, R>>,
     task: &PollTask<'a>,
 ) -> Ending<'a>
 where
     D: FileExt + OpenFile + Drop,
     R: Clock + Copy + Print + Eprint + AllocGlobal,
 {
-    let buses = match buses_of(host, peers, task.patience) {
+    let buses = match buses_of(host, peers, book, task.patience) {
         Ok(buses) => buses,
         Err(ending) => return ending,
     };
@@ -147,7 +158,7 @@ where
 fn poll<D, R>(
     host: &Host<'_, R>,
     disk: FileDisk<D>,
-    plan: Plan<'_, Global, SystemBus<'_, R>>,
+    plan: Plan<'_, Global, TracedBus<'_, '_, '_, R>>,
     is_json: bool,
 ) -> Result<Outcome, ProgramFault>
 where
@@ -178,7 +189,7 @@ where
 fn poll_with<D, R, N>(
     host: &Host<'_, R>,
     disk: FileDisk<D>,
-    plan: Plan<'_, Global, SystemBus<'_, R>>,
+    plan: Plan<'_, Global, TracedBus<'_, '_, '_, R>>,
     teller: N,
     explains: bool,
 ) -> (Result<Outcome, ProgramFault>, Unfailing<N>)
@@ -197,7 +208,7 @@ fn poll_shown<'p, 'h, D, R, N>(
     progress: &'p Progress<'h, R>,
     rt: R,
     disk: FileDisk<D>,
-    plan: Plan<'_, Global, SystemBus<'_, R>>,
+    plan: Plan<'_, Global, TracedBus<'_, '_, '_, R>>,
     teller: N,
     explains: bool,
 ) -> (Result<Outcome, ProgramFault>, Unfailing<N>)
@@ -230,13 +241,16 @@ fn is_printed<W: Write + Drop>(has_failed: bool, out: WriteSink<W>) -> bool {
 }
 
 // The bus of each line; one without a link is absent.
-fn buses_of<'p, 'e, R: Clock + Copy + AllocGlobal>(
+fn buses_of<'p, 't, 'h, 'e, R: Clock + Copy + Eprint + AllocGlobal>(
     host: &Host<'_, R>,
     peers: &'p [Option<Peer<R>>],
+    book: Option<&'t Book<'h, R>>,
     patience: u16,
-) -> Result<Vec<SystemBus<'p, R>, Global>, Ending<'e>> {
+) -> Result<Vec<TracedBus<'p, 't, 'h, R>, Global>, Ending<'e>> {
     let mut buses = Vec::new(host.rt.alloc());
+    let mut line: u8 = 0;
     for peer in peers {
+        line = line.saturating_add(1);
         let bus = match peer {
             Some(peer) => match peer.bus(*host.rt, patience) {
                 Ok(bus) => bus,
@@ -244,7 +258,10 @@ fn buses_of<'p, 'e, R: Clock + Copy + AllocGlobal>(
             },
             None => LinkBus::Absent,
         };
-        if buses.push(bus).is_err() {
+        let Ok(observer) = trace_of(book, line) else {
+            return Err(Ending::Memory);
+        };
+        if buses.push(Observed { bus, observer }).is_err() {
             return Err(Ending::Memory);
         }
     }

@@ -73,12 +73,14 @@ where
             link,
             scan,
             patience,
-        } => scan_bus(host, link, *scan, *patience),
+            trace,
+        } => scan_bus(host, link, *scan, *patience, *trace),
         Task::Read {
             link,
             meter,
             patience,
-        } => read_on_bus(host, link, *meter, *patience),
+            trace,
+        } => read_on_bus(host, link, *meter, *patience, *trace),
         // No reading gets a stamp that is no time.
         Task::Poll(_) if clock::moment(host.rt).is_none() => Ending::Clock,
         Task::Poll(task) => poll_on_image(host, task),

@@ -157,6 +157,10 @@ const POLLS: Rows = &[
         "poll house.image 1=tcp(a:1) only 12345678.PAD.01.07 only 18034063.PAD.49.06 tries 9 patience 60000 json",
     ),
     (
+        "poll house.image --line 1=tcp://a:1 --trace t.txt",
+        "poll house.image 1=tcp(a:1) tries 2 patience 2000 trace t.txt",
+    ),
+    (
         "poll house.image --line 1=tcp://a:1 --only 12345678",
         "refused Meter",
     ),
@@ -204,6 +208,11 @@ const BUSES: Rows = &[
         "scan serial:/dev/ttyUSB0 --primary",
         "scan serial(/dev/ttyUSB0) primary patience 2000",
     ),
+    (
+        "scan tcp://a:1 --trace t.txt",
+        "scan tcp(a:1) budget 1000 patience 2000 trace t.txt",
+    ),
+    ("scan tcp://a:1 --trace", "refused"),
     ("scan tcp://a:1 --primary --budget 5", "refused"),
     ("scan tcp://a:1 --budget 4294967296", "refused"),
     ("scan a:1", "refused Scheme"),
@@ -215,6 +224,10 @@ const BUSES: Rows = &[
     (
         "read tcp://a:1 250",
         "read tcp(a:1) address 250 patience 2000",
+    ),
+    (
+        "read tcp://a:1 1 --trace t.txt",
+        "read tcp(a:1) address 1 patience 2000 trace t.txt",
     ),
     ("read tcp://a:1 0", "refused Meter"),
     ("read tcp://a:1 251", "refused Meter"),

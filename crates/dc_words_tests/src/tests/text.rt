@@ -90,23 +90,29 @@ fn bus_text(alloc: Global, task: &Task<'_>) -> Result<String, AllocError> {
             link,
             scan,
             patience,
+            trace,
         } => {
             let link = link_text(alloc, *link)?;
+            let trace = trace_text(alloc, *trace)?;
             match scan {
                 Scan::Wildcards(budget) => {
-                    format!(in alloc; "scan {link} budget {budget} patience {patience}")
+                    format!(in alloc; "scan {link} budget {budget} patience {patience}{trace}")
                 }
-                Scan::Primary => format!(in alloc; "scan {link} primary patience {patience}"),
+                Scan::Primary => {
+                    format!(in alloc; "scan {link} primary patience {patience}{trace}")
+                }
             }
         }
         Task::Read {
             link,
             meter,
             patience,
+            trace,
         } => {
             let link = link_text(alloc, *link)?;
             let meter = meter_text(alloc, *meter)?;
-            format!(in alloc; "read {link} {meter} patience {patience}")
+            let trace = trace_text(alloc, *trace)?;
+            format!(in alloc; "read {link} {meter} patience {patience}{trace}")
         }
         _ => String::from_str(alloc, "?"),
     }
@@ -125,10 +131,18 @@ fn poll_text(alloc: Global, task: &PollTask<'_>) -> Result<String, AllocError> {
     let links = links_text(alloc, &task.links)?;
     let only = only_text(alloc, task.only.as_slice())?;
     let json = json_text(task.is_json);
+    let trace = trace_text(alloc, task.trace)?;
     format!(in alloc;
-        "poll {}{links}{only} tries {} patience {}{json}",
+        "poll {}{links}{only} tries {} patience {}{json}{trace}",
         task.image, task.tries, task.patience
     )
+}
+
+fn trace_text(alloc: Global, trace: Option<&str>) -> Result<String, AllocError> {
+    match trace {
+        Some(file) => format!(in alloc; " trace {file}"),
+        None => String::from_str(alloc, ""),
+    }
 }
 
 fn status_form_text(form: StatusForm) -> &'static str {
