@@ -8,7 +8,7 @@ SHORT_START, LONG_START, STOP = 0x10, 0x68, 0x16
 SHORT_LENGTH, LONG_OVERHEAD = 5, 6  # bytes of a short frame; of a long one besides its content
 SND_NKE, SND_UD, RSP_UD = 0x40, 0x53, 0x08  # control bytes
 REQ_UD2 = (0x5B, 0x7B)  # by the frame count bit
-CI_VARIABLE, CI_SELECT = 0x72, 0x52
+CI_VARIABLE, CI_SELECT, CI_DATA = 0x72, 0x52, 0x51
 SECONDARY = 0xFD  # the address of the meter that is selected
 LAST, MORE = b"\x0f", b"\x1f"  # DIFs that end the records: manufacturer data; another telegram follows
 

@@ -6,14 +6,16 @@ import random
 from collections.abc import Sequence
 from typing import Optional
 
-from world.frames import (ACK, CI_SELECT, MORE, REQ_UD2, SECONDARY, SND_NKE, SND_UD, Frame, Identity, answer, bcd,
-                          header, type_g)
+from world.frames import (ACK, CI_DATA, CI_SELECT, MORE, REQ_UD2, SECONDARY, SND_NKE, SND_UD, Frame, Identity, answer,
+                          bcd, header, type_g)
 
 DUE, DUE_BEFORE = datetime.date(2024, 12, 31), datetime.date(2023, 12, 31)
 VOLUME, STORED_DATE, STORED_VOLUME = b"\x0c\x13", b"\x42\x6c", b"\x4c\x13"  # DIF and VIF of each record
+BUS_ADDRESS = b"\x01\x7a"  # DIF and VIF of the primary address
 FRAME_COUNT = 0x20  # the bit of a control byte
 ANY_DIGIT, ANY_BYTE = "f", 0xFF  # in a wildcard address
 KINDS = (0x06, 0x07)  # warm water, water
+GREATEST = 250  # primary address
 
 
 @dataclasses.dataclass
@@ -94,7 +96,18 @@ class Meter:
         if control == SND_NKE:
             self.bit, self.is_selected = None, self.is_selected and address != SECONDARY
             return ACK
+        if control | FRAME_COUNT == SND_UD | FRAME_COUNT and content[:3] == bytes([CI_DATA]) + BUS_ADDRESS:
+            return self.move(int(bool(control & FRAME_COUNT)), content[3:])
         return self.send(REQ_UD2.index(control), moment) if control in REQ_UD2 else b""
+
+    def move(self, bit: int, primary: bytes) -> bytes:
+        """Takes a primary address from 1 to 250. At the same frame count bit (0 after a reset) it acknowledges alone."""
+        if len(primary) != 1 or not 1 <= primary[0] <= GREATEST:
+            return b""
+        if bit != (self.bit or 0):
+            self.primary = primary[0]
+            self.address = str(self.primary)
+        return ACK
 
     def select(self, mask: bytes) -> bytes:
         """Becomes selected or not; one that is selected acknowledges, and begins anew."""

@@ -5,3 +5,5 @@ mod Addresses
 mod Readouts
 -- what is said of a result where it is Ok
 mod Results
+-- the steps of setting a primary address
+mod Changes

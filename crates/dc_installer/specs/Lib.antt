@@ -3,5 +3,7 @@
 pub mod Read
 -- the search for meters
 pub mod Scan
+-- setting a primary address
+pub mod Address
 -- how far a search is
 pub mod Course

@@ -30,6 +30,7 @@ Bill:
 Maintain:
   format   Makes an image that holds an empty register
   fit      Adds the meters of a list to an image's register, all of them or none
+  address  Gives one meter on one bus another primary address
   demo     Reads a simulated meter in this process, and reports its value
 
 Options:
@@ -268,6 +269,20 @@ these meters by their primary addresses (scan --primary).
 --trace FILE gets milliseconds, bus line, > or <, hex digits, and what they are:
 frame, E5, no frame or silence.
 Faults: mbdc: gateway where the link can't be connected or is lost; mbdc: memory";
+
+/// Of `address`.
+pub const ADDRESS: &str = "Example:
+  mbdc address tcp://192.0.2.10:10001 0 7
+
+Nobody may answer at NEW, and one meter has to answer at OLD; else nothing is
+changed. Then the meter gets its new address, and is read there. Printed:
+  ADDRESS NEW ident                            it answers there
+  address NEW is taken: somebody answers there
+  address OLD: no meter acknowledges there
+  address OLD: several meters answer, or one that can't be read
+  address NEW: ident doesn't answer there      the change was sent: read both
+A meter without an address has 0. Nothing else is written to any meter.
+Status: 0 the meter answers at NEW, 1 it doesn't, 4 the link or memory.";
 
 /// Of `read`.
 pub const READ: &str = "Example:

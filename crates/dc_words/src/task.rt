@@ -187,6 +187,17 @@ pub enum Task<'a> {
         /// The file of the trace, if one is written.
         trace: Option<&'a str>,
     },
+    /// A new primary address for a meter on one bus, without an image.
+    Address {
+        /// The bus.
+        link: LinkName<'a>,
+        /// The address that the meter has.
+        from: u8,
+        /// The address that it gets.
+        to: u8,
+        /// The time-out of an answer in milliseconds.
+        patience: u16,
+    },
     /// A house of one simulated meter, in memory.
     Demo,
 }

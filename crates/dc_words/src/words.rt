@@ -90,6 +90,11 @@ fn link_arg<'a>(alloc: Global) -> Arg<'a> {
     )
 }
 
+// A primary address, or that of a meter that has none yet.
+fn address_arg<'a>(alloc: Global, id: &'a str, help: &'a str) -> Arg<'a> {
+    required_arg(alloc, id, help).value_parser(value_parser!(u8).range(0..=250))
+}
+
 fn budget_arg<'a>(alloc: Global) -> Arg<'a> {
     option_arg(alloc, "BUDGET", "budget", "N")
         .value_parser(value_parser!(u32).range(0..=4_294_967_295))
@@ -298,6 +303,21 @@ fn read_command<'a>(alloc: Global) -> Result<Command<'a>, AllocError> {
     command_of(alloc, "read", about, help::READ, args)
 }
 
+fn address_command<'a>(alloc: Global) -> Result<Command<'a>, AllocError> {
+    let args = vec![in alloc;
+        link_arg(alloc),
+        address_arg(alloc, "OLD", "The primary address that it has, 0 to 250"),
+        address_arg(
+            alloc,
+            "NEW",
+            "The one that it gets, 0 to 250: nobody may answer there"
+        ),
+        patience_arg(alloc),
+    ]?;
+    let about = "Gives one meter on one bus another primary address";
+    command_of(alloc, "address", about, help::ADDRESS, args)
+}
+
 fn demo_command<'a>(alloc: Global) -> Result<Command<'a>, AllocError> {
     let about = "Reads a simulated meter in this process, and reports its value";
     command_of(alloc, "demo", about, help::DEMO, Vec::new(alloc))
@@ -317,6 +337,7 @@ fn program<'a>(alloc: Global) -> Result<Command<'a>, AllocError> {
     let program = with_command(program, inspect_command(alloc));
     let program = with_command(program, scan_command(alloc));
     let program = with_command(program, read_command(alloc));
+    let program = with_command(program, address_command(alloc));
     with_command(program, demo_command(alloc))
 }
 
@@ -368,7 +389,7 @@ fn task_of<'a>(alloc: Global, matches: &ArgMatches<'a>) -> Result<Task<'a>, Word
             boundaries: boundaries_of(alloc, inner.get_str("BOUNDARIES").unwrap_or_default())?,
         }),
         "demo" => Ok(Task::Demo),
-        "scan" | "read" => bus_task(name, inner),
+        "scan" | "read" | "address" => bus_task(name, inner),
         _ => image_task(alloc, name, inner),
     }
 }
@@ -408,6 +429,14 @@ fn bus_task<'a>(name: &str, inner: &ArgMatches<'a>) -> Result<Task<'a>, WordsFau
             },
             patience,
             trace: inner.get_str("TRACE"),
+        });
+    }
+    if name == "address" {
+        return Ok(Task::Address {
+            link,
+            from: inner.get_one("OLD").unwrap_or_default(),
+            to: inner.get_one("NEW").unwrap_or_default(),
+            patience,
         });
     }
     let meter = meter_of(inner.get_str("METER").unwrap_or_default()).ok_or(WordsFault::Meter)?;

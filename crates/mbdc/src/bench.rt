@@ -1,11 +1,14 @@
-//! The commands `scan` and `read`: one bus, without an image.
+//! The commands `scan`, `read` and `address`: one bus, without an image.
 
 use crate::tracing::{Book, book_of, trace_of};
 use crate::watching::{Addresses, Cleared, Progress, Show};
 use dc_bus::{Both, Bus, QuietBus, ScriptBus};
 use dc_ending::{Ending, STREAM};
 use dc_files::{Host, Noted, Why};
-use dc_installer::{Count, GREATEST, Readout, ScanFault, identify, read, scan, scan_primary};
+use dc_installer::{
+    Addressing, Count, GREATEST, Readout, ScanFault, identify, put_addressing, read, scan,
+    scan_primary, set_address,
+};
 use dc_io::{IoFault, Sink, WriteSink, put_number_word};
 use dc_links::{Peer, ScriptLink, SystemBus, Waiter};
 use dc_trace::{Observed, Observer, Pair};
@@ -211,6 +214,57 @@ where
         Ok(Readout::Failed) => end_of(host.why, &bus, writer, Ending::Faulty),
         Err(IoFault) => Ending::File(STREAM),
     }
+}
+
+/// Sets the primary address of a meter on a bus, and prints what came of it.
+pub fn address_on_bus<'a, R>(
+    host: &Host<'_, R>,
+    link: &LinkName<'_>,
+    from: u8,
+    to: u8,
+    patience: u16,
+) -> Ending<'a>
+where
+    R: Files<File = File> + Net<Stream = TcpStream> + Clock + Copy + Print + Eprint + AllocGlobal,
+{
+    let peer = match Peer::connect(host.rt, link) {
+        Ok(peer) => peer,
+        Err(error) => return host.why.link(None, error),
+    };
+    let ending = address_over(host, &peer, (from, to), patience);
+    peer.release(host.rt);
+    ending
+}
+
+fn address_over<'a, R>(
+    host: &Host<'_, R>,
+    peer: &Peer<R>,
+    addresses: (u8, u8),
+    patience: u16,
+) -> Ending<'a>
+where
+    R: Clock + Copy + Print + Eprint + AllocGlobal,
+{
+    let (from, to) = addresses;
+    let unseen: Option<Show<'_, '_, R>> = None;
+    let mut bus = match quiet_bus(host.rt, peer, patience, unseen) {
+        Ok(bus) => bus,
+        Err(error) => return host.why.link(None, error),
+    };
+    let outcome = set_address(&mut bus, from, to);
+    let printer = Noted::new(io::writer(host.rt), host.why);
+    let Ok(printer) = LineWriter::new(host.rt.alloc(), printer) else {
+        return Ending::Memory;
+    };
+    let mut writer = WriteSink::new(printer);
+    if put_addressing(from, to, &outcome, &mut writer).is_err() {
+        return Ending::File(STREAM);
+    }
+    let ending = match outcome {
+        Addressing::Set(_) => Ending::Clean,
+        _ => Ending::Faulty,
+    };
+    end_of(host.why, &bus, writer, ending)
 }
 
 // Returns the bus of a link with an observer, once no answer is under way on it.

@@ -1,6 +1,6 @@
 //! The commands: an engine of a library between the files and links that the words name.
 
-use crate::bench::{read_on_bus, scan_bus};
+use crate::bench::{address_on_bus, read_on_bus, scan_bus};
 use crate::consumption::consumption_of_file;
 use crate::fit::fit_on_image;
 use crate::inspect::{Look, look_into, tell_status};
@@ -81,6 +81,12 @@ where
             patience,
             trace,
         } => read_on_bus(host, link, *meter, *patience, *trace),
+        Task::Address {
+            link,
+            from,
+            to,
+            patience,
+        } => address_on_bus(host, link, *from, *to, *patience),
         // No reading gets a stamp that is no time.
         Task::Poll(_) if clock::moment(host.rt).is_none() => Ending::Clock,
         Task::Poll(task) => poll_on_image(host, task),

@@ -4,7 +4,7 @@ import datetime
 import random
 
 import pytest
-from world.frames import ACK, CI_SELECT, MORE, REQ_UD2, SECONDARY, SND_NKE, SND_UD, Frame, parse
+from world.frames import ACK, CI_DATA, CI_SELECT, MORE, REQ_UD2, SECONDARY, SND_NKE, SND_UD, Frame, parse
 from world.meters import DUE, STORED_DATE, Meter, meters_of, shown
 
 MOMENT = 1_735_689_600
@@ -63,6 +63,29 @@ def test_a_reset_of_the_selected_meter_deselects(meter: Meter) -> None:
     meter.select(bytes([0xFF] * 8))
     assert meter.hear(Frame(SND_NKE, SECONDARY), MOMENT) == ACK
     assert ask(meter, 1, SECONDARY) == b""
+
+
+@pytest.mark.parametrize("record, taken", [
+    ("017A07", 7), ("017AFA", 250), ("017AFB", 1), ("017A00", 1), ("027A0700", 1), ("017A", 1), ("01FD1007", 1),
+])
+def test_a_bus_address_is_taken(meter: Meter, record: str, taken: int) -> None:
+    meter.hear(Frame(SND_NKE, 1), MOMENT)
+    ask(meter, 1)
+    change = Frame(SND_UD, 1, bytes([CI_DATA]) + bytes.fromhex(record))
+    assert meter.hear(change, MOMENT) == (ACK if taken != 1 else b"")
+    assert meter.primary == taken and meter.address == str(taken)
+    meter.hear(Frame(SND_NKE, taken), MOMENT)
+    telegram = parse(ask(meter, 1, address=taken))
+    assert telegram and telegram.address == taken
+    assert taken == 1 or ask(meter, 1) == b""
+
+
+def test_a_bus_address_at_the_same_bit_is_acknowledged_alone(meter: Meter) -> None:
+    change = bytes([CI_DATA]) + bytes.fromhex("017A07")
+    meter.hear(Frame(SND_NKE, 1), MOMENT)
+    assert meter.hear(Frame(SND_UD, 1, change), MOMENT) == ACK and meter.primary == 1
+    ask(meter, 1)
+    assert meter.hear(Frame(SND_UD | 0x20, 1, change), MOMENT) == ACK and meter.primary == 1
 
 
 def test_the_value_of_the_due_date_is_stored(meter: Meter) -> None:

@@ -232,6 +232,18 @@ const BUSES: Rows = &[
     ("read tcp://a:1 0", "refused Meter"),
     ("read tcp://a:1 251", "refused Meter"),
     ("read tcp://a:1", "refused"),
+    (
+        "address tcp://a:1 0 250",
+        "address tcp(a:1) 0 250 patience 2000",
+    ),
+    (
+        "address serial:/dev/ttyUSB0 5 7 --patience 500",
+        "address serial(/dev/ttyUSB0) 5 7 patience 500",
+    ),
+    ("address tcp://a:1 5 251", "refused"),
+    ("address tcp://a:1 253 5", "refused"),
+    ("address tcp://a:1 5", "refused"),
+    ("address 5 7", "refused"),
 ];
 
 // The words as the program gets them.

@@ -114,6 +114,15 @@ fn bus_text(alloc: Global, task: &Task<'_>) -> Result<String, AllocError> {
             let trace = trace_text(alloc, *trace)?;
             format!(in alloc; "read {link} {meter} patience {patience}{trace}")
         }
+        Task::Address {
+            link,
+            from,
+            to,
+            patience,
+        } => {
+            let link = link_text(alloc, *link)?;
+            format!(in alloc; "address {link} {from} {to} patience {patience}")
+        }
         _ => String::from_str(alloc, "?"),
     }
 }

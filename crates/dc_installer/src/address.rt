@@ -1,0 +1,201 @@
+//! Setting a primary address.
+
+ghost use Rattle.std.specs.Prelude.{◌≡◌, ◌++◌, ◌==◌, true, ℕ, List, codes};
+ghost use Rattle.dc_frame.specs.Control.{request_to, reset_to};
+ghost use Rattle.dc_frame.specs.Frame.{spelling};
+ghost use Rattle.dc_io.specs.Written.{Wrote};
+ghost use Rattle.dc_installer.specs.Scan.{is_none};
+ghost use Rattle.dc_installer.specs.Address.{IsAddressed, IsChanged, IsFree, address_word};
+ghost use Rattle.dc_installer.specs.Address.{addressing_text, change_to, confirmed, elsewhere};
+
+use crate::primary::{meter_at, put_address, requests, resets};
+use dc_address::Identity;
+use dc_bus::{Bus, ScriptBus};
+use dc_frame::control::{SND_UD, write_request, write_reset};
+use dc_frame::{FrameBuf, write_long};
+use dc_io::{IoFault, Sink, put_number_word};
+
+// CI of data that a meter is to take, in records.
+const DATA: u8 = 0x51;
+
+// DIF of an integer of eight bits, and VIF of the bus address.
+const EIGHT_BITS: u8 = 0x01;
+
+const BUS_ADDRESS: u8 = 0x7A;
+
+/// What came of setting a primary address.
+#[derive(Clone, Copy, Debug, PartialEq, Eq)]
+pub enum Addressing {
+    /// The meter answers at the new address.
+    Set(Identity),
+    /// Somebody answers at the new address. Nothing was sent to the old one.
+    Taken,
+    /// No meter acknowledges at the old address. Its address wasn't changed.
+    Nobody,
+    /// At the old address no telegram can be read: more than one meter answers, or one that can't be named. Its
+    /// address wasn't changed.
+    Unclear,
+    /// The meter was told its new address, and doesn't answer there.
+    Unconfirmed(Identity),
+}
+
+/// Sets the primary address of the meter at `from` to `to`, by SND_UD with the record `01 7A to` (EN 13757-3, bus
+/// address), and reads it there.
+///
+/// Nothing goes to `from` unless `to` is silent: a reset and a request are met by silence, and no late answer shows
+/// until the bus is quiet. The change goes out only where one meter acknowledges at `from` and its telegram names it.
+/// Whether the change is acknowledged doesn't count; the telegram at `to` decides.
+pub fn set_address<B: ScriptBus>(bus: &mut B, from: u8, to: u8) -> Addressing
+    ensures { IsAddressed B.asks B.settles B.late from to bus.old result bus.new }
+{
+    if !is_free(bus, to) {
+        return Addressing::Taken;
+    }
+    if !resets(bus, from) {
+        return Addressing::Nobody;
+    }
+    match requests(bus, from) {
+        Some(meter) => change(bus, &meter, from, to),
+        None => Addressing::Unclear,
+    }
+}
+
+// Whether nobody answers at an address.
+fn is_free<B: ScriptBus>(bus: &mut B, address: u8) -> bool
+    ensures { IsFree B.asks B.settles B.late address bus.old result bus.new }
+{
+    let late = bus.late();
+    if !is_reset_silent(bus, address) {
+        return false;
+    }
+    if !is_request_silent(bus, address) {
+        return false;
+    }
+    bus.settle();
+    has_count(bus, late)
+}
+
+// Whether a reset is met by silence.
+fn is_reset_silent<B: Bus>(bus: &mut B, address: u8) -> bool
+    ensures { (answer : List ℕ) × B.asks bus.old (spelling (reset_to address)) answer bus.new
+        × (result ≡ is_none answer) }
+{
+    let mut request = FrameBuf::new();
+    write_reset(address, &mut request);
+    bus.ask(&request).as_slice().is_empty()
+}
+
+// Whether a request is met by silence.
+fn is_request_silent<B: Bus>(bus: &mut B, address: u8) -> bool
+    ensures { (answer : List ℕ) × B.asks bus.old (spelling (request_to true address)) answer bus.new
+        × (result ≡ is_none answer) }
+{
+    let mut request = FrameBuf::new();
+    write_request(true, address, &mut request);
+    bus.ask(&request).as_slice().is_empty()
+}
+
+// Whether this many late answers came.
+fn has_count<B: ScriptBus>(bus: &B, late: u64) -> bool
+    ensures { result ≡ (B.late bus.now == late) }
+{
+    bus.late() == late
+}
+
+// Sends a meter its new address, and reads it there.
+fn change<B: ScriptBus>(bus: &mut B, meter: &Identity, from: u8, to: u8) -> Addressing
+    ensures { IsChanged B.asks B.settles from to meter.now bus.old result bus.new }
+{
+    send_change(bus, from, to);
+    bus.settle();
+    let sender = meter_at(bus, to);
+    confirmed(meter, sender)
+}
+
+// Sends the record of the new address, and waits for its acknowledgement. The frame count bit is 0: that of the
+// request before it was 1.
+fn send_change<B: Bus>(bus: &mut B, from: u8, to: u8)
+    ensures { (answer : List ℕ) × B.asks bus.old (change_to from to) answer bus.new }
+{
+    let mut request = FrameBuf::new();
+    write_long(
+        SND_UD,
+        from,
+        DATA,
+        &[EIGHT_BITS, BUS_ADDRESS, to],
+        &mut request,
+    );
+    let _ = bus.ask(&request);
+}
+
+// What came of the change, by the meter that answers at the new address.
+fn confirmed(meter: &Identity, sender: Option<Identity>) -> Addressing
+    ensures { result ≡ confirmed meter.now sender }
+{
+    let Some(sender) = sender else {
+        return Addressing::Unconfirmed(*meter);
+    };
+    if sender == *meter {
+        Addressing::Set(*meter)
+    } else {
+        Addressing::Unconfirmed(*meter)
+    }
+}
+
+/// Prints what came of setting a primary address: `ADDRESS to ident`, or a sentence.
+pub fn put_addressing<W: Sink>(
+    from: u8,
+    to: u8,
+    outcome: &Addressing,
+    out: &mut W,
+) -> Result<(), IoFault>
+    ensures { Wrote W.Sink result out.old out.new (addressing_text from to outcome.now) }
+{
+    match outcome {
+        Addressing::Set(meter) => put_address(to, Some(*meter), out),
+        Addressing::Taken => put_sentence(to, b" is taken: somebody answers there\n", out),
+        Addressing::Nobody => put_sentence(from, b": no meter acknowledges there\n", out),
+        Addressing::Unclear => {
+            put_sentence(
+                from,
+                b": several meters answer, or one that can't be read\n",
+                out,
+            )
+        }
+        Addressing::Unconfirmed(meter) => put_unconfirmed(to, meter, out),
+    }
+}
+
+#[tactic(auto, using(dc_io::proofs::Pieces::written))]
+fn put_sentence<W: Sink>(address: u8, text: &[u8], out: &mut W) -> Result<(), IoFault>
+    ensures { Wrote W.Sink result out.old out.new (address_word address ++ text.now) }
+{
+    put_address_word(address, out)?;
+    out.put(text)
+}
+
+#[tactic(auto, using(dc_io::proofs::Pieces::written))]
+fn put_unconfirmed<W: Sink>(address: u8, meter: &Identity, out: &mut W) -> Result<(), IoFault>
+    ensures { Wrote W.Sink result out.old out.new
+        (address_word address ++ (codes ": " ++ elsewhere meter.now)) }
+{
+    put_address_word(address, out)?;
+    out.put(b": ")?;
+    put_elsewhere(meter, out)
+}
+
+#[tactic(auto, using(dc_io::proofs::Pieces::written), unfolding(crate::specs::Address::elsewhere))]
+fn put_elsewhere<W: Sink>(meter: &Identity, out: &mut W) -> Result<(), IoFault>
+    ensures { Wrote W.Sink result out.old out.new (elsewhere meter.now) }
+{
+    out.put(&meter.text())?;
+    out.put(b" doesn't answer there\n")
+}
+
+#[tactic(auto, using(dc_io::proofs::Pieces::joined), unfolding(crate::specs::Address::address_word))]
+fn put_address_word<W: Sink>(address: u8, out: &mut W) -> Result<(), IoFault>
+    ensures { Wrote W.Sink result out.old out.new (address_word address) }
+{
+    out.put(b"address")?;
+    put_number_word(out, address as u64)
+}
