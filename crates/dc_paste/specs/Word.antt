@@ -1,6 +1,6 @@
 -- The words of a pasted line, and the bytes that a word spells (this product).
 use Rattle.std.specs.Prelude.{ℕ, ◌==◌, ◌&&◌, ◌||◌, not, nat_le, if◌then◌else◌, Bool, true, false}
-use Rattle.std.specs.Prelude.{List, [], ◌∷◌, length, drop, filter, slice_index, Option, None}
+use Rattle.std.specs.Prelude.{List, [], ◌∷◌, length, take, drop, filter, slice_index, Option, None, ◌-◌}
 use Rattle.dc_io.specs.Hex.{bytes_of}
 use Rattle.dc_io.specs.Lines.{onto_first}
 
@@ -16,9 +16,9 @@ is_of_space b = (b == 239 || b == 187) || (b == 191 || (b == 194 || b == 160))
 abbrev pub is_point : ℕ → Bool
 is_point b = (b == 44 || b == 59) || (b == 34 || (b == 39 || b == 92))
 
--- a bracket: ( ) [ ] { }
+-- a bracket: ( ) [ { }, and not ], so that the number of a process, as in mbdc[4711]:, is a word with a ]
 abbrev pub is_bracket : ℕ → Bool
-is_bracket b = (b == 40 || b == 41) || ((b == 91 || b == 93) || (b == 123 || b == 125))
+is_bracket b = (b == 40 || b == 41) || (b == 91 || (b == 123 || b == 125))
 
 -- a character between words
 unfoldable pub is_gap : ℕ → Bool
@@ -40,6 +40,15 @@ prefix_len word =
     if (slice_index word 0 == 48) && is_x (slice_index word 1) then 2
     else if is_x (slice_index word 0) then 1
     else 0
+
+-- a word without one ] at its end
+abbrev pub unclosed : List ℕ → List ℕ
+unclosed word =
+    if slice_index word (length word - 1) == 93 then take (length word - 1) word else word
+
+-- what follows the prefix
+abbrev pub digits_in : List ℕ → List ℕ
+digits_in word = drop (prefix_len word) word
 
 -- a colon or a dash between pairs
 abbrev pub is_mark : ℕ → Bool
@@ -68,4 +77,4 @@ unfoldable pub spelled : List ℕ → Option (List ℕ)
 spelled digits = if is_marked digits then bytes_of (filter is_unmarked digits) else bytes_of digits
 
 unfoldable pub word_bytes : List ℕ → Option (List ℕ)
-word_bytes word = spelled (drop (prefix_len word) word)
+word_bytes word = spelled (digits_in (unclosed word))

@@ -3,7 +3,7 @@
 ghost use Rattle.std.specs.Prelude.{◌≡◌, ℕ, ◌&&◌, ◌<◌, ◌≤◌, ◌∷◌, length, slice_index, take};
 ghost use Rattle.std.specs.Prelude.{None, Some, IfSome, MatchOption, filter, true, false};
 ghost use Rattle.dc_paste.specs.Word.{are_marked_pairs, is_gap, is_mark, is_marked, is_unmarked, is_x};
-ghost use Rattle.dc_paste.specs.Word.{prefix_len, spelled, word_bytes, words_of};
+ghost use Rattle.dc_paste.specs.Word.{prefix_len, spelled, unclosed, word_bytes, words_of};
 
 use dc_io::decode_hex;
 
@@ -18,7 +18,7 @@ fn is_gap(byte: u8) -> bool
     matches!(byte, b' ' | b'\t' | b'\r')
         || matches!(byte, 0xEF | 0xBB | 0xBF | 0xC2 | 0xA0)
         || matches!(byte, b',' | b';' | b'"' | b'\'' | b'\\')
-        || matches!(byte, b'(' | b')' | b'[' | b']' | b'{' | b'}')
+        || matches!(byte, b'(' | b')' | b'[' | b'{' | b'}')
 }
 
 // The place of the first gap of a text, or the text's length.
@@ -75,6 +75,18 @@ fn prefix_len(word: &[u8]) -> usize
     }
 }
 
+// A word without one `]` at its end.
+fn unclosed(word: &[u8]) -> &[u8]
+    ensures value { result.now ≡ unclosed word.now }
+    ensures shorter { length result.now ≤ length word.now }
+{
+    match word.len() {
+        0 => word,
+        length if word[length - 1] == b']' => &word[..length - 1],
+        _ => word,
+    }
+}
+
 // Whether the first two characters aren't marks.
 fn is_pair(text: &[u8]) -> bool
     requires { 1 < length text.now }
@@ -126,7 +138,8 @@ pub(crate) fn decode_word(word: &[u8], digits: &mut [u8], bytes: &mut [u8]) -> O
     ensures value { MatchOption result (word_bytes word.now ≡ None)
         (λ n. word_bytes word.now ≡ Some (take n bytes.new)) }
 {
-    let spelled = &word[prefix_len(word)..];
+    let inner = unclosed(word);
+    let spelled = &inner[prefix_len(inner)..];
     if spelled.len() >= FEWEST_MARKED && are_marked_pairs(spelled) {
         let count = unmark_into(spelled, digits);
         return decode_hex(&digits[..count], bytes);
