@@ -1,7 +1,7 @@
 //! The commands `scan`, `read` and `address`: one bus, without an image.
 
 use crate::tracing::{Book, book_of, trace_of};
-use crate::watching::{Addresses, Cleared, Progress, Show};
+use crate::watching::{Addresses, Cleared, Progress, Show, Unseen};
 use dc_bus::{Both, Bus, QuietBus, ScriptBus};
 use dc_ending::{Ending, STREAM};
 use dc_files::{Host, Noted, Why};
@@ -66,9 +66,6 @@ fn scan_over<'a, R>(
 where
     R: Clock + Copy + Print + Eprint + AllocGlobal,
 {
-    if !host.is_watched {
-        return scan_watched(host, peer, what, patience, (book, None));
-    }
     let addresses = match what {
         Scan::Wildcards(_) => None,
         Scan::Primary => Some(Addresses {
@@ -76,8 +73,8 @@ where
             each: patience,
         }),
     };
-    let progress = Progress::new(host.rt, addresses);
-    let ending = scan_watched(host, peer, what, patience, (book, Some(&progress)));
+    let progress = Progress::new(host.rt, host.is_watched, addresses);
+    let ending = scan_watched(host, peer, what, patience, book, &progress);
     progress.clear();
     ending
 }
@@ -87,19 +84,16 @@ fn scan_watched<'a, R>(
     peer: &Peer<R>,
     what: Scan,
     patience: u16,
-    watchers: (Option<&Book<'_, R>>, Option<&Progress<'_, R>>),
+    book: Option<&Book<'_, R>>,
+    progress: &Progress<'_, R>,
 ) -> Ending<'a>
 where
     R: Clock + Copy + Print + Eprint + AllocGlobal,
 {
-    let (book, progress) = watchers;
     let Ok(first) = trace_of(book, 1) else {
         return Ending::Memory;
     };
-    let second = match progress {
-        Some(progress) => Some(Show { progress }),
-        None => None,
-    };
+    let second = Show { progress };
     let mut bus = match quiet_bus(host.rt, peer, patience, Pair { first, second }) {
         Ok(bus) => bus,
         Err(error) => return host.why.link(None, error),
@@ -120,10 +114,8 @@ where
                 Ending::Clean
             };
             let ending = end_of(host.why, &bus, writer, ending);
-            if let Some(progress) = progress
-                && matches!(ending, Ending::Clean | Ending::Faulty)
-            {
-                advise(host.rt, progress, count);
+            if matches!(ending, Ending::Clean | Ending::Faulty) {
+                advise(progress, count);
             }
             ending
         }
@@ -152,15 +144,14 @@ fn search<B: ScriptBus, W: Sink>(
 }
 
 // Says what to do where nothing was found, and with numbers that several meters have.
-fn advise<R: Clock + Eprint>(rt: &R, progress: &Progress<'_, R>, count: Option<Count>) {
-    progress.clear();
+fn advise<R: Clock + Eprint>(progress: &Progress<'_, R>, count: Option<Count>) {
     let advice = match count {
         _ if !progress.is_answered() => NOBODY,
         Some(count) if count.shared > 0 => SHARED,
         Some(count) if count.meters == 0 => NO_METER,
         _ => return,
     };
-    let _ = rt.eprint(advice);
+    progress.say(advice);
 }
 
 /// Reads a meter on a bus, and prints its telegrams.
@@ -246,8 +237,7 @@ where
     R: Clock + Copy + Print + Eprint + AllocGlobal,
 {
     let (from, to) = addresses;
-    let unseen: Option<Show<'_, '_, R>> = None;
-    let mut bus = match quiet_bus(host.rt, peer, patience, unseen) {
+    let mut bus = match quiet_bus(host.rt, peer, patience, Unseen) {
         Ok(bus) => bus,
         Err(error) => return host.why.link(None, error),
     };

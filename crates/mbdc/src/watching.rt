@@ -30,10 +30,12 @@ pub struct Addresses {
 }
 
 /// The line on standard error that shows how far a search is: `37 selections, 2 found, 41 s`, or with primary
-/// addresses `address 37 of 250, 2 found, 8 min left`. A line of its own shows each meter as it answers.
+/// addresses `address 37 of 250, 2 found, 8 min left`. A line of its own shows each meter as it answers. It is shown
+/// only on a terminal.
 #[derive(Drop)]
 pub struct Progress<'h, R> {
     rt: &'h R,
+    is_terminal: bool,
     addresses: Option<Addresses>,
     begun: Option<Instant>,
     course: Cell<Course>,
@@ -44,8 +46,8 @@ pub struct Progress<'h, R> {
 
 impl<'h, R: Clock + Eprint> Progress<'h, R> {
     /// Begins a search by wildcards, or at primary addresses: then it says how long that takes.
-    pub fn new(rt: &'h R, addresses: Option<Addresses>) -> Self {
-        if let Some(Addresses { last, each }) = addresses {
+    pub fn new(rt: &'h R, is_terminal: bool, addresses: Option<Addresses>) -> Self {
+        if is_terminal && let Some(Addresses { last, each }) = addresses {
             let (time, unit) = time_of(last, each);
             let _ = eprint!(rt;
                 "{last} addresses, {each} ms each that is silent: up to {time} {unit}\n"
@@ -53,6 +55,7 @@ impl<'h, R: Clock + Eprint> Progress<'h, R> {
         }
         Progress {
             rt,
+            is_terminal,
             addresses,
             begun: Instant::now(rt).ok(),
             course: Cell::new(Course::new()),
@@ -66,6 +69,14 @@ impl<'h, R: Clock + Eprint> Progress<'h, R> {
         if self.is_shown.get() {
             let _ = self.rt.eprint(CLEAR);
             self.is_shown.set(false);
+        }
+    }
+
+    /// Says something to a person, on a terminal.
+    pub fn say(&self, line: &str) {
+        if self.is_terminal {
+            self.clear();
+            let _ = self.rt.eprint(line);
         }
     }
 
@@ -84,7 +95,7 @@ impl<'h, R: Clock + Eprint> Progress<'h, R> {
         let before = self.course.get();
         let course = before.after_answer(answer);
         self.course.set(course);
-        if course.meter == before.meter {
+        if !self.is_terminal || course.meter == before.meter {
             return;
         }
         self.meters.set(self.meters.get().saturating_add(1));
@@ -98,6 +109,9 @@ impl<'h, R: Clock + Eprint> Progress<'h, R> {
     }
 
     fn show(&self) {
+        if !self.is_terminal {
+            return;
+        }
         let course = self.course.get();
         let meters = self.meters.get();
         let _ = match self.addresses {
@@ -200,20 +214,34 @@ impl<R: Clock + Eprint> Observer for Show<'_, '_, R> {
     }
 }
 
-/// A writer before whose writes the line of the progress is cleared, where there is one.
+/// What sees nothing.
+#[derive(Clone, Copy, Drop)]
+pub struct Unseen;
+
+impl Observer for Unseen {
+    ghost use Rattle.std.specs.Prelude.{⊤};
+
+    ghost sees_request = { λ _ _ _. ⊤ };
+
+    ghost sees_answer = { λ _ _ _. ⊤ };
+
+    fn see_request(&mut self, _request: &[u8]) {}
+
+    fn see_answer(&mut self, _answer: &[u8]) {}
+}
+
+/// A writer before whose writes the line of the progress is cleared.
 #[derive(Drop)]
 pub struct Cleared<'p, 'h, R, W: Write + Drop> {
     /// The writer.
     pub writer: W,
     /// The progress.
-    pub progress: Option<&'p Progress<'h, R>>,
+    pub progress: &'p Progress<'h, R>,
 }
 
 impl<R: Clock + Eprint, W: Write + Drop> Write for Cleared<'_, '_, R, W> {
     fn write(&mut self, bytes: &[u8]) -> io::Result<usize> {
-        if let Some(progress) = self.progress {
-            progress.clear();
-        }
+        self.progress.clear();
         self.writer.write(bytes)
     }
 
