@@ -49,11 +49,17 @@ fn format_in_place<'a, R: Files<File = File>>(
 ) -> Ending<'a>
     ensures { IsOfFormat result name.now }
 {
-    let formatted = match open_seen(host.rt, name, seen) {
-        Ok(file) => format_blank(host.why, file, length),
-        Err(error) => Err(error),
-    };
-    formatted_as(host.why, name, formatted)
+    formatted_as(host.why, name, format_seen(host, name, seen, length))
+}
+
+fn format_seen<R: Files<File = File>>(
+    host: &Host<'_, R>,
+    name: &str,
+    seen: &Metadata,
+    length: u64,
+) -> io::Result<Option<FormatFault>> {
+    let file = open_seen(host.rt, name, seen)?;
+    format_blank(host.why, file, length)
 }
 
 // The ending of `format`.

@@ -20,10 +20,8 @@ fn put_object<W: Sink>(out: &mut W, body: &[u8]) -> Result<bool, IoFault>
 {
     let mut tokens = TokenWriter::new(out);
     let bad = put_body_json(&mut tokens, body);
-    match tokens.outcome() {
-        Ok(()) => Ok(bad),
-        Err(fault) => Err(fault),
-    }
+    tokens.outcome()?;
+    Ok(bad)
 }
 
 /// Writes the JSON line of a body without a frame (EN 13757-3, variable data structure): the fields

@@ -27,10 +27,8 @@ fn put_object<W: Sink>(out: &mut W, line: u64, bytes: &[u8]) -> Result<bool, IoF
 {
     let mut tokens = TokenWriter::new(out);
     let bad = put_text_json(&mut tokens, line, bytes);
-    match tokens.outcome() {
-        Ok(()) => Ok(bad),
-        Err(fault) => Err(fault),
-    }
+    tokens.outcome()?;
+    Ok(bad)
 }
 
 // Writes the object of a line that isn't pairs of hex digits.

@@ -56,10 +56,8 @@ impl<'a> Links<'a> {
     {
         let (line, link) = word.split_once('=').ok_or(LinkFault::NoLine)?;
         let place = place_of(line).ok_or(LinkFault::NoLine)?;
-        match LinkName::parse(link) {
-            Ok(link) => self.put(place, link),
-            Err(fault) => Err(fault),
-        }
+        let link = LinkName::parse(link)?;
+        self.put(place, link)
     }
 
     /// Gives line 1 the link of a gateway at `HOST:PORT`.
