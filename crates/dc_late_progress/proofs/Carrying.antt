@@ -1,12 +1,12 @@
 -- What a late line gives to a poll is what its meters make of each request, or no whole answer.
-use Rattle.std.proofs.Common.{◌≡◌, ◌⊎◌, inl, inr, ℕ, ◌+◌, ◌<◌, Bool, true, false, not, ◌||◌, Option, Some, None, List, [], ◌∷◌, cond, refl, sym, ◌∙◌, ap, subst}
+use Rattle.std.proofs.Common.{◌≡◌, ◌⊎◌, inl, inr, ℕ, ◌+◌, ◌<◌, Bool, true, false, ◌||◌, Option, Some, List, [], cond, refl, sym, ◌∙◌, ap, subst}
 use Rattle.dc_frame.specs.Frame.{FrameSeen}
 use Rattle.dc_frame.specs.Reading.{frame_of}
 use Rattle.dc_bus.specs.declared.half.HalfBus.{Ghosts as HalfGhosts}
 use Rattle.dc_world.specs.declared.event.Outcome.{Outcome}
 use Rattle.dc_world.specs.declared.event.Outcome.TheVariants.{RequestLost, ReplyLost, ReplyUnreadable, AsSent}
 use Rattle.dc_world.specs.Meter.{Meter, Position}
-use Rattle.dc_world.specs.World.{all_moved, heard_in, positions_after}
+use Rattle.dc_world.specs.World.{all_moved, positions_after}
 use Rattle.dc_late.specs.Late.{Last, clear_after, compared, first_of, has_answer, last_after, numbered, past_copies}
 use Rattle.dc_steady.specs.declared.line.Steady.{Steady}
 use Rattle.dc_steady.specs.Life.{is_gone}
@@ -20,9 +20,9 @@ use Rattle.dc_poll.specs.declared.phase.Request.{Request}
 use Rattle.dc_poll.specs.declared.phase.Request.TheVariants.{Quiet, Sent, Answered}
 use Rattle.dc_poll_progress.specs.Carried.{IsCarried}
 use Rattle.dc_poll_progress.specs.Talked.{GivesTo}
-use Rattle.dc_late_progress.specs.Coming.{Asked, Came, LateLine, MayFollow, and_heard, asks_for, begun, frame_out, is_done, nothing, reply_at}
-use Rattle.dc_late_progress.specs.LateTalk.{Cut, GivesOn, IsLate, begun_on, cut_by, dropped_in, heard_on, row_then, sent_on, steady_bus}
-use Rattle.dc_late_progress.proofs.Way.{After, IsReply, OwnOnly, Rests, Waits, answer_taken, sent, settled, waited, was_cut}
+use Rattle.dc_late_progress.specs.Coming.{Asked, Came, LateLine, and_heard, asks_for, begun, frame_out, is_done, reply_at}
+use Rattle.dc_late_progress.specs.LateTalk.{Cut, IsLate, begun_on, cut_by, dropped_in, heard_on, row_then, sent_on, steady_bus}
+use Rattle.dc_late_progress.proofs.Way.{After, MayFollow, OwnOnly, Rests, Waits, answer_taken, sent, settled, waited, was_cut}
 
 -- ---- the requests are those of readouts
 
@@ -139,13 +139,13 @@ module _ (meters : List Meter) (apart : OwnOnly meters) where
       rests_so = was_cut meters line.asked line.positions line.way bus.last bus.clear cut.place cut.count cut.pieces at.rests_so;
     }
 
-    settled_calm : (line : LateLine) (old new : Steady B) (now : Line) (dropped_it left : List (List ℕ)) → Keeps old new → Came line.way dropped_it left → (new.clear ≡ true → left ≡ []) → Calm line old now → Calm (record line { way = left }) new now
+    settled_calm : (line : LateLine) (old new : Steady B) (now : Line) (dropped_it left : List (List ℕ)) → Keeps old new → Came (frame_out line.asked) line.way dropped_it left → (new.clear ≡ true → left ≡ []) → Calm line old now → Calm (record line { way = left }) new now
     settled_calm line old new now dropped_it left k came none at = record {
       positions = at.positions;
       row = at.row;
       rests_so =
           subst (λ (l : Option Last). Rests meters line.asked line.positions left l new.clear) (sym k.last)
-          (settled meters line.asked line.positions dropped_it line.way left old.last old.clear new.clear k.clear none came at.rests_so);
+          (settled (frame_out line.asked) meters line.asked line.positions dropped_it line.way left old.last old.clear new.clear k.clear none came at.rests_so);
     }
 
     begun_calm : (line : LateLine) (bus : Steady B) (now : Line) → bus.clear ≡ true → Calm line bus now → Calm (begun_on line) bus (bus_at_first now.positions)
@@ -176,7 +176,7 @@ module _ (meters : List Meter) (apart : OwnOnly meters) where
               (sent meters apart outcome access passed bytes frame spelled line.positions line.way old.last old.clear line.asked may at.rests_so));
         }
 
-    waited_out : (line : LateLine) (half : HalfGhosts B) (old new : Steady B) (now : Line) (copies left : List (List ℕ)) → StillWaits half.gives half.waits old new → Came line.way copies left → Out line old now → Out (record line { way = left }) new now
+    waited_out : (line : LateLine) (half : HalfGhosts B) (old new : Steady B) (now : Line) (copies left : List (List ℕ)) → StillWaits half.gives half.waits old new → Came (frame_out line.asked) line.way copies left → Out line old now → Out (record line { way = left }) new now
     waited_out line half old new now copies left w came at =
         let last : new.last ≡ old.last = ap (λ (l : Steady B). l.last) w.kept in
         let clear : new.clear ≡ old.clear = ap (λ (l : Steady B). l.clear) w.kept in
@@ -192,11 +192,11 @@ module _ (meters : List Meter) (apart : OwnOnly meters) where
           waiting =
               subst (λ (l : Option Last). Waits meters at.bytes at.frame line.positions left l new.clear) (sym last)
               (subst (λ (c : Bool). Waits meters at.bytes at.frame line.positions left old.last c) (sym clear)
-              (waited meters at.bytes at.frame line.positions copies line.way left old.last old.clear came at.waiting));
+              (waited meters at.bytes at.frame line.positions copies line.way left old.last old.clear (subst (λ (f : FrameSeen). Came f line.way copies left) (ap frame_out at.asked) came) at.waiting));
         }
 
     -- an answer is taken
-    module _ (line : LateLine) (half : HalfGhosts B) (old new : Steady B) (now : Line) (heard : List ℕ) (t : Takes half.gives old heard new) (left : List (List ℕ)) (came : Came line.way t.listens.answers left) (at : Out line old now) where
+    module _ (line : LateLine) (half : HalfGhosts B) (old new : Steady B) (now : Line) (heard : List ℕ) (t : Takes half.gives old heard new) (left : List (List ℕ)) (came : Came (frame_out line.asked) line.way t.listens.answers left) (at : Out line old now) where
       last_is : new.last ≡ last_after (frame_of heard) at.bytes heard old.last
       last_is = ap (λ (l : Steady B). l.last) t.kept ∙ ap (λ (r : List ℕ). last_after (frame_of heard) r heard old.last) at.request
 
@@ -208,7 +208,7 @@ module _ (meters : List Meter) (apart : OwnOnly meters) where
 
       after_it : After meters at.bytes at.frame line.positions heard left new.last new.clear
       after_it =
-          answer_taken meters apart at.bytes at.frame at.spelled line.positions t.listens.answers line.way left heard old.last new.last old.clear new.clear last_is clear_is came
+          answer_taken meters apart at.bytes at.frame at.spelled line.positions t.listens.answers line.way left heard old.last new.last old.clear new.clear last_is clear_is (subst (λ (f : FrameSeen). Came f line.way t.listens.answers left) (ap frame_out at.asked) came)
           (ap (λ (r : List ℕ). first_of (past_copies (compared old.clear old.last) r t.listens.answers)) (sym at.request) ∙ t.listens.first) at.waiting
 
       frame_is : frame_out line.asked ≡ at.frame

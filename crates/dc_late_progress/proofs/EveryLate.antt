@@ -19,7 +19,7 @@ use Rattle.dc_poll.specs.declared.phase.Request.{Request}
 use Rattle.dc_poll.specs.declared.phase.Request.TheVariants.{Quiet}
 use Rattle.dc_poll.specs.declared.station.Station.{Station}
 use Rattle.dc_poll_progress.specs.Carried.{IsCarried, Wire}
-use Rattle.dc_poll_progress.proofs.Every.{each_is_read}
+use Rattle.dc_poll_progress.specs.Every.{EveryMeterIsRead}
 use Rattle.dc_poll_progress.proofs.Turns.{rounds_of_lines}
 use Rattle.dc_late_progress.specs.Coming.{LateLine}
 use Rattle.dc_late_progress.specs.EveryLate.{EveryMeterIsReadOverLateLines, IsLateLine, LateLinesCarry, late_at_first}
@@ -63,9 +63,10 @@ late_lines_carry g half told passes warned takes disk new buses only tries first
     carries half budget tries (k + 1) poll.state wire way _ _ happened (polls.rounds.goes k d low) chain of
     (line_is plan.olds buses plan.planned.buses_are k low) (plan.planned.each k d low).fresh.quiet late
 
-pub each_is_read_late : {D B T N : Type 0} (g : Ghosts D) (half : HalfGhosts B) (told : T → ℕ → T → Type 0) (passes : T → Bool → T → Type 0) (warned : T → T → Type 0) (takes : N → Told → N → Type 0) → EveryMeterIsReadOverLateLines g half told passes warned takes
-each_is_read_late g half told passes warned takes disk new buses only tries first last old fresh outcome wires ways poll sorted well room order =
-    each_is_read g (steady_bus half) told passes warned takes disk new buses only tries first last old fresh outcome wires poll sorted well room
+pub each_is_read_late : {D B T N : Type 0} (g : Ghosts D) (half : HalfGhosts B) (told : T → ℕ → T → Type 0) (passes : T → Bool → T → Type 0) (warned : T → T → Type 0) (takes : N → Told → N → Type 0) → EveryMeterIsRead g (steady_bus half) told passes warned takes
+    → EveryMeterIsReadOverLateLines g half told passes warned takes
+each_is_read_late g half told passes warned takes every disk new buses only tries first last old fresh outcome wires ways poll sorted well room order =
+    every disk new buses only tries first last old fresh outcome wires poll sorted well room
     (λ k d low.
     let o = order k d low in
     record {

@@ -8,3 +8,5 @@ pub mod Carrying
 pub mod Orderly
 -- every meter is read, also over late lines (the theorems of specs/EveryLate)
 pub mod EveryLate
+-- a late line that carries a talk (for the law of specs/Met)
+pub mod Example

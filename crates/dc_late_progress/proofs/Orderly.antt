@@ -1,5 +1,5 @@
 -- The requests of a poll are those of its readouts: each may follow what was asked before it.
-use Rattle.std.proofs.Common.{◌≡◌, ◌≢◌, ◌⊎◌, inl, inr, ℕ, ◌+◌, ◌-◌, ◌<◌, Bool, true, false, not, ◌||◌, ◌==◌, Option, Some, None, Result, Ok, Err, List, [], ◌∷◌, ◌++◌, cond, length, refl, sym, ◌∙◌, ap, subst, append_assoc, append-nil, get_or-set_other, get_or-set_same}
+use Rattle.std.proofs.Common.{◌≡◌, inl, inr, ℕ, ◌+◌, ◌-◌, ◌<◌, Bool, true, false, not, ◌||◌, ◌==◌, Option, Some, None, Result, Ok, Err, List, [], ◌∷◌, ◌++◌, cond, length, refl, sym, ◌∙◌, ap, subst, append_assoc, append-nil, get_or-set_other, get_or-set_same}
 use Rattle.std.specs.Prelude.{option_map, nat_lt, is_some, if◌then◌else◌}
 use Rattle.std.specs.List.{AllByRecursion}
 use Rattle.dc_frame.specs.Frame.{FrameSeen, ack, short, long, spelling}
@@ -11,7 +11,7 @@ use Rattle.dc_record.specs.Telegram.{Parsed}
 use Rattle.dc_readout.specs.declared.stage.Stage.{Stage}
 use Rattle.dc_readout.specs.declared.stage.Stage.TheVariants.{Resets, Selects, Requests, Pending, Ended}
 use Rattle.dc_readout.specs.Answer.{Meaning, acknowledged, answered, missed, broken, to_command, to_request}
-use Rattle.dc_readout.specs.Summary.{IsPending, Summary, Verdict, again, ready, new, failed, after_command, asked_at, asked_by, begun as session_begun, heard_by, link_address, meaning_at, request_bit, request_of, selection_of, settled_by, stage_settled, verdict_by, verdict_of_meaning}
+use Rattle.dc_readout.specs.Summary.{IsPending, Summary, Verdict, again, ready, new, failed, after_command, asked_at, asked_by, begun as session_begun, heard_by, meaning_at, request_bit, request_of, selection_of, settled_by, stage_settled, verdict_by, verdict_of_meaning}
 use Rattle.dc_readout.proofs.Requests.{selection_is_long}
 use Rattle.dc_address.specs.declared.identity.Identity.{Identity}
 use Rattle.dc_change.specs.State.{State, row_of}
@@ -24,12 +24,12 @@ use Rattle.dc_concentrator.specs.declared.fault.HearFault.TheVariants.{Stopped}
 use Rattle.dc_concentrator.specs.declared.line_heard.LineHeard.{LineHeard}
 use Rattle.dc_concentrator.specs.Core.{Core, present, session_of, opened}
 use Rattle.dc_concentrator.specs.Event.{Event, Answer, starts, asks, hears, commits, offices, started, asked, heard, committed}
-use Rattle.dc_concentrator.specs.Step.{May, address_in, answer_on, asked_on, ask_answer, heard_on, is_on, next, session_after, settled_core}
+use Rattle.dc_concentrator.specs.Step.{May, address_in, answer_on, asked_on, heard_on, is_on, next, session_after, settled_core}
 use Rattle.dc_concentrator.specs.Transcript.{Turn, leads, IsChain}
 use Rattle.dc_concentrator.proofs.Going.{leads_append}
 use Rattle.dc_concentrator.proofs.Told.{chain_parts}
 use Rattle.dc_late.specs.Late.{clear_after, has_answer, is_command}
-use Rattle.dc_progress.specs.Beside.{IsElsewhere, IsOfLines}
+use Rattle.dc_progress.specs.Beside.{IsElsewhere}
 use Rattle.dc_progress.proofs.Eight.{lines_are_kept}
 use Rattle.dc_progress.proofs.Others.{heard_line, low_place, places_differ, start_parts}
 use Rattle.dc_progress.proofs.Rounds.{get_settled}
@@ -39,8 +39,9 @@ use Rattle.dc_poll.specs.Talking.{Talk, Talks, rests, settles_it, begins, has_no
 use Rattle.dc_poll.specs.declared.phase.Request.{Request}
 use Rattle.dc_poll.specs.declared.phase.Request.TheVariants.{Quiet, Sent, Answered}
 use Rattle.dc_poll_progress.proofs.Free.{free_at_first}
-use Rattle.dc_poll_progress.proofs.Lists.{AreOfLines, Split, all_left, split_at}
-use Rattle.dc_late_progress.specs.Coming.{Asked, MayFollow, and_heard, asks_for, begun, is_done, nothing}
+use Rattle.dc_poll_progress.proofs.Lists.{AreOfLines, Split, split_at}
+use Rattle.dc_late_progress.specs.Coming.{Asked, and_heard, asks_for, begun, is_done, nothing}
+use Rattle.dc_late_progress.proofs.Way.{MayFollow}
 use Rattle.dc_late_progress.proofs.Carrying.{IsOrderly}
 
 -- ---- what may follow

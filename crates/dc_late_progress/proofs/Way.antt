@@ -1,6 +1,6 @@
 -- What is under way on a late line, and what is heard of it.
-use Rattle.std.proofs.Common.{◌≡◌, ◌≢◌, ℕ, zero, suc, ◌+◌, ◌⊎◌, inl, inr, Bool, true, false, not, ◌&&◌, ◌||◌, ◌==◌, List, [], ◌∷◌, ◌++◌, drop, Option, Some, None, cond, bytes_eq, refl, sym, ◌∙◌, ap, subst}
-use Rattle.std.specs.Prelude.{slice_get, option_map, if◌then◌else◌}
+use Rattle.std.proofs.Common.{◌≡◌, ◌≢◌, ℕ, suc, ◌+◌, ◌⊎◌, inl, inr, Bool, true, false, not, ◌&&◌, ◌||◌, ◌==◌, List, [], ◌∷◌, ◌++◌, drop, Option, Some, None, cond, bytes_eq, refl, sym, ◌∙◌, ap, subst}
+use Rattle.std.specs.Prelude.{slice_get, option_map}
 use Rattle.std.specs.List.{AllByRecursion, cons_option}
 use Rattle.std.proofs.lemmas.Bool.{eqb-true}
 use Rattle.std.proofs.lemmas.Slice.Eq.{bytes_eq-Decides}
@@ -17,7 +17,7 @@ use Rattle.dc_world.proofs.Replies.{answer_to-reset}
 use Rattle.dc_late.specs.Late.{Last, Listened, and_sent, clear_after, compared, cut_at, first_of, frame_with, has_answer, is_command, is_copy, is_long, is_wrong, last_after, numbered, numbered_as, past_copies, plain}
 use Rattle.dc_late.proofs.Numbers.{frame_numbered, numbered_twice}
 use Rattle.dc_late.proofs.UnderWay.{IsOrdered, all_map, cut_all, cut_kept, cut_ordered, drop_keeps, new_ordered, old_ordered, ordered_map, ordered_sent, unreadable_harmless}
-use Rattle.dc_late_progress.specs.Coming.{Asked, Came, MayFollow, asks_for, begun, is_done, nothing, reply_at}
+use Rattle.dc_late_progress.specs.Coming.{Asked, Came, IsStray, asks_for, begun, is_done, nothing, reply_at}
 
 -- ---- a request that comes twice moves a meter once
 
@@ -217,11 +217,14 @@ ordered_tail P Q x xs (inr all) = new_ordered P Q xs all.1
 pub all_tail : (P : List ℕ → Type 0) (x : List ℕ) (xs : List (List ℕ)) → AllByRecursion P (x ∷ xs) → AllByRecursion P xs
 all_tail P x xs all = all.1
 
-pub came_keeps : (W : List (List ℕ) → Type 0) → ((x : List ℕ) (xs : List (List ℕ)) → W (x ∷ xs) → W xs) → (answers way left : List (List ℕ)) → Came way answers left → W way → W left
-came_keeps W tail [] way left came u = subst W (sym came) u
-came_keeps W tail ([] ∷ answers) way left came u = came_keeps W tail answers way left came u
-came_keeps W tail ((byte ∷ bytes) ∷ answers) way left came u =
-    came_keeps W tail answers came.0 left came.2 (tail (byte ∷ bytes) came.0 (subst W came.1 u))
+pub came_keeps : (frame : FrameSeen) (W : List (List ℕ) → Type 0) → ((x : List ℕ) (xs : List (List ℕ)) → W (x ∷ xs) → W xs) → (answers way left : List (List ℕ)) → Came frame way answers left → W way → W left
+came_keeps frame W tail [] way left came u = subst W (sym came) u
+came_keeps frame W tail (answer ∷ answers) way left (inl other) u = came_keeps frame W tail answers way left other.1 u
+came_keeps frame W tail (answer ∷ answers) way left (inr oldest) u = came_keeps frame W tail answers oldest.0 left oldest.2 (tail answer oldest.0 (subst W oldest.1 u))
+
+stray_unread : (frame : FrameSeen) (y : List ℕ) → has_answer frame ≡ true → IsStray frame y → IsUnread y
+stray_unread frame y has (inl none) = none
+stray_unread frame y has (inr group) = absurd (let none = group.0 in let bad : true ≡ false = sym has ∙ none in cc)
 
 -- ---- a request is sent
 
@@ -302,15 +305,16 @@ pub data Taken (meters : List Meter) (frame : FrameSeen) (last : Option Last) (r
 first_heard : (answer heard : List ℕ) (more : List (List ℕ)) → first_of (answer ∷ more) ≡ record { heard = heard; left = [] } → (answer ≡ heard) × (more ≡ [])
 first_heard answer heard more e = (ap (λ (l : Listened). l.heard) e, ap (λ (l : Listened). l.left) e)
 
-module _ (meters : List Meter) (frame : FrameSeen) (last : Option Last) (request : List ℕ) (positions : List Position) where
+module _ (meters : List Meter) (frame : FrameSeen) (has : has_answer frame ≡ true) (last : Option Last) (request : List ℕ) (positions : List Position) where
   abbrev Are : List (List ℕ) → Type 0
   Are way = AreInOrder meters frame last request positions way
 
   abbrev IsTaken : List ℕ → List (List ℕ) → Type 0
   IsTaken heard left = Taken meters frame last request positions heard left
 
-  silent : (heard : List ℕ) (left : List (List ℕ)) → [] ≡ heard → Are left → IsTaken heard left
-  silent heard left e u = missed (subst (IsHarmless frame) e (none_harmless (is_command (Some frame)) [] no_frame_of_nothing)) u
+  -- silence, or what is no frame
+  unread : (y heard : List ℕ) (left : List (List ℕ)) → y ≡ heard → IsUnread y → Are left → IsTaken heard left
+  unread y heard left e none u = missed (subst (IsHarmless frame) e (none_harmless (is_command (Some frame)) y none)) u
 
   -- the oldest under way is no copy
   taken_first : (y heard : List ℕ) (rest : List (List ℕ)) → is_copy last request y ≡ false → y ≡ heard → Are (y ∷ rest) → IsTaken heard rest
@@ -325,27 +329,27 @@ module _ (meters : List Meter) (frame : FrameSeen) (last : Option Last) (request
       go (inl harmless) = missed (subst (IsHarmless frame) e harmless) (new_ordered (IsOld frame last request) (IsNew meters frame positions) rest all.1)
       go (inr reply) = came (subst (IsReply meters frame positions) e reply) all.1
 
-  pub taken : (answers way left : List (List ℕ)) (heard : List ℕ) → Are way → Came way answers left → first_of (past_copies last request answers) ≡ record { heard = heard; left = [] } → IsTaken heard left
-  taken [] way left heard u comes e = silent heard left (ap (λ (l : Listened). l.heard) e) (subst Are (sym comes) u)
-  taken ([] ∷ more) way left heard u comes e = go (is_copy last request []) refl e (taken more way left heard u comes)
+  pub taken : (answers way left : List (List ℕ)) (heard : List ℕ) → Are way → Came frame way answers left → first_of (past_copies last request answers) ≡ record { heard = heard; left = [] } → IsTaken heard left
+  taken [] way left heard u comes e = unread [] heard left (ap (λ (l : Listened). l.heard) e) no_frame_of_nothing (subst Are (sym comes) u)
+  taken (y ∷ more) way left heard u (inl other) e = go (is_copy last request y) refl e (taken more way left heard u other.1)
     where
-      go : (copy : Bool) → is_copy last request [] ≡ copy → first_of (cond copy (past_copies last request more) ([] ∷ more)) ≡ record { heard = heard; left = [] }
+      go : (copy : Bool) → is_copy last request y ≡ copy → first_of (cond copy (past_copies last request more) (y ∷ more)) ≡ record { heard = heard; left = [] }
           → (first_of (past_copies last request more) ≡ record { heard = heard; left = [] } → IsTaken heard left) → IsTaken heard left
       go true is e rest = rest e
       go false is e rest =
-          let one = first_heard [] heard more e in
-          silent heard left one.0 (subst Are (sym (subst (λ (m : List (List ℕ)). Came way m left) one.1 comes)) u)
-  taken ((byte ∷ bytes) ∷ more) way left heard u comes e =
-      go (is_copy last request (byte ∷ bytes)) refl e (subst Are comes.1 u)
-      (taken more comes.0 left heard (ordered_tail (IsOld frame last request) (IsNew meters frame positions) (byte ∷ bytes) comes.0 (subst Are comes.1 u)) comes.2)
+          let one = first_heard y heard more e in
+          unread y heard left one.0 (stray_unread frame y has other.0) (subst Are (sym (subst (λ (m : List (List ℕ)). Came frame way m left) one.1 other.1)) u)
+  taken (y ∷ more) way left heard u (inr oldest) e =
+      go (is_copy last request y) refl e (subst Are oldest.1 u)
+      (taken more oldest.0 left heard (ordered_tail (IsOld frame last request) (IsNew meters frame positions) y oldest.0 (subst Are oldest.1 u)) oldest.2)
     where
-      go : (copy : Bool) → is_copy last request (byte ∷ bytes) ≡ copy → first_of (cond copy (past_copies last request more) ((byte ∷ bytes) ∷ more)) ≡ record { heard = heard; left = [] } → Are ((byte ∷ bytes) ∷ comes.0)
+      go : (copy : Bool) → is_copy last request y ≡ copy → first_of (cond copy (past_copies last request more) (y ∷ more)) ≡ record { heard = heard; left = [] } → Are (y ∷ oldest.0)
           → (first_of (past_copies last request more) ≡ record { heard = heard; left = [] } → IsTaken heard left) → IsTaken heard left
       go true is e u2 rest = rest e
       go false is e u2 rest =
-          let one = first_heard (byte ∷ bytes) heard more e in
-          let end : left ≡ comes.0 = subst (λ (m : List (List ℕ)). Came comes.0 m left) one.1 comes.2 in
-          subst (IsTaken heard) (sym end) (taken_first (byte ∷ bytes) heard comes.0 is one.0 u2)
+          let one = first_heard y heard more e in
+          let end : left ≡ oldest.0 = subst (λ (m : List (List ℕ)). Came frame oldest.0 m left) one.1 oldest.2 in
+          subst (IsTaken heard) (sym end) (taken_first y heard oldest.0 is one.0 u2)
 
 -- ---- where no answer was missed, one is under way at most
 
@@ -392,19 +396,19 @@ module _ (frame : FrameSeen) (request : List ℕ) (has : has_answer frame ≡ tr
   none_left y rest (inl none, more) e = absurd (none_missed frame y has none e)
   none_left y rest (inr end, more) e = subst (AllByRecursion IsUnread) (sym end) tt
 
-  one_left : (answers way left : List (List ℕ)) (heard : List ℕ) → ButLast way → Came way answers left → first_of (past_copies None request answers) ≡ record { heard = heard; left = [] } → clear_after frame (frame_of heard) true ≡ true → AllByRecursion IsUnread left
+  one_left : (answers way left : List (List ℕ)) (heard : List ℕ) → ButLast way → Came frame way answers left → first_of (past_copies None request answers) ≡ record { heard = heard; left = [] } → clear_after frame (frame_of heard) true ≡ true → AllByRecursion IsUnread left
   one_left [] way left heard u comes e clear =
       absurd (none_missed frame heard has (ap frame_of (sym (ap (λ (l : Listened). l.heard) e)) ∙ no_frame_of_nothing) clear)
-  one_left ([] ∷ more) way left heard u comes e clear =
-      absurd (none_missed frame heard has (ap frame_of (sym (first_heard [] heard more e).0) ∙ no_frame_of_nothing) clear)
-  one_left ((byte ∷ bytes) ∷ more) way left heard u comes e clear =
-      let one = first_heard (byte ∷ bytes) heard more e in
-      let end : left ≡ comes.0 = subst (λ (m : List (List ℕ)). Came comes.0 m left) one.1 comes.2 in
-      let now : clear_after frame (frame_of (byte ∷ bytes)) true ≡ true = ap (λ (y : List ℕ). clear_after frame (frame_of y) true) one.0 ∙ clear in
-      subst (AllByRecursion IsUnread) (sym end) (none_left (byte ∷ bytes) comes.0 (subst ButLast comes.1 u) now)
+  one_left (y ∷ more) way left heard u (inl other) e clear =
+      absurd (none_missed frame heard has (ap frame_of (sym (first_heard y heard more e).0) ∙ stray_unread frame y has other.0) clear)
+  one_left (y ∷ more) way left heard u (inr oldest) e clear =
+      let one = first_heard y heard more e in
+      let end : left ≡ oldest.0 = subst (λ (m : List (List ℕ)). Came frame oldest.0 m left) one.1 oldest.2 in
+      let now : clear_after frame (frame_of y) true ≡ true = ap (λ (x : List ℕ). clear_after frame (frame_of x) true) one.0 ∙ clear in
+      subst (AllByRecursion IsUnread) (sym end) (none_left y oldest.0 (subst ButLast oldest.1 u) now)
 
 -- what is left where the line stays clear
-pub still_unread : (frame : FrameSeen) (request : List ℕ) (last : Option Last) (clear : Bool) (answers way left : List (List ℕ)) (heard : List ℕ) → (clear ≡ true → ButLast way) → (has_answer frame ≡ false → clear ≡ true → AllByRecursion IsUnread way) → Came way answers left
+pub still_unread : (frame : FrameSeen) (request : List ℕ) (last : Option Last) (clear : Bool) (answers way left : List (List ℕ)) (heard : List ℕ) → (clear ≡ true → ButLast way) → (has_answer frame ≡ false → clear ≡ true → AllByRecursion IsUnread way) → Came frame way answers left
     → first_of (past_copies (compared clear last) request answers) ≡ record { heard = heard; left = [] } → clear_after frame (frame_of heard) clear ≡ true → AllByRecursion IsUnread left
 still_unread frame request last false answers way left heard but group comes e now =
     absurd (let bad : true ≡ false = sym now ∙ clear_stays frame (frame_of heard) in cc)
@@ -412,7 +416,7 @@ still_unread frame request last true answers way left heard but group comes e no
   where
     go : (has : Bool) → has_answer frame ≡ has → AllByRecursion IsUnread left
     go true has = one_left frame request has answers way left heard (but refl) comes e now
-    go false has = came_keeps (AllByRecursion IsUnread) (all_tail IsUnread) answers way left comes (group has refl)
+    go false has = came_keeps frame (AllByRecursion IsUnread) (all_tail IsUnread) answers way left comes (group has refl)
 
 -- ---- the line, between requests and while one is out
 
@@ -448,16 +452,16 @@ left_none meters (asks_for bytes frame false) positions way last clear now u = (
 left_none meters (asks_for bytes frame true) positions way last clear now u = (u.0, tt, u.2)
 
 -- answers are dropped, and where it is clear then, nothing is under way
-pub settled : (meters : List Meter) (asked : Asked) (positions : List Position) (answers way left : List (List ℕ)) (last : Option Last) (clear now : Bool) → (now ≡ clear) ⊎ (now ≡ true) → (now ≡ true → left ≡ [])
-    → Came way answers left → Rests meters asked positions way last clear → Rests meters asked positions left last now
-settled meters asked positions answers way left last clear now (inr is) quiet comes r =
+pub settled : (frame : FrameSeen) (meters : List Meter) (asked : Asked) (positions : List Position) (answers way left : List (List ℕ)) (last : Option Last) (clear now : Bool) → (now ≡ clear) ⊎ (now ≡ true) → (now ≡ true → left ≡ [])
+    → Came frame way answers left → Rests meters asked positions way last clear → Rests meters asked positions left last now
+settled frame meters asked positions answers way left last clear now (inr is) quiet comes r =
     let none : left ≡ [] = quiet is in
     subst (λ (ws : List (List ℕ)). Rests meters asked positions ws last now) (sym none) (record { unread = λ e. tt; shape = left_none meters asked positions way last clear now r.shape })
-settled meters asked positions answers way left last clear now (inl same) quiet comes r = record {
+settled frame meters asked positions answers way left last clear now (inl same) quiet comes r = record {
   unread = λ e. subst (AllByRecursion IsUnread) (sym (quiet e)) tt;
   shape =
       subst (IsLeftBy meters asked positions left last) (sym same)
-      (came_keeps (λ (ws : List (List ℕ)). IsLeftBy meters asked positions ws last clear) (left_tail meters asked positions last clear) answers way left comes r.shape);
+      (came_keeps frame (λ (ws : List (List ℕ)). IsLeftBy meters asked positions ws last clear) (left_tail meters asked positions last clear) answers way left comes r.shape);
 }
 
 -- ---- a telegram under way is cut
@@ -526,6 +530,15 @@ was_cut meters asked positions way last clear place count pieces r = record {
 
 -- ---- a request is sent
 
+-- What may be asked next: the first request comes after a start, a request comes again until it is
+-- over, and after one that was answered comes no command.
+abbrev pub MayFollow : Asked → List ℕ → Type 0
+MayFollow nothing next = ⊥
+MayFollow begun next = Unit {0}
+MayFollow (asks_for bytes frame false) next = next ≡ bytes
+MayFollow (asks_for bytes frame true) next =
+    (next ≡ bytes) ⊎ (has_answer frame ≡ true → is_command (frame_of next) ≡ false)
+
 module _ (meters : List Meter) (apart : OwnOnly meters) (outcome : Outcome) (access passed : ℕ) (next : List ℕ) (next_frame : FrameSeen) (is : frame_of next ≡ Some next_frame) (positions : List Position) (way : List (List ℕ)) (last : Option Last) (clear : Bool) where
   abbrev after : List Position
   after = positions_after outcome next_frame meters positions
@@ -566,10 +579,10 @@ module _ (meters : List Meter) (apart : OwnOnly meters) (outcome : Outcome) (acc
 
 -- ---- an answer is waited for, and taken
 
-pub waited : (meters : List Meter) (bytes : List ℕ) (frame : FrameSeen) (positions : List Position) (answers way left : List (List ℕ)) (last : Option Last) (clear : Bool) → Came way answers left → Waits meters bytes frame positions way last clear → Waits meters bytes frame positions left last clear
+pub waited : (meters : List Meter) (bytes : List ℕ) (frame : FrameSeen) (positions : List Position) (answers way left : List (List ℕ)) (last : Option Last) (clear : Bool) → Came frame way answers left → Waits meters bytes frame positions way last clear → Waits meters bytes frame positions left last clear
 waited meters bytes frame positions answers way left last clear comes w = record {
-  order = came_keeps (AreInOrder meters frame (compared clear last) bytes positions) (ordered_tail (IsOld frame (compared clear last) bytes) (IsNew meters frame positions)) answers way left comes w.order;
-  but = λ e. came_keeps ButLast but_tail answers way left comes (w.but e);
+  order = came_keeps frame (AreInOrder meters frame (compared clear last) bytes positions) (ordered_tail (IsOld frame (compared clear last) bytes) (IsNew meters frame positions)) answers way left comes w.order;
+  but = λ e. came_keeps frame ButLast but_tail answers way left comes (w.but e);
 }
 
 old_on : (frame : FrameSeen) (bytes : List ℕ) (last next : Option Last) (clear now : Bool) → (now ≡ true → clear ≡ true) → (is_command (Some frame) ≡ false → next ≡ last) → (y : List ℕ) → IsOld frame (compared clear last) bytes y → IsOld frame (compared now next) bytes y
@@ -626,7 +639,7 @@ pub record After (meters : List Meter) (bytes : List ℕ) (frame : FrameSeen) (p
   pub reply : is_done frame heard ≡ true → has_answer frame ≡ true → IsReply meters frame positions heard
 
 module _ (meters : List Meter) (apart : OwnOnly meters) (bytes : List ℕ) (frame : FrameSeen) (spelled : frame_of bytes ≡ Some frame) (positions : List Position) (answers way left : List (List ℕ)) (heard : List ℕ) (last next : Option Last) (clear now : Bool)
-    (next_is : next ≡ last_after (frame_of heard) bytes heard last) (now_is : now ≡ clear_after frame (frame_of heard) clear) (comes : Came way answers left)
+    (next_is : next ≡ last_after (frame_of heard) bytes heard last) (now_is : now ≡ clear_after frame (frame_of heard) clear) (comes : Came frame way answers left)
     (first : first_of (past_copies (compared clear last) bytes answers) ≡ record { heard = heard; left = [] }) (w : Waits meters bytes frame positions way last clear) where
   abbrev Fits : Bool → Type 0
   Fits answered = IsLeftBy meters (asks_for bytes frame answered) positions left next now
@@ -647,7 +660,7 @@ module _ (meters : List Meter) (apart : OwnOnly meters) (bytes : List ℕ) (fram
   group_after : has_answer frame ≡ false → After meters bytes frame positions heard left next now
   group_after none =
       after_as true (ap (λ (b : Bool). cond b (clear_after frame (frame_of heard) true) true) none)
-      (spelled, came_keeps (AllByRecursion (IsNew meters frame positions)) (all_tail (IsNew meters frame positions)) answers way left comes (command_new meters frame (compared clear last) bytes positions way (group_command frame none) w.order), λ has. absurd (let bad : true ≡ false = sym has ∙ none in cc))
+      (spelled, came_keeps frame (AllByRecursion (IsNew meters frame positions)) (all_tail (IsNew meters frame positions)) answers way left comes (command_new meters frame (compared clear last) bytes positions way (group_command frame none) w.order), λ has. absurd (let bad : true ≡ false = sym has ∙ none in cc))
       (λ e has. absurd (let bad : true ≡ false = sym has ∙ none in cc))
 
   module _ (has : has_answer frame ≡ true) where
@@ -682,5 +695,5 @@ module _ (meters : List Meter) (apart : OwnOnly meters) (bytes : List ℕ) (fram
   answer_taken = go (has_answer frame) refl
     where
       go : (b : Bool) → has_answer frame ≡ b → After meters bytes frame positions heard left next now
-      go true has = by_taken has (taken meters frame (compared clear last) bytes positions answers way left heard w.order comes first)
+      go true has = by_taken has (taken meters frame has (compared clear last) bytes positions answers way left heard w.order comes first)
       go false none = group_after none

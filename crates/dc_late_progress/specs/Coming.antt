@@ -6,14 +6,14 @@
 -- repeated request is answered by the answer to its first try, and its own answer is a copy that comes
 -- to the next request; an acknowledgement comes where a telegram is due. Where requests are lost too,
 -- the meter has moved on by the try that came through.
-use Rattle.std.specs.Prelude.{◌≡◌, ◌⊎◌, ℕ, Bool, true, false, List, [], ◌∷◌}
+use Rattle.std.specs.Prelude.{◌≡◌, ◌⊎◌, ℕ, Bool, true, false, None, List, [], ◌∷◌}
 use Rattle.std.specs.Prelude.{if◌then◌else◌}
-use Rattle.dc_frame.specs.Frame.{FrameSeen, ack}
+use Rattle.dc_frame.specs.Frame.{FrameSeen, ack, spelling}
 use Rattle.dc_frame.specs.Reading.{frame_of}
 use Rattle.dc_world.specs.declared.event.Outcome.{Outcome}
 use Rattle.dc_world.specs.Meter.{Meter, Position}
 use Rattle.dc_world.specs.World.{only_reply, replies}
-use Rattle.dc_late.specs.Late.{clear_after, has_answer, is_command}
+use Rattle.dc_late.specs.Late.{clear_after, has_answer}
 
 -- ---- what was asked
 
@@ -28,15 +28,6 @@ pub data Asked : Type 0 where
   nothing : Asked
   begun : Asked
   asks_for : List ℕ → FrameSeen → Bool → Asked
-
--- What may be asked next: the first request comes after a start, a request comes again until it is
--- over, and after one that was answered comes no command.
-abbrev pub MayFollow : Asked → List ℕ → Type 0
-MayFollow nothing next = ⊥
-MayFollow begun next = Unit {0}
-MayFollow (asks_for bytes frame false) next = next ≡ bytes
-MayFollow (asks_for bytes frame true) next =
-    (next ≡ bytes) ⊎ (has_answer frame ≡ true → is_command (frame_of next) ≡ false)
 
 abbrev pub frame_out : Asked → FrameSeen
 frame_out nothing = ack
@@ -65,10 +56,15 @@ pub record LateLine : Type 0 where
 abbrev pub reply_at : FrameSeen → List Meter → List Position → List ℕ
 reply_at frame meters positions = only_reply (replies frame meters positions)
 
--- FIRST IN, FIRST OUT: each of these answers, as they were received one after the other, was
--- silence or the oldest under way
-abbrev pub Came : List (List ℕ) → List (List ℕ) → List (List ℕ) → Type 0
-Came way [] left = left ≡ way
-Came way ([] ∷ answers) left = Came way answers left
-Came way ((byte ∷ bytes) ∷ answers) left =
-    (rest : List (List ℕ)) × (way ≡ (byte ∷ bytes) ∷ rest) × Came rest answers left
+-- what comes besides the answers under way: what is no frame (silence, noise, an answer that is
+-- broken), and an acknowledgement of the reset of all selected meters, before the next request
+abbrev pub IsStray : FrameSeen → List ℕ → Type 0
+IsStray frame answer =
+    (frame_of answer ≡ None) ⊎ ((has_answer frame ≡ false) × (answer ≡ spelling ack))
+
+-- FIRST IN, FIRST OUT: each of these answers, as they were received one after the other while this
+-- request was out, was the oldest under way, or none of those
+abbrev pub Came : FrameSeen → List (List ℕ) → List (List ℕ) → List (List ℕ) → Type 0
+Came frame way [] left = left ≡ way
+Came frame way (answer ∷ answers) left = (IsStray frame answer × Came frame way answers left)
+    ⊎ ((rest : List (List ℕ)) × (way ≡ answer ∷ rest) × Came frame rest answers left)

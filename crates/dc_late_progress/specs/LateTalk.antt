@@ -1,4 +1,16 @@
 -- The talk of a poll that a late line carries (this product): what its link does, step by step.
+--
+-- THE PREMISES, by name, and where they stand:
+--   one master                 IsLate: the line does nothing but the steps of the talk
+--   first in, first out        Came
+--   lateness                   SettlesOn: nothing is under way where the line becomes clear
+--   no stray acknowledgement   IsStray: noise is no frame
+--   repeats                    SendsOn: another access number; GivesOn: which one is heard
+--   selection                  IsStray: the reset of all selected meters is acknowledged before the
+--                              next request, or never
+--   no telegram in a telegram  Cut: no piece of a cut telegram is a long frame
+--   the connection             `there`: it isn't lost
+--   few losses                 GivesOn: fewer than three requests in a row have no whole answer in time
 use Rattle.std.specs.Prelude.{◌≡◌, ℕ, ◌+◌, ◌-◌, ◌<◌, Bool, true, false, Some, List, []}
 use Rattle.std.specs.Prelude.{◌∷◌, drop, if◌then◌else◌}
 use Rattle.dc_frame.specs.Frame.{FrameSeen}
@@ -88,7 +100,7 @@ pub record SettlesOn (line : LateLine) (dropped : List (List ℕ)) (clear : Bool
     (goes_on : LateLine → Type 0) : Type 0 where
   pub cut : Cut
   pub left : List (List ℕ)
-  pub came : Came (cut_by cut line).way dropped left
+  pub came : Came (frame_out line.asked) (cut_by cut line).way dropped left
   pub quiet : clear ≡ true → left ≡ []
   pub then_on : goes_on (record line { way = left })
 
@@ -108,7 +120,7 @@ pub record SendsOn (meters : List Meter) (line : LateLine) (gone : Bool) (bytes 
 pub record WaitsOn (line : LateLine) (copies : List (List ℕ)) (goes_on : LateLine → Type 0)
     : Type 0 where
   pub left : List (List ℕ)
-  pub came : Came line.way copies left
+  pub came : Came (frame_out line.asked) line.way copies left
   pub then_on : goes_on (record line { way = left })
 
 -- FEWER THAN THREE requests in a row have no whole answer in time. The bodies of the meters are given
@@ -118,14 +130,14 @@ pub record GivesOn {B : Type 0} (half : HalfGhosts B) (meters : List Meter) (lin
     (goes_on : LateLine → Type 0) : Type 0 where
   pub there : is_gone half.lost old ≡ false
   pub left : List (List ℕ)
-  pub came : Came line.way (gives.taken there).listens.answers left
+  pub came : Came (frame_out line.asked) line.way (gives.taken there).listens.answers left
   pub own : (access : ℕ)
       → heard ≡ numbered access (reply_at (frame_out line.asked) meters line.positions)
       → heard ≡ reply_at (frame_out line.asked) meters line.positions
   pub few : row_then line.row (frame_out line.asked) line.trip heard < 3
   pub then_on : goes_on (heard_on heard left line)
 
--- A LATE LINE CARRIES THE TALK: all that the bus below the line layer returns is silence or the
+-- A LATE LINE CARRIES THE TALK: all that the bus below the line layer returns is silence, noise or the
 -- oldest answer under way.
 abbrev pub IsLate : {B : Type 0} {half : HalfGhosts B} {line : ℕ} {first last : Talk (Steady B)}
     {happened : List Happening} → List Meter → LateLine

@@ -6,3 +6,5 @@ pub mod Coming
 pub mod LateTalk
 -- every meter is read, also over late lines
 pub mod EveryLate
+-- the premises of a late line can be met by one whose answers come late
+pub mod Met

@@ -1,11 +1,13 @@
 //! The theorems about a poll over late lines. The functions have no effect; their contracts state the
-//! theorems.
+//! theorems. The second is that of dc_poll_progress at lines of the line layer.
 
 ghost use Rattle.dc_late_progress.specs.EveryLate.{EveryMeterIsReadOverLateLines, LateLinesCarry};
+ghost use Rattle.dc_late_progress.specs.Met.{LatePremisesAreMet};
 
 use dc_bus::HalfBus;
 use dc_disk::Disk;
 use dc_poll::{Teller, Timer};
+use dc_poll_progress::every_meter_is_read;
 use dc_steady::Steady;
 
 /// What a late line gives to a poll of an image for each request is what the meters of the line make
@@ -34,4 +36,14 @@ pub fn every_meter_is_read_over_late_lines<
     N: Teller,
 >()
     ensures { EveryMeterIsReadOverLateLines D.Disk B.HalfBus T.tells T.passes T.warns N.takes }
+{
+    every_meter_is_read::<D, Steady<B>, T, N>();
+}
+
+/// The premises of a late line can be met by one whose answers come late, for each identity.
+///
+/// A reset is met by silence, its repeat by the acknowledgement of the first try, and the request after
+/// it by the acknowledgement of the second.
+pub fn the_premises_of_late_lines_can_be_met()
+    ensures { LatePremisesAreMet }
 {}
