@@ -4,10 +4,10 @@ use super::images::{LIFE, after, formatted, with_sector};
 use dc_disk::{Disk, MemoryDisk};
 use dc_ending::ProgramFault;
 use dc_inspect::inspect;
-use dc_io::{Bytes, FixedSink};
+use dc_io::{Bytes, FixedSink, Sink};
 use dc_log::OpenFault;
 use refusing_alloc::Refusing;
-use std::alloc::Global;
+use std::alloc::{Allocator, Global};
 use std::process::Abort;
 use std::test::Fail;
 
@@ -88,6 +88,15 @@ REFUSED 4 Worn
 // The slot of the first root.
 const SLOT: u32 = 2;
 
+// [`inspect`], without a contract.
+fn looked<A: Allocator + Copy, W: Sink>(
+    alloc: A,
+    disk: &mut MemoryDisk<Global>,
+    writer: &mut W,
+) -> Result<Option<OpenFault>, ProgramFault> {
+    inspect(alloc, disk, writer)
+}
+
 // An inspection prints this text, and returns why the image doesn't open.
 fn is_told(
     rt: &(impl Abort + AllocGlobal),
@@ -96,7 +105,7 @@ fn is_told(
     refusal: Option<OpenFault>,
 ) -> Result<(), Fail> {
     let mut writer = Bytes::new(rt.alloc());
-    let told = inspect(rt.alloc(), disk, &mut writer)?;
+    let told = looked(rt.alloc(), disk, &mut writer)?;
     assert_eq!(rt; writer.as_slice(), text);
     assert_eq!(rt; told, refusal);
     assert_eq!(rt; disk.pending()?.len(), 0);
@@ -172,7 +181,7 @@ fn refused_memory_tells_nothing(rt: HostRuntime) -> Result<(), Fail> {
     for k in 1..200 {
         heap.refuse(k);
         let mut writer = Bytes::new(rt.alloc());
-        let told = inspect(&heap, &mut disk, &mut writer);
+        let told = looked(&heap, &mut disk, &mut writer);
         if heap.is_waiting() {
             assert_eq!(rt; told, Ok(None));
             assert_eq!(rt; writer.as_slice(), READ_OUT);
@@ -192,7 +201,7 @@ fn a_failed_read_is_answered(rt: HostRuntime) -> Result<(), Fail> {
         let mut disk = formatted(heap)?;
         disk.fail_once(passes);
         let mut writer = Bytes::new(heap);
-        let told = inspect(heap, &mut disk, &mut writer);
+        let told = looked(heap, &mut disk, &mut writer);
         assert_eq!(rt; told, Err(ProgramFault::Open(OpenFault::Device)));
         assert_eq!(rt; writer.as_slice().len(), 0);
         is_told(&rt, &mut disk, EMPTY, None)?;
@@ -204,7 +213,7 @@ fn a_failed_read_is_answered(rt: HostRuntime) -> Result<(), Fail> {
 fn a_failed_write_is_answered(rt: HostRuntime) -> Result<(), Fail> {
     let mut disk = formatted(rt.alloc())?;
     let mut writer: FixedSink<8> = FixedSink::new();
-    let told = inspect(rt.alloc(), &mut disk, &mut writer);
+    let told = looked(rt.alloc(), &mut disk, &mut writer);
     assert_eq!(rt; told, Err(ProgramFault::Write));
     Ok(())
 }

@@ -4,10 +4,10 @@ use super::images::{LIFE, after, formatted};
 use dc_disk::MemoryDisk;
 use dc_ending::ProgramFault;
 use dc_inspect::{Form, Report, report_on};
-use dc_io::Bytes;
+use dc_io::{Bytes, Sink};
 use dc_log::OpenFault;
 use refusing_alloc::Refusing;
-use std::alloc::Global;
+use std::alloc::{Allocator, Global};
 use std::process::Abort;
 use std::test::Fail;
 
@@ -27,6 +27,17 @@ const DUE: &[u8] =
 \"manufacturer\":\"PAD\",\"version\":1,\"medium\":\"water\",\"medium_code\":7},\"serial\":1,\"storage\":1,\
 \"tariff\":0,\"subunit\":0,\"function\":\"instantaneous\",\"value\":\"12345.000\",\"unit\":\"m3\"}\n";
 
+// [`report_on`] as JSON, without a contract.
+fn reported<A: Allocator + Copy, W: Sink>(
+    alloc: A,
+    disk: MemoryDisk<Global>,
+    report: Report,
+    writer: &mut W,
+) -> Result<(), ProgramFault> {
+    let (_, outcome) = report_on(alloc, disk, report, Form::Json, writer);
+    outcome
+}
+
 // The table is written as this text.
 fn is_shown(
     rt: &(impl Abort + AllocGlobal),
@@ -35,7 +46,7 @@ fn is_shown(
     text: &[u8],
 ) -> Result<(), Fail> {
     let mut writer = Bytes::new(rt.alloc());
-    let (_, outcome) = report_on(rt.alloc(), disk, report, Form::Json, &mut writer);
+    let outcome = reported(rt.alloc(), disk, report, &mut writer);
     assert_eq!(rt; outcome, Ok(()));
     assert_eq!(rt; writer.as_slice(), text);
     Ok(())
@@ -65,13 +76,7 @@ fn refused_memory_shows_nothing(rt: HostRuntime) -> Result<(), Fail> {
     for k in 1..200 {
         heap.refuse(k);
         let mut writer = Bytes::new(rt.alloc());
-        let (_, outcome) = report_on(
-            &heap,
-            disk.copy()?,
-            Report::Register,
-            Form::Json,
-            &mut writer,
-        );
+        let outcome = reported(&heap, disk.copy()?, Report::Register, &mut writer);
         if heap.is_waiting() {
             assert_eq!(rt; outcome, Ok(()));
             return Ok(());

@@ -4,11 +4,11 @@ use super::images::{LIFE, after, formatted};
 use dc_disk::MemoryDisk;
 use dc_ending::ProgramFault;
 use dc_inspect::{StatusForm, show_status};
-use dc_io::{Bytes, FixedSink};
+use dc_io::{Bytes, FixedSink, Sink};
 use dc_log::OpenFault;
 use dc_status::Clock;
 use refusing_alloc::Refusing;
-use std::alloc::Global;
+use std::alloc::{Allocator, Global};
 use std::process::Abort;
 use std::test::Fail;
 
@@ -119,6 +119,17 @@ fn at(now: u64) -> Clock {
     }
 }
 
+// [`show_status`], without a contract.
+fn told_as<A: Allocator + Copy, W: Sink>(
+    alloc: A,
+    disk: &mut MemoryDisk<Global>,
+    form: StatusForm,
+    clock: Clock,
+    writer: &mut W,
+) -> Result<(Option<OpenFault>, bool), ProgramFault> {
+    show_status(alloc, disk, form, clock, writer)
+}
+
 // An image prints this status, and returns whether a meter is silent.
 fn is_told(
     rt: &(impl Abort + AllocGlobal),
@@ -129,7 +140,7 @@ fn is_told(
 ) -> Result<(), Fail> {
     is_told_in(rt, disk, StatusForm::Text, clock, text)?;
     let mut writer = Bytes::new(rt.alloc());
-    let told = show_status(rt.alloc(), disk, StatusForm::Text, clock, &mut writer)?;
+    let told = told_as(rt.alloc(), disk, StatusForm::Text, clock, &mut writer)?;
     assert_eq!(rt; told, (None, is_silent));
     assert_eq!(rt; disk.pending()?.len(), 0);
     Ok(())
@@ -144,7 +155,7 @@ fn is_told_in(
     text: &[u8],
 ) -> Result<(), Fail> {
     let mut writer = Bytes::new(rt.alloc());
-    let _ = show_status(rt.alloc(), disk, form, clock, &mut writer)?;
+    let _ = told_as(rt.alloc(), disk, form, clock, &mut writer)?;
     assert_eq!(rt; writer.as_slice(), text);
     Ok(())
 }
@@ -202,7 +213,7 @@ fn an_image_that_does_not_open_tells_nothing(rt: HostRuntime) -> Result<(), Fail
     let heap = rt.alloc();
     let mut writer = Bytes::new(heap);
     let mut small = MemoryDisk::new(heap, 130)?;
-    let told = show_status(heap, &mut small, StatusForm::Text, at(READ_AT), &mut writer)?;
+    let told = told_as(heap, &mut small, StatusForm::Text, at(READ_AT), &mut writer)?;
     assert_eq!(rt; told, (Some(OpenFault::NotImage), false));
     assert_eq!(rt; writer.as_slice().len(), 0);
     Ok(())
@@ -213,7 +224,7 @@ fn an_image_that_does_not_open_tells_nothing(rt: HostRuntime) -> Result<(), Fail
 fn what_fails_tells_nothing(rt: HostRuntime) -> Result<(), Fail> {
     let mut disk = after(rt.alloc(), formatted(rt.alloc())?, LIFE)?;
     let mut full: FixedSink<8> = FixedSink::new();
-    let told = show_status(
+    let told = told_as(
         rt.alloc(),
         &mut disk,
         StatusForm::Text,
@@ -223,7 +234,7 @@ fn what_fails_tells_nothing(rt: HostRuntime) -> Result<(), Fail> {
     assert_eq!(rt; told, Err(ProgramFault::Write));
     disk.fail_once(2);
     let mut writer = Bytes::new(rt.alloc());
-    let told = show_status(
+    let told = told_as(
         rt.alloc(),
         &mut disk,
         StatusForm::Text,
@@ -236,7 +247,7 @@ fn what_fails_tells_nothing(rt: HostRuntime) -> Result<(), Fail> {
     for k in 1..200 {
         heap.refuse(k);
         let mut writer = Bytes::new(rt.alloc());
-        let told = show_status(
+        let told = told_as(
             &heap,
             &mut disk,
             StatusForm::Text,

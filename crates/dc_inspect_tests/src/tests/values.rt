@@ -4,10 +4,10 @@ use super::images::{LIFE, after, formatted, with_sector};
 use dc_disk::MemoryDisk;
 use dc_ending::ProgramFault;
 use dc_inspect::{ValuesForm, show_values};
-use dc_io::{Bytes, FixedSink};
+use dc_io::{Bytes, FixedSink, Sink};
 use dc_log::OpenFault;
 use refusing_alloc::Refusing;
-use std::alloc::Global;
+use std::alloc::{Allocator, Global};
 use std::process::Abort;
 use std::test::Fail;
 
@@ -48,6 +48,16 @@ const READ_AGAIN_JSON: &[u8] =
     br#"{"flat":"A1","meter":{"id":"12345678.PAD.01.07","number":"12345678","manufacturer":"PAD","version":1,"medium":"water","medium_code":7},"reading":{"serial":2,"moment":1709251199,"utc":"2024-02-29T23:59","status":{"code":20,"application":"no error","power_low":true,"permanent_error":false,"temporary_error":true,"manufacturer_bits":0},"values":[{"tariff":0,"subunit":0,"value":"0.056","unit":"m3"},{"tariff":1,"subunit":0,"value":"7","unit":"Wh"}]}}
 "#;
 
+// [`show_values`], without a contract.
+fn shown_as<A: Allocator + Copy, W: Sink>(
+    alloc: A,
+    disk: &mut MemoryDisk<Global>,
+    form: ValuesForm,
+    writer: &mut W,
+) -> Result<Option<OpenFault>, ProgramFault> {
+    show_values(alloc, disk, form, writer)
+}
+
 // An image prints these values, and returns why it doesn't open.
 fn are_shown(
     rt: &(impl Abort + AllocGlobal),
@@ -57,7 +67,7 @@ fn are_shown(
     refusal: Option<OpenFault>,
 ) -> Result<(), Fail> {
     let mut writer = Bytes::new(rt.alloc());
-    let shown = show_values(rt.alloc(), disk, form, &mut writer)?;
+    let shown = shown_as(rt.alloc(), disk, form, &mut writer)?;
     assert_eq!(rt; writer.as_slice(), text);
     assert_eq!(rt; shown, refusal);
     assert_eq!(rt; disk.pending()?.len(), 0);
@@ -124,7 +134,7 @@ fn refused_memory_shows_nothing(rt: HostRuntime) -> Result<(), Fail> {
     for k in 1..200 {
         heap.refuse(k);
         let mut writer = Bytes::new(rt.alloc());
-        let shown = show_values(&heap, &mut disk, ValuesForm::Text, &mut writer);
+        let shown = shown_as(&heap, &mut disk, ValuesForm::Text, &mut writer);
         if heap.is_waiting() {
             assert_eq!(rt; shown, Ok(None));
             assert_eq!(rt; writer.as_slice(), READ_OUT);
@@ -143,12 +153,12 @@ fn a_failing_end_is_answered(rt: HostRuntime) -> Result<(), Fail> {
     let mut disk = after(heap, formatted(heap)?, LIFE)?;
     disk.fail_once(2);
     let mut writer = Bytes::new(heap);
-    let shown = show_values(heap, &mut disk, ValuesForm::Json, &mut writer);
+    let shown = shown_as(heap, &mut disk, ValuesForm::Json, &mut writer);
     assert_eq!(rt; shown, Err(ProgramFault::Open(OpenFault::Device)));
     assert_eq!(rt; writer.as_slice().len(), 0);
     are_shown(&rt, &mut disk, ValuesForm::Text, READ_OUT, None)?;
     let mut full: FixedSink<8> = FixedSink::new();
-    let shown = show_values(heap, &mut disk, ValuesForm::Text, &mut full);
+    let shown = shown_as(heap, &mut disk, ValuesForm::Text, &mut full);
     assert_eq!(rt; shown, Err(ProgramFault::Write));
     Ok(())
 }
