@@ -12,7 +12,6 @@ mod fit;
 mod inspect;
 mod loose;
 mod poll;
-mod reaching;
 mod report;
 mod script;
 mod tasks;

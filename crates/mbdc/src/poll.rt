@@ -2,8 +2,7 @@
 
 ghost use Rattle.std.specs.Prelude.{◌<◌};
 
-use crate::connecting::release_all;
-use crate::reaching::reach_all;
+use crate::connecting::{reached, released};
 use crate::tracing::{Book, LineTrace, book_of, trace_of};
 use dc_bus::QuietBus;
 use dc_change::Moment;
@@ -112,12 +111,12 @@ where
         Ok(book) => book,
         Err(error) => return host.why.file(task.trace.unwrap_or_default(), error),
     };
-    let peers = match reach_all(host, &task.links) {
+    let peers = match reached(host, &task.links) {
         Ok(peers) => peers,
         Err(ending) => return ending,
     };
     let ending = poll_over(host, disk, peers.as_slice(), book.as_ref(), task);
-    release_all(host.rt, peers.as_slice());
+    released(host, peers.as_slice());
     ending
 }
 

@@ -1,6 +1,6 @@
 //! The command `run`: a script over an image in a file.
 
-use crate::connecting::{connect_all, release_all};
+use crate::connecting::{connected, released};
 use crate::tasks::ended;
 use dc_bus::Both;
 use dc_disk::FileDisk;
@@ -24,7 +24,7 @@ type LineSlot<'a, C> = Slot<ScriptLink<SystemBus<'a, C>, Waiter>>;
 /// gateway of bus line 1.
 pub fn run_on_image<'a, R>(host: &Host<'_, R>, task: &RunTask<'a>) -> Ending<'a>
 where
-    R: Files<File = File> + Net<Stream = TcpStream> + Clock + Copy + Print + AllocGlobal,
+    R: Files<File = File> + Net<Stream = TcpStream> + Clock + Copy + Print + Eprint + AllocGlobal,
 {
     let file = match open_image(host.rt, task.image) {
         Ok(file) => file,
@@ -78,14 +78,14 @@ fn run_over_links<'a, F, D, R>(
 where
     F: Read + Drop,
     D: FileExt + OpenFile + Drop,
-    R: Files<File = File> + Net<Stream = TcpStream> + Clock + Copy + Print + AllocGlobal,
+    R: Files<File = File> + Net<Stream = TcpStream> + Clock + Copy + Print + Eprint + AllocGlobal,
 {
-    let peers = match connect_all(host, &task.links) {
+    let peers = match connected(host, &task.links) {
         Ok(peers) => peers,
         Err(ending) => return ending,
     };
     let ending = run_over_peers(host, disk, lines, peers.as_slice(), task);
-    release_all(host.rt, peers.as_slice());
+    released(host, peers.as_slice());
     ending
 }
 

@@ -1,0 +1,4 @@
+-- lemmas by topic
+
+-- one line, and the lines after it
+pub mod Joining
