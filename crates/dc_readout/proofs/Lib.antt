@@ -8,5 +8,7 @@ pub mod Taken
 pub mod History
 -- what is asked at each stage, and what tells two requests of one session apart
 pub mod Requests
+-- how many requests a readout makes at most
+pub mod Bound
 -- the protocol's rules, from the summaries of a past and of the past with one thing more
 pub mod Protocol

@@ -8,6 +8,8 @@ pub mod Answer
 pub mod Summary
 -- what a session's past says of it
 pub mod Session
+-- how many requests a readout makes at most
+pub mod Bound
 -- the words in which the protocol's rules are said of whole pasts
 pub mod Protocol
 -- what code answers, without where a telegram lies in memory

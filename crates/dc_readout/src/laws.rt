@@ -1,7 +1,7 @@
 //! The protocol's rules, said of a session's whole past and of what it knows of it.
 
 ghost use Rattle.std.specs.Prelude.{◌≡◌, ◌≢◌, ◌↔◌, ◌+◌, ◌%◌, ◌<◌, ◌≤◌, ℕ, List, [], Option, Some};
-ghost use Rattle.std.specs.Prelude.{true, false};
+ghost use Rattle.std.specs.Prelude.{true, false, IsSome};
 ghost use Rattle.dc_frame.specs.Frame.{FrameSeen};
 ghost use Rattle.dc_record.specs.Body.{continues};
 ghost use Rattle.dc_record.specs.Telegram.{Parsed};
@@ -10,6 +10,8 @@ ghost use Rattle.dc_readout.specs.Why.{number_of};
 ghost use Rattle.dc_address.specs.declared.identity.Identity.{Identity};
 ghost use Rattle.dc_readout.specs.Summary.{Summary, again, new, failed, begun, request_of};
 ghost use Rattle.dc_readout.specs.Summary.{asked_by, verdict_by, heard_by, settled_by};
+ghost use Rattle.dc_readout.specs.Summary.{IsPending, IsSound};
+ghost use Rattle.dc_readout.specs.Bound.{most_requests, requests_left, requests_in};
 ghost use Rattle.dc_readout.specs.Session.{Call, Past, IsLawful, past_of, settled_in, summary};
 ghost use Rattle.dc_readout.specs.Session.{asked, judged, and_heard, and_settled};
 ghost use Rattle.dc_readout.specs.Taken.{IsTaken};
@@ -65,6 +67,21 @@ pub fn nothing_more_is_asked()
         → judged past answer ≡ new part t → continues t.ending ≡ true
         → asked (and_settled (and_heard answer past))
         ≡ Some (request_of past.address (settled_in past.calls + 1)) }
+{}
+
+/// A readout makes at most 102 requests: three tries at the reset, at the selection and at each of 32
+/// parts. None is cut off where that many may be made.
+pub fn a_readout_makes_few_requests()
+    ensures begins { (meter : Identity) (address : Option ℕ)
+        → requests_left (begun meter address) ≡ most_requests }
+    // A request takes one away, whatever is heard in answer.
+    ensures falls { (s : Summary) (answer : List ℕ) → IsSome (asked_by s)
+        → requests_left (heard_by s (verdict_by s answer)) < requests_left s }
+    ensures rests { (s : Summary) → IsSound s.stage s.tries s.settled → IsPending s.stage
+        → requests_left (settled_by s) ≤ requests_left s }
+    // Those that were made and those that are left are never more.
+    ensures whole { (past : Past) → IsLawful past
+        → requests_in past.calls + requests_left (summary past) ≤ most_requests }
 {}
 
 /// A session's summary follows its past, call by call.

@@ -19,9 +19,9 @@ mod why;
 
 pub use heard::Heard;
 pub use laws::{
-    a_taken_telegram_was_asked_for, nothing_more_is_asked, requests_are_repeated,
-    requests_differ_by_the_parity_of_what_is_settled, the_bit_changes_with_a_settled_telegram,
-    the_summary_follows_the_past,
+    a_readout_makes_few_requests, a_taken_telegram_was_asked_for, nothing_more_is_asked,
+    requests_are_repeated, requests_differ_by_the_parity_of_what_is_settled,
+    the_bit_changes_with_a_settled_telegram, the_summary_follows_the_past,
 };
 pub use session::Session;
 pub use why::Why;

@@ -7,6 +7,7 @@ ghost use Rattle.dc_frame.specs.Reading.{frame_of};
 ghost use Rattle.dc_record.specs.Body.{continues};
 ghost use Rattle.dc_record.specs.Telegram.{Parsed, parsed};
 ghost use Rattle.dc_readout.specs.Answer.{max_parts, missed, answered};
+ghost use Rattle.dc_readout.specs.Bound.{requests_left};
 ghost use Rattle.dc_readout.specs.declared.stage.Stage.TheVariants.{Ended};
 ghost use Rattle.dc_readout.specs.Seen.{meaning, verdict};
 ghost use Rattle.dc_readout.specs.Session.{Past, SumsUp, past_of, asked, judged, and_heard};
@@ -101,6 +102,8 @@ impl Session {
         requires { IsSome (asked_by self.old) }
         ensures exact { verdict result ≡ verdict_by self.old answer.now }
         ensures after { self.new ≡ heard_by self.old (verdict result) }
+        // One request less may follow.
+        ensures fewer { requests_left self.new < requests_left self.old }
         // A telegram came in one frame.
         ensures fits { (part : ℕ) (t : Parsed) → verdict result ≡ new part t
             → length t.body ≤ longest_body }
@@ -115,8 +118,11 @@ impl Session {
     pub fn settle(&mut self)
         requires { IsPending self.old.stage }
         ensures exact { self.new ≡ settled_by self.old }
+        ensures no_more { requests_left self.new ≤ requests_left self.old }
         ensures past { (past : Past) → SumsUp past self.old → SumsUp (and_settled past) self.new }
     {
+        // a part is left if more follow
+        let _ = &self.stage;
         self.leave_telegram();
     }
 

@@ -24,8 +24,8 @@ use dc_frame::FrameBuf;
 use dc_io::{IoFault, Sink};
 use std::alloc::Allocator;
 
-// Maximum number of requests of a readout: three tries at a reset, a selection and each of 32
-// parts, and one more look.
+// A readout makes at most 102 requests (`a_readout_makes_few_requests` of dc_readout); one more look
+// finds nothing to ask.
 const MOST_ROUNDS: usize = 103;
 
 /// Reads a meter over a bus line, with this time stamp. The bus settles first, so that no answer is
