@@ -1,8 +1,9 @@
 -- A readout, exchange by exchange.
-use Rattle.std.proofs.Common.{◌≡◌, ◌⊎◌, ℕ, ◌-◌, ◌≤◌, List, [], ◌∷◌, ◌++◌, Option, None, Some, refl, subst, inl, inr, arith}
+use Rattle.std.proofs.Common.{◌≡◌, ℕ, ◌<◌, List, [], ◌∷◌, ◌++◌, Option, None, Some, refl, subst, arith}
 use Rattle.std.specs.Prelude.{option_map}
 use Rattle.dc_frame.specs.Frame.{spelling}
 use Rattle.dc_readout.specs.Summary.{Summary, asked_by, verdict_by}
+use Rattle.dc_readout.specs.Bound.{requests_left}
 use Rattle.dc_io.specs.Stream.{Puts, PutsFront}
 use Rattle.dc_io.proofs.Pieces.{puts-both, puts-none, puts_front-first, puts_front-second}
 use Rattle.dc_installer.specs.Read.{IsReadOn, Reads, after, printed}
@@ -12,10 +13,10 @@ module _ {B : Type 0} (asks : B → List ℕ → List ℕ → B → Type 0) wher
   pub reads_none : (bus : B) (session : Summary) (held : Option (List ℕ)) → Reads asks bus bus session (Puts held held)
   reads_none bus session held = record { exchanges = []; happened = refl; text = []; last = session; are_read = (refl, refl); printed_it = puts-none held }
 
-  pub ends_at_once : (bus : B) (session : Summary) (most : ℕ) (held : Option (List ℕ)) → (asked_by session ≡ None) ⊎ (0 ≡ most)
-      → IsReadOn asks bus bus session most (Puts held held)
+  pub ends_at_once : (bus : B) (session : Summary) (held : Option (List ℕ)) → asked_by session ≡ None
+      → IsReadOn asks bus bus session (Puts held held)
   unfolding reads_none
-  ends_at_once bus session most held ends = record { reads = reads_none bus session held; ended = ends }
+  ends_at_once bus session held ends = record { reads = reads_none bus session held; ended = ends; few = omega arith }
 
   -- one exchange
   one : (old new : B) (session : Summary) (request answer : List ℕ) (wrote : List ℕ → Type 0) → asks old request answer new
@@ -30,13 +31,14 @@ module _ {B : Type 0} (asks : B → List ℕ → List ℕ → B → Type 0) wher
     printed_it = text;
   }
 
-  pub fails : (old new : B) (session : Summary) (request answer : List ℕ) (most : ℕ) (held now : Option (List ℕ)) → asks old request answer new
+  pub fails : (old new : B) (session next : Summary) (request answer : List ℕ) (held now : Option (List ℕ)) → asks old request answer new
       → option_map spelling (asked_by session) ≡ Some request → Puts held now (printed (verdict_by session answer) answer)
-      → asked_by (after session answer) ≡ None → IsReadOn asks old new session most (Puts held now)
+      → asked_by (after session answer) ≡ None → requests_left next < requests_left session → IsReadOn asks old new session (Puts held now)
   unfolding one
-  fails old new session request answer most held now asked is text over = record {
+  fails old new session next request answer held now asked is text over less = record {
     reads = one old new session request answer (Puts held now) asked is (puts-both held now now (printed (verdict_by session answer) answer) [] text (puts-none now));
-    ended = inl over;
+    ended = over;
+    few = omega (arith, less);
   }
 
   pub is_cut_off : (old new : B) (session : Summary) (request answer : List ℕ) (held now : Option (List ℕ)) → asks old request answer new
@@ -59,21 +61,21 @@ module _ {B : Type 0} (asks : B → List ℕ → List ℕ → B → Type 0) wher
     printed_it = text;
   }
 
-  pub goes_on : (old mid new : B) (session next : Summary) (request answer : List ℕ) (left : ℕ) (held between now : Option (List ℕ)) → 1 ≤ left
+  pub goes_on : (old mid new : B) (session next : Summary) (request answer : List ℕ) (held between now : Option (List ℕ)) → requests_left next < requests_left session
       → asks old request answer mid → option_map spelling (asked_by session) ≡ Some request
       → next ≡ after session answer → Puts held between (printed (verdict_by session answer) answer)
-      → IsReadOn asks mid new next (left - 1) (Puts between now) → IsReadOn asks old new session left (Puts held now)
+      → IsReadOn asks mid new next (Puts between now) → IsReadOn asks old new session (Puts held now)
   unfolding then_reads
-  goes_on old mid new session next request answer left held between now some asked is follows text more =
-      let P : Summary → Type 0 = λ s. IsReadOn asks mid new s (left - 1) (Puts between now) in
+  goes_on old mid new session next request answer held between now less asked is follows text more =
+      let P : Summary → Type 0 = λ s. IsReadOn asks mid new s (Puts between now) in
       let then = subst P follows more in
+      let few = then.few in
+      let fewer = subst (λ (s : Summary). requests_left s < requests_left session) follows less in
       record {
         reads = then_reads old mid new session request answer (Puts between now) (Puts held now) asked is then.reads
             (puts-both held between now (printed (verdict_by session answer) answer) then.reads.text text then.reads.printed_it);
-        ended = elim then.ended [
-          | inl over ↦ inl over
-          | inr all ↦ inr (omega (arith, all, some))
-        ];
+        ended = then.ended;
+        few = omega (arith, few, fewer);
       }
 
   pub is_cut_off_later : (old mid new : B) (session next : Summary) (request answer : List ℕ) (held between now : Option (List ℕ))

@@ -1,16 +1,12 @@
 -- The readout of one meter on a bus, as its telegrams are printed (EN 13757-2, frame count bit; EN 13757-3).
-use Rattle.std.specs.Prelude.{◌≡◌, ◌⊎◌, ℕ, List, [], ◌∷◌, ◌++◌, None, Some, length, option_map}
+use Rattle.std.specs.Prelude.{◌≡◌, ◌≤◌, ℕ, List, [], ◌∷◌, ◌++◌, None, Some, length, option_map}
 use Rattle.dc_frame.specs.Frame.{spelling}
 use Rattle.dc_readout.specs.Summary.{Summary, Verdict, again, ready, new, failed, asked_by}
 use Rattle.dc_readout.specs.Summary.{heard_by, settled_by, verdict_by}
+use Rattle.dc_readout.specs.Bound.{requests_left}
 use Rattle.dc_bus.specs.Bus.{AreExchanged, Exchange}
 use Rattle.dc_concentrator.specs.Text.{failed_text}
 use Rattle.dc_decode.specs.Frames.{all_shown, frames_of}
-
--- maximum number of requests of a readout: three tries at a reset, a selection and each of 32
--- parts, and one more look
-abbrev pub most_requests : ℕ
-most_requests = 103
 
 -- The text printed for an answer: a telegram as `decode` prints it, or why the readout failed.
 abbrev pub printed : Verdict → List ℕ → List ℕ
@@ -49,12 +45,12 @@ pub record Reads {B : Type 0} (asks : B → List ℕ → List ℕ → B → Type
   pub are_read : AreRead session exchanges text last
   pub printed_it : wrote text
 
--- A readout that ended, or made as many requests as it may.
+-- A readout that ended, with no more requests than a session makes.
 pub record IsReadOn {B : Type 0} (asks : B → List ℕ → List ℕ → B → Type 0) (old new : B)
-    (session : Summary)
-    (most : ℕ) (wrote : List ℕ → Type 0) : Type 0 where
+    (session : Summary) (wrote : List ℕ → Type 0) : Type 0 where
   pub reads : Reads asks old new session wrote
-  pub ended : (asked_by reads.last ≡ None) ⊎ (length reads.exchanges ≡ most)
+  pub ended : asked_by reads.last ≡ None
+  pub few : length reads.exchanges ≤ requests_left session
 
 -- A failed write ended it: no request went out after the answer whose text failed.
 abbrev pub IsCutOff : {B : Type 0} → (B → List ℕ → List ℕ → B → Type 0) → B → B → Summary

@@ -71,10 +71,8 @@ fn scan_last<B: ScriptBus, W: Sink>(left: u8, bus: &mut B, out: &mut W) -> Resul
     if left == 0 {
         return Ok(());
     }
-    match scan_one(251 - left, bus, out) {
-        Ok(()) => scan_last(left - 1, bus, out),
-        Err(fault) => Err(fault),
-    }
+    scan_one(251 - left, bus, out)?;
+    scan_last(left - 1, bus, out)
 }
 
 fn scan_one<B: ScriptBus, W: Sink>(address: u8, bus: &mut B, out: &mut W) -> Result<(), IoFault>

@@ -1,6 +1,6 @@
 //! Reads one meter.
 
-ghost use Rattle.std.specs.Prelude.{◌≡◌, ◌≤◌, ℕ, List, None, Some, IfOk, OnOk, OnErr, length};
+ghost use Rattle.std.specs.Prelude.{◌≡◌, ◌<◌, ◌≤◌, ℕ, List, None, Some, IfOk, OnOk, OnErr, length};
 ghost use Rattle.std.specs.Prelude.{option_map};
 ghost use Rattle.dc_io.specs.Failures.{HasRisen};
 ghost use Rattle.dc_concentrator.specs.Step.{longest_request};
@@ -8,8 +8,9 @@ ghost use Rattle.dc_frame.specs.Frame.{spelling};
 ghost use Rattle.dc_io.specs.Stream.{PutsFront};
 ghost use Rattle.dc_io.specs.Written.{PutsInto, Wrote};
 ghost use Rattle.dc_readout.specs.Summary.{asked_by, begun, verdict_by};
+ghost use Rattle.dc_readout.specs.Bound.{requests_left};
 ghost use Rattle.dc_readout.specs.Seen.{verdict};
-ghost use Rattle.dc_installer.specs.Read.{IsCutOff, IsReadOn, after, most_requests, printed};
+ghost use Rattle.dc_installer.specs.Read.{IsCutOff, IsReadOn, after, printed};
 
 use dc_address::{Identity, Primary};
 use dc_bus::Bus;
@@ -18,9 +19,6 @@ use dc_decode::put_frames;
 use dc_frame::FrameBuf;
 use dc_io::{IoFault, Sink};
 use dc_readout::{Heard, Session};
-
-// Three tries at a reset, a selection and each of 32 parts, and one look more.
-const MOST_REQUESTS: u8 = 103;
 
 /// The end of a readout.
 #[derive(Clone, Copy, Debug, PartialEq, Eq)]
@@ -33,7 +31,8 @@ pub enum Readout {
 
 /// Reads a meter on a bus, by its primary address or by secondary addressing, and prints its
 /// telegrams as `decode` does. A telegram is printed before the next one is requested, since the
-/// meter then discards it. If the readout fails, the last line states why.
+/// meter then discards it. If the readout fails, the last line states why. It ends after at most 102
+/// requests, whatever the bus answers.
 ///
 /// # Errors
 /// A write failed. No further request goes out then, so the meter still has the telegram that wasn't printed.
@@ -44,41 +43,31 @@ pub fn read<B: Bus, W: Sink>(
     out: &mut W,
 ) -> Result<Readout, IoFault>
     ensures read { OnOk result (IsReadOn B.asks bus.old bus.new
-        (begun meter.now address) most_requests
-        (PutsInto W.Sink out.old out.new)) }
+        (begun meter.now address) (PutsInto W.Sink out.old out.new)) }
     ensures unwritten { OnErr result (IsCutOff B.asks bus.old bus.new (begun meter.now address)
         (PutsFront (W.written out.old) (W.written out.new))) }
     ensures failed { OnErr result (HasRisen (W.put_failures out.old) (W.put_failures out.new)) }
     ensures well { OnOk result (W.put_failures out.new ≡ W.put_failures out.old) }
 {
-    read_on(bus, Session::start(*meter, address), MOST_REQUESTS, out)
+    read_on(bus, Session::start(*meter, address), out)
 }
 
-// Continues a session, with at most this many requests.
-fn read_on<B: Bus, W: Sink>(
-    bus: &mut B,
-    session: Session,
-    left: u8,
-    out: &mut W,
-) -> Result<Readout, IoFault>
-    ensures read { OnOk result (IsReadOn B.asks bus.old bus.new session left
+// Continues a session. Each request takes one away of those that it may still make.
+fn read_on<B: Bus, W: Sink>(bus: &mut B, session: Session, out: &mut W) -> Result<Readout, IoFault>
+    ensures read { OnOk result (IsReadOn B.asks bus.old bus.new session
         (PutsInto W.Sink out.old out.new)) }
     ensures unwritten { OnErr result (IsCutOff B.asks bus.old bus.new session
         (PutsFront (W.written out.old) (W.written out.new))) }
     ensures failed { OnErr result (HasRisen (W.put_failures out.old) (W.put_failures out.new)) }
     ensures well { OnOk result (W.put_failures out.new ≡ W.put_failures out.old) }
 {
-    if left == 0 {
-        return Ok(Readout::Failed);
-    }
     let Some(request) = session.ask() else {
         return Ok(Readout::Whole);
     };
     let mut session = session;
-    match exchange(bus, &mut session, &request, out) {
-        Ok(Readout::Failed) => Ok(Readout::Failed),
-        Ok(Readout::Whole) => read_on(bus, session, left - 1, out),
-        Err(fault) => Err(fault),
+    match exchange(bus, &mut session, &request, out)? {
+        Readout::Failed => Ok(Readout::Failed),
+        Readout::Whole => read_on(bus, session, out),
     }
 }
 
@@ -92,7 +81,8 @@ fn exchange<B: Bus, W: Sink>(
 ) -> Result<Readout, IoFault>
     requires asked { option_map spelling (asked_by session.old) ≡ Some request.now }
     requires short { length request.now ≤ longest_request }
-    ensures { (answer : List ℕ) × B.asks bus.old request.now answer bus.new
+    ensures fewer { OnOk result (requests_left session.new < requests_left session.old) }
+    ensures exchanged { (answer : List ℕ) × B.asks bus.old request.now answer bus.new
         × IfOk result (λ readout. (session.new ≡ after session.old answer)
         × (readout ≡ Readout.Failed → asked_by session.new ≡ None))
         × Wrote W.Sink result out.old out.new
@@ -118,10 +108,10 @@ fn put_read<W: Sink>(heard: &Heard<'_>, answer: &[u8], out: &mut W) -> Result<()
         (printed (verdict heard.now) answer.now) }
 {
     match heard {
-        Heard::New { .. } => match put_frames(answer, out) {
-            Ok(_) => Ok(()),
-            Err(fault) => Err(fault),
-        },
+        Heard::New { .. } => {
+            put_frames(answer, out)?;
+            Ok(())
+        }
         Heard::Failed(why) => put_heard(out, Ok(LineHeard::Failed(*why))),
         Heard::Again | Heard::Ready => Ok(()),
     }

@@ -14,10 +14,10 @@ returns-then-left-eq0-clause-asked g t c =
     let P : ℕ → Type 0 = λ left. AsksEach g.B.Bus.asks g.B.ScriptBus.settles g.B.ScriptBus.ready (range_with_len (251 - left) left) c.args.bus.now [] c.args.bus.now in
     ([], subst P (sym none) (refl, refl), puts-none (g.W.Sink.written c.args.out.now))
 
-pub returns-in-Ok-clause-asked : goal.returns-in-Ok-clause-asked
-returns-in-Ok-clause-asked g t c =
+pub returns-clause-asked : goal.returns-clause-asked
+returns-clause-asked g t c =
     let some : 1 ≤ c.args.left = grind (arith, common_steps) in
-    let first = c.in-Ok.ensures.asked in
+    let first = c.in_ok-scan_one.ensures.asked in
     let split = last_addresses c.args.left some c.requires in
     let Q : List ℕ → Type 0 = λ addresses. (x : List ℕ) × AsksEach g.B.Bus.asks g.B.ScriptBus.settles g.B.ScriptBus.ready addresses c.args.bus.now x c.scan_last.new.bus
     × Puts (g.W.Sink.written c.args.out.now) (g.W.Sink.written c.scan_last.new.out) x in
