@@ -1,0 +1,6 @@
+-- lemmas by topic
+
+-- one reading more
+pub mod Readings
+-- a file in which no sector returns to what it held
+pub mod Between
