@@ -9,6 +9,7 @@ use Rattle.dc_change.specs.Flat.{IsFlat}
 use Rattle.dc_change.specs.Line.{address_word, IsOfBytes}
 use Rattle.dc_change.specs.Valid.{IsAddress, IsBusLine}
 use Rattle.dc_change.specs.Words.{IsWord, is_space}
+use Rattle.dc_named.specs.Name.{capitals}
 use Rattle.dc_list.specs.declared.row.Row.{Row}
 use Rattle.dc_list.specs.declared.row.RowFault.{RowFault}
 use Rattle.dc_list.specs.declared.row.RowFault.TheVariants.{Columns, Meter, Line, Address, Flat}
@@ -71,7 +72,7 @@ pub record IsRow (row : Row) : Type 0 where
 -- THE ROW THAT FIELDS SPELL
 pub record SpellsRow (f : Fields) (row : Row) : Type 0 where
   pub row_is : IsRow row
-  pub meter_is : f.meter ≡ text_of row.meter
+  pub meter_is : capitals f.meter ≡ text_of row.meter
   pub line_is : f.line ≡ decimal row.line
   pub address_is : SpellsAddress f.address row.address
   pub flat_is : f.flat ≡ row.flat
@@ -79,7 +80,7 @@ pub record SpellsRow (f : Fields) (row : Row) : Type 0 where
 -- what a field doesn't spell
 abbrev pub Lacks : RowFault → Fields → Type 0
 Lacks Columns f = ⊥
-Lacks Meter f = (meter : Identity) → IsOfBytes meter → f.meter ≢ text_of meter
+Lacks Meter f = (meter : Identity) → IsOfBytes meter → capitals f.meter ≢ text_of meter
 Lacks Line f = (line : ℕ) → IsBusLine line → f.line ≢ decimal line
 Lacks Address f = (address : Option ℕ) → IsAddress address → ¬ (SpellsAddress f.address address)
 Lacks Flat f = ¬ (IsFlat f.flat)

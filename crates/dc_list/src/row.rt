@@ -9,12 +9,14 @@ ghost use Rattle.dc_address.specs.declared.identity.Identity.{Identity};
 ghost use Rattle.dc_change.specs.Line.{IsOfBytes};
 ghost use Rattle.dc_change.specs.Valid.{IsAddress, IsBusLine};
 ghost use Rattle.dc_change.specs.Words.{IsWord, is_space, is_inside};
+ghost use Rattle.dc_named.specs.Name.{capitals};
 ghost use Rattle.dc_list.specs.Rows.{Fields, HasFields, IsEntryOf, IsReadAs, Lacks, SpellsAddress};
 ghost use Rattle.dc_list.specs.Rows.{SpellsRow, is_blank, is_kept, is_dropped, row_text, spaced, is_separator};
 
 use dc_address::{Identity, Primary};
 use dc_change::{Flat, parse_number, split_word};
 use dc_io::NoMemory;
+use dc_named::identity_of;
 use std::alloc::Allocator;
 
 /// A meter and its place.
@@ -138,11 +140,12 @@ fn words_of(text: &[u8]) -> Option<Words<'_>>
 }
 
 fn parse_meter(word: &[u8]) -> Option<Identity>
-    ensures found { IfSome result (λ meter. IsOfBytes meter × (word.now ≡ text_of meter)) }
-    ensures only { (meter : Identity) → IsOfBytes meter → word.now ≡ text_of meter
+    ensures found { IfSome result (λ meter.
+        IsOfBytes meter × (capitals word.now ≡ text_of meter)) }
+    ensures only { (meter : Identity) → IsOfBytes meter → capitals word.now ≡ text_of meter
         → result ≡ Some meter }
 {
-    Identity::parse_text(word).ok()
+    identity_of(word)
 }
 
 fn parse_bus_line(word: &[u8]) -> Option<u8>

@@ -1,0 +1,4 @@
+-- lemmas by topic
+
+-- the text of a whole word
+pub mod Wholes
