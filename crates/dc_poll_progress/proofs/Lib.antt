@@ -36,6 +36,8 @@ pub mod OwnLine
 pub mod Whole
 -- as many meters are counted as read as the queues have
 pub mod Counted
+-- a house whose meter may be polled (the law of specs/OneMeter)
+pub mod OneMeter
 -- a register whose row ROOM suffices has room (the law of specs/RoomRow)
 pub mod RoomRow
 -- every meter is read (for the theorem of specs/Every)

@@ -1,5 +1,5 @@
 -- The meters of a queue are started in order, each once, until a telegram is refused (for the theorem of specs/Every).
-use Rattle.std.proofs.Common.{◌≡◌, ◌≢◌, ℕ, ◌+◌, Bool, true, false, Some, Ok, Err, List, [], ◌∷◌, ◌++◌, drop, arith, refl, sym, subst, if◌then◌else◌}
+use Rattle.std.proofs.Common.{◌≡◌, ℕ, ◌+◌, Bool, true, false, Some, Ok, Err, List, [], ◌∷◌, ◌++◌, drop, arith, refl, sym, subst, if◌then◌else◌}
 use Rattle.std.specs.Prelude.{◌==◌}
 use Rattle.std.specs.List.{AllByRecursion}
 use Rattle.std.proofs.lemmas.Bool.{eqb-true, ne_eqb}
@@ -12,14 +12,14 @@ use Rattle.dc_concentrator.specs.Step.{next}
 use Rattle.dc_concentrator.specs.Transcript.{Turn}
 use Rattle.dc_progress.specs.Beside.{IsElsewhere, IsOfLines}
 use Rattle.dc_poll.specs.Happening.{Happening, does, tells, is_on, happened_on, happened_turns}
-use Rattle.dc_poll.specs.Queue.{Part, part, Goes, most_asks, stays, passes_on, starts_it, is_refused, asks_it, has_no_request, is_given_up, goes_on, is_accepted, is_put_off, fails_at_last, is_faulty, is_stored, is_unstored, stands_by, is_told, loses_it}
+use Rattle.dc_poll.specs.Queue.{Part, part, Goes, stays, passes_on, starts_it, is_refused, asks_it, has_no_request, is_given_up, goes_on, is_accepted, is_put_off, fails_at_last, is_faulty, is_stored, is_unstored, stands_by, is_told, loses_it}
 use Rattle.dc_poll.specs.declared.event.Event.{Event as Told}
 use Rattle.dc_poll.specs.declared.event.Event.TheVariants.{Lost as is_lost}
 use Rattle.dc_poll.specs.declared.phase.Phase.{Phase}
 use Rattle.dc_poll.specs.declared.phase.Phase.TheVariants.{Free, Busy, Pending, Over}
 use Rattle.dc_poll.specs.Round.{IsCommitTurn}
 use Rattle.dc_poll_progress.specs.Carried.{Wire}
-use Rattle.dc_poll_progress.proofs.Facts.{Facts, HearFact, most_requests}
+use Rattle.dc_poll_progress.proofs.Facts.{HearFact}
 use Rattle.dc_poll_progress.proofs.Following.{AtPart, ends_any, failed_of, past, tells_past}
 use Rattle.dc_poll_progress.proofs.Lists.{AreOfLines, is_away}
 use Rattle.dc_poll_progress.proofs.Parted.{CutBy, PartAt, PartsIn, cut, part_away}

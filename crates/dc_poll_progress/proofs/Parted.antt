@@ -1,6 +1,6 @@
 -- Each telegram that a line's session takes is the next of its meter's parts, until one is refused (for the theorem of
 -- specs/Every).
-use Rattle.std.proofs.Common.{◌≡◌, ◌≢◌, ℕ, Some, Ok, Err, List, [], ◌∷◌, ◌++◌, drop}
+use Rattle.std.proofs.Common.{◌≡◌, ◌≢◌, ℕ, Some, Err, List, [], ◌∷◌, ◌++◌, drop}
 use Rattle.std.specs.List.{AllByRecursion}
 use Rattle.dc_readout.specs.Summary.{Summary, verdict_by}
 use Rattle.dc_concentrator.specs.declared.fault.HearFault.TheVariants.{Full}

@@ -1,10 +1,10 @@
 -- Where the register has room for one reading of each meter of the queues, no telegram is refused for want of room (for
 -- the theorem of specs/Every).
-use Rattle.std.proofs.Common.{◌≡◌, ◌≢◌, ⊎_elim, inl, inr, ℕ, zero, suc, ◌+◌, ◌-◌, ◌<◌, ◌≤◌, Bool, true, false, not, Option, Some, None, Result, Ok, Err, List, [], ◌∷◌, ◌++◌, length, drop, get_or, map, arith, refl, sym, ◌∙◌, ap, subst, append_assoc, get_or-set_same, get_or-set_other, if◌then◌else◌}
-use Rattle.std.specs.Prelude.{◌==◌, ◌||◌, ◌&&◌, nat_le, nat_lt, is_some, sum, sum_by}
+use Rattle.std.proofs.Common.{◌≡◌, ◌≢◌, ⊎_elim, inl, inr, ℕ, ◌+◌, ◌-◌, ◌<◌, ◌≤◌, Bool, true, false, not, Option, Some, None, Result, Ok, Err, List, [], ◌∷◌, ◌++◌, length, drop, get_or, arith, refl, sym, ◌∙◌, ap, subst, append_assoc, get_or-set_same, get_or-set_other, if◌then◌else◌}
+use Rattle.std.specs.Prelude.{◌&&◌, nat_le, nat_lt, is_some, sum_by}
 use Rattle.std.specs.List.{AllByRecursion}
 use Rattle.std.proofs.Math.ListN.{set}
-use Rattle.std.proofs.lemmas.Bool.{and_right, cases_eq, cases_lt, eq-eqb, le-ltb, lt-leb, ne_eqb, or_from}
+use Rattle.std.proofs.lemmas.Bool.{and_right, cases_eq, eq-eqb, le-ltb, lt-leb, ne_eqb, or_from}
 use Rattle.std.proofs.lemmas.Bool.Decides.{nat_tests}
 use Rattle.std.proofs.lemmas.List.Sums.{sum_by-cons}
 use Rattle.std.specs.Ordering.{is_eq}
@@ -22,7 +22,6 @@ use Rattle.dc_change.specs.Size.{size_of}
 use Rattle.dc_change.specs.State.{State, MeterRow, PartRow, row_of}
 use Rattle.dc_change.specs.Valid.{end_of_numbers}
 use Rattle.dc_change.specs.declared.change.Change.{Change}
-use Rattle.dc_change.specs.declared.fault.ChangeFault.{ChangeFault}
 use Rattle.dc_change.specs.declared.fault.ChangeFault.TheVariants.{Full as RegisterFull, Unknown as RegisterUnknown}
 use Rattle.dc_change.proofs.History.{after_of_push}
 use Rattle.dc_pending.specs.Lines.{is_line, line_count, settled_on}
@@ -32,15 +31,15 @@ use Rattle.dc_concentrator.specs.declared.fault.HearFault.{HearFault}
 use Rattle.dc_concentrator.specs.declared.fault.HearFault.TheVariants.{Full, Idle, NoLine, NoMemory, PendingFull, Stopped}
 use Rattle.dc_concentrator.specs.declared.line_heard.LineHeard.{LineHeard}
 use Rattle.dc_concentrator.specs.Core.{Core, present, session_of, opened}
-use Rattle.dc_concentrator.specs.Event.{Event, Answer, starts, asks, hears, commits, offices, started, asked, heard, committed, replied}
+use Rattle.dc_concentrator.specs.Event.{Event, Answer, starts, asks, hears, commits, offices, started, asked, heard, committed}
 use Rattle.dc_concentrator.specs.Known.{IsForWantOfRoom}
-use Rattle.dc_concentrator.specs.Step.{May, MayHear, next, is_on, address_in, answer_on, hear_answer, judged, heard_on, settled_core, session_after, verdict_answer}
+use Rattle.dc_concentrator.specs.Step.{May, MayHear, next, is_on, address_in, answer_on, hear_answer, judged, heard_on, settled_core, session_after}
 use Rattle.dc_concentrator.specs.Transcript.{Turn, leads, IsChain}
 use Rattle.dc_concentrator.proofs.Followed.{none_is_unknown}
 use Rattle.dc_concentrator.proofs.Going.{leads_push}
 use Rattle.dc_concentrator.proofs.Registered.{row_of_same, row_of_other}
 use Rattle.dc_concentrator.proofs.Told.{chain_parts}
-use Rattle.dc_progress.specs.Beside.{IsElsewhere, IsNextPart, IsOfLines}
+use Rattle.dc_progress.specs.Beside.{IsNextPart, IsOfLines}
 use Rattle.dc_progress.proofs.Eight.{lines_are_kept}
 use Rattle.dc_progress.proofs.Others.{start_parts, heard_line, low_place, places_differ}
 use Rattle.dc_progress.proofs.Rounds.{get_settled}

@@ -1,6 +1,6 @@
 -- How much room in the register a readout needs yet, and what its next telegram leaves of that (for the theorem of
 -- specs/Every).
-use Rattle.std.proofs.Common.{◌≡◌, ℕ, zero, suc, ◌+◌, ◌≤◌, Bool, true, false, Option, Some, None, List, [], ◌∷◌, length, drop, arith, refl, sym, ◌∙◌, ap, subst, if◌then◌else◌}
+use Rattle.std.proofs.Common.{◌≡◌, ℕ, zero, suc, ◌+◌, ◌≤◌, Bool, true, false, Option, Some, None, List, [], ◌∷◌, length, drop, arith, refl, ◌∙◌, ap, subst, if◌then◌else◌}
 use Rattle.std.specs.Prelude.{sum_by}
 use Rattle.std.proofs.lemmas.List.Sums.{sum_by-cons}
 use Rattle.dc_address.specs.declared.identity.Identity.{Identity}
@@ -8,7 +8,7 @@ use Rattle.dc_record.specs.Body.{continues}
 use Rattle.dc_record.specs.Telegram.{Parsed}
 use Rattle.dc_readout.specs.declared.stage.Stage.{Stage}
 use Rattle.dc_readout.specs.declared.stage.Stage.TheVariants.{Resets, Selects, Requests, Pending, Ended}
-use Rattle.dc_readout.specs.Summary.{Summary, Verdict, again, ready, new, failed, after_command, asked_at, heard_by, settled_by, stage_settled}
+use Rattle.dc_readout.specs.Summary.{Summary, ready, new, after_command, asked_at, heard_by, stage_settled}
 use Rattle.dc_change.specs.Apply.{applied, heard as told_at}
 use Rattle.dc_change.specs.Size.{part_size, size_of}
 use Rattle.dc_change.specs.State.{State, MeterRow, PartRow, row_of}

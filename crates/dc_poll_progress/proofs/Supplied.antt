@@ -1,6 +1,6 @@
 -- A concentrator that has memory and a disk, and never too much pending: a telegram is refused for want of room in the
 -- register at most.
-use Rattle.std.specs.Prelude.{Ok, Err, List}
+use Rattle.std.specs.Prelude.{Err, List}
 use Rattle.std.specs.List.{AllByRecursion}
 use Rattle.dc_concentrator.specs.declared.fault.HearFault.TheVariants.{Full, NoMemory, PendingFull}
 use Rattle.dc_concentrator.specs.Event.{Answer, heard, committed}

@@ -1,6 +1,7 @@
 //! The theorems about a poll. The functions have no effect; their contracts state the theorems.
 
 ghost use Rattle.dc_poll_progress.specs.Every.{EveryMeterIsRead};
+ghost use Rattle.dc_poll_progress.specs.OneMeter.{HousesMayBePolled};
 ghost use Rattle.dc_poll_progress.specs.RoomRow.{RoomRowSuffices};
 ghost use Rattle.dc_poll_progress.specs.Talked.{ReadoutsOfAPollEnd};
 
@@ -33,4 +34,10 @@ pub fn every_meter_is_read<D: Disk + Drop, B: QuietBus + Drop, T: Timer<B>, N: T
 /// The reading of each takes no more than those that are held do on average, as that row counts.
 pub fn a_register_has_room_where_the_row_room_suffices<B: QuietBus>()
     ensures { RoomRowSuffices B.QuietBus }
+{}
+
+/// The premises of a poll on its meters and its register can be met, for each identity, each primary
+/// address or none, and each position of the meter.
+pub fn a_house_may_be_polled<B: QuietBus>()
+    ensures { HousesMayBePolled B.QuietBus }
 {}

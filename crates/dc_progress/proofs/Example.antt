@@ -18,7 +18,8 @@ use Rattle.dc_world.specs.Meter.{Meter, Position}
 use Rattle.dc_world.specs.Regular.{IsOwnOnly}
 use Rattle.dc_world.specs.World.{AreRegular, more_in, more_after, whole_readout}
 use Rattle.dc_change.specs.State.{State, MeterRow, row_of}
-use Rattle.dc_progress.specs.Needs.{IsOwnTelegram, MayBeMet, PremisesAreMet}
+use Rattle.dc_change.specs.Size.{size_of}
+use Rattle.dc_progress.specs.Needs.{IsOwnTelegram, IsThere, MayBeMet, PremisesAreMet, room_for}
 
 drop_past : (xs ys : List ℕ) (k : ℕ) → drop (length xs + k) (xs ++ ys) ≡ drop k ys
 drop_past [] ys k = let e : 0 + k ≡ k = omega arith in ap (λ (n : ℕ). drop n ys) e
@@ -81,19 +82,19 @@ module _ (identity : Identity) (address : Option ℕ) (position : Position) (own
   abbrev second : List ℕ
   second = body []
 
-  abbrev parts : List (List ℕ)
+  abbrev pub parts : List (List ℕ)
   parts = first ∷ second ∷ []
 
-  abbrev meter : Meter
+  abbrev pub meter : Meter
   meter = record { identity = identity; address = address; bodies = parts }
 
-  abbrev row : MeterRow
+  abbrev pub row : MeterRow
   row = record { line = 1; address = address; flat = 65 ∷ []; parts = [] }
 
-  abbrev state : State
+  abbrev pub state : State
   state = record { meters = (identity, row) ∷ []; readings = []; next_serial = 1; confirmed = 0; last_number = 0; last_line = [] }
 
-  registered : row_of identity state ≡ Some row
+  pub registered : row_of identity state ≡ Some row
   registered =
       let itself : is_at (identity_cmp identity) identity ≡ true = ap is_eq (equal_to_itself identity) in
       ap (λ (b : Bool). cond b (Some row) None) itself
@@ -129,6 +130,22 @@ module _ (identity : Identity) (address : Option ℕ) (position : Position) (own
   own_part : (end : List ℕ) (ending : Ending) → IsEnd end ending → IsOwnTelegram identity (body end)
   own_part end ending ends = record { telegram = telegram end ending; is_read = reads end ending ends; own = refl }
 
+  pub there : IsThere (meter ∷ []) (position ∷ []) 0 meter parts
+  there = record {
+    regular = regular;
+    counted = refl;
+    stands = refl;
+    whole = whole;
+    few = omega arith;
+    own = (own_part (0x1F ∷ []) (more []) refl, (own_part [] plain refl, tt));
+  }
+
+  pub room : size_of state + room_for row.flat parts ≤ 1000
+  room =
+      let one = length-append wire (behind (0x1F ∷ [])) in
+      let two = length-append wire (behind []) in
+      omega (arith, one, two, eight)
+
   pub met : MayBeMet identity address position
   met = record {
     state = state;
@@ -139,24 +156,8 @@ module _ (identity : Identity) (address : Option ℕ) (position : Position) (own
     whom = refl;
     two = refl;
     may = record {
-      begins = record {
-        there = record {
-          regular = regular;
-          counted = refl;
-          stands = refl;
-          whole = whole;
-          few = omega arith;
-          own = (own_part (0x1F ∷ []) (more []) refl, (own_part [] plain refl, tt));
-        };
-        lines = refl;
-        may_start = rw registered refl;
-        registered = registered;
-        address = refl;
-      };
-      room =
-          let one = length-append wire (behind (0x1F ∷ [])) in
-          let two = length-append wire (behind []) in
-          omega (arith, one, two, eight);
+      begins = record { there = there; lines = refl; may_start = rw registered refl; registered = registered; address = refl };
+      room = room;
       serial = omega arith;
     };
   }
