@@ -3,6 +3,7 @@
 ghost use Rattle.std.specs.Prelude.{◌≡◌, ◌≤◌, None};
 ghost use Rattle.dc_frame.specs.Reading.{frame_of};
 ghost use Rattle.dc_raw.specs.Pace.{IsNoMore, answer_wait, is_reset, limit_after};
+ghost use Rattle.dc_raw.specs.Pace.{pace_begun, pace_with};
 
 use dc_frame::control::{SELECTED, SND_NKE};
 use dc_frame::{Frame, parse};
@@ -67,6 +68,8 @@ impl Pace {
         ensures delay { self.new.delay ≡ self.old.delay }
         ensures byte { IsNoMore self.old.byte self.new.byte }
         ensures resets { self.new.resets ≡ is_reset (frame_of request.now) }
+        // It learns a byte's time from the answer that is over, and measures the next one.
+        ensures begun { self.new ≡ pace_begun request.now self.old }
     {
         if self.sure && self.came >= SHOWING {
             self.byte = Some(self.byte.unwrap_or(u64::MAX).min(self.least));
@@ -82,6 +85,8 @@ impl Pace {
     pub fn take(&mut self, spent: u64, bytes: &[u8])
         ensures delay { self.old.delay ≤ self.new.delay }
         ensures byte { self.new.byte ≡ self.old.byte }
+        // It learns the delay and the time of a byte from an answer that is measured.
+        ensures learned { self.new ≡ pace_with spent bytes.now self.old }
     {
         self.silent = false;
         if self.came == 0 {

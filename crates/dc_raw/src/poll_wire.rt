@@ -165,6 +165,7 @@ impl<R: Read + AsRawFd + Drop, W: Write + Drop, C: Clock + Drop> PollWire<R, W, 
     // The result where nothing has come for this long.
     fn nothing(&mut self, spent: u64) -> Result<Came, IoFault>
         requires { self.old.waits ≡ 0 → self.old.limit ≤ spent }
+        ensures waited { OnOk result (self.new.waited ≡ spent) }
         ensures fits { IfOk result (λ came. FitsRoom came 0) }
         ensures fewer { IfOk result (λ came. Wanes came
             (waits_of self.old.waits) (waits_of self.new.waits)) }
