@@ -7,6 +7,7 @@ mod fold;
 mod gateway;
 mod hostile;
 mod office;
+mod reaching;
 mod report;
 mod run;
 mod script_lines;
