@@ -1,12 +1,11 @@
 //! Refusals of the store, refused growths, and the texts of faults.
 
 use super::life::{
-    FIT, Life, accept, accept_all, calls_of_open, closed, compact, formatted, opened, read_as,
-    written,
+    FIT, Life, accept, accept_all, calls_of_open, closed, compact, format, formatted, open, opened,
+    read_as, written,
 };
 use dc_disk::MemoryDisk;
-use dc_log::{FormatFault, OpenFault, Store, StoreFault};
-use dc_register::House;
+use dc_log::{FormatFault, OpenFault, StoreFault};
 use refusing_alloc::Refusing;
 use std::alloc::{Allocator, Global};
 use std::process::Abort;
@@ -58,7 +57,7 @@ fn goes_on(rt: &impl Abort, heap: Global, disk: MemoryDisk<Global>) -> Result<()
 /// Why the disk isn't formatted, and whether a call of it was made or a write is unsynced.
 fn fault_of_format(disk: MemoryDisk<Global>) -> Result<(FormatFault, bool, bool), Fail> {
     let before = disk.calls();
-    match Store::format::<House<Global>>(disk) {
+    match format(disk) {
         Err((fault, disk)) => Ok((fault, disk.calls() > before, disk.pending()?.len() > 0)),
         Ok(_) => Err(Fail::from("it was formatted")),
     }
@@ -88,7 +87,7 @@ fn readings_of<A: Allocator + Copy>(
     alloc: A,
     disk: MemoryDisk<Global>,
 ) -> Result<usize, OpenFault> {
-    match Store::open::<House<A>>(alloc, disk) {
+    match open(alloc, disk) {
         Ok((_, house)) => Ok(house.readings().len()),
         Err((fault, _)) => Err(fault),
     }

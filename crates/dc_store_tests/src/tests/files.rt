@@ -1,5 +1,6 @@
 //! The store over a file: formatted once, written, compacted and opened again.
 
+use super::life::{self, open};
 use dc_change::{Change, encode_change};
 use dc_disk::FileDisk;
 use dc_io::Bytes;
@@ -19,14 +20,14 @@ struct OnFile {
 }
 
 fn format(rt: &HostRuntime, path: &str) -> Result<Result<(), FormatFault>, Fail> {
-    match Store::format::<House<Global>>(FileDisk::open(rt, path)?) {
+    match life::format(FileDisk::open(rt, path)?) {
         Ok(_) => Ok(Ok(())),
         Err((fault, _)) => Ok(Err(fault)),
     }
 }
 
 fn opened(rt: &HostRuntime, path: &str) -> Result<OnFile, Fail> {
-    match Store::open(rt.alloc(), FileDisk::open(rt, path)?) {
+    match open(rt.alloc(), FileDisk::open(rt, path)?) {
         Ok((store, house)) => Ok(OnFile { store, house }),
         Err((fault, _)) => Err(Fail::from(fault)),
     }

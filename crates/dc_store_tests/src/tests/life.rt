@@ -3,11 +3,11 @@
 ghost use Rattle.dc_change.specs.Valid.{IsChange};
 
 use dc_change::{Change, encode_change};
-use dc_disk::MemoryDisk;
+use dc_disk::{Disk, MemoryDisk};
 use dc_io::Bytes;
-use dc_log::{OpenFault, Store, StoreFault};
+use dc_log::{FormatFault, OpenFault, Store, StoreFault};
 use dc_register::House;
-use std::alloc::Global;
+use std::alloc::{Allocator, Global};
 use std::process::Abort;
 use std::test::Fail;
 
@@ -29,16 +29,32 @@ pub struct Found {
     pub readings: usize,
 }
 
+// Two calls of the store as they are. They have no contract: what a test needs it compares, and its proof doesn't go
+// through what the calls promise.
+
+/// [`Store::open`], of a house.
+pub fn open<D: Disk + Drop, A: Allocator + Copy>(
+    alloc: A,
+    disk: D,
+) -> Result<(Store<D>, House<A>), (OpenFault, D)> {
+    Store::open(alloc, disk)
+}
+
+/// [`Store::format`], for a house.
+pub fn format<D: Disk + Drop>(disk: D) -> Result<D, (FormatFault, D)> {
+    Store::format::<House<Global>>(disk)
+}
+
 /// A formatted disk of that many sectors.
 pub fn formatted(heap: Global, sectors: u32) -> Result<MemoryDisk<Global>, Fail> {
-    match Store::format::<House<Global>>(MemoryDisk::new(heap, sectors)?) {
+    match format(MemoryDisk::new(heap, sectors)?) {
         Ok(disk) => Ok(disk),
         Err((fault, _)) => Err(Fail::from(fault)),
     }
 }
 
 pub fn opened(heap: Global, disk: MemoryDisk<Global>) -> Result<Life, OpenFault> {
-    match Store::open(heap, disk) {
+    match open(heap, disk) {
         Ok((store, house)) => Ok(Life { store, house }),
         Err((fault, _)) => Err(fault),
     }

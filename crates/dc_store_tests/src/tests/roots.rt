@@ -1,10 +1,9 @@
 //! Roots with the last of each number.
 
-use super::life::{FIT, accept, closed, compact, formatted, opened, reopened, written};
+use super::life::{FIT, accept, closed, compact, formatted, open, opened, reopened, written};
 use super::sectors::{put, read, reads_alike};
 use dc_disk::{Disk, MemoryDisk};
-use dc_log::{OpenFault, Store, StoreFault};
-use dc_register::House;
+use dc_log::{OpenFault, StoreFault};
 use dc_roots::{Root, write_next};
 use std::alloc::Global;
 use std::process::Abort;
@@ -40,7 +39,7 @@ pub fn refusal(
     heap: Global,
     disk: MemoryDisk<Global>,
 ) -> Result<(OpenFault, MemoryDisk<Global>), Fail> {
-    match Store::open::<House<Global>>(heap, disk) {
+    match open(heap, disk) {
         Err(refused) => Ok(refused),
         Ok(_) => Err(Fail::from("it was opened")),
     }
