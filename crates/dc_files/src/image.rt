@@ -1,4 +1,4 @@
-//! Opens the file of an image. One program at a time may change it; several may look at it.
+//! Opens the file of an image. One program at a time may change it; others may look at it meanwhile.
 
 use libc::net::poll;
 use libc::types::rlimit;
@@ -9,7 +9,7 @@ use std::rt::Files;
 use std::{fs, io};
 
 // Number of times that a lock is tried before it is refused, and the milliseconds between them:
-// two seconds, so that a look at an image in passing stops nobody.
+// two seconds, so that a short command stops nobody.
 const TRIES: u32 = 100;
 
 const PAUSE: i32 = 20;
@@ -34,21 +34,21 @@ pub fn open_image<R: Files<File = File>>(rt: &R, name: &str) -> io::Result<File>
     Ok(file)
 }
 
-/// Opens the file to read, beside others that read it. Its first read goes to the drive.
+/// Opens the file to read, also while another program writes it.
 ///
 /// # Errors
-/// It is no regular file, it can't be opened, or another program has it open to write for two
-/// seconds.
+/// It is no regular file, or it can't be opened.
 pub fn open_to_look<R: Files<File = File>>(rt: &R, name: &str) -> io::Result<File> {
     let mut options = OpenOptions::new();
     options.read(true);
-    let file = open_regular(rt, &options, name)?;
-    lock_shared(&file)?;
-    // What a killed program has written and not synced would be read, and may be lost. If this
-    // sync fails, what the drive holds is read: that is what the next opening finds.
+    open_regular(rt, &options, name)
+}
+
+/// Makes what was written to the file durable, and lets its next read go to the drive. Where the sync fails, the drive
+/// lacks what was written, and that read shows it.
+pub fn read_anew(file: &File) {
     let _ = file.sync_data();
-    drop_cached(&file)?;
-    Ok(file)
+    let _ = drop_cached(file);
 }
 
 // Drops the file's pages from the system's cache, once they are synced. If a sync of an earlier
@@ -115,18 +115,8 @@ pub fn lock(file: &File) -> io::Result<()> {
     locked(file.try_lock())
 }
 
-// Takes a lock that others may share, while nobody holds the exclusive one.
-fn lock_shared(file: &File) -> io::Result<()> {
-    for _ in 0..TRIES {
-        match file.try_lock_shared() {
-            Err(TryLockError::WouldBlock) => wait(),
-            tried => return locked(tried),
-        }
-    }
-    locked(file.try_lock_shared())
-}
-
-fn wait() {
+/// Waits for the time between two tries.
+pub fn wait() {
     poll(&mut [], PAUSE);
 }
 

@@ -1,7 +1,7 @@
 //! The files of images, as the commands open and make them, and what failed on the way.
 //!
-//! [`open_image`] opens an image for one program that changes it, [`open_to_look`] for programs that
-//! look at it; their first read goes to the drive. [`format_image`] makes an image in a file of its
+//! [`open_image`] opens an image for one program that changes it; its first read goes to the drive. [`copy_image`] copies an
+//! image as it stands at one instant, also while a program changes it ([`Copied`]). [`format_image`] makes an image in a file of its
 //! own ([`HalfMade`]), which gets the name once it is whole; no file that holds anything but zeros is
 //! touched. [`hold`] gives each closed standard stream to `/dev/null`, so that no image gets its
 //! number.
@@ -12,6 +12,7 @@
 //! What a file holds and what a lock does is in no contract; the tests use real files.
 #![tactic(auto)]
 
+mod copied;
 mod format;
 mod half_made;
 mod host;
@@ -19,6 +20,7 @@ mod image;
 mod streams;
 mod why;
 
+pub use copied::{Copied, copy_image};
 pub use format::format_image;
 pub use half_made::{HalfMade, is_same_file};
 pub use host::Host;

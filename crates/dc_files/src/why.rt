@@ -3,6 +3,7 @@
 ghost use Rattle.std.specs.Prelude.{◌≡◌};
 ghost use Rattle.dc_ending.specs.Outcome.{IsOfFile};
 
+use crate::image::read_anew;
 use dc_ending::Ending;
 use libc::EIO;
 use std::cell::Cell;
@@ -132,6 +133,11 @@ impl<'w, T: Drop> Noted<'w, T> {
 
 // The calls of a disk.
 impl Noted<'_, File> {
+    /// Makes what was written durable, and lets the next read go to the drive.
+    pub(crate) fn read_anew(&self) {
+        read_anew(&self.inner);
+    }
+
     fn noted<V: Drop>(&self, answer: io::Result<V>) -> io::Result<V> {
         if let Err(error) = answer {
             self.why.note_disk(None, error);

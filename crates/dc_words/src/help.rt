@@ -157,10 +157,9 @@ pub const REPORT: &str = "Example:
 Printed of the register: flat,meter,medium,line,address,open; of a date the
   values that are dated by it: flat,meter,serial,storage,function,tariff,
   subunit,value,unit. With --json an object a row
-The image is opened as by run, so its next session is written.
+Nothing is written, and the image may be open in another mbdc.
 Faults: mbdc: open: 1 NotImage, 2 Damaged sector, 3 Version, 4 Worn, 5 Device;
-  mbdc: memory; mbdc: file: IMAGE where the file can't be opened or is open in
-  another mbdc";
+  mbdc: memory; mbdc: file: IMAGE where the file can't be opened";
 
 /// Of `values`.
 pub const VALUES: &str = "Example:
@@ -171,10 +170,10 @@ Printed, for each registered meter by flat: METER flat ident medium, and NONE
   last one; STATUS hex words, the status byte that it sent; and VALUE tariff
   subunit value unit for each of its current values. With --json an object a
   meter
-A reading that the office has confirmed isn't held any more. Nothing is written.
+A reading that the office has confirmed isn't held any more. Nothing is written,
+and the image may be open in another mbdc.
 Faults: mbdc: open: 1 NotImage, 2 Damaged sector, 3 Version, 4 Worn, 5 Device;
-  mbdc: memory; mbdc: file: IMAGE where the file can't be opened or is open in
-  another mbdc";
+  mbdc: memory; mbdc: file: IMAGE where the file can't be opened";
 
 /// Of `status`.
 pub const STATUS: &str = "Example:
@@ -186,7 +185,7 @@ Printed, for each registered meter by flat: METER flat ident, the minute (UTC)
   last reading in words. Then SIZE bytes most; DAYS n: in n days the image is
   full at this pace; ROOM n: n more readings fit
 A meter of which nothing is held is silent as long as the office has confirmed
-no reading. Nothing is written.
+no reading. Nothing is written, and the image may be open in another mbdc.
 Status: 0 no meter is silent, 1 one is, 3 the image, 4 a file or memory.";
 
 /// Of `fit`.
@@ -216,11 +215,10 @@ Printed, a fact a line: DISK sectors; ROOT slot version generation session half,
   state VERSION, HALF, GROUPS, SECTORS used free, SIZE bytes most, METERS,
   READINGS n first last, MARK serial, COMMAND n; and REFUSED n Name [sector] of
   one that doesn't open.
-Nothing is written, not even the next session. While a command has the image
-open, inspect doesn't read it.
+Nothing is written, not even the next session. The image may be open in another
+mbdc.
 Faults: mbdc: open: 1 NotImage, 2 Damaged sector, 3 Version, 4 Worn, 5 Device;
-  mbdc: memory; mbdc: file: IMAGE where the file can't be opened or is open in
-  another mbdc";
+  mbdc: memory; mbdc: file: IMAGE where the file can't be opened";
 
 /// Of `demo`.
 pub const DEMO: &str = "Example:

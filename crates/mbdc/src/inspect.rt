@@ -4,7 +4,7 @@ use crate::clock;
 use crate::tasks::{ROOM, flushed};
 use dc_disk::FileDisk;
 use dc_ending::{Ending, ProgramFault, STREAM, ending_of};
-use dc_files::{Host, Noted, open_to_look};
+use dc_files::{Host, Noted, copy_image};
 use dc_inspect::{StatusForm, ValuesForm, inspect, show_status, show_values};
 use dc_io::{Buffered, WriteSink};
 use dc_log::OpenFault;
@@ -24,16 +24,16 @@ pub enum Look {
     Status(StatusForm, dc_status::Clock),
 }
 
-/// Prints what is asked for of the image in that file. The file is opened read-only, and nobody writes it meanwhile.
+/// Prints what is asked for of the image in that file, as it stands at one instant; another program may write it.
 pub fn look_into<'a, R>(host: &Host<'_, R>, look: Look, image: &'a str) -> Ending<'a>
 where
     R: Files<File = File> + Print + AllocGlobal,
 {
-    let file = match open_to_look(host.rt, image) {
-        Ok(file) => file,
-        Err(error) => return host.why.file(image, error),
+    let copy = match copy_image(host, image) {
+        Ok(copy) => copy,
+        Err(ending) => return ending,
     };
-    let mut disk = match FileDisk::new(Noted::look(file, host.why)) {
+    let mut disk = match FileDisk::new(copy) {
         Ok(disk) => disk,
         Err(error) => return host.why.file(image, error),
     };

@@ -3,9 +3,10 @@
 use crate::tasks::{ROOM, flushed};
 use dc_disk::FileDisk;
 use dc_ending::{Ending, ProgramFault, ending_of};
-use dc_files::{Host, Noted, open_image};
+use dc_files::{Host, Noted, copy_image};
 use dc_inspect::{Form, Report, report_on};
 use dc_io::{Buffered, WriteSink};
+use dc_log::OpenFault;
 use std::fs::{File, OpenFile};
 use std::io;
 use std::os::unix::fs::FileExt;
@@ -15,7 +16,8 @@ use std::rt::Files;
 const NO_TABLE: &str =
     "TABLE is neither 'register' nor a date that exists, as 2024-12-31; try mbdc --help";
 
-/// Prints the table that the word names, of the image in that file.
+/// Prints the table that the word names, of the image in that file, as it stands at one instant. The image is opened in
+/// memory, so the file isn't written.
 pub fn report_on_image<'a, R>(
     host: &Host<'_, R>,
     image: &'a str,
@@ -28,12 +30,16 @@ where
     let Some(report) = Report::parse(table.as_bytes()) else {
         return Ending::Words(NO_TABLE);
     };
-    let file = match open_image(host.rt, image) {
-        Ok(file) => file,
-        Err(error) => return host.why.file(image, error),
+    let copy = match copy_image(host, image) {
+        Ok(copy) => copy,
+        Err(ending) => return ending,
     };
+    // Opening takes a sector that can't be read for a write that a power cut stopped, and it may be one that was synced.
+    if host.why.has_unreadable() {
+        return Ending::Open(OpenFault::Device);
+    }
     let form = if is_json { Form::Json } else { Form::Csv };
-    match FileDisk::new(Noted::new(file, host.why)) {
+    match FileDisk::new(copy) {
         Ok(disk) => ending_of(work(host, disk, report, form), image),
         Err(error) => host.why.file(image, error),
     }

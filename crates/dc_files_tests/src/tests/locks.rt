@@ -1,8 +1,9 @@
-//! One program at a time may change an image; several may look at it.
+//! One program at a time may change an image; others may look at it meanwhile.
 
 use crate::tests::places::{format, place};
+use dc_disk::{Disk, FileDisk};
 use dc_ending::Ending;
-use dc_files::{open_image, open_to_look};
+use dc_files::{Host, Why, copy_image, open_image, open_to_look};
 use std::fs;
 use std::test::Fail;
 
@@ -12,15 +13,50 @@ fn an_open_image_is_locked(rt: HostRuntime) -> Result<(), Fail> {
     assert!(rt; matches!(format(&rt, path.as_str(), 131), Ending::Clean));
     let file = open_image(&rt, path.as_str())?;
     assert!(rt; open_image(&rt, path.as_str()).is_err());
-    assert!(rt; open_to_look(&rt, path.as_str()).is_err());
+    drop(open_to_look(&rt, path.as_str())?);
     drop(file);
     let one = open_to_look(&rt, path.as_str())?;
-    let other = open_to_look(&rt, path.as_str())?;
-    assert!(rt; open_image(&rt, path.as_str()).is_err());
+    drop(open_image(&rt, path.as_str())?);
     drop(one);
-    drop(other);
-    assert!(rt; open_image(&rt, path.as_str()).is_ok());
     Ok(fs::remove_file(&rt, path.as_str())?)
+}
+
+#[test]
+fn an_image_is_copied_while_it_is_locked(rt: HostRuntime) -> Result<(), Fail> {
+    let path = place(&rt, "copied")?;
+    assert!(rt; matches!(format(&rt, path.as_str(), 131), Ending::Clean));
+    let file = open_image(&rt, path.as_str())?;
+    let why = Why::new();
+    let host = Host {
+        rt: &rt,
+        why: &why,
+        is_watched: false,
+    };
+    let Ok(copy) = copy_image(&host, path.as_str()) else {
+        return Err(Fail::from("no copy"));
+    };
+    let mut disk = FileDisk::new(copy)?;
+    assert_eq!(rt; disk.count(), 131);
+    let root = disk.read(2)?;
+    assert_eq!(rt; &root[..4], b"MBDC".as_slice());
+    disk.write(2, &[7; 512])?;
+    disk.sync()?;
+    assert_eq!(rt; disk.read(2)?, [7; 512]);
+    let mut own = FileDisk::new(file)?;
+    assert_eq!(rt; own.read(2)?, root);
+    drop(own);
+    Ok(fs::remove_file(&rt, path.as_str())?)
+}
+
+#[test]
+fn no_image_is_copied_from_a_folder(rt: HostRuntime) {
+    let why = Why::new();
+    let host = Host {
+        rt: &rt,
+        why: &why,
+        is_watched: false,
+    };
+    assert!(rt; matches!(copy_image(&host, "/"), Err(Ending::File("/"))));
 }
 
 #[test]
