@@ -12,3 +12,5 @@ pub mod Look
 pub mod Table
 -- what `status` prints of an image
 pub mod Status
+-- the register of an image
+pub mod Register

@@ -62,7 +62,7 @@ fn refusal_of(fault: OpenFault) -> Result<OpenFault, ProgramFault>
 }
 
 // Why an image that reads doesn't open, if it doesn't.
-fn wear_of(root: &Root, last: u64) -> Option<OpenFault>
+pub(crate) fn wear_of(root: &Root, last: u64) -> Option<OpenFault>
     ensures { IsWearOf root.now last result }
 {
     if is_spent(root, last) {

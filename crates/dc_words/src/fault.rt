@@ -48,6 +48,8 @@ pub enum WordsFault {
     Boundaries,
     /// A word that has to be a time of silence isn't.
     Silence,
+    /// `-` for a file that can't be standard input.
+    Dash,
     /// Out of memory.
     NoMemory,
 }

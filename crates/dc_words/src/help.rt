@@ -236,8 +236,9 @@ pub const POLL: &str = "Example:
 
 Each line's meters are read one after the other, in order of identity, all lines
 at once; those that failed are read again after the line's others. Telegrams are
-committed to the image before the next ones are requested. Printed as each
-readout ends:
+committed to the image before the next ones are requested. --only takes a number
+alone, as 12345678, where one registered meter has it. Printed as each readout
+ends:
   READ ident serial parts  a whole reading, its serial and its number of parts
   FAILED ident n Name      the last try failed, and why, as in run
   REFUSED ident n Name     the register or the disk refused it

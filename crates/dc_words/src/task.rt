@@ -4,6 +4,7 @@ use crate::link::LinkName;
 use crate::links::Links;
 use dc_address::{Identity, Primary};
 use dc_consumption_table::Boundaries;
+use dc_named::Named;
 use std::alloc::Global;
 
 /// How the frames of an input are printed.
@@ -80,7 +81,7 @@ pub struct PollTask<'a> {
     /// The links of the bus lines.
     pub links: Links<'a>,
     /// The meters to read; if empty, all of the connected lines.
-    pub only: Vec<Identity>,
+    pub only: Vec<Named>,
     /// Maximum number of times that a readout is begun.
     pub tries: u8,
     /// Whether its events are printed as JSON Lines.

@@ -7,13 +7,17 @@ use crate::links::Links;
 use crate::silence::silence_of;
 use crate::task::{Call, Engine, Form, MeterName, PollTask, RunTask, Scan, StatusForm, Task};
 use clap::{Arg, ArgAction, ArgMatches, Command, value_parser};
-use dc_address::{Identity, Primary};
+use dc_address::Primary;
 use dc_change::parse_number;
 use dc_consumption_table::Boundaries;
+use dc_named::{Named, identity_of};
 use std::alloc::{AllocError, Global};
 
 // The least and the greatest number of sectors: what the file of the largest image holds.
 const SECTORS: (i64, i64) = (131, 131_075);
+
+// The word for standard input.
+const DASH: &str = "-";
 
 // The place in help of an option that each command has: after its own.
 const LAST: usize = 90;
@@ -72,7 +76,7 @@ fn trace_arg<'a>(alloc: Global) -> Arg<'a> {
 fn only_arg<'a>(alloc: Global) -> Arg<'a> {
     option_arg(alloc, "ONLY", "only", "IDENT")
         .action(ArgAction::Append)
-        .help("Reads this meter alone; may be given several times")
+        .help("Reads this meter alone, by identity or number; may be given several times")
 }
 
 fn tries_arg<'a>(alloc: Global) -> Arg<'a> {
@@ -378,19 +382,35 @@ fn task_of<'a>(alloc: Global, matches: &ArgMatches<'a>) -> Result<Task<'a>, Word
     match name {
         "decode" => Ok(Task::Lines {
             engine: decoder_of(inner),
-            file: inner.get_str("FILE"),
+            file: input_of(inner),
         }),
         "fold" => Ok(Task::Lines {
             engine: Engine::Fold,
-            file: inner.get_str("FILE"),
+            file: input_of(inner),
         }),
         "consumption" => Ok(Task::Consumption {
-            file: inner.get_str("FILE").unwrap_or_default(),
+            file: file_of(inner, "FILE")?,
             boundaries: boundaries_of(alloc, inner.get_str("BOUNDARIES").unwrap_or_default())?,
         }),
         "demo" => Ok(Task::Demo),
         "scan" | "read" | "address" => bus_task(name, inner),
         _ => image_task(alloc, name, inner),
+    }
+}
+
+// The file of lines; - and no word are standard input.
+fn input_of<'a>(inner: &ArgMatches<'a>) -> Option<&'a str> {
+    match inner.get_str("FILE") {
+        Some(DASH) => None,
+        file => file,
+    }
+}
+
+// The name of a file that can't be standard input.
+fn file_of<'a>(inner: &ArgMatches<'a>, id: &str) -> Result<&'a str, WordsFault> {
+    match inner.get_str(id) {
+        Some(DASH) => Err(WordsFault::Dash),
+        file => Ok(file.unwrap_or_default()),
     }
 }
 
@@ -454,7 +474,7 @@ fn image_task<'a>(
     name: &str,
     inner: &ArgMatches<'a>,
 ) -> Result<Task<'a>, WordsFault> {
-    let image = inner.get_str("IMAGE").unwrap_or_default();
+    let image = file_of(inner, "IMAGE")?;
     match name {
         "format" => Ok(Task::Format {
             image,
@@ -473,7 +493,7 @@ fn image_task<'a>(
         "status" => status_task(image, inner),
         "fit" => Ok(Task::Fit {
             image,
-            list: inner.get_str("LIST").unwrap_or_default(),
+            list: file_of(inner, "LIST")?,
         }),
         "run" => run_task(image, inner),
         _ => poll_task(alloc, image, inner),
@@ -508,7 +528,7 @@ fn run_task<'a>(image: &'a str, inner: &ArgMatches<'a>) -> Result<Task<'a>, Word
     }
     Ok(Task::Run(RunTask {
         image,
-        script: inner.get_str("SCRIPT").unwrap_or_default(),
+        script: file_of(inner, "SCRIPT")?,
         gateway,
         links,
         patience: patience_of(inner),
@@ -522,8 +542,7 @@ fn poll_task<'a>(
 ) -> Result<Task<'a>, WordsFault> {
     let mut only = Vec::new(alloc);
     for word in inner.get_strs("ONLY").unwrap_or_default() {
-        let meter = Identity::parse_text(word.as_bytes()).map_err(|_| WordsFault::Meter)?;
-        only.push(meter)?;
+        only.push(Named::parse(word.as_bytes()).ok_or(WordsFault::Meter)?)?;
     }
     let links = links_of(inner)?;
     if links.is_empty() {
@@ -556,7 +575,7 @@ fn patience_of(inner: &ArgMatches<'_>) -> u16 {
 fn meter_of(word: &str) -> Option<MeterName> {
     match word.parse::<u8>() {
         Ok(number) => Some(MeterName::Primary(Primary::new(number)?)),
-        Err(_) => Some(MeterName::Identity(Identity::parse_text(word.as_bytes()).ok()?)),
+        Err(_) => Some(MeterName::Identity(identity_of(word.as_bytes())?)),
     }
 }
 

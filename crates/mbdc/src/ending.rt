@@ -22,7 +22,7 @@ use std::process::ExitCode;
 
 // A word that has to name a meter doesn't.
 const NO_METER: &str =
-    "a meter is its identity, as 12345678.PAD.01.07, or for read a primary address, 1 to 250";
+    "a meter is its identity, as 12345678.PAD.01.07, or for --only its number, for read a primary address, 1 to 250";
 
 // A word that has to be boundaries of periods isn't.
 const NO_BOUNDARIES: &str =
@@ -31,6 +31,9 @@ const NO_BOUNDARIES: &str =
 // A word that has to be a time of silence isn't.
 const NO_SILENCE: &str =
     "--silent takes days, as 2 or 2d, from 1 to 366, or hours, as 12h; try mbdc status --help";
+
+// Standard input for a file that is read as a whole, or that is written.
+const NO_DASH: &str = "- is standard input for decode and fold alone; a file of that name is ./-";
 
 // No bus is connected.
 const NO_LINK: &str = "no bus line has a link; try mbdc poll --help";
@@ -166,6 +169,7 @@ pub fn told_words(rt: &HostRuntime, fault: &WordsFault, words: &[String]) -> Exi
         WordsFault::NoLink => told(rt, &Ending::Words(NO_LINK)),
         WordsFault::Boundaries => told(rt, &Ending::Words(NO_BOUNDARIES)),
         WordsFault::Silence => told(rt, &Ending::Words(NO_SILENCE)),
+        WordsFault::Dash => told(rt, &Ending::Words(NO_DASH)),
     }
 }
 

@@ -11,6 +11,8 @@ mod ending;
 mod fit;
 mod inspect;
 mod loose;
+mod names;
+mod pointing;
 mod poll;
 mod report;
 mod script;

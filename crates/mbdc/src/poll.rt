@@ -3,7 +3,9 @@
 ghost use Rattle.std.specs.Prelude.{◌<◌};
 
 use crate::connecting::{reached, released};
+use crate::names::meters_of;
 use crate::tracing::{Book, LineTrace, book_of, trace_of};
+use dc_address::Identity;
 use dc_bus::QuietBus;
 use dc_change::Moment;
 use dc_disk::FileDisk;
@@ -103,9 +105,13 @@ where
         Ok(file) => file,
         Err(error) => return host.why.file(task.image, error),
     };
-    let disk = match FileDisk::new(Noted::new(file, host.why)) {
+    let mut disk = match FileDisk::new(Noted::new(file, host.why)) {
         Ok(disk) => disk,
         Err(error) => return host.why.file(task.image, error),
+    };
+    let only = match meters_of(host, &mut disk, task.only.as_slice(), task.image) {
+        Ok(only) => only,
+        Err(ending) => return ending,
     };
     let book = match book_of(host, task.trace) {
         Ok(book) => book,
@@ -115,7 +121,7 @@ where
         Ok(peers) => peers,
         Err(ending) => return ending,
     };
-    let ending = poll_over(host, disk, peers.as_slice(), book.as_ref(), task);
+    let ending = poll_over(host, disk, peers.as_slice(), book.as_ref(), only.as_slice(), task);
     released(host, peers.as_slice());
     ending
 }
@@ -126,6 +132,7 @@ fn poll_over<'a, D, R>(
     disk: FileDisk<D>,
     peers: &[Option<Peer<R>>],
     book: Option<&Book<'_, R>>,
+    only: &[Identity],
     task: &PollTask<'a>,
 ) -> Ending<'a>
 where
@@ -138,7 +145,7 @@ where
     };
     let plan = Plan {
         buses,
-        only: task.only.as_slice(),
+        only,
         tries: task.tries.max(1),
     };
     match poll(host, disk, plan, task.is_json) {

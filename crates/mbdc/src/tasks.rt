@@ -5,6 +5,7 @@ use crate::consumption::consumption_of_file;
 use crate::fit::fit_on_image;
 use crate::inspect::{Look, look_into, tell_status};
 use crate::loose::decode_pasted;
+use crate::pointing::Pointed;
 use crate::poll::poll_on_image;
 use crate::report::report_on_image;
 use crate::script::run_on_image;
@@ -111,7 +112,12 @@ fn work_on<'a, R: Print + Eprint + AllocGlobal, F: Read + Drop>(
     file: F,
     name: &'a str,
 ) -> Ending<'a> {
-    let mut reader = ReadSource::new(Noted::new(file, host.why));
+    let noted = Noted::new(file, host.why);
+    if host.is_watched && matches!(engine, Engine::Decode(_)) {
+        let mut reader = ReadSource::new(Pointed::new(noted, host.rt));
+        return ended(host.why, work(host, engine, &mut reader), name);
+    }
+    let mut reader = ReadSource::new(noted);
     ended(host.why, work(host, engine, &mut reader), name)
 }
 

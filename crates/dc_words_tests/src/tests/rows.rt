@@ -14,6 +14,7 @@ const LINES: Rows = &[
     ("decode frames.txt", "decode text frames.txt"),
     ("decode --json", "decode json from standard input"),
     ("decode --explain frames.txt", "decode table frames.txt"),
+    ("decode -", "decode text from standard input"),
     ("decode --json --explain", "refused"),
     ("decode --loose", "decode loose text from standard input"),
     (
@@ -26,7 +27,9 @@ const LINES: Rows = &[
     ),
     ("decode one two", "refused"),
     ("fold lines.txt", "fold lines.txt"),
+    ("fold -", "fold from standard input"),
     ("fold", "refused"),
+    ("consumption - 0,100", "refused Dash"),
     (
         "consumption entries.csv 0,100,999999999999999999",
         "consumption entries.csv [0, 100, 999999999999999999]",
@@ -107,7 +110,10 @@ const IMAGES: Rows = &[
     ("status house.image --json --prometheus", "refused"),
     ("status", "refused"),
     ("fit house.image meters.csv", "fit house.image meters.csv"),
+    ("fit house.image -", "refused Dash"),
     ("fit house.image", "refused"),
+    ("values -", "refused Dash"),
+    ("format - 131", "refused Dash"),
     ("inspect house.image", "inspect house.image"),
     (
         "--verbose inspect house.image",
@@ -138,6 +144,7 @@ const RUNS: Rows = &[
         "refused Twice",
     ),
     ("run house.image", "refused"),
+    ("run house.image -", "refused Dash"),
 ];
 
 const POLLS: Rows = &[
@@ -161,7 +168,23 @@ const POLLS: Rows = &[
         "poll house.image 1=tcp(a:1) tries 2 patience 2000 trace t.txt",
     ),
     (
-        "poll house.image --line 1=tcp://a:1 --only 12345678",
+        "poll house.image --line 1=tcp://a:1 --only 12345678 --only 00000001 --only 12345678.pad.0a.0F",
+        "poll house.image 1=tcp(a:1) only number 12345678 only number 00000001 only 12345678.PAD.0A.0F tries 2 patience 2000",
+    ),
+    (
+        "poll house.image --line 1=tcp://a:1 --only 1234567",
+        "refused Meter",
+    ),
+    (
+        "poll house.image --line 1=tcp://a:1 --only 123456789",
+        "refused Meter",
+    ),
+    (
+        "poll house.image --line 1=tcp://a:1 --only 1234567A",
+        "refused Meter",
+    ),
+    (
+        "poll house.image --line 1=tcp://a:1 --only 12345678.PAD.01.07.",
         "refused Meter",
     ),
     ("poll house.image --line 1=tcp://a:1 --tries 0", "refused"),
@@ -221,6 +244,11 @@ const BUSES: Rows = &[
         "read blocks://a:1 12345678.PAD.01.07 --patience 3000",
         "read blocks(a:1) 12345678.PAD.01.07 patience 3000",
     ),
+    (
+        "read tcp://a:1 12345678.pad.0a.07",
+        "read tcp(a:1) 12345678.PAD.0A.07 patience 2000",
+    ),
+    ("read tcp://a:1 12345678", "refused Meter"),
     (
         "read tcp://a:1 250",
         "read tcp(a:1) address 250 patience 2000",

@@ -1,7 +1,7 @@
 //! A task as a line of text: the command, and then each field that it has.
 
 use clap::error::ErrorKind;
-use dc_address::Identity;
+use dc_named::Named;
 use dc_words::{
     Call, Engine, Form, LinkName, Links, MeterName, PollTask, RunTask, Scan, StatusForm, Task,
     WordsFault,
@@ -34,6 +34,7 @@ pub fn fault_text(alloc: Global, fault: &WordsFault) -> Result<String, AllocErro
         WordsFault::NoLink => String::from_str(alloc, "refused NoLink"),
         WordsFault::Boundaries => String::from_str(alloc, "refused Boundaries"),
         WordsFault::Silence => String::from_str(alloc, "refused Silence"),
+        WordsFault::Dash => String::from_str(alloc, "refused Dash"),
         WordsFault::NoMemory => String::from_str(alloc, "memory"),
     }
 }
@@ -166,14 +167,24 @@ fn json_text(is_json: bool) -> &'static str {
     if is_json { " json" } else { "" }
 }
 
-fn only_text(alloc: Global, only: &[Identity]) -> Result<String, AllocError> {
+fn only_text(alloc: Global, only: &[Named]) -> Result<String, AllocError> {
     let mut text = String::new(alloc);
-    for meter in only {
-        let meter = meter_text(alloc, MeterName::Identity(*meter))?;
+    for name in only {
+        let name = name_text(alloc, *name)?;
         text.push_str(" only ")?;
-        text.push_str(meter.as_str())?;
+        text.push_str(name.as_str())?;
     }
     Ok(text)
+}
+
+fn name_text(alloc: Global, name: Named) -> Result<String, AllocError> {
+    match name {
+        Named::Identity(meter) => meter_text(alloc, MeterName::Identity(meter)),
+        Named::Number(digits) => {
+            let digits = str::from_utf8(&digits).unwrap_or("?");
+            format!(in alloc; "number {digits}")
+        }
+    }
 }
 
 fn links_text(alloc: Global, links: &Links<'_>) -> Result<String, AllocError> {
