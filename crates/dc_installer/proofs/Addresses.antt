@@ -8,7 +8,8 @@ use Rattle.dc_frame.specs.Control.{request_to, reset_to}
 use Rattle.dc_frame.specs.Frame.{spelling}
 use Rattle.dc_frame.specs.Reading.{frame_of}
 use Rattle.dc_search.specs.Answer.{answer_of}
-use Rattle.dc_installer.specs.Scan.{Acknowledges, AsksOne, Identifies, address_line, answers, is_ack, is_silent, prints, prints_none, requests, resets}
+use Rattle.dc_installer.specs.Scan.{Acknowledges, AsksNext, AsksOne, Identifies, address_line, answers, is_ack, is_named, is_silent, prints, requests, resets}
+use Rattle.dc_installer.specs.declared.primary.Acknowledgement.TheVariants.{Certain}
 
 module _ {B : Type 0} (asks : B → List ℕ → List ℕ → B → Type 0) where
   -- what a reset comes to
@@ -44,18 +45,28 @@ module _ {B : Type 0} (asks : B → List ℕ → List ℕ → B → Type 0) wher
       (resets address reset.0 ∷ requests address request.0 ∷ [], all, subst P (sym request.2) (answers is))
 
 module _ {B : Type 0} (asks : B → List ℕ → List ℕ → B → Type 0) (settles : B → B → Type 0) (ready : B → Bool) where
-  -- the address isn't printed
-  pub unprinted : (old new : B) (address : ℕ) (acked : Bool) → Acknowledges asks settles ready address old acked new → acked ≡ false
-      → AsksOne asks settles ready address old [] new
-  unprinted old new address acked came not = prints_none (subst (λ (a : Bool). Acknowledges asks settles ready address old a new) not came) refl
-
   -- the address is printed, with the meter that its telegram names
-  pub printed : (old mid new : B) (address : ℕ) (acked : Bool) (meter : Option Identity) → Acknowledges asks settles ready address old acked mid
-      → acked ≡ true → IsRequested asks mid new address meter
+  pub printed : (old mid new : B) (address : ℕ) (meter : Option Identity) → Acknowledges asks settles ready address old Certain mid
+      → IsRequested asks mid new address meter
       → AsksOne asks settles ready address old (address_line address meter) new
-  printed old mid new address acked meter came is_acked request =
-      prints mid request.0 (subst (λ (a : Bool). Acknowledges asks settles ready address old a mid) is_acked came) request.1
-      (ap (address_line address) request.2)
+  printed old mid new address meter acked request =
+      let P : Option Identity → Type 0 = λ m. AsksOne asks settles ready address old (address_line address m) new in
+      subst P (sym request.2) (prints request.0 acked request.1)
+
+  -- the same, with the addresses in doubt
+  pub named : (old mid new : B) (address count : ℕ) (meter : Option Identity) → Acknowledges asks settles ready address old Certain mid
+      → IsRequested asks mid new address meter
+      → AsksNext asks settles ready address count old (address_line address meter) 0 new
+  named old mid new address count meter acked request =
+      let P : Option Identity → Type 0 = λ m. AsksNext asks settles ready address count old (address_line address m) 0 new in
+      subst P (sym request.2) (is_named request.0 acked request.1)
+
+-- some addresses are the first of them and the ones after it
+pub first_of_range : (first count : ℕ) → 1 ≤ count → range_with_len first count ≡ first ∷ range_with_len (first + 1) (count - 1)
+first_of_range first zero some = elim some [ ]
+first_of_range first (suc count) some =
+    let fewer : count ≡ suc count - 1 = omega arith in
+    subst (λ (n : ℕ). range_with_len first (suc count) ≡ first ∷ range_with_len (first + 1) n) fewer refl
 
 -- the last this many addresses are the first of them and the ones after it
 pub last_addresses : (left : ℕ) → 1 ≤ left → left ≤ 250

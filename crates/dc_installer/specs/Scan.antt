@@ -1,6 +1,7 @@
 -- The search for meters on a bus, without an image (EN 13757-3, wildcards; EN 13757-2, primary addresses).
-use Rattle.std.specs.Prelude.{◌≡◌, ℕ, ◌-◌, ◌≤◌, Bool, true, false, ◌&&◌, ◌==◌, if◌then◌else◌}
+use Rattle.std.specs.Prelude.{◌≡◌, ℕ, ◌+◌, ◌-◌, ◌≤◌, min, Bool, true, false, ◌&&◌, ◌==◌, if◌then◌else◌}
 use Rattle.std.specs.Prelude.{IsTrue, List, [], ◌∷◌, ◌++◌, codes, Option, None, Some, IfSome, length}
+use Rattle.std.specs.List.{range_with_len}
 use Rattle.dc_address.specs.Text.{text_of}
 use Rattle.dc_address.specs.declared.identity.Identity.{Identity}
 use Rattle.dc_bus.specs.Bus.{AreExchanged, Exchange, IsSearched}
@@ -12,6 +13,9 @@ use Rattle.dc_search.specs.Found.{search_text, search_text_after}
 use Rattle.dc_search.specs.Answer.{answer_of}
 use Rattle.dc_search.specs.State.{SearchState, is_idle, step_of}
 use Rattle.dc_io.specs.Words.{number_word}
+use Rattle.dc_installer.specs.declared.primary.Acknowledgement.{Acknowledgement}
+use Rattle.dc_installer.specs.declared.primary.Acknowledgement.TheVariants.{Certain, Late}
+use Rattle.dc_installer.specs.declared.primary.Acknowledgement.TheVariants.{Missing}
 use Rattle.dc_installer.specs.declared.wildcards.Count.{Count}
 
 -- A wildcard search that ended within its budget, on a bus that settled before it.
@@ -101,30 +105,43 @@ abbrev pub AreIdentified : {B : Type 0} → (B → List ℕ → List ℕ → B �
 AreIdentified asks address old meter new = (exchanges : List Exchange)
     × AreExchanged asks old exchanges new × Identifies address exchanges meter
 
--- Whether an address acknowledges a reset while no answer is under way: where one was, and an
--- acknowledgement came, the bus settles, and it is asked again.
+-- WHETHER AN ADDRESS ACKNOWLEDGES a reset: in time, where no answer was under way; or again, once the bus
+-- settled. An acknowledgement that doesn't come again was a late one, of an address before.
 pub data Acknowledges {B : Type 0} (asks : B → List ℕ → List ℕ → B → Type 0)
-    (settles : B → B → Type 0) (ready : B → Bool) (address : ℕ) (old : B) (acked : Bool)
-    (new : B) : Type 0 where
-  at_once : (answer : List ℕ) → asks old (spelling (reset_to address)) answer new
-      → acked ≡ is_ack (frame_of answer) → (acked ≡ true → ready old ≡ true)
-      → Acknowledges asks settles ready address old acked new
-  asked_again : (answer again : List ℕ) (doubted settled : B)
+    (settles : B → B → Type 0) (ready : B → Bool) (address : ℕ) (old : B)
+    : Acknowledgement → B → Type 0 where
+  is_missing : {new : B} (answer : List ℕ) → asks old (spelling (reset_to address)) answer new
+      → is_ack (frame_of answer) ≡ false
+      → Acknowledges asks settles ready address old Missing new
+  is_in_time : {new : B} (answer : List ℕ) → asks old (spelling (reset_to address)) answer new
+      → is_ack (frame_of answer) ≡ true → ready old ≡ true
+      → Acknowledges asks settles ready address old Certain new
+  is_repeated : {doubted settled new : B} (answer again : List ℕ)
       → asks old (spelling (reset_to address)) answer doubted → is_ack (frame_of answer) ≡ true
       → ready old ≡ false → settles doubted settled → ready settled ≡ true
-      → asks settled (spelling (reset_to address)) again new → acked ≡ is_ack (frame_of again)
-      → Acknowledges asks settles ready address old acked new
+      → asks settled (spelling (reset_to address)) again new → is_ack (frame_of again) ≡ true
+      → Acknowledges asks settles ready address old Certain new
+  is_late : {doubted settled new : B} (answer again : List ℕ)
+      → asks old (spelling (reset_to address)) answer doubted → is_ack (frame_of answer) ≡ true
+      → ready old ≡ false → settles doubted settled → ready settled ≡ true
+      → asks settled (spelling (reset_to address)) again new → is_ack (frame_of again) ≡ false
+      → Acknowledges asks settles ready address old Late new
+
+abbrev pub is_certain : Acknowledgement → Bool
+is_certain Certain = true
+is_certain Late = false
+is_certain Missing = false
 
 -- An address is asked; if it acknowledges, its telegram is requested, and it is printed.
 pub data AsksOne {B : Type 0} (asks : B → List ℕ → List ℕ → B → Type 0) (settles : B → B → Type 0)
-    (ready : B → Bool) (address : ℕ) (old : B) (text : List ℕ) (new : B) : Type 0 where
-  prints_none : Acknowledges asks settles ready address old false new → text ≡ []
-      → AsksOne asks settles ready address old text new
-  prints : (between : B) (telegram : List ℕ)
-      → Acknowledges asks settles ready address old true between
+    (ready : B → Bool) (address : ℕ) (old : B) : List ℕ → B → Type 0 where
+  prints_none : {new : B} (how : Acknowledgement)
+      → Acknowledges asks settles ready address old how new → is_certain how ≡ false
+      → AsksOne asks settles ready address old [] new
+  prints : {between new : B} (telegram : List ℕ)
+      → Acknowledges asks settles ready address old Certain between
       → asks between (spelling (request_to true address)) telegram new
-      → text ≡ address_line address (answer_of telegram)
-      → AsksOne asks settles ready address old text new
+      → AsksOne asks settles ready address old (address_line address (answer_of telegram)) new
 
 -- These addresses are asked in turn, and nothing else goes out.
 abbrev pub AsksEach : {B : Type 0} → (B → List ℕ → List ℕ → B → Type 0) → (B → B → Type 0)
@@ -134,3 +151,38 @@ AsksEach {B} asks settles ready (address ∷ more) old text new =
     (line later : List ℕ) × (between : B) × (text ≡ line ++ later)
     × AsksOne asks settles ready address old line between
     × AsksEach asks settles ready more between later new
+
+-- ---- addresses in doubt
+
+-- Number of addresses in doubt after one more met silence: at most the last two, while an answer may be under way.
+abbrev pub in_doubt : Bool → ℕ → ℕ
+in_doubt true count = 0
+in_doubt false count = min (count + 1) 2
+
+-- AN ADDRESS IS ASKED, before which this many are in doubt. If a late acknowledgement shows, these are asked
+-- again, now that the bus settled.
+pub data AsksNext {B : Type 0} (asks : B → List ℕ → List ℕ → B → Type 0)
+    (settles : B → B → Type 0) (ready : B → Bool) (address count : ℕ) (old : B)
+    : List ℕ → ℕ → B → Type 0 where
+  is_named : {between new : B} (telegram : List ℕ)
+      → Acknowledges asks settles ready address old Certain between
+      → asks between (spelling (request_to true address)) telegram new
+      → AsksNext asks settles ready address count old
+      (address_line address (answer_of telegram)) 0 new
+  is_left : {new : B} → Acknowledges asks settles ready address old Missing new
+      → AsksNext asks settles ready address count old [] (in_doubt (ready new) count) new
+  goes_back : {between new : B} {text : List ℕ}
+      → Acknowledges asks settles ready address old Late between
+      → AsksEach asks settles ready (range_with_len (address - count) count) between text new
+      → AsksNext asks settles ready address count old text 0 new
+
+-- ALL OF THESE ADDRESSES are asked in turn. At the end the bus settles, and the last ones that are in doubt are
+-- asked again.
+abbrev pub AsksAll : {B : Type 0} → (B → List ℕ → List ℕ → B → Type 0) → (B → B → Type 0)
+    → (B → Bool) → List ℕ → ℕ → B → List ℕ → B → Type 0
+AsksAll {B} asks settles ready [] count old text new = (quiet : B) × settles old quiet
+    × AsksEach asks settles ready (range_with_len (251 - count) count) quiet text new
+AsksAll {B} asks settles ready (address ∷ more) count old text new =
+    (line later : List ℕ) × (left : ℕ) × (between : B) × (text ≡ line ++ later)
+    × AsksNext asks settles ready address count old line left between
+    × AsksAll asks settles ready more left between later new

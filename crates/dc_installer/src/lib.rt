@@ -14,6 +14,6 @@ mod wildcards;
 
 pub use address::{Addressing, put_addressing, set_address};
 pub use course::Course;
-pub use primary::{GREATEST, identify, scan_primary};
+pub use primary::{Acknowledgement, GREATEST, identify, scan_primary};
 pub use reading::{Readout, read};
 pub use wildcards::{Count, ScanFault, scan};

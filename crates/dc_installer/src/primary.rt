@@ -1,6 +1,6 @@
 //! The search at primary addresses.
 
-ghost use Rattle.std.specs.Prelude.{◌≡◌, ◌≤◌, ◌-◌, true, List, ℕ, OnOk, OnErr};
+ghost use Rattle.std.specs.Prelude.{◌≡◌, ◌≤◌, ◌<◌, ◌+◌, ◌-◌, true, List, ℕ, OnOk, OnErr};
 ghost use Rattle.std.specs.List.{range_with_len};
 ghost use Rattle.dc_io.specs.Failures.{HasRisen};
 ghost use Rattle.dc_bus.specs.Bus.{AreExchanged, Exchange};
@@ -9,8 +9,8 @@ ghost use Rattle.dc_frame.specs.Control.{request_to, reset_to};
 ghost use Rattle.dc_frame.specs.Frame.{spelling};
 ghost use Rattle.dc_frame.specs.Reading.{frame_of};
 ghost use Rattle.dc_io.specs.Written.{PutsInto, Wrote};
-ghost use Rattle.dc_installer.specs.Scan.{Acknowledges, AreIdentified, AsksEach, AsksOne};
-ghost use Rattle.dc_installer.specs.Scan.{Identifies};
+ghost use Rattle.dc_installer.specs.Scan.{Acknowledges, AreIdentified, AsksAll, AsksEach};
+ghost use Rattle.dc_installer.specs.Scan.{AsksNext, AsksOne, Identifies, in_doubt};
 ghost use Rattle.dc_installer.specs.Scan.{address_line, greatest, identity_word, is_ack};
 
 use dc_address::{Identity, Primary};
@@ -23,20 +23,33 @@ use dc_search::meter_of;
 /// The greatest primary address (EN 13757-2).
 pub const GREATEST: u8 = 250;
 
+/// How an address answered a reset.
+#[derive(Clone, Copy, Debug, PartialEq, Eq)]
+pub enum Acknowledgement {
+    /// It acknowledged while no answer was under way.
+    Certain,
+    /// An acknowledgement came that it didn't repeat: a late one, of an address before.
+    Late,
+    /// No acknowledgement came.
+    Missing,
+}
+
 /// Requests each primary address from 1 to 250 (EN 13757-2), and prints each that acknowledges,
 /// with the meter whose telegram it sends, if that can be read. An acknowledgement that may be a
-/// late one, of another address, doesn't count: the bus settles, and the address is asked again.
+/// late one, of another address, doesn't count: the bus settles, and the address is asked again. If it doesn't
+/// acknowledge again, the addresses in doubt are: the last ones before it that met silence, at most two. At the end
+/// the bus settles, and the last addresses that are in doubt are asked again.
 ///
 /// # Errors
 /// A write failed.
 pub fn scan_primary<B: ScriptBus, W: Sink>(bus: &mut B, out: &mut W) -> Result<(), IoFault>
     ensures asked { OnOk result ((text : List ℕ)
-        × AsksEach B.asks B.settles B.ready (range_with_len 1 greatest) bus.old text bus.new
+        × AsksAll B.asks B.settles B.ready (range_with_len 1 greatest) 0 bus.old text bus.new
         × PutsInto W.Sink out.old out.new text) }
     ensures failed { OnErr result (HasRisen (W.put_failures out.old) (W.put_failures out.new)) }
     ensures well { OnOk result (W.put_failures out.new ≡ W.put_failures out.old) }
 {
-    scan_last(GREATEST, bus, out)
+    scan_last(GREATEST, 0, bus, out)
 }
 
 /// Identifies the meter at a primary address: resets it, and requests its telegram if it
@@ -59,20 +72,92 @@ pub(crate) fn meter_at<B: Bus>(bus: &mut B, address: u8) -> Option<Identity>
     }
 }
 
-// The last this many addresses.
-fn scan_last<B: ScriptBus, W: Sink>(left: u8, bus: &mut B, out: &mut W) -> Result<(), IoFault>
-    requires { left ≤ greatest }
+// The last this many addresses, before which so many are in doubt.
+fn scan_last<B: ScriptBus, W: Sink>(
+    left: u8,
+    count: u8,
+    bus: &mut B,
+    out: &mut W,
+) -> Result<(), IoFault>
+    requires { count + left ≤ greatest }
     ensures asked { OnOk result ((text : List ℕ)
-        × AsksEach B.asks B.settles B.ready (range_with_len (251 - left) left) bus.old text bus.new
-        × PutsInto W.Sink out.old out.new text) }
+        × AsksAll B.asks B.settles B.ready (range_with_len (251 - left) left) count bus.old text
+        bus.new × PutsInto W.Sink out.old out.new text) }
     ensures failed { OnErr result (HasRisen (W.put_failures out.old) (W.put_failures out.new)) }
     ensures well { OnOk result (W.put_failures out.new ≡ W.put_failures out.old) }
 {
     if left == 0 {
+        bus.settle();
+        return scan_range(251 - count, count, bus, out);
+    }
+    let mut count = count;
+    match scan_next(251 - left, &mut count, bus, out) {
+        Ok(()) => scan_last(left - 1, count, bus, out),
+        Err(fault) => Err(fault),
+    }
+}
+
+// The next address, before which so many are in doubt. Then so many are in doubt after it.
+fn scan_next<B: ScriptBus, W: Sink>(
+    address: u8,
+    count: &mut u8,
+    bus: &mut B,
+    out: &mut W,
+) -> Result<(), IoFault>
+    requires first { count.old < address }
+    requires last { address ≤ greatest }
+    ensures asked { OnOk result ((line : List ℕ)
+        × AsksNext B.asks B.settles B.ready address count.old bus.old line count.new bus.new
+        × PutsInto W.Sink out.old out.new line) }
+    ensures few { OnOk result (count.new ≤ count.old + 1) }
+    ensures failed { OnErr result (HasRisen (W.put_failures out.old) (W.put_failures out.new)) }
+    ensures well { OnOk result (W.put_failures out.new ≡ W.put_failures out.old) }
+{
+    let before = *count;
+    *count = 0;
+    match acknowledged(bus, address) {
+        Acknowledgement::Certain => {
+            let meter = requests(bus, address);
+            put_address(address, meter, out)
+        }
+        Acknowledgement::Late => scan_range(address - before, before, bus, out),
+        Acknowledgement::Missing => {
+            *count = in_doubt(bus.is_ready(), before);
+            Ok(())
+        }
+    }
+}
+
+// Number of addresses in doubt after one more met silence.
+fn in_doubt(is_ready: bool, count: u8) -> u8
+    requires { count ≤ greatest }
+    ensures exact { result ≡ in_doubt is_ready count }
+    ensures few { result ≤ count + 1 }
+{
+    if is_ready { 0 } else { (count + 1).min(2) }
+}
+
+// So many addresses from the first one on.
+fn scan_range<B: ScriptBus, W: Sink>(
+    first: u8,
+    count: u8,
+    bus: &mut B,
+    out: &mut W,
+) -> Result<(), IoFault>
+    requires { first + count ≤ 251 }
+    ensures asked { OnOk result ((text : List ℕ)
+        × AsksEach B.asks B.settles B.ready (range_with_len first count) bus.old text bus.new
+        × PutsInto W.Sink out.old out.new text) }
+    ensures failed { OnErr result (HasRisen (W.put_failures out.old) (W.put_failures out.new)) }
+    ensures well { OnOk result (W.put_failures out.new ≡ W.put_failures out.old) }
+{
+    if count == 0 {
         return Ok(());
     }
-    scan_one(251 - left, bus, out)?;
-    scan_last(left - 1, bus, out)
+    match scan_one(first, bus, out) {
+        Ok(()) => scan_range(first + 1, count - 1, bus, out),
+        Err(fault) => Err(fault),
+    }
 }
 
 fn scan_one<B: ScriptBus, W: Sink>(address: u8, bus: &mut B, out: &mut W) -> Result<(), IoFault>
@@ -82,24 +167,35 @@ fn scan_one<B: ScriptBus, W: Sink>(address: u8, bus: &mut B, out: &mut W) -> Res
     ensures failed { OnErr result (HasRisen (W.put_failures out.old) (W.put_failures out.new)) }
     ensures well { OnOk result (W.put_failures out.new ≡ W.put_failures out.old) }
 {
-    if !acknowledges(bus, address) {
-        return Ok(());
+    match acknowledged(bus, address) {
+        Acknowledgement::Certain => {
+            let meter = requests(bus, address);
+            put_address(address, meter, out)
+        }
+        Acknowledgement::Late => Ok(()),
+        Acknowledgement::Missing => Ok(()),
     }
-    let meter = requests(bus, address);
-    put_address(address, meter, out)
 }
 
 // Resets an address, and returns whether it acknowledged while no answer was under way.
-fn acknowledges<B: ScriptBus>(bus: &mut B, address: u8) -> bool
+fn acknowledged<B: ScriptBus>(bus: &mut B, address: u8) -> Acknowledgement
     ensures { Acknowledges B.asks B.settles B.ready address bus.old result bus.new }
 {
     let sure = bus.is_ready();
     let acked = resets(bus, address);
-    if sure || !acked {
-        return acked;
+    if !acked {
+        return Acknowledgement::Missing;
+    }
+    if sure {
+        return Acknowledgement::Certain;
     }
     bus.settle();
-    resets(bus, address)
+    let again = resets(bus, address);
+    if again {
+        Acknowledgement::Certain
+    } else {
+        Acknowledgement::Late
+    }
 }
 
 // Resets an address, and returns whether it acknowledged.
