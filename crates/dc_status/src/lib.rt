@@ -15,7 +15,7 @@ mod metrics;
 mod object;
 mod silence;
 
-pub use lines::put_status;
+pub use lines::{put_room_left, put_status};
 pub use metrics::put_metrics;
 pub use object::put_status_objects;
 pub use silence::{Clock, any_silent};

@@ -5,8 +5,8 @@ ghost use Rattle.dc_io.specs.Written.{Wrote};
 ghost use Rattle.dc_change.specs.Valid.{last_moment};
 ghost use Rattle.dc_latest.specs.Values.{bit_words, bits_words};
 ghost use Rattle.dc_status.specs.Status.{byte_words, days_words, heard_words, meter_line};
-ghost use Rattle.dc_status.specs.Status.{meter_lines, meter_words, moment_words, room_words, silent_words};
-ghost use Rattle.dc_status.specs.Status.{size_line, state_words, status_text};
+ghost use Rattle.dc_status.specs.Status.{meter_lines, meter_words, moment_words, readings_left, room_words};
+ghost use Rattle.dc_status.specs.Status.{silent_words, size_line, state_words, status_text};
 
 use crate::full::{days_left, readings_left};
 use crate::silence::{Clock, heard, is_silent, part_in};
@@ -175,6 +175,17 @@ fn put_days<W: Sink>(out: &mut W, days: Option<u64>) -> Result<(), IoFault>
         }
         None => out.put(b"DAYS NONE\n"),
     }
+}
+
+/// Writes how many more readings the image has room for: the row `ROOM` of `status`.
+pub fn put_room_left<A: Allocator + Copy, W: Sink>(
+    out: &mut W,
+    house: &House<A>,
+) -> Result<(), IoFault>
+    ensures { Wrote W.Sink result out.old out.new
+        (room_words (readings_left house.now.budget house.now.state)) }
+{
+    put_room(out, readings_left(house))
 }
 
 // Writes how many more readings there is room for.

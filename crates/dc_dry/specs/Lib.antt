@@ -1,0 +1,4 @@
+-- the definitions that contracts cite
+
+-- what a poll would do
+pub mod Dry
