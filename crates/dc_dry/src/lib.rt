@@ -8,4 +8,4 @@ mod dry;
 mod queue;
 mod refusal;
 
-pub use dry::{Dry, put_dry};
+pub use dry::{Dry, LINES, put_dry};

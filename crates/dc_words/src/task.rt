@@ -90,6 +90,8 @@ pub struct PollTask<'a> {
     pub patience: u16,
     /// The file of the trace, if one is written.
     pub trace: Option<&'a str>,
+    /// Whether it prints what a poll would do, in place of it.
+    pub is_dry: bool,
 }
 
 /// A call of the program: what it is asked to do, and how much it says.

@@ -179,6 +179,10 @@ fn format_command<'a>(alloc: Global) -> Result<Command<'a>, AllocError> {
 }
 
 fn poll_command<'a>(alloc: Global) -> Result<Command<'a>, AllocError> {
+    let about = "Prints what a poll would do; opens no link and writes nothing";
+    let dry = flag_arg(alloc, "DRY", "dry-run", about)
+        .conflicts_with("JSON")?
+        .conflicts_with("TRACE")?;
     let args = vec![in alloc;
         image_arg(alloc),
         line_arg(alloc).required(true),
@@ -192,6 +196,7 @@ fn poll_command<'a>(alloc: Global) -> Result<Command<'a>, AllocError> {
         ),
         patience_arg(alloc),
         trace_arg(alloc),
+        dry,
     ]?;
     let about = "Reads the registered meters, all connected lines at once";
     command_of(alloc, "poll", about, help::POLL, args)
@@ -556,6 +561,7 @@ fn poll_task<'a>(
         is_json: inner.get_flag("JSON"),
         patience: patience_of(inner),
         trace: inner.get_str("TRACE"),
+        is_dry: inner.get_flag("DRY"),
     }))
 }
 

@@ -7,6 +7,7 @@ mod clock;
 mod connecting;
 mod consumption;
 mod demo;
+mod dry;
 mod ending;
 mod fit;
 mod inspect;

@@ -2,6 +2,7 @@
 
 use crate::bench::{address_on_bus, read_on_bus, scan_bus};
 use crate::consumption::consumption_of_file;
+use crate::dry::dry_run;
 use crate::fit::fit_on_image;
 use crate::inspect::{Look, look_into, tell_status};
 use crate::loose::decode_pasted;
@@ -88,6 +89,7 @@ where
             to,
             patience,
         } => address_on_bus(host, link, *from, *to, *patience),
+        Task::Poll(task) if task.is_dry => dry_run(host, task),
         // No reading gets a stamp that is no time.
         Task::Poll(_) if clock::moment(host.rt).is_none() => Ending::Clock,
         Task::Poll(task) => poll_on_image(host, task),

@@ -164,6 +164,19 @@ const POLLS: Rows = &[
         "poll house.image 1=tcp(a:1) only 12345678.PAD.01.07 only 18034063.PAD.49.06 tries 9 patience 60000 json",
     ),
     (
+        "poll house.image --line 1=tcp://a:1 --only 12345678 --tries 3 --dry-run",
+        "poll house.image 1=tcp(a:1) only number 12345678 tries 3 patience 2000 dry",
+    ),
+    (
+        "poll house.image --line 1=tcp://a:1 --dry-run --json",
+        "refused",
+    ),
+    (
+        "poll house.image --line 1=tcp://a:1 --trace t.txt --dry-run",
+        "refused",
+    ),
+    ("poll house.image --dry-run", "refused"),
+    (
         "poll house.image --line 1=tcp://a:1 --trace t.txt",
         "poll house.image 1=tcp(a:1) tries 2 patience 2000 trace t.txt",
     ),

@@ -142,8 +142,9 @@ fn poll_text(alloc: Global, task: &PollTask<'_>) -> Result<String, AllocError> {
     let only = only_text(alloc, task.only.as_slice())?;
     let json = json_text(task.is_json);
     let trace = trace_text(alloc, task.trace)?;
+    let dry = if task.is_dry { " dry" } else { "" };
     format!(in alloc;
-        "poll {}{links}{only} tries {} patience {}{json}{trace}",
+        "poll {}{links}{only} tries {} patience {}{json}{trace}{dry}",
         task.image, task.tries, task.patience
     )
 }

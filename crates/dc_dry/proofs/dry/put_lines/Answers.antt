@@ -1,8 +1,8 @@
-use Rattle.std.proofs.Common.{◌≡◌, ◌+◌, ◌∷◌, List, ℕ, ap, arith, drop}
+use Rattle.std.proofs.Common.{◌+◌, List, ℕ, ap, arith, drop}
 use Rattle.std.proofs.lemmas.List.{drop_more}
 use Rattle.std.specs.Prelude.{flat_map}
 use Rattle.dc_io.specs.Stream.{PutsFront}
-use Rattle.dc_dry.specs.Dry.{line_text, lines_text}
+use Rattle.dc_dry.specs.Dry.{line_text}
 use Rattle.dc_dry.proofs.Fronts.{front_of_all}
 use Rattle.dc_dry.proofs.dry.put_lines.Goals as goal
 

@@ -1,0 +1,91 @@
+//! `poll --dry-run`: what a poll would do, printed from the image alone.
+
+use crate::names::meters_in;
+use crate::tasks::{ROOM, flushed};
+use dc_disk::FileDisk;
+use dc_dry::{Dry, LINES, put_dry};
+use dc_ending::{Ending, ProgramFault, STREAM, ending_of};
+use dc_files::{Host, Noted, copy_image};
+use dc_inspect::register_of;
+use dc_io::{Buffered, IoFault, Sink, WriteSink};
+use dc_log::OpenFault;
+use dc_register::House;
+use dc_status::put_room_left;
+use dc_words::{LinkName, PollTask};
+use std::alloc::Global;
+use std::fs::File;
+use std::io;
+use std::rt::Files;
+
+/// Prints what the poll would do, by the image as it stands at one instant. No link is opened, and nothing is written.
+pub fn dry_run<'a, R>(host: &Host<'_, R>, task: &PollTask<'a>) -> Ending<'a>
+where
+    R: Files<File = File> + Print + AllocGlobal,
+{
+    let copy = match copy_image(host, task.image) {
+        Ok(copy) => copy,
+        Err(ending) => return ending,
+    };
+    // A poll doesn't open an image with a sector that can't be read.
+    if host.why.has_unreadable() {
+        return Ending::Open(OpenFault::Device);
+    }
+    let mut disk = match FileDisk::new(copy) {
+        Ok(disk) => disk,
+        Err(error) => return host.why.file(task.image, error),
+    };
+    match register_of(host.rt.alloc(), &mut disk) {
+        Ok(house) => foresee(host, &house, task),
+        Err(fault) => ending_of(Err(fault), task.image),
+    }
+}
+
+// What the poll would do with this register.
+fn foresee<'a, R: Print + AllocGlobal>(
+    host: &Host<'_, R>,
+    house: &House<Global>,
+    task: &PollTask<'a>,
+) -> Ending<'a> {
+    let only = match meters_in(host.rt.alloc(), house, task.only.as_slice()) {
+        Ok(only) => only,
+        Err(ending) => return ending,
+    };
+    let dry = Dry {
+        links: linked(task.links.by_line()),
+        only: only.as_slice(),
+        tries: task.tries.max(1),
+    };
+    match print(host, house, &dry) {
+        Ok(()) => Ending::Clean,
+        Err(fault) => ending_of(Err(fault), STREAM),
+    }
+}
+
+// Whether each line has a link.
+fn linked(links: &[Option<LinkName<'_>>; LINES]) -> [bool; LINES] {
+    let mut linked = [false; LINES];
+    for (has_link, link) in linked.iter_mut().zip(links) {
+        *has_link = link.is_some();
+    }
+    linked
+}
+
+// Writes it to standard output.
+fn print<R: Print + AllocGlobal>(
+    host: &Host<'_, R>,
+    house: &House<Global>,
+    dry: &Dry<'_>,
+) -> Result<(), ProgramFault> {
+    let printer = Noted::new(io::writer(host.rt), host.why);
+    let mut writer = Buffered::new(host.rt.alloc(), ROOM, WriteSink::new(printer))?;
+    match put_all(&mut writer, house, dry) {
+        Ok(()) => flushed(writer),
+        Err(_) => Err(ProgramFault::Write),
+    }
+}
+
+// Writes what the poll would do, and then the room there is.
+fn put_all<W: Sink>(out: &mut W, house: &House<Global>, dry: &Dry<'_>) -> Result<(), IoFault> {
+    put_dry(out, house, dry)?;
+    put_room_left(out, house)
+}
