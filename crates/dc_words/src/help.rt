@@ -247,9 +247,8 @@ ends:
                            --patience longer
   END read failed
 With --json an object an event. On a terminal, standard error shows how far it
-is. --trace FILE gets a line for each request and answer, as of scan.
-Where the clock is earlier than a time stamp of the register: mbdc: clock: behind
-the newest reading
+is. Where the clock is earlier than a time stamp of the register: mbdc: clock:
+behind the newest reading
 --dry-run prints what the poll would do, opens no link and writes nothing:
   QUEUE n ident            line n reads this meter, in this order
   MOST n readouts requests line n makes at most as many

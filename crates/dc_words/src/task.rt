@@ -88,8 +88,6 @@ pub struct PollTask<'a> {
     pub is_json: bool,
     /// The time-out of an answer in milliseconds.
     pub patience: u16,
-    /// The file of the trace, if one is written.
-    pub trace: Option<&'a str>,
     /// Whether it prints what a poll would do, in place of it.
     pub is_dry: bool,
 }

@@ -180,9 +180,7 @@ fn format_command<'a>(alloc: Global) -> Result<Command<'a>, AllocError> {
 
 fn poll_command<'a>(alloc: Global) -> Result<Command<'a>, AllocError> {
     let about = "Prints what a poll would do; opens no link and writes nothing";
-    let dry = flag_arg(alloc, "DRY", "dry-run", about)
-        .conflicts_with("JSON")?
-        .conflicts_with("TRACE")?;
+    let dry = flag_arg(alloc, "DRY", "dry-run", about).conflicts_with("JSON")?;
     let args = vec![in alloc;
         image_arg(alloc),
         line_arg(alloc).required(true),
@@ -195,7 +193,6 @@ fn poll_command<'a>(alloc: Global) -> Result<Command<'a>, AllocError> {
             "Prints JSON Lines, an object an event"
         ),
         patience_arg(alloc),
-        trace_arg(alloc),
         dry,
     ]?;
     let about = "Reads the registered meters, all connected lines at once";
@@ -560,7 +557,6 @@ fn poll_task<'a>(
         tries: inner.get_one("TRIES").unwrap_or_default(),
         is_json: inner.get_flag("JSON"),
         patience: patience_of(inner),
-        trace: inner.get_str("TRACE"),
         is_dry: inner.get_flag("DRY"),
     }))
 }

@@ -1,6 +1,6 @@
 //! The commands `scan`, `read` and `address`: one bus, without an image.
 
-use crate::tracing::{Book, book_of, trace_of};
+use crate::tracing::{Book, Tracer, book_of};
 use crate::watching::{Addresses, Cleared, Progress, Show, Unseen};
 use dc_bus::{Both, Bus, QuietBus, ScriptBus};
 use dc_ending::{Ending, STREAM};
@@ -90,11 +90,11 @@ fn scan_watched<'a, R>(
 where
     R: Clock + Copy + Print + Eprint + AllocGlobal,
 {
-    let Ok(first) = trace_of(book, 1) else {
-        return Ending::Memory;
+    let observer = Pair {
+        first: Tracer { book },
+        second: Show { progress },
     };
-    let second = Show { progress };
-    let mut bus = match quiet_bus(host.rt, peer, patience, Pair { first, second }) {
+    let mut bus = match quiet_bus(host.rt, peer, patience, observer) {
         Ok(bus) => bus,
         Err(error) => return host.why.link(None, error),
     };
@@ -188,10 +188,7 @@ fn read_over<'a, R>(
 where
     R: Clock + Copy + Print + Eprint + AllocGlobal,
 {
-    let Ok(trace) = trace_of(book, 1) else {
-        return Ending::Memory;
-    };
-    let mut bus = match quiet_bus(host.rt, peer, patience, trace) {
+    let mut bus = match quiet_bus(host.rt, peer, patience, Tracer { book }) {
         Ok(bus) => bus,
         Err(error) => return host.why.link(None, error),
     };

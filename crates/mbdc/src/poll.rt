@@ -4,7 +4,6 @@ ghost use Rattle.std.specs.Prelude.{◌<◌};
 
 use crate::connecting::{reached, released};
 use crate::names::meters_of;
-use crate::tracing::{Book, LineTrace, book_of, trace_of};
 use dc_address::Identity;
 use dc_bus::QuietBus;
 use dc_change::Moment;
@@ -15,7 +14,6 @@ use dc_io::WriteSink;
 use dc_links::{LinkBus, Peer, SystemBus, Watch};
 use dc_poll::{Outcome, Plan, Station, Teller, Timer, is_awaited, poll_image};
 use dc_teller::{JsonTeller, Progress, Shown, TextTeller, Unfailing};
-use dc_trace::{Observed, Observer};
 use dc_words::PollTask;
 use std::alloc::Global;
 use std::fs::{File, OpenFile};
@@ -26,9 +24,6 @@ use std::os::unix::fs::FileExt;
 use std::rt::{Clock, Files};
 use std::time::{SystemTime, UNIX_EPOCH};
 
-// The bus of a line, and its trace where one is written.
-type TracedBus<'p, 't, 'h, R> = Observed<SystemBus<'p, R>, Option<LineTrace<'t, 'h, R>>>;
-
 /// The clock of a poll, and its wait for all lines at once.
 #[derive(Drop)]
 struct SystemTimer<'p, 'h, C: Clock + Copy> {
@@ -38,8 +33,7 @@ struct SystemTimer<'p, 'h, C: Clock + Copy> {
     progress: &'p Progress<'h, C>,
 }
 
-impl<C: Clock + Copy + Eprint, O: Observer + Drop> Timer<Observed<SystemBus<'_, C>, O>>
-    for SystemTimer<'_, '_, C> {
+impl<C: Clock + Copy + Eprint> Timer<SystemBus<'_, C>> for SystemTimer<'_, '_, C> {
     ghost use Rattle.std.specs.Prelude.{⊤};
 
     ghost tells = { λ _ _ _. ⊤ };
@@ -58,7 +52,7 @@ impl<C: Clock + Copy + Eprint, O: Observer + Drop> Timer<Observed<SystemBus<'_, 
         self.last
     }
 
-    fn pause(&mut self, stations: &[Station<'_, Observed<SystemBus<'_, C>, O>>], may_sleep: bool) {
+    fn pause(&mut self, stations: &[Station<'_, SystemBus<'_, C>>], may_sleep: bool) {
         self.progress.show(stations);
         if may_sleep {
             awaited(stations).wait();
@@ -78,9 +72,9 @@ trait Watched {
     fn add_to(&self, watch: &mut Watch);
 }
 
-impl<C: Clock + Copy, O: Observer + Drop> Watched for Observed<SystemBus<'_, C>, O> {
+impl<C: Clock + Copy> Watched for SystemBus<'_, C> {
     fn add_to(&self, watch: &mut Watch) {
-        watch.add(&self.bus);
+        watch.add(self);
     }
 }
 
@@ -113,15 +107,11 @@ where
         Ok(only) => only,
         Err(ending) => return ending,
     };
-    let book = match book_of(host, task.trace) {
-        Ok(book) => book,
-        Err(error) => return host.why.file(task.trace.unwrap_or_default(), error),
-    };
     let peers = match reached(host, &task.links) {
         Ok(peers) => peers,
         Err(ending) => return ending,
     };
-    let ending = poll_over(host, disk, peers.as_slice(), book.as_ref(), only.as_slice(), task);
+    let ending = poll_over(host, disk, peers.as_slice(), only.as_slice(), task);
     released(host, peers.as_slice());
     ending
 }
@@ -131,7 +121,6 @@ fn poll_over<'a, D, R>(
     host: &Host<'_, R>,
     disk: FileDisk<D>,
     peers: &[Option<Peer<R>>],
-    book: Option<&Book<'_, R>>,
     only: &[Identity],
     task: &PollTask<'a>,
 ) -> Ending<'a>
@@ -139,7 +128,7 @@ where
     D: FileExt + OpenFile + Drop,
     R: Clock + Copy + Print + Eprint + AllocGlobal,
 {
-    let buses = match buses_of(host, peers, book, task.patience) {
+    let buses = match buses_of(host, peers, task.patience) {
         Ok(buses) => buses,
         Err(ending) => return ending,
     };
@@ -164,7 +153,7 @@ where
 fn poll<D, R>(
     host: &Host<'_, R>,
     disk: FileDisk<D>,
-    plan: Plan<'_, Global, TracedBus<'_, '_, '_, R>>,
+    plan: Plan<'_, Global, SystemBus<'_, R>>,
     is_json: bool,
 ) -> Result<Outcome, ProgramFault>
 where
@@ -195,7 +184,7 @@ where
 fn poll_with<D, R, N>(
     host: &Host<'_, R>,
     disk: FileDisk<D>,
-    plan: Plan<'_, Global, TracedBus<'_, '_, '_, R>>,
+    plan: Plan<'_, Global, SystemBus<'_, R>>,
     teller: N,
     explains: bool,
 ) -> (Result<Outcome, ProgramFault>, Unfailing<N>)
@@ -214,7 +203,7 @@ fn poll_shown<'p, 'h, D, R, N>(
     progress: &'p Progress<'h, R>,
     rt: R,
     disk: FileDisk<D>,
-    plan: Plan<'_, Global, TracedBus<'_, '_, '_, R>>,
+    plan: Plan<'_, Global, SystemBus<'_, R>>,
     teller: N,
     explains: bool,
 ) -> (Result<Outcome, ProgramFault>, Unfailing<N>)
@@ -247,16 +236,13 @@ fn is_printed<W: Write + Drop>(has_failed: bool, out: WriteSink<W>) -> bool {
 }
 
 // The bus of each line; one without a link is absent.
-fn buses_of<'p, 't, 'h, 'e, R: Clock + Copy + Eprint + AllocGlobal>(
+fn buses_of<'p, 'e, R: Clock + Copy + AllocGlobal>(
     host: &Host<'_, R>,
     peers: &'p [Option<Peer<R>>],
-    book: Option<&'t Book<'h, R>>,
     patience: u16,
-) -> Result<Vec<TracedBus<'p, 't, 'h, R>, Global>, Ending<'e>> {
+) -> Result<Vec<SystemBus<'p, R>, Global>, Ending<'e>> {
     let mut buses = Vec::new(host.rt.alloc());
-    let mut line: u8 = 0;
     for peer in peers {
-        line = line.saturating_add(1);
         let bus = match peer {
             Some(peer) => match peer.bus(*host.rt, patience) {
                 Ok(bus) => bus,
@@ -264,10 +250,7 @@ fn buses_of<'p, 't, 'h, 'e, R: Clock + Copy + Eprint + AllocGlobal>(
             },
             None => LinkBus::Absent,
         };
-        let Ok(observer) = trace_of(book, line) else {
-            return Err(Ending::Memory);
-        };
-        if buses.push(Observed { bus, observer }).is_err() {
+        if buses.push(bus).is_err() {
             return Err(Ending::Memory);
         }
     }

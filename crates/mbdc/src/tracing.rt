@@ -1,14 +1,20 @@
-//! The trace of what goes over the bus lines, in a file.
+//! The trace of what goes over a bus, in a file.
 
 use dc_files::Host;
-use dc_io::WriteSink;
-use dc_trace::{Stopwatch, Trace};
+use dc_io::FixedSink;
+use dc_trace::{Direction, Observer, put_line};
 use std::cell::Cell;
 use std::fs::{File, OpenOptions};
 use std::io;
-use std::io::{ErrorKind, LineWriter, Write};
+use std::io::Write;
 use std::rt::{Clock, Files};
 use std::time::Instant;
+
+// Room for a line of the longest answer, 300 bytes as hex digits.
+const ROOM: usize = 700;
+
+// The one bus of a command without an image.
+const LINE: u8 = 1;
 
 /// The file of a trace. A write that fails is named once, and the command goes on without the trace.
 #[derive(Drop)]
@@ -17,11 +23,8 @@ pub struct Book<'h, R> {
     file: File,
     name: &'h str,
     begun: Instant,
-    is_told: Cell<bool>,
+    has_failed: Cell<bool>,
 }
-
-/// The trace of one bus line: each line of text goes out as it is whole.
-pub type LineTrace<'t, 'h, R> = Trace<WriteSink<LineWriter<Page<'t, 'h, R>>>, Since<'t, 'h, R>>;
 
 impl<'h, R: Clock + Eprint> Book<'h, R> {
     /// Makes the file of a trace, or empties it.
@@ -39,32 +42,33 @@ impl<'h, R: Clock + Eprint> Book<'h, R> {
             file: options.open(rt, name)?,
             name,
             begun: Instant::now(rt)?,
-            is_told: Cell::new(false),
+            has_failed: Cell::new(false),
         })
     }
 
-    // Names a write that failed, once.
-    fn tell(&self, error: io::Error) {
-        if !self.is_told.get() {
-            self.is_told.set(true);
+    // Writes the line of a request or an answer. After a write that failed nothing more is written.
+    fn put(&self, direction: Direction, bytes: &[u8]) {
+        if self.has_failed.get() {
+            return;
+        }
+        let mut line = FixedSink::<ROOM>::new();
+        if put_line(&mut line, self.millis(), LINE, direction, bytes).is_err() {
+            return;
+        }
+        let mut file = &self.file;
+        if let Err(error) = file.write_all(line.as_slice()) {
+            self.has_failed.set(true);
             let _ = eprint!(self.rt; "mbdc: trace: {}: {error}\n", self.name);
         }
     }
-}
 
-/// The trace of a bus line in that file, where there is one.
-///
-/// # Errors
-/// Out of memory.
-pub fn trace_of<'t, 'h, R: Clock + Eprint + AllocGlobal>(
-    book: Option<&'t Book<'h, R>>,
-    line: u8,
-) -> io::Result<Option<LineTrace<'t, 'h, R>>> {
-    let Some(book) = book else {
-        return Ok(None);
-    };
-    let writer = LineWriter::new(book.rt.alloc(), Page { book })?;
-    Ok(Some(Trace::new(WriteSink::new(writer), Since { book }, line)))
+    // Milliseconds since the trace was begun.
+    fn millis(&self) -> u64 {
+        match self.begun.elapsed(self.rt) {
+            Ok(elapsed) => u64::try_from(elapsed.as_millis()).unwrap_or(u64::MAX),
+            Err(_) => 0,
+        }
+    }
 }
 
 /// Opens the file of a trace, if one is asked for.
@@ -81,40 +85,33 @@ where
     }
 }
 
-/// The file of a trace, as a writer.
+/// The trace of a bus, where one is written.
 #[derive(Drop)]
-pub struct Page<'t, 'h, R> {
-    book: &'t Book<'h, R>,
+pub struct Tracer<'t, 'h, R> {
+    /// Its file.
+    pub book: Option<&'t Book<'h, R>>,
 }
 
-impl<R: Clock + Eprint> Write for Page<'_, '_, R> {
-    fn write(&mut self, bytes: &[u8]) -> io::Result<usize> {
-        let mut file = &self.book.file;
-        match file.write(bytes) {
-            Err(error) if error.kind() != ErrorKind::Interrupted => {
-                self.book.tell(error);
-                Err(error)
-            }
-            written => written,
+impl<R: Clock + Eprint> Tracer<'_, '_, R> {
+    fn put(&self, direction: Direction, bytes: &[u8]) {
+        if let Some(book) = self.book {
+            book.put(direction, bytes);
         }
     }
+}
 
-    fn flush(&mut self) -> io::Result<()> {
-        Ok(())
+impl<R: Clock + Eprint> Observer for Tracer<'_, '_, R> {
+    ghost use Rattle.std.specs.Prelude.{⊤};
+
+    ghost sees_request = { λ _ _ _. ⊤ };
+
+    ghost sees_answer = { λ _ _ _. ⊤ };
+
+    fn see_request(&mut self, request: &[u8]) {
+        self.put(Direction::Out, request);
     }
-}
 
-/// The time since the trace was begun.
-#[derive(Drop)]
-pub struct Since<'t, 'h, R> {
-    book: &'t Book<'h, R>,
-}
-
-impl<R: Clock> Stopwatch for Since<'_, '_, R> {
-    fn millis(&self) -> u64 {
-        match self.book.begun.elapsed(self.book.rt) {
-            Ok(elapsed) => u64::try_from(elapsed.as_millis()).unwrap_or(u64::MAX),
-            Err(_) => 0,
-        }
+    fn see_answer(&mut self, answer: &[u8]) {
+        self.put(Direction::In, answer);
     }
 }

@@ -171,14 +171,10 @@ const POLLS: Rows = &[
         "poll house.image --line 1=tcp://a:1 --dry-run --json",
         "refused",
     ),
-    (
-        "poll house.image --line 1=tcp://a:1 --trace t.txt --dry-run",
-        "refused",
-    ),
     ("poll house.image --dry-run", "refused"),
     (
         "poll house.image --line 1=tcp://a:1 --trace t.txt",
-        "poll house.image 1=tcp(a:1) tries 2 patience 2000 trace t.txt",
+        "refused",
     ),
     (
         "poll house.image --line 1=tcp://a:1 --only 12345678 --only 00000001 --only 12345678.pad.0a.0F",

@@ -141,10 +141,9 @@ fn poll_text(alloc: Global, task: &PollTask<'_>) -> Result<String, AllocError> {
     let links = links_text(alloc, &task.links)?;
     let only = only_text(alloc, task.only.as_slice())?;
     let json = json_text(task.is_json);
-    let trace = trace_text(alloc, task.trace)?;
     let dry = if task.is_dry { " dry" } else { "" };
     format!(in alloc;
-        "poll {}{links}{only} tries {} patience {}{json}{trace}{dry}",
+        "poll {}{links}{only} tries {} patience {}{json}{dry}",
         task.image, task.tries, task.patience
     )
 }
