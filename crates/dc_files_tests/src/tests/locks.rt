@@ -43,6 +43,7 @@ fn an_image_is_copied_while_it_is_locked(rt: HostRuntime) -> Result<(), Fail> {
     disk.sync()?;
     assert_eq!(rt; disk.read(2)?, [7; 512]);
     let mut own = FileDisk::new(file)?;
+    assert_eq!(rt; own.count(), 131);
     assert_eq!(rt; own.read(2)?, root);
     drop(own);
     Ok(fs::remove_file(&rt, path.as_str())?)
