@@ -60,5 +60,7 @@ def poll_line_of(event: Object) -> str:
     body = f" {fault['number']} {fault['name']}" if fault else ""
     rest = {"read": ("meter", "serial", "parts"), "failed": ("meter", "number", "name"),
             "refused": ("meter", "number", "name"), "late": ("line", "answers"), "end": ("read", "failed")}[kind]
-    assert list(event) == ["event", *rest, *(["fault"] if fault else [])], event
+    why = ("line", "heard") if kind == "failed" else ()
+    assert list(event) == ["event", *rest, *(["fault"] if fault else []), *why], event
+    assert list(event.get("heard", {})) in ([], ["silent", "noise", "others"]), event
     return " ".join([kind.upper(), *(str(event[field]) for field in rest)]) + body
