@@ -21,9 +21,9 @@ pub fn each_readout_of_a_poll_ends_in_a_reading<B: QuietBus>()
 ///
 /// The meters of its lines are there and follow the standard, each line carries what is said and
 /// loses nothing three times in a row, the register has room for one reading of each, no telegram is
-/// refused for want of memory, and no commit fails. Then what is read on each line is its queue, in order, and each meter of it has one
-/// reading more than before, whole and in order, whose serial is told. No readout fails, and the
-/// counts say so.
+/// refused because memory ran out, and no commit fails. Then what is read on each line is its queue,
+/// in order, and each meter of it has one reading more than before, whole and in order, whose serial
+/// is told. No readout fails, and the counts say so.
 pub fn every_meter_is_read<D: Disk + Drop, B: QuietBus + Drop, T: Timer<B>, N: Teller>()
     ensures { EveryMeterIsRead D.Disk B.QuietBus T.tells T.passes T.warns N.takes }
 {}

@@ -3,5 +3,3 @@
 pub mod Observed
 -- the text of a trace
 pub mod Line
--- a trace
-pub mod Trace

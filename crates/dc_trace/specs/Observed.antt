@@ -1,5 +1,5 @@
 -- A bus with an observer: the bus does what it does without one, and the observer sees it (this product).
-use Rattle.std.specs.Prelude.{◌≡◌, ℕ, Bool, false, List, Option, None, Some}
+use Rattle.std.specs.Prelude.{◌≡◌, ℕ, Bool, false, List}
 use Rattle.dc_trace.specs.declared.observed.Observed.{Observed}
 use Rattle.dc_trace.specs.declared.observer.Pair.{Pair}
 
@@ -21,14 +21,6 @@ pub record Gives {B O : Type 0} (lost : B → Bool) (gives : B → List ℕ → 
 pub record Unseen {B O : Type 0} (goes : B → B → Type 0) (old new : Observed B O) : Type 0 where
   pub went : goes old.bus new.bus
   pub same : new.observer ≡ old.observer
-
--- an observer that may be missing sees the bytes where it is there
-abbrev pub SeesIfThere : {O : Type 0} → (O → List ℕ → O → Type 0) → Option O → List ℕ → Option O
-    → Type 0
-SeesIfThere sees None bytes None = Unit {0}
-SeesIfThere sees None bytes (Some new) = ⊥
-SeesIfThere sees (Some old) bytes None = ⊥
-SeesIfThere sees (Some old) bytes (Some new) = sees old bytes new
 
 -- each of two observers sees the bytes
 pub record BothSee {A B : Type 0} (first : A → List ℕ → A → Type 0)

@@ -18,26 +18,6 @@ pub trait Observer {
         ensures { sees_answer self.old answer.now self.new };
 }
 
-impl<O: Observer + Drop> Observer for Option<O> {
-    ghost use Rattle.dc_trace.specs.Observed.{SeesIfThere};
-
-    ghost sees_request = { SeesIfThere O.sees_request };
-
-    ghost sees_answer = { SeesIfThere O.sees_answer };
-
-    fn see_request(&mut self, request: &[u8]) {
-        if let Some(observer) = self {
-            observer.see_request(request);
-        }
-    }
-
-    fn see_answer(&mut self, answer: &[u8]) {
-        if let Some(observer) = self {
-            observer.see_answer(answer);
-        }
-    }
-}
-
 /// Two observers, each of which sees everything.
 #[derive(Drop)]
 pub struct Pair<A: Observer + Drop, B: Observer + Drop> {
