@@ -12,6 +12,7 @@ from typing import Callable, Iterator, List, NamedTuple, Optional, Tuple, TypeVa
 
 import psycopg2
 
+from box_commands import change_of
 from database import Cursor, Database, insert, one
 from decoding import Undecoded
 from link import Disagreement, Link, Meter, Reading, Seen, Unreached
@@ -203,7 +204,8 @@ class Visit:
         """What an order that is done changes."""
         cursor.execute("UPDATE boxes SET number = %s, confirmed = coalesce(%s, confirmed) WHERE name = %s",
                        (order.number, order.confirms, self.box))
-        self.change_meters(cursor, *order.line.split(" "))
+        if order.confirms is None:
+            self.change_meters(cursor, order)
         self.end(cursor, order.id, "done", f"OK {order.number}")
 
     def end(self, cursor: Cursor, order_id: int, state: str, answer: str) -> None:
@@ -287,20 +289,14 @@ class Visit:
             raise Disagreement(f"the box has another register than the database, {len(differing)} rows differ,"
                                f" the first {' '.join(map(str, min(differing)))}")
 
-    def change_meters(self, cursor: Cursor, verb: str, *words: str) -> None:
-        """What an order does to the register."""
-        if verb == "FIT":
-            cursor.execute("INSERT INTO meters (box, identity, line, address, flat) VALUES (%s, %s, %s, %s, %s)",
-                           (self.box, *words))
-        elif verb == "MOVE":
-            cursor.execute("UPDATE meters SET flat = %s WHERE box = %s AND identity = %s",
-                           (words[1], self.box, words[0]))
-        elif verb == "OUT":
-            cursor.execute("DELETE FROM meters WHERE box = %s AND identity = %s", (self.box, words[0]))
-        elif verb == "SWAP":
-            cursor.execute("UPDATE meters SET identity = %s, address = %s, since = now(), serial = NULL, heard = NULL,"
-                           " stored_at = NULL, status = NULL WHERE box = %s AND identity = %s",
-                           (words[1], words[2], self.box, words[0]))
+    def change_meters(self, cursor: Cursor, order: Order) -> None:
+        """What an order does to the register.
+
+        Raises Disagreement where this office doesn't know the command: a newer one put it into the table."""
+        change = change_of(self.box, order.line)
+        if change is None:
+            raise Disagreement(f"order {order.number} {order.line} is none that this office knows")
+        cursor.execute(*change)
 
     # ---- readings
 

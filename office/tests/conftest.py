@@ -71,8 +71,8 @@ class Ended:
 class Office:
     """The office's programs over one database, and the boxes that they reach."""
 
-    def __init__(self, server: Server, database: str, folder: pathlib.Path) -> None:
-        self.server, self.folder, self.name = server, folder, server.name(database)
+    def __init__(self, server: Server, database: str, folder: pathlib.Path, programs: pathlib.Path = OFFICE) -> None:
+        self.server, self.folder, self.name, self.programs = server, folder, server.name(database), programs
         self.connection = server.connect(database)
         (folder / "bin").mkdir(exist_ok=True)
         if not (folder / "bin/mbdc").exists():
@@ -89,7 +89,7 @@ class Office:
         return Box(self.folder, name, room)
 
     def run(self, program: str, *words: str, **environment: str) -> Ended:
-        done = subprocess.run([OFFICE / program, "--database", self.name, *words], capture_output=True, text=True,
+        done = subprocess.run([self.programs / program, "--database", self.name, *words], capture_output=True, text=True,
                               check=False, env={**self.environment, **environment}, timeout=120)
         assert "Traceback" not in done.stderr, done.stderr
         return Ended(done.returncode, done.stdout + done.stderr)

@@ -8,7 +8,12 @@ from typing import List
 import pytest
 from conftest import OFFICE, Office, Server
 
+from box_commands import BOX_COMMANDS
+
 LAST = max(int(path.stem) for path in (OFFICE / "schema").glob("*.sql"))
+HAS_COMMANDS = 9  # the first version with the table of commands
+TOLD = {number: f"version {number}\n" for number in range(2, LAST + 1)}
+TOLD[HAS_COMMANDS] += "".join(f"command {verb}\n" for verb in BOX_COMMANDS)
 HEADER = "785634122440010701040000"
 FILLED = f"""
 INSERT INTO boxes (name, command, number, confirmed) VALUES ('house-1', 'x', 3, 1), ('house-2', 'x', NULL, NULL);
@@ -26,6 +31,7 @@ INSERT INTO points (box, serial, part, place, storage, function, tariff, subunit
     ('house-1', 2, 1, 4, 2, 0, 0, 0, '06', '5000', 5000, 'Wh', '2026-02-01');
 INSERT INTO due_readings VALUES ('house-1', 'm1', '2026-01-01', 2), ('house-1', 'm1', '2026-02-01', 2);
 INSERT INTO orders (box, key, line) VALUES ('house-1', 'k', 'FIT m3 1 3 A3');
+INSERT INTO orders (box, key, line, number, state, answer) VALUES ('house-1', 'l', 'OUT m3 A3', 3, 'refused', 'ERR SYNTAX');
 INSERT INTO orders (box, line, confirms, number, state, answer) VALUES ('house-1', 'CONFIRM 1', 1, 3, 'done', 'OK 3');
 """
 
@@ -56,7 +62,7 @@ def shape(office: Office) -> List[object]:
 def test_a_filled_database_of_version_1(older: Office, office: Office) -> None:
     done = migrate(older)
     assert done.returncode == 0, done.stderr
-    assert done.stdout.splitlines() == [f"version {number}" for number in range(2, LAST + 1)]
+    assert done.stdout == "".join(TOLD.values())
     assert older.sql("SELECT month, serial FROM readings ORDER BY serial") == [
         (datetime.date(2026, 1, 1), 1), (datetime.date(2026, 2, 1), 2)]
     assert older.sql("SELECT due, serial, shown, kwh::float FROM due_values ORDER BY due") == [
@@ -65,7 +71,7 @@ def test_a_filled_database_of_version_1(older: Office, office: Office) -> None:
     assert older.sql("SELECT name, stored FROM boxes ORDER BY name") == [("house-1", 2), ("house-2", 0)]
     assert older.sql("SELECT identity, serial, says FROM meter_states ORDER BY 1") == [
         ("m1", 2, "power low"), ("m2", None, "")]
-    assert older.sql("SELECT count(*) FROM orders") == [(2,)] and older.sql("SELECT count(*) FROM points") == [(6,)]
+    assert older.sql("SELECT count(*) FROM orders") == [(3,)] and older.sql("SELECT count(*) FROM points") == [(6,)]
     assert shape(older) == shape(office)
 
 
@@ -85,8 +91,8 @@ def test_a_second_call_does_nothing(office: Office) -> None:
 
 
 def test_step_by_step(older: Office) -> None:
-    for version in range(2, LAST + 1):
-        assert migrate(older, "--to", str(version)).stdout == f"version {version}\n"
+    for version, told in TOLD.items():
+        assert migrate(older, "--to", str(version)).stdout == told
 
 
 def test_a_migration_that_fails_leaves_the_version_before_it(older: Office) -> None:

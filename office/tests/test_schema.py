@@ -30,14 +30,23 @@ def test_a_confirm_needs_its_serial_and_its_readings(office: Office, box: Box) -
     assert "are not stored" in refused(office, CONFIRM, "CONFIRM 1", 1)
     box.hears(2)
     assert office.collect().status == 0
-    assert "is_a_command" in refused(office, CONFIRM, "OUT 11111111.PAD.01.07", 1)
+    assert "is_a_line" in refused(office, CONFIRM, "OUT 11111111.PAD.01.07", 1)
     assert "are not stored" in refused(office, "UPDATE orders SET state = 'pending', number = 9, answer = NULL,"
                                        " line = 'CONFIRM 3', confirms = 3 WHERE confirms = 2")
 
 
 def test_lines_that_are_no_commands(office: Office, box: Box) -> None:
-    for line in ("CONFIRM 1", "HEAR 1 E5", "OUT x\nHEAR 1 E5", "OUT", "OUT  x", "FIT a 1 2 3 4", "OUT " + "x" * 97):
+    for line in ("CONFIRM 1", "HEAR 1 E5", "OUT", "OUT a b", "FIT a 1 2", "FIT a 1 2 3 4", "OUTER x"):
         assert "is_a_command" in refused(office, ORDER, line), line
+    for line in ("OUT x\nHEAR 1 E5", "OUT  x", "OUT ", "out x", "", "OUT " + "x" * 97):
+        assert "is_a_line" in refused(office, ORDER, line), line
+
+
+def test_confirm_is_no_command(office: Office) -> None:
+    """Not even for who owns the tables: a clerk's CONFIRM would lose readings."""
+    assert "check constraint" in refused(office, "INSERT INTO box_commands VALUES ('CONFIRM', 1)")
+    for role in ("clerk", "collector", "reader"):
+        assert "permission denied" in refused(office, "INSERT INTO box_commands VALUES ('HIDE', 1)", role=role)
 
 
 def test_what_a_clerk_may_do(office: Office, box: Box) -> None:
