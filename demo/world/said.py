@@ -7,6 +7,8 @@ FUNCTIONS = ("instantaneous", "maximum", "minimum", "error state")
 
 Object = dict[str, Any]
 
+REPORTED = ("moment", "utc", "status", "values")  # of a reading's last telegram
+
 
 def value_of(record: Object) -> str:
     """What is after `=` in the line of a record."""
@@ -60,7 +62,7 @@ def poll_line_of(event: Object) -> str:
     body = f" {fault['number']} {fault['name']}" if fault else ""
     rest = {"read": ("meter", "serial", "parts"), "failed": ("meter", "number", "name"),
             "refused": ("meter", "number", "name"), "late": ("line", "answers"), "end": ("read", "failed")}[kind]
-    why = ("line", "heard") if kind == "failed" else ()
-    assert list(event) == ["event", *rest, *(["fault"] if fault else []), *why], event
+    more = {"failed": ("line", "heard"), "read": REPORTED}.get(kind, ())
+    assert list(event) == ["event", *rest, *(["fault"] if fault else []), *more], event
     assert list(event.get("heard", {})) in ([], ["silent", "noise", "others"]), event
     return " ".join([kind.upper(), *(str(event[field]) for field in rest)]) + body

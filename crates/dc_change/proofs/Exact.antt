@@ -8,7 +8,7 @@ use Rattle.std.proofs.lemmas.List.{take_at, drop_at, take-append-drop, length-ta
 use Rattle.std.proofs.lemmas.List.Elements.{All-nil, All-cons, All-head, All-tail}
 use Rattle.std.proofs.lemmas.List.Concat.{flat_map-cons}
 use Rattle.dc_change.specs.declared.decode_fault.DecodeFault.{DecodeFault}
-use Rattle.dc_change.specs.Reading.{Reader, Gives, ◌>>=◌, both, chosen, only, many, listed, split_at}
+use Rattle.dc_change.specs.Pieces.{Reader, Gives, ◌>>=◌, both, chosen, only, many, listed, split_at}
 
 -- ---- bytes
 

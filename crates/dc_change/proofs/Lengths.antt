@@ -9,7 +9,8 @@ use Rattle.dc_address.specs.declared.identity.Identity.{Identity}
 use Rattle.dc_address.specs.Identity.{wire_of}
 use Rattle.dc_address.proofs.Identities.{length-wire_of}
 use Rattle.dc_change.specs.State.{State, MeterRow, PartRow, ReadingRow}
-use Rattle.dc_change.specs.Encoding.{long_bytes, count_bytes, byte, counted, address_byte, part_bytes, parts_bytes, meter_bytes, reading_bytes, head_bytes, meters_bytes, readings_bytes, state_bytes}
+use Rattle.dc_change.specs.Pieces.{long_bytes, count_bytes, byte, counted, address_byte}
+use Rattle.dc_change.specs.Encoding.{part_bytes, parts_bytes, meter_bytes, reading_bytes, head_bytes, meters_bytes, readings_bytes, state_bytes}
 use Rattle.dc_change.specs.Size.{part_size, parts_size, meter_size, reading_size, size_of}
 use Rattle.dc_change.specs.Valid.{IsState}
 

@@ -12,8 +12,8 @@ pub mod Lengths
 pub mod Exact
 -- each reading takes exactly its spelling
 pub mod PieceSpellings
--- a change is read where it is spelled
-pub mod ChangeSpellings
+-- a command has one line, and a change is read where it is spelled
+pub mod CommandSpellings
 -- a state is read where it is spelled
 pub mod StateSpellings
 -- changes that are read one after the other, as a loop does

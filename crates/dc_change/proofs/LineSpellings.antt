@@ -19,12 +19,10 @@ use Rattle.dc_change.proofs.Decimals.{decimal_is_word}
 use Rattle.dc_address.specs.Digits.{decimal_digits}
 use Rattle.dc_address.specs.Maker.{first_letter, second_letter, third_letter}
 use Rattle.dc_address.specs.Text.{text_of, decimal_code, hex_code}
-use Rattle.dc_address.proofs.Texts.{length-text_of, same_from_text, text_rest}
+use Rattle.dc_address.proofs.Texts.{same_from_text, text_rest}
 use Rattle.dc_address.specs.declared.identity.Identity.{Identity}
-use Rattle.dc_change.specs.Line.{IsOfBytes, NamesMeters, address_word, arguments_of, command_text, line_of, verb_of}
-use Rattle.dc_change.specs.Valid.{IsAddress, IsBusLine, IsCommand, IsNumber}
-use Rattle.dc_change.specs.declared.command.Command.{Command}
-use Rattle.dc_change.specs.declared.command.Command.TheVariants.{Fit, Move, Out, Confirm, Swap}
+use Rattle.dc_change.specs.Fields.{IsOfBytes, address_word}
+use Rattle.dc_change.specs.Fields.{IsAddress, IsBusLine, IsNumber}
 
 -- ---- numbers
 
@@ -159,13 +157,6 @@ pub address_is_word : (address : Option ℕ) → IsAddress address → IsWord (a
 address_is_word None is = refl
 address_is_word (Some address) is = decimal_is_word address (omega arith)
 
-pub verb_is_word : (command : Command) → IsWord (verb_of command)
-verb_is_word (Fit meter line address flat) = refl
-verb_is_word (Move meter flat) = refl
-verb_is_word (Out meter) = refl
-verb_is_word (Confirm serial) = refl
-verb_is_word (Swap old new address) = refl
-
 -- what begins with S is the address of no number
 pub s_is_secondary : (address : Option ℕ) (word : List ℕ) → get_or word 0 0 ≡ 83 → IsAddress address → word ≡ address_word address → address ≡ None
 s_is_secondary None word s is spelled = refl
@@ -177,112 +168,21 @@ s_is_secondary (Some address) word s is spelled =
 
 -- ---- lengths
 
-number_len : (number : ℕ) → number < 10 ^ 18 → length (decimal number) ≤ 18
+pub number_len : (number : ℕ) → number < 10 ^ 18 → length (decimal number) ≤ 18
 number_len number fits = length-decimal-le 18 number (omega arith) fits (omega arith)
 
-address_len : (address : Option ℕ) → IsAddress address → length (address_word address) ≤ 3
+pub address_len : (address : Option ℕ) → IsAddress address → length (address_word address) ≤ 3
 address_len None is = omega arith
 address_len (Some address) is = length-decimal-le 3 address (omega arith) (omega arith) (omega arith)
 
-text_len : (command : Command) → IsCommand command → length (command_text command) ≤ 60
-text_len (Fit meter line address flat) is =
-    simp length-append (omega (arith, length-text_of meter, length-decimal-le 1 line (omega arith) (omega arith) (omega arith), address_len address is.1, is.2.fits))
-text_len (Move meter flat) is = simp length-append (omega (arith, length-text_of meter))
-text_len (Out meter) is = simp length-append (omega (arith, length-text_of meter))
-text_len (Confirm serial) is = omega (arith, number_len serial is)
-text_len (Swap old new address) is = simp length-append (omega (arith, length-text_of old, length-text_of new, address_len address is))
+-- ---- words spell one value
 
-pub line_fits : (line : List ℕ) (number : ℕ) (command : Command) → IsNumber number → IsCommand command → line ≡ line_of number command → length line ≤ 120
-unfolding line_of
-line_fits line number command is_number is_command is =
-    omega (arith, ap length is, length-append (decimal number) (32 ∷ command_text command), number_len number is_number.high, text_len command is_command)
-
--- ---- a line spells one command
-
-one_meter : (meter other : Identity) → IsOfBytes meter → IsOfBytes other → text_of meter ≡ text_of other → meter ≡ other
+pub one_meter : (meter other : Identity) → IsOfBytes meter → IsOfBytes other → text_of meter ≡ text_of other → meter ≡ other
 one_meter meter other is is_other same =
     same_from_text (text_of other) meter other is.version is.kind is_other.version is_other.kind (sym same) refl
 
-one_address : (address other : Option ℕ) → IsAddress address → IsAddress other → address_word address ≡ address_word other → address ≡ other
+pub one_address : (address other : Option ℕ) → IsAddress address → IsAddress other → address_word address ≡ address_word other → address ≡ other
 one_address None None is is_other same = refl
 one_address None (Some other) is is_other same = sym (s_is_secondary (Some other) (codes "S") refl is_other same)
 one_address (Some address) None is is_other same = s_is_secondary (Some address) (codes "S") refl is (sym same)
 one_address (Some address) (Some other) is is_other same = ap Some (decimal_injective address other (omega arith) (omega arith) same)
-
-pub record IsOneCommand (command other : Command) : Type 0 where
-  pub command_is : IsCommand command
-  pub other_is : IsCommand other
-  pub command_names : NamesMeters command
-  pub other_names : NamesMeters other
-  pub verbs : verb_of command ≡ verb_of other
-  pub arguments : arguments_of command ≡ arguments_of other
-
--- verbs with other first letters are other words
-apart : {verb other : List ℕ} → verb ≡ other → get_or verb 0 0 ≡ get_or other 0 0
-apart same = ap (λ (word : List ℕ). get_or word 0 0) same
-
-one_command : (command other : Command) → IsOneCommand command other → command ≡ other
-one_command (Fit meter line address flat) (Fit meter_2 line_2 address_2 flat_2) is =
-    let first = one_word (text_of meter) (text_of meter_2) _ _ (meter_is_word meter) (meter_is_word meter_2) is.arguments in
-    let second = one_word (decimal line) (decimal line_2) _ _ (line_is_word line is.command_is.0) (line_is_word line_2 is.other_is.0) first.1 in
-    let third = one_word (address_word address) (address_word address_2) _ _ (address_is_word address is.command_is.1) (address_is_word address_2 is.other_is.1) second.1 in
-    let meters = one_meter meter meter_2 is.command_names is.other_names first.0 in
-    let lines = decimal_injective line line_2 (omega arith) (omega arith) second.0 in
-    let addresses = one_address address address_2 is.command_is.1 is.other_is.1 third.0 in
-    cc third.1
-one_command (Fit meter line address flat) (Move meter_2 flat_2) is = absurd (omega (arith, apart is.verbs))
-one_command (Fit meter line address flat) (Out meter_2) is = absurd (omega (arith, apart is.verbs))
-one_command (Fit meter line address flat) (Confirm serial_2) is = absurd (omega (arith, apart is.verbs))
-one_command (Fit meter line address flat) (Swap old_2 new_2 address_2) is = absurd (omega (arith, apart is.verbs))
-one_command (Move meter flat) (Fit meter_2 line_2 address_2 flat_2) is = absurd (omega (arith, apart is.verbs))
-one_command (Move meter flat) (Move meter_2 flat_2) is =
-    let first = one_word (text_of meter) (text_of meter_2) _ _ (meter_is_word meter) (meter_is_word meter_2) is.arguments in
-    let meters = one_meter meter meter_2 is.command_names is.other_names first.0 in
-    cc first.1
-one_command (Move meter flat) (Out meter_2) is = absurd (omega (arith, apart is.verbs))
-one_command (Move meter flat) (Confirm serial_2) is = absurd (omega (arith, apart is.verbs))
-one_command (Move meter flat) (Swap old_2 new_2 address_2) is = absurd (omega (arith, apart is.verbs))
-one_command (Out meter) (Fit meter_2 line_2 address_2 flat_2) is = absurd (omega (arith, apart is.verbs))
-one_command (Out meter) (Move meter_2 flat_2) is = absurd (omega (arith, apart is.verbs))
-one_command (Out meter) (Out meter_2) is =
-    let meters = one_meter meter meter_2 is.command_names is.other_names is.arguments in
-    cc
-one_command (Out meter) (Confirm serial_2) is = absurd (omega (arith, apart is.verbs))
-one_command (Out meter) (Swap old_2 new_2 address_2) is = absurd (omega (arith, apart is.verbs))
-one_command (Confirm serial) (Fit meter_2 line_2 address_2 flat_2) is = absurd (omega (arith, apart is.verbs))
-one_command (Confirm serial) (Move meter_2 flat_2) is = absurd (omega (arith, apart is.verbs))
-one_command (Confirm serial) (Out meter_2) is = absurd (omega (arith, apart is.verbs))
-one_command (Confirm serial) (Confirm serial_2) is =
-    ap Confirm (decimal_injective serial serial_2 (omega arith) (omega arith) is.arguments)
-one_command (Confirm serial) (Swap old_2 new_2 address_2) is = absurd (omega (arith, apart is.verbs))
-one_command (Swap old new address) (Fit meter_2 line_2 address_2 flat_2) is = absurd (omega (arith, apart is.verbs))
-one_command (Swap old new address) (Move meter_2 flat_2) is = absurd (omega (arith, apart is.verbs))
-one_command (Swap old new address) (Out meter_2) is = absurd (omega (arith, apart is.verbs))
-one_command (Swap old new address) (Confirm serial_2) is = absurd (omega (arith, apart is.verbs))
-one_command (Swap old new address) (Swap old_2 new_2 address_2) is =
-    let first = one_word (text_of old) (text_of old_2) _ _ (meter_is_word old) (meter_is_word old_2) is.arguments in
-    let second = one_word (text_of new) (text_of new_2) _ _ (meter_is_word new) (meter_is_word new_2) first.1 in
-    let olds = one_meter old old_2 is.command_names.0 is.other_names.0 first.0 in
-    let news = one_meter new new_2 is.command_names.1 is.other_names.1 second.0 in
-    let addresses = one_address address address_2 is.command_is is.other_is second.1 in
-    cc
-
--- the word after the number, and what follows it
-text_is : (command : Command) → command_text command ≡ verb_of command ++ 32 ∷ arguments_of command
-text_is (Fit meter line address flat) = refl
-text_is (Move meter flat) = refl
-text_is (Out meter) = refl
-text_is (Confirm serial) = refl
-text_is (Swap old new address) = refl
-
-pub one_line : (m n : ℕ) (a b : Command) → IsNumber m → IsCommand a → NamesMeters a → IsNumber n → IsCommand b → NamesMeters b → line_of m a ≡ line_of n b → (m ≡ n) × (a ≡ b)
-unfolding line_of
-one_line m n a b is_m is_a names_a is_n is_b names_b same =
-    let number = one_word (decimal m) (decimal n) (command_text a) (command_text b) (number_is_word m is_m) (number_is_word n is_n) same in
-    let verb = one_word (verb_of a) (verb_of b) (arguments_of a) (arguments_of b) (verb_is_word a) (verb_is_word b) (sym (text_is a) ∙ number.1 ∙ text_is b) in (
-      decimal_injective m n (omega (arith, is_m.high)) (omega (arith, is_n.high)) number.0,
-      one_command a b (record { command_is = is_a; other_is = is_b; command_names = names_a; other_names = names_b; verbs = verb.0; arguments = verb.1 }),
-    )
-
--- the line of a command is read back
-pub ruleset line_read = (number_is_word, line_fits)

@@ -16,9 +16,12 @@ use Rattle.dc_record.proofs.Spellings.Telegrams.{telegram_takes, telegram_again}
 use Rattle.dc_change.specs.State.{PartRow}
 use Rattle.dc_change.specs.Flat.{IsFlat, is_flat_byte}
 use Rattle.dc_change.specs.Body.{BodyRow, IsBody, body_of}
-use Rattle.dc_change.specs.Valid.{last_moment, end_of_numbers, IsAddress, IsBusLine, IsNumber, IsPart, AreParts}
-use Rattle.dc_change.specs.Encoding.{long_bytes, count_bytes, byte, counted, address_byte, part_bytes, parts_bytes}
-use Rattle.dc_change.specs.Reading.{Reader, ◌>>=◌, byte_at, split_at, long_at, count_at, counted_at, identity_by, identity_of, identity_at, moment_at, number_at, serial_at, line_at, address_of, address_at, is_flat, flat_at, body_by, body_row, body_at, part_of, part_at, parts_at}
+use Rattle.dc_change.specs.Fields.{last_moment, end_of_numbers, IsAddress, IsBusLine, IsNumber}
+use Rattle.dc_change.specs.Valid.{IsPart, AreParts}
+use Rattle.dc_change.specs.Pieces.{long_bytes, count_bytes, byte, counted, address_byte}
+use Rattle.dc_change.specs.Encoding.{part_bytes, parts_bytes}
+use Rattle.dc_change.specs.Pieces.{Reader, ◌>>=◌, byte_at, split_at, long_at, count_at, counted_at, identity_by, identity_of, identity_at, moment_at, number_at, serial_at, line_at, address_of, address_at, is_flat, flat_at}
+use Rattle.dc_change.specs.Reading.{body_by, body_row, body_at, part_of, part_at, parts_at}
 use Rattle.dc_change.proofs.Exact.{IsBytes, IsBytes-front, Taken, Exact, Exact-both, Exact-chosen, Exact-restated, Exact-only, Exact-listed, Exact-split, bind_some, some_is, chosen_if, split_takes, split_again}
 
 -- ---- numbers

@@ -10,9 +10,10 @@ use Rattle.dc_change.specs.declared.decode_fault.DecodeFault.TheVariants.{Bad, N
 use Rattle.dc_change.specs.Valid.{IsChange}
 use Rattle.dc_change.specs.Encoding.{change_bytes, changes_bytes}
 use Rattle.dc_change.specs.Spelled.{SpellsChanges}
-use Rattle.dc_change.specs.Reading.{Fails, change_at}
+use Rattle.dc_change.specs.Pieces.{Fails}
+use Rattle.dc_change.specs.Reading.{change_at}
 use Rattle.dc_change.proofs.Exact.{IsBytes, IsBytes-behind, Next, next_of}
-use Rattle.dc_change.proofs.ChangeSpellings.{Exact-change, change_some}
+use Rattle.dc_change.proofs.CommandSpellings.{Exact-change, change_some}
 
 -- the bytes spell these changes, and the rest follows
 pub record IsReadUpTo (bytes : List ℕ) (changes : List Change) (rest : List ℕ) : Type 0 where

@@ -12,10 +12,13 @@ use Rattle.dc_address.specs.declared.identity.Identity.{Identity}
 use Rattle.dc_address.specs.Identity.{wire_of}
 use Rattle.dc_change.specs.State.{State, MeterRow, PartRow, ReadingRow}
 use Rattle.dc_change.specs.Size.{meter_size, reading_size, size_of}
-use Rattle.dc_change.specs.Valid.{IsState, IsMeter, IsReading, IsOpenSerial, end_of_numbers}
-use Rattle.dc_change.specs.Encoding.{long_bytes, byte, counted, address_byte, parts_bytes, meter_bytes, reading_bytes, head_bytes, meters_bytes, readings_bytes, state_bytes}
+use Rattle.dc_change.specs.Valid.{IsState, IsMeter, IsReading, IsOpenSerial}
+use Rattle.dc_change.specs.Fields.{end_of_numbers}
+use Rattle.dc_change.specs.Pieces.{long_bytes, byte, counted, address_byte}
+use Rattle.dc_change.specs.Encoding.{parts_bytes, meter_bytes, reading_bytes, head_bytes, meters_bytes, readings_bytes, state_bytes}
 use Rattle.dc_change.specs.Spelled.{SpellsState}
-use Rattle.dc_change.specs.Reading.{only, listed, count_at, entry_of, entry_at, reading_of, reading_at, Head, head_of, head_from, is_head, head_at}
+use Rattle.dc_change.specs.Pieces.{only, listed, count_at}
+use Rattle.dc_change.specs.Reading.{entry_of, entry_at, reading_of, reading_at, Head, head_of, head_from, is_head, head_at}
 use Rattle.dc_change.proofs.Exact.{IsBytes, rest_are, Exact, Exact-both, Exact-chosen, Exact-listed, some_is, chosen_if}
 use Rattle.dc_change.proofs.PieceSpellings.{Exact-long, Exact-count, Exact-counted, Exact-identity, Exact-line, Exact-address, Exact-flat, Exact-parts}
 

@@ -9,14 +9,17 @@ use Rattle.dc_record.specs.Telegram.{Parsed, IsTelegram as IsParsed}
 use Rattle.dc_io.specs.Hex.{bytes_of}
 use Rattle.dc_change.specs.Body.{BodyRow, IsBody, body_of}
 use Rattle.dc_change.specs.ChangeLine.{SpellsTelegram, IsLineOf}
-use Rattle.dc_change.specs.Line.{NamesMeters, command_text, line_of}
-use Rattle.dc_change.specs.Valid.{IsCommand, IsNumber, IsTelegram, last_moment, most_parts}
+use Rattle.dc_change.specs.Command.{NamesMeters, command_text, line_of}
+use Rattle.dc_change.specs.Command.{IsCommand}
+use Rattle.dc_change.specs.Fields.{IsNumber, last_moment, most_parts}
+use Rattle.dc_change.specs.Valid.{IsTelegram}
 use Rattle.dc_change.specs.Words.{IsWord}
 use Rattle.dc_change.specs.declared.change.Change.{Change}
 use Rattle.dc_change.specs.declared.change.Change.TheVariants.{Telegram, Command as Numbered}
 use Rattle.dc_change.specs.declared.command.Command.{Command}
 use Rattle.dc_change.proofs.Decimals.{decimal_is_word}
-use Rattle.dc_change.proofs.LineSpellings.{one_line, one_word}
+use Rattle.dc_change.proofs.CommandSpellings.{one_line}
+use Rattle.dc_change.proofs.LineSpellings.{one_word}
 
 pub part_is_word : (part : ℕ) → part ≤ most_parts → IsWord (decimal part)
 part_is_word part fits = decimal_is_word part (omega arith)

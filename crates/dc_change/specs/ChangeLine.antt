@@ -2,7 +2,7 @@
 use Rattle.std.specs.Prelude.{◌≡◌, ℕ, ◌≤◌, List, [], ◌∷◌, codes, length, decimal, Some}
 use Rattle.std.specs.List.{join_with_byte}
 use Rattle.dc_io.specs.Hex.{bytes_of}
-use Rattle.dc_change.specs.Line.{line_of, NamesMeters}
+use Rattle.dc_change.specs.Command.{line_of, NamesMeters}
 use Rattle.dc_change.specs.Valid.{IsChange}
 use Rattle.dc_change.specs.declared.change.Change.{Change}
 use Rattle.dc_change.specs.declared.change.Change.TheVariants.{Telegram, Command as Numbered}

@@ -1,38 +1,13 @@
--- The encoding of changes and states (this product): numbers little-endian, identities as they are
--- sent, texts and bodies after a length byte.
-use Rattle.std.specs.Prelude.{ℕ, Option, None, Some, List, [], ◌∷◌, ◌++◌, length}
+-- The encoding of changes and states (this product), from the pieces of `Pieces`.
+use Rattle.std.specs.Prelude.{ℕ, List, length, ◌++◌}
 use Rattle.std.specs.List.{flat_map}
-use Rattle.byteorder.specs.Endian.{little_bytes}
 use Rattle.dc_address.specs.declared.identity.Identity.{Identity}
 use Rattle.dc_address.specs.Identity.{wire_of}
 use Rattle.dc_change.specs.declared.change.Change.{Change}
 use Rattle.dc_change.specs.declared.change.Change.TheVariants.{Telegram, Command as Numbered}
-use Rattle.dc_change.specs.declared.command.Command.{Command}
-use Rattle.dc_change.specs.declared.command.Command.TheVariants.{Fit, Move, Out, Confirm, Swap}
 use Rattle.dc_change.specs.State.{State, MeterRow, PartRow, ReadingRow}
-
--- ---- pieces
-
--- a number in eight bytes
-unfoldable pub long_bytes : ℕ → List ℕ
-long_bytes number = little_bytes 8 number
-
--- a number in four bytes
-unfoldable pub count_bytes : ℕ → List ℕ
-count_bytes number = little_bytes 4 number
-
--- a byte
-unfoldable pub byte : ℕ → List ℕ
-byte value = value ∷ []
-
--- a length byte, then that many bytes
-unfoldable pub counted : List ℕ → List ℕ
-counted bytes = byte (length bytes) ++ bytes
-
--- the primary address; 0 for secondary addressing
-abbrev pub address_byte : Option ℕ → ℕ
-address_byte None = 0
-address_byte (Some address) = address
+use Rattle.dc_change.specs.Pieces.{address_byte, byte, count_bytes, counted, long_bytes}
+use Rattle.dc_change.specs.Command.{command_bytes}
 
 unfoldable pub part_bytes : PartRow → List ℕ
 part_bytes part = long_bytes part.moment ++ counted part.body
@@ -45,17 +20,6 @@ parts_bytes parts = byte (length parts) ++ flat_map part_bytes parts
 abbrev pub telegram_bytes : ℕ → ℕ → List ℕ → List ℕ
 telegram_bytes part moment body =
     (byte 1 ++ byte part) ++ part_bytes (record { moment = moment; body = body })
-
-abbrev pub command_bytes : ℕ → Command → List ℕ
-command_bytes number (Fit meter line address flat) =
-    ((((byte 2 ++ long_bytes number) ++ wire_of meter) ++ byte line) ++ byte (address_byte address))
-    ++ counted flat
-command_bytes number (Move meter flat) =
-    ((byte 3 ++ long_bytes number) ++ wire_of meter) ++ counted flat
-command_bytes number (Out meter) = (byte 4 ++ long_bytes number) ++ wire_of meter
-command_bytes number (Confirm serial) = (byte 5 ++ long_bytes number) ++ long_bytes serial
-command_bytes number (Swap old new address) =
-    (((byte 6 ++ long_bytes number) ++ wire_of old) ++ wire_of new) ++ byte (address_byte address)
 
 -- the length of the longest change in bytes: a telegram with the longest body
 abbrev pub longest_change : ℕ

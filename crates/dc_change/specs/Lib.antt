@@ -12,8 +12,12 @@ pub mod Body
 pub mod State
 -- the words of a billing office's line (this product)
 pub mod Words
--- the line of a billing office's command (this product)
-pub mod Line
+-- the values that a command or a row names (this product)
+pub mod Fields
+-- the bytes of the pieces that changes and states are made of (this product)
+pub mod Pieces
+-- the billing office's commands, their lines and bytes (this product)
+pub mod Command
 -- the line of a change (this product)
 pub mod ChangeLine
 -- the state after a change

@@ -1,54 +1,21 @@
 -- The valid changes and states: those that the encodings accept.
-use Rattle.std.specs.Prelude.{ℕ, ◌<◌, ◌≤◌, ◌^◌, Bool, Option, None, Some, List, length, map, All}
+use Rattle.std.specs.Prelude.{ℕ, ◌<◌, List, ◌≤◌, Bool, length, map, All}
 use Rattle.std.specs.Map.{keys_of, values_of}
 use Rattle.std.specs.List.Sorted.{IsStrictlySortedBy}
 use Rattle.std.specs.Ordering.{nat_cmp}
 use Rattle.dc_address.specs.declared.identity.Identity.{Identity}
 use Rattle.dc_address.specs.Identity.{identity_cmp}
-use Rattle.dc_address.specs.Primary.{IsPrimary}
 use Rattle.dc_change.specs.declared.change.Change.{Change}
 use Rattle.dc_change.specs.declared.change.Change.TheVariants.{Telegram, Command as Numbered}
-use Rattle.dc_change.specs.declared.command.Command.{Command}
-use Rattle.dc_change.specs.declared.command.Command.TheVariants.{Fit, Move, Out, Confirm, Swap}
 use Rattle.dc_change.specs.Flat.{IsFlat}
-use Rattle.dc_change.specs.Line.{longest_line}
 use Rattle.dc_change.specs.Body.{BodyRow, IsBody}
 use Rattle.dc_change.specs.State.{State, MeterRow, PartRow, ReadingRow}
 use Rattle.dc_change.specs.Size.{size_of}
-
--- the last second of the year 9999
-abbrev pub last_moment : ℕ
-last_moment = 253402300799
-
--- a part's place and the number of parts fit a byte
-abbrev pub most_parts : ℕ
-most_parts = 255
-
--- numbers and serials have at most 18 digits
-abbrev pub end_of_numbers : ℕ
-end_of_numbers = 10 ^ 18
-
-abbrev pub IsAddress : Option ℕ → Type 0
-IsAddress None = Unit {0}
-IsAddress (Some address) = IsPrimary address
-
-pub record IsBusLine (line : ℕ) : Type 0 where
-  pub low : 1 ≤ line
-  pub high : line ≤ 8
+use Rattle.dc_change.specs.Fields.{IsAddress, IsBusLine, IsNumber, end_of_numbers, last_moment}
+use Rattle.dc_change.specs.Fields.{most_parts}
+use Rattle.dc_change.specs.Command.{IsCommand, longest_line}
 
 -- ---- changes
-
-abbrev pub IsCommand : Command → Type 0
-IsCommand (Fit meter line address flat) = IsBusLine line × IsAddress address × IsFlat flat
-IsCommand (Move meter flat) = IsFlat flat
-IsCommand (Out meter) = Unit {0}
-IsCommand (Confirm serial) = serial < end_of_numbers
-IsCommand (Swap old new address) = IsAddress address
-
--- the number of a command
-pub record IsNumber (number : ℕ) : Type 0 where
-  pub low : 1 ≤ number
-  pub high : number < end_of_numbers
 
 pub record IsTelegram (part moment : ℕ) (body : BodyRow) : Type 0 where
   pub part_fits : part ≤ most_parts

@@ -6,7 +6,8 @@ ghost use Rattle.dc_io.specs.Hex.{bytes_of};
 ghost use Rattle.dc_change.specs.Body.{BodyRow, IsBody};
 ghost use Rattle.dc_change.specs.ChangeLine.{SpellsTelegram, Spells, IsLineOf};
 ghost use Rattle.dc_change.specs.ChangeLine.{longest_change_line};
-ghost use Rattle.dc_change.specs.Valid.{IsChange, IsTelegram, last_moment, most_parts};
+ghost use Rattle.dc_change.specs.Valid.{IsChange, IsTelegram};
+ghost use Rattle.dc_change.specs.Fields.{last_moment, most_parts};
 ghost use Rattle.dc_change.specs.declared.change.Change.{Change};
 
 use crate::words::{parse_number, split_word};

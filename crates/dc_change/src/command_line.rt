@@ -2,8 +2,9 @@
 
 ghost use Rattle.std.specs.Prelude.{◌≡◌, ◌+◌, ◌≤◌, ◌<◌, ◌++◌, ◌∷◌, SomeIff, [], length};
 ghost use Rattle.std.specs.Fmt.{decimal};
-ghost use Rattle.dc_change.specs.Line.{longest_line, most_digits};
-ghost use Rattle.dc_change.specs.Valid.{end_of_numbers};
+ghost use Rattle.dc_change.specs.Command.{longest_line};
+ghost use Rattle.dc_change.specs.Fields.{most_digits};
+ghost use Rattle.dc_change.specs.Fields.{end_of_numbers};
 
 use crate::LONGEST_LINE;
 use crate::kept::padded;
@@ -20,7 +21,7 @@ pub struct CommandLine {
 impl Model for CommandLine {
     ghost use Rattle.std.specs.Prelude.{ℕ, List, length, take};
     ghost use Rattle.dc_change.specs.Flat.{padded, IsKept};
-    ghost use Rattle.dc_change.specs.Line.{longest_line};
+    ghost use Rattle.dc_change.specs.Command.{longest_line};
 
     ghost Value = { List ℕ };
 

@@ -9,7 +9,7 @@ ghost use Rattle.dc_change.specs.Accepts.{Accepts};
 ghost use Rattle.dc_change.specs.History.{after, AcceptsAll};
 ghost use Rattle.dc_change.specs.Size.{size_of};
 ghost use Rattle.dc_change.specs.Encoding.{state_bytes, change_bytes, longest_change};
-ghost use Rattle.dc_change.specs.Line.{longest_line};
+ghost use Rattle.dc_change.specs.Command.{longest_line};
 ghost use Rattle.dc_change.specs.Valid.{IsChange, IsState};
 ghost use Rattle.dc_change.specs.Spelled.{SpellsState, SpellsChanges};
 
@@ -39,7 +39,7 @@ pub fn acceptance_goes_by_parts()
 
 /// The encoding of a state has the state's size, less the unused bytes of its last line: it is
 /// within the budget, and at least 33 bytes. The encoding of a change has 1 to 263 bytes.
-#[tactic(auto, using(crate::proofs::ChangeSpellings::change_sized, crate::proofs::Lengths::state_sized))]
+#[tactic(auto, using(crate::proofs::CommandSpellings::change_sized, crate::proofs::Lengths::state_sized))]
 pub fn length_of_spelling()
     ensures size { (s : State) → length (state_bytes s) + longest_line ≡ size_of s
         + length s.last_line }
@@ -52,7 +52,7 @@ pub fn length_of_spelling()
 /// No two states have the same encoding, and no two lists of changes; no change's encoding is a
 /// prefix of another's. An empty list is encoded as no bytes, and an appended change by its own
 /// bytes after the others'.
-#[tactic(auto, using(crate::proofs::StateSpellings::spelled_once, crate::proofs::ChangeSpellings::spelled_apart))]
+#[tactic(auto, using(crate::proofs::StateSpellings::spelled_once, crate::proofs::CommandSpellings::spelled_apart))]
 pub fn one_spelling()
     ensures states { (budget other : ℕ) (bytes : List ℕ) (s t : State) → budget < 2 ^ 32
         → other < 2 ^ 32 → SpellsState budget bytes s → SpellsState other bytes t → s ≡ t }

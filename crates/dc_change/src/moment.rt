@@ -1,7 +1,7 @@
 //! The time stamps of telegrams.
 
 ghost use Rattle.std.specs.Prelude.{◌≤◌};
-ghost use Rattle.dc_change.specs.Valid.{last_moment};
+ghost use Rattle.dc_change.specs.Fields.{last_moment};
 
 use crate::LAST_MOMENT;
 
@@ -15,7 +15,7 @@ pub struct Moment {
 
 impl Moment {
     ghost use Rattle.std.specs.Prelude.{◌≡◌, ◌<◌, ◌≤◌, MatchOption};
-    ghost use Rattle.dc_change.specs.Valid.{last_moment};
+    ghost use Rattle.dc_change.specs.Fields.{last_moment};
 
     /// Returns the time stamp of this many seconds since 1970, if it is in range.
     pub fn from_seconds(seconds: u64) -> Option<Moment>

@@ -3,18 +3,19 @@
 ghost use Rattle.std.specs.Prelude.{◌≤◌, ◌<◌, IfOk};
 ghost use Rattle.dc_change.specs.Flat.{IsFlat};
 ghost use Rattle.dc_change.specs.Body.{IsBody};
-ghost use Rattle.dc_change.specs.Valid.{IsNumber, IsBusLine, IsAddress, last_moment};
-ghost use Rattle.dc_change.specs.Valid.{end_of_numbers};
-ghost use Rattle.dc_change.specs.Reading.{Reads, byte_at, long_at, count_at, counted_at};
-ghost use Rattle.dc_change.specs.Reading.{identity_at, moment_at, number_at, serial_at, line_at};
-ghost use Rattle.dc_change.specs.Reading.{address_of, only, is_flat, body_at};
+ghost use Rattle.dc_change.specs.Fields.{IsNumber, IsBusLine, IsAddress, last_moment};
+ghost use Rattle.dc_change.specs.Fields.{end_of_numbers};
+ghost use Rattle.dc_change.specs.Pieces.{Reads, byte_at, long_at, count_at, counted_at};
+ghost use Rattle.dc_change.specs.Pieces.{identity_at, moment_at, number_at, serial_at, line_at};
+ghost use Rattle.dc_change.specs.Pieces.{address_of, only, is_flat};
+ghost use Rattle.dc_change.specs.Reading.{body_at};
 
 use crate::{Body, DecodeFault, END_OF_NUMBERS, Flat, Moment};
 use byteorder::{ByteOrder, LittleEndian};
 use dc_address::{Identity, Primary};
 
 /// Decodes a byte.
-#[tactic(auto, unfolding(crate::specs::Reading::byte_at))]
+#[tactic(auto, unfolding(crate::specs::Pieces::byte_at))]
 pub fn byte_at(bytes: &[u8]) -> Result<(u8, &[u8]), DecodeFault>
     ensures { Reads (λ x. (x.0, x.1.now)) result (byte_at bytes.now) }
 {
@@ -25,7 +26,7 @@ pub fn byte_at(bytes: &[u8]) -> Result<(u8, &[u8]), DecodeFault>
 }
 
 /// Decodes a number of eight bytes.
-#[tactic(auto, unfolding(crate::specs::Reading::long_at))]
+#[tactic(auto, unfolding(crate::specs::Pieces::long_at))]
 pub fn long_at(bytes: &[u8]) -> Result<(u64, &[u8]), DecodeFault>
     ensures { Reads (λ x. (x.0, x.1.now)) result (long_at bytes.now) }
 {
@@ -36,7 +37,7 @@ pub fn long_at(bytes: &[u8]) -> Result<(u64, &[u8]), DecodeFault>
 }
 
 /// Decodes a number of four bytes.
-#[tactic(auto, unfolding(crate::specs::Reading::count_at))]
+#[tactic(auto, unfolding(crate::specs::Pieces::count_at))]
 pub fn count_at(bytes: &[u8]) -> Result<(u32, &[u8]), DecodeFault>
     ensures { Reads (λ x. (x.0, x.1.now)) result (count_at bytes.now) }
 {
@@ -47,7 +48,7 @@ pub fn count_at(bytes: &[u8]) -> Result<(u32, &[u8]), DecodeFault>
 }
 
 /// Decodes a length byte, and that many bytes.
-#[tactic(auto, unfolding(crate::specs::Reading::counted_at))]
+#[tactic(auto, unfolding(crate::specs::Pieces::counted_at))]
 pub fn counted_at(bytes: &[u8]) -> Result<(&[u8], &[u8]), DecodeFault>
     ensures { Reads (λ x. (x.0.now, x.1.now)) result (counted_at bytes.now) }
 {
@@ -59,7 +60,7 @@ pub fn counted_at(bytes: &[u8]) -> Result<(&[u8], &[u8]), DecodeFault>
 }
 
 /// Decodes an identity, as it is sent.
-#[tactic(auto, unfolding(crate::specs::Reading::identity_at), using(crate::proofs::PieceSpellings::identity_read))]
+#[tactic(auto, unfolding(crate::specs::Pieces::identity_at), using(crate::proofs::PieceSpellings::identity_read))]
 pub fn identity_at(bytes: &[u8]) -> Result<(Identity, &[u8]), DecodeFault>
     ensures { Reads (λ x. (x.0, x.1.now)) result (identity_at bytes.now) }
 {
@@ -73,7 +74,7 @@ pub fn identity_at(bytes: &[u8]) -> Result<(Identity, &[u8]), DecodeFault>
 }
 
 /// Decodes a time stamp, up to the end of the year 9999.
-#[tactic(auto, unfolding(crate::specs::Reading::moment_at))]
+#[tactic(auto, unfolding(crate::specs::Pieces::moment_at))]
 pub fn moment_at(bytes: &[u8]) -> Result<(u64, &[u8]), DecodeFault>
     ensures read { Reads (λ x. (x.0, x.1.now)) result (moment_at bytes.now) }
     ensures fits { IfOk result (λ x. x.0 ≤ last_moment) }
@@ -86,7 +87,7 @@ pub fn moment_at(bytes: &[u8]) -> Result<(u64, &[u8]), DecodeFault>
 }
 
 /// Decodes the number of a command: at least 1, of at most 18 digits.
-#[tactic(auto, unfolding(crate::specs::Reading::number_at))]
+#[tactic(auto, unfolding(crate::specs::Pieces::number_at))]
 pub fn number_at(bytes: &[u8]) -> Result<(u64, &[u8]), DecodeFault>
     ensures read { Reads (λ x. (x.0, x.1.now)) result (number_at bytes.now) }
     ensures is_number { IfOk result (λ x. IsNumber x.0) }
@@ -100,7 +101,7 @@ pub fn number_at(bytes: &[u8]) -> Result<(u64, &[u8]), DecodeFault>
 }
 
 /// Decodes a serial of at most 18 digits.
-#[tactic(auto, unfolding(crate::specs::Reading::serial_at))]
+#[tactic(auto, unfolding(crate::specs::Pieces::serial_at))]
 pub fn serial_at(bytes: &[u8]) -> Result<(u64, &[u8]), DecodeFault>
     ensures read { Reads (λ x. (x.0, x.1.now)) result (serial_at bytes.now) }
     ensures fits { IfOk result (λ x. x.0 < end_of_numbers) }
@@ -114,7 +115,7 @@ pub fn serial_at(bytes: &[u8]) -> Result<(u64, &[u8]), DecodeFault>
 }
 
 /// Decodes a bus line, from 1 to 8.
-#[tactic(auto, unfolding(crate::specs::Reading::line_at))]
+#[tactic(auto, unfolding(crate::specs::Pieces::line_at))]
 pub fn line_at(bytes: &[u8]) -> Result<(u8, &[u8]), DecodeFault>
     ensures read { Reads (λ x. (x.0, x.1.now)) result (line_at bytes.now) }
     ensures is_line { IfOk result (λ x. IsBusLine x.0) }

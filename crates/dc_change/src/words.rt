@@ -4,7 +4,7 @@ ghost use Rattle.std.specs.Prelude.{◌≡◌, ◌<◌, ◌++◌, ◌∷◌, ◌
 ghost use Rattle.std.specs.Prelude.{IsTrue};
 ghost use Rattle.std.specs.List.{position};
 ghost use Rattle.std.specs.Fmt.{decimal};
-ghost use Rattle.dc_change.specs.Valid.{end_of_numbers};
+ghost use Rattle.dc_change.specs.Fields.{end_of_numbers};
 ghost use Rattle.dc_change.specs.Words.{IsWord, BeginsNumber, is_space};
 
 use crate::END_OF_NUMBERS;

@@ -2,7 +2,7 @@
 
 ghost use Rattle.std.specs.Prelude.{◌≡◌, ◌≤◌, ◌++◌, length, OnOk, OnErr};
 ghost use Rattle.dc_address.specs.Identity.{wire_of};
-ghost use Rattle.dc_change.specs.Encoding.{long_bytes, count_bytes, counted, byte};
+ghost use Rattle.dc_change.specs.Pieces.{long_bytes, count_bytes, counted, byte};
 ghost use Rattle.dc_io.specs.Written.{IsWritten, IsStopped};
 
 use byteorder::{ByteOrder, LittleEndian};
@@ -22,7 +22,7 @@ pub fn put<S: Sink>(sink: &mut S, bytes: &[u8]) -> Result<(), IoFault>
 }
 
 /// Writes a byte.
-#[tactic(auto, unfolding(crate::specs::Encoding::byte))]
+#[tactic(auto, unfolding(crate::specs::Pieces::byte))]
 pub fn put_byte<S: Sink>(sink: &mut S, value: u8) -> Result<(), IoFault>
     ensures ok { OnOk result (IsWritten S.Sink sink.old sink.new
         (byte value)) }
@@ -34,7 +34,7 @@ pub fn put_byte<S: Sink>(sink: &mut S, value: u8) -> Result<(), IoFault>
 }
 
 /// Writes a number as eight bytes.
-#[tactic(auto, unfolding(crate::specs::Encoding::long_bytes))]
+#[tactic(auto, unfolding(crate::specs::Pieces::long_bytes))]
 pub fn put_long<S: Sink>(sink: &mut S, number: u64) -> Result<(), IoFault>
     ensures ok { OnOk result (IsWritten S.Sink sink.old sink.new
         (long_bytes number)) }
@@ -48,7 +48,7 @@ pub fn put_long<S: Sink>(sink: &mut S, number: u64) -> Result<(), IoFault>
 }
 
 /// Writes a number as four bytes.
-#[tactic(auto, unfolding(crate::specs::Encoding::count_bytes))]
+#[tactic(auto, unfolding(crate::specs::Pieces::count_bytes))]
 pub fn put_count<S: Sink>(sink: &mut S, number: u32) -> Result<(), IoFault>
     ensures ok { OnOk result (IsWritten S.Sink sink.old sink.new
         (count_bytes number)) }

@@ -12,7 +12,7 @@ use Rattle.dc_readout.specs.Summary.{verdict_by, heard_by, begun}
 use Rattle.dc_change.specs.Apply.{applied}
 use Rattle.dc_change.specs.declared.change.Change.{Change}
 use Rattle.dc_change.specs.declared.change.Change.TheVariants.{Telegram, Command as Numbered}
-use Rattle.dc_change.specs.declared.command.Command.TheVariants.{Fit, Move, Out, Confirm, Swap}
+use Rattle.dc_change.specs.Command.{meter_removed}
 use Rattle.dc_change.specs.State.{Held, MeterRow, row_of}
 use Rattle.dc_office.specs.declared.line.OfficeLine.{OfficeLine}
 use Rattle.dc_office.specs.declared.verdict.Verdict.TheVariants.{Repeat, Do, Show, Refuse}
@@ -180,14 +180,10 @@ settled core = settled_core core core.pending
 abbrev pub held : ℕ → Core → Held
 held budget core = record { state = core.committed; budget = budget }
 
--- the meter that a command removes
+-- the meter that a change removes
 abbrev pub removed_by : Change → Option Identity
 removed_by (Telegram part moment body) = None
-removed_by (Numbered number (Fit meter line address flat)) = None
-removed_by (Numbered number (Move meter flat)) = None
-removed_by (Numbered number (Out meter)) = Some meter
-removed_by (Numbered number (Confirm serial)) = None
-removed_by (Numbered number (Swap old other address)) = Some old
+removed_by (Numbered number command) = meter_removed command
 
 abbrev pub lines_after : Option Identity → List (Option Summary) → List (Option Summary)
 lines_after None lines = lines

@@ -1,7 +1,7 @@
 //! The concentrator: a store, the register that it keeps, the pending changes, and the lines.
 
 ghost use Rattle.std.specs.Prelude.{◌≡◌, ◌≢◌, ◌≤◌, ◌<◌, ℕ, List, Err, OnOk, IfOk, IfErr, IfSome};
-ghost use Rattle.std.specs.Prelude.{MatchResult, false, length};
+ghost use Rattle.std.specs.Prelude.{IsSome, MatchResult, false, length};
 ghost use Rattle.dc_disk.specs.Disk.{Image, IsImage};
 ghost use Rattle.dc_disk.specs.Runs.{LeavesOnly, Counts, IsSettled};
 ghost use Rattle.dc_change.specs.State.{State};
@@ -10,7 +10,8 @@ ghost use Rattle.dc_pending.specs.Images.{EachStands, Reads, Stands, StandsForOn
 ghost use Rattle.dc_pending.specs.Images.{IsRefused, IsWorn};
 ghost use Rattle.dc_log.specs.Refusal.{TellsOfImage};
 ghost use Rattle.dc_log.specs.declared.fault.OpenFault.TheVariants.{NotImage, Worn, Device};
-ghost use Rattle.dc_pending.specs.Lines.{no_sessions};
+ghost use Rattle.dc_readout.specs.Bound.{most_requests};
+ghost use Rattle.dc_pending.specs.Lines.{no_sessions, requests_on};
 ghost use Rattle.dc_concentrator.specs.Core.{Core, opened};
 ghost use Rattle.dc_concentrator.specs.Event.{starts, asks, started, asked};
 ghost use Rattle.dc_concentrator.specs.Step.{May, next, longest_request};
@@ -150,6 +151,10 @@ impl<D: Disk + Drop, A: Allocator + Copy> Concentrator<D, A> {
             → IsAt D.Disk origin self.new (next core (starts line meter.now) (started result)) }
         ensures store { self.new.store ≡ self.old.store }
         ensures house { self.new.house ≡ self.old.house }
+        // Its session may make the requests of one readout; the other lines stay as they were.
+        ensures begins { OnOk result (requests_on line self.new.lines ≤ most_requests) }
+        ensures others { (other : ℕ) → 0 < other → other ≢ line
+            → requests_on other self.new.lines ≡ requests_on other self.old.lines }
     {
         if !is_line(line) {
             return Err(StartFault::NoLine);
@@ -175,6 +180,7 @@ impl<D: Disk + Drop, A: Allocator + Copy> Concentrator<D, A> {
         ensures may { (origin : D) (core : Core) → IsAt D.Disk origin self.now core
             → May self.now.house.budget core (asks line) (asked result) }
         ensures short { IfSome result (λ request. length request ≤ longest_request) }
+        ensures left { IsSome result → 0 < requests_on line self.now.lines }
     {
         if !is_line(line) || self.store.is_stopped() {
             return None;

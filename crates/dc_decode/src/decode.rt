@@ -1,60 +1,20 @@
-//! The engine of `decode`: from lines of hex digits in a source to text in a sink.
+//! The command `decode`: from lines of hex digits in a source to text in a sink.
 
-ghost use Rattle.std.specs.Prelude.{◌≡◌, ◌≢◌, ◌<◌, ◌≤◌, [], length, take, Some, None, MatchOption};
-ghost use Rattle.std.specs.Prelude.{IfSome, IfOk, IfErr, OnOk, OnErr, IsErrOf};
+ghost use Rattle.std.specs.Prelude.{◌≡◌, ◌≢◌, ◌<◌, ◌≤◌, length, IfSome, IfOk, IfErr, OnOk, OnErr};
+ghost use Rattle.std.specs.Prelude.{IsErrOf};
 ghost use Rattle.dc_io.specs.Failures.{HasRisen};
 ghost use Rattle.dc_io.specs.Written.{PutsInto, Wrote};
 ghost use Rattle.dc_io.specs.Lines.{longest_input_line, most_input, most_spelled};
-ghost use Rattle.dc_decode.specs.Text.{decoded, line_text, is_bad_line, text_of, has_fault};
+ghost use Rattle.dc_decode.specs.Text.{text_of, has_fault};
 
-use crate::frames::put_frames;
-use dc_io::{
-    CHUNK, IoFault, LONGEST, MOST, Sink, Source, TextFault, decode_hex_line, first_line,
-    read_input, room,
-};
+use crate::input::Input;
+use crate::lines::put_lines_as;
+use crate::text::Text;
+use dc_io::{IoFault, Sink, Source, TextFault};
 use std::alloc::Allocator;
-
-/// Decodes a line of hex digits and returns the number of bytes; `None` if it isn't pairs of hex
-/// digits, or is too long. `digits` is room for the line without its spaces.
-#[tactic(auto, unfolding(crate::specs::Text::decoded))]
-pub fn decode_line(line: &[u8], digits: &mut [u8], bytes: &mut [u8]) -> Option<usize>
-    requires digits { longest_input_line ≤ length digits.old }
-    requires bytes { most_spelled ≤ length bytes.old }
-    ensures count { IfSome result (λ n. n ≤ most_spelled) }
-    ensures value { MatchOption result (decoded line.now ≡ None)
-        (λ n. decoded line.now ≡ Some (take n bytes.new)) }
-{
-    if line.len() > LONGEST {
-        return None;
-    }
-    decode_hex_line(line, digits, bytes)
-}
-
-// Writes the text of a line, and returns whether it has a fault.
-#[tactic(auto, using(dc_io::proofs::Pieces::written), unfolding(crate::specs::Text::line_text, crate::specs::Text::is_bad_line))]
-fn put_line<W: Sink>(
-    line: &[u8],
-    digits: &mut [u8],
-    bytes: &mut [u8],
-    out: &mut W,
-) -> Result<bool, IoFault>
-    requires digits { longest_input_line ≤ length digits.old }
-    requires bytes { most_spelled ≤ length bytes.old }
-    ensures wrote { Wrote W.Sink result out.old out.new (line_text line.now) }
-    ensures fault { IfOk result (λ bad. bad ≡ is_bad_line line.now) }
-{
-    match decode_line(line, digits, bytes) {
-        Some(count) => put_frames(&bytes[..count], out),
-        None => {
-            out.put(b"HEX FAULT\n")?;
-            Ok(true)
-        }
-    }
-}
 
 /// Writes the text of an input's lines, and returns whether it has a fault. `digits` and `bytes` are
 /// room for a line.
-#[tactic(auto, using(dc_io::proofs::Pieces::written, crate::proofs::Inputs::lines))]
 pub fn put_lines<W: Sink>(
     input: &[u8],
     digits: &mut [u8],
@@ -66,15 +26,7 @@ pub fn put_lines<W: Sink>(
     ensures wrote { Wrote W.Sink result out.old out.new (text_of input.now) }
     ensures fault { IfOk result (λ bad. bad ≡ has_fault input.now) }
 {
-    let mut found = false;
-    let mut rest = input;
-    'lines: while !rest.is_empty() {
-        let (line, after) = first_line(rest);
-        let bad = put_line(line, digits, bytes, out)?;
-        found |= bad;
-        rest = after;
-    }
-    Ok(found)
+    put_lines_as::<Text, W>(input, digits, bytes, out)
 }
 
 /// Decodes the lines of hex digits left in the reader: writes the frames of each line, and the
@@ -115,20 +67,5 @@ pub fn decode_lines<A: Allocator + Copy, R: Source, W: Sink>(
     // After any fault but a failed write the writer is unchanged.
     ensures untouched { IfErr result (λ fault. fault ≢ TextFault.Write → writer.new ≡ writer.old) }
 {
-    let mut digits = room(alloc, LONGEST)?;
-    let mut bytes = room(alloc, LONGEST / 2)?;
-    let mut chunk = room(alloc, CHUNK)?;
-    let input = read_input(alloc, reader, chunk.as_mut_slice())?;
-    if input.len() > MOST {
-        return Err(TextFault::TooLong);
-    }
-    match put_lines(
-        input.as_slice(),
-        digits.as_mut_slice(),
-        bytes.as_mut_slice(),
-        writer,
-    ) {
-        Ok(found) => Ok(found),
-        Err(_) => Err(TextFault::Write),
-    }
+    Input::read(alloc, reader)?.put_as::<Text, W>(writer)
 }

@@ -5,7 +5,7 @@ ghost use Rattle.dc_frame.specs.Frame.{seen};
 ghost use Rattle.dc_io.specs.Written.{Wrote};
 ghost use Rattle.dc_decode.specs.Frames.{front_len, frames_of, read_as, content_text};
 ghost use Rattle.dc_decode.specs.Frames.{is_bad_content, short_line, long_line, frame_text};
-ghost use Rattle.dc_decode.specs.Frames.{is_bad_frame, shown, is_bad, all_shown, any_bad};
+ghost use Rattle.dc_decode.specs.Frames.{is_bad_frame, shown, is_bad};
 
 use crate::telegram::put_telegram;
 use dc_frame::{Frame, FrameFault, Need, need, parse};
@@ -125,9 +125,9 @@ fn put_frame<W: Sink>(frame: Frame<'_>, out: &mut W) -> Result<bool, IoFault>
     }
 }
 
-// Writes the line of a text, frame or fault, and returns whether it has a fault.
+/// Writes the line of a text, frame or fault, and returns whether it has a fault.
 #[tactic(auto, using(dc_io::proofs::Pieces::written), unfolding(crate::specs::Frames::shown, crate::specs::Frames::is_bad))]
-fn put_shown<W: Sink>(text: &[u8], out: &mut W) -> Result<bool, IoFault>
+pub fn put_shown<W: Sink>(text: &[u8], out: &mut W) -> Result<bool, IoFault>
     ensures wrote { Wrote W.Sink result out.old out.new (shown text.now) }
     ensures fault { IfOk result (λ bad. bad ≡ is_bad text.now) }
 {
@@ -138,22 +138,4 @@ fn put_shown<W: Sink>(text: &[u8], out: &mut W) -> Result<bool, IoFault>
             Ok(true)
         }
     }
-}
-
-/// Writes the lines of the frames in a line's bytes, and returns whether one has a fault.
-#[tactic(auto, using(dc_io::proofs::Pieces::written, crate::proofs::Cuts::shows))]
-pub fn put_frames<W: Sink>(bytes: &[u8], out: &mut W) -> Result<bool, IoFault>
-    ensures wrote { Wrote W.Sink result out.old out.new
-        (all_shown (frames_of bytes.now)) }
-    ensures fault { IfOk result (λ bad. bad ≡ any_bad (frames_of bytes.now)) }
-{
-    let mut found = false;
-    let mut rest = bytes;
-    'frames: while !rest.is_empty() {
-        let (text, after) = first_frame(rest);
-        let bad = put_shown(text, out)?;
-        found |= bad;
-        rest = after;
-    }
-    Ok(found)
 }

@@ -11,20 +11,32 @@
 //! `decode_lines` writes many small pieces: callers pass it a buffered sink, such as
 //! [`Buffered`](dc_io::Buffered).
 //!
-//! [`put_lines`] does the same for an input that is at hand, and needs no memory of its own. Other
-//! crates that read frames from lines use [`decode_line`], [`first_frame`] and [`read_frame`].
+//! [`put_lines`] does the same for an input that is at hand, and needs no memory of its own.
+//!
+//! `decode --json` and `decode --explain` write the same frames in another form: a [`LineForm`] is
+//! called by one loop over lines and frames, [`put_lines_as`] for an input that is at hand, and
+//! [`Input`] for one that is read. Other crates that read frames use [`first_frame`] and
+//! [`read_frame`].
 //!
 //! Theorem: [`frames_are_told_in_turn`]. A line's bytes split into texts without loss, and
 //! consecutive frames are printed one by one.
 #![tactic(auto)]
 
 mod decode;
+mod form;
 mod frames;
+mod input;
 mod laws;
+mod lines;
 mod seen;
 mod telegram;
+mod text;
 
-pub use decode::{decode_line, decode_lines, put_lines};
-pub use frames::{first_frame, put_frames, read as read_frame};
+pub use decode::{decode_lines, put_lines};
+pub use form::LineForm;
+pub use frames::{first_frame, read as read_frame};
+pub use input::Input;
 pub use laws::frames_are_told_in_turn;
+pub use lines::put_lines_as;
 pub use seen::put_point;
+pub use text::put_frames;

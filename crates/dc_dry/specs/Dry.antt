@@ -1,4 +1,4 @@
--- What a poll would do (this product): the queues of dc_poll, bounds, and the refusals before anything is asked.
+-- What a poll would do (this product): the queues of dc_poll, bounds, the refusals before anything is asked, and the room.
 use Rattle.std.specs.Prelude.{ℕ, ◌-◌, ◌*◌, ◌^◌, min, Bool, true, false, List, [], ◌∷◌, ◌++◌, codes, length, filter}
 use Rattle.std.specs.Prelude.{flat_map, slice_index_or, if◌then◌else◌, Option, None, Some}
 use Rattle.dc_address.specs.Text.{text_of}
@@ -10,6 +10,7 @@ use Rattle.dc_poll.specs.Planned.{asked_for, is_queued, queue_on, refusal_of}
 use Rattle.dc_poll.specs.Queue.{most_asks}
 use Rattle.dc_poll.specs.declared.end.Refusal.TheVariants.{Start}
 use Rattle.dc_poll.specs.declared.event.Event.TheVariants.{Refused}
+use Rattle.dc_status.specs.Status.{readings_left, room_words}
 use Rattle.dc_teller.specs.Text.{line_of}
 
 -- whether a line has a link
@@ -84,6 +85,6 @@ refused_text links only state = flat_map (meter_text links state) (asked_for onl
 
 -- ---- all
 
-unfoldable pub dry_text : List Bool → List Identity → ℕ → State → List ℕ
-dry_text links only tries state =
-    lines_text links only tries state numbers ++ refused_text links only state
+unfoldable pub dry_text : List Bool → List Identity → ℕ → ℕ → State → List ℕ
+dry_text links only tries budget state = lines_text links only tries state numbers
+    ++ (refused_text links only state ++ room_words (readings_left budget state))

@@ -10,6 +10,7 @@ use crate::refusal::put_refused;
 use dc_address::Identity;
 use dc_io::{IoFault, Sink, put_number_word};
 use dc_register::House;
+use dc_status::put_room_left;
 use std::alloc::Allocator;
 
 /// Number of bus lines.
@@ -32,8 +33,8 @@ pub struct Dry<'a> {
     pub tries: u8,
 }
 
-/// Prints what a poll would do: of each line with a link its queue, and how many readouts and requests it makes at most;
-/// then each meter that would be refused.
+/// Prints what a poll would do: of each line with a link its queue, and the maximum number of its readouts and requests;
+/// then each meter that would be refused, and how many more readings there is room for.
 #[tactic(auto, using(dc_io::proofs::Pieces::written), unfolding(crate::specs::Dry::dry_text))]
 pub fn put_dry<A: Allocator + Copy, W: Sink>(
     out: &mut W,
@@ -41,10 +42,12 @@ pub fn put_dry<A: Allocator + Copy, W: Sink>(
     dry: &Dry<'_>,
 ) -> Result<(), IoFault>
     ensures { Wrote W.Sink result out.old out.new
-        (dry_text dry.now.links dry.now.only.now dry.now.tries house.now.state) }
+        (dry_text dry.now.links dry.now.only.now dry.now.tries house.now.budget
+        house.now.state) }
 {
     put_lines(out, house, dry, &NUMBERS)?;
-    put_refused(out, house, dry)
+    put_refused(out, house, dry)?;
+    put_room_left(out, house)
 }
 
 // Prints what is said of each line.

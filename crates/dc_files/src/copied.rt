@@ -1,5 +1,8 @@
 //! The copy of an image that is looked at, in memory. The file may be written meanwhile.
 
+ghost use Rattle.std.specs.Prelude.{◌≡◌, IfErr};
+ghost use Rattle.dc_files.specs.Copied.{IsOfCopy};
+
 use crate::host::Host;
 use crate::image::{open_to_look, wait};
 use crate::why::Noted;
@@ -26,7 +29,7 @@ const TRIES: u32 = 100;
 // Number of readings after the first before a pause.
 const READINGS: u32 = 4;
 
-/// An image as it stood at one instant. It is read and written as a file; what is written stays in memory.
+/// An image as it was at one instant. It is read and written as a file; what is written stays in memory.
 #[derive(Drop)]
 pub struct Copied {
     sectors: Vec<Cell<Sector>, Global>,
@@ -43,7 +46,9 @@ pub struct Copied {
 pub fn copy_image<'a, R: Files<File = File> + AllocGlobal>(
     host: &Host<'_, R>,
     name: &'a str,
-) -> Result<Copied, Ending<'a>> {
+) -> Result<Copied, Ending<'a>>
+    ensures { IfErr result (λ ending. IsOfCopy ending name.now) }
+{
     let file = match open_to_look(host.rt, name) {
         Ok(file) => file,
         Err(error) => return Err(host.why.file(name, error)),

@@ -76,7 +76,7 @@ impl HalfMade {
     }
 }
 
-/// Whether both are the same file, by device and inode number.
+/// Whether both are the same file, by device and inode number. The contracts of std state neither number, so this has none.
 pub fn is_same_file(one: &Metadata, other: &Metadata) -> bool {
     one.dev() == other.dev() && one.ino() == other.ino()
 }

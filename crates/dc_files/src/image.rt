@@ -1,5 +1,8 @@
 //! Opens the file of an image. One program at a time may change it; others may look at it meanwhile.
 
+ghost use Rattle.std.specs.Prelude.{◌≡◌, IfErr};
+ghost use Rattle.std.specs.IoError.{error_kind};
+
 use libc::net::poll;
 use libc::types::rlimit;
 use std::fs::{File, OpenOptions, TryLockError};
@@ -81,7 +84,9 @@ fn open_regular<R: Files<File = File>>(
 /// # Errors
 /// It is longer than the limit of this process (`ulimit -f`). A write beyond the limit would end the
 /// program by a signal.
-pub fn within_limit(length: u64) -> io::Result<()> {
+pub fn within_limit(length: u64) -> io::Result<()>
+    ensures { IfErr result (λ error. error_kind error ≡ ErrorKind.InvalidInput) }
+{
     let mut limit = rlimit {
         rlim_cur: u64::MAX,
         rlim_max: u64::MAX,
@@ -96,7 +101,9 @@ pub fn within_limit(length: u64) -> io::Result<()> {
 }
 
 /// The refusal of a folder, a pipe or a device.
-pub fn no_file() -> io::Error {
+pub fn no_file() -> io::Error
+    ensures { error_kind result ≡ ErrorKind.InvalidInput }
+{
     io::Error::new(ErrorKind::InvalidInput, "it is no regular file")
 }
 

@@ -1,6 +1,6 @@
 //! Why a run failed: the system's message for the failed call.
 
-ghost use Rattle.std.specs.Prelude.{◌≡◌};
+ghost use Rattle.std.specs.Prelude.{◌≡◌, true, false};
 ghost use Rattle.dc_ending.specs.Outcome.{IsOfFile};
 
 use crate::image::read_anew;
@@ -34,7 +34,8 @@ pub struct DiskReason {
     pub error: io::Error,
 }
 
-/// The last failed call that may end the run, and the last one of an image's file.
+/// The last failed call that may end the run, and the last one of an image's file. They are in cells, and no contract
+/// states what a cell holds: what is noted here is tested.
 #[derive(Drop)]
 pub struct Why {
     last: Cell<Option<Reason>>,
@@ -111,7 +112,10 @@ pub struct Noted<'w, T: Drop> {
 
 impl<'w, T: Drop> Noted<'w, T> {
     /// Wraps the file or stream; its failed calls are noted in `why`.
-    pub fn new(inner: T, why: &'w Why) -> Self {
+    pub fn new(inner: T, why: &'w Why) -> Self
+        ensures inner { result.inner ≡ inner }
+        ensures writes { result.is_look ≡ false }
+    {
         Noted {
             inner,
             why,
@@ -122,7 +126,10 @@ impl<'w, T: Drop> Noted<'w, T> {
     /// Wraps the file of an image that is only looked at: what the drive can't read is an unreadable
     /// sector then. A command that writes would take it for a write that a power cut stopped, and
     /// write over what the drive had synced.
-    pub fn look(inner: T, why: &'w Why) -> Self {
+    pub fn look(inner: T, why: &'w Why) -> Self
+        ensures inner { result.inner ≡ inner }
+        ensures looks { result.is_look ≡ true }
+    {
         Noted {
             inner,
             why,

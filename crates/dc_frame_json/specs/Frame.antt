@@ -1,7 +1,7 @@
 -- A link frame or its fault as JSON (this product; frames are those of EN 13757-2, bodies those of
 -- EN 13757-3).
-use Rattle.std.specs.Prelude.{ℕ, ◌==◌, if◌then◌else◌, List, [], ◌∷◌, ◌++◌, codes, Option, Some}
-use Rattle.std.specs.Prelude.{None, Result, Ok, Err, map}
+use Rattle.std.specs.Prelude.{ℕ, ◌==◌, if◌then◌else◌, List, [], ◌∷◌, ◌++◌, codes}
+use Rattle.std.specs.Prelude.{Result, Ok, Err}
 use Rattle.dc_io.specs.Hex.{upper_hex}
 use Rattle.json.specs.Json.{Json, string}
 use Rattle.dc_frame.specs.declared.fault.FrameFault.{FrameFault}

@@ -1,11 +1,11 @@
 -- A meter's identity and its status byte as JSON (this product; the fields are those of EN 13757-3, long data header).
 use Rattle.std.specs.Prelude.{ℕ, ◌/◌, ◌%◌, ◌==◌, Bool, List, [], ◌∷◌, codes, slice_range}
-use Rattle.json.specs.Json.{Json, string, boolean}
+use Rattle.json.specs.Json.{string, boolean}
 use Rattle.dc_address.specs.declared.identity.Identity.{Identity}
 use Rattle.dc_address.specs.Text.{text_of}
 use Rattle.dc_names.specs.Media.{medium_name}
 use Rattle.dc_names.specs.Fields.{application_name}
-use Rattle.dc_tokens.specs.Object.{Field, object_of, count}
+use Rattle.dc_tokens.specs.Object.{Field, count}
 
 -- the printed identity, and its parts: eight digits, three letters, the version and the device type
 unfoldable pub identity_fields : Identity → List Field

@@ -1,5 +1,5 @@
 -- A data record as JSON (this product; the fields are those of EN 13757-3, data record).
-use Rattle.std.specs.Prelude.{ℕ, ◌%◌, if◌then◌else◌, List, [], ◌∷◌, ◌++◌, codes, length, ◌==◌, map}
+use Rattle.std.specs.Prelude.{ℕ, if◌then◌else◌, List, [], ◌∷◌, ◌++◌, codes, length, ◌==◌, map}
 use Rattle.std.specs.Prelude.{Option, Some, None}
 use Rattle.dc_io.specs.Hex.{upper_hex}
 use Rattle.json.specs.Json.{Json, string, null}

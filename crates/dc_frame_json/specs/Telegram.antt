@@ -1,5 +1,5 @@
 -- A telegram as JSON (this product; the fields are those of EN 13757-3, variable data structure).
-use Rattle.std.specs.Prelude.{ℕ, Bool, true, false, List, [], ◌∷◌, ◌++◌, codes, map}
+use Rattle.std.specs.Prelude.{Bool, true, false, List, [], ◌∷◌, ◌++◌, codes, map}
 use Rattle.dc_io.specs.Hex.{upper_hex}
 use Rattle.json.specs.Json.{Json, string, boolean, null}
 use Rattle.dc_record.specs.declared.header.Header.{Header}

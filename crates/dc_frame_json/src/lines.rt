@@ -1,20 +1,20 @@
-//! The engine of `decode --json`: from lines of hex digits in a source to JSON objects in a sink.
+//! The command `decode --json`: from lines of hex digits in a source to JSON objects in a sink.
 
-ghost use Rattle.std.specs.Prelude.{◌≡◌, ◌≢◌, ◌+◌, ◌<◌, ◌≤◌, ◌^◌, length, map, IfSome, IfOk, IfErr};
+ghost use Rattle.std.specs.Prelude.{◌≡◌, ◌≢◌, ◌<◌, ◌≤◌, length, IfSome, IfOk, IfErr};
 ghost use Rattle.std.specs.Prelude.{OnOk, OnErr, IsErrOf};
 ghost use Rattle.json.specs.Print.{print};
 ghost use Rattle.json.specs.Tree.{json_tokens};
 ghost use Rattle.dc_io.specs.Failures.{HasRisen};
 ghost use Rattle.dc_io.specs.Lines.{longest_input_line, most_input, most_spelled};
 ghost use Rattle.dc_io.specs.Written.{PutsInto, Wrote};
-ghost use Rattle.dc_decode.specs.Frames.{frames_of, is_bad, any_bad};
-ghost use Rattle.dc_decode.specs.Text.{is_bad_line, has_fault};
+ghost use Rattle.dc_decode.specs.Frames.{is_bad};
+ghost use Rattle.dc_decode.specs.Text.{has_fault};
 ghost use Rattle.dc_frame_json.specs.Frame.{text_json, hex_fault_json};
-ghost use Rattle.dc_frame_json.specs.Text.{value_line, lines_text, line_objects, json_text};
+ghost use Rattle.dc_frame_json.specs.Text.{value_line, json_text};
 
 use crate::frame::{put_hex_fault_json, put_text_json};
-use dc_decode::{decode_line, first_frame};
-use dc_io::{CHUNK, IoFault, LONGEST, MOST, Sink, Source, TextFault, first_line, read_input, room};
+use dc_decode::{Input, LineForm, put_lines_as};
+use dc_io::{IoFault, Sink, Source, TextFault};
 use dc_tokens::TokenWriter;
 use std::alloc::Allocator;
 
@@ -52,24 +52,6 @@ fn put_text_line<W: Sink>(out: &mut W, line: u64, bytes: &[u8]) -> Result<bool, 
     Ok(bad)
 }
 
-// Writes the lines of the frames in a line's bytes, and returns whether one has a fault.
-#[tactic(auto, using(dc_io::proofs::Pieces::written, dc_decode::proofs::Cuts::shows, crate::proofs::InputObjects::mapped))]
-fn put_frames<W: Sink>(out: &mut W, line: u64, bytes: &[u8]) -> Result<bool, IoFault>
-    ensures wrote { Wrote W.Sink result out.old out.new
-        (lines_text (map (text_json line) (frames_of bytes.now))) }
-    ensures fault { IfOk result (λ found. found ≡ any_bad (frames_of bytes.now)) }
-{
-    let mut found = false;
-    let mut rest = bytes;
-    'frames: while !rest.is_empty() {
-        let (text, after) = first_frame(rest);
-        let bad = put_text_line(out, line, text)?;
-        found |= bad;
-        rest = after;
-    }
-    Ok(found)
-}
-
 // Writes the line of an input line that isn't pairs of hex digits.
 #[tactic(auto, using(dc_io::proofs::Pieces::written), unfolding(crate::specs::Text::value_line))]
 fn put_fault_line<W: Sink>(out: &mut W, line: u64) -> Result<(), IoFault>
@@ -79,34 +61,33 @@ fn put_fault_line<W: Sink>(out: &mut W, line: u64) -> Result<(), IoFault>
     out.put(b"\n")
 }
 
-// Writes the lines of an input line, and returns whether one has a fault. `digits` and `bytes` are
-// room for the decoding.
-#[tactic(auto, using(dc_io::proofs::Pieces::written, crate::proofs::InputObjects::hex_fault_line), unfolding(crate::specs::Text::line_objects, dc_decode::specs::Text::is_bad_line))]
-fn put_line<W: Sink>(
-    out: &mut W,
-    number: u64,
-    line: &[u8],
-    digits: &mut [u8],
-    bytes: &mut [u8],
-) -> Result<bool, IoFault>
-    requires digits { longest_input_line ≤ length digits.old }
-    requires bytes { most_spelled ≤ length bytes.old }
-    ensures wrote { Wrote W.Sink result out.old out.new
-        (lines_text (line_objects number line.now)) }
-    ensures fault { IfOk result (λ bad. bad ≡ is_bad_line line.now) }
-{
-    match decode_line(line, digits, bytes) {
-        Some(count) => put_frames(out, number, &bytes[..count]),
-        None => {
-            put_fault_line(out, number)?;
-            Ok(true)
-        }
+/// The form of `decode --json`: an object on each line.
+struct Objects;
+
+impl LineForm for Objects {
+    ghost use Rattle.dc_frame_json.specs.Frame.{text_json, hex_fault_json};
+    ghost use Rattle.dc_frame_json.specs.Text.{value_line};
+
+    ghost frame_text = { λ line bytes. value_line (text_json line bytes) };
+
+    ghost fault_text = { λ line. value_line (hex_fault_json line) };
+
+    fn put_frame<W: Sink>(
+        line: u64,
+        _start: usize,
+        bytes: &[u8],
+        out: &mut W,
+    ) -> Result<bool, IoFault> {
+        put_text_line(out, line, bytes)
+    }
+
+    fn put_hex_fault<W: Sink>(line: u64, out: &mut W) -> Result<(), IoFault> {
+        put_fault_line(out, line)
     }
 }
 
 /// Writes the JSON lines of an input of hex digits, and returns whether it has a fault. `digits` and
 /// `bytes` are room for a line.
-#[tactic(auto, using(dc_io::proofs::Pieces::written, dc_decode::proofs::Inputs::lines, crate::proofs::InputObjects::objects, crate::proofs::InputObjects::texts))]
 pub fn put_json_lines<W: Sink>(
     input: &[u8],
     digits: &mut [u8],
@@ -118,17 +99,7 @@ pub fn put_json_lines<W: Sink>(
     ensures wrote { Wrote W.Sink result out.old out.new (json_text input.now) }
     ensures fault { IfOk result (λ bad. bad ≡ has_fault input.now) }
 {
-    let mut found = false;
-    let mut number = 1;
-    let mut rest = input;
-    'lines: while !rest.is_empty() {
-        let (line, after) = first_line(rest);
-        let bad = put_line(out, number, line, digits, bytes)?;
-        found |= bad;
-        number += 1;
-        rest = after;
-    }
-    Ok(found)
+    put_lines_as::<Objects, W>(input, digits, bytes, out)
 }
 
 /// Writes the lines of hex digits left in the reader as JSON Lines (RFC 8259): an object for each
@@ -172,20 +143,5 @@ pub fn json_lines<A: Allocator + Copy, R: Source, W: Sink>(
     // After any fault but a failed write the writer is unchanged.
     ensures untouched { IfErr result (λ fault. fault ≢ TextFault.Write → writer.new ≡ writer.old) }
 {
-    let mut digits = room(alloc, LONGEST)?;
-    let mut bytes = room(alloc, LONGEST / 2)?;
-    let mut chunk = room(alloc, CHUNK)?;
-    let input = read_input(alloc, reader, chunk.as_mut_slice())?;
-    if input.len() > MOST {
-        return Err(TextFault::TooLong);
-    }
-    match put_json_lines(
-        input.as_slice(),
-        digits.as_mut_slice(),
-        bytes.as_mut_slice(),
-        writer,
-    ) {
-        Ok(found) => Ok(found),
-        Err(_) => Err(TextFault::Write),
-    }
+    Input::read(alloc, reader)?.put_as::<Objects, W>(writer)
 }

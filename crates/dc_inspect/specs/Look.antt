@@ -1,14 +1,19 @@
 -- The result of reading an image: for the contracts of private functions.
-use Rattle.std.specs.Prelude.{◌≡◌, ◌⊎◌, ℕ, Option, option_map}
+use Rattle.std.specs.Prelude.{◌≡◌, ◌⊎◌, ◌≤◌, ℕ, Option, option_map, IfSome, Result}
+use Rattle.std.specs.Prelude.{IfErr, IsErrOf}
+use Rattle.dc_io.specs.Failures.{HasRisen}
 use Rattle.dc_disk.specs.Disk.{Image}
+use Rattle.dc_disk.specs.Runs.{Counts}
+use Rattle.dc_disk.specs.declared.device.Disk.{Ghosts}
 use Rattle.dc_change.specs.State.{Held}
 use Rattle.dc_roots.specs.Held.{IsHeld}
 use Rattle.dc_ending.specs.declared.fault.ProgramFault.{ProgramFault}
 use Rattle.dc_ending.specs.declared.fault.ProgramFault.TheVariants.{Open, NoMemory as Refused}
+use Rattle.dc_log.specs.Halves.{budget_of, half_start, half_end}
 use Rattle.dc_log.specs.declared.fault.OpenFault.{OpenFault}
 use Rattle.dc_log.specs.declared.fault.OpenFault.TheVariants.{Device, NoMemory}
 use Rattle.dc_log.specs.declared.reading.Found.{Found}
-use Rattle.dc_inspect.specs.Told.{Seen, IsLook}
+use Rattle.dc_inspect.specs.Told.{Seen, IsLook, IsOfLook}
 use Rattle.dc_inspect.specs.declared.look.Slots.{Slots}
 
 -- the contents of the slots
@@ -24,8 +29,22 @@ seen_of found = record {
   state = found.house.state;
 }
 
+-- Where a state was found, its budget is that of a half, and its place lies in its half.
+abbrev pub IsPlaced : {A : Type 0} → ℕ → Option (Found Held A) → Type 0
+IsPlaced half_len found =
+    IfSome found (λ f. f.house.budget ≡ budget_of half_len)
+    × IfSome found (λ f. f.root.half ≤ 1)
+    × IfSome found (λ f. half_start half_len f.root.half ≤ f.place)
+    × IfSome found (λ f. f.place ≤ half_end half_len f.root.half)
+
 abbrev pub IsSeen : {A : Type 0} → ℕ → Image → Option (Found Held A) → Option OpenFault → Type 0
 IsSeen half_len image found refusal = IsLook half_len image (option_map seen_of found) refusal
+
+-- Its failures are counted, and what ends it is the disk, which has counted one, or memory.
+abbrev pub EndsLook : {D X : Type 0} → Ghosts D → D → D → Result X ProgramFault → Type 0
+EndsLook g old new result =
+    Counts g old new (IsErrOf result (Open Device))
+    × IfErr result (IsOfLook (HasRisen (g.failures old) (g.failures new)) ⊥)
 
 -- the program fault for a reading fault that ends the inspection
 abbrev pub IsStop : OpenFault → ProgramFault → Type 0

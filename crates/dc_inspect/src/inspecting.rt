@@ -1,14 +1,13 @@
 //! The engine of `inspect`.
 
-ghost use Rattle.std.specs.Prelude.{◌≡◌, ◌≢◌, ◌<◌, ◌≤◌, ◌++◌, Some, IfOk, IfErr, IfSome, OnOk};
+ghost use Rattle.std.specs.Prelude.{◌≡◌, ◌≢◌, ◌<◌, ◌≤◌, ◌++◌, Some, IfOk, IfErr, OnOk};
 ghost use Rattle.std.specs.Prelude.{IsErrOf, option_map};
 ghost use Rattle.dc_io.specs.Failures.{HasRisen};
 ghost use Rattle.dc_io.specs.Stream.{Puts};
 ghost use Rattle.dc_io.specs.Written.{PutsInto, Wrote};
 ghost use Rattle.dc_disk.specs.Runs.{OnlyLooked, Counts};
-ghost use Rattle.dc_log.specs.Halves.{budget_of, fewest_sectors, half_start, half_end};
-ghost use Rattle.dc_log.specs.Halves.{longest_half};
-ghost use Rattle.dc_inspect.specs.Look.{seen_of};
+ghost use Rattle.dc_log.specs.Halves.{fewest_sectors, longest_half};
+ghost use Rattle.dc_inspect.specs.Look.{EndsLook, IsPlaced, seen_of};
 ghost use Rattle.dc_inspect.specs.Text.{refused_line};
 ghost use Rattle.dc_inspect.specs.Told.{IsOfLook, Tells, TellsImage, TellsSmall, disk_line};
 ghost use Rattle.dc_inspect.specs.Told.{image_text, seen_text};
@@ -35,12 +34,7 @@ fn put_image<A: Allocator + Copy, W: Sink>(
     look: &Look<A>,
 ) -> Result<(), IoFault>
     requires most { half_len ≤ longest_half }
-    requires budget { IfSome look.now.found (λ found. found.house.budget ≡ budget_of half_len) }
-    requires half { IfSome look.now.found (λ found. found.root.half ≤ 1) }
-    requires from { IfSome look.now.found (λ found.
-        half_start half_len found.root.half ≤ found.place) }
-    requires within { IfSome look.now.found (λ found.
-        found.place ≤ half_end half_len found.root.half) }
+    requires placed { IsPlaced half_len look.now.found }
     ensures { Wrote W.Sink result out.old out.new
         (image_text half_len slots.now.first slots.now.second
         (option_map seen_of look.now.found) look.now.refusal) }
@@ -59,10 +53,7 @@ fn put_found<A: Allocator + Copy, W: Sink>(
     found: &Option<Found<House<A>>>,
 ) -> Result<(), IoFault>
     requires most { half_len ≤ longest_half }
-    requires budget { IfSome found.now (λ found. found.house.budget ≡ budget_of half_len) }
-    requires half { IfSome found.now (λ found. found.root.half ≤ 1) }
-    requires from { IfSome found.now (λ found. half_start half_len found.root.half ≤ found.place) }
-    requires within { IfSome found.now (λ found. found.place ≤ half_end half_len found.root.half) }
+    requires placed { IsPlaced half_len found.now }
     ensures { Wrote W.Sink result out.old out.new
         (seen_text half_len (option_map seen_of found.now)) }
 {
@@ -85,12 +76,7 @@ fn put_disk<A: Allocator + Copy, W: Sink>(
     look: &Look<A>,
 ) -> Result<(), IoFault>
     requires most { half_len ≤ longest_half }
-    requires budget { IfSome look.now.found (λ found. found.house.budget ≡ budget_of half_len) }
-    requires half { IfSome look.now.found (λ found. found.root.half ≤ 1) }
-    requires from { IfSome look.now.found (λ found.
-        half_start half_len found.root.half ≤ found.place) }
-    requires within { IfSome look.now.found (λ found.
-        found.place ≤ half_end half_len found.root.half) }
+    requires placed { IsPlaced half_len look.now.found }
     ensures { Wrote W.Sink result out.old out.new
         (disk_line sectors ++ image_text half_len slots.now.first slots.now.second
         (option_map seen_of look.now.found) look.now.refusal) }
@@ -122,9 +108,7 @@ fn tell_image<A: Allocator + Copy, D: Disk>(
         TellsImage sectors (D.reads disk.old) refusal
         (Puts (Some text.old.bytes) (Some text.new.bytes))) }
     ensures looked { OnlyLooked D.Disk disk.old disk.new }
-    ensures counts { Counts D.Disk disk.old disk.new (IsErrOf result (ProgramFault.Open Device)) }
-    ensures faults { IfErr result (IsOfLook
-        (HasRisen (D.failures disk.old) (D.failures disk.new)) ⊥) }
+    ensures ends { EndsLook D.Disk disk.old disk.new result }
 {
     let half_len = half_len_of(sectors);
     let slots = match read_slots(disk) {
@@ -164,9 +148,7 @@ fn tell_disk<A: Allocator + Copy, D: Disk>(
         Tells (D.sectors disk.old) (D.reads disk.old) refusal
         (Puts (Some text.old.bytes) (Some text.new.bytes))) }
     ensures looked { OnlyLooked D.Disk disk.old disk.new }
-    ensures counts { Counts D.Disk disk.old disk.new (IsErrOf result (ProgramFault.Open Device)) }
-    ensures faults { IfErr result (IsOfLook
-        (HasRisen (D.failures disk.old) (D.failures disk.new)) ⊥) }
+    ensures ends { EndsLook D.Disk disk.old disk.new result }
 {
     let sectors = disk.count();
     if sectors < FEWEST_SECTORS {

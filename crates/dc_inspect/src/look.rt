@@ -1,13 +1,11 @@
 //! The contents of an image that is only read.
 
-ghost use Rattle.std.specs.Prelude.{◌≡◌, ◌<◌, ◌≤◌, ◌+◌, ◌*◌, IfOk, IfErr, IfSome, IsErr, IsErrOf};
-ghost use Rattle.dc_io.specs.Failures.{HasRisen};
+ghost use Rattle.std.specs.Prelude.{◌≡◌, ◌<◌, ◌≤◌, ◌+◌, ◌*◌, IfOk, IfErr, IsErr};
 ghost use Rattle.dc_disk.specs.Runs.{OnlyLooked, Counts};
-ghost use Rattle.dc_log.specs.declared.fault.OpenFault.TheVariants.{Device};
-ghost use Rattle.dc_log.specs.Halves.{budget_of, half_start, half_end, longest_half};
+ghost use Rattle.dc_log.specs.Halves.{longest_half};
 ghost use Rattle.dc_log.specs.Refusal.{TellsOfImage};
-ghost use Rattle.dc_inspect.specs.Look.{AreHeld, IsSeen, IsStop};
-ghost use Rattle.dc_inspect.specs.Told.{IsOfLook, IsWearOf};
+ghost use Rattle.dc_inspect.specs.Look.{AreHeld, EndsLook, IsPlaced, IsSeen, IsStop};
+ghost use Rattle.dc_inspect.specs.Told.{IsWearOf};
 
 use dc_disk::{Disk, Failed};
 use dc_ending::ProgramFault;
@@ -83,16 +81,8 @@ pub(crate) fn look_at<A: Allocator + Copy, D: Disk>(
     ensures seen { D.keeps disk.new → IfOk result (λ look.
         IsSeen half_len (D.reads disk.old) look.found look.refusal) }
     ensures looked { OnlyLooked D.Disk disk.old disk.new }
-    ensures budget { IfOk result (λ look.
-        IfSome look.found (λ found. found.house.budget ≡ budget_of half_len)) }
-    ensures half { IfOk result (λ look. IfSome look.found (λ found. found.root.half ≤ 1)) }
-    ensures from { IfOk result (λ look.
-        IfSome look.found (λ found. half_start half_len found.root.half ≤ found.place)) }
-    ensures within { IfOk result (λ look.
-        IfSome look.found (λ found. found.place ≤ half_end half_len found.root.half)) }
-    ensures counts { Counts D.Disk disk.old disk.new (IsErrOf result (ProgramFault.Open Device)) }
-    ensures faults { IfErr result (IsOfLook
-        (HasRisen (D.failures disk.old) (D.failures disk.new)) ⊥) }
+    ensures placed { IfOk result (λ look. IsPlaced half_len look.found) }
+    ensures ends { EndsLook D.Disk disk.old disk.new result }
 {
     match read_image(alloc, disk, half_len) {
         Ok(found) => {

@@ -8,7 +8,7 @@ ghost use Rattle.dc_io.specs.Written.{PutsInto, Wrote};
 ghost use Rattle.dc_disk.specs.Runs.{OnlyLooked, Counts};
 ghost use Rattle.dc_log.specs.Halves.{fewest_sectors};
 ghost use Rattle.dc_log.specs.declared.fault.OpenFault.TheVariants.{Device};
-ghost use Rattle.dc_inspect.specs.Look.{seen_of};
+ghost use Rattle.dc_inspect.specs.Look.{EndsLook, seen_of};
 ghost use Rattle.dc_inspect.specs.Status.{TellsAt, TellsStatus, seen_silent, seen_status};
 ghost use Rattle.dc_inspect.specs.Status.{status_in};
 ghost use Rattle.dc_inspect.specs.Told.{IsOfLook};
@@ -91,9 +91,7 @@ fn tell_image<A: Allocator + Copy, D: Disk>(
         TellsStatus form clock sectors (D.reads disk.old) answer.0 answer.1
         (Puts (Some text.old.bytes) (Some text.new.bytes))) }
     ensures looked { OnlyLooked D.Disk disk.old disk.new }
-    ensures counts { Counts D.Disk disk.old disk.new (IsErrOf result (ProgramFault.Open Device)) }
-    ensures faults { IfErr result (IsOfLook
-        (HasRisen (D.failures disk.old) (D.failures disk.new)) ⊥) }
+    ensures ends { EndsLook D.Disk disk.old disk.new result }
 {
     let look = look_at(alloc, disk, half_len_of(sectors))?;
     match put_found(text, form, clock, &look.found) {
@@ -114,9 +112,7 @@ fn tell_disk<A: Allocator + Copy, D: Disk>(
         TellsAt form clock (D.sectors disk.old) (D.reads disk.old) answer.0 answer.1
         (Puts (Some text.old.bytes) (Some text.new.bytes))) }
     ensures looked { OnlyLooked D.Disk disk.old disk.new }
-    ensures counts { Counts D.Disk disk.old disk.new (IsErrOf result (ProgramFault.Open Device)) }
-    ensures faults { IfErr result (IsOfLook
-        (HasRisen (D.failures disk.old) (D.failures disk.new)) ⊥) }
+    ensures ends { EndsLook D.Disk disk.old disk.new result }
 {
     let sectors = disk.count();
     if sectors < FEWEST_SECTORS {

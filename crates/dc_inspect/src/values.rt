@@ -1,6 +1,6 @@
 //! The engine of `values`.
 
-ghost use Rattle.std.specs.Prelude.{◌≡◌, ◌≢◌, ◌<◌, ◌≤◌, ◌++◌, ◌↔◌, IsOk, Some, IfOk, IfErr, IfSome, OnOk, IsErrOf};
+ghost use Rattle.std.specs.Prelude.{◌≡◌, ◌≢◌, ◌<◌, ◌≤◌, ◌++◌, ◌↔◌, IsOk, Some, IfOk, IfErr, OnOk, IsErrOf};
 ghost use Rattle.std.specs.Prelude.{option_map};
 ghost use Rattle.dc_io.specs.Failures.{HasRisen};
 ghost use Rattle.dc_io.specs.Stream.{Puts};
@@ -8,7 +8,7 @@ ghost use Rattle.dc_io.specs.Written.{PutsInto};
 ghost use Rattle.dc_disk.specs.Runs.{OnlyLooked, Counts};
 ghost use Rattle.dc_log.specs.Halves.{fewest_sectors};
 ghost use Rattle.dc_log.specs.declared.fault.OpenFault.TheVariants.{Device};
-ghost use Rattle.dc_inspect.specs.Look.{seen_of};
+ghost use Rattle.dc_inspect.specs.Look.{EndsLook, seen_of};
 ghost use Rattle.dc_inspect.specs.Told.{IsOfLook};
 ghost use Rattle.dc_inspect.specs.Values.{Shows, ShowsImage, seen_values, values_in};
 
@@ -89,9 +89,7 @@ fn show_image<A: Allocator + Copy, D: Disk>(
         ShowsImage form sectors (D.reads disk.old) refusal
         (Puts (Some text.old.bytes) (Some text.new.bytes))) }
     ensures looked { OnlyLooked D.Disk disk.old disk.new }
-    ensures counts { Counts D.Disk disk.old disk.new (IsErrOf result (ProgramFault.Open Device)) }
-    ensures faults { IfErr result (IsOfLook
-        (HasRisen (D.failures disk.old) (D.failures disk.new)) ⊥) }
+    ensures ends { EndsLook D.Disk disk.old disk.new result }
 {
     let look = look_at(alloc, disk, half_len_of(sectors))?;
     match add_found(alloc, form, &look.found, text) {
@@ -111,9 +109,7 @@ fn show_disk<A: Allocator + Copy, D: Disk>(
         Shows form (D.sectors disk.old) (D.reads disk.old) refusal
         (Puts (Some text.old.bytes) (Some text.new.bytes))) }
     ensures looked { OnlyLooked D.Disk disk.old disk.new }
-    ensures counts { Counts D.Disk disk.old disk.new (IsErrOf result (ProgramFault.Open Device)) }
-    ensures faults { IfErr result (IsOfLook
-        (HasRisen (D.failures disk.old) (D.failures disk.new)) ⊥) }
+    ensures ends { EndsLook D.Disk disk.old disk.new result }
 {
     let sectors = disk.count();
     if sectors < FEWEST_SECTORS {

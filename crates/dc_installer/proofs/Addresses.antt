@@ -1,5 +1,5 @@
 -- Addresses that are asked in turn.
-use Rattle.std.proofs.Common.{◌≡◌, ℕ, zero, suc, ◌+◌, ◌-◌, ◌≤◌, Bool, true, false, List, [], ◌∷◌, Option, None, refl, sym, ap, ◌∙◌, subst, arith}
+use Rattle.std.proofs.Common.{◌≡◌, ℕ, zero, suc, ◌+◌, ◌-◌, ◌≤◌, Bool, true, false, List, [], ◌∷◌, Option, None, Some, Result, Ok, Err, refl, sym, ap, ◌∙◌, subst, arith}
 use Rattle.std.specs.List.{range_with_len}
 use Rattle.dc_address.specs.declared.identity.Identity.{Identity}
 use Rattle.dc_bus.specs.Bus.{AreExchanged, Exchange}
@@ -7,8 +7,10 @@ use Rattle.dc_bus.proofs.Exchanges.{exchanged-one}
 use Rattle.dc_frame.specs.Control.{request_to, reset_to}
 use Rattle.dc_frame.specs.Frame.{spelling}
 use Rattle.dc_frame.specs.Reading.{frame_of}
+use Rattle.dc_misses.specs.Misses.{misses_of}
+use Rattle.dc_misses.specs.declared.misses.Misses.{Misses}
 use Rattle.dc_search.specs.Answer.{answer_of}
-use Rattle.dc_installer.specs.Scan.{Acknowledges, AsksNext, AsksOne, Identifies, address_line, answers, is_ack, is_named, is_silent, prints, requests, resets}
+use Rattle.dc_installer.specs.Scan.{Acknowledges, AsksNext, AsksOne, Identifies, IdentifiesOr, address_line, answers, has_no_ack, is_ack, is_named, is_read, is_silent, is_unread, prints, requests, resets}
 use Rattle.dc_installer.specs.declared.primary.Acknowledgement.TheVariants.{Certain}
 
 module _ {B : Type 0} (asks : B → List ℕ → List ℕ → B → Type 0) where
@@ -43,6 +45,29 @@ module _ {B : Type 0} (asks : B → List ℕ → List ℕ → B → Type 0) wher
       let all = both old mid new address reset.0 request.0 reset.1 request.1 in
       let P : Option Identity → Type 0 = λ m. Identifies address (resets address reset.0 ∷ requests address request.0 ∷ []) m in
       (resets address reset.0 ∷ requests address request.0 ∷ [], all, subst P (sym request.2) (answers is))
+
+  -- the same, with what the failed try brought
+  pub no_ack : (old new : B) (address : ℕ) (answer : List ℕ) (acked : Bool) (misses : Misses) → asks old (spelling (reset_to address)) answer new
+      → acked ≡ is_ack (frame_of answer) → acked ≡ false → misses ≡ misses_of (answer ∷ [])
+      → Asked old new (λ exchanges. IdentifiesOr address exchanges (Err misses))
+  no_ack old new address answer acked misses asked is not counted =
+      let P : Misses → Type 0 = λ m. IdentifiesOr address (resets address answer ∷ []) (Err m) in
+      (resets address answer ∷ [], exchanged-one asks old new (spelling (reset_to address)) answer asked, subst P (sym counted) (has_no_ack (sym is ∙ not)))
+
+  pub no_name : (old mid new : B) (address : ℕ) (answer telegram : List ℕ) (acked : Bool) (misses : Misses) → asks old (spelling (reset_to address)) answer mid
+      → acked ≡ is_ack (frame_of answer) → acked ≡ true → asks mid (spelling (request_to true address)) telegram new
+      → answer_of telegram ≡ None → misses ≡ misses_of (telegram ∷ [])
+      → Asked old new (λ exchanges. IdentifiesOr address exchanges (Err misses))
+  no_name old mid new address answer telegram acked misses first is is_acked second unread counted =
+      let P : Misses → Type 0 = λ m. IdentifiesOr address (resets address answer ∷ requests address telegram ∷ []) (Err m) in
+      (resets address answer ∷ requests address telegram ∷ [], both old mid new address answer telegram first second, subst P (sym counted) (is_unread (sym is ∙ is_acked) unread))
+
+  pub name : (old mid new : B) (address : ℕ) (answer telegram : List ℕ) (acked : Bool) (meter : Identity) → asks old (spelling (reset_to address)) answer mid
+      → acked ≡ is_ack (frame_of answer) → acked ≡ true → asks mid (spelling (request_to true address)) telegram new
+      → answer_of telegram ≡ Some meter
+      → Asked old new (λ exchanges. IdentifiesOr address exchanges (Ok meter))
+  name old mid new address answer telegram acked meter first is is_acked second named =
+      (resets address answer ∷ requests address telegram ∷ [], both old mid new address answer telegram first second, is_read (sym is ∙ is_acked) named)
 
 module _ {B : Type 0} (asks : B → List ℕ → List ℕ → B → Type 0) (settles : B → B → Type 0) (ready : B → Bool) where
   -- the address is printed, with the meter that its telegram names

@@ -1,9 +1,15 @@
 -- lemmas by topic
 -- addresses that are asked in turn
 mod Addresses
+-- after a failure nothing is asked
+mod Failures
 -- a readout, exchange by exchange
 mod Readouts
 -- what is said of a result where it is Ok
 mod Results
 -- the steps of setting a primary address
 mod Changes
+-- the counts of a search's course, exchange by exchange
+mod Courses
+-- the tries that find a meter by its number
+mod Numbers

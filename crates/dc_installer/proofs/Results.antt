@@ -10,3 +10,7 @@ pub if_ok : {X E P : Type 0} {Q R : X → Type 0} (r : Result X E) → ((x : X) 
     → OnOk r P → IfOk r Q → IfOk r R
 if_ok (Ok x) then p q = then x p q
 if_ok (Err e) then p q = tt
+
+pub each_ok : {X E : Type 0} {Q R : X → Type 0} (r : Result X E) → ((x : X) → Q x → R x) → IfOk r Q → IfOk r R
+each_ok (Ok x) then q = then x q
+each_ok (Err e) then q = tt

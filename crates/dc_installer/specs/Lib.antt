@@ -7,3 +7,7 @@ pub mod Scan
 pub mod Address
 -- how far a search is
 pub mod Course
+-- what is said of answers that can't be read
+pub mod Unread
+-- the one meter with a number
+pub mod Number

@@ -1,6 +1,7 @@
 -- The search for meters on a bus, without an image (EN 13757-3, wildcards; EN 13757-2, primary addresses).
 use Rattle.std.specs.Prelude.{◌≡◌, ℕ, ◌+◌, ◌-◌, ◌≤◌, min, Bool, true, false, ◌&&◌, ◌==◌, if◌then◌else◌}
 use Rattle.std.specs.Prelude.{IsTrue, List, [], ◌∷◌, ◌++◌, codes, Option, None, Some, IfSome, length}
+use Rattle.std.specs.Prelude.{Result, Ok, Err}
 use Rattle.std.specs.List.{range_with_len}
 use Rattle.dc_address.specs.Text.{text_of}
 use Rattle.dc_address.specs.declared.identity.Identity.{Identity}
@@ -9,6 +10,8 @@ use Rattle.dc_bus.specs.Late.{Sought}
 use Rattle.dc_frame.specs.Control.{request_to, reset_to}
 use Rattle.dc_frame.specs.Frame.{FrameSeen, ack, short, long, spelling}
 use Rattle.dc_frame.specs.Reading.{frame_of}
+use Rattle.dc_misses.specs.Misses.{misses_of}
+use Rattle.dc_misses.specs.declared.misses.Misses.{Misses}
 use Rattle.dc_search.specs.Found.{search_text, search_text_after}
 use Rattle.dc_search.specs.Answer.{answer_of}
 use Rattle.dc_search.specs.State.{SearchState, is_idle, step_of}
@@ -98,6 +101,18 @@ pub data Identifies (address : ℕ) : List Exchange → Option Identity → Type
   answers : {answer telegram : List ℕ} → is_ack (frame_of answer) ≡ true
       → Identifies address (resets address answer ∷ requests address telegram ∷ [])
       (answer_of telegram)
+
+-- The same, with what the failed try brought where no meter is named.
+pub data IdentifiesOr (address : ℕ) : List Exchange → Result Identity Misses → Type 0 where
+  has_no_ack : {answer : List ℕ} → is_ack (frame_of answer) ≡ false
+      → IdentifiesOr address (resets address answer ∷ []) (Err (misses_of (answer ∷ [])))
+  is_read : {answer telegram : List ℕ} {meter : Identity} → is_ack (frame_of answer) ≡ true
+      → answer_of telegram ≡ Some meter
+      → IdentifiesOr address (resets address answer ∷ requests address telegram ∷ []) (Ok meter)
+  is_unread : {answer telegram : List ℕ} → is_ack (frame_of answer) ≡ true
+      → answer_of telegram ≡ None
+      → IdentifiesOr address (resets address answer ∷ requests address telegram ∷ [])
+      (Err (misses_of (telegram ∷ [])))
 
 -- these exchanges were all that went over the bus
 abbrev pub AreIdentified : {B : Type 0} → (B → List ℕ → List ℕ → B → Type 0) → ℕ → B

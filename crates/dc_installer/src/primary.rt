@@ -1,6 +1,6 @@
 //! The search at primary addresses.
 
-ghost use Rattle.std.specs.Prelude.{◌≡◌, ◌≤◌, ◌<◌, ◌+◌, ◌-◌, true, List, ℕ, OnOk, OnErr};
+ghost use Rattle.std.specs.Prelude.{◌≡◌, ◌≤◌, ◌<◌, ◌+◌, ◌-◌, ◌∷◌, [], true, List, ℕ, OnOk, OnErr};
 ghost use Rattle.std.specs.List.{range_with_len};
 ghost use Rattle.dc_io.specs.Failures.{HasRisen};
 ghost use Rattle.dc_bus.specs.Bus.{AreExchanged, Exchange};
@@ -9,15 +9,17 @@ ghost use Rattle.dc_frame.specs.Control.{request_to, reset_to};
 ghost use Rattle.dc_frame.specs.Frame.{spelling};
 ghost use Rattle.dc_frame.specs.Reading.{frame_of};
 ghost use Rattle.dc_io.specs.Written.{PutsInto, Wrote};
+ghost use Rattle.dc_misses.specs.Misses.{misses_of};
 ghost use Rattle.dc_installer.specs.Scan.{Acknowledges, AreIdentified, AsksAll, AsksEach};
-ghost use Rattle.dc_installer.specs.Scan.{AsksNext, AsksOne, Identifies, in_doubt};
+ghost use Rattle.dc_installer.specs.Scan.{AsksNext, AsksOne, IdentifiesOr, in_doubt};
 ghost use Rattle.dc_installer.specs.Scan.{address_line, greatest, identity_word, is_ack};
 
 use dc_address::{Identity, Primary};
-use dc_bus::{Bus, ScriptBus};
+use dc_bus::{AnswerBuf, Bus, ScriptBus};
 use dc_frame::control::{write_request, write_reset};
 use dc_frame::{Frame, FrameBuf, parse};
 use dc_io::{IoFault, Sink, put_number_word};
+use dc_misses::Misses;
 use dc_search::meter_of;
 
 /// The greatest primary address (EN 13757-2).
@@ -54,11 +56,39 @@ pub fn scan_primary<B: ScriptBus, W: Sink>(bus: &mut B, out: &mut W) -> Result<(
 
 /// Identifies the meter at a primary address: resets it, and requests its telegram if it
 /// acknowledged. The meter repeats that telegram to the next readout.
-pub fn identify<B: Bus>(bus: &mut B, address: Primary) -> Option<Identity>
+///
+/// # Errors
+/// No acknowledgement came, or no telegram that names a meter. The one try that failed is counted by what it brought.
+pub fn identify<B: Bus>(bus: &mut B, address: Primary) -> Result<Identity, Misses>
     ensures { (exchanges : List Exchange) × AreExchanged B.asks bus.old exchanges bus.new
-        × Identifies address exchanges result }
+        × IdentifiesOr address exchanges result }
 {
-    meter_at(bus, address.get())
+    identity_at(bus, address.get())
+}
+
+// Identifies the meter at an address, or counts the try that failed.
+fn identity_at<B: Bus>(bus: &mut B, address: u8) -> Result<Identity, Misses>
+    ensures { (exchanges : List Exchange) × AreExchanged B.asks bus.old exchanges bus.new
+        × IdentifiesOr address exchanges result }
+{
+    let answer = ask_reset(bus, address);
+    if !is_ack(&answer) {
+        return Err(missed(&answer));
+    }
+    let telegram = ask_telegram(bus, address);
+    match sender_of(&telegram) {
+        Some(meter) => Ok(meter),
+        None => Err(missed(&telegram)),
+    }
+}
+
+// The count of one failed try.
+fn missed(answer: &AnswerBuf) -> Misses
+    ensures { result ≡ misses_of (answer.now ∷ []) }
+{
+    let mut misses = Misses::none();
+    misses.count(answer.as_slice());
+    misses
 }
 
 // Identifies the meter at an address.
@@ -203,9 +233,23 @@ pub(crate) fn resets<B: Bus>(bus: &mut B, address: u8) -> bool
     ensures { (answer : List ℕ) × B.asks bus.old (spelling (reset_to address)) answer bus.new
         × (result ≡ is_ack (frame_of answer)) }
 {
+    let answer = ask_reset(bus, address);
+    is_ack(&answer)
+}
+
+// Resets an address, and returns what it answers.
+fn ask_reset<B: Bus>(bus: &mut B, address: u8) -> AnswerBuf
+    ensures { B.asks bus.old (spelling (reset_to address)) result bus.new }
+{
     let mut request = FrameBuf::new();
     write_reset(address, &mut request);
-    let answer = bus.ask(&request);
+    bus.ask(&request)
+}
+
+// Whether an answer is an acknowledgement.
+fn is_ack(answer: &AnswerBuf) -> bool
+    ensures { result ≡ is_ack (frame_of answer.now) }
+{
     matches!(parse(answer.as_slice()), Ok(Frame::Ack))
 }
 
@@ -214,9 +258,23 @@ pub(crate) fn requests<B: Bus>(bus: &mut B, address: u8) -> Option<Identity>
     ensures { (answer : List ℕ) × B.asks bus.old (spelling (request_to true address)) answer bus.new
         × (result ≡ answer_of answer) }
 {
+    let answer = ask_telegram(bus, address);
+    sender_of(&answer)
+}
+
+// Requests a telegram, and returns what is answered.
+pub(crate) fn ask_telegram<B: Bus>(bus: &mut B, address: u8) -> AnswerBuf
+    ensures { B.asks bus.old (spelling (request_to true address)) result bus.new }
+{
     let mut request = FrameBuf::new();
     write_request(true, address, &mut request);
-    let answer = bus.ask(&request);
+    bus.ask(&request)
+}
+
+// The meter of a telegram.
+pub(crate) fn sender_of(answer: &AnswerBuf) -> Option<Identity>
+    ensures { result ≡ answer_of answer.now }
+{
     meter_of(answer.as_slice())
 }
 

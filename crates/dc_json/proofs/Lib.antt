@@ -1,4 +1,4 @@
--- whether lines and frames have a fault
-mod Faults
 -- the current values among points
 mod Currents
+-- what one telegram reports
+mod Telegrams

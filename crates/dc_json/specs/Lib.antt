@@ -4,3 +4,5 @@
 pub mod Report
 -- what the meters of a house stand at
 pub mod Values
+-- what one telegram reports
+pub mod Reported

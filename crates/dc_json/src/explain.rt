@@ -4,20 +4,17 @@
 
 ghost use Rattle.std.specs.Prelude.{◌≡◌, ◌≢◌, ◌<◌, ◌≤◌, length, IfSome, IfOk, IfErr, OnOk, IsErrOf};
 ghost use Rattle.dc_io.specs.Failures.{HasRisen};
-ghost use Rattle.dc_io.specs.Lines.{longest_input_line, most_input, most_spelled};
+ghost use Rattle.dc_io.specs.Lines.{most_input};
 ghost use Rattle.dc_frame.specs.Frame.{seen};
-ghost use Rattle.dc_decode.specs.Frames.{any_bad, frames_of, is_bad, is_bad_content, is_bad_frame};
-ghost use Rattle.dc_decode.specs.Text.{has_fault, is_bad_line};
+ghost use Rattle.dc_decode.specs.Frames.{is_bad, is_bad_content, is_bad_frame};
+ghost use Rattle.dc_decode.specs.Text.{has_fault};
 
 use crate::place::{body_place, frame_place};
 use crate::table::put_telegram_table;
-use dc_decode::{decode_line, first_frame, read_frame};
+use dc_decode::{Input, LineForm, read_frame};
 use dc_frame::Frame;
 use dc_frame::control::VARIABLE_DATA;
-use dc_io::{
-    Bytes, CHUNK, IoFault, LONGEST, MOST, Sink, Source, TextFault, first_line, put_byte, put_fault,
-    put_number, read_input, room,
-};
+use dc_io::{Bytes, IoFault, Sink, Source, TextFault, put_byte, put_fault, put_number};
 use dc_names::{ci_name, control_name};
 use dc_record::Telegram;
 use std::alloc::Allocator;
@@ -122,72 +119,39 @@ fn put_text_table<W: Sink>(out: &mut W, start: usize, text: &[u8]) -> Result<boo
     }
 }
 
-// Writes the frames of a line in words, and returns whether one has a fault.
-#[tactic(auto, using(dc_decode::proofs::Cuts::shows))]
-fn put_frames<W: Sink>(out: &mut W, number: u64, bytes: &[u8]) -> Result<bool, IoFault>
-    ensures { IfOk result (λ found. found ≡ any_bad (frames_of bytes.now)) }
-{
-    let mut found = false;
-    let mut rest = bytes;
-    'frames: while !rest.is_empty() {
-        let (text, after) = first_frame(rest);
-        out.put(b"line ")?;
-        put_number(out, number)?;
-        out.put(b": ")?;
-        let bad = put_text_table(out, bytes.len().saturating_sub(rest.len()), text)?;
-        found |= bad;
-        rest = after;
-    }
-    Ok(found)
-}
+/// The form of `decode --explain`: words and tables.
+struct Table;
 
-// Writes a line in words, and returns whether it has a fault.
-#[tactic(auto, unfolding(dc_decode::specs::Text::is_bad_line))]
-fn put_line<W: Sink>(
-    out: &mut W,
-    number: u64,
-    line: &[u8],
-    digits: &mut [u8],
-    bytes: &mut [u8],
-) -> Result<bool, IoFault>
-    requires digits { longest_input_line ≤ length digits.old }
-    requires bytes { most_spelled ≤ length bytes.old }
-    ensures { IfOk result (λ bad. bad ≡ is_bad_line line.now) }
-{
-    match decode_line(line, digits, bytes) {
-        Some(count) => put_frames(out, number, &bytes[..count]),
-        None => {
-            out.put(b"line ")?;
-            put_number(out, number)?;
-            out.put(b": no line of pairs of hex digits, or longer than 4096 characters\n")?;
-            Ok(true)
-        }
+impl LineForm for Table {
+    ghost use Rattle.std.specs.Prelude.{[]};
+
+    ghost IsDefined = { ⊥ };
+
+    ghost frame_text = { λ _ _. [] };
+
+    ghost fault_text = { λ _. [] };
+
+    fn put_frame<W: Sink>(
+        line: u64,
+        start: usize,
+        bytes: &[u8],
+        out: &mut W,
+    ) -> Result<bool, IoFault> {
+        put_place(out, line)?;
+        put_text_table(out, start, bytes)
+    }
+
+    fn put_hex_fault<W: Sink>(line: u64, out: &mut W) -> Result<(), IoFault> {
+        put_place(out, line)?;
+        out.put(b"no line of pairs of hex digits, or longer than 4096 characters\n")
     }
 }
 
-// Writes lines in words, and returns whether one has a fault.
-#[tactic(auto, using(dc_decode::proofs::Inputs::lines))]
-fn put_lines<W: Sink>(
-    out: &mut W,
-    input: &[u8],
-    digits: &mut [u8],
-    bytes: &mut [u8],
-) -> Result<bool, IoFault>
-    requires digits { longest_input_line ≤ length digits.old }
-    requires bytes { most_spelled ≤ length bytes.old }
-    ensures { IfOk result (λ found. found ≡ has_fault input.now) }
-{
-    let mut found = false;
-    let mut number: u64 = 1;
-    let mut rest = input;
-    'lines: while !rest.is_empty() {
-        let (line, after) = first_line(rest);
-        let bad = put_line(out, number, line, digits, bytes)?;
-        found |= bad;
-        number = number.saturating_add(1);
-        rest = after;
-    }
-    Ok(found)
+// Writes the number of a line.
+fn put_place<W: Sink>(out: &mut W, line: u64) -> Result<(), IoFault> {
+    out.put(b"line ")?;
+    put_number(out, line)?;
+    out.put(b": ")
 }
 
 /// Writes the lines of hex digits left in the reader in words: each frame, the meter, its status, a
@@ -226,21 +190,9 @@ pub fn explain_lines<A: Allocator + Copy, R: Source, W: Sink>(
     // After any fault but a failed write the writer is unchanged.
     ensures untouched { IfErr result (λ fault. fault ≢ TextFault.Write → writer.new ≡ writer.old) }
 {
-    let mut digits = room(alloc, LONGEST)?;
-    let mut bytes = room(alloc, LONGEST / 2)?;
-    let mut chunk = room(alloc, CHUNK)?;
-    let input = read_input(alloc, reader, chunk.as_mut_slice())?;
-    if input.len() > MOST {
-        return Err(TextFault::TooLong);
-    }
+    let input = Input::read(alloc, reader)?;
     let mut text = Bytes::new(alloc);
-    let put = put_lines(
-        &mut text,
-        input.as_slice(),
-        digits.as_mut_slice(),
-        bytes.as_mut_slice(),
-    );
-    let Ok(found) = put else {
+    let Ok(found) = input.put_as::<Table, Bytes<A>>(&mut text) else {
         return Err(TextFault::NoMemory);
     };
     match writer.put(text.as_slice()) {

@@ -4,7 +4,7 @@ ghost use Rattle.std.specs.Prelude.{◌≡◌, ◌≤◌, ◌∷◌, ◌++◌, [
 ghost use Rattle.std.specs.List.{flat_map};
 ghost use Rattle.json.specs.Tree.{json_tokens};
 ghost use Rattle.dc_record.specs.Telegram.{telegram_at};
-ghost use Rattle.dc_change.specs.Valid.{last_moment};
+ghost use Rattle.dc_change.specs.Fields.{last_moment};
 ghost use Rattle.dc_latest.specs.Values.{is_current, last_part};
 ghost use Rattle.dc_io.specs.Written.{Wrote};
 ghost use Rattle.dc_tokens.specs.Writing.{Added};
@@ -53,8 +53,8 @@ fn is_current(point: &Point) -> bool
     point.storage == 0 && point.function == 0
 }
 
-// Writes a point, if it is current.
-fn put_if_current<W: Sink>(out: &mut TokenWriter<'_, W>, point: &Point)
+/// Writes a point, if it is current.
+pub(crate) fn put_if_current<W: Sink>(out: &mut TokenWriter<'_, W>, point: &Point)
     ensures { Added W.Sink out.old out.new (values_tokens (current_of point.now)) }
 {
     if is_current(point) {
@@ -81,8 +81,8 @@ fn put_values<A: Allocator, W: Sink>(out: &mut TokenWriter<'_, W>, points: Point
     out.end_array();
 }
 
-// Writes a moment.
-fn put_moment<W: Sink>(out: &mut TokenWriter<'_, W>, moment: u64)
+/// Writes a moment.
+pub(crate) fn put_moment<W: Sink>(out: &mut TokenWriter<'_, W>, moment: u64)
     requires { moment ≤ last_moment }
     ensures { Added W.Sink out.old out.new (fields_tokens (moment_fields moment)) }
 {
@@ -100,8 +100,8 @@ fn put_utc<W: Sink>(out: &mut TokenWriter<'_, W>, moment: u64)
     put_value(out, &minute(moment))
 }
 
-// Writes the field of a status byte.
-fn put_status<W: Sink>(out: &mut TokenWriter<'_, W>, status: u8)
+/// Writes the field of a status byte.
+pub(crate) fn put_status<W: Sink>(out: &mut TokenWriter<'_, W>, status: u8)
     ensures { Added W.Sink out.old out.new (fields_tokens (status_field status ∷ [])) }
 {
     out.put_name("status");

@@ -28,7 +28,7 @@ pub fn late_lines_carry_the_talk<
 ///
 /// The meters of its lines are there and follow the standard, each line is late within the premises of
 /// [`late_lines_carry_the_talk`], the register has room for one reading of each, no telegram is
-/// refused for want of memory, and no commit fails.
+/// refused because memory ran out, and no commit fails.
 pub fn every_meter_is_read_over_late_lines<
     D: Disk + Drop,
     B: HalfBus + Drop,

@@ -1,7 +1,7 @@
 //! The minute of a time stamp in UTC.
 
 ghost use Rattle.std.specs.Prelude.{◌≡◌, ◌≤◌};
-ghost use Rattle.dc_change.specs.Valid.{last_moment};
+ghost use Rattle.dc_change.specs.Fields.{last_moment};
 ghost use Rattle.dc_value.specs.Date.{Day};
 ghost use Rattle.dc_latest.specs.Utc.{day_number, last_day, minute_of};
 

@@ -1,12 +1,14 @@
 //! The links of the bus lines on this system: transparent gateways over TCP, serial level
 //! converters, and gateways of the block protocol.
 //!
-//! [`Peer::connect`] connects a link by its name, and [`Peer::bus`] returns its bus ([`LinkBus`]).
-//! A [`Watch`] waits until one of several buses may have received something.
+//! [`Peer::connect`] connects a link by its name, and [`Peer::bus`] returns its bus ([`LinkBus`]). A [`Linker`] connects
+//! those of all bus lines, as dc_reach asks it to. A [`Watch`] waits until one of several buses may have received
+//! something.
 #![tactic(auto)]
 
 mod bus;
 mod connection;
+mod linking;
 mod lock_file;
 mod peer;
 mod script;
@@ -16,8 +18,9 @@ mod waiting;
 
 pub use bus::LinkBus;
 pub use connection::{Connection, Ends};
+pub use linking::Linker;
 pub use peer::{BlockBus, ByteBus, Peer, RawBus, SystemBus};
 pub use script::ScriptLink;
 pub use socket::{Tcp, Terminal};
 pub use terminal::Held;
-pub use waiting::{Waiter, Watch};
+pub use waiting::{Waiter, Watch, Watched};

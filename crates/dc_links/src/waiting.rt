@@ -77,6 +77,24 @@ impl Watch {
     }
 }
 
+/// A bus that can be waited for.
+pub trait Watched {
+    /// Adds it to the buses that are waited for.
+    fn add_to(&self, watch: &mut Watch);
+}
+
+impl<C: Clock + Copy> Watched for SystemBus<'_, C> {
+    fn add_to(&self, watch: &mut Watch) {
+        watch.add(self);
+    }
+}
+
+impl<B: HalfBus + Watched + Drop, O: Observer + Drop> Watched for Observed<B, O> {
+    fn add_to(&self, watch: &mut Watch) {
+        self.bus.add_to(watch);
+    }
+}
+
 /// Waits for a single bus.
 #[derive(Clone, Copy, Drop)]
 pub struct Waiter;

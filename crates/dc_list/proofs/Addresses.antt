@@ -2,8 +2,8 @@
 use Rattle.std.proofs.Common.{◌≡◌, ℕ, ◌<◌, List, length, Option, None, Some, refl, ap, sym, ◌∙◌, arith}
 use Rattle.std.specs.Fmt.{decimal}
 use Rattle.std.proofs.lemmas.Fmt.{decimal_is_IsNumeral}
-use Rattle.dc_change.specs.Line.{address_word}
-use Rattle.dc_change.specs.Valid.{IsAddress}
+use Rattle.dc_change.specs.Fields.{address_word}
+use Rattle.dc_change.specs.Fields.{IsAddress}
 
 pub empty_is_secondary : (address : Option ℕ) (word : List ℕ) → length word ≡ 0 → IsAddress address → word ≡ address_word address → address ≡ None
 empty_is_secondary None word empty is spelled = refl

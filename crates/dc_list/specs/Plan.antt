@@ -9,9 +9,10 @@ use Rattle.dc_address.specs.Text.{text_of}
 use Rattle.dc_address.specs.declared.identity.Identity.{Identity}
 use Rattle.dc_change.specs.Accepts.{command_refusal, occupies}
 use Rattle.dc_change.specs.Apply.{applied}
-use Rattle.dc_change.specs.Line.{address_word, line_of}
+use Rattle.dc_change.specs.Fields.{address_word}
+use Rattle.dc_change.specs.Command.{line_of}
 use Rattle.dc_change.specs.State.{State, Held, MeterRow, row_of}
-use Rattle.dc_change.specs.Valid.{end_of_numbers}
+use Rattle.dc_change.specs.Fields.{end_of_numbers}
 use Rattle.dc_change.specs.declared.change.Change.{Change}
 use Rattle.dc_change.specs.declared.change.Change.TheVariants.{Command as Numbered}
 use Rattle.dc_change.specs.declared.command.Command.{Command}

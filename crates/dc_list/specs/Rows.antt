@@ -6,8 +6,8 @@ use Rattle.std.specs.Fmt.{decimal}
 use Rattle.dc_address.specs.Text.{text_of}
 use Rattle.dc_address.specs.declared.identity.Identity.{Identity}
 use Rattle.dc_change.specs.Flat.{IsFlat}
-use Rattle.dc_change.specs.Line.{address_word, IsOfBytes}
-use Rattle.dc_change.specs.Valid.{IsAddress, IsBusLine}
+use Rattle.dc_change.specs.Fields.{address_word, IsOfBytes}
+use Rattle.dc_change.specs.Fields.{IsAddress, IsBusLine}
 use Rattle.dc_change.specs.Words.{IsWord, is_space}
 use Rattle.dc_named.specs.Name.{capitals}
 use Rattle.dc_list.specs.declared.row.Row.{Row}

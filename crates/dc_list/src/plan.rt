@@ -6,7 +6,7 @@ ghost use Rattle.dc_change.specs.State.{Held};
 ghost use Rattle.dc_list.specs.Rows.{IsRow, header_text};
 ghost use Rattle.dc_change.specs.Accepts.{Accepts};
 ghost use Rattle.dc_change.specs.Apply.{applied};
-ghost use Rattle.dc_change.specs.Line.{line_of};
+ghost use Rattle.dc_change.specs.Command.{line_of};
 ghost use Rattle.dc_change.specs.Valid.{IsChange};
 ghost use Rattle.dc_list.specs.Plan.{change_of, command_of};
 ghost use Rattle.dc_list.specs.Plan.{AreSteps, IsLineStep, IsPlanned, IsStep, IsStepBy, no_header, nothing};
@@ -85,7 +85,7 @@ impl<A: Allocator + Copy> Plan<A> {
         }
     }
 
-    // Adds a row that is none.
+    // Adds a row that names no command.
     fn add_fault(&mut self, number: u64, fault: RowFault) -> Result<(), NoMemory>
         ensures { OnOk result ((house : Held)
             → IsStep (Bad fault) number house house self.old self.new) }

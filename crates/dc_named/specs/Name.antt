@@ -3,7 +3,7 @@ use Rattle.std.specs.Prelude.{◌≡◌, ℕ, ◌-◌, List, true, ◌&&◌, len
 use Rattle.std.specs.Char.{is_ascii_digit}
 use Rattle.std.specs.List.{list_all}
 use Rattle.dc_address.specs.Text.{text_of}
-use Rattle.dc_change.specs.Line.{IsOfBytes}
+use Rattle.dc_change.specs.Fields.{IsOfBytes}
 use Rattle.dc_named.specs.declared.name.Named.{Named}
 use Rattle.dc_named.specs.declared.name.Named.TheVariants.{Identity, Number}
 

@@ -20,8 +20,8 @@ pub enum NameFault {
     NoMemory,
 }
 
-/// Finds the meter that a name means: an identity means itself, registered or not, and a number the only registered meter
-/// that has it.
+/// Finds the meter that a name means: an identity means itself, registered or not, and a number the only registered
+/// meter that has it.
 pub fn resolve<A: Allocator + Copy>(
     alloc: A,
     house: &House<A>,

@@ -5,7 +5,7 @@ use Rattle.std.proofs.lemmas.Slice.Eq.{bytes_eq-Decides}
 use Rattle.std.specs.Prelude.{option_map}
 use Rattle.dc_change.specs.Accepts.{Accepts, command_refusal, is_known, is_unknown, is_address_taken, is_beyond, is_full}
 use Rattle.dc_change.specs.Apply.{applied}
-use Rattle.dc_change.specs.Line.{line_of}
+use Rattle.dc_change.specs.Command.{line_of}
 use Rattle.dc_change.specs.State.{State, Held}
 use Rattle.dc_change.specs.declared.change.Change.{Change}
 use Rattle.dc_change.specs.declared.change.Change.TheVariants.{Command as Ordered}

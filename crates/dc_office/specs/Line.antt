@@ -2,8 +2,9 @@
 use Rattle.std.specs.Prelude.{ℕ, ◌≤◌, IsTrue, List, [], ◌∷◌, codes}
 use Rattle.std.specs.List.{join_with_byte}
 use Rattle.std.specs.Fmt.{decimal}
-use Rattle.dc_change.specs.Line.{line_of, NamesMeters}
-use Rattle.dc_change.specs.Valid.{IsCommand, IsNumber}
+use Rattle.dc_change.specs.Command.{line_of, NamesMeters}
+use Rattle.dc_change.specs.Command.{IsCommand}
+use Rattle.dc_change.specs.Fields.{IsNumber}
 use Rattle.dc_value.specs.Date.{exists}
 use Rattle.dc_value.specs.Text.{day_text}
 use Rattle.dc_office.specs.declared.line.OfficeLine.{OfficeLine}

@@ -3,8 +3,8 @@
 ghost use Rattle.std.specs.Prelude.{◌≡◌, ℕ, ◌≤◌, ◌∷◌, ◌++◌, List, Some, IfSome, IsSome, IsTrue};
 ghost use Rattle.std.specs.Prelude.{codes, length};
 ghost use Rattle.std.specs.Fmt.{decimal};
-ghost use Rattle.dc_change.specs.Line.{line_of};
-ghost use Rattle.dc_change.specs.Valid.{IsNumber};
+ghost use Rattle.dc_change.specs.Command.{line_of};
+ghost use Rattle.dc_change.specs.Fields.{IsNumber};
 ghost use Rattle.dc_value.specs.Date.{Day, exists};
 ghost use Rattle.dc_value.specs.Text.{day_text};
 ghost use Rattle.dc_office.specs.Line.{IsCount, IsOfficeLine, office_text};

@@ -1,7 +1,7 @@
 //! Writes the meters for the billing office.
 
 ghost use Rattle.std.specs.Prelude.{◌≡◌, ◌++◌, codes};
-ghost use Rattle.dc_change.specs.Line.{address_word};
+ghost use Rattle.dc_change.specs.Fields.{address_word};
 ghost use Rattle.dc_io.specs.Written.{Wrote};
 ghost use Rattle.dc_office.specs.Register.{meter_line, meter_lines, place_words};
 

@@ -4,3 +4,5 @@
 pub mod Broken
 -- a list that is mapped in place, element by element
 pub mod Changed
+-- how many requests the sessions may still make, where one of them is replaced
+pub mod Requests

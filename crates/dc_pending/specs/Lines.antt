@@ -1,9 +1,10 @@
 -- The eight bus lines and their sessions (this product).
 use Rattle.std.specs.Prelude.{ℕ, ◌-◌, Bool, true, false, Option, None, Some, List, map, replicate}
-use Rattle.std.specs.Prelude.{nat_le, ◌&&◌, get_or, if◌then◌else◌}
+use Rattle.std.specs.Prelude.{nat_le, ◌≤◌, ◌&&◌, get_or, if◌then◌else◌}
 use Rattle.std.proofs.Math.ListN.{set}
 use Rattle.dc_address.specs.declared.identity.Identity.{Identity}
 use Rattle.dc_readout.specs.Answer.{is_meter}
+use Rattle.dc_readout.specs.Bound.{requests_left}
 use Rattle.dc_readout.specs.declared.stage.Stage.{Stage}
 use Rattle.dc_readout.specs.declared.stage.Stage.TheVariants.{Pending}
 use Rattle.dc_readout.specs.Summary.{Summary, settled_by}
@@ -47,3 +48,16 @@ unless_of meter (Some s) = if is_meter meter s.meter then None else Some s
 
 abbrev pub lines_without : Identity → List (Option Summary) → List (Option Summary)
 lines_without meter lines = map (unless_of meter) lines
+
+-- ---- how many requests the session on a line may still make
+
+abbrev pub requests_of : Option Summary → ℕ
+requests_of None = 0
+requests_of (Some s) = requests_left s
+
+abbrev pub requests_on : ℕ → List (Option Summary) → ℕ
+requests_on line lines = requests_of (on_line line lines)
+
+-- on no line more than before
+abbrev pub NoMoreRequests : List (Option Summary) → List (Option Summary) → Type 0
+NoMoreRequests old new = (line : ℕ) → requests_on line new ≤ requests_on line old

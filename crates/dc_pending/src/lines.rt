@@ -1,9 +1,10 @@
 //! The eight bus lines and their sessions.
 
-ghost use Rattle.std.specs.Prelude.{◌≡◌, true, Option};
+ghost use Rattle.std.specs.Prelude.{◌≡◌, ◌≤◌, true, Option};
 ghost use Rattle.dc_readout.specs.Summary.{Summary};
 ghost use Rattle.dc_pending.specs.Lines.{is_line, no_sessions, on_line, put_on, settled_on};
 ghost use Rattle.dc_pending.specs.Lines.{settled_lines, unless_of, lines_without};
+ghost use Rattle.dc_pending.specs.Lines.{requests_of, NoMoreRequests};
 
 use dc_address::Identity;
 use dc_readout::Session;
@@ -64,7 +65,8 @@ impl Lines {
     /// Acknowledges every pending telegram. After the last one of a readout its line has no
     /// session.
     pub fn settle(&mut self)
-        ensures { self.new ≡ settled_lines self.old }
+        ensures exact { self.new ≡ settled_lines self.old }
+        ensures no_more { NoMoreRequests self.old self.new }
     {
         settle_each(&mut self.sessions);
     }
@@ -90,7 +92,8 @@ fn unless_of(session: Option<Session>, meter: &Identity) -> Option<Session>
 }
 
 fn settle_each(sessions: &mut [Option<Session>])
-    ensures { sessions.new ≡ settled_lines sessions.old }
+    ensures exact { sessions.new ≡ settled_lines sessions.old }
+    ensures no_more { NoMoreRequests sessions.old sessions.new }
 {
     for session in sessions.iter_mut() {
         *session = settled(*session);
@@ -98,7 +101,8 @@ fn settle_each(sessions: &mut [Option<Session>])
 }
 
 fn settled(session: Option<Session>) -> Option<Session>
-    ensures { result ≡ settled_on session }
+    ensures exact { result ≡ settled_on session }
+    ensures no_more { requests_of result ≤ requests_of session }
 {
     let mut session = session?;
     if !session.is_pending() {

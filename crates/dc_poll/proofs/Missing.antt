@@ -95,7 +95,7 @@ rest_of : {g h : Happening} {xs ys : List Happening} → g ∷ xs ≡ h ∷ ys �
 rest_of e = cc
 
 failed_as : (left : List Identity) (end : End) (told : Told) (at : ℕ) (m : Identity) (why : Why) (misses : Misses) → IsToldAs end told → told ≡ has_failed at m why misses → IsOf m left (Over end)
-failed_as left (Read x) told at m why misses is e = absurd (let one = is.2 in let both = sym one ∙ e in cc)
+failed_as left (Read x) told at m why misses is e = absurd (let one = is.3 in let both = sym one ∙ e in cc)
 failed_as left (Failed x w) told at m why misses is e = let one = is.2 in let both = sym one ∙ e in cc
 failed_as left (Refused x r) told at m why misses is e = absurd (let both = sym is ∙ e in cc)
 

@@ -73,18 +73,18 @@ not_started m (loses_it goes) a = not_started m goes a
 -- ---- what comes after a line of text
 
 same_told : (a b : End) (told : Told) → IsToldAs a told → IsToldAs b told → meter_of a ≡ meter_of b
-same_told (Read x) (Read y) told a b = let one = a.2 in let two = b.2 in let both = sym one ∙ two in cc
-same_told (Read x) (Failed y why) told a b = absurd (let one = a.2 in let two = b.2 in let both = sym one ∙ two in cc)
-same_told (Read x) (Refused y r) told a b = absurd (let one = a.2 in let both = sym one ∙ b in cc)
-same_told (Failed x w) (Read y) told a b = absurd (let one = a.2 in let two = b.2 in let both = sym one ∙ two in cc)
+same_told (Read x) (Read y) told a b = let one = a.3 in let two = b.3 in let both = sym one ∙ two in cc
+same_told (Read x) (Failed y why) told a b = absurd (let one = a.3 in let two = b.2 in let both = sym one ∙ two in cc)
+same_told (Read x) (Refused y r) told a b = absurd (let one = a.3 in let both = sym one ∙ b in cc)
+same_told (Failed x w) (Read y) told a b = absurd (let one = a.2 in let two = b.3 in let both = sym one ∙ two in cc)
 same_told (Failed x w) (Failed y why) told a b = let one = a.2 in let two = b.2 in let both = sym one ∙ two in cc
 same_told (Failed x w) (Refused y r) told a b = absurd (let one = a.2 in let both = sym one ∙ b in cc)
-same_told (Refused x r) (Read y) told a b = absurd (let two = b.2 in let both = sym a ∙ two in cc)
+same_told (Refused x r) (Read y) told a b = absurd (let two = b.3 in let both = sym a ∙ two in cc)
 same_told (Refused x r) (Failed y why) told a b = absurd (let two = b.2 in let both = sym a ∙ two in cc)
 same_told (Refused x r) (Refused y s) told a b = let both = sym a ∙ b in cc
 
 not_lost : (line : ℕ) (end : End) → IsToldAs end (is_lost line) → ⊥
-not_lost line (Read x) a = let one = a.2 in cc
+not_lost line (Read x) a = let one = a.3 in cc
 not_lost line (Failed x why) a = let one = a.2 in cc
 not_lost line (Refused x r) a = cc
 

@@ -35,7 +35,7 @@ abbrev AreRead : Part → List Happening → Type 0
 AreRead (part left failed pass phase) happened = ReadIn left phase happened
 
 told_read : (end : End) (told : Told) → IsToldAs end told → IsWellTold told → read_by told ≡ meter_of end ∷ []
-told_read (Read meter) told is well = ap read_by is.2
+told_read (Read meter) told is well = ap read_by is.3
 told_read (Failed meter why) told is well = absurd (subst IsWellTold is.2 well)
 told_read (Refused meter refusal) told is well = absurd (subst IsWellTold is well)
 

@@ -31,7 +31,7 @@ use Rattle.dc_poll.proofs.Queues.{line_stays, told_on, told_off}
 -- ---- an end
 
 told_as : (state : State) (line : ℕ) (misses : Misses) (end : End) → IsToldAs end (told_of state line misses end)
-told_as state line misses (Read meter) = (_, _, refl)
+told_as state line misses (Read meter) = (_, _, _, refl)
 told_as state line misses (Failed meter why) = (_, _, refl)
 told_as state line misses (Refused meter refusal) = refl
 
@@ -41,7 +41,7 @@ has_misses state line misses (Failed meter why) = (refl, refl)
 has_misses state line misses (Refused meter refusal) = tt
 
 newest_told : (state : State) (line : ℕ) (misses : Misses) (end : End) → IsNewest state (told_of state line misses end)
-newest_told state line misses (Read meter) = (refl, refl)
+newest_told state line misses (Read meter) = (refl, refl, refl)
 newest_told state line misses (Failed meter why) = tt
 newest_told state line misses (Refused meter refusal) = tt
 

@@ -1,9 +1,8 @@
 -- What happens in a poll, and its events (this product).
-use Rattle.std.specs.Prelude.{ℕ, ◌+◌, Bool, false, ◌==◌, true, List, [], ◌∷◌}
-use Rattle.std.specs.Prelude.{flat_map, length, if◌then◌else◌, Option, None}
-use Rattle.std.specs.Prelude.{Some}
+use Rattle.std.specs.Prelude.{ℕ, ◌+◌, ◌-◌, Bool, false, ◌==◌, true, List, [], ◌∷◌}
+use Rattle.std.specs.Prelude.{flat_map, length, slice_get, if◌then◌else◌, Option, None, Some}
 use Rattle.dc_address.specs.declared.identity.Identity.{Identity}
-use Rattle.dc_change.specs.State.{State, ReadingRow}
+use Rattle.dc_change.specs.State.{State, ReadingRow, PartRow}
 use Rattle.dc_concentrator.specs.Event.{Event, starts, asks, hears, commits, offices}
 use Rattle.dc_concentrator.specs.Transcript.{Turn}
 use Rattle.dc_register.specs.Orders.{reading_of, serials_of}
@@ -54,7 +53,7 @@ happened_on line happened = flat_map (kept_on line) happened
 
 abbrev pub counts_read : Happening → ℕ
 counts_read (does turn) = 0
-counts_read (tells line (was_read meter serial parts)) = 1
+counts_read (tells line (was_read meter serial parts last)) = 1
 counts_read (tells line (has_failed at meter why misses)) = 0
 counts_read (tells line (was_refused meter refusal)) = 0
 counts_read (tells line (is_lost lost)) = 0
@@ -63,7 +62,7 @@ counts_read (tells line (has_ended read failed)) = 0
 
 abbrev pub counts_failed : Happening → ℕ
 counts_failed (does turn) = 0
-counts_failed (tells line (was_read meter serial parts)) = 0
+counts_failed (tells line (was_read meter serial parts last)) = 0
 counts_failed (tells line (has_failed at meter why misses)) = 1
 counts_failed (tells line (was_refused meter refusal)) = 1
 counts_failed (tells line (is_lost lost)) = 0
@@ -95,3 +94,11 @@ parts_in (Some reading) = length reading.parts
 -- the number of its parts
 abbrev pub newest_parts : Identity → State → ℕ
 newest_parts meter state = parts_in (reading_of (newest_serial meter state) state.readings)
+
+abbrev pub last_in : Option ReadingRow → Option PartRow
+last_in None = None
+last_in (Some reading) = slice_get reading.parts (length reading.parts - 1)
+
+-- its last part
+abbrev pub newest_last : Identity → State → Option PartRow
+newest_last meter state = last_in (reading_of (newest_serial meter state) state.readings)

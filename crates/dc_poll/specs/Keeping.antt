@@ -13,7 +13,7 @@ use Rattle.dc_concentrator.specs.declared.fault.CommitFault.{CommitFault}
 use Rattle.dc_concentrator.specs.declared.fault.HearFault.{HearFault}
 use Rattle.dc_concentrator.specs.declared.line_heard.LineHeard.{LineHeard}
 use Rattle.dc_concentrator.specs.declared.line_heard.LineHeard.TheVariants.{Accepted}
-use Rattle.dc_poll.specs.Happening.{Happening, does, tells, newest_serial, newest_parts}
+use Rattle.dc_poll.specs.Happening.{Happening, does, tells, newest_serial, newest_parts, newest_last}
 use Rattle.dc_poll.specs.declared.event.Event.{Event as Told}
 use Rattle.dc_poll.specs.declared.event.Event.TheVariants.{Read as was_read, Failed as has_failed}
 use Rattle.dc_poll.specs.declared.event.Event.TheVariants.{Refused as was_refused, Lost as is_lost}
@@ -134,10 +134,11 @@ pub data InRounds {T : Type 0} (told : T → ℕ → T → Type 0) (passes : T �
 
 -- ---- the events
 
--- the reading that is told is the newest one of its meter in the register
+-- the reading that is told is the newest one of its meter in the register, and the last part is that reading's
 abbrev pub IsNewest : State → Told → Type 0
-IsNewest state (was_read meter serial parts) =
+IsNewest state (was_read meter serial parts last) =
     (serial ≡ newest_serial meter state) × (parts ≡ newest_parts meter state)
+    × (last ≡ newest_last meter state)
 IsNewest state (has_failed at meter why misses) = Unit {0}
 IsNewest state (was_refused meter refusal) = Unit {0}
 IsNewest state (is_lost line) = Unit {0}

@@ -86,7 +86,7 @@ misses_after misses (tells line told ∷ more) = misses_after misses more
 
 -- an event of a failed readout has its line and these misses
 abbrev pub HasMisses : ℕ → Misses → Told → Type 0
-HasMisses line misses (was_read meter serial parts) = Unit {0}
+HasMisses line misses (was_read meter serial parts last) = Unit {0}
 HasMisses line misses (has_failed at meter why counts) = (at ≡ line) × (counts ≡ misses)
 HasMisses line misses (was_refused meter refusal) = Unit {0}
 HasMisses line misses (is_lost lost) = Unit {0}

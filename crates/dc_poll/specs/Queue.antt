@@ -1,8 +1,9 @@
 -- The meters of a line, in passes, and how the readout of the present one goes on (this product).
 use Rattle.std.specs.Prelude.{◌≡◌, ◌≢◌, ℕ, zero, suc, ◌+◌, ◌<◌, ◌≤◌, List, [], ◌∷◌, ◌++◌, flat_map}
-use Rattle.std.specs.Prelude.{Bool, None, Some, Result, Ok, Err}
+use Rattle.std.specs.Prelude.{Bool, Option, None, Some, Result, Ok, Err}
 use Rattle.std.specs.List.{AllByRecursion}
 use Rattle.dc_address.specs.declared.identity.Identity.{Identity}
+use Rattle.dc_change.specs.State.{PartRow}
 use Rattle.dc_concentrator.specs.Event.{Event, Answer, starts, asks, hears, commits, started, asked}
 use Rattle.dc_concentrator.specs.Event.{heard, committed, replied}
 use Rattle.dc_concentrator.specs.declared.fault.CommitFault.{CommitFault}
@@ -50,7 +51,8 @@ IsUnpending (Over end) = Unit {0}
 
 -- such an event says how a readout ended
 abbrev pub IsToldAs : End → Told → Type 0
-IsToldAs (Read meter) told = (serial parts : ℕ) × (told ≡ was_read meter serial parts)
+IsToldAs (Read meter) told =
+    (serial parts : ℕ) × (last : Option PartRow) × (told ≡ was_read meter serial parts last)
 IsToldAs (Failed meter why) told =
     (at : ℕ) × (misses : Misses) × (told ≡ has_failed at meter why misses)
 IsToldAs (Refused meter refusal) told = told ≡ was_refused meter refusal
@@ -221,7 +223,7 @@ IsWell (committed (Err fault)) = ⊥
 IsWell (replied reply) = Unit {0}
 
 abbrev pub IsWellTold : Told → Type 0
-IsWellTold (was_read meter serial parts) = Unit {0}
+IsWellTold (was_read meter serial parts last) = Unit {0}
 IsWellTold (has_failed at meter why misses) = ⊥
 IsWellTold (was_refused meter refusal) = ⊥
 IsWellTold (is_lost line) = Unit {0}
@@ -234,7 +236,7 @@ GoesWell (tells line told) = IsWellTold told
 
 -- the meters of which it is told that they were read
 abbrev pub read_by : Told → List Identity
-read_by (was_read meter serial parts) = meter ∷ []
+read_by (was_read meter serial parts last) = meter ∷ []
 read_by (has_failed at meter why misses) = []
 read_by (was_refused meter refusal) = []
 read_by (is_lost line) = []

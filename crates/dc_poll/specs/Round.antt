@@ -13,7 +13,7 @@ use Rattle.dc_poll.specs.Bus.{Bus}
 use Rattle.dc_concentrator.specs.Went.{BehindAnyRun, Went}
 use Rattle.dc_poll.specs.Happening.{Happening, does, tells, happened_on, happened_events}
 use Rattle.dc_poll.specs.Happening.{happened_turns, reads_in}
-use Rattle.dc_poll.specs.Happening.{failures_in, newest_serial, newest_parts}
+use Rattle.dc_poll.specs.Happening.{failures_in, newest_serial, newest_parts, newest_last}
 use Rattle.dc_poll.specs.declared.end.End.{End}
 use Rattle.dc_poll.specs.declared.end.End.TheVariants.{Read, Failed, Refused}
 use Rattle.dc_poll.specs.declared.outcome.Counts.{Counts}
@@ -184,7 +184,7 @@ meters_left {B} stations = sum (map (λ (s : Station B). length s.left.now) stat
 -- what is told of an end on this line, by the register and the misses of the readout
 abbrev pub told_of : State → ℕ → Misses → End → Told
 told_of state line misses (Read meter) =
-    was_read meter (newest_serial meter state) (newest_parts meter state)
+    was_read meter (newest_serial meter state) (newest_parts meter state) (newest_last meter state)
 told_of state line misses (Failed meter why) = has_failed line meter why misses
 told_of state line misses (Refused meter refusal) = was_refused meter refusal
 

@@ -1,13 +1,14 @@
 //! The events of a poll.
 
 use crate::end::Refusal;
+use crate::last_part::LastPart;
 use dc_address::Identity;
 use dc_misses::Misses;
 use dc_readout::Why;
 
 /// An event of a poll.
-#[derive(Clone, Copy, Debug, PartialEq, Eq)]
-pub enum Event {
+#[derive(Debug, Drop)]
+pub enum Event<'a> {
     /// A meter was read.
     Read {
         /// The meter.
@@ -16,6 +17,8 @@ pub enum Event {
         serial: u64,
         /// Number of telegrams of the reading.
         parts: u64,
+        /// The last one, if the register holds the reading.
+        last: Option<LastPart<'a>>,
     },
     /// The last readout of a meter failed.
     Failed {

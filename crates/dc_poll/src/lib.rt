@@ -14,6 +14,7 @@ mod clock;
 mod end;
 mod event;
 mod image;
+mod last_part;
 mod laws;
 mod lines;
 mod newest;
@@ -30,6 +31,7 @@ mod waiting;
 pub use end::{End, Refusal};
 pub use event::Event;
 pub use image::{Plan, poll_image};
+pub use last_part::LastPart;
 pub use laws::{
     a_queue_comes_to_its_end, every_meter_of_a_queue_is_started, the_meters_of_a_queue_are_apart,
     the_misses_of_a_failed_readout_are_told, what_is_committed_waits_no_more,

@@ -23,7 +23,7 @@ pub trait Teller {
     ///
     /// # Errors
     /// It couldn't take it: a write failed. The failure is counted.
-    fn tell(&mut self, event: &Event) -> Result<(), IoFault>
+    fn tell(&mut self, event: &Event<'_>) -> Result<(), IoFault>
         ensures taken { OnOk result (takes self.old event.now self.new) }
         ensures well { OnOk result (failures self.new ≡ failures self.old) }
         ensures failed { OnErr result (HasRisen (failures self.old) (failures self.new)) }

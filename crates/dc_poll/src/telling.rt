@@ -12,7 +12,7 @@ ghost use Rattle.dc_poll.specs.declared.outcome.Counts.{Counts as Counted};
 use crate::end::End;
 use crate::event::Event;
 use crate::lines::line_at;
-use crate::newest::{newest_parts, newest_serial};
+use crate::newest::newest_reading;
 use crate::outcome::Counts;
 use crate::phase::Phase;
 use crate::station::Station;
@@ -26,22 +26,23 @@ use dc_register::House;
 use std::alloc::Allocator;
 
 // Tells one event.
-pub(crate) fn tell_one<N: Teller>(event: &Event, teller: &mut N) -> Result<(), IoFault>
+pub(crate) fn tell_one<N: Teller>(event: &Event<'_>, teller: &mut N) -> Result<(), IoFault>
     ensures { HasTold N.Teller result teller.old teller.new (event.now ∷ []) }
 {
     teller.tell(event)
 }
 
 // The event of an end on a line, where these were the misses of the readout.
-fn told_of<A: Allocator + Copy>(house: &House<A>, line: u8, misses: Misses, end: &End) -> Event
+fn told_of<'a, A: Allocator + Copy>(
+    house: &'a House<A>,
+    line: u8,
+    misses: Misses,
+    end: &End,
+) -> Event<'a>
     ensures { result ≡ told_of house.now.state line misses end.now }
 {
     match *end {
-        End::Read(meter) => Event::Read {
-            meter,
-            serial: newest_serial(house, &meter),
-            parts: newest_parts(house, &meter) as u64,
-        },
+        End::Read(meter) => newest_reading(house, meter),
         End::Failed(meter, why) => Event::Failed {
             line,
             meter,

@@ -11,7 +11,7 @@ use Rattle.dc_readout.specs.Summary.{Summary, verdict_by}
 use Rattle.dc_world.specs.declared.event.Outcome.{Outcome}
 use Rattle.dc_world.specs.Meter.{Meter, Position}
 use Rattle.dc_world.proofs.Events.{length-after}
-use Rattle.dc_change.specs.State.{State, MeterRow, row_of, ReadingRow}
+use Rattle.dc_change.specs.State.{State, MeterRow, PartRow, row_of, ReadingRow}
 use Rattle.dc_pending.specs.Lines.{is_line}
 use Rattle.dc_concentrator.specs.declared.line_heard.LineHeard.{LineHeard}
 use Rattle.dc_concentrator.specs.declared.fault.HearFault.{HearFault}
@@ -201,8 +201,8 @@ module _ (budget line : ℕ) (state : State) (wire : Wire) (all : List Turn) (ch
   last_serial n (r ∷ rows) row = last_serial r.serial rows row
 
   -- where all is committed, the newest reading is that in which the readout ended
-  new_at : (x m : Identity) (serial parts : ℕ) (before more : List Turn) (now : Line) → all ≡ before ++ more → Since x before now → session_of (core_at before) line ≡ None → IsSettled (store_behind some_wait before) → IsNewest (present (core_at before)) (told_read m serial parts) → m ≡ x → New x serial
-  new_at x m serial parts before more now is s free kept newest same =
+  new_at : (x m : Identity) (serial parts : ℕ) (last : Option PartRow) (before more : List Turn) (now : Line) → all ≡ before ++ more → Since x before now → session_of (core_at before) line ≡ None → IsSettled (store_behind some_wait before) → IsNewest (present (core_at before)) (told_read m serial parts last) → m ≡ x → New x serial
+  new_at x m serial parts last before more now is s free kept newest same =
       let chain_here = (chain_parts budget (opened state) before more (subst (IsChain budget (opened state)) is chain)).0 in
       let of = all_left IsOfLines before more (subst (AllByRecursion IsOfLines) is of_all) in
       let has = all_left (λ (t : Turn). IsSupplied t.1) before more (subst (AllByRecursion (λ (t : Turn). IsSupplied t.1)) is supplied) in
@@ -221,7 +221,7 @@ module _ (budget line : ℕ) (state : State) (wire : Wire) (all : List Turn) (ch
 
   told_fact : (x : Identity) (idle : Bool) (told : Told) (before more : List Turn) (now : Line) → all ≡ before ++ more → Since x before now → (idle ≡ true → session_of (core_at before) line ≡ None) → IsSettled (store_behind some_wait before) → IsNewest (present (core_at before)) told → TellFact New (Some x) idle told
   told_fact x false told before more now is s free kept newest = tt
-  told_fact x true (told_read m serial parts) before more now is s free kept newest = new_at x m serial parts before more now is s (free refl) kept newest
+  told_fact x true (told_read m serial parts last) before more now is s free kept newest = new_at x m serial parts last before more now is s (free refl) kept newest
   told_fact x true (has_failed at m why misses) before more now is s free kept newest = tt
   told_fact x true (was_refused m refusal) before more now is s free kept newest = tt
   told_fact x true (is_lost lost) before more now is s free kept newest = tt

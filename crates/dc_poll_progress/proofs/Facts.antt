@@ -124,7 +124,7 @@ After event answer idle rest = rest
 
 -- what is told of a meter's reading is of a new one
 abbrev pub IsToldNew : (Identity → ℕ → Type 0) → Identity → Told → Type 0
-IsToldNew new x (told_read meter serial parts) = meter ≡ x → new x serial
+IsToldNew new x (told_read meter serial parts last) = meter ≡ x → new x serial
 IsToldNew new x told = Unit {0}
 
 abbrev pub TellFact : (Identity → ℕ → Type 0) → Option Identity → Bool → Told → Type 0

@@ -28,7 +28,7 @@ abbrev pub IsAtEnd : Part → Type 0
 IsAtEnd (part left failed pass phase) = (left ≡ []) × (phase ≡ Free)
 
 told_well : (meter : Identity) (told : Told) → IsToldAs (Read meter) told → IsWellTold told
-told_well meter told is = subst IsWellTold (sym is.2) tt
+told_well meter told is = subst IsWellTold (sym is.3) tt
 
 module _ (was_read : Identity → Type 0) (new : Identity → ℕ → Type 0) where
   -- what is known at a phase: of a readout that goes on, its meter and its requests
@@ -70,7 +70,7 @@ module _ (was_read : Identity → Type 0) (new : Identity → ℕ → Type 0) wh
   -- what is told of a reading is of a new one
   abbrev pub IsNew : Happening → Type 0
   IsNew (does turn) = Unit {0}
-  IsNew (tells line (told_read meter serial parts)) = new meter serial
+  IsNew (tells line (told_read meter serial parts last)) = new meter serial
   IsNew (tells line told) = Unit {0}
 
   -- and what follows
@@ -108,8 +108,8 @@ module _ (was_read : Identity → Type 0) (new : Identity → ℕ → Type 0) wh
   ends_well (Refused meter refusal) told on says at = absurd at
 
   told_new : (meter : Identity) (told : Told) (line : ℕ) → IsToldAs (Read meter) told → IsToldNew new meter told → IsNew (tells line told)
-  told_new meter (told_read x serial parts) line is fact =
-      let same : told_read x serial parts ≡ told_read meter is.0 is.1 = is.2 in
+  told_new meter (told_read x serial parts last) line is fact =
+      let same : told_read x serial parts last ≡ told_read meter is.0 is.1 is.2 = is.3 in
       let meters : x ≡ meter = cc in
       subst (λ (m : Identity). new m serial) (sym meters) (fact meters)
   told_new meter (has_failed at x why misses) line is fact = tt

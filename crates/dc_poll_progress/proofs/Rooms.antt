@@ -20,7 +20,7 @@ use Rattle.dc_change.specs.Apply.{applied, heard as told_at, joined, told}
 use Rattle.dc_change.specs.Body.{body_of}
 use Rattle.dc_change.specs.Size.{size_of}
 use Rattle.dc_change.specs.State.{State, MeterRow, PartRow, row_of}
-use Rattle.dc_change.specs.Valid.{end_of_numbers}
+use Rattle.dc_change.specs.Fields.{end_of_numbers}
 use Rattle.dc_change.specs.declared.change.Change.{Change}
 use Rattle.dc_change.specs.declared.fault.ChangeFault.TheVariants.{Full as RegisterFull, Unknown as RegisterUnknown}
 use Rattle.dc_change.proofs.History.{after_of_push}

@@ -70,7 +70,7 @@ all_well budget core (tells line told ∷ happened) of chain well each =
 -- ---- no failure is counted
 
 none_counted : (line : ℕ) (told : Told) → IsWellTold told → counts_failed (tells line told) ≡ 0
-none_counted line (was_read meter serial parts) well = refl
+none_counted line (was_read meter serial parts last) well = refl
 none_counted line (has_failed at meter why misses) well = absurd well
 none_counted line (was_refused meter refusal) well = absurd well
 none_counted line (is_lost lost) well = refl

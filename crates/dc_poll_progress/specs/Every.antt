@@ -9,7 +9,7 @@ use Rattle.dc_address.specs.Identity.{identity_cmp}
 use Rattle.dc_address.specs.declared.identity.Identity.{Identity}
 use Rattle.dc_change.specs.Size.{size_of}
 use Rattle.dc_change.specs.State.{State, MeterRow, row_of}
-use Rattle.dc_change.specs.Valid.{end_of_numbers}
+use Rattle.dc_change.specs.Fields.{end_of_numbers}
 use Rattle.dc_concentrator.specs.Core.{Core, opened}
 use Rattle.dc_concentrator.specs.Transcript.{leads}
 use Rattle.dc_disk.specs.Disk.{Image, IsImage}
@@ -88,7 +88,7 @@ pub record IsRead (before now : State) (wire : Wire) (identity : Identity) : Typ
 -- Where it is told that a meter was read, the serial that is told is that of the new reading.
 abbrev pub IsOfNew : State → State → Wire → Happening → Type 0
 IsOfNew before now wire (does turn) = Unit {0}
-IsOfNew before now wire (tells line (was_read meter serial parts)) =
+IsOfNew before now wire (tells line (was_read meter serial parts last)) =
     (new : IsRead before now wire meter) × (serial ≡ new.read.serial)
 IsOfNew before now wire (tells line told) = Unit {0}
 

@@ -4,7 +4,7 @@ use Rattle.std.specs.List.{AllByRecursion}
 use Rattle.dc_address.specs.declared.identity.Identity.{Identity}
 use Rattle.dc_change.specs.Size.{size_of}
 use Rattle.dc_change.specs.State.{State}
-use Rattle.dc_change.specs.Valid.{end_of_numbers}
+use Rattle.dc_change.specs.Fields.{end_of_numbers}
 use Rattle.dc_status.specs.Status.{bytes_a_reading, readings_left}
 use Rattle.dc_poll.specs.Bus.{Bus}
 use Rattle.dc_poll.specs.Round.{meters_left}

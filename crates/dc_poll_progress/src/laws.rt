@@ -23,7 +23,7 @@ pub fn each_readout_of_a_poll_ends_in_a_reading<B: QuietBus>()
 /// loses nothing three times in a row, the register has room for one reading of each, no telegram is
 /// refused because memory ran out, and no commit fails. Then what is read on each line is its queue,
 /// in order, and each meter of it has one reading more than before, whole and in order, whose serial
-/// is told. No readout fails, and the counts say so.
+/// the poll reports. No readout fails, and the counts say so.
 pub fn every_meter_is_read<D: Disk + Drop, B: QuietBus + Drop, T: Timer<B>, N: Teller>()
     ensures { EveryMeterIsRead D.Disk B.QuietBus T.tells T.passes T.warns N.takes }
 {}
@@ -31,7 +31,7 @@ pub fn every_meter_is_read<D: Disk + Drop, B: QuietBus + Drop, T: Timer<B>, N: T
 /// A register whose row ROOM (`status`, `inspect`) has at least as many readings as meters are to be
 /// read has room for a poll of them.
 ///
-/// The reading of each takes no more than those that are held do on average, as that row counts.
+/// The reading of each takes at most what those that are held take on average, as that row counts.
 pub fn a_register_has_room_where_the_row_room_suffices<B: QuietBus>()
     ensures { RoomRowSuffices B.QuietBus }
 {}

@@ -1,6 +1,7 @@
 //! What is tried on polls, by topic.
 
 mod clock;
+mod commands;
 mod faults;
 mod house;
 mod line;
@@ -11,3 +12,4 @@ mod progress;
 mod promises;
 mod stops;
 mod tellers;
+mod values;

@@ -1,5 +1,6 @@
 //! Tests of the program's engines, by topic.
 
+mod commands;
 mod common;
 mod decode;
 mod ending;

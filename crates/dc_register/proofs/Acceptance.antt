@@ -2,13 +2,12 @@
 use Rattle.std.proofs.Common.{◌≡◌, ℕ, ◌<◌, ◌≤◌, Bool, true, false, cond, Option, Some, None, refl, arith}
 use Rattle.std.specs.Prelude.{is_some, IsSome, nat_lt, nat_le, not, ◌||◌, ◌&&◌}
 use Rattle.dc_change.specs.declared.command.Command.{Command}
-use Rattle.dc_change.specs.declared.command.Command.TheVariants.{Fit, Move, Out, Confirm, Swap}
 use Rattle.dc_change.specs.Body.{BodyRow}
 use Rattle.dc_change.specs.State.{State, row_of}
-use Rattle.dc_change.specs.Apply.{told, commanded}
+use Rattle.dc_change.specs.Apply.{told}
 use Rattle.dc_change.specs.Size.{size_of}
-use Rattle.dc_change.specs.Valid.{end_of_numbers}
-use Rattle.dc_change.specs.Accepts.{command_refusal, telegram_refusal, continues, is_taken}
+use Rattle.dc_change.specs.Fields.{end_of_numbers}
+use Rattle.dc_change.specs.Accepts.{command_refusal, telegram_refusal, continues, is_known, is_unknown, is_address_taken, is_beyond, is_full}
 use Rattle.dc_register.specs.Steps.{CanBeApplied}
 use Rattle.std.proofs.lemmas.Bool.Decides.{nat_tests}
 
@@ -29,21 +28,13 @@ below a b e = grind (arith, nat_tests)
 
 -- what the steps of an accepted command need
 pub can_be_applied : (budget : ℕ) (command : Command) (s : State) → command_refusal budget command s ≡ None → CanBeApplied budget command s
-can_be_applied budget (Fit meter line address flat) s e =
-    let a = none_first (is_some (row_of meter s)) _ _ e in
-    let b = none_first (is_taken line address s) _ _ a.1 in
-    let d = none_first (nat_lt budget (size_of (commanded (Fit meter line address flat) s))) _ _ b.1 in
-    (none_of (row_of meter s) a.0, below budget _ d.0)
-can_be_applied budget (Move meter flat) s e =
-    let a = none_first (not (is_some (row_of meter s))) _ _ e in
-    let d = none_first (nat_lt budget (size_of (commanded (Move meter flat) s))) _ _ a.1 in
-    below budget _ d.0
-can_be_applied budget (Out meter) s e = tt
-can_be_applied budget (Confirm serial) s e = let a = none_first (nat_le s.next_serial serial) _ _ e in grind (arith, nat_tests, a.0)
-can_be_applied budget (Swap old new address) s e =
-    let a = none_first (is_some (row_of new s)) _ _ e in
-    let b = none_first (not (is_some (row_of old s))) _ _ a.1 in
-    (none_of (row_of new s) a.0, some_of (row_of old s) b.0)
+can_be_applied budget command s e =
+    let known = none_first (is_known command s) _ _ e in
+    let unknown = none_first (is_unknown command s) _ _ known.1 in
+    let taken = none_first (is_address_taken command s) _ _ unknown.1 in
+    let beyond = none_first (is_beyond command s) _ _ taken.1 in
+    let full = none_first (is_full budget command s) _ _ beyond.1 in
+    record { new = known.0; registered = unknown.0; given = beyond.0; room = full.0 }
 
 pub record CanBeTold (budget part moment : ℕ) (body : BodyRow) (s : State) : Type 0 where
   pub continues_it : continues part (row_of body.meter s) ≡ true

@@ -2,7 +2,7 @@
 use Rattle.std.proofs.Common.{◌≡◌, ℕ, suc, ◌-◌, ◌+◌, ◌≤◌, ◌<◌, List, [], ◌∷◌, ◌++◌, Option, Some, None, refl, sym, ap, ◌∙◌, append_assoc, append-nil, arith}
 use Rattle.dc_change.specs.declared.decode_fault.DecodeFault.{DecodeFault}
 use Rattle.dc_change.specs.declared.decode_fault.DecodeFault.TheVariants.{Bad, NoMemory}
-use Rattle.dc_change.specs.Reading.{Reader, Fails, ◌>>=◌, many}
+use Rattle.dc_change.specs.Pieces.{Reader, Fails, ◌>>=◌, many}
 use Rattle.dc_change.proofs.Exact.{some_is}
 
 module _ {X : Type 0} where

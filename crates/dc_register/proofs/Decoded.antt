@@ -7,10 +7,11 @@ use Rattle.dc_change.specs.Size.{size_of}
 use Rattle.dc_change.specs.Valid.{IsState, IsReading}
 use Rattle.dc_register.specs.Kept.{IsKept}
 use Rattle.dc_change.specs.Order.{MetersAscend, ReadingsAscend}
-use Rattle.dc_change.specs.Encoding.{long_bytes, counted}
+use Rattle.dc_change.specs.Pieces.{long_bytes, counted}
 use Rattle.dc_change.proofs.Lengths.{length-counted, state_len}
 use Rattle.dc_change.specs.Spelled.{SpellsState}
-use Rattle.dc_change.specs.Reading.{listed, count_at, entry_at, reading_at, Head, head_of, head_at}
+use Rattle.dc_change.specs.Pieces.{listed, count_at}
+use Rattle.dc_change.specs.Reading.{entry_at, reading_at, Head, head_of, head_at}
 use Rattle.dc_change.proofs.Exact.{IsBytes, some_is}
 use Rattle.dc_change.proofs.StateSpellings.{Exact-head, Reads, reads_takes, reads_again, values_are, IsSpelledReading}
 

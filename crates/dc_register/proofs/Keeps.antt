@@ -12,7 +12,8 @@ use Rattle.dc_address.specs.Identity.{identity_cmp}
 use Rattle.dc_change.specs.State.{State, MeterRow, PartRow, ReadingRow, row_of, empty_state}
 use Rattle.dc_change.specs.Size.{parts_size, meter_size, reading_size, size_of}
 use Rattle.dc_change.specs.Apply.{with_row, joined, heard, fitted, taken_out, confirmed_up_to}
-use Rattle.dc_change.specs.Valid.{IsMeter, IsReading, IsOpenSerial, end_of_numbers}
+use Rattle.dc_change.specs.Valid.{IsMeter, IsReading, IsOpenSerial}
+use Rattle.dc_change.specs.Fields.{end_of_numbers}
 use Rattle.dc_register.specs.Kept.{IsKept}
 use Rattle.dc_register.proofs.Empty.{IsState-empty}
 use Rattle.dc_register.proofs.Readings.{sorted_of_kept, sorted_of_pushed}

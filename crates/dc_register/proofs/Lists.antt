@@ -13,7 +13,8 @@ use Rattle.dc_address.specs.Identity.{identity_cmp}
 use Rattle.dc_change.specs.State.{MeterRow, ReadingRow}
 use Rattle.dc_change.specs.Valid.{IsOpenSerial}
 use Rattle.dc_change.specs.Order.{MetersAscend, ReadingsAscend, IsNextSerial}
-use Rattle.dc_change.specs.Reading.{Reader, many, entry_at, reading_at}
+use Rattle.dc_change.specs.Pieces.{Reader, many}
+use Rattle.dc_change.specs.Reading.{entry_at, reading_at}
 use Rattle.dc_register.proofs.Counts.{with_front, begins_with, goes_on, front_of}
 use Rattle.dc_register.proofs.Ascending.{insert_last, before_next}
 use Rattle.dc_address.proofs.Order.{identities_total}

@@ -11,7 +11,7 @@ use Rattle.dc_change.specs.Accepts.{Accepts}
 use Rattle.dc_change.specs.History.{after, AcceptsAll}
 use Rattle.dc_change.proofs.History.{after_of_push, accepts_all_of_push, accepts_all_parts}
 use Rattle.dc_change.proofs.Exact.{IsBytes, IsBytes-behind, some_is}
-use Rattle.dc_change.proofs.ChangeSpellings.{Exact-change}
+use Rattle.dc_change.proofs.CommandSpellings.{Exact-change}
 use Rattle.dc_change.proofs.Runs.{IsReadUpTo, read_on, next_spelled}
 use Rattle.dc_change.specs.Valid.{IsChange}
 use Rattle.dc_register.specs.Replay.{BeginsUnaccepted, IsApplied, IsHeldUp}

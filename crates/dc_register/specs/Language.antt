@@ -3,12 +3,13 @@ use Rattle.std.proofs.Common.{◌<◌, ◌^◌, ◌≡◌, ◌≤◌, ◌+◌, �
 use Rattle.dc_kept.specs.declared.kept.Language.{Ghosts as Language}
 use Rattle.dc_change.specs.State.{State, Held, empty_state}
 use Rattle.dc_change.specs.declared.change.Change.{Change}
-use Rattle.dc_change.specs.Encoding.{long_bytes, count_bytes, byte, counted, state_bytes}
+use Rattle.dc_change.specs.Pieces.{long_bytes, count_bytes, byte, counted}
+use Rattle.dc_change.specs.Encoding.{state_bytes}
 use Rattle.dc_change.specs.Spelled.{SpellsState, SpellsChanges}
 use Rattle.dc_change.specs.History.{after, AcceptsAll}
 use Rattle.dc_change.specs.Valid.{IsState}
 use Rattle.dc_change.proofs.StateSpellings.{spelled_once}
-use Rattle.dc_change.proofs.ChangeSpellings.{changes_spelled_once}
+use Rattle.dc_change.proofs.CommandSpellings.{changes_spelled_once}
 use Rattle.dc_change.proofs.Lengths.{state_some, state_fits}
 use Rattle.dc_change.proofs.History.{after_of_append}
 use Rattle.std.specs.List.Sorted.{IsStrictlySortedBy}

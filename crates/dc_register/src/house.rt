@@ -8,12 +8,13 @@ ghost use Rattle.std.specs.VecDeque.Iter.{deque_iter_rest};
 ghost use Rattle.dc_register.specs.Orders.{readings_from, reading_of, serials_of, due_serials};
 ghost use Rattle.dc_register.specs.Places.{by_flat};
 
-mod apply;
-mod check;
+mod change;
+mod command;
 mod decode;
 mod encode;
 mod kept;
 mod replay;
+mod telegram;
 
 use crate::{Meter, MeterMap, Place, Reading, ReadingList, Serials};
 use dc_address::Identity;

@@ -6,7 +6,8 @@ ghost use Rattle.dc_change.specs.Apply.{joined};
 ghost use Rattle.dc_change.specs.Accepts.{continues};
 ghost use Rattle.dc_change.specs.Size.{meter_size, parts_size, reading_size};
 ghost use Rattle.dc_change.specs.Flat.{IsFlat};
-ghost use Rattle.dc_change.specs.Valid.{IsMeter, IsPart, IsReading, most_parts};
+ghost use Rattle.dc_change.specs.Valid.{IsMeter, IsPart, IsReading};
+ghost use Rattle.dc_change.specs.Fields.{most_parts};
 ghost use Rattle.dc_register.specs.Due.{due_days};
 ghost use Rattle.dc_register.specs.Points.{points_of};
 

@@ -4,7 +4,8 @@ ghost use Rattle.std.specs.Prelude.{◌≡◌, ◌*◌, ◌≤◌, length, IfOk}
 ghost use Rattle.dc_record.specs.Telegram.{parsed, telegram_at};
 ghost use Rattle.dc_change.specs.State.{PartRow};
 ghost use Rattle.dc_change.specs.Size.{part_size, parts_size};
-ghost use Rattle.dc_change.specs.Valid.{IsPart, most_parts};
+ghost use Rattle.dc_change.specs.Valid.{IsPart};
+ghost use Rattle.dc_change.specs.Fields.{most_parts};
 
 use dc_io::NoMemory;
 use dc_record::Telegram;

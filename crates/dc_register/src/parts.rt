@@ -3,8 +3,10 @@
 ghost use Rattle.std.specs.Prelude.{◌≡◌, ◌≤◌, ◌++◌, length, IfOk, OnOk, OnErr};
 ghost use Rattle.std.specs.List.{flat_map};
 ghost use Rattle.dc_change.specs.Encoding.{part_bytes, parts_bytes};
-ghost use Rattle.dc_change.specs.Reading.{Gives, many, part_at, parts_at};
-ghost use Rattle.dc_change.specs.Valid.{IsPart, AreParts, most_parts};
+ghost use Rattle.dc_change.specs.Pieces.{Gives, many};
+ghost use Rattle.dc_change.specs.Reading.{part_at, parts_at};
+ghost use Rattle.dc_change.specs.Valid.{IsPart, AreParts};
+ghost use Rattle.dc_change.specs.Fields.{most_parts};
 ghost use Rattle.dc_io.specs.Written.{IsWritten, IsStopped};
 
 use crate::Part;

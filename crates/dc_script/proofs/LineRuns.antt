@@ -15,7 +15,7 @@ use Rattle.dc_script.specs.declared.halt.Halt.{Halt}
 use Rattle.dc_script.specs.declared.halt.Halt.TheVariants.{Write, NoMemory}
 use Rattle.dc_script.specs.Link.{Link, LineLink, HasBus, line_in, port_in, with_link}
 use Rattle.dc_bus.specs.Bus.{Exchange}
-use Rattle.dc_script.specs.Poll.{Phase, Happening, IsEnd, to_start, happened_exchanges, happened_turns, happened_text}
+use Rattle.dc_script.specs.Poll.{Phase, Happening, is_over, to_start, happened_exchanges, happened_turns, happened_text}
 use Rattle.dc_script.specs.Way.{Way}
 use Rattle.dc_script.specs.Script.{AskFor, FailsAt, ScriptCut, LinesRan, LineRan, LineCut, Deed, Does, DoesPart, IsOneTurn, IsTurnOf, AreDone, deeds_turns, deeds_text, links_after, traffic_of, moment_behind, moment_after}
 use Rattle.dc_script.specs.ScriptLine.{LineSeen, poll, IsLineOf}
@@ -204,7 +204,7 @@ module _ {D : Type 0} (g : Ghosts D) (origin : D) where
   -- a poll over a line that is found so, and has a bus
   pub polled_ran : {X E : Type 0} (budget : ℕ) (state : State) (before : List Turn) (moment line : ℕ) (meter : Identity) (links : List LineLink) (found : LineLink) (after : Link) (ends : List Happening → Phase → Type 0) (wrote : List ℕ → Type 0) (talked : List Exchange → Type 0) (first new : Machine D) (result : Result X E) → line_in links line ≡ found → HasBus found.link
       → Way g (run_of origin budget state before first new) (record { line = line; is_gateway = found.is_gateway }) moment meter (record { due = to_start; link = found.link }) ends (λ text. OnOk result (wrote text))
-      → ((happened : List Happening) (last : Phase) → ends happened last → OnOk result (IsEnd happened last.due × (last.link ≡ after)))
+      → ((happened : List Happening) (last : Phase) → ends happened last → OnOk result (last ≡ record { due = is_over; link = after }))
       → ((happened : List Happening) (last : Phase) → ends happened last → talked (happened_exchanges happened))
       → OnOk result (LineRan g (run_of origin budget state before first new) moment (poll line meter) links (with_link links line after) wrote talked)
   polled_ran budget state before moment line meter links found after ends wrote talked first new (Ok x) is has_bus found_way ends_so talks_so =
@@ -216,7 +216,7 @@ module _ {D : Type 0} (g : Ghosts D) (origin : D) where
         does = inl (record {
           has_bus = subst (λ (f : LineLink). HasBus f.link) (sym is) has_bus;
           after = after;
-          does_so = record { happened = way.happened; last = way.last; way = way.way; ends = (ends_so way.happened way.last way.ends_so).0; left_is = sym (ends_so way.happened way.last way.ends_so).1; turns_are = refl; exchanges_are = refl; text_is = refl };
+          does_so = record { happened = way.happened; last = way.last; way = way.way; ends = ap (λ (p : Phase). p.due) (ends_so way.happened way.last way.ends_so); left_is = sym (ap (λ (p : Phase). p.link) (ends_so way.happened way.last way.ends_so)); turns_are = refl; exchanges_are = refl; text_is = refl };
           left_is = refl;
         });
         went = way.went;

@@ -8,7 +8,7 @@ use Rattle.std.proofs.lemmas.List.{append-nil}
 use Rattle.dc_address.specs.Text.{text_of}
 use Rattle.dc_address.specs.declared.identity.Identity.{Identity}
 use Rattle.dc_address.proofs.Texts.{same_from_text}
-use Rattle.dc_change.specs.Line.{IsOfBytes}
+use Rattle.dc_change.specs.Fields.{IsOfBytes}
 use Rattle.dc_change.specs.Words.{IsWord, is_inside}
 use Rattle.dc_change.proofs.Decimals.{decimal_is_word}
 use Rattle.dc_change.proofs.LineSpellings.{one_word}

@@ -1,13 +1,16 @@
 -- What happens in a poll, one thing after the other.
-use Rattle.std.proofs.Common.{◌≡◌, ◌+◌, ◌≤◌, length, ℕ, List, [], ◌∷◌, ◌++◌, refl, ap, sym, subst, ◌∙◌, arith, append_assoc, append-nil, inl, inr, ⊎_elim}
-use Rattle.std.specs.Prelude.{Bool, true, false, Result, Ok, Err, IfOk, OnErr, OnOk}
+use Rattle.std.proofs.Common.{◌≡◌, ◌<◌, ◌≤◌, length, ℕ, Option, List, [], ◌∷◌, ◌++◌, refl, ap, sym, subst, ◌∙◌, arith, append_assoc, append-nil}
+use Rattle.std.specs.Prelude.{Bool, true, false, Result, Ok, Err, OnErr}
 use Rattle.dc_address.specs.declared.identity.Identity.{Identity}
 use Rattle.dc_io.specs.Failures.{HasRisen}
 use Rattle.dc_io.specs.Stream.{Puts}
+use Rattle.dc_io.specs.declared.stream.IoFault.{IoFault}
 use Rattle.dc_io.specs.declared.stream.Sink.{Ghosts as SinkGhosts}
 use Rattle.dc_io.proofs.Pieces.{puts-both, puts-none}
 use Rattle.dc_disk.specs.declared.device.Disk.{Ghosts}
 use Rattle.dc_change.specs.State.{State}
+use Rattle.dc_readout.specs.Summary.{Summary}
+use Rattle.dc_pending.specs.Lines.{requests_on, NoMoreRequests}
 use Rattle.dc_concentrator.specs.Core.{opened}
 use Rattle.dc_concentrator.specs.Event.{Event, Answer}
 use Rattle.dc_concentrator.specs.Images.{Machine, IsAt}
@@ -17,11 +20,11 @@ use Rattle.dc_concentrator.specs.declared.fault.HearFault.TheVariants.{NoLine, I
 use Rattle.dc_concentrator.specs.declared.line_heard.LineHeard.{LineHeard}
 use Rattle.dc_script.specs.Run.{run_of}
 use Rattle.dc_script.specs.Link.{Link, linked, lost, link_by, loss_line, loss_text, IsHeardOver}
-use Rattle.dc_script.specs.Poll.{Happening, does, talks, loses, Due, to_start, to_send, to_hear, Phase, IsDueEvent, IsWay, behind, behind_turn, turns_of, exchanges_of, told_text, happening_text, happened_turns, happened_exchanges, happened_text, rounds_in, count_of, IsEnd, behind_first_heard, is_over}
+use Rattle.dc_script.specs.Poll.{Happening, does, talks, loses, Due, to_start, to_send, to_hear, Phase, IsDueEvent, IsWay, behind, behind_turn, turns_of, exchanges_of, told_text, happening_text, happened_turns, happened_exchanges, happened_text, behind_first_heard, is_over}
 use Rattle.dc_bus.specs.Limits.{most_answer}
 use Rattle.dc_bus.specs.Bus.{AreExchanged, Exchange}
 use Rattle.dc_bus.proofs.Exchanges.{exchanged-both, exchanged-one}
-use Rattle.dc_script.specs.Way.{Way, IsRound, FailsInLast}
+use Rattle.dc_script.specs.Way.{Way, FailsInLast, Spends}
 use Rattle.dc_concentrator.specs.Went.{Went, TurnWent}
 use Rattle.dc_script.specs.declared.port.Port.{Port}
 use Rattle.dc_concentrator.proofs.Wents.{went_both, went_chain, went_at}
@@ -37,10 +40,6 @@ turns_append (h ∷ one) more = ap (λ (x : List Turn). turns_of h ++ x) (turns_
 text_append : (port : Port) (one more : List Happening) → happened_text port (one ++ more) ≡ happened_text port one ++ happened_text port more
 text_append port [] more = refl
 text_append port (h ∷ one) more = ap (λ (x : List ℕ). happening_text port h ++ x) (text_append port one more) ∙ sym (append_assoc (happening_text port h) (happened_text port one) (happened_text port more))
-
-pub rounds_append : (one more : List Happening) → rounds_in (one ++ more) ≡ rounds_in one + rounds_in more
-rounds_append [] more = omega arith
-rounds_append (h ∷ one) more = let rest = rounds_append one more in omega (arith, rest)
 
 pub exchanges_append : (one more : List Happening) → happened_exchanges (one ++ more) ≡ happened_exchanges one ++ happened_exchanges more
 exchanges_append [] more = refl
@@ -67,11 +66,6 @@ exchange_is_one false true exchange = refl
 exchange_is_one false false exchange = refl
 exchange_is_one true is exchange = refl
 
-pub no_round : (was is : Bool) (exchange : Exchange) → rounds_in (exchange_happening was is exchange) ≡ 0
-no_round false true exchange = refl
-no_round false false exchange = refl
-no_round true is exchange = refl
-
 pub loss_in : (port : Port) (was is : Bool) (exchange : Exchange) → (was ≡ true → is ≡ true) → happened_text port (exchange_happening was is exchange) ≡ loss_text port (link_by was) (link_by is)
 loss_in port false true exchange stays = append-nil (loss_line port)
 loss_in port false false exchange stays = refl
@@ -88,11 +82,6 @@ pub settles_unasked : (was is : Bool) → happened_exchanges (settle_happening w
 settles_unasked false true = refl
 settles_unasked false false = refl
 settles_unasked true is = refl
-
-pub settles_in_no_round : (was is : Bool) → rounds_in (settle_happening was is) ≡ 0
-settles_in_no_round false true = refl
-settles_in_no_round false false = refl
-settles_in_no_round true is = refl
 
 -- a bus that isn't touched isn't lost
 pub not_a_gateway : {B : Type 0} (lost_is : B → Bool) (gateway : Bool) (old new : B) → (gateway ≡ true → new ≡ old) → lost_is old ≡ false → lost_is new ≡ true → gateway ≡ false
@@ -182,33 +171,16 @@ module _ {W : Type 0} (sink : SinkGhosts W) (port : Port) where
   if_fails_later result old mid new turn more wrote well so =
       if_fails_after result old mid new (does turn ∷ []) more (subst (Puts (sink.written old) (sink.written mid)) (sym (append-nil (told_text turn.1))) wrote) well so
 
--- ---- rounds
+-- ---- requests that are left
 
-pub end_grows : {X E : Type 0} (result : Result X E) (link : Link) (h : Happening) (happened : List Happening) (last : Phase) → count_of h ≡ 0
-    → OnOk result (IsEnd happened last.due × (last.link ≡ link)) → OnOk result (IsEnd (h ∷ happened) last.due × (last.link ≡ link))
-end_grows (Ok x) link h happened last none ends = (⊎_elim (λ over. inl over) (λ full. inr (omega (arith, none, full))) ends.0, ends.1)
-end_grows (Err e) link h happened last none ends = tt
+-- a round that has spent one, and what came before or after it
+pub spends_then : (result : Result Bool IoFault) (line : ℕ) (old mid new : List (Option Summary)) → requests_on line mid < requests_on line old → NoMoreRequests mid new → Spends result line old new
+spends_then (Ok more) line old mid new less no_more = λ on. let rest = no_more line in omega (arith, less, rest)
+spends_then (Err fault) line old mid new less no_more = tt
 
-round_grows : (more : Bool) (link : Link) (few rounds : ℕ) (h : Happening) (happened : List Happening) (last : Phase) → count_of h + few ≡ rounds → IsRound more link few happened last → IsRound more link rounds (h ∷ happened) last
-round_grows more link few rounds h happened last is round = let r = round.rounds_are in record { last_is = round.last_is; rounds_are = omega (arith, is, r) }
-
--- after what is no round
-pub end_after : {X E : Type 0} (result : Result X E) (link : Link) (front happened : List Happening) (last : Phase) → rounds_in front ≡ 0
-    → OnOk result (IsEnd happened last.due × (last.link ≡ link)) → OnOk result (IsEnd (front ++ happened) last.due × (last.link ≡ link))
-end_after (Ok x) link front happened last none ends = (⊎_elim (λ over. inl over) (λ full. inr (omega (arith, none, full, rounds_append front happened))) ends.0, ends.1)
-end_after (Err e) link front happened last none ends = tt
-
--- a round of which more has happened before
-pub if_round_grows : {E : Type 0} (result : Result Bool E) (link : Link) (few rounds : ℕ) (h : Happening) (happened : List Happening) (last : Phase) → count_of h + few ≡ rounds
-    → IfOk result (λ more. IsRound more link few happened last) → IfOk result (λ more. IsRound more link rounds (h ∷ happened) last)
-if_round_grows (Ok more) link few rounds h happened last is round = round_grows more link few rounds h happened last is round
-if_round_grows (Err fault) link few rounds h happened last is round = tt
-
--- which is nothing asked for
-pub if_round_after : {E : Type 0} (result : Result Bool E) (link : Link) (rounds : ℕ) (front happened : List Happening) (last : Phase) → rounds_in front ≡ 0
-    → IfOk result (λ more. IsRound more link rounds happened last) → IfOk result (λ more. IsRound more link rounds (front ++ happened) last)
-if_round_after (Ok more) link rounds front happened last is round = let r = round.rounds_are in record { last_is = round.last_is; rounds_are = omega (arith, is, r, rounds_append front happened) }
-if_round_after (Err fault) link rounds front happened last is round = tt
+pub then_spends : (result : Result Bool IoFault) (line : ℕ) (old mid new : List (Option Summary)) → NoMoreRequests old mid → Spends result line mid new → Spends result line old new
+then_spends (Ok more) line old mid new no_more spends = λ on. let less = spends on in let rest = no_more line in omega (arith, less, rest)
+then_spends (Err fault) line old mid new no_more spends = tt
 
 module _ {D : Type 0} (g : Ghosts D) (origin : D) where
   pub way_chain : (budget : ℕ) (state : State) (before : List Turn) (port : Port) (moment : ℕ) (meter : Identity) (phase : Phase) (ends : List Happening → Phase → Type 0) (wrote : List ℕ → Type 0) (first new : Machine D)

@@ -1,6 +1,6 @@
 -- The readout of a meter over a bus line (this product): each happening follows from the one before
 -- it.
-use Rattle.std.specs.Prelude.{◌≡◌, ◌⊎◌, ℕ, Bool, true, false, ◌+◌, ◌≤◌, None, Some, Result, Ok, Err}
+use Rattle.std.specs.Prelude.{◌≡◌, ℕ, Bool, true, false, ◌≤◌, None, Some, Result, Ok, Err}
 use Rattle.std.specs.Prelude.{List, [], ◌∷◌, length, flat_map}
 use Rattle.dc_address.specs.declared.identity.Identity.{Identity}
 use Rattle.dc_concentrator.specs.Event.{Event, Answer, starts, asks, hears, commits, started, asked, heard}
@@ -15,11 +15,6 @@ use Rattle.dc_bus.specs.Limits.{most_answer}
 use Rattle.dc_bus.specs.Bus.{AreExchanged, Exchange}
 use Rattle.dc_script.specs.Link.{Link, linked, lost, IsHeardOver, loss_line}
 use Rattle.dc_script.specs.declared.port.Port.{Port}
-
--- maximum number of requests asked for in a readout: three tries at a reset, a selection and each
--- of 32 parts, and one without a result
-abbrev pub most_rounds : ℕ
-most_rounds = 103
 
 -- a turn of the concentrator, an exchange over the bus, or the bus's loss
 pub data Happening : Type 0 where
@@ -151,31 +146,13 @@ happening_text port loses = loss_line port
 abbrev pub happened_text : Port → List Happening → List ℕ
 happened_text port happened = flat_map (happening_text port) happened
 
--- number of requests asked for
-abbrev pub asks_by : Event → ℕ
-asks_by (asks line) = 1
-asks_by event = 0
-
-abbrev pub count_of : Happening → ℕ
-count_of (does turn) = asks_by turn.0
-count_of (talks exchange) = 0
-count_of loses = 0
-
-abbrev pub rounds_in : List Happening → ℕ
-rounds_in [] = 0
-rounds_in (happening ∷ more) = count_of happening + rounds_in more
-
--- the readout is over, or has reached the maximum number of requests
-abbrev pub IsEnd : List Happening → Due → Type 0
-IsEnd happened due = (due ≡ is_over) ⊎ (rounds_in happened ≡ most_rounds)
-
 -- A POLL, from its start to its end: these turns, these exchanges over the bus, and this text.
 pub record Polls (port : Port) (moment : ℕ) (meter : Identity) (link left : Link)
     (turns : List Turn) (exchanges : List Exchange) (text : List ℕ) : Type 0 where
   pub happened : List Happening
   pub last : Phase
   pub way : IsWay port moment meter (record { due = to_start; link = link }) happened last
-  pub ends : IsEnd happened last.due
+  pub ends : last.due ≡ is_over
   pub left_is : left ≡ last.link
   pub turns_are : turns ≡ happened_turns happened
   pub exchanges_are : exchanges ≡ happened_exchanges happened

@@ -4,8 +4,8 @@ use Rattle.std.specs.List.{join_with_byte}
 use Rattle.std.specs.Fmt.{decimal}
 use Rattle.dc_address.specs.Text.{text_of}
 use Rattle.dc_address.specs.declared.identity.Identity.{Identity}
-use Rattle.dc_change.specs.Line.{IsOfBytes}
-use Rattle.dc_change.specs.Valid.{last_moment}
+use Rattle.dc_change.specs.Fields.{IsOfBytes}
+use Rattle.dc_change.specs.Fields.{last_moment}
 use Rattle.dc_io.specs.Hex.{bytes_of}
 use Rattle.dc_io.specs.Lines.{longest_input_line}
 use Rattle.dc_search.specs.Found.{greatest_budget}

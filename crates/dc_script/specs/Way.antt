@@ -1,6 +1,6 @@
 -- What is known of a poll between two of its calls (this product).
-use Rattle.std.specs.Prelude.{◌≡◌, ℕ, Bool, true, false, Result, IfOk, OnOk, OnErr, List, [], ◌∷◌}
-use Rattle.std.specs.Prelude.{◌++◌}
+use Rattle.std.specs.Prelude.{◌≡◌, ◌<◌, ℕ, Bool, true, false, Option, Result, IfOk, OnOk, OnErr, List}
+use Rattle.std.specs.Prelude.{[], ◌∷◌, ◌++◌}
 use Rattle.dc_address.specs.declared.identity.Identity.{Identity}
 use Rattle.dc_bus.specs.Bus.{AreExchanged, Exchange}
 use Rattle.dc_io.specs.Failures.{HasRisen}
@@ -9,8 +9,10 @@ use Rattle.dc_io.specs.Written.{PutsInto}
 use Rattle.dc_io.specs.declared.stream.IoFault.{IoFault}
 use Rattle.dc_io.specs.declared.stream.Sink.{Ghosts as SinkGhosts}
 use Rattle.dc_disk.specs.declared.device.Disk.{Ghosts}
-use Rattle.dc_script.specs.Poll.{Phase, Due, Happening, IsEnd, IsWay, happened_exchanges}
-use Rattle.dc_script.specs.Poll.{happened_text, happened_turns, rounds_in, to_ask, is_over}
+use Rattle.dc_readout.specs.Summary.{Summary}
+use Rattle.dc_pending.specs.Lines.{requests_on}
+use Rattle.dc_script.specs.Poll.{Phase, Due, Happening, IsWay, happened_exchanges, happened_text}
+use Rattle.dc_script.specs.Poll.{happened_turns, to_ask, is_over}
 use Rattle.dc_script.specs.Link.{Link, link_by}
 use Rattle.dc_script.specs.Run.{Run, IsRunOf}
 use Rattle.dc_script.specs.declared.port.Port.{Port}
@@ -31,12 +33,6 @@ abbrev pub goes_on : Bool → Due
 goes_on true = to_ask
 goes_on false = is_over
 
--- A round ended: the poll goes on or not, and the bus is found like this.
-pub record IsRound (more : Bool) (link : Link) (rounds : ℕ) (happened : List Happening)
-    (last : Phase) : Type 0 where
-  pub last_is : last ≡ record { due = goes_on more; link = link }
-  pub rounds_are : rounds_in happened ≡ rounds
-
 -- A write failed over the last of these: until then the text of those before it was written, and no write failed.
 pub record FailsInLast {W : Type 0} (sink : SinkGhosts W) (port : Port) (old new : W)
     (happened : List Happening) : Type 0 where
@@ -56,12 +52,18 @@ phase_at due is_lost = record { due = due; link = link_by is_lost }
 
 -- a poll that succeeded is at its end, and the bus is found like this
 abbrev pub PollEnds : {X : Type 0} → Result X IoFault → Link → List Happening → Phase → Type 0
-PollEnds result link happened last = OnOk result (IsEnd happened last.due × (last.link ≡ link))
+PollEnds result link happened last = OnOk result (last ≡ record { due = is_over; link = link })
 
 -- a round that succeeded says whether the poll goes on
-abbrev pub RoundEnds : Result Bool IoFault → Link → ℕ → List Happening → Phase → Type 0
-RoundEnds result link rounds happened last =
-    IfOk result (λ more. IsRound more link rounds happened last)
+abbrev pub RoundEnds : Result Bool IoFault → Link → List Happening → Phase → Type 0
+RoundEnds result link happened last =
+    IfOk result (λ more. last ≡ record { due = goes_on more; link = link })
+
+-- Where the poll goes on, the session on its line may make fewer requests than before.
+abbrev pub Spends : Result Bool IoFault → ℕ → List (Option Summary) → List (Option Summary)
+    → Type 0
+Spends result line old new =
+    IfOk result (λ more. more ≡ true → requests_on line new < requests_on line old)
 
 -- the bus goes from here to there by these exchanges
 abbrev pub WentOver : {B : Type 0} → (B → List ℕ → List ℕ → B → Type 0) → B → B → List Exchange

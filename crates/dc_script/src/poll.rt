@@ -1,15 +1,18 @@
 //! `POLL`: the readout of a meter over a bus line.
 
-ghost use Rattle.std.specs.Prelude.{◌≡◌, ◌≤◌, ℕ, true, false, [], IfOk, OnOk, OnErr, length};
+ghost use Rattle.std.specs.Prelude.{◌≡◌, ◌<◌, ◌≤◌, ℕ, List, Option, true, false, [], IfOk, OnOk, OnErr};
+ghost use Rattle.std.specs.Prelude.{length};
 ghost use Rattle.dc_address.specs.declared.identity.Identity.{Identity as Meter};
 ghost use Rattle.dc_io.specs.Failures.{HasRisen};
+ghost use Rattle.dc_readout.specs.Summary.{Summary};
+ghost use Rattle.dc_pending.specs.Lines.{requests_on, NoMoreRequests};
 ghost use Rattle.dc_concentrator.specs.Step.{longest_request};
 ghost use Rattle.dc_bus.specs.Limits.{most_answer};
 ghost use Rattle.dc_io.specs.Written.{Wrote};
 ghost use Rattle.dc_script.specs.Link.{Link, link_by, loss_text, IsHeardOver};
 ghost use Rattle.dc_script.specs.Poll.{IsPolled, to_start, to_ask, to_send, to_hear};
 ghost use Rattle.dc_script.specs.Poll.{to_commit, to_make_room, to_hear_again, behind_heard};
-ghost use Rattle.dc_script.specs.Way.{phase_at, Polled, PollEnds, RoundEnds, WentOver};
+ghost use Rattle.dc_script.specs.Way.{phase_at, Polled, PollEnds, RoundEnds, Spends, WentOver};
 ghost use Rattle.dc_script.specs.declared.port.Port.{Port};
 ghost use Rattle.dc_script.specs.Run.{AnyRun};
 
@@ -23,10 +26,6 @@ use dc_disk::Disk;
 use dc_frame::FrameBuf;
 use dc_io::{IoFault, Sink};
 use std::alloc::Allocator;
-
-// A readout makes at most 102 requests (`a_readout_makes_few_requests` of dc_readout); one more look
-// finds nothing to ask.
-const MOST_ROUNDS: usize = 103;
 
 /// Reads a meter over a bus line, with this time stamp. The bus settles first, so that no answer is
 /// under way when the readout begins.
@@ -100,7 +99,8 @@ fn start_and_read<D: Disk + Drop, A: Allocator + Copy, B: ScriptBus, W: Sink>(
     }
 }
 
-// Goes from round to round.
+// Goes from round to round, until the session has no request left: each takes one away of those that it may make
+// (`a_readout_makes_few_requests` of dc_readout), so no readout is cut off.
 fn read_parts<D: Disk + Drop, A: Allocator + Copy, B: ScriptBus, W: Sink>(
     port: Port,
     concentrator: &mut Concentrator<D, A>,
@@ -117,13 +117,12 @@ fn read_parts<D: Disk + Drop, A: Allocator + Copy, B: ScriptBus, W: Sink>(
     ensures budget { concentrator.new.house.budget ≡ concentrator.old.house.budget }
     ensures untouched { B.lost bus.old ≡ true → bus.new ≡ bus.old }
 {
-    'rounds: for _ in 0..MOST_ROUNDS {
+    'rounds: loop {
         let more = ask_and_hear(port, concentrator, bus, moment, out)?;
         if !more {
             return Ok(());
         }
     }
-    Ok(())
 }
 
 // One round: a request and its answer, which is committed if it is a part. Returns whether the poll
@@ -137,10 +136,11 @@ fn ask_and_hear<D: Disk + Drop, A: Allocator + Copy, B: ScriptBus, W: Sink>(
 ) -> Result<bool, IoFault>
     ensures went { (meter : Meter) → AnyRun D.Disk concentrator.old concentrator.new (λ run.
         Polled D.Disk run port moment.seconds meter (phase_at to_ask (B.lost bus.old)) W.Sink
-        out.old out.new result (RoundEnds result (link_by (B.lost bus.new)) 1)
+        out.old out.new result (RoundEnds result (link_by (B.lost bus.new)))
         (WentOver B.asks bus.old bus.new)) }
     ensures fault { OnErr result (HasRisen (W.put_failures out.old) (W.put_failures out.new)) }
     ensures well { OnOk result (W.put_failures out.new ≡ W.put_failures out.old) }
+    ensures fewer { Spends result port.line concentrator.old.lines concentrator.new.lines }
     ensures budget { concentrator.new.house.budget ≡ concentrator.old.house.budget }
     ensures untouched { B.lost bus.old ≡ true → bus.new ≡ bus.old }
 {
@@ -164,9 +164,10 @@ fn exchange<D: Disk + Drop, A: Allocator + Copy, B: ScriptBus, W: Sink>(
     ensures went { (meter : Meter) → AnyRun D.Disk concentrator.old concentrator.new (λ run.
         Polled D.Disk run port moment.seconds meter
         (phase_at (to_send request.now) (B.lost bus.old)) W.Sink out.old out.new result
-        (RoundEnds result (link_by (B.lost bus.new)) 0) (WentOver B.asks bus.old bus.new)) }
+        (RoundEnds result (link_by (B.lost bus.new))) (WentOver B.asks bus.old bus.new)) }
     ensures fault { OnErr result (HasRisen (W.put_failures out.old) (W.put_failures out.new)) }
     ensures well { OnOk result (W.put_failures out.new ≡ W.put_failures out.old) }
+    ensures fewer { Spends result port.line concentrator.old.lines concentrator.new.lines }
     ensures budget { concentrator.new.house.budget ≡ concentrator.old.house.budget }
     ensures untouched { B.lost bus.old ≡ true → bus.new ≡ bus.old }
 {
@@ -215,9 +216,10 @@ fn hear<D: Disk + Drop, A: Allocator + Copy, W: Sink>(
         (λ run.
         Polled D.Disk run port moment.seconds meter
         (record { due = to_hear bytes.now; link = link }) W.Sink out.old out.new result
-        (RoundEnds result link 0) (λ exchanges. exchanges ≡ [])) }
+        (RoundEnds result link) (λ exchanges. exchanges ≡ [])) }
     ensures fault { OnErr result (HasRisen (W.put_failures out.old) (W.put_failures out.new)) }
     ensures well { OnOk result (W.put_failures out.new ≡ W.put_failures out.old) }
+    ensures fewer { Spends result port.line concentrator.old.lines concentrator.new.lines }
     ensures budget { concentrator.new.house.budget ≡ concentrator.old.house.budget }
 {
     let answer = told_hear(concentrator, port.line, moment, bytes, out)?;
@@ -242,9 +244,10 @@ fn hear_again<D: Disk + Drop, A: Allocator + Copy, W: Sink>(
         (λ run.
         Polled D.Disk run port moment.seconds meter
         (record { due = to_make_room bytes.now; link = link }) W.Sink out.old out.new result
-        (RoundEnds result link 0) (λ exchanges. exchanges ≡ [])) }
+        (RoundEnds result link) (λ exchanges. exchanges ≡ [])) }
     ensures fault { OnErr result (HasRisen (W.put_failures out.old) (W.put_failures out.new)) }
     ensures well { OnOk result (W.put_failures out.new ≡ W.put_failures out.old) }
+    ensures fewer { Spends result port.line concentrator.old.lines concentrator.new.lines }
     ensures budget { concentrator.new.house.budget ≡ concentrator.old.house.budget }
 {
     let committed = told_commit(concentrator, out)?;
@@ -266,9 +269,10 @@ fn hear_once_more<D: Disk + Drop, A: Allocator + Copy, W: Sink>(
         (λ run.
         Polled D.Disk run port moment.seconds meter
         (record { due = to_hear_again bytes.now; link = link }) W.Sink out.old out.new result
-        (RoundEnds result link 0) (λ exchanges. exchanges ≡ [])) }
+        (RoundEnds result link) (λ exchanges. exchanges ≡ [])) }
     ensures fault { OnErr result (HasRisen (W.put_failures out.old) (W.put_failures out.new)) }
     ensures well { OnOk result (W.put_failures out.new ≡ W.put_failures out.old) }
+    ensures fewer { Spends result port.line concentrator.old.lines concentrator.new.lines }
     ensures budget { concentrator.new.house.budget ≡ concentrator.old.house.budget }
 {
     let answer = told_hear(concentrator, port.line, moment, bytes, out)?;
@@ -284,9 +288,13 @@ fn after_heard<D: Disk + Drop, A: Allocator + Copy, W: Sink>(
     ensures went { (port : Port) (moment : ℕ) (meter : Meter) (link : Link) → AnyRun D.Disk
         concentrator.old concentrator.new (λ run.
         Polled D.Disk run port moment meter (record { due = behind_heard answer; link = link })
-        W.Sink out.old out.new result (RoundEnds result link 0) (λ exchanges. exchanges ≡ [])) }
+        W.Sink out.old out.new result (RoundEnds result link) (λ exchanges. exchanges ≡ [])) }
     ensures fault { OnErr result (HasRisen (W.put_failures out.old) (W.put_failures out.new)) }
     ensures well { OnOk result (W.put_failures out.new ≡ W.put_failures out.old) }
+    // If an answer that was taken is one request less, so is the round.
+    ensures fewer { (line : ℕ) (before : List (Option Summary)) → OnOk answer
+        (requests_on line concentrator.old.lines < requests_on line before)
+        → Spends result line before concentrator.new.lines }
     ensures budget { concentrator.new.house.budget ≡ concentrator.old.house.budget }
 {
     match answer {
@@ -307,9 +315,10 @@ fn commit_part<D: Disk + Drop, A: Allocator + Copy, W: Sink>(
     ensures went { (port : Port) (moment : ℕ) (meter : Meter) (link : Link) → AnyRun D.Disk
         concentrator.old concentrator.new (λ run.
         Polled D.Disk run port moment meter (record { due = to_commit; link = link }) W.Sink
-        out.old out.new result (RoundEnds result link 0) (λ exchanges. exchanges ≡ [])) }
+        out.old out.new result (RoundEnds result link) (λ exchanges. exchanges ≡ [])) }
     ensures fault { OnErr result (HasRisen (W.put_failures out.old) (W.put_failures out.new)) }
     ensures well { OnOk result (W.put_failures out.new ≡ W.put_failures out.old) }
+    ensures no_more { NoMoreRequests concentrator.old.lines concentrator.new.lines }
     ensures budget { concentrator.new.house.budget ≡ concentrator.old.house.budget }
 {
     let answer = told_commit(concentrator, out)?;

@@ -1,7 +1,8 @@
 //! Single events of a concentrator: each answer is written as a line of text, and returned.
 
-ghost use Rattle.std.specs.Prelude.{◌≡◌, ◌≤◌, IfOk, IfSome, OnOk, OnErr, length};
+ghost use Rattle.std.specs.Prelude.{◌≡◌, ◌<◌, ◌≤◌, IfOk, IfSome, OnOk, OnErr, length};
 ghost use Rattle.dc_io.specs.Failures.{HasRisen};
+ghost use Rattle.dc_pending.specs.Lines.{requests_on, NoMoreRequests};
 ghost use Rattle.dc_concentrator.specs.Event.{starts, asks, hears, commits, started, asked, heard};
 ghost use Rattle.dc_concentrator.specs.Event.{committed};
 ghost use Rattle.dc_concentrator.specs.Step.{longest_request};
@@ -75,6 +76,9 @@ pub fn told_hear<D: Disk + Drop, A: Allocator + Copy, W: Sink>(
         (answer ≡ heard told) × PutsInto W.Sink out.old out.new (told_text (heard told))))) }
     ensures fault { OnErr result (HasRisen (W.put_failures out.old) (W.put_failures out.new)) }
     ensures well { OnOk result (W.put_failures out.new ≡ W.put_failures out.old) }
+    ensures fewer { IfOk result (λ told. OnOk told
+        (requests_on line concentrator.new.lines < requests_on line concentrator.old.lines)) }
+    ensures no_more { NoMoreRequests concentrator.old.lines concentrator.new.lines }
     ensures budget { concentrator.new.house.budget ≡ concentrator.old.house.budget }
 {
     let answer = concentrator.hear(line, moment, bytes);
@@ -92,6 +96,7 @@ pub fn told_commit<D: Disk + Drop, A: Allocator + Copy, W: Sink>(
         × PutsInto W.Sink out.old out.new (told_text (committed told))))) }
     ensures fault { OnErr result (HasRisen (W.put_failures out.old) (W.put_failures out.new)) }
     ensures well { OnOk result (W.put_failures out.new ≡ W.put_failures out.old) }
+    ensures no_more { NoMoreRequests concentrator.old.lines concentrator.new.lines }
     ensures budget { concentrator.new.house.budget ≡ concentrator.old.house.budget }
 {
     let answer = concentrator.commit();

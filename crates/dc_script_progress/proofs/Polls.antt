@@ -1,8 +1,7 @@
 -- A poll, one thing after the other (the theorem of specs/Polled).
-use Rattle.std.proofs.Common.{◌≡◌, ◌≢◌, ◌<◌, ◌⊎◌, inl, inr, ℕ, ◌+◌, ◌*◌, ◌≤◌, false, Option, Some, None, Result, Ok, Err, List, [], ◌∷◌, length, arith, refl, sym, ◌∙◌, ap, subst}
+use Rattle.std.proofs.Common.{◌≡◌, ◌≢◌, ◌<◌, inl, inr, ℕ, ◌+◌, ◌*◌, ◌≤◌, false, Option, Some, None, Result, Ok, Err, List, [], ◌∷◌, length, arith, refl, sym, ◌∙◌, ap, subst}
 use Rattle.dc_frame.specs.Frame.{FrameSeen}
 use Rattle.dc_frame.specs.Reading.{frame_of}
-use Rattle.dc_readout.specs.Session.{commands}
 use Rattle.dc_readout.specs.Summary.{asked_by}
 use Rattle.dc_world.specs.declared.event.Outcome.{Outcome}
 use Rattle.dc_world.specs.Meter.{Meter}
@@ -23,14 +22,10 @@ use Rattle.dc_progress.specs.Rounds.{Scene, Round, IsRound, losses_by, row_after
 use Rattle.dc_progress.proofs.Rounds.{Told, GoesOn, asks_nothing, right_answer, still_running}
 use Rattle.dc_progress.proofs.Along.{Runs, Behind, asks_here, asked_for, asks_some, thrice_less, step, step_told, at_first}
 use Rattle.dc_script.specs.Link.{Link, linked}
-use Rattle.dc_script.specs.Poll.{most_rounds, Happening, does, talks, loses, Due, to_start, to_ask, to_send, to_hear, to_commit, to_make_room, to_hear_again, is_over, Phase, IsDueEvent, IsWay, IsEnd, behind, behind_turn, behind_first_heard, happened_turns, asks_by, rounds_in}
+use Rattle.dc_script.specs.Poll.{Happening, does, talks, loses, Due, to_start, to_ask, to_send, to_hear, to_commit, to_make_room, to_hear_again, is_over, Phase, IsDueEvent, IsWay, behind, behind_turn, behind_first_heard, happened_turns}
 use Rattle.dc_script.specs.declared.port.Port.{Port}
-use Rattle.dc_script_progress.specs.Polled.{Bus, bus_after, GivesTo, Works, IsServed, bus_at_first, EndsRead, PollsEnd}
+use Rattle.dc_script_progress.specs.Polled.{Bus, asks_by, bus_after, rounds_in, GivesTo, Works, IsServed, bus_at_first, EndsRead, PollsEnd}
 use Rattle.dc_script_progress.proofs.Quiet.{IsCommand, quiet_heard, nothing_left}
-
-commands_few : (address : Option ℕ) → commands address ≤ 2
-commands_few None = omega arith
-commands_few (Some address) = omega arith
 
 module _ (port : Port) (budget moment place : ℕ) (meters : List Meter) (start : Scene) (meter : Meter) (row : MeterRow) (parts : List (List ℕ)) (may : MayBeRead budget port.line meters start place meter row parts) (quiet_start : start.core.pending ≡ []) where
   abbrev pub total : ℕ
@@ -280,38 +275,15 @@ module _ (port : Port) (budget moment place : ℕ) (meters : List Meter) (start 
 
   -- ---- the end
 
-  few_requests : 3 * total ≤ 102
-  few_requests = let few = may.begins.there.few in let two = commands_few meter.address in omega (arith, few, two)
-
-  final : (due : Due) (core : Core) (k : ℕ) → Final due core k → (due ≡ is_over) ⊎ (k ≡ most_rounds) → Ended core k
-  final to_start core k f end = absurd f.1
-  final to_ask core k f (inl over) = absurd cc
-  final to_ask core k f (inr all) =
-      let a = f.1 in
-      let most = bound a.done a.lost f.0.row (scene_of f.0 core) a.stands in
-      let count = a.count in
-      absurd (omega (arith, all, count, most, few_requests))
-  final (to_send request) core k f (inl over) = absurd cc
-  final (to_send request) core k f (inr all) =
-      let h = f.1 in
-      let less = thrice_less budget port.line meters start place meter row parts may h.done h.lost f.0.row (scene_of f.0 core) h.runs in
-      let count = h.count in
-      absurd (omega (arith, all, count, less, few_requests))
-  final (to_hear bytes) core k f (inl over) = absurd cc
-  final (to_hear bytes) core k f (inr all) =
-      let h = f.1.sent in
-      let less = thrice_less budget port.line meters start place meter row parts may h.done h.lost f.1.before.row (scene_of f.1.before core) h.runs in
-      let count = h.count in
-      absurd (omega (arith, all, count, less, few_requests))
-  final to_commit core k f (inl over) = absurd cc
-  final to_commit core k f (inr all) =
-      let c = f.1 in
-      let most = bound c.done c.lost f.0.row (scene_of f.0 (settled_core core core.pending)) c.stands in
-      let count = c.count in
-      absurd (omega (arith, all, count, most, few_requests))
-  final (to_make_room bytes) core k f end = absurd f.1
-  final (to_hear_again bytes) core k f end = absurd f.1
-  final is_over core k f end = f.1
+  final : (due : Due) (core : Core) (k : ℕ) → Final due core k → due ≡ is_over → Ended core k
+  final to_start core k f over = absurd f.1
+  final to_ask core k f over = absurd cc
+  final (to_send request) core k f over = absurd cc
+  final (to_hear bytes) core k f over = absurd cc
+  final to_commit core k f over = absurd cc
+  final (to_make_room bytes) core k f over = absurd f.1
+  final (to_hear_again bytes) core k f over = absurd f.1
+  final is_over core k f over = f.1
 
   -- ---- the start
 
@@ -343,10 +315,9 @@ module _ (port : Port) (budget moment place : ℕ) (meters : List Meter) (start 
   first_step event answer is =
       subst (λ (e : Event). May budget start.core e answer → At (behind_turn to_start e answer) first_bus (next start.core e answer) (asks_by e)) (sym is) (start_step answer)
 
-  from_first : (happened : List Happening) (link : Link) (last : Phase) → IsWay port moment meter.identity (record { due = to_start; link = link }) happened last → IsEnd happened last.due
+  from_first : (happened : List Happening) (link : Link) (last : Phase) → IsWay port moment meter.identity (record { due = to_start; link = link }) happened last → last.due ≡ is_over
       → IsChain budget start.core (happened_turns happened) → IsServed meters first_bus happened → Ended (leads start.core (happened_turns happened)) (rounds_in happened)
-  from_first [] link last way (inl over) chain served = absurd (let bad = sym (ap (λ (p : Phase). p.due) way) ∙ over in cc)
-  from_first [] link last way (inr all) chain served = absurd (omega (arith, all))
+  from_first [] link last way over chain served = absurd (let bad = sym (ap (λ (p : Phase). p.due) way) ∙ over in cc)
   from_first (loses ∷ more) link last way end chain served = absurd served
   from_first (talks exchange ∷ more) link last way end chain served = absurd (let bad = way.0.0 in cc)
   from_first (does turn ∷ more) link last way end chain served =

@@ -232,7 +232,7 @@ module _ (port : Port) (budget moment place : ℕ) (meters : List Meter) (start 
         turns = happened_turns rest.happened;
         exchanges = happened_exchanges rest.happened;
         text = happened_text port rest.happened;
-        polls = record { happened = rest.happened; last = rest.last; way = rest.way; ends = inl rest.over; left_is = refl; turns_are = refl; exchanges_are = refl; text_is = refl };
+        polls = record { happened = rest.happened; last = rest.last; way = rest.way; ends = rest.over; left_is = refl; turns_are = refl; exchanges_are = refl; text_is = refl };
         chain = rest.chain;
         served = rest.served;
       }

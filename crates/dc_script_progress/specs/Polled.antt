@@ -11,14 +11,14 @@ use Rattle.dc_bus.specs.Bus.{Exchange}
 use Rattle.dc_change.specs.State.{MeterRow}
 use Rattle.dc_concentrator.specs.declared.fault.HearFault.TheVariants.{NoMemory}
 use Rattle.dc_concentrator.specs.Core.{Core}
-use Rattle.dc_concentrator.specs.Event.{Event, Answer, hears, commits, heard, committed}
+use Rattle.dc_concentrator.specs.Event.{Event, Answer, asks, hears, commits, heard, committed}
 use Rattle.dc_concentrator.specs.Transcript.{Turn, leads, IsChain}
 use Rattle.dc_progress.specs.Needs.{MayBeRead}
 use Rattle.dc_progress.specs.Progress.{IsRead, requests_of}
 use Rattle.dc_progress.specs.Rounds.{Scene, row_after}
 use Rattle.dc_script.specs.declared.port.Port.{Port}
 use Rattle.dc_script.specs.Link.{Link, linked}
-use Rattle.dc_script.specs.Poll.{Happening, does, talks, loses, rounds_in, Polls}
+use Rattle.dc_script.specs.Poll.{Happening, does, talks, loses, Polls}
 
 -- ---- what the line and the machine do
 
@@ -63,6 +63,20 @@ module _ (meters : List Meter) where
   IsServed bus (loses ∷ more) = ⊥
 
 -- ---- what a poll comes to
+
+-- number of requests asked for
+abbrev pub asks_by : Event → ℕ
+asks_by (asks line) = 1
+asks_by event = 0
+
+abbrev pub count_of : Happening → ℕ
+count_of (does turn) = asks_by turn.0
+count_of (talks exchange) = 0
+count_of loses = 0
+
+abbrev pub rounds_in : List Happening → ℕ
+rounds_in [] = 0
+rounds_in (happening ∷ more) = count_of happening + rounds_in more
 
 -- The meter is read, after no more requests than three for each that its readout has. The last
 -- look, at which nothing is asked any more, counts as one.

@@ -2,7 +2,7 @@
 
 ghost use Rattle.std.specs.Prelude.{◌≤◌, IfSome, option_copied};
 ghost use Rattle.dc_io.specs.Written.{Wrote};
-ghost use Rattle.dc_change.specs.Valid.{last_moment};
+ghost use Rattle.dc_change.specs.Fields.{last_moment};
 ghost use Rattle.dc_latest.specs.Values.{bit_words, bits_words};
 ghost use Rattle.dc_status.specs.Status.{byte_words, days_words, heard_words, meter_line};
 ghost use Rattle.dc_status.specs.Status.{meter_lines, meter_words, moment_words, readings_left, room_words};

@@ -2,7 +2,7 @@
 
 ghost use Rattle.std.specs.Prelude.{◌≡◌, ◌≤◌, ◌/◌, ◌%◌, ◌==◌, IfSome, option_copied};
 ghost use Rattle.dc_io.specs.Written.{Wrote};
-ghost use Rattle.dc_change.specs.Valid.{last_moment};
+ghost use Rattle.dc_change.specs.Fields.{last_moment};
 ghost use Rattle.dc_status.specs.Object.{bit_fields, code_field, heard_fields, image_object};
 ghost use Rattle.dc_status.specs.Object.{maker_field, maybe_field, name_field, state_name};
 ghost use Rattle.dc_status.specs.Object.{meter_object, meter_objects, moment_fields, number_field};

@@ -1,7 +1,7 @@
 //! Whether a meter is silent.
 
 ghost use Rattle.std.specs.Prelude.{◌≡◌, ◌≤◌, IfSome, option_copied};
-ghost use Rattle.dc_change.specs.Valid.{last_moment};
+ghost use Rattle.dc_change.specs.Fields.{last_moment};
 ghost use Rattle.dc_latest.specs.Values.{last_part};
 ghost use Rattle.dc_status.specs.Heard.{heard, is_silent, last_of_parts, later, moment_of, part_in};
 ghost use Rattle.dc_status.specs.Heard.{open_part};

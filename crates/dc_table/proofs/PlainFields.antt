@@ -21,7 +21,7 @@ use Rattle.dc_value.specs.declared.value.Value.TheVariants.{Number, Flags, Day a
 use Rattle.dc_value.specs.Date.{Day}
 use Rattle.dc_value.specs.Text.{last_digits, sign, magnitude_text, day_text, value_text}
 use Rattle.dc_change.specs.Flat.{IsFlat, is_flat_byte}
-use Rattle.dc_change.specs.Line.{address_word}
+use Rattle.dc_change.specs.Fields.{address_word}
 use Rattle.dc_table.specs.Line.{line_text}
 use Rattle.dc_table.specs.Medium.{medium_text}
 use Rattle.dc_table.specs.Written.{IsPlain, ArePlain}

@@ -5,7 +5,7 @@ use Rattle.std.specs.Fmt.{decimal}
 use Rattle.dc_address.specs.declared.identity.Identity.{Identity}
 use Rattle.dc_address.specs.Text.{text_of}
 use Rattle.dc_change.specs.State.{State, MeterRow, row_of}
-use Rattle.dc_change.specs.Line.{address_word}
+use Rattle.dc_change.specs.Fields.{address_word}
 use Rattle.dc_register.specs.declared.place.Place.{Place}
 use Rattle.dc_register.specs.Places.{by_flat}
 use Rattle.dc_table.specs.Line.{line_text}

@@ -2,7 +2,7 @@
 
 ghost use Rattle.std.specs.Prelude.{◌≡◌, ◌++◌, length, OnOk, IfOk};
 ghost use Rattle.std.specs.List.{flat_map};
-ghost use Rattle.dc_change.specs.Line.{address_word};
+ghost use Rattle.dc_change.specs.Fields.{address_word};
 ghost use Rattle.dc_table.specs.Line.{line_text};
 ghost use Rattle.dc_register.specs.Places.{by_flat};
 ghost use Rattle.dc_table.specs.RegisterTable.{line_at, meter_fields, register_text};

@@ -10,7 +10,7 @@ use Rattle.dc_teller.specs.Object.{object_of, objects_of_all}
 use Rattle.dc_teller.specs.Printed.{ArePrintedAsJson, ArePrintedAsText, AreTakenUpToAFailure, IsCutShort, PrintsLine, PrintsObject}
 use Rattle.dc_teller.specs.Text.{line_of, text_of_all}
 use Rattle.dc_teller.specs.Unfailing.{GoesOn}
-use Rattle.dc_teller.specs.declared.json.JsonTeller.{JsonTeller}
+use Rattle.dc_teller.specs.declared.objects.JsonTeller.{JsonTeller}
 use Rattle.dc_teller.specs.declared.text.TextTeller.{TextTeller}
 use Rattle.dc_teller.specs.declared.unfailing.Unfailing.{Unfailing}
 

@@ -2,6 +2,8 @@
 
 -- the events of a poll as text
 pub mod Text
+-- the object of a meter that was read
+pub mod Read
 -- the events of a poll as JSON objects
 pub mod Object
 -- what is said of a failed readout on standard error

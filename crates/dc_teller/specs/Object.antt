@@ -4,6 +4,7 @@ use Rattle.dc_address.specs.Text.{text_of}
 use Rattle.dc_address.specs.declared.identity.Identity.{Identity}
 use Rattle.dc_concentrator.specs.Fault.{start_number, start_name, hear_number, hear_name, commit_number}
 use Rattle.dc_concentrator.specs.Fault.{commit_name}
+use Rattle.dc_frame_json.specs.Text.{value_line}
 use Rattle.dc_misses.specs.declared.misses.Misses.{Misses}
 use Rattle.dc_poll.specs.declared.end.Refusal.{Refusal}
 use Rattle.dc_poll.specs.declared.end.Refusal.TheVariants.{Start, Hear, Commit}
@@ -16,6 +17,7 @@ use Rattle.dc_readout.specs.declared.why.Why.TheVariants.{TooManyParts}
 use Rattle.dc_readout.specs.Why.{number_of as why_number, name_of as why_name}
 use Rattle.dc_record.specs.Fault.{number_of as content_number, name_of as content_name}
 use Rattle.dc_record.specs.declared.fault.BodyFault.{BodyFault}
+use Rattle.dc_teller.specs.Read.{read_json}
 
 -- a field of a number, after what stands before it
 unfoldable pub field : List ℕ → ℕ → List ℕ
@@ -75,14 +77,9 @@ why_rest why line misses =
 unfoldable pub refusal_rest : Refusal → List ℕ
 refusal_rest refusal = refusal_fields refusal ++ codes "}\n"
 
-unfoldable pub reading_rest : ℕ → ℕ → List ℕ
-reading_rest serial parts =
-    field (codes ",\"serial\":") serial ++ field (codes ",\"parts\":") parts ++ codes "}\n"
-
 -- THE OBJECT OF AN EVENT.
 abbrev pub object_of : Event → List ℕ
-object_of (Read meter serial parts) =
-    meter_field (codes "{\"event\":\"read\",\"meter\":\"") meter ++ reading_rest serial parts
+object_of (Read meter serial parts last) = value_line (read_json meter serial parts last)
 object_of (Failed line meter why misses) =
     meter_field (codes "{\"event\":\"failed\",\"meter\":\"") meter ++ why_rest why line misses
 object_of (Refused meter refusal) =

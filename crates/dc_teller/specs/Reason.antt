@@ -30,7 +30,7 @@ reason_unless is_none line meter misses = if is_none then [] else reason_line li
 
 -- WHAT IS SAID OF AN EVENT: of a failed readout, where a try failed, what its failed tries brought.
 abbrev pub reason_of : Event → List ℕ
-reason_of (Read meter serial parts) = []
+reason_of (Read meter serial parts last) = []
 reason_of (Failed line meter why misses) = reason_unless (has_none misses) line meter misses
 reason_of (Refused meter refusal) = []
 reason_of (Lost line) = []

@@ -13,7 +13,7 @@ not_read tally = record { done = one_more tally.done; failed = one_more tally.fa
 
 -- a meter is done with once it was read, failed or was refused
 abbrev pub tallied : Event → Tally → Tally
-tallied (Read meter serial parts) tally =
+tallied (Read meter serial parts last) tally =
     record { done = one_more tally.done; failed = tally.failed }
 tallied (Failed line meter why misses) tally = not_read tally
 tallied (Refused meter refusal) tally = not_read tally

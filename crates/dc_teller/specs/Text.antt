@@ -41,7 +41,7 @@ refusal_end refusal = codes " " ++ refusal_text refusal ++ codes "\n"
 
 -- THE LINE OF AN EVENT.
 abbrev pub line_of : Event → List ℕ
-line_of (Read meter serial parts) =
+line_of (Read meter serial parts last) =
     codes "READ " ++ text_of meter ++ number_word serial ++ number_word parts ++ codes "\n"
 line_of (Failed line meter why misses) = codes "FAILED " ++ text_of meter ++ why_end why
 line_of (Refused meter refusal) = codes "REFUSED " ++ text_of meter ++ refusal_end refusal

@@ -101,7 +101,7 @@ fn meters_of<B: QuietBus + Drop>(stations: &[Station<'_, B>]) -> u64 {
 const LONGEST_REASON: usize = 160;
 
 // Says on standard error what the failed tries of a readout brought, where the event is of one.
-fn explain<R: Eprint>(rt: &R, event: &Event) {
+fn explain<R: Eprint>(rt: &R, event: &Event<'_>) {
     let mut reason: FixedSink<LONGEST_REASON> = FixedSink::new();
     if put_reason(&mut reason, event).is_ok()
         && let Ok(line) = str::from_utf8(reason.as_slice())
@@ -129,7 +129,7 @@ impl<R: Clock + Eprint, N: Teller + Drop> Teller for Shown<'_, '_, R, N> {
 
     ghost failures = { λ shown. N.failures shown.teller };
 
-    fn tell(&mut self, event: &Event) -> Result<(), IoFault> {
+    fn tell(&mut self, event: &Event<'_>) -> Result<(), IoFault> {
         self.progress.clear();
         let tally = &self.progress.tally;
         tally.set(tally.get().after(event));

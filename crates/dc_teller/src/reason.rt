@@ -5,7 +5,7 @@ ghost use Rattle.dc_io.specs.Written.{Wrote};
 ghost use Rattle.dc_teller.specs.Reason.{between, has_none, reason_line, reason_of};
 ghost use Rattle.dc_teller.specs.Reason.{reason_unless, sentence_line};
 
-use crate::json::put_field;
+use crate::objects::put_field;
 use dc_address::Identity;
 use dc_io::{IoFault, Sink};
 use dc_misses::{Misses, put_misses};
@@ -14,7 +14,7 @@ use dc_poll::Event;
 /// Writes what the failed tries of a failed readout brought, as a line:
 /// `mbdc: line 2: 12345678.PAD.01.07: 3 tries failed: 2 silent, 1 unreadable`. Of another event, and where no try
 /// failed, it writes nothing.
-pub fn put_reason<W: Sink>(out: &mut W, event: &Event) -> Result<(), IoFault>
+pub fn put_reason<W: Sink>(out: &mut W, event: &Event<'_>) -> Result<(), IoFault>
     ensures { Wrote W.Sink result out.old out.new (reason_of event.now) }
 {
     match event {

@@ -23,7 +23,7 @@ impl Tally {
     }
 
     /// The counts after an event.
-    pub fn after(self, event: &Event) -> Self
+    pub fn after(self, event: &Event<'_>) -> Self
         ensures { result ≡ tallied event.now self }
     {
         match event {

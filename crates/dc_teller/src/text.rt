@@ -2,8 +2,9 @@
 
 ghost use Rattle.std.specs.Prelude.{◌≡◌, ◌++◌, codes};
 ghost use Rattle.dc_address.specs.Text.{text_of};
+ghost use Rattle.dc_io.specs.Words.{number_word};
 ghost use Rattle.dc_io.specs.Written.{Wrote};
-ghost use Rattle.dc_poll.specs.declared.event.Event.TheVariants.{Read, Refused, Lost};
+ghost use Rattle.dc_poll.specs.declared.event.Event.TheVariants.{Refused, Lost};
 ghost use Rattle.dc_poll.specs.declared.event.Event.TheVariants.{Late, End};
 ghost use Rattle.dc_teller.specs.Text.{line_of, why_text, why_end, refusal_text, refusal_end};
 
@@ -28,7 +29,7 @@ impl<W: Sink + Drop> Teller for TextTeller<W> {
 
     ghost failures = { λ teller. W.put_failures teller.out };
 
-    fn tell(&mut self, event: &Event) -> Result<(), IoFault> {
+    fn tell(&mut self, event: &Event<'_>) -> Result<(), IoFault> {
         put_line(&mut self.out, event)
     }
 }
@@ -43,7 +44,7 @@ impl<W: Sink + Drop> Teller for TextTeller<W> {
 /// | lost | `LINE n LOST` |
 /// | late | `LATE line n` |
 /// | end | `END read failed` |
-pub fn put_line<W: Sink>(out: &mut W, event: &Event) -> Result<(), IoFault>
+pub fn put_line<W: Sink>(out: &mut W, event: &Event<'_>) -> Result<(), IoFault>
     ensures { Wrote W.Sink result out.old out.new (line_of event.now) }
 {
     match event {
@@ -51,6 +52,7 @@ pub fn put_line<W: Sink>(out: &mut W, event: &Event) -> Result<(), IoFault>
             meter,
             serial,
             parts,
+            ..
         } => put_read(out, meter, *serial, *parts),
         Event::Failed { meter, why, .. } => put_failed(out, meter, *why),
         Event::Refused { meter, refusal } => put_refused(out, meter, *refusal),
@@ -63,7 +65,9 @@ pub fn put_line<W: Sink>(out: &mut W, event: &Event) -> Result<(), IoFault>
 // Writes `READ ident serial parts`.
 #[tactic(auto, using(dc_io::proofs::Pieces::written))]
 fn put_read<W: Sink>(out: &mut W, meter: &Identity, serial: u64, parts: u64) -> Result<(), IoFault>
-    ensures { Wrote W.Sink result out.old out.new (line_of (Read meter.now serial parts)) }
+    ensures { Wrote W.Sink result out.old out.new
+        (codes "READ " ++ text_of meter.now ++ number_word serial ++ number_word parts
+        ++ codes "\n") }
 {
     out.put(b"READ ")?;
     out.put(&meter.text())?;

@@ -34,7 +34,7 @@ impl<N: Teller + Drop> Teller for Unfailing<N> {
 
     ghost failures = { λ _. 0 };
 
-    fn tell(&mut self, event: &Event) -> Result<(), IoFault> {
+    fn tell(&mut self, event: &Event<'_>) -> Result<(), IoFault> {
         if !self.has_failed && self.teller.tell(event).is_err() {
             self.has_failed = true;
         }

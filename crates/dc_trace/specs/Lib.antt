@@ -3,3 +3,5 @@
 pub mod Observed
 -- the text of a trace
 pub mod Line
+-- what a trace has of a bus line
+pub mod Tracer

@@ -247,8 +247,8 @@ ends:
                            --patience longer
   END read failed
 With --json an object an event. On a terminal, standard error shows how far it
-is. Where the clock is earlier than a time stamp of the register: mbdc: clock:
-behind the newest reading
+is. --trace FILE gets each request and answer, as of scan. Where the clock is
+earlier than a time stamp of the register: mbdc: clock: behind the newest reading
 --dry-run prints what the poll would do, opens no link and writes nothing:
   QUEUE n ident            line n reads this meter, in this order
   MOST n readouts requests line n makes at most as many
@@ -266,11 +266,12 @@ one meter has, BUDGET where the budget was spent, SELECTIONS n, and LATE n where
 n late answers were dropped. With --primary: ADDRESS n for each address that
 acknowledges, and its ident where its telegram can be read. A meter begins its
 readout anew afterwards; nothing is stored. On a terminal, standard error shows
-how far it is, and each meter as it answers, with its medium and value.
+how far it is, and each meter as it answers, with its medium and value. Where
+answers were no frame, a line on standard error counts them at the end.
 Nobody answers: is the bus powered, are speed and parity right? SHARED: read
 these meters by their primary addresses (scan --primary).
 --trace FILE gets milliseconds, bus line, > or <, hex digits, and what they are:
-frame, E5, no frame or silence.
+frame, E5, no frame or silence; - is standard error.
 Faults: mbdc: gateway where the link can't be connected or is lost; mbdc: memory";
 
 /// Of `address`.
@@ -293,6 +294,9 @@ pub const READ: &str = "Example:
 
 Printed is what decode prints of the telegrams, each before the meter is asked
 for the next one. Nothing is stored. Where the readout fails, FAILED n Name
-follows and the status is 1. LATE n comes last where n late answers were
-dropped. --trace FILE gets each request and answer, as of scan.
+follows and the status is 1; standard error says what the failed tries brought:
+mbdc: 12345678.PAD.01.07: 3 tries failed: 2 silent, 1 unreadable. LATE n comes
+last where n late answers were dropped. A number alone, as 12345678, is the one
+meter on the bus that has it; SHARED number where several answer.
+--trace FILE gets each request and answer, as of scan.
 Faults: mbdc: gateway where the link can't be connected or is lost; mbdc: memory";

@@ -15,7 +15,8 @@ const MOST_DAYS: u64 = 366;
 
 const MOST_HOURS: u64 = 8_784;
 
-/// The seconds that a word spells: a number of days from 1 to 366, alone or with `d`, or of hours from 1 to 8784 with `h`.
+/// The seconds that a word spells: a number of days from 1 to 366, alone or with `d`, or of hours from 1 to 8784 with
+/// `h`.
 pub(crate) fn silence_of(word: &[u8]) -> Option<u64> {
     match word {
         [digits @ .., b'h'] => counted(digits, MOST_HOURS, SECONDS_AN_HOUR),
@@ -24,7 +25,7 @@ pub(crate) fn silence_of(word: &[u8]) -> Option<u64> {
     }
 }
 
-// So many units as the digits say, from 1 to that many.
+// A number of units in digits, from 1 to `most`, as seconds.
 fn counted(digits: &[u8], most: u64, unit: u64) -> Option<u64>
     requires few { most ≤ 8784 }
     requires short { unit ≤ 86400 }

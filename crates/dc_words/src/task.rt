@@ -56,6 +56,8 @@ pub enum MeterName {
     Identity(Identity),
     /// By its primary address.
     Primary(Primary),
+    /// By the eight digits of its number alone: all with that number are selected.
+    Number([u8; 8]),
 }
 
 /// A script over an image, in files.
@@ -88,6 +90,8 @@ pub struct PollTask<'a> {
     pub is_json: bool,
     /// The time-out of an answer in milliseconds.
     pub patience: u16,
+    /// The file of the trace, if one is written; `-` is standard error.
+    pub trace: Option<&'a str>,
     /// Whether it prints what a poll would do, in place of it.
     pub is_dry: bool,
 }
@@ -174,7 +178,7 @@ pub enum Task<'a> {
         scan: Scan,
         /// The time-out of an answer in milliseconds.
         patience: u16,
-        /// The file of the trace, if one is written.
+        /// The file of the trace, if one is written; `-` is standard error.
         trace: Option<&'a str>,
     },
     /// The readout of one meter on one bus, without an image.
@@ -185,7 +189,7 @@ pub enum Task<'a> {
         meter: MeterName,
         /// The time-out of an answer in milliseconds.
         patience: u16,
-        /// The file of the trace, if one is written.
+        /// The file of the trace, if one is written; `-` is standard error.
         trace: Option<&'a str>,
     },
     /// A new primary address for a meter on one bus, without an image.

@@ -10,7 +10,7 @@ use clap::{Arg, ArgAction, ArgMatches, Command, value_parser};
 use dc_address::Primary;
 use dc_change::parse_number;
 use dc_consumption_table::Boundaries;
-use dc_named::{Named, identity_of};
+use dc_named::Named;
 use std::alloc::{AllocError, Global};
 
 // The least and the greatest number of sectors: what the file of the largest image holds.
@@ -69,7 +69,7 @@ fn patience_arg<'a>(alloc: Global) -> Arg<'a> {
 
 fn trace_arg<'a>(alloc: Global) -> Arg<'a> {
     option_arg(alloc, "TRACE", "trace", "FILE").help(
-        "Writes each request and answer to this file, a line each",
+        "Writes each request and answer to this file; - is standard error",
     )
 }
 
@@ -180,7 +180,9 @@ fn format_command<'a>(alloc: Global) -> Result<Command<'a>, AllocError> {
 
 fn poll_command<'a>(alloc: Global) -> Result<Command<'a>, AllocError> {
     let about = "Prints what a poll would do; opens no link and writes nothing";
-    let dry = flag_arg(alloc, "DRY", "dry-run", about).conflicts_with("JSON")?;
+    let dry = flag_arg(alloc, "DRY", "dry-run", about)
+        .conflicts_with("JSON")?
+        .conflicts_with("TRACE")?;
     let args = vec![in alloc;
         image_arg(alloc),
         line_arg(alloc).required(true),
@@ -193,6 +195,7 @@ fn poll_command<'a>(alloc: Global) -> Result<Command<'a>, AllocError> {
             "Prints JSON Lines, an object an event"
         ),
         patience_arg(alloc),
+        trace_arg(alloc),
         dry,
     ]?;
     let about = "Reads the registered meters, all connected lines at once";
@@ -298,7 +301,7 @@ fn scan_command<'a>(alloc: Global) -> Result<Command<'a>, AllocError> {
 }
 
 fn read_command<'a>(alloc: Global) -> Result<Command<'a>, AllocError> {
-    let meter = "Its identity, as 12345678.PAD.01.07, or its primary address, 1 to 250";
+    let meter = "Its identity, as 12345678.PAD.01.07, its number, or a primary address";
     let args = vec![in alloc;
         link_arg(alloc),
         required_arg(alloc, "METER", meter),
@@ -359,7 +362,21 @@ fn with_command<'a>(
     program: Result<Command<'a>, AllocError>,
     command: Result<Command<'a>, AllocError>,
 ) -> Result<Command<'a>, AllocError> {
-    program?.subcommand(command?)
+    match command {
+        Ok(command) => with_made_command(program, command),
+        Err(error) => Err(error),
+    }
+}
+
+// The same of a command that was made. (Each of the two has one value to drop.)
+fn with_made_command<'a>(
+    program: Result<Command<'a>, AllocError>,
+    command: Command<'a>,
+) -> Result<Command<'a>, AllocError> {
+    match program {
+        Ok(program) => program.subcommand(command),
+        Err(error) => Err(error),
+    }
 }
 
 /// What the words ask for. The first word is the program's name.
@@ -557,6 +574,7 @@ fn poll_task<'a>(
         tries: inner.get_one("TRIES").unwrap_or_default(),
         is_json: inner.get_flag("JSON"),
         patience: patience_of(inner),
+        trace: inner.get_str("TRACE"),
         is_dry: inner.get_flag("DRY"),
     }))
 }
@@ -573,11 +591,15 @@ fn patience_of(inner: &ArgMatches<'_>) -> u16 {
     inner.get_one("PATIENCE").unwrap_or_default()
 }
 
-// A number is a primary address, and all else an identity.
+// An identity, the eight digits of a number, or a primary address.
 fn meter_of(word: &str) -> Option<MeterName> {
-    match word.parse::<u8>() {
-        Ok(number) => Some(MeterName::Primary(Primary::new(number)?)),
-        Err(_) => Some(MeterName::Identity(identity_of(word.as_bytes())?)),
+    match Named::parse(word.as_bytes()) {
+        Some(Named::Identity(meter)) => Some(MeterName::Identity(meter)),
+        Some(Named::Number(digits)) => Some(MeterName::Number(digits)),
+        None => {
+            let number = word.parse::<u8>().ok()?;
+            Some(MeterName::Primary(Primary::new(number)?))
+        }
     }
 }
 

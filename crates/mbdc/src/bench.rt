@@ -1,32 +1,39 @@
 //! The commands `scan`, `read` and `address`: one bus, without an image.
 
-use crate::tracing::{Book, Tracer, book_of};
+use crate::tracing::{shows_progress, trace_file_of, tracer_of};
 use crate::watching::{Addresses, Cleared, Progress, Show, Unseen};
 use dc_bus::{Both, Bus, QuietBus, ScriptBus};
 use dc_ending::{Ending, STREAM};
 use dc_files::{Host, Noted, Why};
 use dc_installer::{
-    Addressing, Count, GREATEST, Readout, ScanFault, identify, put_addressing, read, scan,
-    scan_primary, set_address,
+    Addressing, Count, GREATEST, Numbered, Readout, ScanFault, find_number, identify,
+    put_addressing, put_unfound, read, scan, scan_primary, set_address,
 };
-use dc_io::{IoFault, Sink, WriteSink, put_number_word};
+use dc_io::{FixedSink, IoFault, Sink, WriteSink, put_number_word};
 use dc_links::{Peer, ScriptLink, SystemBus, Waiter};
-use dc_trace::{Observed, Observer, Pair};
+use dc_misses::{Misses, Owner, put_reason};
+use dc_trace::{Observed, Observer, Pair, TraceFile};
 use dc_words::{LinkName, MeterName, Scan};
 use std::alloc::Global;
 use std::fs::File;
-use std::io;
 use std::io::{LineWriter, Write};
 use std::net::{Net, TcpStream};
 use std::rt::{Clock, Files};
+use std::{io, str};
 
 // A bus that is used alone, with an observer.
 type OneBus<'a, C, O> = ScriptLink<Observed<SystemBus<'a, C>, O>, Waiter>;
+
+// The one bus line of a command without an image.
+const LINE: u8 = 1;
 
 // Said to a person of a search that found nothing.
 const NOBODY: &str = "nobody answered: is the bus powered, are speed and parity right?\n";
 
 const NO_METER: &str = "answers came, but of no meter: look at speed, parity and noise\n";
+
+// Room for the longest line of a failed readout.
+const LONGEST_REASON: usize = 160;
 
 // Said to a person of numbers that more than one meter has.
 const SHARED: &str = "SHARED: find these meters by scan --primary, and read each by its address\n";
@@ -42,15 +49,15 @@ pub fn scan_bus<'a, R>(
 where
     R: Files<File = File> + Net<Stream = TcpStream> + Clock + Copy + Print + Eprint + AllocGlobal,
 {
-    let book = match book_of(host, trace) {
-        Ok(book) => book,
+    let file = match trace_file_of(host, trace) {
+        Ok(file) => file,
         Err(error) => return host.why.file(trace.unwrap_or_default(), error),
     };
     let peer = match Peer::connect(host.rt, link) {
         Ok(peer) => peer,
         Err(error) => return host.why.link(None, error),
     };
-    let ending = scan_over(host, &peer, what, patience, book.as_ref());
+    let ending = scan_over(host, &peer, what, patience, file.as_ref());
     peer.release(host.rt);
     ending
 }
@@ -61,7 +68,7 @@ fn scan_over<'a, R>(
     peer: &Peer<R>,
     what: Scan,
     patience: u16,
-    book: Option<&Book<'_, R>>,
+    trace: Option<&TraceFile<'_, R>>,
 ) -> Ending<'a>
 where
     R: Clock + Copy + Print + Eprint + AllocGlobal,
@@ -73,8 +80,8 @@ where
             each: patience,
         }),
     };
-    let progress = Progress::new(host.rt, host.is_watched, addresses);
-    let ending = scan_watched(host, peer, what, patience, book, &progress);
+    let progress = Progress::new(host.rt, shows_progress(host, trace), addresses);
+    let ending = scan_watched(host, peer, what, patience, trace, &progress);
     progress.clear();
     ending
 }
@@ -84,20 +91,48 @@ fn scan_watched<'a, R>(
     peer: &Peer<R>,
     what: Scan,
     patience: u16,
-    book: Option<&Book<'_, R>>,
+    trace: Option<&TraceFile<'_, R>>,
     progress: &Progress<'_, R>,
 ) -> Ending<'a>
 where
     R: Clock + Copy + Print + Eprint + AllocGlobal,
 {
     let observer = Pair {
-        first: Tracer { book },
+        first: tracer_of(trace, LINE),
         second: Show { progress },
     };
     let mut bus = match quiet_bus(host.rt, peer, patience, observer) {
         Ok(bus) => bus,
         Err(error) => return host.why.link(None, error),
     };
+    scan_observed(host, &mut bus, what, progress)
+}
+
+// Searches on a bus with any observer.
+fn scan_observed<'a, R, O>(
+    host: &Host<'_, R>,
+    bus: &mut OneBus<'_, R, O>,
+    what: Scan,
+    progress: &Progress<'_, R>,
+) -> Ending<'a>
+where
+    R: Clock + Copy + Print + Eprint + AllocGlobal,
+    O: Observer + Drop,
+{
+    scan_on(host, bus, what, progress)
+}
+
+// Searches on any bus; the terminal's progress is cleared before each line that is printed.
+fn scan_on<'a, R, B>(
+    host: &Host<'_, R>,
+    bus: &mut B,
+    what: Scan,
+    progress: &Progress<'_, R>,
+) -> Ending<'a>
+where
+    R: Clock + Copy + Print + Eprint + AllocGlobal,
+    B: ScriptBus,
+{
     let printer = Cleared {
         writer: Noted::new(io::writer(host.rt), host.why),
         progress,
@@ -106,14 +141,14 @@ where
         return Ending::Memory;
     };
     let mut writer = WriteSink::new(printer);
-    match search(host.rt.alloc(), what, &mut bus, &mut writer) {
+    match search(host.rt.alloc(), what, bus, &mut writer) {
         Ok(count) => {
             let ending = if bus.late() > 0 {
                 Ending::Faulty
             } else {
                 Ending::Clean
             };
-            let ending = end_of(host.why, &bus, writer, ending);
+            let ending = ended(host.why, bus.late(), bus.is_lost(), writer, ending);
             if matches!(ending, Ending::Clean | Ending::Faulty) {
                 advise(progress, count);
             }
@@ -143,12 +178,14 @@ fn search<B: ScriptBus, W: Sink>(
     }
 }
 
-// Says what to do where nothing was found, and with numbers that several meters have.
+// Says what couldn't be read, and to a person what to do where nothing was found, and with numbers that several meters
+// have.
 fn advise<R: Clock + Eprint>(progress: &Progress<'_, R>, count: Option<Count>) {
+    let has_unread = progress.tell_unread();
     let advice = match count {
         _ if !progress.is_answered() => NOBODY,
         Some(count) if count.shared > 0 => SHARED,
-        Some(count) if count.meters == 0 => NO_METER,
+        Some(count) if count.meters == 0 && !has_unread => NO_METER,
         _ => return,
     };
     progress.say(advice);
@@ -158,22 +195,22 @@ fn advise<R: Clock + Eprint>(progress: &Progress<'_, R>, count: Option<Count>) {
 pub fn read_on_bus<'a, R>(
     host: &Host<'_, R>,
     link: &LinkName<'_>,
-    meter: MeterName,
+    meter: &MeterName,
     patience: u16,
     trace: Option<&'a str>,
 ) -> Ending<'a>
 where
     R: Files<File = File> + Net<Stream = TcpStream> + Clock + Copy + Print + Eprint + AllocGlobal,
 {
-    let book = match book_of(host, trace) {
-        Ok(book) => book,
+    let file = match trace_file_of(host, trace) {
+        Ok(file) => file,
         Err(error) => return host.why.file(trace.unwrap_or_default(), error),
     };
     let peer = match Peer::connect(host.rt, link) {
         Ok(peer) => peer,
         Err(error) => return host.why.link(None, error),
     };
-    let ending = read_over(host, &peer, meter, patience, book.as_ref());
+    let ending = read_over(host, &peer, meter, patience, file.as_ref());
     peer.release(host.rt);
     ending
 }
@@ -181,14 +218,14 @@ where
 fn read_over<'a, R>(
     host: &Host<'_, R>,
     peer: &Peer<R>,
-    meter: MeterName,
+    meter: &MeterName,
     patience: u16,
-    book: Option<&Book<'_, R>>,
+    trace: Option<&TraceFile<'_, R>>,
 ) -> Ending<'a>
 where
     R: Clock + Copy + Print + Eprint + AllocGlobal,
 {
-    let mut bus = match quiet_bus(host.rt, peer, patience, Tracer { book }) {
+    let mut bus = match quiet_bus(host.rt, peer, patience, tracer_of(trace, LINE)) {
         Ok(bus) => bus,
         Err(error) => return host.why.link(None, error),
     };
@@ -199,8 +236,34 @@ where
     let mut writer = WriteSink::new(printer);
     match read_named(&mut bus, meter, &mut writer) {
         Ok(Readout::Whole) => end_of(host.why, &bus, writer, Ending::Clean),
-        Ok(Readout::Failed) => end_of(host.why, &bus, writer, Ending::Faulty),
+        Ok(Readout::Failed(misses)) => {
+            let ending = end_of(host.why, &bus, writer, Ending::Faulty);
+            if matches!(ending, Ending::Faulty) {
+                explain(host.rt, &owner_of(meter), &misses);
+            }
+            ending
+        }
         Err(IoFault) => Ending::File(STREAM),
+    }
+}
+
+// Whose readout it is, in the words of the person who asked for it.
+fn owner_of(meter: &MeterName) -> Owner {
+    match meter {
+        MeterName::Identity(meter) => Owner::Meter(*meter),
+        MeterName::Primary(address) => Owner::Address(address.get()),
+        MeterName::Number(digits) => Owner::Number(*digits),
+    }
+}
+
+// Says on standard error what the failed tries of a readout brought.
+fn explain<R: Eprint>(rt: &R, owner: &Owner, misses: &Misses) {
+    let mut reason: FixedSink<LONGEST_REASON> = FixedSink::new();
+    if put_reason(&mut reason, owner, misses).is_ok()
+        && let Ok(line) = str::from_utf8(reason.as_slice())
+        && !line.is_empty()
+    {
+        let _ = rt.eprint(line);
     }
 }
 
@@ -272,35 +335,62 @@ fn quiet_bus<'b, C: Clock + Copy, O: Observer + Drop>(
     Ok(ScriptLink { both })
 }
 
-// Identifies a meter that is named by its primary address.
+// Finds a meter that is named by its primary address, or by its number.
 fn read_named<B: Bus, W: Sink>(
     bus: &mut B,
-    meter: MeterName,
+    meter: &MeterName,
     out: &mut W,
 ) -> Result<Readout, IoFault> {
     match meter {
-        MeterName::Identity(meter) => read(bus, &meter, None, out),
-        MeterName::Primary(address) => match identify(bus, address) {
-            Some(meter) => read(bus, &meter, Some(address), out),
-            None => {
+        MeterName::Identity(meter) => read(bus, meter, None, out),
+        MeterName::Primary(address) => match identify(bus, *address) {
+            Ok(meter) => read(bus, &meter, Some(*address), out),
+            Err(misses) => {
                 out.put(b"FAILED 1 NoAnswer\n")?;
-                Ok(Readout::Failed)
+                Ok(Readout::Failed(misses))
             }
+        },
+        MeterName::Number(digits) => match find_number(bus, digits) {
+            Numbered::One(meter) => read(bus, &meter, None, out),
+            Numbered::Shared(misses) => unfound(digits, true, misses, out),
+            Numbered::Nobody(misses) => unfound(digits, false, misses, out),
         },
     }
 }
 
-// Ends the command: flushes the output, prints the number of late answers, and names a lost link.
+// Prints that a number names no one meter.
+fn unfound<W: Sink>(
+    digits: &[u8; 8],
+    is_shared: bool,
+    misses: Misses,
+    out: &mut W,
+) -> Result<Readout, IoFault> {
+    put_unfound(digits, is_shared, out)?;
+    Ok(Readout::Failed(misses))
+}
+
+// Ends the command on a bus with an observer.
 fn end_of<'a, C: Clock + Copy, O: Observer + Drop, W: Write + Drop>(
     why: &Why,
     bus: &OneBus<'_, C, O>,
+    writer: WriteSink<W>,
+    ending: Ending<'a>,
+) -> Ending<'a> {
+    ended(why, bus.late(), bus.is_lost(), writer, ending)
+}
+
+// Ends the command: flushes the output, prints the number of late answers, and names a lost link.
+fn ended<'a, W: Write + Drop>(
+    why: &Why,
+    late: u64,
+    is_lost: bool,
     mut writer: WriteSink<W>,
     ending: Ending<'a>,
 ) -> Ending<'a> {
-    if put_late(bus.late(), &mut writer).is_err() || writer.flush().is_err() {
+    if put_late(late, &mut writer).is_err() || writer.flush().is_err() {
         return Ending::File(STREAM);
     }
-    if bus.is_lost() {
+    if is_lost {
         why.say("the connection ended or failed");
         return Ending::Gateway;
     }

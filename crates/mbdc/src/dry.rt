@@ -7,10 +7,9 @@ use dc_dry::{Dry, LINES, put_dry};
 use dc_ending::{Ending, ProgramFault, STREAM, ending_of};
 use dc_files::{Host, Noted, copy_image};
 use dc_inspect::register_of;
-use dc_io::{Buffered, IoFault, Sink, WriteSink};
+use dc_io::{Buffered, WriteSink};
 use dc_log::OpenFault;
 use dc_register::House;
-use dc_status::put_room_left;
 use dc_words::{LinkName, PollTask};
 use std::alloc::Global;
 use std::fs::File;
@@ -78,14 +77,8 @@ fn print<R: Print + AllocGlobal>(
 ) -> Result<(), ProgramFault> {
     let printer = Noted::new(io::writer(host.rt), host.why);
     let mut writer = Buffered::new(host.rt.alloc(), ROOM, WriteSink::new(printer))?;
-    match put_all(&mut writer, house, dry) {
+    match put_dry(&mut writer, house, dry) {
         Ok(()) => flushed(writer),
         Err(_) => Err(ProgramFault::Write),
     }
-}
-
-// Writes what the poll would do, and then the room there is.
-fn put_all<W: Sink>(out: &mut W, house: &House<Global>, dry: &Dry<'_>) -> Result<(), IoFault> {
-    put_dry(out, house, dry)?;
-    put_room_left(out, house)
 }

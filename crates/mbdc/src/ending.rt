@@ -12,7 +12,7 @@ ghost use Rattle.dc_words.specs.Fault.{IfMistake};
 use clap::Error;
 use clap::error::ErrorKind;
 use dc_ending::{Ending, STREAM};
-use dc_files::{DiskReason, Reason, Why};
+use dc_files::{DiskReason, Reason, Why, holder_of};
 use dc_io::{Buffered, IoFault, WriteSink};
 use dc_words::{WordsFault, nearest};
 use std::alloc::{AllocError, Global};
@@ -22,7 +22,7 @@ use std::process::ExitCode;
 
 // A word that has to name a meter doesn't.
 const NO_METER: &str =
-    "a meter is its identity, as 12345678.PAD.01.07, or for --only its number, for read a primary address, 1 to 250";
+    "a meter is its identity, as 12345678.PAD.01.07, or its number, as 12345678; for read also its primary address, 1 to 250";
 
 // A word that has to be boundaries of periods isn't.
 const NO_BOUNDARIES: &str =
@@ -37,6 +37,9 @@ const NO_DASH: &str = "- is standard input for decode and fold alone; a file of 
 
 // No bus is connected.
 const NO_LINK: &str = "no bus line has a link; try mbdc poll --help";
+
+// What a person does next where another process is named that has the file.
+const ENDS: &str = ". Wait until it ends";
 
 // A line of up to this many bytes goes out as one write.
 const LINE: usize = 8_192;
@@ -75,7 +78,7 @@ pub fn told_why(rt: &HostRuntime, ending: &Ending, why: &Why, is_watched: bool) 
     | Ending::Open(_)
     | Ending::Disk(_) = ending
         && let Some(reason) = why.last()
-        && let Ok(line) = reason_line(rt.alloc(), &reason, step_of(ending, &reason, is_watched))
+        && let Ok(line) = said_of(rt, ending, &reason, is_watched)
     {
         let _ = rt.stderr().write_all(line.as_bytes());
     }
@@ -105,6 +108,24 @@ fn disk_line(alloc: Global, reason: &DiskReason) -> Result<String, AllocError> {
         Some(sector) => format!(in alloc; "mbdc: disk: sector {sector}: {words}\n"),
         None => format!(in alloc; "mbdc: disk: {words}\n"),
     }
+}
+
+// The line of the reason. Of a file that another process has locked it names that process, where the system shows it.
+fn said_of(
+    rt: &HostRuntime,
+    ending: &Ending,
+    reason: &Reason,
+    is_watched: bool,
+) -> Result<String, AllocError> {
+    if let Ending::File(name) = ending
+        && reason.error.kind() == io::ErrorKind::WouldBlock
+        && let Some(process) = holder_of(rt, name)
+    {
+        let step = if is_watched { ENDS } else { "" };
+        let step = format!(in rt.alloc(); " (pid {process}){step}")?;
+        return reason_line(rt.alloc(), reason, step.as_str());
+    }
+    reason_line(rt.alloc(), reason, step_of(ending, reason, is_watched))
 }
 
 fn reason_line(alloc: Global, reason: &Reason, step: &str) -> Result<String, AllocError> {

@@ -45,7 +45,7 @@ where
     }
 }
 
-/// Prints when the meters of the image in that file were last heard; one is silent after so many seconds.
+/// Prints when the meters of the image in that file were last heard; one is silent after `silent` seconds.
 pub fn tell_status<'a, R>(
     host: &Host<'_, R>,
     image: &'a str,

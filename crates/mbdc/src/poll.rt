@@ -1,93 +1,23 @@
 //! The command `poll`: the registered meters of an image are read over the bus lines.
 
-ghost use Rattle.std.specs.Prelude.{◌<◌};
-
 use crate::connecting::{reached, released};
 use crate::names::meters_of;
+use crate::tracing::{TracedBus, shows_progress, trace_file_of, tracer_of};
 use dc_address::Identity;
-use dc_bus::QuietBus;
-use dc_change::Moment;
+use dc_commands::{Printing, poll_over};
 use dc_disk::FileDisk;
-use dc_ending::{Ending, ProgramFault, ending_of};
+use dc_ending::Ending;
 use dc_files::{Host, Noted, open_image};
-use dc_io::WriteSink;
-use dc_links::{LinkBus, Peer, SystemBus, Watch};
-use dc_poll::{Outcome, Plan, Station, Teller, Timer, is_awaited, poll_image};
-use dc_teller::{JsonTeller, Progress, Shown, TextTeller, Unfailing};
+use dc_links::{LinkBus, Peer, Watch};
+use dc_poll::Plan;
+use dc_trace::{Observed, TraceFile};
 use dc_words::PollTask;
 use std::alloc::Global;
 use std::fs::{File, OpenFile};
 use std::io;
-use std::io::{LineWriter, Write};
 use std::net::{Net, TcpStream};
 use std::os::unix::fs::FileExt;
 use std::rt::{Clock, Files};
-use std::time::{SystemTime, UNIX_EPOCH};
-
-/// The clock of a poll, and its wait for all lines at once.
-#[derive(Drop)]
-struct SystemTimer<'p, 'h, C: Clock + Copy> {
-    clock: C,
-    // The last time that the clock returned; it stays if the clock fails.
-    last: Moment,
-    progress: &'p Progress<'h, C>,
-}
-
-impl<C: Clock + Copy + Eprint> Timer<SystemBus<'_, C>> for SystemTimer<'_, '_, C> {
-    ghost use Rattle.std.specs.Prelude.{⊤};
-
-    ghost tells = { λ _ _ _. ⊤ };
-
-    ghost passes = { λ _ _ _. ⊤ };
-
-    ghost warns = { λ _ _. ⊤ };
-
-    fn now(&mut self) -> Moment {
-        if let Ok(now) = SystemTime::now(&self.clock)
-            && let Ok(since) = now.duration_since(UNIX_EPOCH)
-            && let Some(moment) = Moment::from_seconds(since.as_secs())
-        {
-            self.last = moment;
-        }
-        self.last
-    }
-
-    fn pause(&mut self, stations: &[Station<'_, SystemBus<'_, C>>], may_sleep: bool) {
-        self.progress.show(stations);
-        if may_sleep {
-            awaited(stations).wait();
-        }
-    }
-
-    fn warn(&mut self) {
-        let _ = self
-            .clock
-            .eprint("mbdc: clock: behind the newest reading\n");
-    }
-}
-
-// A bus that can be waited for.
-trait Watched {
-    // Adds it.
-    fn add_to(&self, watch: &mut Watch);
-}
-
-impl<C: Clock + Copy> Watched for SystemBus<'_, C> {
-    fn add_to(&self, watch: &mut Watch) {
-        watch.add(self);
-    }
-}
-
-// The buses that are awaited.
-fn awaited<B: QuietBus + Watched + Drop>(stations: &[Station<'_, B>]) -> Watch {
-    let mut watch = Watch::new();
-    for station in stations {
-        if is_awaited(station) {
-            station.bus.add_to(&mut watch);
-        }
-    }
-    watch
-}
 
 /// Reads the registered meters of the image in that file over the links of their lines, or only
 /// those that are named.
@@ -107,20 +37,32 @@ where
         Ok(only) => only,
         Err(ending) => return ending,
     };
+    let trace = match trace_file_of(host, task.trace) {
+        Ok(trace) => trace,
+        Err(error) => return host.why.file(task.trace.unwrap_or_default(), error),
+    };
     let peers = match reached(host, &task.links) {
         Ok(peers) => peers,
         Err(ending) => return ending,
     };
-    let ending = poll_over(host, disk, peers.as_slice(), only.as_slice(), task);
+    let ending = poll_peers(
+        host,
+        disk,
+        peers.as_slice(),
+        trace.as_ref(),
+        only.as_slice(),
+        task,
+    );
     released(host, peers.as_slice());
     ending
 }
 
 // Reads the meters over connected links.
-fn poll_over<'a, D, R>(
+fn poll_peers<'a, D, R>(
     host: &Host<'_, R>,
     disk: FileDisk<D>,
     peers: &[Option<Peer<R>>],
+    trace: Option<&TraceFile<'_, R>>,
     only: &[Identity],
     task: &PollTask<'a>,
 ) -> Ending<'a>
@@ -128,7 +70,7 @@ where
     D: FileExt + OpenFile + Drop,
     R: Clock + Copy + Print + Eprint + AllocGlobal,
 {
-    let buses = match buses_of(host, peers, task.patience) {
+    let buses = match buses_of(host, peers, trace, task.patience) {
         Ok(buses) => buses,
         Err(ending) => return ending,
     };
@@ -137,112 +79,35 @@ where
         only,
         tries: task.tries.max(1),
     };
-    match poll(host, disk, plan, task.is_json) {
-        Ok(
-            Outcome {
-                fault: Some(fault),
-                ..
-            },
-        ) => Ending::Disk(fault),
-        Ok(outcome) => ending_of(Ok(outcome.failed > 0), task.image),
-        Err(fault) => ending_of(Err(fault), task.image),
-    }
-}
-
-// Reads the meters of the plan. What is printed goes out line by line; where it can't be, the poll goes on without.
-fn poll<D, R>(
-    host: &Host<'_, R>,
-    disk: FileDisk<D>,
-    plan: Plan<'_, Global, SystemBus<'_, R>>,
-    is_json: bool,
-) -> Result<Outcome, ProgramFault>
-where
-    D: FileExt + OpenFile + Drop,
-    R: Clock + Copy + Print + Eprint + AllocGlobal,
-    requires { 0 < plan.tries }
-{
-    let printer = Noted::new(io::writer(host.rt), host.why);
-    let Ok(writer) = LineWriter::new(host.rt.alloc(), printer) else {
-        return Err(ProgramFault::NoMemory);
+    let printing = Printing {
+        is_json: task.is_json,
+        is_shown: shows_progress(host, trace),
     };
-    let out = WriteSink::new(writer);
-    let (outcome, is_printed) = if is_json {
-        let (outcome, done) = poll_with(host, disk, plan, JsonTeller { out }, false);
-        (outcome, is_printed(done.has_failed, done.teller.out))
-    } else {
-        let (outcome, done) = poll_with(host, disk, plan, TextTeller { out }, true);
-        (outcome, is_printed(done.has_failed, done.teller.out))
-    };
-    match outcome {
-        Ok(Outcome { fault: None, .. }) if !is_printed => Err(ProgramFault::Write),
-        _ => outcome,
-    }
+    let out = Noted::new(io::writer(host.rt), host.why);
+    let (_, ending) = poll_over(
+        host.rt.alloc(),
+        host.rt,
+        disk,
+        plan,
+        Watch::new(),
+        out,
+        printing,
+        task.image,
+    );
+    ending
 }
 
-// Reads the meters of the plan. The teller gets their events up to its first failure. Where it explains, standard error
-// says what the failed tries of a failed readout brought.
-fn poll_with<D, R, N>(
-    host: &Host<'_, R>,
-    disk: FileDisk<D>,
-    plan: Plan<'_, Global, SystemBus<'_, R>>,
-    teller: N,
-    explains: bool,
-) -> (Result<Outcome, ProgramFault>, Unfailing<N>)
-where
-    D: FileExt + OpenFile + Drop,
-    R: Clock + Copy + Print + Eprint + AllocGlobal,
-    N: Teller + Drop,
-    requires { 0 < plan.tries }
-{
-    let progress = Progress::new(host.rt, host.is_watched);
-    poll_shown(&progress, *host.rt, disk, plan, teller, explains)
-}
-
-// The same, with this progress.
-fn poll_shown<'p, 'h, D, R, N>(
-    progress: &'p Progress<'h, R>,
-    rt: R,
-    disk: FileDisk<D>,
-    plan: Plan<'_, Global, SystemBus<'_, R>>,
-    teller: N,
-    explains: bool,
-) -> (Result<Outcome, ProgramFault>, Unfailing<N>)
-where
-    D: FileExt + OpenFile + Drop,
-    R: Clock + Copy + Eprint + AllocGlobal,
-    N: Teller + Drop,
-    requires { 0 < plan.tries }
-{
-    let mut shown = Shown {
-        teller: Unfailing::new(teller),
-        progress,
-        explains,
-    };
-    let mut timer = SystemTimer {
-        clock: rt,
-        last: Moment { seconds: 0 },
-        progress,
-    };
-    let (_, outcome) = poll_image(rt.alloc(), disk, plan, &mut timer, &mut shown);
-    progress.clear();
-    let Shown { teller, .. } = shown;
-    (outcome, teller)
-}
-
-// Whether all was printed, once what is held back is written out.
-fn is_printed<W: Write + Drop>(has_failed: bool, out: WriteSink<W>) -> bool {
-    let mut sink = out;
-    !has_failed && sink.flush().is_ok()
-}
-
-// The bus of each line; one without a link is absent.
-fn buses_of<'p, 'e, R: Clock + Copy + AllocGlobal>(
+// The bus of each line, observed where a trace is written; one without a link is absent.
+fn buses_of<'p, 't, 'h, 'e, R: Clock + Copy + Eprint + AllocGlobal>(
     host: &Host<'_, R>,
     peers: &'p [Option<Peer<R>>],
+    trace: Option<&'t TraceFile<'h, R>>,
     patience: u16,
-) -> Result<Vec<SystemBus<'p, R>, Global>, Ending<'e>> {
+) -> Result<Vec<TracedBus<'p, 't, 'h, R>, Global>, Ending<'e>> {
     let mut buses = Vec::new(host.rt.alloc());
+    let mut line: u8 = 0;
     for peer in peers {
+        line = line.saturating_add(1);
         let bus = match peer {
             Some(peer) => match peer.bus(*host.rt, patience) {
                 Ok(bus) => bus,
@@ -250,7 +115,8 @@ fn buses_of<'p, 'e, R: Clock + Copy + AllocGlobal>(
             },
             None => LinkBus::Absent,
         };
-        if buses.push(bus).is_err() {
+        let observer = tracer_of(trace, line);
+        if buses.push(Observed { bus, observer }).is_err() {
             return Err(Ending::Memory);
         }
     }

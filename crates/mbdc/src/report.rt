@@ -34,7 +34,7 @@ where
         Ok(copy) => copy,
         Err(ending) => return ending,
     };
-    // Opening takes a sector that can't be read for a write that a power cut stopped, and it may be one that was synced.
+    // Opening takes a sector that can't be read for a write that a power cut stopped. It may be one that was synced.
     if host.why.has_unreadable() {
         return Ending::Open(OpenFault::Device);
     }

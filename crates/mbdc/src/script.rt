@@ -3,15 +3,15 @@
 use crate::connecting::{connected, released};
 use crate::tasks::ended;
 use dc_bus::Both;
+use dc_commands::{run_over, run_over_gateway};
 use dc_disk::FileDisk;
-use dc_ending::{Ending, ProgramFault};
+use dc_ending::Ending;
 use dc_files::{Host, Noted, open_image};
-use dc_io::{ReadSource, WriteSink};
-use dc_links::{Connection, Ends, Peer, ScriptLink, SystemBus, Waiter};
-use dc_script::{Slot, run_script, run_script_over};
+use dc_links::{Connection, Peer, ScriptLink, SystemBus, Waiter};
+use dc_script::Slot;
 use dc_words::RunTask;
 use std::fs::{File, OpenFile};
-use std::io::{LineWriter, Read};
+use std::io::Read;
 use std::net::{Net, TcpStream};
 use std::os::unix::fs::FileExt;
 use std::rt::{Clock, Files};
@@ -39,14 +39,14 @@ where
         Err(error) => return host.why.file(task.script, error),
     };
     if task.links.is_empty() {
-        run_over_gateway(host, disk, lines, task)
+        run_alone(host, disk, lines, task)
     } else {
         run_over_links(host, disk, lines, task)
     }
 }
 
 // Runs the lines of a file over a disk, with the gateway of bus line 1, where one is named.
-fn run_over_gateway<'a, F, D, R>(
+fn run_alone<'a, F, D, R>(
     host: &Host<'_, R>,
     disk: FileDisk<D>,
     lines: F,
@@ -65,7 +65,9 @@ where
         },
     };
     let ends = connection.as_ref().map(Connection::ends);
-    ended(host.why, work(host, disk, lines, ends), task.script)
+    let out = Noted::new(io::writer(host.rt), host.why);
+    let (_, outcome) = run_over_gateway(host.rt.alloc(), disk, lines, out, ends);
+    ended(host.why, outcome, task.script)
 }
 
 // Runs the lines of a file over a disk, with the links of the bus lines.
@@ -106,22 +108,8 @@ where
         Ok(slots) => slots,
         Err(ending) => return ending,
     };
-    let mut reader = ReadSource::new(lines);
-    let printer = Noted::new(io::writer(host.rt), host.why);
-    let Ok(printer) = LineWriter::new(host.rt.alloc(), printer) else {
-        return Ending::Memory;
-    };
-    let mut writer = WriteSink::new(printer);
-    let (_, outcome) = run_script_over(
-        host.rt.alloc(),
-        disk,
-        &mut reader,
-        &mut writer,
-        slots.as_mut_slice(),
-    );
-    if !matches!(outcome, Err(ProgramFault::Write)) && writer.flush().is_err() {
-        return ended(host.why, Err(ProgramFault::Write), task.script);
-    }
+    let out = Noted::new(io::writer(host.rt), host.why);
+    let (_, outcome) = run_over(host.rt.alloc(), disk, lines, out, slots.as_mut_slice());
     ended(host.why, outcome, task.script)
 }
 
@@ -153,25 +141,4 @@ fn slot_of<C: Clock + Copy>(bus: SystemBus<'_, C>) -> LineSlot<'_, C> {
         bus: ScriptLink { both },
         is_gateway: false,
     }
-}
-
-// Runs the lines of a file over a disk. Each line is printed as it is answered: a readout takes seconds, and what was
-// committed is printed also where the run is killed later.
-fn work<F: Read + Drop, D: FileExt + OpenFile + Drop, R: Clock + Copy + Print + AllocGlobal>(
-    host: &Host<'_, R>,
-    disk: FileDisk<D>,
-    lines: F,
-    gateway: Option<Ends<'_, R>>,
-) -> Result<bool, ProgramFault> {
-    let mut reader = ReadSource::new(lines);
-    let printer = Noted::new(io::writer(host.rt), host.why);
-    let Ok(printer) = LineWriter::new(host.rt.alloc(), printer) else {
-        return Err(ProgramFault::NoMemory);
-    };
-    let mut writer = WriteSink::new(printer);
-    let (_, outcome) = run_script(host.rt.alloc(), disk, &mut reader, &mut writer, gateway);
-    if !matches!(outcome, Err(ProgramFault::Write)) && writer.flush().is_err() {
-        return Err(ProgramFault::Write);
-    }
-    outcome
 }

@@ -82,7 +82,7 @@ where
             meter,
             patience,
             trace,
-        } => read_on_bus(host, link, *meter, *patience, *trace),
+        } => read_on_bus(host, link, meter, *patience, *trace),
         Task::Address {
             link,
             from,

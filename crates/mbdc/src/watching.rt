@@ -2,7 +2,7 @@
 
 use dc_decode::put_point;
 use dc_frame::{Frame, parse};
-use dc_installer::Course;
+use dc_installer::{Course, put_unread};
 use dc_io::{FixedSink, IoFault, Sink};
 use dc_names::medium_name;
 use dc_record::Telegram;
@@ -17,8 +17,8 @@ use std::{io, str};
 // Back to the first column, and nothing after it.
 const CLEAR: &str = "\r\u{1b}[K";
 
-// The text of a meter: identity, medium, and a value with its unit.
-const ROOM: usize = 160;
+// The text of a meter: identity, medium, and a value with its unit; the line of answers that can't be read.
+const ROOM: usize = 240;
 
 /// How many addresses a search asks, and how long each that is silent takes.
 #[derive(Clone, Copy)]
@@ -83,6 +83,24 @@ impl<'h, R: Clock + Eprint> Progress<'h, R> {
     /// Whether any answer came.
     pub fn is_answered(&self) -> bool {
         self.course.get().is_answered
+    }
+
+    /// Says how many selections had no answer that can be read, if any, also where standard error is no terminal.
+    /// Returns whether there were any.
+    pub fn tell_unread(&self) -> bool {
+        let mut text = FixedSink::<ROOM>::new();
+        if put_unread(&mut text, &self.course.get()).is_err() {
+            return false;
+        }
+        let Ok(line) = str::from_utf8(text.as_slice()) else {
+            return false;
+        };
+        if line.is_empty() {
+            return false;
+        }
+        self.clear();
+        let _ = self.rt.eprint(line);
+        true
     }
 
     fn see_request(&self, request: &[u8]) {

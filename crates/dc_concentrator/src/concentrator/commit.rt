@@ -8,6 +8,7 @@ ghost use Rattle.dc_concentrator.specs.Core.{Core};
 ghost use Rattle.dc_concentrator.specs.Event.{commits, committed};
 ghost use Rattle.dc_concentrator.specs.Step.{May, next};
 ghost use Rattle.dc_pending.specs.Images.{StandsForFront};
+ghost use Rattle.dc_pending.specs.Lines.{NoMoreRequests};
 ghost use Rattle.dc_log.specs.Store.{Fits};
 ghost use Rattle.dc_pending.specs.Writing.{IsWornFor};
 ghost use Rattle.dc_concentrator.specs.Images.{IsAt};
@@ -52,6 +53,7 @@ impl<D: Disk + Drop, A: Allocator + Copy> Concentrator<D, A> {
         ensures empty { OnOk result (self.new.waiting.count ≡ 0) }
         ensures nothing { self.old.waiting.count ≡ 0 → self.new ≡ self.old }
         ensures house { self.new.house ≡ self.old.house }
+        ensures no_more { NoMoreRequests self.old.lines self.new.lines }
         ensures counts { Counts D.Disk self.old.store.disk self.new.store.disk
             (IsErrOf result Device) }
     {

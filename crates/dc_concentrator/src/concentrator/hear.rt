@@ -1,6 +1,7 @@
 //! Takes the answers on a line.
 
-ghost use Rattle.std.specs.Prelude.{◌≡◌};
+ghost use Rattle.std.specs.Prelude.{◌≡◌, ◌<◌, OnOk};
+ghost use Rattle.dc_pending.specs.Lines.{requests_on, NoMoreRequests};
 ghost use Rattle.dc_concentrator.specs.Core.{Core};
 ghost use Rattle.dc_concentrator.specs.Event.{hears, heard};
 ghost use Rattle.dc_concentrator.specs.Step.{May, next};
@@ -30,6 +31,10 @@ impl<D: Disk + Drop, A: Allocator + Copy> Concentrator<D, A> {
             (next core (hears line moment.seconds answer.now) (heard result)) }
         ensures store { self.new.store ≡ self.old.store }
         ensures budget { self.new.house.budget ≡ self.old.house.budget }
+        // The line's session may make one request less, at least, and none may make more.
+        ensures fewer { OnOk result
+            (requests_on line self.new.lines < requests_on line self.old.lines) }
+        ensures no_more { NoMoreRequests self.old.lines self.new.lines }
     {
         if !is_line(line) {
             return Err(HearFault::NoLine);

@@ -25,7 +25,7 @@ ghost use Rattle.dc_concentrator.specs.Run.{IsShown, Answered, Turned};
 use super::Concentrator;
 use crate::{CommitFault, WriteFault};
 use dc_address::Identity;
-use dc_change::{Change, Command};
+use dc_change::Change;
 use dc_disk::Disk;
 use dc_io::{IoFault, NoMemory, Sink};
 use dc_office::{
@@ -214,11 +214,7 @@ fn removed_by(change: &Change<'_>) -> Option<Identity>
     ensures { result ≡ removed_by change.now }
 {
     match change {
-        Change::Command { command, .. } => match *command {
-            Command::Out { meter } => Some(meter),
-            Command::Swap { old, .. } => Some(old),
-            _ => None,
-        },
         Change::Telegram { .. } => None,
+        Change::Command { command, .. } => command.meter_removed(),
     }
 }

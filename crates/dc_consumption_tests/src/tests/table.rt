@@ -3,7 +3,7 @@
 use dc_consumption_table::{Boundaries, consumption_lines};
 use dc_io::{Bytes, TextFault};
 use refusing_alloc::Refusing;
-use std::alloc::Global;
+use std::alloc::{Allocator, Global};
 use std::process::Abort;
 use std::test::Fail;
 
@@ -42,6 +42,20 @@ fn boundaries(alloc: Global, moments: &[u64]) -> Result<Boundaries<Global>, Fail
     }
 }
 
+// What is written for the entries, and the answer. The ends have memory of their own.
+fn written<A: Allocator + Copy>(
+    heap: Global,
+    alloc: A,
+    entries: &[u8],
+    moments: &[u64],
+) -> Result<(Bytes<Global>, Result<bool, TextFault>), Fail> {
+    let boundaries = boundaries(heap, moments)?;
+    let mut reader = Bytes::from_slice(heap, entries)?;
+    let mut writer = Bytes::new(heap);
+    let outcome = consumption_lines(alloc, &mut reader, &boundaries, &mut writer);
+    Ok((writer, outcome))
+}
+
 // This text is written for the entries, and whether a line is at fault.
 fn is_written(
     rt: &(impl Abort + AllocGlobal),
@@ -50,12 +64,9 @@ fn is_written(
     text: &[u8],
     fault: bool,
 ) -> Result<(), Fail> {
-    let mut reader = Bytes::from_slice(rt.alloc(), entries)?;
-    let mut writer = Bytes::new(rt.alloc());
-    let boundaries = boundaries(rt.alloc(), moments)?;
-    let found = consumption_lines(rt.alloc(), &mut reader, &boundaries, &mut writer)?;
+    let (writer, outcome) = written(rt.alloc(), rt.alloc(), entries, moments)?;
     assert_eq!(rt; writer.as_slice(), text);
-    assert_eq!(rt; found, fault);
+    assert_eq!(rt; outcome, Ok(fault));
     Ok(())
 }
 
@@ -177,13 +188,8 @@ fn a_line_has_a_limit(rt: HostRuntime) -> Result<(), Fail> {
         entries.push(b'A')?;
     }
     entries.extend_from_slice(b",1,2,3")?;
-    let mut reader = Bytes::from_slice(rt.alloc(), entries.as_slice())?;
-    let mut writer = Bytes::new(rt.alloc());
-    let moments = boundaries(rt.alloc(), &[1, 2])?;
-    assert_eq!(rt;
-        consumption_lines(rt.alloc(), &mut reader, &moments, &mut writer),
-        Ok(false)
-    );
+    let (_, outcome) = written(rt.alloc(), rt.alloc(), entries.as_slice(), &[1, 2])?;
+    assert_eq!(rt; outcome, Ok(false));
     entries.push(b'3')?;
     is_written(
         &rt,
@@ -201,10 +207,7 @@ fn a_longer_input_is_refused(rt: HostRuntime) -> Result<(), Fail> {
     for _ in 0..1_048_577 {
         entries.push(b'A')?;
     }
-    let mut reader = Bytes::from_slice(rt.alloc(), entries.as_slice())?;
-    let mut writer = Bytes::new(rt.alloc());
-    let moments = boundaries(rt.alloc(), &[1, 2])?;
-    let outcome = consumption_lines(rt.alloc(), &mut reader, &moments, &mut writer);
+    let (writer, outcome) = written(rt.alloc(), rt.alloc(), entries.as_slice(), &[1, 2])?;
     assert_eq!(rt; outcome, Err(TextFault::TooLong));
     assert!(rt; writer.as_slice().is_empty());
     Ok(())
@@ -214,12 +217,9 @@ fn a_longer_input_is_refused(rt: HostRuntime) -> Result<(), Fail> {
 #[test]
 fn each_refused_growth_writes_nothing(rt: HostRuntime) -> Result<(), Fail> {
     let heap = Refusing::new(rt.alloc());
-    let moments = boundaries(rt.alloc(), &[0, 100, 400])?;
     for k in 1..200 {
         heap.refuse(k);
-        let mut reader = Bytes::from_slice(rt.alloc(), ENTRIES)?;
-        let mut writer = Bytes::new(rt.alloc());
-        let outcome = consumption_lines(&heap, &mut reader, &moments, &mut writer);
+        let (writer, outcome) = written(rt.alloc(), &heap, ENTRIES, &[0, 100, 400])?;
         if heap.is_waiting() {
             assert!(rt; k > 10);
             assert_eq!(rt; outcome, Ok(false));

@@ -3,7 +3,7 @@
 use crate::tests::places::{format, place};
 use dc_disk::{Disk, FileDisk};
 use dc_ending::Ending;
-use dc_files::{Host, Why, copy_image, open_image, open_to_look};
+use dc_files::{Host, Why, copy_image, holder_of, open_image, open_to_look};
 use std::fs;
 use std::test::Fail;
 
@@ -18,6 +18,21 @@ fn an_open_image_is_locked(rt: HostRuntime) -> Result<(), Fail> {
     let one = open_to_look(&rt, path.as_str())?;
     drop(open_image(&rt, path.as_str())?);
     drop(one);
+    Ok(fs::remove_file(&rt, path.as_str())?)
+}
+
+// The system may hide its locks; where it shows them, they come and go with the file.
+#[test]
+fn the_holder_of_a_lock_is_named(rt: HostRuntime) -> Result<(), Fail> {
+    let path = place(&rt, "held")?;
+    assert!(rt; matches!(format(&rt, path.as_str(), 131), Ending::Clean));
+    assert!(rt; holder_of(&rt, path.as_str()).is_none());
+    let file = open_image(&rt, path.as_str())?;
+    assert!(rt; holder_of(&rt, "/dev/null").is_none());
+    let named = holder_of(&rt, path.as_str()).is_some();
+    drop(file);
+    assert!(rt; holder_of(&rt, path.as_str()).is_none());
+    assert!(rt; named || fs::open(&rt, "/proc/locks").is_err());
     Ok(fs::remove_file(&rt, path.as_str())?)
 }
 

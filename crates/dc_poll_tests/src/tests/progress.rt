@@ -98,6 +98,7 @@ fn progress_counts_the_events(rt: HostRuntime) -> Result<(), Fail> {
         meter,
         serial: 1,
         parts: 1,
+        last: None,
     })?;
     assert_eq!(rt; printed(&terminal).as_deref(), Some(CLEARED));
     terminal.seconds.set(7);

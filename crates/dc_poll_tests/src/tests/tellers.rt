@@ -26,7 +26,7 @@ const TWO_SILENT: Misses = Misses {
 
 // An event with the line and the object that docs/COMMANDS.md and docs/JSON.md give it.
 #[derive(Drop)]
-struct Case(Event, &'static str, &'static str);
+struct Case(Event<'static>, &'static str, &'static str);
 
 fn prints(rt: &impl Abort, heap: Global, case: &Case) -> Result<(), Fail> {
     let Case(event, line, object) = case;
@@ -54,6 +54,7 @@ fn events_as_text_and_as_json(rt: HostRuntime) -> Result<(), Fail> {
                 meter,
                 serial: 12,
                 parts: 3,
+                last: None,
             },
             "READ 00000011.PAD.01.07 12 3\n",
             "{\"event\":\"read\",\"meter\":\"00000011.PAD.01.07\",\"serial\":12,\"parts\":3}\n",
@@ -122,7 +123,7 @@ fn events_as_text_and_as_json(rt: HostRuntime) -> Result<(), Fail> {
 }
 
 // What is said of an event on standard error.
-fn says(rt: &impl Abort, heap: Global, event: &Event, line: &str) -> Result<(), Fail> {
+fn says(rt: &impl Abort, heap: Global, event: &Event<'_>, line: &str) -> Result<(), Fail> {
     let mut text = Bytes::new(heap);
     put_reason(&mut text, event)?;
     assert_eq!(rt; text_of_bytes(&text)?, line);
@@ -169,7 +170,7 @@ const ROWS: [Row; 3] = [
 
 const OBJECTS: &str =
     "{\"event\":\"refused\",\"meter\":\"00000031.PAD.01.07\",\"number\":1,\"name\":\"NoLine\"}
-{\"event\":\"read\",\"meter\":\"00000011.PAD.01.07\",\"serial\":1,\"parts\":1}
+{\"event\":\"read\",\"meter\":\"00000011.PAD.01.07\",\"serial\":1,\"parts\":1,\"moment\":1735689600,\"utc\":\"2025-01-01T00:00\",\"status\":{\"code\":0,\"application\":\"no error\",\"power_low\":false,\"permanent_error\":false,\"temporary_error\":false,\"manufacturer_bits\":0},\"values\":[]}
 {\"event\":\"lost\",\"line\":2}
 {\"event\":\"failed\",\"meter\":\"00000021.PAD.01.07\",\"number\":1,\"name\":\"NoAnswer\",\"line\":2,\"heard\":{\"silent\":3,\"noise\":0,\"others\":0}}
 {\"event\":\"late\",\"line\":2,\"answers\":3}

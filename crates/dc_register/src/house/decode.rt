@@ -8,11 +8,12 @@ ghost use Rattle.std.specs.Ordering.{nat_cmp};
 ghost use Rattle.std.specs.declared.cmp.Ordering.TheVariants.{Less};
 ghost use Rattle.dc_address.specs.declared.identity.Identity.{Identity};
 ghost use Rattle.dc_address.specs.Identity.{identity_cmp};
-ghost use Rattle.dc_change.specs.Line.{longest_line};
+ghost use Rattle.dc_change.specs.Command.{longest_line};
 ghost use Rattle.dc_change.specs.State.{State, MeterRow, ReadingRow};
 ghost use Rattle.dc_change.specs.Order.{MetersAscend, ReadingsAscend, IsNextSerial};
 ghost use Rattle.dc_change.specs.Spelled.{SpellsState};
-ghost use Rattle.dc_change.specs.Reading.{Gives, Reads, many, listed, count_at, entry_at};
+ghost use Rattle.dc_change.specs.Pieces.{Gives, Reads, many, listed, count_at};
+ghost use Rattle.dc_change.specs.Reading.{entry_at};
 ghost use Rattle.dc_change.specs.Reading.{reading_at, head_at};
 
 use super::House;
@@ -70,7 +71,7 @@ impl<'a> Head<'a> {
 }
 
 /// Decodes a meter and its row.
-#[tactic(auto, unfolding(dc_change::specs::Reading::entry_at, dc_change::specs::Reading::address_at, dc_change::specs::Reading::flat_at))]
+#[tactic(auto, unfolding(dc_change::specs::Reading::entry_at, dc_change::specs::Pieces::address_at, dc_change::specs::Pieces::flat_at))]
 fn entry_at<A: Allocator + Copy>(
     alloc: A,
     bytes: &[u8],
@@ -88,7 +89,7 @@ fn entry_at<A: Allocator + Copy>(
 }
 
 /// Decodes a reading.
-#[tactic(auto, unfolding(dc_change::specs::Reading::reading_at, dc_change::specs::Reading::flat_at))]
+#[tactic(auto, unfolding(dc_change::specs::Reading::reading_at, dc_change::specs::Pieces::flat_at))]
 fn reading_at<A: Allocator + Copy>(
     alloc: A,
     bytes: &[u8],

@@ -30,8 +30,8 @@ fn put_command<A: Allocator>(line: &[u8], bytes: &mut Bytes<A>) -> Result<(), Fa
     Ok(())
 }
 
-// A change of each tag.
-fn put_each<A: Allocator>(bytes: &mut Bytes<A>) -> Result<(), Fail> {
+// A telegram, and commands with each kind of field.
+fn put_changes<A: Allocator>(bytes: &mut Bytes<A>) -> Result<(), Fail> {
     put_telegram(bytes)?;
     put_command(b"1 FIT 12345678.PAD.01.07 1 S A1", bytes)?;
     put_command(b"2 MOVE 12345678.PAD.01.07 B2", bytes)?;
@@ -42,9 +42,9 @@ fn put_each<A: Allocator>(bytes: &mut Bytes<A>) -> Result<(), Fail> {
 }
 
 #[test]
-fn a_change_of_each_tag_reads_back(rt: HostRuntime) -> Result<(), Fail> {
+fn changes_read_back(rt: HostRuntime) -> Result<(), Fail> {
     let mut bytes = Bytes::new(rt.alloc());
-    put_each(&mut bytes)?;
+    put_changes(&mut bytes)?;
     let changes = decode_changes(rt.alloc(), bytes.as_slice())?;
     assert_eq!(rt; changes.len(), 6);
     let mut again = Bytes::new(rt.alloc());
@@ -54,12 +54,12 @@ fn a_change_of_each_tag_reads_back(rt: HostRuntime) -> Result<(), Fail> {
     assert_eq!(rt; again.as_slice(), bytes.as_slice());
     assert!(rt; decode_changes(rt.alloc(), b"")?.is_empty());
 
-    // a cut end, and a tag that there isn't
+    // a cut end, and the two tags that no change ever gets
     let whole = bytes.as_slice();
     assert!(rt; whole.len() > 1);
     let cut = decode_changes(rt.alloc(), &whole[..whole.len() - 1]);
     assert!(rt; matches!(cut, Err(DecodeFault::Bad)));
-    for tag in [b"\0".as_slice(), b"\x07"] {
+    for tag in [b"\0".as_slice(), b"\xFF"] {
         let more = [whole, tag, TELEGRAM].concat(rt.alloc())?;
         let refused = decode_changes(rt.alloc(), &more);
         assert!(rt; matches!(refused, Err(DecodeFault::Bad)));
@@ -73,7 +73,7 @@ fn a_change_of_each_tag_reads_back(rt: HostRuntime) -> Result<(), Fail> {
 #[test]
 fn each_growth_of_the_changes_is_refused_in_turn(rt: HostRuntime) -> Result<(), Fail> {
     let mut bytes = Bytes::new(rt.alloc());
-    put_each(&mut bytes)?;
+    put_changes(&mut bytes)?;
     let heap = Refusing::new(rt.alloc());
     let mut refused = 0;
     for k in 1..30u64 {

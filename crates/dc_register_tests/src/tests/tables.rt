@@ -2,8 +2,8 @@
 
 ghost use Rattle.dc_change.specs.Valid.{IsChange};
 
+use super::told::{Told, tell_change};
 use dc_change::{Body, Change, Command};
-use dc_io::NoMemory;
 use dc_register::House;
 use dc_table::{Date, due_rows, due_table, register_rows, register_table};
 use refusing_alloc::Refusing;
@@ -19,16 +19,10 @@ const DATED: &[u8] = b"\x42\x6C\x1F\x3C";
 
 const VOLUME: &[u8] = b"\x4C\x13\x00\x50\x34\x12";
 
-fn apply<A: Allocator + Copy>(
-    rt: &impl Abort,
-    house: &mut House<A>,
-    change: &Change<'_>,
-) -> Result<(), NoMemory>
+fn apply<A: Allocator + Copy>(rt: &impl Abort, house: &mut House<A>, change: &Change<'_>)
     requires { IsChange change.now }
 {
-    assert!(rt; house.is_next(change));
-    assert!(rt; house.check(change).is_ok());
-    house.apply(change)
+    assert_eq!(rt; tell_change(house, change), Told::Done);
 }
 
 fn order<A: Allocator + Copy>(
@@ -41,7 +35,7 @@ fn order<A: Allocator + Copy>(
         number: found.number,
         command: found.command,
     };
-    apply(rt, house, &change)?;
+    apply(rt, house, &change);
     Ok(())
 }
 
@@ -60,7 +54,7 @@ fn hear<A: Allocator + Copy>(
         moment: 100,
         body,
     };
-    apply(rt, house, &change)?;
+    apply(rt, house, &change);
     Ok(())
 }
 

@@ -36,7 +36,8 @@ pub fn tell<A: Allocator + Copy>(house: &mut House<A>, line: &[u8]) -> Result<To
     Ok(tell_change(house, &change))
 }
 
-fn tell_change<A: Allocator + Copy>(house: &mut House<A>, change: &Change<'_>) -> Told
+/// Does the change, where the house accepts it.
+pub fn tell_change<A: Allocator + Copy>(house: &mut House<A>, change: &Change<'_>) -> Told
     requires { IsChange change.now }
 {
     if !house.is_next(change) {

@@ -3,7 +3,7 @@
 use super::images::stop_at;
 use dc_counter::{Counter, reopened};
 use dc_disk::MemoryDisk;
-use dc_log::Store;
+use dc_log::{OpenFault, Store};
 use std::alloc::Global;
 use std::process::Abort;
 use std::test::Fail;
@@ -21,9 +21,19 @@ fn blank(heap: Global) -> Result<MemoryDisk<Global>, Fail> {
     }
 }
 
+type Opened = (Store<MemoryDisk<Global>>, Counter);
+
+/// [`reopened`], without a contract.
+fn opened(
+    heap: Global,
+    disk: MemoryDisk<Global>,
+) -> Result<Opened, (OpenFault, MemoryDisk<Global>)> {
+    reopened(heap, disk)
+}
+
 /// The number that the image counts.
 fn read_as(heap: Global, disk: MemoryDisk<Global>) -> Result<u64, Fail> {
-    match reopened(heap, disk) {
+    match opened(heap, disk) {
         Ok((_, counter)) => Ok(counter.count),
         Err((fault, _)) => Err(Fail::from(fault)),
     }
@@ -43,8 +53,8 @@ fn compact(store: &mut Store<MemoryDisk<Global>>, count: u64) -> bool {
 /// Opens the image, adds three, compacts, adds three, as far as the disk goes. Returns the disk, and
 /// the number that was acknowledged.
 fn lived(heap: Global, disk: MemoryDisk<Global>) -> (MemoryDisk<Global>, u64) {
-    let (mut store, counter) = match reopened(heap, disk) {
-        Ok(opened) => opened,
+    let (mut store, counter) = match opened(heap, disk) {
+        Ok(both) => both,
         Err((_, disk)) => return (disk, 0),
     };
     if !add_three(&mut store) {

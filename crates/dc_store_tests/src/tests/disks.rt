@@ -1,6 +1,7 @@
 //! Reads and failures of the disk in memory, and disks over files: that calls succeed where there
 //! is memory, and what a real file does.
 
+use super::sectors::{try_read, try_sync, try_write};
 use dc_disk::{Disk, Failed, FileDisk, MemoryDisk, ReadFault};
 use refusing_alloc::Refusing;
 use std::alloc::Global;
@@ -18,8 +19,8 @@ const ZEROS: [u8; 512] = [0; 512];
 fn written_twice(rt: &impl Abort, alloc: Global) -> Result<MemoryDisk<Global>, Fail> {
     let mut disk = MemoryDisk::new(alloc, 8)?;
     assert_eq!(rt; disk.count(), 8);
-    assert_eq!(rt; disk.write(5, &A), Ok(()));
-    assert_eq!(rt; disk.write(5, &B), Ok(()));
+    assert_eq!(rt; try_write(rt, &mut disk, 5, &A), Ok(()));
+    assert_eq!(rt; try_write(rt, &mut disk, 5, &B), Ok(()));
     Ok(disk)
 }
 
@@ -27,12 +28,12 @@ fn written_twice(rt: &impl Abort, alloc: Global) -> Result<MemoryDisk<Global>, F
 fn a_copy_goes_on_by_itself(rt: HostRuntime) -> Result<(), Fail> {
     let mut disk = written_twice(&rt, rt.alloc())?;
     let mut copy = disk.copy()?;
-    assert_eq!(rt; disk.sync(), Ok(()));
+    assert_eq!(rt; try_sync(&mut disk), Ok(()));
     assert_eq!(rt; disk.pending()?.len(), 0);
     assert_eq!(rt; copy.pending()?.len(), 1);
     assert_eq!(rt; copy.calls(), 2);
     assert_eq!(rt; copy.count(), 8);
-    assert!(rt; copy.read(5) == Ok(B));
+    assert!(rt; try_read(&rt, &mut copy, 5) == Ok(B));
     Ok(())
 }
 
@@ -46,18 +47,19 @@ fn want_of_memory_is_answered(rt: HostRuntime) -> Result<(), Fail> {
     let mut disk = MemoryDisk::new(&heap, 8)?;
     assert_eq!(rt; disk.count(), 8);
     heap.refuse(1);
-    assert_eq!(rt; disk.write(5, &A), Err(Failed));
+    assert_eq!(rt; try_write(&rt, &mut disk, 5, &A), Err(Failed));
     assert!(rt; !heap.is_waiting());
     assert_eq!(rt; disk.pending()?.len(), 0);
-    assert!(rt; disk.read(5) == Ok(ZEROS));
-    assert_eq!(rt; disk.write(5, &A), Ok(()));
+    assert!(rt; try_read(&rt, &mut disk, 5) == Ok(ZEROS));
+    assert_eq!(rt; try_write(&rt, &mut disk, 5, &A), Ok(()));
     heap.refuse(1);
     assert!(rt; disk.pending().is_err());
     for k in 1..5 {
         heap.refuse(k);
         assert!(rt; disk.copy().is_err());
     }
-    assert!(rt; disk.copy()?.read(5) == Ok(A));
+    let mut copy = disk.copy()?;
+    assert!(rt; try_read(&rt, &mut copy, 5) == Ok(A));
     Ok(())
 }
 
@@ -75,15 +77,15 @@ fn a_file_keeps_what_was_written(rt: HostRuntime) -> Result<(), Fail> {
     File::create(&rt, path.as_str())?.set_len(4 * 512 + 100)?;
     let mut disk = FileDisk::open(&rt, path.as_str())?;
     assert_eq!(rt; disk.count(), 4);
-    assert_eq!(rt; disk.write(2, &A), Ok(()));
-    assert_eq!(rt; disk.write(3, &B), Ok(()));
-    assert_eq!(rt; disk.sync(), Ok(()));
+    assert_eq!(rt; try_write(&rt, &mut disk, 2, &A), Ok(()));
+    assert_eq!(rt; try_write(&rt, &mut disk, 3, &B), Ok(()));
+    assert_eq!(rt; try_sync(&mut disk), Ok(()));
     drop(disk);
     let mut disk = FileDisk::open(&rt, path.as_str())?;
     assert_eq!(rt; disk.count(), 4);
-    assert!(rt; disk.read(1) == Ok(ZEROS));
-    assert!(rt; disk.read(2) == Ok(A));
-    assert!(rt; disk.read(3) == Ok(B));
+    assert!(rt; try_read(&rt, &mut disk, 1) == Ok(ZEROS));
+    assert!(rt; try_read(&rt, &mut disk, 2) == Ok(A));
+    assert!(rt; try_read(&rt, &mut disk, 3) == Ok(B));
     assert_eq!(rt; fs::metadata(&rt, path.as_str())?.len(), 4 * 512 + 100);
     Ok(fs::remove_file(&rt, path.as_str())?)
 }
@@ -96,8 +98,8 @@ fn a_file_that_is_cut_short_fails(rt: HostRuntime) -> Result<(), Fail> {
     let mut disk = FileDisk::open(&rt, path.as_str())?;
     assert_eq!(rt; disk.count(), 2);
     file.set_len(512 + 511)?;
-    assert!(rt; disk.read(0) == Ok(ZEROS));
-    assert!(rt; disk.read(1) == Err(ReadFault::Failed));
+    assert!(rt; try_read(&rt, &mut disk, 0) == Ok(ZEROS));
+    assert!(rt; try_read(&rt, &mut disk, 1) == Err(ReadFault::Failed));
     file.set_len(511)?;
     assert_eq!(rt; FileDisk::open(&rt, path.as_str())?.count(), 0);
     Ok(fs::remove_file(&rt, path.as_str())?)
@@ -109,8 +111,8 @@ fn a_file_opened_to_read_fails_each_write(rt: HostRuntime) -> Result<(), Fail> {
     File::create(&rt, path.as_str())?.set_len(512)?;
     let mut disk = FileDisk::new(fs::open(&rt, path.as_str())?)?;
     assert_eq!(rt; disk.count(), 1);
-    assert_eq!(rt; disk.write(0, &A), Err(Failed));
-    assert!(rt; disk.read(0) == Ok(ZEROS));
+    assert_eq!(rt; try_write(&rt, &mut disk, 0, &A), Err(Failed));
+    assert!(rt; try_read(&rt, &mut disk, 0) == Ok(ZEROS));
     Ok(fs::remove_file(&rt, path.as_str())?)
 }
 

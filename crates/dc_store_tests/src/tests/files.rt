@@ -1,6 +1,6 @@
 //! The store over a file: formatted once, written, compacted and opened again.
 
-use super::life::{self, open};
+use super::life::{self, append, apply, compact_into, open};
 use dc_change::{Change, encode_change};
 use dc_disk::FileDisk;
 use dc_io::Bytes;
@@ -37,23 +37,15 @@ fn opened(rt: &HostRuntime, path: &str) -> Result<OnFile, Fail> {
 fn confirm(rt: &impl Abort, heap: Global, life: &mut OnFile) -> Result<(), Fail> {
     let mut room = [0; 2048];
     let change = Change::parse_line(b"1 CONFIRM 0", &mut room).ok_or("no change")?;
-    assert!(rt; life.house.is_next(&change));
-    assert!(rt; life.house.check(&change).is_ok());
-    life.house.apply(&change)?;
+    apply(rt, &mut life.house, &change)?;
     let mut bytes = Bytes::new(heap);
     encode_change(&change, &mut bytes)?;
-    assert!(rt; !bytes.as_slice().is_empty());
-    assert!(rt; life.store.fits(bytes.as_slice().len()));
-    assert_eq!(rt;
-        life.store.append::<House<Global>>(bytes.as_slice()),
-        Ok(())
-    );
+    assert_eq!(rt; append(rt, &mut life.store, bytes.as_slice()), Ok(()));
     Ok(())
 }
 
 fn compact(rt: &impl Abort, life: &mut OnFile) {
-    assert!(rt; life.house.budget() <= life.store.budget());
-    assert_eq!(rt; life.store.compact(&life.house), Ok(()));
+    assert_eq!(rt; compact_into(rt, &mut life.store, &life.house), Ok(()));
 }
 
 fn write(rt: &impl Abort, heap: Global, mut life: OnFile) -> Result<(), Fail> {

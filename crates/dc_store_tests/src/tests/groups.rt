@@ -3,11 +3,12 @@
 ghost use Rattle.std.specs.Prelude.{◌≡◌, ◌<◌, ◌≤◌, ◌+◌, ◌*◌, [], ◌∷◌, length};
 
 use super::images::{OLD, UNREADABLE, WRITTEN, stop_at};
+use super::sectors::try_read;
 use dc_disk::{Disk, Failed, MemoryDisk};
 use dc_io::{IoFault, Sink};
-use dc_pages::{GroupFault, GroupSink, GroupWriter, Site, read_group};
+use dc_pages::{Group, GroupFault, GroupSink, GroupWriter, Site, read_group};
 use refusing_alloc::Refusing;
-use std::alloc::Global;
+use std::alloc::{Allocator, Global};
 use std::process::Abort;
 use std::test::Fail;
 
@@ -41,6 +42,19 @@ fn site(first: u32, sequence: u64) -> Site
     }
 }
 
+/// [`read_group`], without a contract.
+fn group_at<A: Allocator>(
+    rt: &impl Abort,
+    alloc: A,
+    disk: &mut MemoryDisk<Global>,
+    first: u32,
+    sequence: u64,
+) -> Result<Group<A>, GroupFault> {
+    assert_eq!(rt; disk.count(), 131);
+    assert!(rt; first <= LIMIT);
+    read_group(alloc, disk, site(first, sequence))
+}
+
 fn write_group(
     rt: &impl Abort,
     disk: &mut MemoryDisk<Global>,
@@ -71,12 +85,12 @@ fn sectors_are_zero_behind_what_they_use(rt: HostRuntime) -> Result<(), Fail> {
     page[8] = 2;
     page[16] = 2;
     page[24..46].copy_from_slice(&FIT);
-    assert!(rt; disk.read(5) == Ok(page));
+    assert!(rt; try_read(&rt, &mut disk, 5) == Ok(page));
     let mut commit = [0; 512];
     commit[..8].copy_from_slice(&[0x43, 2, 0, 0, 1, 0, 0, 0]);
     commit[8] = 2;
     commit[16] = 2;
-    assert!(rt; disk.read(6) == Ok(commit));
+    assert!(rt; try_read(&rt, &mut disk, 6) == Ok(commit));
     Ok(())
 }
 
@@ -88,8 +102,7 @@ fn a_full_page_needs_no_second_one(rt: HostRuntime) -> Result<(), Fail> {
         sequence: 9,
     };
     assert!(rt; write_group(&rt, &mut disk, 5, stamp, &[7; 488]) == Ok(2));
-    assert_eq!(rt; disk.count(), 131);
-    let group = read_group(rt.alloc(), &mut disk, site(5, 9))?;
+    let group = group_at(&rt, rt.alloc(), &mut disk, 5, 9)?;
     assert_eq!(rt; group.sectors, 2);
     assert!(rt; group.payload.as_slice() == [7; 488].as_slice());
     Ok(())
@@ -110,8 +123,7 @@ fn stop_at_three(
 
 /// Reads the group of sequence 4 at the ninth sector, and names the sector that doesn't fit.
 fn cut_at(rt: &impl Abort, alloc: Global, disk: &mut MemoryDisk<Global>) -> Option<GroupFault> {
-    assert_eq!(rt; disk.count(), 131);
-    match read_group(alloc, disk, site(9, 4)) {
+    match group_at(rt, alloc, disk, 9, 4) {
         Ok(_) => None,
         Err(fault) => Some(fault),
     }
@@ -182,8 +194,7 @@ fn a_group_takes_pieces_while_it_has_room(rt: HostRuntime) -> Result<(), Fail> {
 #[test]
 fn where_the_half_ends_its_end_is_named(rt: HostRuntime) -> Result<(), Fail> {
     let mut disk = MemoryDisk::new(rt.alloc(), 131)?;
-    assert_eq!(rt; disk.count(), 131);
-    let nothing = read_group(rt.alloc(), &mut disk, site(LIMIT, 4));
+    let nothing = group_at(&rt, rt.alloc(), &mut disk, LIMIT, 4);
     assert!(rt; matches!(&nothing, Err(GroupFault::Incomplete(LIMIT))));
     Ok(())
 }
@@ -216,14 +227,12 @@ fn each_growth_may_be_refused(rt: HostRuntime) -> Result<(), Fail> {
     assert!(rt; write_group(&rt, &mut disk, 9, stamp, &[3; 600]) == Ok(3));
     let heap = Refusing::new(rt.alloc());
     for growth in 1..3 {
-        assert_eq!(rt; disk.count(), 131);
         heap.refuse(growth);
-        let refused = read_group(&heap, &mut disk, site(9, 4));
+        let refused = group_at(&rt, &heap, &mut disk, 9, 4);
         assert!(rt; matches!(&refused, Err(GroupFault::NoMemory)));
     }
-    assert_eq!(rt; disk.count(), 131);
     heap.refuse(3);
-    let group = read_group(&heap, &mut disk, site(9, 4))?;
+    let group = group_at(&rt, &heap, &mut disk, 9, 4)?;
     assert!(rt; group.payload.as_slice() == [3; 600].as_slice());
     Ok(())
 }

@@ -2,7 +2,7 @@
 
 use super::images::stop_at;
 use super::life::{
-    FIT, Life, accept_all, calls_of_open, closed, confirm_up_to, formatted, opened, read_as,
+    FIT, accept_all, append, calls_of_open, closed, confirm_up_to, formatted, opened, read_as,
     state_of,
 };
 use super::sectors::read;
@@ -10,7 +10,6 @@ use dc_change::{Change, encode_change};
 use dc_disk::MemoryDisk;
 use dc_io::Bytes;
 use dc_log::StoreFault;
-use dc_register::House;
 use std::alloc::Global;
 use std::process::Abort;
 use std::test::Fail;
@@ -29,12 +28,6 @@ fn two_pages(heap: Global) -> Result<Bytes<Global>, Fail> {
     Ok(bytes)
 }
 
-fn append(rt: &impl Abort, life: &mut Life, bytes: &[u8]) -> Result<(), StoreFault> {
-    assert!(rt; !bytes.is_empty());
-    assert!(rt; life.store.fits(bytes.len()));
-    life.store.append::<House<Global>>(bytes)
-}
-
 /// Opens the image, fits two meters where it has none, and writes that group, whose sync fails.
 fn left_behind(
     rt: &impl Abort,
@@ -50,11 +43,11 @@ fn left_behind(
     }
     let bytes = two_pages(heap)?;
     assert_eq!(rt;
-        append(rt, &mut life, bytes.as_slice()),
+        append(rt, &mut life.store, bytes.as_slice()),
         Err(StoreFault::Device)
     );
     assert_eq!(rt;
-        append(rt, &mut life, bytes.as_slice()),
+        append(rt, &mut life.store, bytes.as_slice()),
         Err(StoreFault::Stopped)
     );
     Ok(closed(life))

@@ -29,7 +29,7 @@ pub struct Found {
     pub readings: usize,
 }
 
-// Two calls of the store as they are. They have no contract: what a test needs it compares, and its proof doesn't go
+// Calls of the store as they are. They have no contract: what a test needs it compares, and its proof doesn't go
 // through what the calls promise.
 
 /// [`Store::open`], of a house.
@@ -43,6 +43,27 @@ pub fn open<D: Disk + Drop, A: Allocator + Copy>(
 /// [`Store::format`], for a house.
 pub fn format<D: Disk + Drop>(disk: D) -> Result<D, (FormatFault, D)> {
     Store::format::<House<Global>>(disk)
+}
+
+/// [`Store::append`], of a group that fits.
+pub fn append<D: Disk + Drop>(
+    rt: &impl Abort,
+    store: &mut Store<D>,
+    bytes: &[u8],
+) -> Result<(), StoreFault> {
+    assert!(rt; !bytes.is_empty());
+    assert!(rt; store.fits(bytes.len()));
+    store.append::<House<Global>>(bytes)
+}
+
+/// [`Store::compact`], of a house of at most its budget.
+pub fn compact_into<D: Disk + Drop>(
+    rt: &impl Abort,
+    store: &mut Store<D>,
+    house: &House<Global>,
+) -> Result<(), StoreFault> {
+    assert!(rt; house.budget() <= store.budget());
+    store.compact(house)
 }
 
 /// A formatted disk of that many sectors.
@@ -116,7 +137,8 @@ pub fn accept(
     Ok(write(rt, life, bytes.as_slice()))
 }
 
-fn apply(rt: &impl Abort, house: &mut House<Global>, change: &Change<'_>) -> Result<(), Fail>
+/// Does a change that the house accepts.
+pub fn apply(rt: &impl Abort, house: &mut House<Global>, change: &Change<'_>) -> Result<(), Fail>
     requires { IsChange change.now }
 {
     assert!(rt; house.is_next(change));
@@ -125,17 +147,15 @@ fn apply(rt: &impl Abort, house: &mut House<Global>, change: &Change<'_>) -> Res
 }
 
 fn write(rt: &impl Abort, life: &mut Life, bytes: &[u8]) -> Result<(), StoreFault> {
-    assert!(rt; !bytes.is_empty());
     if life.store.fits(bytes.len()) {
-        return life.store.append::<House<Global>>(bytes);
+        return append(rt, &mut life.store, bytes);
     }
     compact(rt, life)
 }
 
 /// Writes the whole state.
 pub fn compact(rt: &impl Abort, life: &mut Life) -> Result<(), StoreFault> {
-    assert!(rt; life.house.budget() <= life.store.budget());
-    life.store.compact(&life.house)
+    compact_into(rt, &mut life.store, &life.house)
 }
 
 /// Accepts the changes that these lines spell.

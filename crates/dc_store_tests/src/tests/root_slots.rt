@@ -2,6 +2,7 @@
 
 ghost use Rattle.std.specs.Prelude.{◌<◌};
 
+use super::sectors::{try_read, try_sync};
 use dc_disk::{Disk, MemoryDisk, ReadFault};
 use dc_roots::{Root, RootFault, choose, write_next};
 use std::alloc::Global;
@@ -23,71 +24,84 @@ const SECOND: Root = Root {
     ..FIRST
 };
 
+/// [`write_next`], without a contract.
+pub fn written(
+    rt: &impl Abort,
+    disk: &mut MemoryDisk<Global>,
+    root: &Root,
+) -> Result<Root, RootFault> {
+    assert!(rt; disk.count() == 131);
+    assert!(rt; root.half == 0);
+    write_next(disk, root)
+}
+
+/// [`choose`], without a contract.
+fn chosen(rt: &impl Abort, disk: &mut MemoryDisk<Global>) -> Result<Root, RootFault> {
+    assert!(rt; disk.count() == 131);
+    choose(disk)
+}
+
 /// A disk on which the first root is synced, and the second one written.
 fn written_twice(rt: &impl Abort, alloc: Global) -> Result<MemoryDisk<Global>, Fail> {
     let mut disk = MemoryDisk::new(alloc, 131)?;
-    assert_eq!(rt; disk.count(), 131);
     let none = Root {
         generation: 0,
         ..FIRST
     };
-    assert!(rt; write_next(&mut disk, &none) == Ok(FIRST));
-    assert!(rt; disk.sync().is_ok());
+    assert!(rt; written(rt, &mut disk, &none) == Ok(FIRST));
+    assert!(rt; try_sync(&mut disk).is_ok());
     let opened = Root {
         session: 2,
         ..FIRST
     };
-    assert!(rt; write_next(&mut disk, &opened) == Ok(SECOND));
+    assert!(rt; written(rt, &mut disk, &opened) == Ok(SECOND));
     Ok(disk)
 }
 
 #[test]
 fn a_root_sector_is_zero_behind_its_numbers(rt: HostRuntime) -> Result<(), Fail> {
     let mut disk = written_twice(&rt, rt.alloc())?;
-    assert_eq!(rt; disk.count(), 131);
     let mut sector = [0; 512];
     sector[..8].copy_from_slice(&[0x4D, 0x42, 0x44, 0x43, 2, 0, 0, 0]);
     sector[8] = 1;
     sector[16] = 1;
     sector[24] = 1;
     sector[32] = 0x40;
-    assert!(rt; disk.read(2) == Ok(sector));
+    assert!(rt; try_read(&rt, &mut disk, 2) == Ok(sector));
     sector[8] = 2;
     sector[16] = 2;
-    assert!(rt; disk.read(1) == Ok(sector));
+    assert!(rt; try_read(&rt, &mut disk, 1) == Ok(sector));
     Ok(())
 }
 
 #[test]
 fn a_failed_read_is_a_device_fault(rt: HostRuntime) -> Result<(), Fail> {
     let mut disk = written_twice(&rt, rt.alloc())?;
-    assert_eq!(rt; disk.count(), 131);
+    for passes in 0..2 {
+        disk.fail_once(passes);
+        assert!(rt; chosen(&rt, &mut disk) == Err(RootFault::Device));
+    }
+    assert!(rt; chosen(&rt, &mut disk) == Ok(SECOND));
     disk.fail_once(0);
-    assert!(rt; choose(&mut disk) == Err(RootFault::Device));
-    disk.fail_once(1);
-    assert!(rt; choose(&mut disk) == Err(RootFault::Device));
-    assert!(rt; choose(&mut disk) == Ok(SECOND));
-    disk.fail_once(0);
-    assert!(rt; write_next(&mut disk, &SECOND) == Err(RootFault::Device));
-    assert!(rt; disk.read(1) != Err(ReadFault::Failed));
+    assert!(rt; written(&rt, &mut disk, &SECOND) == Err(RootFault::Device));
+    assert!(rt; try_read(&rt, &mut disk, 1) != Err(ReadFault::Failed));
     Ok(())
 }
 
 #[test]
 fn the_last_generation_is_worn(rt: HostRuntime) -> Result<(), Fail> {
     let mut disk = MemoryDisk::new(rt.alloc(), 131)?;
-    assert_eq!(rt; disk.count(), 131);
     let last = Root {
         generation: u64::MAX,
         ..FIRST
     };
-    assert!(rt; write_next(&mut disk, &last) == Err(RootFault::Worn));
+    assert!(rt; written(&rt, &mut disk, &last) == Err(RootFault::Worn));
     assert_eq!(rt; disk.pending()?.len(), 0);
     let before = Root {
         generation: u64::MAX - 1,
         ..FIRST
     };
-    assert!(rt; write_next(&mut disk, &before) == Ok(last));
+    assert!(rt; written(&rt, &mut disk, &before) == Ok(last));
     Ok(())
 }
 

@@ -1,10 +1,11 @@
 //! Roots with the last of each number.
 
 use super::life::{FIT, accept, closed, compact, formatted, open, opened, reopened, written};
-use super::sectors::{put, read, reads_alike};
-use dc_disk::{Disk, MemoryDisk};
+use super::root_slots;
+use super::sectors::{put, read, reads_alike, try_sync};
+use dc_disk::MemoryDisk;
 use dc_log::{OpenFault, StoreFault};
-use dc_roots::{Root, write_next};
+use dc_roots::Root;
 use std::alloc::Global;
 use std::process::Abort;
 use std::test::Fail;
@@ -21,10 +22,8 @@ const FIRST_ROOT: Root = Root {
 
 /// Writes the root after this one.
 fn put_next(rt: &impl Abort, disk: &mut MemoryDisk<Global>, root: &Root) -> Result<(), Fail> {
-    assert!(rt; disk.count() == 131);
-    assert!(rt; root.half == 0);
-    write_next(disk, root)?;
-    Ok(disk.sync()?)
+    root_slots::written(rt, disk, root)?;
+    Ok(try_sync(disk)?)
 }
 
 /// A formatted image with a next root.

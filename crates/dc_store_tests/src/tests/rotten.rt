@@ -3,8 +3,8 @@
 use super::images::{UNREADABLE, stop_at};
 use super::life::{FIT, accept_all, closed, compact, formatted, opened, read_as, written};
 use super::roots::refusal;
-use super::sectors::{put, read, reads_alike};
-use dc_disk::{Disk, MemoryDisk};
+use super::sectors::{put, read, reads_alike, try_sync};
+use dc_disk::MemoryDisk;
 use dc_log::OpenFault;
 use std::alloc::Global;
 use std::process::Abort;
@@ -34,7 +34,7 @@ fn with_sector(
 ) -> Result<MemoryDisk<Global>, Fail> {
     let mut rotten = disk.copy()?;
     put(rt, &mut rotten, &[(n, bytes)])?;
-    rotten.sync()?;
+    try_sync(&mut rotten)?;
     Ok(rotten)
 }
 

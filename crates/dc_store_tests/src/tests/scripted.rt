@@ -1,5 +1,6 @@
 //! A disk over a file of which one call goes wrong: a part, a failure, and a sync that fails.
 
+use super::sectors::{try_read, try_sync, try_write};
 use dc_disk::{Disk, Failed, FileDisk, ReadFault};
 use std::cell::Cell;
 use std::fs::{File, Metadata, OpenFile};
@@ -150,18 +151,17 @@ fn a_part_and_a_failure_are_failures(rt: HostRuntime) -> Result<(), Fail> {
     let script = Script::new();
     let mut disk = FileDisk::new(four_sectors(&rt, path.as_str(), &script)?)?;
     assert_eq!(rt; disk.count(), 4);
-    assert_eq!(rt; disk.write(2, &A), Ok(()));
+    assert_eq!(rt; try_write(&rt, &mut disk, 2, &A), Ok(()));
     for step in [Step::Part(511), Step::Part(0), Step::Fails] {
-        assert_eq!(rt; disk.count(), 4);
         script.set(step);
-        assert!(rt; disk.read(2) == Err(ReadFault::Failed));
-        assert!(rt; disk.read(2) == Ok(A));
+        assert!(rt; try_read(&rt, &mut disk, 2) == Err(ReadFault::Failed));
+        assert!(rt; try_read(&rt, &mut disk, 2) == Ok(A));
         script.set(step);
-        assert_eq!(rt; disk.write(3, &B), Err(Failed));
-        assert_eq!(rt; disk.write(3, &A), Ok(()));
-        assert!(rt; disk.read(3) == Ok(A));
+        assert_eq!(rt; try_write(&rt, &mut disk, 3, &B), Err(Failed));
+        assert_eq!(rt; try_write(&rt, &mut disk, 3, &A), Ok(()));
+        assert!(rt; try_read(&rt, &mut disk, 3) == Ok(A));
     }
-    assert_eq!(rt; disk.sync(), Ok(()));
+    assert_eq!(rt; try_sync(&mut disk), Ok(()));
     Ok(fs::remove_file(&rt, path.as_str())?)
 }
 
@@ -171,12 +171,12 @@ fn a_sector_that_the_drive_cannot_read_is_unreadable(rt: HostRuntime) -> Result<
     let script = Script::new();
     let mut disk = FileDisk::new(four_sectors(&rt, path.as_str(), &script)?)?;
     assert_eq!(rt; disk.count(), 4);
-    assert_eq!(rt; disk.write(2, &A), Ok(()));
+    assert_eq!(rt; try_write(&rt, &mut disk, 2, &A), Ok(()));
     script.set(Step::Denied);
-    assert!(rt; disk.read(2) == Err(ReadFault::Unreadable));
-    assert!(rt; disk.read(2) == Ok(A));
+    assert!(rt; try_read(&rt, &mut disk, 2) == Err(ReadFault::Unreadable));
+    assert!(rt; try_read(&rt, &mut disk, 2) == Ok(A));
     script.set(Step::Denied);
-    assert_eq!(rt; disk.write(2, &A), Err(Failed));
+    assert_eq!(rt; try_write(&rt, &mut disk, 2, &A), Err(Failed));
     Ok(fs::remove_file(&rt, path.as_str())?)
 }
 
@@ -186,13 +186,13 @@ fn after_a_failed_sync_no_call_reaches_the_file(rt: HostRuntime) -> Result<(), F
     let script = Script::new();
     let mut disk = FileDisk::new(four_sectors(&rt, path.as_str(), &script)?)?;
     assert_eq!(rt; disk.count(), 4);
-    assert_eq!(rt; disk.write(0, &A), Ok(()));
+    assert_eq!(rt; try_write(&rt, &mut disk, 0, &A), Ok(()));
     script.set(Step::Fails);
-    assert_eq!(rt; disk.sync(), Err(Failed));
+    assert_eq!(rt; try_sync(&mut disk), Err(Failed));
     let calls = script.calls.get();
-    assert!(rt; disk.read(0) == Err(ReadFault::Failed));
-    assert_eq!(rt; disk.write(1, &A), Err(Failed));
-    assert_eq!(rt; disk.sync(), Err(Failed));
+    assert!(rt; try_read(&rt, &mut disk, 0) == Err(ReadFault::Failed));
+    assert_eq!(rt; try_write(&rt, &mut disk, 1, &A), Err(Failed));
+    assert_eq!(rt; try_sync(&mut disk), Err(Failed));
     assert_eq!(rt; script.calls.get(), calls);
     Ok(fs::remove_file(&rt, path.as_str())?)
 }
@@ -204,11 +204,11 @@ fn each_call_is_one_call_of_the_file(rt: HostRuntime) -> Result<(), Fail> {
     let mut disk = FileDisk::new(four_sectors(&rt, path.as_str(), &script)?)?;
     assert_eq!(rt; disk.count(), 4);
     assert_eq!(rt; script.calls.get(), 1);
-    assert_eq!(rt; disk.write(1, &A), Ok(()));
+    assert_eq!(rt; try_write(&rt, &mut disk, 1, &A), Ok(()));
     assert_eq!(rt; script.calls.get(), 2);
-    assert_eq!(rt; disk.sync(), Ok(()));
+    assert_eq!(rt; try_sync(&mut disk), Ok(()));
     assert_eq!(rt; script.calls.get(), 3);
-    assert!(rt; disk.read(1) == Ok(A));
+    assert!(rt; try_read(&rt, &mut disk, 1) == Ok(A));
     assert_eq!(rt; script.calls.get(), 4);
     Ok(fs::remove_file(&rt, path.as_str())?)
 }

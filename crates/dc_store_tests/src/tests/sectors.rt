@@ -1,10 +1,35 @@
 //! The sectors of an image, by hand.
 ghost use Rattle.std.specs.Prelude.{◌≤◌, length};
 
-use dc_disk::{Disk, MemoryDisk};
+use dc_disk::{Disk, Failed, MemoryDisk, ReadFault};
 use std::alloc::Global;
 use std::process::Abort;
 use std::test::Fail;
+
+// The calls of a disk as they are, of a sector that exists. They have no contract: what a test needs it compares, and its
+// proof doesn't go through what the calls promise.
+
+/// [`Disk::read`].
+pub fn try_read<D: Disk>(rt: &impl Abort, disk: &mut D, n: u32) -> Result<[u8; 512], ReadFault> {
+    assert!(rt; n < disk.count());
+    disk.read(n)
+}
+
+/// [`Disk::write`].
+pub fn try_write<D: Disk>(
+    rt: &impl Abort,
+    disk: &mut D,
+    n: u32,
+    bytes: &[u8; 512],
+) -> Result<(), Failed> {
+    assert!(rt; n < disk.count());
+    disk.write(n, bytes)
+}
+
+/// [`Disk::sync`].
+pub fn try_sync<D: Disk>(disk: &mut D) -> Result<(), Failed> {
+    disk.sync()
+}
 
 /// A root sector of an image of 131 sectors.
 pub fn root(half: u8, generation: u8, session: u8, base_sequence: u8) -> [u8; 512] {
@@ -56,8 +81,7 @@ pub fn sector(front: &[u8]) -> [u8; 512]
 
 /// Whether the disk's sector reads so.
 pub fn holds(rt: &impl Abort, disk: &mut MemoryDisk<Global>, n: u32, bytes: &[u8; 512]) -> bool {
-    assert!(rt; n < disk.count());
-    disk.read(n) == Ok(*bytes)
+    try_read(rt, disk, n) == Ok(*bytes)
 }
 
 /// Each of these sectors reads so.
@@ -74,16 +98,14 @@ pub fn put(
     sectors: &[(u32, [u8; 512])],
 ) -> Result<(), Fail> {
     for (n, bytes) in sectors {
-        assert!(rt; *n < disk.count());
-        disk.write(*n, bytes)?;
+        try_write(rt, disk, *n, bytes)?;
     }
     Ok(())
 }
 
 /// A sector of the disk.
 pub fn read(rt: &impl Abort, disk: &mut MemoryDisk<Global>, n: u32) -> Result<[u8; 512], Fail> {
-    assert!(rt; n < disk.count());
-    Ok(disk.read(n)?)
+    Ok(try_read(rt, disk, n)?)
 }
 
 /// Whether each sector of the two disks reads alike.
@@ -94,9 +116,7 @@ pub fn reads_alike(
 ) -> bool {
     assert_eq!(rt; one.count(), other.count());
     for n in 0..one.count() {
-        assert!(rt; n < one.count());
-        assert!(rt; n < other.count());
-        if one.read(n) != other.read(n) {
+        if try_read(rt, one, n) != try_read(rt, other, n) {
             return false;
         }
     }

@@ -3,8 +3,8 @@ ghost use Rattle.std.specs.Prelude.{◌≤◌, length};
 
 use super::life::reopened;
 use super::roots::{compacts_no_more, is_worn};
-use super::sectors::{put, sector};
-use dc_disk::{Disk, MemoryDisk, put_u64};
+use super::sectors::{put, sector, try_sync};
+use dc_disk::{MemoryDisk, put_u64};
 use std::alloc::Global;
 use std::process::Abort;
 use std::test::Fail;
@@ -46,7 +46,7 @@ fn of_version_1(
     ];
     put(rt, &mut disk, &sectors)?;
     put(rt, &mut disk, others)?;
-    disk.sync()?;
+    try_sync(&mut disk)?;
     Ok(disk)
 }
 

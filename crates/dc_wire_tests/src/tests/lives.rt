@@ -23,18 +23,37 @@ const SECOND: [u8; 22] = [
     0x4C, 0x13, 0x00, 0x50, 0x34, 0x12,
 ];
 
+/// These bodies, copied.
+pub fn bodies_of<A: Allocator + Copy>(alloc: A, all: &[&[u8]]) -> Result<Bodies<A>, NoMemory> {
+    let mut bodies = Bodies::new(alloc);
+    for body in all {
+        bodies.push(Body::copied(alloc, body)?)?;
+    }
+    Ok(bodies)
+}
+
 // One meter at primary address 1, with two bodies.
 fn one_meter<A: Allocator + Copy>(alloc: A) -> Result<Vec<MeterScript<A>, A>, Fail> {
-    let mut bodies = Bodies::new(alloc);
-    bodies.push(Body::copied(alloc, &FIRST)?)?;
-    bodies.push(Body::copied(alloc, &SECOND)?)?;
+    let identity = Identity::parse_text(b"12345678.PAD.01.07")?;
+    let bodies = bodies_of(alloc, &[&FIRST, &SECOND])?;
     let mut scripts = Vec::new(alloc);
     scripts.push(MeterScript {
-        identity: Identity::parse_text(b"12345678.PAD.01.07")?,
+        identity,
         address: Primary::new(1),
         bodies,
     })?;
     Ok(scripts)
+}
+
+// [`play`], without a contract, of meters that are regular.
+fn played<A: Allocator + Copy>(
+    rt: &impl Abort,
+    alloc: A,
+    scripts: &[MeterScript<A>],
+    events: &[WorldEvent],
+) -> Result<Vec<Held<A>, A>, NoMemory> {
+    assert!(rt; are_regular(scripts));
+    play(alloc, scripts, events)
 }
 
 // Both bodies are held, once.
@@ -47,52 +66,53 @@ fn holds_both<A: Allocator>(held: &[Held<A>], rt: &impl Abort) {
     assert_eq!(rt; one.parts.at(1), SECOND.as_slice());
 }
 
+const STOPPED: [WorldEvent; 11] = [
+    Start(0),
+    Exchange(AsSent),
+    Exchange(ReplyLost),
+    Exchange(AsSent),
+    Stop,
+    Start(0),
+    Exchange(AsSent),
+    Exchange(AsSent),
+    Commit,
+    Exchange(AsSent),
+    Commit,
+];
+
 #[test]
 fn a_stop_between_two_parts_begins_the_readout_anew(rt: HostRuntime) -> Result<(), Fail> {
     let scripts = one_meter(rt.alloc())?;
-    assert!(rt; are_regular(&scripts));
-    let events = [
-        Start(0),
-        Exchange(AsSent),
-        Exchange(ReplyLost),
-        Exchange(AsSent),
-        Stop,
-        Start(0),
-        Exchange(AsSent),
-        Exchange(AsSent),
-        Commit,
-        Exchange(AsSent),
-        Commit,
-    ];
-    holds_both(&play(rt.alloc(), &scripts, &events)?, &rt);
-    assert!(rt; play(rt.alloc(), &scripts, &[])?.is_empty());
+    holds_both(&played(&rt, rt.alloc(), &scripts, &STOPPED)?, &rt);
+    assert!(rt; played(&rt, rt.alloc(), &scripts, &[])?.is_empty());
     Ok(())
 }
+
+// The last exchange has no session to act on.
+const UNREADABLE: [WorldEvent; 6] = [
+    Start(0),
+    Exchange(AsSent),
+    Exchange(ReplyUnreadable),
+    Exchange(ReplyUnreadable),
+    Exchange(ReplyUnreadable),
+    Exchange(AsSent),
+];
+
+const REPEATED: [WorldEvent; 7] = [
+    Start(0),
+    Exchange(AsSent),
+    Exchange(AsSent),
+    Commit,
+    Exchange(ReplyLost),
+    Exchange(AsSent),
+    Commit,
+];
 
 #[test]
 fn a_session_fails_at_the_third_try(rt: HostRuntime) -> Result<(), Fail> {
     let scripts = one_meter(rt.alloc())?;
-    assert!(rt; are_regular(&scripts));
-    // the last exchange has no session to act on
-    let unreadable = [
-        Start(0),
-        Exchange(AsSent),
-        Exchange(ReplyUnreadable),
-        Exchange(ReplyUnreadable),
-        Exchange(ReplyUnreadable),
-        Exchange(AsSent),
-    ];
-    assert!(rt; play(rt.alloc(), &scripts, &unreadable)?.is_empty());
-    let repeated = [
-        Start(0),
-        Exchange(AsSent),
-        Exchange(AsSent),
-        Commit,
-        Exchange(ReplyLost),
-        Exchange(AsSent),
-        Commit,
-    ];
-    holds_both(&play(rt.alloc(), &scripts, &repeated)?, &rt);
+    assert!(rt; played(&rt, rt.alloc(), &scripts, &UNREADABLE)?.is_empty());
+    holds_both(&played(&rt, rt.alloc(), &scripts, &REPEATED)?, &rt);
     Ok(())
 }
 
@@ -194,12 +214,11 @@ fn what_is_held_in_random_worlds_is_whole(rt: HostRuntime) -> Result<(), Fail> {
             let ends = random(&mut seed, 8) != 0;
             scripts.push(meter(rt.alloc(), place, address, count, ends)?)?;
         }
-        assert!(rt; are_regular(&scripts));
         let mut events = Vec::new(rt.alloc());
         for _ in 0..200 {
             events.push(event(&mut seed))?;
         }
-        let all = play(rt.alloc(), &scripts, &events)?;
+        let all = played(&rt, rt.alloc(), &scripts, &events)?;
         are_whole(&all, &scripts, &rt);
         held = held.saturating_add(all.len());
     }
@@ -207,24 +226,24 @@ fn what_is_held_in_random_worlds_is_whole(rt: HostRuntime) -> Result<(), Fail> {
     Ok(())
 }
 
+const UNDISTURBED: [WorldEvent; 6] = [
+    Start(0),
+    Exchange(AsSent),
+    Exchange(AsSent),
+    Commit,
+    Exchange(AsSent),
+    Commit,
+];
+
 #[test]
 fn each_growth_may_be_refused(rt: HostRuntime) -> Result<(), Fail> {
     let heap = Refusing::new(rt.alloc());
     heap.refuse(0);
     let scripts = one_meter(&heap)?;
-    assert!(rt; are_regular(&scripts));
-    let events = [
-        Start(0),
-        Exchange(AsSent),
-        Exchange(AsSent),
-        Commit,
-        Exchange(AsSent),
-        Commit,
-    ];
     let mut refused = 0;
     for k in 1..50u64 {
         heap.refuse(k);
-        match play(&heap, &scripts, &events) {
+        match played(&rt, &heap, &scripts, &UNDISTURBED) {
             Err(NoMemory) => refused = k,
             Ok(held) => {
                 assert!(rt; heap.is_waiting());
@@ -235,6 +254,6 @@ fn each_growth_may_be_refused(rt: HostRuntime) -> Result<(), Fail> {
     }
     assert!(rt; refused > 5);
     heap.refuse(0);
-    holds_both(&play(&heap, &scripts, &events)?, &rt);
+    holds_both(&played(&rt, &heap, &scripts, &UNDISTURBED)?, &rt);
     Ok(())
 }

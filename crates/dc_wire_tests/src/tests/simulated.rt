@@ -1,5 +1,6 @@
 //! Simulated meters are read, selected and found.
 
+use super::lives::bodies_of;
 use dc_address::{Identity, Primary};
 use dc_blocks::{Talk, exchange};
 use dc_bus::search_over;
@@ -7,7 +8,7 @@ use dc_frame::FrameBuf;
 use dc_frame::control::write_request;
 use dc_io::{Bytes, Sink};
 use dc_search::Step;
-use dc_world::{Bodies, Body, MeterScript, Reply, SimulatedBus, SimulatedMeter, serve};
+use dc_world::{MeterScript, Reply, SimulatedBus, SimulatedMeter, serve};
 use std::alloc::Allocator;
 use std::test::Fail;
 
@@ -25,11 +26,10 @@ fn meter<A: Allocator + Copy>(
     identity: &[u8],
     address: Option<Primary>,
 ) -> Result<SimulatedMeter<A>, Fail> {
-    let mut bodies = Bodies::new(alloc);
-    bodies.push(Body::copied(alloc, &FIRST)?)?;
-    bodies.push(Body::copied(alloc, &SECOND)?)?;
+    let identity = Identity::parse_text(identity)?;
+    let bodies = bodies_of(alloc, &[&FIRST, &SECOND])?;
     Ok(SimulatedMeter::new(MeterScript {
-        identity: Identity::parse_text(identity)?,
+        identity,
         address,
         bodies,
     }))

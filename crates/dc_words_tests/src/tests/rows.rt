@@ -171,11 +171,20 @@ const POLLS: Rows = &[
         "poll house.image --line 1=tcp://a:1 --dry-run --json",
         "refused",
     ),
+    (
+        "poll house.image --line 1=tcp://a:1 --trace t.txt --dry-run",
+        "refused",
+    ),
     ("poll house.image --dry-run", "refused"),
     (
         "poll house.image --line 1=tcp://a:1 --trace t.txt",
-        "refused",
+        "poll house.image 1=tcp(a:1) tries 2 patience 2000 trace t.txt",
     ),
+    (
+        "poll house.image --line 1=tcp://a:1 --json --trace -",
+        "poll house.image 1=tcp(a:1) tries 2 patience 2000 json trace -",
+    ),
+    ("poll house.image --line 1=tcp://a:1 --trace", "refused"),
     (
         "poll house.image --line 1=tcp://a:1 --only 12345678 --only 00000001 --only 12345678.pad.0a.0F",
         "poll house.image 1=tcp(a:1) only number 12345678 only number 00000001 only 12345678.PAD.0A.0F tries 2 patience 2000",
@@ -257,7 +266,15 @@ const BUSES: Rows = &[
         "read tcp://a:1 12345678.pad.0a.07",
         "read tcp(a:1) 12345678.PAD.0A.07 patience 2000",
     ),
-    ("read tcp://a:1 12345678", "refused Meter"),
+    (
+        "read tcp://a:1 12345678",
+        "read tcp(a:1) number 12345678 patience 2000",
+    ),
+    (
+        "read tcp://a:1 00000005",
+        "read tcp(a:1) number 00000005 patience 2000",
+    ),
+    ("read tcp://a:1 1234567", "refused Meter"),
     (
         "read tcp://a:1 250",
         "read tcp(a:1) address 250 patience 2000",

@@ -141,9 +141,10 @@ fn poll_text(alloc: Global, task: &PollTask<'_>) -> Result<String, AllocError> {
     let links = links_text(alloc, &task.links)?;
     let only = only_text(alloc, task.only.as_slice())?;
     let json = json_text(task.is_json);
+    let trace = trace_text(alloc, task.trace)?;
     let dry = if task.is_dry { " dry" } else { "" };
     format!(in alloc;
-        "poll {}{links}{only} tries {} patience {}{json}{dry}",
+        "poll {}{links}{only} tries {} patience {}{json}{trace}{dry}",
         task.image, task.tries, task.patience
     )
 }
@@ -214,5 +215,9 @@ fn meter_text(alloc: Global, meter: MeterName) -> Result<String, AllocError> {
             String::from_str(alloc, str::from_utf8(&text).unwrap_or("?"))
         }
         MeterName::Primary(primary) => format!(in alloc; "address {}", primary.get()),
+        MeterName::Number(digits) => {
+            let digits = str::from_utf8(&digits).unwrap_or("?");
+            format!(in alloc; "number {digits}")
+        }
     }
 }

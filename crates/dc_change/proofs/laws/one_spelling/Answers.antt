@@ -1,4 +1,4 @@
-use Rattle.dc_change.proofs.ChangeSpellings.{spells_push}
+use Rattle.dc_change.proofs.CommandSpellings.{spells_push}
 use Rattle.dc_change.proofs.laws.one_spelling.Goals as goal
 
 pub returns-clause-push : goal.returns-clause-push

@@ -1,6 +1,6 @@
 use Rattle.dc_io.proofs.Writes.{written_both, stopped_first, stopped_second}
 use Rattle.dc_io.proofs.Writes.{on_any_err}
-use Rattle.dc_change.specs.Encoding.{counted}
+use Rattle.dc_change.specs.Pieces.{counted}
 use Rattle.dc_change.proofs.writing.put_counted.Goals as goal
 
 pub returns-in_err-put_byte-clause-err : goal.returns-in_err-put_byte-clause-err

@@ -1,6 +1,6 @@
 use Rattle.std.proofs.Common.{refl, sym, subst}
 use Rattle.dc_disk.specs.Disk.{Image}
-use Rattle.dc_disk.specs.File.{start_of, events_of, moment_in, images_in, opened_on}
+use Rattle.dc_disk.specs.File.{events_of, moment_in, images_in, opened_on}
 use Rattle.dc_disk.proofs.Cuts.{left_sectors}
 use Rattle.dc_concentrator.specs.Headline.{in_a_run, in_an_opening}
 use Rattle.dc_concentrator.proofs.laws.a_stop_of_a_file_is_one_of_the_headline.Goals as goal

@@ -1,4 +1,4 @@
-use Rattle.std.proofs.Common.{◌≡◌, None, Option, refl, ap, sym}
+use Rattle.std.proofs.Common.{Option, ap, sym}
 use Rattle.std.specs.Prelude.{option_map}
 use Rattle.dc_tokens.specs.Object.{fields_tokens}
 use Rattle.dc_names.specs.declared.plain.Plain.{Plain}

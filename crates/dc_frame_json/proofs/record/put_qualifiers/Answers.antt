@@ -1,5 +1,4 @@
-use Rattle.std.proofs.Common.{◌+◌, ◌∷◌, [], ◌++◌, List, ℕ, map, take, ap, sym, ◌∙◌, arith}
-use Rattle.json.specs.Token as Token
+use Rattle.std.proofs.Common.{◌+◌, map, take, arith}
 use Rattle.dc_tokens.specs.Object.{values_tokens}
 use Rattle.dc_frame_json.specs.Record.{qualifier}
 use Rattle.dc_tokens.proofs.Adding.{◌>>◌, unchanged, said}

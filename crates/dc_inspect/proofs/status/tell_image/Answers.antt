@@ -1,4 +1,4 @@
-use Rattle.std.proofs.Common.{◌≡◌, ℕ, Some, subst}
+use Rattle.std.proofs.Common.{◌≡◌, ℕ, subst}
 use Rattle.std.specs.Prelude.{option_map, IfSome}
 use Rattle.dc_disk.specs.Disk.{Image}
 use Rattle.dc_log.specs.Halves.{budget_of}
@@ -15,6 +15,6 @@ returns-in-Ok-clause-told g c kept =
       enough = c.requires.enough;
       seen = seen;
       look = subst (λ (n : ℕ). IsLook n reads seen look.refusal) c.half_len_of.ensures.exact (c.in_ok-look.ensures.seen kept);
-      text = (c.in-Ok.ensures _ (subst (λ (n : ℕ). IfSome look.found (λ f. f.house.budget ≡ budget_of n)) c.half_len_of.ensures.exact c.in_ok-look.ensures.budget)).0;
+      text = (c.in-Ok.ensures _ (subst (λ (n : ℕ). IfSome look.found (λ f. f.house.budget ≡ budget_of n)) c.half_len_of.ensures.exact c.in_ok-look.ensures.placed.0)).0;
       silent_is = c.is_silent.ensures;
     }

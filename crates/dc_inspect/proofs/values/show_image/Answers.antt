@@ -1,4 +1,4 @@
-use Rattle.std.proofs.Common.{ℕ, Some, subst}
+use Rattle.std.proofs.Common.{ℕ, subst}
 use Rattle.std.specs.Prelude.{option_map}
 use Rattle.dc_disk.specs.Disk.{Image}
 use Rattle.dc_inspect.specs.Look.{seen_of}

@@ -1,5 +1,6 @@
 use Rattle.std.proofs.Common.{◌≡◌, ◌-◌}
-use Rattle.dc_change.specs.Reading.{many, part_at}
+use Rattle.dc_change.specs.Pieces.{many}
+use Rattle.dc_change.specs.Reading.{part_at}
 use Rattle.dc_register.proofs.Counts.{with_front}
 use Rattle.dc_register.proofs.parts.each_part.Given as goal
 

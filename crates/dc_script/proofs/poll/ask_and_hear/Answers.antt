@@ -6,7 +6,7 @@ use Rattle.dc_concentrator.specs.Event.{asks, asked}
 use Rattle.dc_script.specs.Link.{link_by}
 use Rattle.dc_script.specs.Poll.{does, to_ask, told_text}
 use Rattle.dc_script.proofs.LineRuns.{on_ok}
-use Rattle.dc_script.proofs.Ways.{way_turn, turn_then, turn_last, if_round_grows, fails_in_one, if_fails_later}
+use Rattle.dc_script.proofs.Ways.{way_turn, turn_then, turn_last, fails_in_one, if_fails_later}
 use Rattle.dc_script.proofs.poll.ask_and_hear.Goals as goal
 
 pub returns-in-Some-clause-went : goal.returns-in-Some-clause-went
@@ -20,7 +20,7 @@ returns-in-Some-clause-went g c meter origin state before chain at =
     turn_then g.D.Disk origin c.args.concentrator.now.house.budget state before c.args.port c.args.moment.seconds meter to_ask (link_by (g.B.Bus.lost c.args.bus.now)) (asks c.args.port.line) _ (asked (Some c.in-Some.request)) _ _ _ _ c.args.concentrator.now c.args.concentrator.now c.exchange.new.concentrator
     refl one (λ answer s. s.0 ∙ ap asked c.in-Some.is) refl (λ behind ch a. c.exchange.ensures.went meter origin state behind ch a)
     (λ more last e. (
-      if_round_grows c.exchange.result (link_by (g.B.Bus.lost c.exchange.new.bus)) 0 1 (does (asks c.args.port.line, asked (Some c.in-Some.request))) more last refl e.0,
+      e.0,
       if_fails_later g.W.Sink c.args.port c.exchange.result c.args.out.now c.told_ask.new.out c.exchange.new.out (asks c.args.port.line, asked (Some c.in-Some.request)) more told c.in_ok-asked.ensures.well e.1,
       e.2,
     ))
@@ -32,7 +32,7 @@ returns-in-None-clause-went g c meter origin state before chain at =
     let w1 = g.W.Sink.written c.told_ask.new.out in
     let one = c.in_ok-asked.ensures.went origin state before chain at in
     turn_last g.D.Disk origin c.args.concentrator.now.house.budget state before c.args.port c.args.moment.seconds meter to_ask (link_by (g.B.Bus.lost c.args.bus.now)) (asks c.args.port.line) _ (asked None) _ _ c.args.concentrator.now c.args.concentrator.now
-    refl one (λ answer s. s.0 ∙ ap asked c.in-None.is) (record { last_is = refl; rounds_are = refl }, tt, refl) (subst (λ (a : Option (List ℕ)). Puts w0 w1 (told_text (asked a))) c.in-None.is one.is_such.1)
+    refl one (λ answer s. s.0 ∙ ap asked c.in-None.is) (refl, tt, refl) (subst (λ (a : Option (List ℕ)). Puts w0 w1 (told_text (asked a))) c.in-None.is one.is_such.1)
 
 pub returns-in_err-asked-clause-went : goal.returns-in_err-asked-clause-went
 returns-in_err-asked-clause-went g c meter origin state before chain at =

@@ -1,26 +1,24 @@
-use Rattle.std.proofs.Common.{ℕ, [], ◌∷◌, refl, sym, subst, Bool, Result, Ok, Err}
+use Rattle.std.proofs.Common.{◌≡◌, ◌∙◌, ℕ, refl, ap, sym, subst, Result, Ok, Err}
 use Rattle.std.specs.Prelude.{is_ok}
 use Rattle.std.proofs.lemmas.Result.{err_from_is_err_and}
 use Rattle.dc_io.specs.Stream.{Puts}
 use Rattle.dc_concentrator.specs.Event.{Answer, commits, committed}
 use Rattle.dc_concentrator.specs.declared.fault.CommitFault.{CommitFault}
-use Rattle.dc_script.specs.Link.{Link}
-use Rattle.dc_script.specs.Poll.{does, to_commit, behind_turn, told_text}
-use Rattle.dc_script.specs.Way.{IsRound}
+use Rattle.dc_script.specs.Poll.{does, Due, to_commit, behind_turn, told_text}
+use Rattle.dc_script.specs.Way.{goes_on}
 use Rattle.dc_script.proofs.Ways.{way_turn, fails_in_one}
 use Rattle.dc_script.proofs.poll.commit_part.Goals as goal
 
-round : (link : Link) (told : Result ℕ CommitFault) → IsRound (is_ok told) link 0 (does (commits, committed told) ∷ []) (record { due = behind_turn to_commit commits (committed told); link = link })
-round link (Ok count) = record { last_is = refl; rounds_are = refl }
-round link (Err fault) = record { last_is = refl; rounds_are = refl }
+due_of : (told : Result ℕ CommitFault) → behind_turn to_commit commits (committed told) ≡ goes_on (is_ok told)
+due_of (Ok count) = refl
+due_of (Err fault) = refl
 
 pub returns-clause-went : goal.returns-clause-went
 returns-clause-went g c port moment meter link origin state before chain at =
     way_turn g.D.Disk origin c.args.concentrator.now.house.budget state before port moment meter to_commit link commits _ _ _ c.args.concentrator.now c.told_commit.new.concentrator
     refl (c.in_ok-answer.ensures.went origin state before chain at)
     (λ answer is. (
-      subst (λ (a : Answer). IsRound c.is_ok.result link 0 (does (commits, a) ∷ []) (record { due = behind_turn to_commit commits a; link = link })) (sym is.0)
-          (subst (λ (more : Bool). IsRound more link 0 (does (commits, committed c.in_ok-answer.answer) ∷ []) (record { due = behind_turn to_commit commits (committed c.in_ok-answer.answer); link = link })) (sym c.is_ok.ensures.value) (round link c.in_ok-answer.answer)),
+      ap (λ (d : Due). record { due = d; link = link }) (ap (behind_turn to_commit commits) is.0 ∙ due_of c.in_ok-answer.answer ∙ ap goes_on (sym c.is_ok.ensures.value)),
       tt,
       refl,
     ))

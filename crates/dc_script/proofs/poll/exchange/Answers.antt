@@ -1,13 +1,13 @@
-use Rattle.std.proofs.Common.{ℕ, List, [], ◌≤◌, length, arith, ap, sym, subst, ◌∙◌, refl}
+use Rattle.std.proofs.Common.{ℕ, List, [], ◌≤◌, length, arith, sym, subst, refl}
 use Rattle.std.proofs.lemmas.Result.{err_from_is_err_and}
 use Rattle.dc_io.specs.Stream.{Puts}
 use Rattle.dc_io.proofs.Pieces.{puts-both}
 use Rattle.dc_bus.specs.Limits.{most_answer}
 use Rattle.dc_script.specs.Link.{link_by, IsHeardOver}
-use Rattle.dc_script.specs.Poll.{to_hear, rounds_in}
+use Rattle.dc_script.specs.Poll.{to_hear}
 use Rattle.dc_script.proofs.LineRuns.{on_ok}
 use Rattle.dc_concentrator.proofs.Wents.{went_none}
-use Rattle.dc_script.proofs.Ways.{way_as, way_exchange, way_then, if_fails_after, if_round_after, exchanged_alone, exchanged_over, loss_fails, no_round, silence_over}
+use Rattle.dc_script.proofs.Ways.{way_as, way_exchange, way_then, if_fails_after, exchanged_alone, exchanged_over, loss_fails, silence_over}
 use Rattle.dc_script.proofs.poll.exchange.Goals as goal
 
 pub returns-clause-went : goal.returns-clause-went
@@ -28,7 +28,7 @@ returns-clause-went g c meter origin state before chain at =
     way_then g.D.Disk origin c.args.concentrator.now.house.budget state before c.args.port c.args.moment.seconds meter _ (record { due = to_hear answer; link = link_by is }) _ _ _ _ _ _ c.args.concentrator.now c.args.concentrator.now c.hear.new.concentrator
     one one.ends_so.1 refl (λ behind ch a. c.hear.ensures.went meter (link_by is) origin state behind ch a)
     (λ more last e. (
-      if_round_after c.hear.result (link_by is) 0 one.happened more last (ap rounds_in one.ends_so.0 ∙ no_round was is (record { request = request; answer = answer })) e.0,
+      e.0,
       if_fails_after g.W.Sink c.args.port c.hear.result c.args.out.now c.ask_bus.new.out c.hear.new.out one.happened more one.text c.in_ok-answer.ensures.told.1 e.1,
       exchanged_over g.B.Bus.asks c.args.bus.now c.ask_bus.new.bus was is request answer one.happened more one.ends_so.0 e.2 asked,
     ))

@@ -4,11 +4,11 @@ use Rattle.dc_bus.specs.Bus.{AreExchanged, Exchange}
 use Rattle.dc_io.specs.Stream.{Puts}
 use Rattle.dc_io.proofs.Pieces.{puts-both}
 use Rattle.dc_script.specs.Link.{link_by}
-use Rattle.dc_script.specs.Poll.{to_start, rounds_in, happened_exchanges}
+use Rattle.dc_script.specs.Poll.{to_start, happened_exchanges}
 use Rattle.dc_script.proofs.LineRuns.{on_ok}
 use Rattle.dc_script.proofs.Traffics.{untouched_both}
 use Rattle.dc_concentrator.proofs.Wents.{went_none}
-use Rattle.dc_script.proofs.Ways.{way_as, way_settled, way_then, if_fails_after, end_after, exchanges_append, settles_unasked, settles_in_no_round, settle_fails, not_a_gateway}
+use Rattle.dc_script.proofs.Ways.{way_as, way_settled, way_then, if_fails_after, exchanges_append, settles_unasked, settle_fails, not_a_gateway}
 use Rattle.dc_script.proofs.poll.poll.Goals as goal
 
 pub returns-clause-went : goal.returns-clause-went
@@ -24,7 +24,7 @@ returns-clause-went g c origin state before chain at =
     way_then g.D.Disk origin c.args.concentrator.now.house.budget state before c.args.port c.args.moment.seconds c.args.meter.now _ (record { due = to_start; link = link_by is }) _ _ _ _ _ _ c.args.concentrator.now c.args.concentrator.now c.start_and_read.new.concentrator
     one one.ends_so.1 refl (λ behind ch a. c.start_and_read.ensures.went origin state behind ch a)
     (λ more last e. (
-      end_after c.start_and_read.result (link_by (g.B.Bus.lost c.start_and_read.new.bus)) one.happened more last (ap rounds_in one.ends_so.0 ∙ settles_in_no_round was is) e.0,
+      e.0,
       if_fails_after g.W.Sink c.args.port c.start_and_read.result c.args.out.now c.settle_bus.new.out c.start_and_read.new.out one.happened more one.text c.in_ok-settle_bus.ensures.told.1 e.1,
       record {
         between = c.settle_bus.new.bus;

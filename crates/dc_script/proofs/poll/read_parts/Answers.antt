@@ -1,13 +1,12 @@
-use Rattle.std.proofs.Common.{inl, inr, arith, ℕ, refl, ap, subst, ◌∙◌, Bool}
+use Rattle.std.proofs.Common.{ℕ, refl, ap, subst, ◌∙◌, Bool}
 use Rattle.std.proofs.lemmas.Result.{err_from_is_err_and}
 use Rattle.dc_io.proofs.Pieces.{puts-both, puts-none}
 use Rattle.dc_script.specs.Link.{link_by}
-use Rattle.dc_script.specs.Poll.{Phase}
 use Rattle.dc_script.specs.Way.{goes_on}
 use Rattle.dc_concentrator.proofs.Wents.{went_none}
 use Rattle.dc_io.specs.Failures.{HasRisen}
 use Rattle.dc_script.proofs.Traffics.{untouched_both}
-use Rattle.dc_script.proofs.Ways.{way_none, way_as, way_then, rounds_append, exchanged_after, fails_after}
+use Rattle.dc_script.proofs.Ways.{way_none, way_then, exchanged_after, fails_after}
 use Rattle.dc_script.proofs.poll.read_parts.Goals as goal
 
 pub rounds-init : goal.rounds-init
@@ -16,7 +15,7 @@ rounds-init g c =
       budget = refl;
       well = refl;
       untouched = λ is. refl;
-      so_far = λ meter origin state before chain at. way_none g.D.Disk origin c.args.concentrator.now.house.budget state before c.args.port c.args.moment.seconds meter _ _ _ c.args.concentrator.now (went_none g.D.Disk origin c.args.concentrator.now.house.budget state before c.args.concentrator.now chain at (λ h image left. g.met.D.Disk.only_now c.args.concentrator.now.store.disk image left)) (refl, refl, refl) (puts-none (g.W.Sink.written c.args.out.now));
+      so_far = λ meter origin state before chain at. way_none g.D.Disk origin c.args.concentrator.now.house.budget state before c.args.port c.args.moment.seconds meter _ _ _ c.args.concentrator.now (went_none g.D.Disk origin c.args.concentrator.now.house.budget state before c.args.concentrator.now chain at (λ h image left. g.met.D.Disk.only_now c.args.concentrator.now.store.disk image left)) (refl, refl) (puts-none (g.W.Sink.written c.args.out.now));
     }
 
 pub rounds-preserved : goal.rounds-preserved
@@ -33,10 +32,9 @@ rounds-preserved g c =
           let one = c.rounds.invariant.so_far meter origin state before chain at in
           way_then g.D.Disk origin first.house.budget state before c.args.port c.args.moment.seconds meter _ _ _ _ _ _ _ _ first old new
           one one.ends_so.0 c.rounds.invariant.budget (λ behind ch a. c.in_ok-more.ensures.went meter origin state behind ch a)
-          (λ more last e. let r = e.0.rounds_are in let s = one.ends_so.1 in (
-            e.0.last_is ∙ ap (λ (b : Bool). record { due = goes_on b; link = link_by (g.B.Bus.lost c.ask_and_hear.new.bus) }) c.if-not-more.false,
-            omega (arith, r, s, rounds_append one.happened more),
-            exchanged_after g.B.Bus.asks c.args.bus.now c.rounds.bus c.ask_and_hear.new.bus one.happened more one.ends_so.2 e.2,
+          (λ more last e. (
+            e.0 ∙ ap (λ (b : Bool). record { due = goes_on b; link = link_by (g.B.Bus.lost c.ask_and_hear.new.bus) }) c.if-not-more.false,
+            exchanged_after g.B.Bus.asks c.args.bus.now c.rounds.bus c.ask_and_hear.new.bus one.happened more one.ends_so.1 e.2,
           ))
           (λ text more p q. puts-both (w c.args.out.now) (w c.rounds.out) (w c.ask_and_hear.new.out) text more p q);
     }
@@ -50,10 +48,10 @@ returns-then-not-more-clause-went g c meter origin state before chain at =
     let one = c.rounds.invariant.so_far meter origin state before chain at in
     way_then g.D.Disk origin first.house.budget state before c.args.port c.args.moment.seconds meter _ _ _ _ _ _ _ _ first old new
     one one.ends_so.0 c.rounds.invariant.budget (λ behind ch a. c.in_ok-more.ensures.went meter origin state behind ch a)
-    (λ more last e. let is = e.0.last_is ∙ ap (λ (b : Bool). record { due = goes_on b; link = link_by (g.B.Bus.lost c.ask_and_hear.new.bus) }) c.if-not-more.true in (
-      (inl (ap (λ (p : Phase). p.due) is), ap (λ (p : Phase). p.link) is),
+    (λ more last e. (
+      e.0 ∙ ap (λ (b : Bool). record { due = goes_on b; link = link_by (g.B.Bus.lost c.ask_and_hear.new.bus) }) c.if-not-more.true,
       tt,
-      exchanged_after g.B.Bus.asks c.args.bus.now c.rounds.bus c.ask_and_hear.new.bus one.happened more one.ends_so.2 e.2,
+      exchanged_after g.B.Bus.asks c.args.bus.now c.rounds.bus c.ask_and_hear.new.bus one.happened more one.ends_so.1 e.2,
     ))
     (λ text more p q. puts-both (w c.args.out.now) (w c.rounds.out) (w c.ask_and_hear.new.out) text more p q)
 
@@ -82,7 +80,7 @@ returns-in_err-more-clause-went g c meter origin state before chain at =
     (λ more last e. (
       tt,
       fails_after g.W.Sink c.args.port c.args.out.now c.rounds.out c.ask_and_hear.new.out one.happened more one.text c.rounds.invariant.well e.1,
-      exchanged_after g.B.Bus.asks c.args.bus.now c.rounds.bus c.ask_and_hear.new.bus one.happened more one.ends_so.2 e.2,
+      exchanged_after g.B.Bus.asks c.args.bus.now c.rounds.bus c.ask_and_hear.new.bus one.happened more one.ends_so.1 e.2,
     ))
     (λ text more p q. tt))
 
@@ -98,21 +96,3 @@ returns-in_err-more-clause-budget g c =
 pub returns-in_err-more-clause-untouched : goal.returns-in_err-more-clause-untouched
 returns-in_err-more-clause-untouched g c =
     untouched_both g.B.Bus.lost c.args.bus.now c.rounds.bus c.ask_and_hear.new.bus c.rounds.invariant.untouched c.ask_and_hear.ensures.untouched
-
-pub returns-clause-went : goal.returns-clause-went
-returns-clause-went g c meter origin state before chain at =
-    let one = c.rounds.invariant.so_far meter origin state before chain at in
-    way_as g.D.Disk origin c.args.concentrator.now.house.budget state before c.args.port c.args.moment.seconds meter _ _ _ _ _ c.args.concentrator.now c.rounds.concentrator one
-    (λ happened last e. ((inr (let counted = e.1 in let at_end = c.rounds-test.false in let within = c.rounds.auto.counter-end in omega (arith, counted, at_end, within)), ap (λ (p : Phase). p.link) e.0), tt, e.2)) (λ text p. p)
-
-pub returns-clause-well : goal.returns-clause-well
-returns-clause-well g c =
-    c.rounds.invariant.well
-
-pub returns-clause-budget : goal.returns-clause-budget
-returns-clause-budget g c =
-    c.rounds.invariant.budget
-
-pub returns-clause-untouched : goal.returns-clause-untouched
-returns-clause-untouched g c =
-    c.rounds.invariant.untouched

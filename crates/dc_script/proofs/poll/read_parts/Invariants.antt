@@ -6,9 +6,10 @@ use Rattle.dc_concentrator.specs.Images.{IsAt}
 use Rattle.dc_concentrator.specs.Transcript.{Turn, leads, IsChain}
 use Rattle.dc_bus.specs.Bus.{AreExchanged}
 use Rattle.dc_io.specs.Stream.{Puts}
+use Rattle.dc_pending.specs.Lines.{requests_on}
 use Rattle.dc_script.specs.Run.{run_of}
 use Rattle.dc_script.specs.Link.{link_by}
-use Rattle.dc_script.specs.Poll.{to_ask, happened_exchanges, rounds_in}
+use Rattle.dc_script.specs.Poll.{to_ask, happened_exchanges}
 use Rattle.dc_script.specs.Way.{Way}
 use Rattle.dc_script.proofs.poll.read_parts.Given as goal
 
@@ -18,6 +19,10 @@ invariant-rounds g l = record {
   well : g.W.Sink.put_failures l.out ≡ g.W.Sink.put_failures l.fn.out;
   untouched : g.B.Bus.lost l.fn.bus ≡ true → l.bus ≡ l.fn.bus;
   so_far : (meter : Identity) (origin : g.row.D.Denot) (state : State) (before : List Turn) → IsChain l.fn.concentrator.house.budget (opened state) before → IsAt g.D.Disk origin l.fn.concentrator (leads (opened state) before)
-      → Way g.D.Disk (run_of origin l.fn.concentrator.house.budget state before l.fn.concentrator l.concentrator) l.port l.moment.seconds meter (record { due = to_ask; link = link_by (g.B.Bus.lost l.fn.bus) }) (λ happened last. (last ≡ record { due = to_ask; link = link_by (g.B.Bus.lost l.bus) }) × (rounds_in happened ≡ l.counter)
+      → Way g.D.Disk (run_of origin l.fn.concentrator.house.budget state before l.fn.concentrator l.concentrator) l.port l.moment.seconds meter (record { due = to_ask; link = link_by (g.B.Bus.lost l.fn.bus) }) (λ happened last. (last ≡ record { due = to_ask; link = link_by (g.B.Bus.lost l.bus) })
       × AreExchanged g.B.Bus.asks l.fn.bus (happened_exchanges happened) l.bus) (Puts (g.W.Sink.written l.fn.out) (g.W.Sink.written l.out));
 }
+
+-- each round takes away one of the requests that the line's session may make
+abbrev pub decreases-rounds : goal.decreases-rounds
+decreases-rounds g l = requests_on l.port.line l.concentrator.lines

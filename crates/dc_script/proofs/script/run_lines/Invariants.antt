@@ -1,5 +1,5 @@
 use Rattle.std.proofs.Common.{◌≡◌, ◌≤◌, ◌+◌, ◌*◌, length}
-use Rattle.dc_change.specs.Valid.{last_moment}
+use Rattle.dc_change.specs.Fields.{last_moment}
 use Rattle.dc_io.specs.Stream.{Puts}
 use Rattle.dc_io.specs.Lines.{lines_of, longest_input_line}
 use Rattle.dc_script.specs.Link.{AreAbsent, links_of}

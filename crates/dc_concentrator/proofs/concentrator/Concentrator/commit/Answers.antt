@@ -8,6 +8,7 @@ use Rattle.dc_pending.specs.Images.{StandsForFront}
 use Rattle.dc_log.specs.Store.{Fits, Opened}
 use Rattle.dc_log.proofs.Fronts.{either_is_front}
 use Rattle.dc_register.specs.Language.{register}
+use Rattle.dc_pending.specs.Lines.{NoMoreRequests}
 use Rattle.dc_pending.specs.Writing.{IsWornFor}
 use Rattle.dc_concentrator.specs.Core.{Core}
 use Rattle.dc_concentrator.specs.Images.{Machine, IsAt}
@@ -69,7 +70,7 @@ returns-in-Ok-clause-at g c origin core at =
     at_committed g.D.Disk origin (inside g from) new core at'
     (λ e. c.if-count-eq0.false (c.count-count.ensures.count ∙ e)) runs c.in-Ok.ensures.goes_on
     (λ h. c.in-Ok.ensures.kept core.committed core.pending (at'.keeps h (sym at'.stopped_is ∙ runs)) at'.spells accepted at'.house_is)
-    refl c.clear.ensures c.settle.ensures
+    refl c.clear.ensures c.settle.ensures.exact
 
 pub returns-in-Ok-clause-any_moment : goal.returns-in-Ok-clause-any_moment
 returns-in-Ok-clause-any_moment g c origin h core at =
@@ -121,3 +122,7 @@ returns-in-Err-Stopped-clause-any_moment g c origin h core at =
     let begun = started g.D.Disk disk P (λ image left. (at_inside g from origin core at).leaves h image (g.met.D.Disk.only_now disk image left)) in
     let ended = subst (λ (s : Opened (g.row.D.Denot)). LeavesOnly g.D.Disk disk s.disk P) (sym same) begun in
     subst (λ (b : Machine (g.row.D.Denot)). LeavesOnly g.D.Disk b.store.disk c.write_waiting.new.store.disk (StandsForFront (half_of g.D.Disk b.store.disk) core.committed core.pending)) c.self.view_is ended
+
+pub returns-in-Ok-clause-no_more : goal.returns-in-Ok-clause-no_more
+returns-in-Ok-clause-no_more g c =
+    subst (λ (b : Machine (g.row.D.Denot)). NoMoreRequests b.lines c.settle.new.self) c.self.view_is c.settle.ensures.no_more

@@ -1,4 +1,4 @@
-use Rattle.std.proofs.Common.{◌≡◌, ap, sym, subst, ◌∙◌, refl, arith, ℕ, true, false, length, Option, Some, None, Result, Err}
+use Rattle.std.proofs.Common.{◌≡◌, ◌<◌, ap, sym, subst, ◌∙◌, refl, arith, ℕ, true, false, length, List, Option, Some, None, Result, Err}
 use Rattle.std.specs.Prelude.{is_some}
 use Rattle.std.proofs.lemmas.Result.{err_from_is_err_and}
 use Rattle.std.proofs.lemmas.Grind.{common_steps}
@@ -10,7 +10,9 @@ use Rattle.dc_concentrator.proofs.Refused.{answer_is, by_refusal}
 use Rattle.dc_record.specs.Telegram.{parsed}
 use Rattle.dc_readout.specs.Summary.{Summary, again, ready, new, failed, heard_by, asked_by}
 use Rattle.dc_concentrator.specs.declared.line_heard.LineHeard.TheVariants.{Again, Ready, Accepted, Failed}
-use Rattle.dc_pending.specs.Lines.{is_line, on_line, put_on}
+use Rattle.dc_readout.specs.Bound.{requests_left}
+use Rattle.dc_pending.specs.Lines.{is_line, on_line, put_on, requests_of, requests_on, NoMoreRequests}
+use Rattle.dc_pending.proofs.Requests.{put_fewer, put_no_more}
 use Rattle.dc_concentrator.specs.Step.{hear_answer, unless_refused, MayHear}
 use Rattle.dc_concentrator.specs.Fault.{hear_fault}
 use Rattle.dc_pending.specs.declared.fault.TakeFault.{TakeFault}
@@ -109,3 +111,59 @@ returns-in_ok-take-in-New-clause-at g c origin core at =
     let taken = subst (λ (w : Waiting). IsTaken c.args.self.now.house now.house w now.waiting change) is.waiting
     (subst (λ (h : Held). IsTaken h now.house c.self.inside.waiting now.waiting change) is.house c.in_ok-take-in-New.ensures.ok) in
     at_taken g.D.Disk origin c.args.self.now now core c.args.line c.args.moment.seconds c.args.answer.now s v change (Accepted c.in-New.part c.more_follows-more.result) at is.who (sym c.in-New.ensures.exact) refl is.store taken there
+
+-- the line's session is replaced by one that may make one request less
+fewer_by : (line : ℕ) (old inside now : List (Option Summary)) (s : Summary) (session : Option Summary) → inside ≡ old → on_line line old ≡ Some s → now ≡ put_on line session inside → requests_of session < requests_left s
+    → requests_on line now < requests_on line old
+fewer_by line old inside now s session same who put less =
+    let is : now ≡ put_on line session old = put ∙ ap (put_on line session) same in
+    subst (λ (lines : List (Option Summary)). requests_on line lines < requests_on line old) (sym is) (put_fewer line old s session who less)
+
+no_more_by : (line : ℕ) (old inside now : List (Option Summary)) (s : Summary) (session : Option Summary) → inside ≡ old → on_line line old ≡ Some s → now ≡ put_on line session inside → requests_of session < requests_left s
+    → NoMoreRequests old now
+no_more_by line old inside now s session same who put less =
+    let is : now ≡ put_on line session old = put ∙ ap (put_on line session) same in
+    let was : requests_on line old ≡ requests_left s = ap requests_of who in
+    subst (NoMoreRequests old) (sym is) (put_no_more line old session (omega (arith, less, was)))
+
+pub returns-in-Again-clause-fewer : goal.returns-in-Again-clause-fewer
+returns-in-Again-clause-fewer g c =
+    let is = is_heard g (goal.at.returns-in-Again-clause-fewer g c).After-hear in
+    fewer_by c.args.line c.args.self.now.lines c.self.inside.lines c.put.new.self c.in-Some.session (Some _) is.lines is.who c.put.ensures c.in-Again.ensures.fewer
+
+pub returns-in-Again-clause-no_more : goal.returns-in-Again-clause-no_more
+returns-in-Again-clause-no_more g c =
+    let is = is_heard g (goal.at.returns-in-Again-clause-no_more g c).After-hear in
+    no_more_by c.args.line c.args.self.now.lines c.self.inside.lines c.put.new.self c.in-Some.session (Some _) is.lines is.who c.put.ensures c.in-Again.ensures.fewer
+
+pub returns-in-Ready-clause-fewer : goal.returns-in-Ready-clause-fewer
+returns-in-Ready-clause-fewer g c =
+    let is = is_heard g (goal.at.returns-in-Ready-clause-fewer g c).After-hear in
+    fewer_by c.args.line c.args.self.now.lines c.self.inside.lines c.put-in-Ready.new.self c.in-Some.session (Some _) is.lines is.who c.put-in-Ready.ensures c.in-Ready.ensures.fewer
+
+pub returns-in-Ready-clause-no_more : goal.returns-in-Ready-clause-no_more
+returns-in-Ready-clause-no_more g c =
+    let is = is_heard g (goal.at.returns-in-Ready-clause-no_more g c).After-hear in
+    no_more_by c.args.line c.args.self.now.lines c.self.inside.lines c.put-in-Ready.new.self c.in-Some.session (Some _) is.lines is.who c.put-in-Ready.ensures c.in-Ready.ensures.fewer
+
+pub returns-in_ok-take-in-New-clause-fewer : goal.returns-in_ok-take-in-New-clause-fewer
+returns-in_ok-take-in-New-clause-fewer g c =
+    let is = is_heard g (goal.at.returns-in_ok-take-in-New-clause-fewer g c).After-hear in
+    fewer_by c.args.line c.args.self.now.lines c.self.inside.lines c.put-in-New.new.self c.in-Some.session (Some _) is.lines is.who c.put-in-New.ensures c.in-New.ensures.fewer
+
+pub returns-in_ok-take-in-New-clause-no_more : goal.returns-in_ok-take-in-New-clause-no_more
+returns-in_ok-take-in-New-clause-no_more g c =
+    let is = is_heard g (goal.at.returns-in_ok-take-in-New-clause-no_more g c).After-hear in
+    no_more_by c.args.line c.args.self.now.lines c.self.inside.lines c.put-in-New.new.self c.in-Some.session (Some _) is.lines is.who c.put-in-New.ensures c.in-New.ensures.fewer
+
+pub returns-in-Failed-clause-fewer : goal.returns-in-Failed-clause-fewer
+returns-in-Failed-clause-fewer g c =
+    let is = is_heard g (goal.at.returns-in-Failed-clause-fewer g c).After-hear in
+    let less = c.in-Failed.ensures.fewer in
+    fewer_by c.args.line c.args.self.now.lines c.self.inside.lines c.put-in-Failed.new.self c.in-Some.session None is.lines is.who c.put-in-Failed.ensures (omega (arith, less))
+
+pub returns-in-Failed-clause-no_more : goal.returns-in-Failed-clause-no_more
+returns-in-Failed-clause-no_more g c =
+    let is = is_heard g (goal.at.returns-in-Failed-clause-no_more g c).After-hear in
+    let less = c.in-Failed.ensures.fewer in
+    no_more_by c.args.line c.args.self.now.lines c.self.inside.lines c.put-in-Failed.new.self c.in-Some.session None is.lines is.who c.put-in-Failed.ensures (omega (arith, less))

@@ -1,4 +1,4 @@
-use Rattle.std.proofs.Common.{rules, ◌≡◌, ℕ, ◌≤◌, length, arith, sym}
+use Rattle.std.proofs.Common.{rules, ◌≡◌, ◌≤◌, length, arith, sym}
 use Rattle.std.proofs.lemmas.Grind.{common_steps}
 use Rattle.std.proofs.lemmas.List.{length-take-le}
 use Rattle.dc_files.proofs.copied.CopiedFileExt.read_at.Goals as goal

@@ -2,7 +2,7 @@ use Rattle.std.proofs.Common.{◌≡◌, ◌+◌, ◌-◌, ◌<◌, ◌≤◌, [
 use Rattle.dc_change.specs.State.{State, Held, MeterRow, ReadingRow, row_of}
 use Rattle.dc_change.specs.Accepts.{continues}
 use Rattle.dc_change.specs.Apply.{heard, joined}
-use Rattle.dc_change.specs.Valid.{end_of_numbers}
+use Rattle.dc_change.specs.Fields.{end_of_numbers}
 use Rattle.dc_change.specs.Size.{size_of}
 use Rattle.dc_register.specs.Kept.{IsKept}
 use Rattle.dc_register.proofs.Fields.{state_in}

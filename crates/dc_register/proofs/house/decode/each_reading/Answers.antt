@@ -1,5 +1,6 @@
 use Rattle.std.proofs.lemmas.Result.{err_from_is_err_and}
-use Rattle.dc_change.specs.Reading.{many, reading_at}
+use Rattle.dc_change.specs.Pieces.{many}
+use Rattle.dc_change.specs.Reading.{reading_at}
 use Rattle.dc_register.proofs.Counts.{ends, is_done}
 use Rattle.dc_change.proofs.Runs.{bad_exit}
 use Rattle.dc_register.proofs.Lists.{no_readings, reading_refused, reading_kept}

@@ -1,0 +1,27 @@
+-- How a poll and a script end (this product), where what they print may be lost: a full disk of a log.
+use Rattle.std.specs.Prelude.{◌≡◌, ◌==◌, ℕ, Bool, true, false, List, codes, Option, None, Some, Result, Ok, Err}
+use Rattle.dc_concentrator.specs.declared.fault.CommitFault.{CommitFault}
+use Rattle.dc_ending.specs.Outcome.{IsOfFile, StopsAs}
+use Rattle.dc_ending.specs.declared.ending.Ending.{Ending}
+use Rattle.dc_ending.specs.declared.ending.Ending.TheVariants.{Clean, Faulty, Disk}
+use Rattle.dc_ending.specs.declared.fault.ProgramFault.{ProgramFault}
+use Rattle.dc_ending.specs.declared.fault.ProgramFault.TheVariants.{Read, TooLong, Write, NoMemory, Open}
+use Rattle.dc_poll.specs.declared.outcome.Outcome.{Outcome}
+
+-- A failed commit comes first, then lost output, and then a meter that wasn't read.
+abbrev pub EndsBy : Option CommitFault → (is_printed is_read : Bool) → Ending → Type 0
+EndsBy (Some fault) is_printed is_read ending = ending ≡ Disk fault
+EndsBy None false is_read ending = IsOfFile ending (codes "-")
+EndsBy None true true ending = ending ≡ Clean
+EndsBy None true false ending = ending ≡ Faulty
+
+-- THE ENDING OF A POLL. Where it stopped it is that of the fault, whatever was printed.
+abbrev pub PollEnds : Result Outcome ProgramFault → Bool → List ℕ → Ending → Type 0
+PollEnds (Ok outcome) is_printed image ending =
+    EndsBy outcome.fault is_printed (outcome.failed == 0) ending
+PollEnds (Err fault) is_printed image ending = StopsAs fault image ending
+
+-- The result of a script of which all that was held back of its text is written, or isn't.
+abbrev pub run_result : Result Bool ProgramFault → (is_written : Bool) → Result Bool ProgramFault
+run_result result true = result
+run_result result false = Err Write

@@ -1,0 +1,23 @@
+//! The links of a command.
+
+ghost use Rattle.std.specs.Prelude.{◌≡◌, ◌⊎◌, IfErr, IfOk, Ok};
+
+use dc_ending::Ending;
+use dc_files::Why;
+use dc_reach::Unconnected;
+use std::io;
+
+/// The links that were connected, or the ending of the command without them.
+pub fn links_of<'a, P: Drop>(
+    why: &Why,
+    peers: Result<Vec<Option<P>>, Unconnected<io::Error>>,
+) -> Result<Vec<Option<P>>, Ending<'a>>
+    ensures all { IfOk result (λ links. peers ≡ Ok links) }
+    ensures none { IfErr result (λ ending. (ending ≡ Ending.Gateway) ⊎ (ending ≡ Ending.Memory)) }
+{
+    match peers {
+        Ok(peers) => Ok(peers),
+        Err(Unconnected::Link(missed)) => Err(why.link(Some(missed.line), missed.why)),
+        Err(Unconnected::NoMemory) => Err(Ending::Memory),
+    }
+}

@@ -1,0 +1,20 @@
+//! The commands `poll` and `run`, once their files and links are open: the poll or the script goes over what the
+//! caller has opened, is printed, and ends.
+//!
+//! [`poll_over`] reads the meters of an image over the buses of their lines, and [`run_over`] runs a script over one.
+//! [`poll_ending`] says which exit status results. A [`Waits`] waits for the buses that are awaited.
+#![tactic(auto)]
+
+mod connecting;
+mod ending;
+mod poll;
+mod run;
+mod timer;
+mod waiting;
+
+pub use connecting::links_of;
+pub use ending::{poll_ending, run_result};
+pub use poll::{Printing, poll_over};
+pub use run::{run_over, run_over_gateway};
+pub use timer::HostTimer;
+pub use waiting::{Waits, add_awaited};

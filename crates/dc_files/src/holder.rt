@@ -1,0 +1,72 @@
+//! Which process holds the lock of a file.
+
+use std::fs::File;
+use std::io::Read;
+use std::os::unix::fs::MetadataExt;
+use std::rt::Files;
+use std::{fs, str};
+
+// The locks that Linux shows (proc(5)), a line each: `1: FLOCK  ADVISORY  WRITE 4711 fd:01:131 0 EOF`.
+const LOCKS: &str = "/proc/locks";
+
+// Number of bytes of it that are looked at.
+const ROOM: usize = 16_384;
+
+// Number of reads: the system gives a page or less at a time.
+const READS: usize = 64;
+
+/// The process that holds a lock of the file of that name (`flock` of Linux), where the system shows it. A file system
+/// that shows its files under another device than its locks hides it, and so does another process namespace.
+pub fn holder_of<R: Files<File = File>>(rt: &R, name: &str) -> Option<u32> {
+    let about = fs::metadata(rt, name).ok()?;
+    let mut room = [0; ROOM];
+    let count = read_locks(rt, &mut room)?;
+    let text = str::from_utf8(&room[..count.min(ROOM)]).ok()?;
+    for line in text.lines() {
+        let process = process_in(line, about.dev(), about.ino());
+        if process.is_some() {
+            return process;
+        }
+    }
+    None
+}
+
+// Reads what the system shows, as far as there is room.
+fn read_locks<R: Files<File = File>>(rt: &R, room: &mut [u8]) -> Option<usize> {
+    let mut file = fs::open(rt, LOCKS).ok()?;
+    let mut count: usize = 0;
+    for _ in 0..READS {
+        let at = count.min(room.len());
+        match file.read(&mut room[at..]) {
+            Ok(0) | Err(_) => break,
+            Ok(more) => count = count.saturating_add(more),
+        }
+    }
+    Some(count)
+}
+
+// The process of a line, if it holds a lock of this file. A line of one that waits has `->` before the kind.
+fn process_in(line: &str, device: u64, inode: u64) -> Option<u32> {
+    let mut words = line.split_whitespace().skip(1);
+    if words.next() != Some("FLOCK") {
+        return None;
+    }
+    let mut words = words.skip(2);
+    let process = words.next()?.parse::<u32>().ok()?;
+    let mut place = words.next()?.split(':');
+    let major = u64::from_str_radix(place.next()?, 16).ok()?;
+    let minor = u64::from_str_radix(place.next()?, 16).ok()?;
+    let number = place.next()?.parse::<u64>().ok()?;
+    if process > 0 && number == inode && (major, minor) == parts_of(device) {
+        Some(process)
+    } else {
+        None
+    }
+}
+
+// The two numbers of a device, as the C library splits them.
+fn parts_of(device: u64) -> (u64, u64) {
+    let major = ((device >> 8) & 0xFFF) | ((device >> 32) & 0xFFFF_F000);
+    let minor = (device & 0xFF) | ((device >> 12) & 0xFFFF_FF00);
+    (major, minor)
+}

@@ -1,0 +1,194 @@
+//! Finds the one meter with an identification number.
+
+ghost use Rattle.std.specs.Prelude.{◌≡◌, ◌≤◌, ◌+◌, ◌&&◌, ◌++◌, Some, length, map, not};
+ghost use Rattle.dc_frame.specs.Frame.{spelling};
+ghost use Rattle.dc_installer.specs.Number.{IsFound, Tries, digit_of, ending, has_number, having};
+ghost use Rattle.dc_installer.specs.Number.{between, selection_to, unfound_text, with_number};
+ghost use Rattle.dc_io.specs.Written.{Wrote};
+ghost use Rattle.dc_misses.specs.Misses.{and_missed, is_silent};
+ghost use Rattle.dc_search.specs.Prefix.{mask_of_digits};
+
+use crate::primary::{ask_telegram, sender_of};
+use dc_address::{Identity, Mask};
+use dc_bus::{AnswerBuf, Bus};
+use dc_frame::FrameBuf;
+use dc_frame::control::{SELECTED, write_selection};
+use dc_io::{IoFault, Sink};
+use dc_misses::Misses;
+use dc_search::Branch;
+
+// Number of tries.
+const TRIES: u8 = 3;
+
+/// What came of asking for the meter of a number.
+#[derive(Clone, Copy, Debug, PartialEq, Eq)]
+pub enum Numbered {
+    /// One meter answered, and has the number.
+    One(Identity),
+    /// Bytes came to each selection and to each request, and no telegram of a meter with the number: several meters
+    /// have it, or the line is disturbed. This is what the tries brought.
+    Shared(Misses),
+    /// No meter with the number was heard. This is what the tries brought.
+    Nobody(Misses),
+}
+
+/// Finds the one meter with a number, of eight digits in ASCII: selects it, with wildcards for manufacturer, version and
+/// type (EN 13757-3), and requests its telegram, which the meter repeats to the next readout. It tries three times.
+pub fn find_number<B: Bus>(bus: &mut B, digits: &[u8; 8]) -> Numbered
+    ensures { IsFound B.asks digits.now bus.old result bus.new }
+{
+    try_on(bus, digits, TRIES, true, Misses::none())
+}
+
+// The tries that are left, after failed ones that brought this, and each of which collided or not.
+fn try_on<B: Bus>(
+    bus: &mut B,
+    digits: &[u8; 8],
+    left: u8,
+    collided: bool,
+    misses: Misses,
+) -> Numbered
+    ensures { Tries B.asks digits.now left collided misses bus.old result bus.new }
+{
+    if left == 0 {
+        return ending(collided, misses);
+    }
+    let answer = ask_selection(bus, digits);
+    if is_silent(&answer) {
+        return try_on(bus, digits, left - 1, false, and_missed(&answer, misses));
+    }
+    let telegram = ask_telegram(bus, SELECTED);
+    match with_number(&telegram, digits) {
+        Some(meter) => Numbered::One(meter),
+        None => {
+            let collided = have_collided(collided, &telegram);
+            try_on(
+                bus,
+                digits,
+                left - 1,
+                collided,
+                and_missed(&telegram, misses),
+            )
+        }
+    }
+}
+
+fn is_silent(answer: &AnswerBuf) -> bool
+    ensures { result ≡ is_silent answer.now }
+{
+    answer.as_slice().is_empty()
+}
+
+// Whether each try up to this one collided.
+fn have_collided(collided: bool, telegram: &AnswerBuf) -> bool
+    ensures { result ≡ (collided && not (is_silent telegram.now)) }
+{
+    collided && !is_silent(telegram)
+}
+
+// The counts, and one failed try more.
+fn and_missed(answer: &AnswerBuf, misses: Misses) -> Misses
+    ensures { result ≡ and_missed answer.now misses }
+{
+    let mut misses = misses;
+    misses.count(answer.as_slice());
+    misses
+}
+
+// What came of tries without a meter.
+fn ending(collided: bool, misses: Misses) -> Numbered
+    ensures { result ≡ ending collided misses }
+{
+    if collided {
+        Numbered::Shared(misses)
+    } else {
+        Numbered::Nobody(misses)
+    }
+}
+
+fn ask_selection<B: Bus>(bus: &mut B, digits: &[u8; 8]) -> AnswerBuf
+    ensures { B.asks bus.old (spelling (selection_to digits.now)) result bus.new }
+{
+    let mut request = FrameBuf::new();
+    write_selection(&mask_of(digits).wire(), &mut request);
+    bus.ask(&request)
+}
+
+// The mask of all meters with a number.
+fn mask_of(digits: &[u8; 8]) -> Mask
+    ensures { result ≡ mask_of_digits (map digit_of digits.now) }
+{
+    fix(Branch::root(), digits).mask()
+}
+
+// The mask with these digits fixed next.
+#[tactic(auto, using(crate::proofs::Numbers::fixed_first))]
+fn fix(branch: Branch, codes: &[u8]) -> Branch
+    requires { length branch + length codes.now ≤ 8 }
+    ensures { result ≡ branch ++ map digit_of codes.now }
+{
+    match codes.split_first() {
+        Some((code, more)) => fix(branch.child(digit_of(*code)), more),
+        None => branch,
+    }
+}
+
+// The digit of its code.
+fn digit_of(code: u8) -> u8
+    ensures exact { result ≡ digit_of code }
+    ensures digit { result ≤ 9 }
+{
+    code.saturating_sub(b'0') % 10
+}
+
+// The meter of a telegram, if it has the number.
+fn with_number(telegram: &AnswerBuf, digits: &[u8; 8]) -> Option<Identity>
+    ensures { result ≡ with_number digits.now telegram.now }
+{
+    match sender_of(telegram) {
+        Some(meter) => having(&meter, digits),
+        None => None,
+    }
+}
+
+fn having(meter: &Identity, digits: &[u8; 8]) -> Option<Identity>
+    ensures { result ≡ having digits.now (Some meter.now) }
+{
+    if has_number(meter, digits) {
+        Some(*meter)
+    } else {
+        None
+    }
+}
+
+fn has_number(meter: &Identity, digits: &[u8; 8]) -> bool
+    ensures { result ≡ has_number digits.now meter.now }
+{
+    meter.text().starts_with(digits)
+}
+
+/// Prints that a number names no one meter: `SHARED 12345678`, or `FAILED 1 NoAnswer`.
+pub fn put_unfound<W: Sink>(digits: &[u8; 8], is_shared: bool, out: &mut W) -> Result<(), IoFault>
+    ensures { Wrote W.Sink result out.old out.new (unfound_text digits.now is_shared) }
+{
+    if is_shared {
+        put_between(b"SHARED ", digits, b"\n", out)
+    } else {
+        out.put(b"FAILED 1 NoAnswer\n")
+    }
+}
+
+// Writes a text, with what stands before it and after it.
+#[tactic(auto, using(dc_io::proofs::Pieces::written), unfolding(crate::specs::Number::between))]
+fn put_between<W: Sink>(
+    before: &[u8],
+    text: &[u8],
+    after: &[u8],
+    out: &mut W,
+) -> Result<(), IoFault>
+    ensures { Wrote W.Sink result out.old out.new (between before.now text.now after.now) }
+{
+    out.put(before)?;
+    out.put(text)?;
+    out.put(after)
+}

@@ -1,0 +1,41 @@
+-- What one telegram reports: its fields, and its current values, one record after the other.
+use Rattle.std.proofs.Common.{◌≡◌, ℕ, List, [], ◌∷◌, ◌++◌, ap, sym, ◌∙◌, append-nil}
+use Rattle.std.specs.List.{flat_map}
+use Rattle.std.proofs.lemmas.List.Concat.{flat_map-append}
+use Rattle.json.specs.Json.{Json}
+use Rattle.json.specs.Token.{Token}
+use Rattle.dc_record.specs.Record.{Entry}
+use Rattle.dc_record.specs.Telegram.{Parsed}
+use Rattle.dc_record.specs.declared.header.Header.{Header}
+use Rattle.dc_value.specs.Point.{seen_of}
+use Rattle.dc_value.specs.declared.point.Point.{Point}
+use Rattle.dc_value.specs.declared.point.Seen.{Seen}
+use Rattle.dc_value.specs.declared.point.Seen.TheVariants.{Point as Known, Other}
+use Rattle.dc_register.specs.Points.{points_in, shown}
+use Rattle.dc_tokens.specs.Object.{fields_tokens, values_tokens}
+use Rattle.dc_tokens.proofs.Objects.{fields-around, no_values, values-append}
+use Rattle.dc_json.specs.Reported.{reported_fields}
+use Rattle.dc_json.specs.Values.{current_of, moment_fields, status_field, values_field}
+
+-- one record more
+pub first_record : (e : Entry) (records : List Entry)
+    → values_tokens (flat_map current_of (points_in (e ∷ records))) ≡ values_tokens (flat_map current_of (shown (seen_of e))) ++ values_tokens (flat_map current_of (points_in records))
+first_record e records =
+    ap (λ (values : List Json). values_tokens values) (flat_map-append current_of (shown (seen_of e)) (points_in records))
+    ∙ values-append (flat_map current_of (shown (seen_of e))) (flat_map current_of (points_in records))
+
+pub point_told : (seen : Seen) (p : Point) → seen ≡ Known p → values_tokens (current_of p) ≡ values_tokens (flat_map current_of (shown seen))
+point_told seen p is =
+    ap (λ (values : List Json). values_tokens values) (sym (append-nil (current_of p))) ∙ ap (λ (s : Seen). values_tokens (flat_map current_of (shown s))) (sym is)
+
+pub none_told : (seen : Seen) → seen ≡ Other → [] ≡ values_tokens (flat_map current_of (shown seen))
+none_told seen is = sym no_values ∙ ap (λ (s : Seen). values_tokens (flat_map current_of (shown s))) (sym is)
+
+pub reported_as : (moment : ℕ) (header : Header) (records : List Entry) (t : Parsed) → header ≡ t.header → records ≡ t.records
+    → fields_tokens (moment_fields moment) ++ (fields_tokens (status_field header.status ∷ []) ++ (fields_tokens (values_field (points_in records) ∷ []) ++ [])) ≡ fields_tokens (reported_fields moment t)
+unfolding reported_fields
+reported_as moment header records t same listed =
+    ap (λ (ts : List Token). fields_tokens (moment_fields moment) ++ (fields_tokens (status_field header.status ∷ []) ++ ts)) (append-nil (fields_tokens (values_field (points_in records) ∷ [])))
+    ∙ sym (fields-around (moment_fields moment) (status_field header.status) (values_field (points_in records) ∷ []))
+    ∙ ap (λ (h : Header). fields_tokens (moment_fields moment ++ (status_field h.status ∷ values_field (points_in records) ∷ []))) same
+    ∙ ap (λ (es : List Entry). fields_tokens (moment_fields moment ++ (status_field t.header.status ∷ values_field (points_in es) ∷ []))) listed

@@ -1,0 +1,12 @@
+use Rattle.dc_record.specs.Telegram.{parsed}
+use Rattle.dc_tokens.specs.Object.{fields_tokens}
+use Rattle.dc_tokens.proofs.Adding.{◌>>◌, unchanged, said}
+use Rattle.dc_json.specs.Reported.{reported_fields}
+use Rattle.dc_json.proofs.Telegrams.{reported_as}
+use Rattle.dc_json.proofs.reported.put_reported.Goals as goal
+
+pub returns : goal.returns
+returns g c =
+    said (fields_tokens (reported_fields c.args.moment (parsed c.args.telegram.now)))
+    (c.put_moment.ensures >> c.put_status.ensures >> c.put_values.ensures >> unchanged)
+    (reported_as c.args.moment c.header.result c.records.result (parsed c.args.telegram.now) c.header.ensures.value c.records.ensures.list)

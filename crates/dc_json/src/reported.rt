@@ -1,0 +1,63 @@
+//! What one telegram reports, as fields of an object.
+
+ghost use Rattle.std.specs.Prelude.{◌≡◌, ◌≤◌, ◌∷◌, []};
+ghost use Rattle.std.specs.List.{flat_map};
+ghost use Rattle.dc_record.specs.Record.{view};
+ghost use Rattle.dc_record.specs.Telegram.{parsed};
+ghost use Rattle.dc_value.specs.Point.{seen_of};
+ghost use Rattle.dc_change.specs.Fields.{last_moment};
+ghost use Rattle.dc_register.specs.Points.{points_in, shown};
+ghost use Rattle.dc_tokens.specs.Writing.{Added};
+ghost use Rattle.dc_tokens.specs.Object.{fields_tokens, values_tokens};
+ghost use Rattle.dc_json.specs.Values.{current_of, values_field};
+ghost use Rattle.dc_json.specs.Reported.{reported_fields};
+
+use crate::values::{put_if_current, put_moment, put_status};
+use dc_io::Sink;
+use dc_record::{Record, Records, Telegram};
+use dc_tokens::TokenWriter;
+use dc_value::{Seen, point_of};
+
+/// Writes the fields of a reading that a telegram received at this moment has: `moment`, `utc`,
+/// `status` and `values`, as [`values_json`](crate::values_json) writes them.
+pub fn put_reported<W: Sink>(out: &mut TokenWriter<'_, W>, moment: u64, telegram: &Telegram<'_>)
+    requires { moment ≤ last_moment }
+    ensures { Added W.Sink out.old out.new
+        (fields_tokens (reported_fields moment (parsed telegram.now))) }
+{
+    put_moment(out, moment);
+    put_status(out, telegram.header().status);
+    put_values(out, telegram.records());
+}
+
+// Writes the field of the current values.
+fn put_values<W: Sink>(out: &mut TokenWriter<'_, W>, records: Records<'_>)
+    ensures { Added W.Sink out.old out.new
+        (fields_tokens (values_field (points_in records.entry) ∷ [])) }
+{
+    out.put_name("values");
+    out.begin_array();
+    put_records(out, records);
+    out.end_array();
+}
+
+// Writes the current values among records.
+fn put_records<W: Sink>(out: &mut TokenWriter<'_, W>, records: Records<'_>)
+    ensures { Added W.Sink out.old out.new
+        (values_tokens (flat_map current_of (points_in records.entry))) }
+{
+    'records: for found in records {
+        put_record(out, &found);
+    }
+}
+
+// Writes the value of a record, if it is current.
+fn put_record<W: Sink>(out: &mut TokenWriter<'_, W>, found: &Record<'_>)
+    ensures { Added W.Sink out.old out.new
+        (values_tokens (flat_map current_of (shown (seen_of (view found.now))))) }
+{
+    match point_of(found) {
+        Seen::Point(point) => put_if_current(out, &point),
+        Seen::Other => {}
+    }
+}
