@@ -9,8 +9,8 @@ use dc_script::{Slot, run_script, run_script_over};
 use std::alloc::Global;
 use std::io::{LineWriter, Read, Write};
 
-/// Runs the lines of a file over a disk, with the buses of the bus lines. Each line of text is printed as it is whole: a
-/// readout takes seconds, and what was committed is printed also where the run is killed later.
+/// Runs the lines of a file over a disk, with the buses of the bus lines. Each line of text is printed as it is
+/// whole: a readout takes seconds, and what was committed is printed also where the run is killed later.
 ///
 /// # Errors
 /// Those of [`run_script_over`]; [`ProgramFault::Write`] also where what the writer holds back can't be written out.

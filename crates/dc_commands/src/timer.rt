@@ -17,7 +17,7 @@ pub struct HostTimer<'p, 'h, R, W: Drop> {
     // The last time that the clock returned; it stays if the clock fails.
     last: Moment,
     progress: &'p Progress<'h, R>,
-    /// What waits for the buses.
+    /// The wait for the buses.
     pub waits: W,
 }
 

@@ -21,8 +21,8 @@ ghost use Rattle.dc_concentrator.specs.Told.{ToldIsKept};
 
 use dc_disk::{Disk, DiskOver, FileCalls};
 
-/// Of each image that a power cut may leave in a file, within a run or within an opening, the next disk over that file is
-/// one that the headline speaks of, and none of its answers has broken the disk model.
+/// Of each image that a power cut may leave in a file, within a run or within an opening, the next disk
+/// over that file is one that the headline speaks of, and none of its answers has broken the disk model.
 pub fn a_stop_of_a_file_is_one_of_the_headline<C: FileCalls + Drop>()
     ensures in_a_run { (state : State) (done more : List Turn) (first now last : Machine FileState)
         (image : Image) → IsOpened ⟦<DiskOver<C> as Disk>⟧ state first → HasKept first.store.disk

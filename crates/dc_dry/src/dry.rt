@@ -22,7 +22,7 @@ const MOST_REQUESTS: u64 = 103;
 // The numbers of the lines.
 const NUMBERS: [u8; LINES] = [1, 2, 3, 4, 5, 6, 7, 8];
 
-/// What a poll is told to do.
+/// The words of a poll.
 #[derive(Clone, Copy)]
 pub struct Dry<'a> {
     /// Whether each line has a link; the first is that of line 1.
@@ -33,8 +33,8 @@ pub struct Dry<'a> {
     pub tries: u8,
 }
 
-/// Prints what a poll would do: of each line with a link its queue, and the maximum number of its readouts and requests;
-/// then each meter that would be refused, and how many more readings there is room for.
+/// Prints what a poll would do: of each line with a link its queue, and the maximum number of its
+/// readouts and requests; then each meter that would be refused, and how many more readings there is room for.
 #[tactic(auto, using(dc_io::proofs::Pieces::written), unfolding(crate::specs::Dry::dry_text))]
 pub fn put_dry<A: Allocator + Copy, W: Sink>(
     out: &mut W,
@@ -110,7 +110,7 @@ fn put_linked<A: Allocator + Copy, W: Sink>(
     put_most(out, line, dry.tries, count_on(house, dry.only, line))
 }
 
-// Prints how many readouts and requests a line of so many meters makes at most.
+// Prints the maximum numbers of readouts and requests of a line with this number of meters.
 #[tactic(auto, using(dc_io::proofs::Pieces::written), unfolding(crate::specs::Dry::most_line))]
 fn put_most<W: Sink>(out: &mut W, line: u8, tries: u8, meters: u32) -> Result<(), IoFault>
     ensures { Wrote W.Sink result out.old out.new (most_line line tries meters) }

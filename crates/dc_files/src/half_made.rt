@@ -76,7 +76,8 @@ impl HalfMade {
     }
 }
 
-/// Whether both are the same file, by device and inode number. The contracts of std state neither number, so this has none.
+/// Whether both are the same file, by device and inode number. The contracts of std state neither number, so this
+/// function has no contract.
 pub fn is_same_file(one: &Metadata, other: &Metadata) -> bool {
     one.dev() == other.dev() && one.ino() == other.ino()
 }

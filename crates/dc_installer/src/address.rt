@@ -35,7 +35,7 @@ pub enum Addressing {
     /// At the old address no telegram can be read: more than one meter answers, or one that can't be named. Its
     /// address wasn't changed.
     Unclear,
-    /// The meter was told its new address, and doesn't answer there.
+    /// The meter was sent its new address, and doesn't answer there.
     Unconfirmed(Identity),
 }
 

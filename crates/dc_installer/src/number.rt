@@ -32,8 +32,8 @@ pub enum Numbered {
     Nobody(Misses),
 }
 
-/// Finds the one meter with a number, of eight digits in ASCII: selects it, with wildcards for manufacturer, version and
-/// type (EN 13757-3), and requests its telegram, which the meter repeats to the next readout. It tries three times.
+/// Finds the one meter with a number, of eight digits in ASCII: selects it, with wildcards for manufacturer,
+/// version and type (EN 13757-3), and requests its telegram, which the meter repeats to the next readout. It tries three times.
 pub fn find_number<B: Bus>(bus: &mut B, digits: &[u8; 8]) -> Numbered
     ensures { IsFound B.asks digits.now bus.old result bus.new }
 {

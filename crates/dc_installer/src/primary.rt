@@ -102,7 +102,7 @@ pub(crate) fn meter_at<B: Bus>(bus: &mut B, address: u8) -> Option<Identity>
     }
 }
 
-// The last this many addresses, before which so many are in doubt.
+// The last `left` addresses; the last `count` before them are in doubt.
 fn scan_last<B: ScriptBus, W: Sink>(
     left: u8,
     count: u8,
@@ -127,7 +127,7 @@ fn scan_last<B: ScriptBus, W: Sink>(
     }
 }
 
-// The next address, before which so many are in doubt. Then so many are in doubt after it.
+// The next address. `count` is how many of the last ones are in doubt, before it and then after it.
 fn scan_next<B: ScriptBus, W: Sink>(
     address: u8,
     count: &mut u8,
@@ -167,7 +167,7 @@ fn in_doubt(is_ready: bool, count: u8) -> u8
     if is_ready { 0 } else { (count + 1).min(2) }
 }
 
-// So many addresses from the first one on.
+// `count` addresses from the first one on.
 fn scan_range<B: ScriptBus, W: Sink>(
     first: u8,
     count: u8,

@@ -57,7 +57,7 @@ pub trait Language {
     ghost wider: { (small great : ℕ) (bytes : List ℕ) (s : State) → small ≤ great
         → SpellsState small bytes s → SpellsState great bytes s };
 
-    /// A state is spelled in some bytes, and no more than its budget.
+    /// A state is spelled in at least one byte, and at most its budget.
     ghost some: { (budget : ℕ) (bytes : List ℕ) (s : State) → SpellsState budget bytes s
         → 0 < length bytes };
 

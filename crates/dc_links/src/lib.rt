@@ -1,8 +1,8 @@
 //! The links of the bus lines on this system: transparent gateways over TCP, serial level
 //! converters, and gateways of the block protocol.
 //!
-//! [`Peer::connect`] connects a link by its name, and [`Peer::bus`] returns its bus ([`LinkBus`]). A [`Linker`] connects
-//! those of all bus lines, as dc_reach asks it to. A [`Watch`] waits until one of several buses may have received
+//! [`Peer::connect`] connects a link by its name, and [`Peer::bus`] returns its bus ([`LinkBus`]). A [`Linker`]
+//! connects those of all bus lines, as dc_reach asks it to. A [`Watch`] waits until one of several buses may have received
 //! something.
 #![tactic(auto)]
 

@@ -16,7 +16,7 @@
 //! version 2, which is what every store keeps. It can't be converted back.
 //!
 //! What opens stands for its state, whatever became of the image before: a sector that was lost after its sync shows by
-//! one that was written after it, and then the image is `Damaged`. A lost last group can't be told from one that a
+//! one that was written after it, and then the image is `Damaged`. A lost last group looks like one that a
 //! crash kept from its sync.
 //!
 //! An append is a group and one sync. A compaction is the whole state as a base group in the other half, a

@@ -10,7 +10,7 @@ use crate::text::put_misses;
 use dc_address::Identity;
 use dc_io::{IoFault, Sink, put_number};
 
-/// Whose failed tries are told.
+/// Whose failed tries these are.
 #[derive(Clone, Copy, Debug, PartialEq, Eq)]
 pub enum Owner {
     /// A meter's, on the one bus of a command.

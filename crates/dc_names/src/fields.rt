@@ -3,7 +3,7 @@
 ghost use Rattle.std.specs.Prelude.{◌≡◌};
 ghost use Rattle.dc_names.specs.Fields.{control_name, ci_name, function_name, application_name};
 
-/// The name of a control byte (EN 13757-2), `unknown` where it is none of wired M-Bus.
+/// The name of a control byte (EN 13757-2), `unknown` where wired M-Bus doesn't have it.
 pub fn control_name(code: u8) -> &'static str
     ensures { result.now ≡ control_name code }
 {
@@ -17,7 +17,7 @@ pub fn control_name(code: u8) -> &'static str
     }
 }
 
-/// The name of a CI byte (EN 13757-3), `unknown` where it is none of wired M-Bus.
+/// The name of a CI byte (EN 13757-3), `unknown` where wired M-Bus doesn't have it.
 pub fn ci_name(code: u8) -> &'static str
     ensures { result.now ≡ ci_name code }
 {

@@ -12,7 +12,8 @@ fn capital(byte: u8) -> u8
     }
 }
 
-/// How often a character was dropped: how much more often the text has it than what is kept of it, which is in capitals.
+/// How often a character was dropped: how much more often the text has it than what is kept of it,
+/// which is in capitals.
 #[tactic(auto, unfolding(crate::specs::Dropped::times_dropped))]
 pub fn times_dropped(text: &[u8], kept: &[u8], character: u8) -> usize
     ensures { result ≡ times_dropped text.now kept.now character }

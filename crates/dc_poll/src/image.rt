@@ -54,11 +54,11 @@ pub struct Plan<'a, A: Allocator, B: QuietBus + Drop> {
 
 /// Opens the image, reads its registered meters over the buses of their lines, each line's in order of identity, and
 /// closes it. The events are those of [`read_all`](crate::read_all). Before them, each meter that is to be read and
-/// can't be is told as [`Event::Refused`], with [`StartFault::Unknown`] where it isn't registered and
+/// can't be gives [`Event::Refused`], with [`StartFault::Unknown`] where it isn't registered and
 /// [`StartFault::NoLine`] where its line has no bus; these count as failed. To be read are the meters that are named,
-/// or if none is, all of the register. Of a line without a bus it is never told that it is lost. Before anything is asked the
-/// timer is warned where its moment lies before the newest time stamp of the register. The disk comes back whatever
-/// happens.
+/// or if none is, all of the register. A line without a bus never gives [`Event::Lost`]. Before
+/// anything is asked the timer is warned where its moment lies before the newest time stamp of the
+/// register. The disk comes back whatever happens.
 ///
 /// # Errors
 /// [`ProgramFault::Open`] where the image wasn't opened, and [`ProgramFault::NoMemory`], both before anything is
@@ -292,7 +292,7 @@ fn registered<A: Allocator + Copy>(alloc: A, house: &House<A>) -> Result<Vec<Ide
     Ok(all)
 }
 
-// For each of these meters that can't be read, an event is told. How many.
+// Tells an event for each of these meters that can't be read, and returns how many there are.
 fn refuse_others<A: Allocator + Copy, B: QuietBus + Drop, N: Teller>(
     house: &House<A>,
     stations: &[Station<'_, B>],
@@ -317,7 +317,7 @@ fn refuse_others<A: Allocator + Copy, B: QuietBus + Drop, N: Teller>(
     Ok(u64::from(refused))
 }
 
-// That a meter is refused is told, where it is.
+// Tells an event where a meter is refused.
 fn tell_refusal<N: Teller>(
     meter: &Identity,
     refusal: Option<StartFault>,

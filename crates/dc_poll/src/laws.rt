@@ -46,7 +46,7 @@ pub fn a_queue_comes_to_its_end()
         × (requests_in happened ≤ most_asks * (tries * length meters)) }
 {}
 
-/// Once it is told how a meter ended, that it was read, that its last try failed or that it was refused, it isn't
+/// After the event of how a meter ended (it was read, its last try failed, or it was refused) it isn't
 /// started again.
 pub fn what_is_read_is_not_begun_again()
     ensures { (tries line : ℕ) (meters : List Identity) (front back : List Happening) (end : End)
@@ -84,8 +84,8 @@ pub fn what_is_committed_waits_no_more()
         store_behind all_kept turns ≡ all_kept → (leads core turns).pending ≡ [] }
 {}
 
-/// Where a line has no request any more, all that was accepted is committed, unless a commit answered a fault; and so
-/// it is where an event is told.
+/// Where a line has no request any more, all that was accepted is committed, unless a commit answered
+/// a fault; and the same at each event.
 pub fn what_is_read_is_committed<B: QuietBus + Drop, T: Timer<B>>()
     ensures asked { IsCommittedWhereNoneIsAsked T.tells T.passes }
     ensures told { (core : Core) (store : Store) (front back : List Happening) (line : ℕ)

@@ -2,9 +2,8 @@
 //!
 //! The meters of a line are read in passes: the first goes through all, in order, each later one through those that
 //! failed in the one before it. In a round each line takes one step: it settles, begins its next meter and asks, or
-//! asks. Then time passes, what is
-//! complete of the answers is heard, one commit writes all that was accepted, and how readouts ended is told, an event
-//! each ([`read_all`]).
+//! asks. Then time passes, what is complete of the answers is heard, one commit writes all that was accepted, and
+//! each readout that ended gives an event ([`read_all`]).
 //!
 //! Events go to a [`Teller`]. dc_teller has tellers that print them as text and as JSON.
 #![tactic(auto)]

@@ -145,7 +145,7 @@ fn meters_left<B: QuietBus + Drop>(stations: &[Station<'_, B>]) -> u64
     }
 }
 
-// The late answers that were dropped on a line, if any, are told.
+// Tells the number of late answers that were dropped on a line, if there are any.
 fn tell_late<N: Teller>(line: u8, answers: u64, teller: &mut N) -> Result<(), IoFault>
     ensures { HasTold N.Teller result teller.old teller.new (late_on line answers) }
 {
@@ -220,7 +220,7 @@ fn tell_finish<B: QuietBus + Drop, N: Teller>(
 /// round commits its telegrams, and then tells how readouts ended ([`Event::Read`],
 /// [`Event::Failed`], [`Event::Refused`]), and once of each line that became lost
 /// ([`Event::Lost`]). If a commit returns a fault, the poll ends, and the outcome has that fault. At
-/// the end the late answers of each line are told ([`Event::Late`]), and the counts
+/// the end it tells the late answers of each line ([`Event::Late`]) and the counts
 /// ([`Event::End`]).
 ///
 /// # Errors

@@ -46,7 +46,7 @@ pub struct Station<'a, B: QuietBus + Drop> {
     pub phase: Phase,
     /// The state of its request.
     pub request: Request,
-    /// Whether the loss of the line was told.
+    /// Whether the event of its loss went out.
     pub said: bool,
     /// What the failed tries of its readout brought.
     pub misses: Misses,

@@ -64,7 +64,7 @@ fn count(end: &End, outcome: &mut Counts)
     }
 }
 
-// How the readout of a line's meter ended is told.
+// Tells how the readout of a line's meter ended.
 fn tell_end<D: Disk + Drop, A: Allocator + Copy, B: QuietBus + Drop, N: Teller>(
     concentrator: &Concentrator<D, A>,
     station: &mut Station<'_, B>,
@@ -95,7 +95,7 @@ fn tell_end<D: Disk + Drop, A: Allocator + Copy, B: QuietBus + Drop, N: Teller>(
     teller.tell(&told)
 }
 
-// That a line is lost is told once.
+// Tells once that a line is lost.
 fn tell_loss<D: Disk + Drop, A: Allocator + Copy, B: QuietBus + Drop, N: Teller>(
     concentrator: &Concentrator<D, A>,
     station: &mut Station<'_, B>,

@@ -6,7 +6,7 @@ use dc_change::Moment;
 
 /// What tells the time of a poll, and lets time pass between two rounds.
 pub trait Timer<B: QuietBus + Drop> {
-    // That it told this moment, that time passed, where it may have slept or not, and that it was warned.
+    // That it returned this moment, that time passed, where it may have slept or not, and that it was warned.
     ghost use Rattle.std.specs.Prelude.{ℕ, Bool};
 
     ghost tells: { Self → ℕ → Self → Type 0 };

@@ -9,8 +9,8 @@ use crate::phase::Phase;
 use crate::station::Station;
 use dc_bus::QuietBus;
 
-/// Whether a line waits for its bus: a request is out, or a meter is to be begun and the bus isn't ready for that. A line
-/// that has nothing left waits for nothing.
+/// Whether a line waits for its bus: a request is out, or a meter is to be begun and the bus isn't
+/// ready for that. A line that has nothing left waits for nothing.
 pub fn is_awaited<B: QuietBus + Drop>(station: &Station<'_, B>) -> bool
     ensures { result ≡ is_awaited B.QuietBus station.now }
 {

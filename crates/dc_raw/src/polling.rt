@@ -29,7 +29,7 @@ pub(crate) fn elapsed<C: Clock>(since: Instant, clock: &C) -> Result<u64, IoFaul
     }
 }
 
-// So many microseconds, rounded up: the time is over when the wait ends.
+// A number of microseconds in milliseconds, rounded up: the time is over when the wait ends.
 pub(crate) fn millis_of(micros: u64) -> i32 {
     if micros == 0 {
         return 0;
