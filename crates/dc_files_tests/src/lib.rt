@@ -1,5 +1,5 @@
-//! Tests of the files of images: what `format` makes and what it keeps, locks, and names that are
-//! no regular file. They use real files in the system's folder for temporary ones.
+//! Tests of files: what `format` makes and what it keeps, locks, names that are no regular file, and traces. They use
+//! real files in the system's folder for temporary ones.
 #![tactic(auto)]
 
 #[cfg(test)]

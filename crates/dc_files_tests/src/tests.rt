@@ -3,3 +3,4 @@
 mod formats;
 mod locks;
 mod places;
+mod traces;

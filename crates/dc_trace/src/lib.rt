@@ -5,6 +5,7 @@
 //! ([`put_line`]); the lines of all bus lines go into one [`TraceFile`], a file or standard error.
 #![tactic(auto)]
 
+mod earlier;
 mod line;
 mod observed;
 mod observer;

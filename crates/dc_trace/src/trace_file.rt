@@ -3,6 +3,7 @@
 ghost use Rattle.std.specs.Prelude.{◌≡◌, OnOk, OnErr, None};
 ghost use Rattle.dc_io.specs.Failures.{HasRisen};
 
+use crate::earlier::spare_others;
 use crate::tracer::TraceSink;
 use dc_io::{FixedSink, IoFault, Sink, one_failure_more};
 use std::cell::Cell;
@@ -30,10 +31,11 @@ pub struct TraceFile<'h, R> {
 }
 
 impl<'h, R: Clock + Eprint> TraceFile<'h, R> {
-    /// Makes the file of a trace, or empties it; `-` is standard error.
+    /// Makes the file of a trace, or empties that of an earlier one; `-` is standard error. A file that
+    /// holds anything else stays as it is.
     ///
     /// # Errors
-    /// It can't be made, or the clock fails.
+    /// It can't be made, it holds something else than a trace, or the clock fails.
     pub fn open(rt: &'h R, name: &'h str) -> io::Result<Self>
     where
         R: Files<File = File>,
@@ -90,6 +92,7 @@ fn file_of<R: Files<File = File>>(rt: &R, name: &str) -> io::Result<Option<File>
     if name == DASH {
         return Ok(None);
     }
+    spare_others(rt, name)?;
     let mut options = OpenOptions::new();
     options.write(true).create(true).truncate(true);
     Ok(Some(options.open(rt, name)?))
