@@ -22,8 +22,15 @@ pub fn holder_of<R: Files<File = File>>(rt: &R, name: &str) -> Option<u32> {
     let mut room = [0; ROOM];
     let count = read_locks(rt, &mut room)?;
     let text = str::from_utf8(&room[..count.min(ROOM)]).ok()?;
-    for line in text.lines() {
-        let process = process_in(line, about.dev(), about.ino());
+    holder_in(text, about.dev(), about.ino())
+}
+
+/// The process that holds a lock of the file of this device and inode number, by the lines of `/proc/locks`. A last
+/// line that was cut counts for nothing. What the system shows is in no contract.
+pub fn holder_in(locks: &str, device: u64, inode: u64) -> Option<u32> {
+    let (whole, _) = locks.rsplit_once('\n')?;
+    for line in whole.lines() {
+        let process = process_in(line, device, inode);
         if process.is_some() {
             return process;
         }

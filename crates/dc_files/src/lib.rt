@@ -1,15 +1,15 @@
 //! The files of images, as the commands open and make them, and what failed on the way.
 //!
 //! [`open_image`] opens an image for one program that changes it; its first read goes to the drive. [`copy_image`]
-//! copies an image as it is at one instant, also while a program changes it ([`Copied`]). [`format_image`] makes an image in a
-//! file of its own ([`HalfMade`]), which gets the name once it is whole; no file that holds anything but zeros is
-//! touched. [`hold`] gives each closed standard stream to `/dev/null`, so that no image gets its number.
+//! copies an image as it is at one instant, also while a program changes it ([`Copied`]). [`format_image`] makes an
+//! image in a file of its own ([`HalfMade`]), which gets the name once it is whole; no file that holds anything but
+//! zeros is touched. [`hold`] gives each closed standard stream to `/dev/null`, so that no image gets its number.
 //!
 //! A [`Host`] is the system as the commands see it, with the record of its failed calls ([`Why`]). A
 //! [`Noted`] file or stream puts its failed calls there. [`holder_of`] names the process that has a file locked.
 //!
-//! No contract states what a file or a cell holds and what a lock does; the tests use real files. What can be stated
-//! is how [`format_image`] and [`copy_image`] may end, and the kind of this crate's own refusals.
+//! No contract states what a file or a cell holds and what a lock does; the tests use real files. Contracts state how
+//! [`format_image`] and [`copy_image`] may end, the kind of this crate's own refusals, and what a [`Noted`] wraps.
 #![tactic(auto)]
 
 mod copied;
@@ -24,7 +24,7 @@ mod why;
 pub use copied::{Copied, copy_image};
 pub use format::format_image;
 pub use half_made::{HalfMade, is_same_file};
-pub use holder::holder_of;
+pub use holder::{holder_in, holder_of};
 pub use host::Host;
 pub use image::{lock, no_file, open_image, open_to_look, within_limit};
 pub use streams::{NOWHERE, hold};

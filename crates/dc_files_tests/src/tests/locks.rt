@@ -3,7 +3,7 @@
 use crate::tests::places::{format, place};
 use dc_disk::{Disk, FileDisk};
 use dc_ending::Ending;
-use dc_files::{Host, Why, copy_image, holder_of, open_image, open_to_look};
+use dc_files::{Host, Why, copy_image, holder_in, holder_of, open_image, open_to_look};
 use std::fs;
 use std::test::Fail;
 
@@ -21,18 +21,30 @@ fn an_open_image_is_locked(rt: HostRuntime) -> Result<(), Fail> {
     Ok(fs::remove_file(&rt, path.as_str())?)
 }
 
-// The system may hide its locks; where it shows them, they come and go with the file.
+// Lines of `/proc/locks`: of another kind, of one that waits, of a file, and one that was cut.
+const LOCKS: &str = "1: POSIX  ADVISORY  WRITE 11 fd:01:131 0 EOF
+2: FLOCK  ADVISORY  WRITE 4711 fd:01:131 0 EOF
+2: -> FLOCK  ADVISORY  WRITE 12 fd:01:132 0 EOF
+3: FLOCK  ADVISORY  WRITE 13 fd:01:133";
+
 #[test]
-fn the_holder_of_a_lock_is_named(rt: HostRuntime) -> Result<(), Fail> {
+fn the_holder_of_a_lock_is_read(rt: HostRuntime) {
+    assert_eq!(rt; holder_in(LOCKS, 0xFD01, 131), Some(4711));
+    assert_eq!(rt; holder_in(LOCKS, 0xFD01, 132), None);
+    assert_eq!(rt; holder_in(LOCKS, 0xFD01, 133), None);
+    assert_eq!(rt; holder_in(LOCKS, 0xFD02, 131), None);
+}
+
+// The system may hide a lock; it shows none that isn't held.
+#[test]
+fn no_holder_is_named_without_a_lock(rt: HostRuntime) -> Result<(), Fail> {
     let path = place(&rt, "held")?;
     assert!(rt; matches!(format(&rt, path.as_str(), 131), Ending::Clean));
     assert!(rt; holder_of(&rt, path.as_str()).is_none());
     let file = open_image(&rt, path.as_str())?;
     assert!(rt; holder_of(&rt, "/dev/null").is_none());
-    let named = holder_of(&rt, path.as_str()).is_some();
     drop(file);
     assert!(rt; holder_of(&rt, path.as_str()).is_none());
-    assert!(rt; named || fs::open(&rt, "/proc/locks").is_err());
     Ok(fs::remove_file(&rt, path.as_str())?)
 }
 
