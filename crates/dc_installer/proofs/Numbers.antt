@@ -1,9 +1,9 @@
 -- The tries that find a meter by its number.
-use Rattle.std.proofs.Common.{◌≡◌, ℕ, ◌-◌, ◌<◌, Bool, true, false, not, ◌&&◌, List, [], ◌∷◌, ◌++◌, Option, None, Some, sym, ◌∙◌, subst, append_assoc}
+use Rattle.std.proofs.Common.{◌≡◌, ℕ, ◌-◌, ◌<◌, Bool, true, false, ◌&&◌, List, [], ◌∷◌, ◌++◌, Option, None, Some, sym, ◌∙◌, subst, append_assoc}
 use Rattle.dc_address.specs.declared.identity.Identity.{Identity}
 use Rattle.dc_frame.specs.Control.{request_to, selected}
 use Rattle.dc_frame.specs.Frame.{spelling}
-use Rattle.dc_misses.specs.Misses.{and_missed, is_silent}
+use Rattle.dc_misses.specs.Misses.{and_missed, is_noise, is_silent}
 use Rattle.dc_misses.specs.declared.misses.Misses.{Misses}
 use Rattle.dc_installer.specs.Number.{Tries, are_over, collides, ending, finds, meets_silence, selection_to, with_number}
 use Rattle.dc_installer.specs.declared.number.Numbered.{Numbered}
@@ -39,10 +39,10 @@ module _ {B : Type 0} (asks : B → List ℕ → List ℕ → B → Type 0) (dig
   pub collision : (left : ℕ) (collided both : Bool) (misses counts : Misses) (old mid asked new : B) (found : Numbered) (answer telegram : List ℕ) (silent : Bool)
       → 0 < left → silent ≡ is_silent answer → silent ≡ false → asks old (spelling (selection_to digits)) answer mid
       → asks mid (spelling (request_to true selected)) telegram asked → with_number digits telegram ≡ None
-      → both ≡ (collided && not (is_silent telegram)) → counts ≡ and_missed telegram misses
+      → both ≡ (collided && is_noise telegram) → counts ≡ and_missed telegram misses
       → Tries asks digits (left - 1) both counts asked found new
       → Tries asks digits left collided misses old found new
   collision left collided both misses counts old mid asked new found answer telegram silent some is not_so first second unread all counted more =
       let P : Bool → Type 0 = λ b. Tries asks digits (left - 1) b counts asked found new in
-      let Q : Misses → Type 0 = λ m. Tries asks digits (left - 1) (collided && not (is_silent telegram)) m asked found new in
+      let Q : Misses → Type 0 = λ m. Tries asks digits (left - 1) (collided && is_noise telegram) m asked found new in
       collides answer telegram some (sym is ∙ not_so) first second unread (subst Q counted (subst P all more))

@@ -1,5 +1,5 @@
 -- The one meter with an identification number (EN 13757-3, selection with wildcards; EN 13757-2, REQ_UD2).
-use Rattle.std.specs.Prelude.{◌≡◌, ℕ, ◌+◌, ◌-◌, ◌%◌, ◌<◌, Bool, true, false, not, ◌&&◌, List, [], ◌++◌}
+use Rattle.std.specs.Prelude.{◌≡◌, ℕ, ◌+◌, ◌-◌, ◌%◌, ◌<◌, Bool, true, false, ◌&&◌, List, [], ◌++◌}
 use Rattle.std.specs.Prelude.{codes, map, nat_eq, Option, None, Some, if◌then◌else◌}
 use Rattle.std.specs.List.{starts_with}
 use Rattle.dc_address.specs.Mask.{mask_wire}
@@ -7,7 +7,7 @@ use Rattle.dc_address.specs.Text.{text_of}
 use Rattle.dc_address.specs.declared.identity.Identity.{Identity}
 use Rattle.dc_frame.specs.Control.{request_to, selected, selection_by}
 use Rattle.dc_frame.specs.Frame.{FrameSeen, spelling}
-use Rattle.dc_misses.specs.Misses.{and_missed, is_silent, misses_of}
+use Rattle.dc_misses.specs.Misses.{and_missed, is_noise, is_silent, misses_of}
 use Rattle.dc_misses.specs.declared.misses.Misses.{Misses}
 use Rattle.dc_search.specs.Answer.{answer_of}
 use Rattle.dc_search.specs.Prefix.{mask_of_digits}
@@ -65,7 +65,7 @@ pub data Tries {B : Type 0} (asks : B → List ℕ → List ℕ → B → Type 0
       → asks old (spelling (selection_to digits)) answer between
       → asks between (spelling (request_to true selected)) telegram asked
       → with_number digits telegram ≡ None
-      → Tries asks digits (left - 1) (collided && not (is_silent telegram))
+      → Tries asks digits (left - 1) (collided && is_noise telegram)
       (and_missed telegram misses) asked found new
       → Tries asks digits left collided misses old found new
 
@@ -77,7 +77,7 @@ IsFound asks digits old found new =
 
 -- ---- the text
 
--- a text, with what stands before it and after it
+-- a text between two others
 unfoldable pub between : List ℕ → List ℕ → List ℕ → List ℕ
 between before text after = before ++ text ++ after
 

@@ -94,7 +94,7 @@ and_heard verdict answer misses = if is_miss verdict then and_missed answer miss
 
 -- ---- a readout that ended
 
--- It makes no more requests than a session, and its failed tries are told.
+-- It makes no more requests than a session, and its failed tries are counted.
 pub record IsReadOn {B : Type 0} (asks : B → List ℕ → List ℕ → B → Type 0) (old new : B)
     (session : Summary) (wrote : List ℕ → Type 0) (tells : List (List ℕ) → Bool → Type 0)
     : Type 0 where

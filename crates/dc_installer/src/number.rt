@@ -1,11 +1,11 @@
 //! Finds the one meter with an identification number.
 
-ghost use Rattle.std.specs.Prelude.{◌≡◌, ◌≤◌, ◌+◌, ◌&&◌, ◌++◌, Some, length, map, not};
+ghost use Rattle.std.specs.Prelude.{◌≡◌, ◌≤◌, ◌+◌, ◌&&◌, ◌++◌, Some, length, map};
 ghost use Rattle.dc_frame.specs.Frame.{spelling};
 ghost use Rattle.dc_installer.specs.Number.{IsFound, Tries, digit_of, ending, has_number, having};
 ghost use Rattle.dc_installer.specs.Number.{between, selection_to, unfound_text, with_number};
 ghost use Rattle.dc_io.specs.Written.{Wrote};
-ghost use Rattle.dc_misses.specs.Misses.{and_missed, is_silent};
+ghost use Rattle.dc_misses.specs.Misses.{and_missed, is_noise, is_silent};
 ghost use Rattle.dc_search.specs.Prefix.{mask_of_digits};
 
 use crate::primary::{ask_telegram, sender_of};
@@ -14,7 +14,7 @@ use dc_bus::{AnswerBuf, Bus};
 use dc_frame::FrameBuf;
 use dc_frame::control::{SELECTED, write_selection};
 use dc_io::{IoFault, Sink};
-use dc_misses::Misses;
+use dc_misses::{Misses, is_noise};
 use dc_search::Branch;
 
 // Number of tries.
@@ -25,15 +25,16 @@ const TRIES: u8 = 3;
 pub enum Numbered {
     /// One meter answered, and has the number.
     One(Identity),
-    /// Bytes came to each selection and to each request, and no telegram of a meter with the number: several meters
-    /// have it, or the line is disturbed. This is what the tries brought.
+    /// Bytes came to each selection, and bytes that are no frame to each request: several meters have the number, or
+    /// the answers of one are damaged. This is what the tries brought.
     Shared(Misses),
     /// No meter with the number was heard. This is what the tries brought.
     Nobody(Misses),
 }
 
 /// Finds the one meter with a number, of eight digits in ASCII: selects it, with wildcards for manufacturer,
-/// version and type (EN 13757-3), and requests its telegram, which the meter repeats to the next readout. It tries three times.
+/// version and type (EN 13757-3), and requests its telegram, which the meter repeats to the next readout. It
+/// tries three times.
 pub fn find_number<B: Bus>(bus: &mut B, digits: &[u8; 8]) -> Numbered
     ensures { IsFound B.asks digits.now bus.old result bus.new }
 {
@@ -81,9 +82,9 @@ fn is_silent(answer: &AnswerBuf) -> bool
 
 // Whether each try up to this one collided.
 fn have_collided(collided: bool, telegram: &AnswerBuf) -> bool
-    ensures { result ≡ (collided && not (is_silent telegram.now)) }
+    ensures { result ≡ (collided && is_noise telegram.now) }
 {
-    collided && !is_silent(telegram)
+    collided && is_noise(telegram.as_slice())
 }
 
 // The counts, and one failed try more.
@@ -178,7 +179,7 @@ pub fn put_unfound<W: Sink>(digits: &[u8; 8], is_shared: bool, out: &mut W) -> R
     }
 }
 
-// Writes a text, with what stands before it and after it.
+// Writes a text between two others.
 #[tactic(auto, using(dc_io::proofs::Pieces::written), unfolding(crate::specs::Number::between))]
 fn put_between<W: Sink>(
     before: &[u8],

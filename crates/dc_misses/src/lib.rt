@@ -12,7 +12,7 @@ mod reason;
 mod text;
 
 pub use laws::misses_are_counted;
-pub use misses::Misses;
+pub use misses::{Misses, is_noise};
 pub use missing::is_missing;
 pub use reason::{Owner, put_reason};
 pub use text::put_misses;

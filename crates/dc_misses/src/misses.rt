@@ -2,7 +2,7 @@
 
 ghost use Rattle.std.specs.Prelude.{◌≡◌, [], is_some};
 ghost use Rattle.dc_frame.specs.Reading.{frame_of};
-ghost use Rattle.dc_misses.specs.Misses.{and_missed, counted, misses_of};
+ghost use Rattle.dc_misses.specs.Misses.{and_missed, counted, is_noise, misses_of};
 
 use dc_frame::parse;
 
@@ -39,6 +39,13 @@ impl Misses {
         self.noise = counted(!is_silent && !is_frame, self.noise);
         self.others = counted(is_frame, self.others);
     }
+}
+
+/// Whether an answer is noise: bytes that are no frame.
+pub fn is_noise(answer: &[u8]) -> bool
+    ensures { result ≡ is_noise answer.now }
+{
+    !answer.is_empty() && !is_frame(answer)
 }
 
 // Whether the bytes are a frame.
