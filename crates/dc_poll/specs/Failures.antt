@@ -1,4 +1,4 @@
--- What is told of the failed readouts of a line (this product).
+-- The events of the failed readouts of a line (this product).
 use Rattle.std.specs.Prelude.{ℕ, List, ◌∷◌, ◌++◌}
 use Rattle.dc_address.specs.declared.identity.Identity.{Identity}
 use Rattle.dc_misses.specs.declared.misses.Misses.{Misses}

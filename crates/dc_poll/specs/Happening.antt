@@ -11,12 +11,12 @@ use Rattle.dc_poll.specs.declared.event.Event.TheVariants.{Read as was_read, Fai
 use Rattle.dc_poll.specs.declared.event.Event.TheVariants.{Refused as was_refused, Lost as is_lost}
 use Rattle.dc_poll.specs.declared.event.Event.TheVariants.{Late as came_late, End as has_ended}
 
--- a turn of the concentrator, or an event that is told, about a line
+-- a turn of the concentrator, or an event about a line
 pub data Happening : Type 0 where
   does : Turn → Happening
   tells : ℕ → Told → Happening
 
--- ---- the events that are told
+-- ---- the events
 
 abbrev pub events_of : Happening → List Told
 events_of (does turn) = []

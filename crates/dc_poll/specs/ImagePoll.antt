@@ -31,7 +31,7 @@ pub record ImageTurned {D : Type 0} (g : Ghosts D) (such : Core → List Happeni
 
 -- THE METERS OF A PLAN ARE READ. The lines are those of the first eight buses; on each whose bus isn't lost the
 -- meters of the register that hang there are read, or those of them that are named, in order of identity. Before it,
--- an event is told of each meter that is to be read and can't be; these count as failed (up to 2^32 - 1 of
+-- an event comes for each meter that is to be read and can't be; these count as failed (up to 2^32 - 1 of
 -- them). Before anything is asked the clock is compared with the time stamps of the register.
 pub record PlanPolled {B T N : Type 0} (g : Bus B) (told : T → ℕ → T → Type 0)
     (passes : T → Bool → T → Type 0) (warned : T → T → Type 0) (takes : N → Told → N → Type 0)

@@ -134,7 +134,7 @@ pub data InRounds {T : Type 0} (told : T → ℕ → T → Type 0) (passes : T �
 
 -- ---- the events
 
--- the reading that is told is the newest one of its meter in the register, and the last part is that reading's
+-- the reading of an event is the newest one of its meter in the register, and the last part is that reading's
 abbrev pub IsNewest : State → Told → Type 0
 IsNewest state (was_read meter serial parts last) =
     (serial ≡ newest_serial meter state) × (parts ≡ newest_parts meter state)
@@ -145,7 +145,7 @@ IsNewest state (is_lost line) = Unit {0}
 IsNewest state (came_late line answers) = Unit {0}
 IsNewest state (has_ended read failed) = Unit {0}
 
--- Each event is told after the commit, and each reading in it is the newest one of its meter then.
+-- Each event comes after the commit, and each reading in it is the newest one of its meter then.
 abbrev pub AreTrue : Core → Store → List Happening → Type 0
 AreTrue core store [] = Unit {0}
 AreTrue core store (does turn ∷ more) =

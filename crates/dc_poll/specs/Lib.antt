@@ -18,7 +18,7 @@ pub mod Missed
 pub mod Station
 -- what a round does
 pub mod Round
--- what is told of the failed readouts of a line
+-- the events of the failed readouts of a line
 pub mod Failures
 -- when a poll may sleep
 pub mod Waiting

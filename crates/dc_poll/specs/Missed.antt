@@ -1,4 +1,4 @@
--- What the failed tries of a readout brought, and how it is told (this product).
+-- What the failed tries of a readout brought, and its event (this product).
 use Rattle.std.specs.Prelude.{◌≡◌, ◌≤◌, ℕ, Bool, true, false, List, [], ◌∷◌, ◌++◌, flat_map, length}
 use Rattle.std.specs.Prelude.{if◌then◌else◌, Result, Ok, Err}
 use Rattle.dc_address.specs.declared.identity.Identity.{Identity}
@@ -8,11 +8,8 @@ use Rattle.dc_concentrator.specs.declared.line_heard.LineHeard.{LineHeard}
 use Rattle.dc_concentrator.specs.declared.line_heard.LineHeard.TheVariants.{Again, Ready, Accepted}
 use Rattle.dc_concentrator.specs.declared.line_heard.LineHeard.TheVariants.{Failed as HasFailed}
 use Rattle.dc_misses.specs.Misses.{and_missed, misses_of}
+use Rattle.dc_misses.specs.Missing.{is_missing}
 use Rattle.dc_misses.specs.declared.misses.Misses.{Misses}
-use Rattle.dc_readout.specs.declared.why.Why.{Why}
-use Rattle.dc_readout.specs.declared.why.Why.TheVariants.{NoAnswer, WrongFrame, WrongAddress}
-use Rattle.dc_readout.specs.declared.why.Why.TheVariants.{ApplicationError, Content, Stranger}
-use Rattle.dc_readout.specs.declared.why.Why.TheVariants.{TooManyParts}
 use Rattle.dc_poll.specs.Happening.{Happening, does, tells}
 use Rattle.dc_poll.specs.Queue.{most_asks, starts_in}
 use Rattle.dc_poll.specs.declared.event.Event.{Event as Told}
@@ -21,16 +18,6 @@ use Rattle.dc_poll.specs.declared.event.Event.TheVariants.{Refused as was_refuse
 use Rattle.dc_poll.specs.declared.event.Event.TheVariants.{Late as came_late, End as has_ended}
 
 -- ---- a failed try
-
--- no byte, no frame, another frame, or another meter's: the meter's own answer didn't come
-abbrev pub is_missing : Why → Bool
-is_missing NoAnswer = true
-is_missing WrongFrame = true
-is_missing WrongAddress = true
-is_missing ApplicationError = false
-is_missing (Content fault) = false
-is_missing Stranger = true
-is_missing TooManyParts = false
 
 -- THE TRY FAILED: the readout asks again, or it fails as the meter's own answer didn't come.
 abbrev pub is_miss : Result LineHeard HearFault → Bool
@@ -56,7 +43,8 @@ missed_in happened = flat_map missed_of happened
 -- ---- a failed readout
 
 -- WHAT IS TOLD OF A FAILED READOUT: its line, and how many of its failed tries brought what. The readout is what
--- happened on its line since its start, which is the last one there. It has fewer than 255 tries, so the counts are whole.
+-- happened on its line since its start, which is the last one there. It has fewer than 255 tries, so the counts are
+-- whole.
 pub record TellsReadout (line : ℕ) (meter : Identity) (front : List Happening) (at : ℕ)
     (misses : Misses) : Type 0 where
   pub before : List Happening

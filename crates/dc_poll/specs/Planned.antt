@@ -76,8 +76,8 @@ refused_count connected state meters =
 
 -- ---- the lines
 
--- The line with this number: its queue, none of whose meters was started. Of one whose bus is lost that counts as
--- told.
+-- The line with this number: its queue, none of whose meters was started. Where its bus is lost, the event of
+-- that counts as given.
 pub record IsPlanned {B : Type 0} (lost : B → Bool) (state : State) (only : List Identity)
     (line : ℕ)
     (station : Station B) : Type 0 where

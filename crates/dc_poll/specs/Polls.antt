@@ -38,7 +38,8 @@ EndsIn (Some fault) turns = (front : List Turn)
 
 -- ONE ROUND. All lines go on by what happens. First they are asked; then time passes, and the poll
 -- may sleep exactly where each line waits for its bus or has nothing left. The answers get the time
--- stamp that the timer returns then, and are committed. Then the ends of readouts are told and counted.
+-- stamp that the timer returns then, and are committed. Then each end of a readout gives an event, and is
+-- counted.
 pub record GoesRound {B T : Type 0} (g : Bus B) (told : T → ℕ → T → Type 0)
     (passes : T → Bool → T → Type 0)
     (tries : ℕ) (fault : Option CommitFault) (olds news : List (Station B)) (first last : T)
@@ -64,8 +65,8 @@ pub record GoesRound {B T : Type 0} (g : Bus B) (told : T → ℕ → T → Type
   pub read : now.read ≡ was.read + reads_in happened
   pub failed : now.failed ≡ was.failed + failures_in happened
 
--- A POLL up to here: after the first commit round after round, as long as all is kept. What is told is how
--- readouts ended, each after its commit, and it is counted. So the store is left.
+-- A POLL up to here: after the first commit round after round, as long as all is kept. The events are
+-- how readouts ended, each after its commit, and they are counted. So the store is left.
 pub record PollsTo {B T : Type 0} (g : Bus B) (told : T → ℕ → T → Type 0)
     (passes : T → Bool → T → Type 0)
     (tries : ℕ) (store : Store) (olds news : List (Station B)) (first last : T)
@@ -95,7 +96,7 @@ pub record Polled {B T : Type 0} (g : Bus B) (told : T → ℕ → T → Type 0)
   pub failed : now.failed ≡ counts.failed
   pub fault : EndsIn now.fault (happened_turns happened)
 
--- A WHOLE POLL: after it the late answers of each line are told, and how many meters were read and how many weren't.
+-- A WHOLE POLL: after it come the late answers of each line, and how many meters were read and how many weren't.
 -- The meters that are left count as such.
 pub record PollsAll {B T : Type 0} (g : Bus B) (told : T → ℕ → T → Type 0)
     (passes : T → Bool → T → Type 0)

@@ -60,7 +60,7 @@ IsToldAs (Refused meter refusal) told = told ≡ was_refused meter refusal
 -- THE QUEUE OF A LINE GOES ON by what happens on that line, IN PASSES. The present meter is started, asked and heard.
 -- Where that failed, it is put off: the next pass goes through those that failed in this one, in order. It leaves the
 -- queue where its start is refused, where it has no request any more, where it was asked as often as no readout asks,
--- where its last try failed, at a fault, and where its telegram isn't stored. Then it is told how it ended, before the
+-- where its last try failed, at a fault, and where its telegram isn't stored. Then the event of its end comes, before the
 -- next one is started.
 pub data Goes (tries line : ℕ) : Part → List Happening → Part → Type 0 where
   stays : {last : Part} → Goes tries line last [] last
@@ -171,7 +171,7 @@ pub data AreSomeOf : List Identity → List Identity → Type 0 where
   with_it : {meter : Identity} {some all : List Identity} → AreSomeOf some all
       → AreSomeOf (meter ∷ some) (meter ∷ all)
 
--- THESE STARTS ARE PASSES, up to so many: all meters are started in order, then those that failed likewise.
+-- THESE STARTS ARE PASSES, at most `tries`: all meters are started in order, then those that failed likewise.
 abbrev pub IsTried : ℕ → List Identity → List Identity → Type 0
 IsTried zero meters begun = begun ≡ []
 IsTried (suc tries) meters begun = (failed more : List Identity) × AreSomeOf failed meters
@@ -234,7 +234,7 @@ abbrev pub GoesWell : Happening → Type 0
 GoesWell (does turn) = IsWell turn.1
 GoesWell (tells line told) = IsWellTold told
 
--- the meters of which it is told that they were read
+-- the meters whose event says that they were read
 abbrev pub read_by : Told → List Identity
 read_by (was_read meter serial parts last) = meter ∷ []
 read_by (has_failed at meter why misses) = []

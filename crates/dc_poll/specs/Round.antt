@@ -75,7 +75,7 @@ pub record Rounds {B : Type 0} (g : Bus B) (tries : ℕ)
   pub alone : (other : ℕ) → ((k : ℕ) → k < length olds → other ≢ k + 1)
       → All IsCommitTurn (happened_on other happened)
 
--- ---- what happens that isn't an event told
+-- ---- what happens that isn't an event
 
 abbrev pub AreTurns : List Happening → Type 0
 AreTurns [] = Unit {0}
@@ -119,7 +119,7 @@ pub record HearsOne {B : Type 0} (g : Bus B) (tries line moment : ℕ) (accepted
   pub finds_room : (waiting : ℕ) → waiting < most_pending
       → AllFindRoom waiting (happened_turns happened) (and_accepted waiting accepted)
 
--- A commit, where one was due: so many telegrams are pending before, and so many after it.
+-- A commit, where one was due: the numbers of telegrams pending before and after it.
 abbrev pub IsRoom : ℕ → Result ℕ CommitFault → List Turn → Type 0
 IsRoom waiting (Ok now) turns =
     ((turns ≡ []) × (now ≡ waiting)) ⊎ (IsStoredAs (Ok tt) turns × (now ≡ 0))
@@ -161,7 +161,7 @@ EachFewer {B} before behind count olds news = (k : ℕ) (d : Station B) → k < 
 abbrev pub HasFew : {B : Type 0} → Station B → Type 0
 HasFew station = length station.left.now ≤ 65535
 
--- no meter is left, and how the last one ended is told
+-- no meter is left, and the event of the last one's end came
 abbrev pub IsOver : {B : Type 0} → Station B → Type 0
 IsOver station = (station.left.now ≡ []) × (station.phase ≡ Free)
 
@@ -181,7 +181,7 @@ meters_left {B} stations = sum (map (λ (s : Station B). length s.left.now) stat
 
 -- ---- the events
 
--- what is told of an end on this line, by the register and the misses of the readout
+-- the event of an end on this line, by the register and the misses of the readout
 abbrev pub told_of : State → ℕ → Misses → End → Told
 told_of state line misses (Read meter) =
     was_read meter (newest_serial meter state) (newest_parts meter state) (newest_last meter state)
@@ -193,7 +193,7 @@ counted (Read meter) outcome = record outcome { read = outcome.read + 1 }
 counted (Failed meter why) outcome = record outcome { failed = outcome.failed + 1 }
 counted (Refused meter refusal) outcome = record outcome { failed = outcome.failed + 1 }
 
--- Events are told, each of them true, after a commit, and no turn is taken. The teller took them.
+-- Events come, each of them true, after a commit, and no turn is taken. The teller took them.
 pub record AreTold (took : List Told → Type 0) (was now : Counts) (core : Core)
     (happened : List Happening)
     : Type 0 where

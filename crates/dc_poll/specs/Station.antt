@@ -122,7 +122,7 @@ Listens g old new =
 
 -- ---- which stations there may be
 
--- of so many meters so many are left in this pass; where the others failed in it, it isn't the last one
+-- `due` of these meters are left in this pass; where the others failed in it, it isn't the last one
 abbrev pub IsPass : ℕ → ℕ → ℕ → ℕ → Type 0
 IsPass tries count due pass =
     (1 ≤ pass) × (pass ≤ tries) × (due ≤ count) × (due < count → pass < tries)

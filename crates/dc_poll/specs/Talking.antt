@@ -13,7 +13,7 @@ use Rattle.dc_poll.specs.declared.event.Event.TheVariants.{Lost as is_lost}
 use Rattle.dc_poll.specs.declared.phase.Request.{Request}
 use Rattle.dc_poll.specs.declared.phase.Request.TheVariants.{Quiet, Sent, Answered}
 
--- the state of a line: its bus, its request, and whether its loss was told
+-- the state of a line: its bus, its request, and whether the event of its loss came
 pub record Talk (B : Type 0) : Type 0 where
   pub bus : B
   pub request : Request
@@ -21,8 +21,8 @@ pub record Talk (B : Type 0) : Type 0 where
 
 -- THE TALK ON A BUS, by what happens on its line. The requests of the readouts are sent, and no
 -- others. The answer is taken once, and only then the next request is sent. A readout begins only
--- if the bus is ready; a bus that isn't settles first. Nothing else touches the bus. The loss of
--- the line is told once.
+-- if the bus is ready; a bus that isn't settles first. Nothing else touches the bus. The event
+-- of the line's loss comes once.
 pub data Talks {B : Type 0} (g : Bus B) (line : ℕ)
     : Talk B → List Happening → Talk B → Type 0 where
   rests : {last : Talk B} → Talks g line last [] last

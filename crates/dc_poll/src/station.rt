@@ -5,7 +5,7 @@ ghost use Rattle.std.specs.Prelude.{IfErr, length, nat_lt, slice_get, true, fals
 ghost use Rattle.dc_concentrator.specs.Step.{longest_request};
 ghost use Rattle.dc_bus.specs.Halves.{most_waits};
 ghost use Rattle.dc_misses.specs.Misses.{misses_of};
-ghost use Rattle.dc_poll.specs.Missed.{is_miss, is_missing, misses_heard};
+ghost use Rattle.dc_poll.specs.Missed.{is_miss, misses_heard};
 ghost use Rattle.dc_poll.specs.Queue.{most_asks};
 ghost use Rattle.dc_poll.specs.Station.{IsAfter, Listens, after_answer, ended, is_answered};
 ghost use Rattle.dc_poll.specs.Station.{lost_by, next_pass, put_off, stored_by, taken_of};
@@ -21,8 +21,7 @@ use dc_address::Identity;
 use dc_bus::QuietBus;
 use dc_concentrator::{CommitFault, HearFault, LineHeard, StartFault};
 use dc_frame::FrameBuf;
-use dc_misses::Misses;
-use dc_readout::Why;
+use dc_misses::{Misses, is_missing};
 use std::mem;
 
 // No readout asks more often: three tries at a reset, a selection and each of 32 parts, and once more where nothing
@@ -289,15 +288,5 @@ fn is_miss(answer: &Result<LineHeard, HearFault>) -> bool
         Ok(LineHeard::Again) => true,
         Ok(LineHeard::Failed(why)) => is_missing(why),
         Ok(LineHeard::Ready) | Ok(LineHeard::Accepted { .. }) | Err(_) => false,
-    }
-}
-
-// Whether a readout that fails so had no answer of the meter itself.
-fn is_missing(why: &Why) -> bool
-    ensures { result ≡ is_missing why.now }
-{
-    match why {
-        Why::NoAnswer | Why::WrongFrame | Why::WrongAddress | Why::Stranger => true,
-        Why::ApplicationError | Why::Content(_) | Why::TooManyParts => false,
     }
 }
