@@ -1,6 +1,7 @@
 //! The links of a command.
 
-ghost use Rattle.std.specs.Prelude.{◌≡◌, ◌⊎◌, IfErr, IfOk, Ok};
+ghost use Rattle.std.specs.Prelude.{◌≡◌};
+ghost use Rattle.dc_commands.specs.Linked.{linked};
 
 use dc_ending::Ending;
 use dc_files::Why;
@@ -12,8 +13,7 @@ pub fn links_of<'a, P: Drop>(
     why: &Why,
     peers: Result<Vec<Option<P>>, Unconnected<io::Error>>,
 ) -> Result<Vec<Option<P>>, Ending<'a>>
-    ensures all { IfOk result (λ links. peers ≡ Ok links) }
-    ensures none { IfErr result (λ ending. (ending ≡ Ending.Gateway) ⊎ (ending ≡ Ending.Memory)) }
+    ensures { result ≡ linked peers }
 {
     match peers {
         Ok(peers) => Ok(peers),
