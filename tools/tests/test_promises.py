@@ -63,3 +63,9 @@ def test_braces(promises: types.ModuleType, line: str, depth: int) -> None:
 def test_carriers(promises: types.ModuleType) -> None:
     found = list(promises.carriers("dc_x", "parse: found only; dc_io/Lines::next; law"))
     assert found == [("dc_x", "parse", ["found", "only"]), ("dc_io", "Lines::next", []), ("dc_x", "law", [])]
+
+
+def test_a_promise_that_nothing_carries_is_a_fault(promises: types.ModuleType) -> None:
+    tree = types.SimpleNamespace(faults=[])
+    assert promises.Promise("dc_x", "All is well").carried_by(tree) == ""
+    assert tree.faults == ["dc_x: nothing carries: All is well"]
