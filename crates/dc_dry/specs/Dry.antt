@@ -1,4 +1,5 @@
--- What a poll would do (this product): the queues of dc_poll, bounds, the refusals before anything is asked, and the room.
+-- What a poll would do (this product): the queues of dc_poll, bounds, the refusals before anything is asked, and the
+-- room.
 use Rattle.std.specs.Prelude.{ℕ, ◌-◌, ◌*◌, ◌^◌, min, Bool, true, false, List, [], ◌∷◌, ◌++◌, codes, length, filter}
 use Rattle.std.specs.Prelude.{flat_map, slice_index_or, if◌then◌else◌, Option, None, Some}
 use Rattle.dc_address.specs.Text.{text_of}
@@ -40,7 +41,7 @@ rows_text only state line = flat_map (row_text only line) state.meters
 abbrev pub count_on : List Identity → State → ℕ → ℕ
 count_on only state line = min (2 ^ 32 - 1) (length (queue_on state only line false))
 
--- At most so many readouts of so many meters are begun, with so many requests.
+-- The maximum numbers of readouts and requests of a line with this number of meters.
 unfoldable pub most_line : ℕ → ℕ → ℕ → List ℕ
 most_line line tries meters = codes "MOST" ++ (number_word line ++ (number_word (tries * meters)
     ++ (number_word (most_asks * (tries * meters)) ++ codes "\n")))

@@ -2,8 +2,8 @@
 //! converters, and gateways of the block protocol.
 //!
 //! [`Peer::connect`] connects a link by its name, and [`Peer::bus`] returns its bus ([`LinkBus`]). A [`Linker`]
-//! connects those of all bus lines, as dc_reach asks it to. A [`Watch`] waits until one of several buses may have received
-//! something.
+//! connects those of all bus lines, as dc_reach asks it to. A [`Watch`] waits until one of several buses may have
+//! received something.
 #![tactic(auto)]
 
 mod bus;

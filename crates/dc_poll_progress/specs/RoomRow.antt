@@ -1,4 +1,4 @@
--- What the row ROOM of `status` and `inspect` says of a poll (this product).
+-- What the row ROOM of `status` says of a poll (this product).
 use Rattle.std.specs.Prelude.{◌≡◌, ℕ, ◌+◌, ◌≤◌, Some, List, [], ◌∷◌}
 use Rattle.std.specs.List.{AllByRecursion}
 use Rattle.dc_address.specs.declared.identity.Identity.{Identity}

@@ -28,7 +28,7 @@ pub fn every_meter_is_read<D: Disk + Drop, B: QuietBus + Drop, T: Timer<B>, N: T
     ensures { EveryMeterIsRead D.Disk B.QuietBus T.tells T.passes T.warns N.takes }
 {}
 
-/// A register whose row ROOM (`status`, `inspect`) has at least as many readings as meters are to be
+/// A register whose row ROOM (`status`) has at least as many readings as meters are to be
 /// read has room for a poll of them.
 ///
 /// The reading of each takes at most what those that are held take on average, as that row counts.

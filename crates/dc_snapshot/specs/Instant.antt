@@ -2,8 +2,8 @@
 use Rattle.std.specs.Prelude.{◌≡◌, ◌≤◌, ◌<◌, ℕ}
 use Rattle.dc_disk.specs.Disk.{Image}
 
--- A sector that holds the same at two instants held it at each one between: once it is written over, it doesn't return to
--- what it held.
+-- A sector that holds the same at two instants held it at each one between: once it is written over, it doesn't
+-- return to what it held.
 abbrev pub NeverReturns : (ℕ → Image) → Type 0
 NeverReturns file = (n before between after : ℕ) → before ≤ between → between ≤ after
     → file before n ≡ file after n → file between n ≡ file before n

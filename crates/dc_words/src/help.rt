@@ -248,7 +248,8 @@ ends:
   END read failed
 With --json an object an event. On a terminal, standard error shows how far it
 is. --trace FILE gets each request and answer, as of scan. Where the clock is
-earlier than a time stamp of the register: mbdc: clock: behind the newest reading
+earlier than a time stamp of the register:
+mbdc: clock: behind the newest reading
 --dry-run prints what the poll would do, opens no link and writes nothing:
   QUEUE n ident            line n reads this meter, in this order
   MOST n readouts requests line n makes at most as many
@@ -297,6 +298,7 @@ for the next one. Nothing is stored. Where the readout fails, FAILED n Name
 follows and the status is 1; standard error says what the failed tries brought:
 mbdc: 12345678.PAD.01.07: 3 tries failed: 2 silent, 1 unreadable. LATE n comes
 last where n late answers were dropped. A number alone, as 12345678, is the one
-meter on the bus that has it; SHARED number where several answer.
+meter on the bus that has it; SHARED number where several have it, or where the
+answers of one are damaged.
 --trace FILE gets each request and answer, as of scan.
 Faults: mbdc: gateway where the link can't be connected or is lost; mbdc: memory";

@@ -32,8 +32,9 @@ const NO_BOUNDARIES: &str =
 const NO_SILENCE: &str =
     "--silent takes days, as 2 or 2d, from 1 to 366, or hours, as 12h; try mbdc status --help";
 
-// Standard input for a file that is read as a whole, or that is written.
-const NO_DASH: &str = "- is standard input for decode and fold alone; a file of that name is ./-";
+// `-` for a file that isn't a stream.
+const NO_DASH: &str =
+    "- is standard input for decode and fold, and standard error for --trace; a file of that name is ./-";
 
 // No bus is connected.
 const NO_LINK: &str = "no bus line has a link; try mbdc poll --help";

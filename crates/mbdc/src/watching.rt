@@ -85,8 +85,8 @@ impl<'h, R: Clock + Eprint> Progress<'h, R> {
         self.course.get().is_answered
     }
 
-    /// Says how many selections had no answer that can be read, if any, also where standard error is no terminal.
-    /// Returns whether there were any.
+    /// Prints how many answers of a search can't be read, if any, also where standard error is no terminal. Returns
+    /// whether there were any.
     pub fn tell_unread(&self) -> bool {
         let mut text = FixedSink::<ROOM>::new();
         if put_unread(&mut text, &self.course.get()).is_err() {

@@ -14,7 +14,7 @@ use std::test::Fail;
 use std::time::Duration;
 use std::{io, str};
 
-// A system with a clock that stands at 2025-01-01, and a terminal of which the last text is kept.
+// A system whose clock shows 2025-01-01, and a terminal that keeps its last text.
 #[derive(Drop)]
 struct System {
     heap: Global,

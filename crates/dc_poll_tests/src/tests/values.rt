@@ -17,7 +17,7 @@ const ROWS: [Row; 4] = [
     Row("00000014.PAD.01.07", 1, Some(4), Kind::Dead, SHORT),
 ];
 
-// What stands in a telegram after the identity: the access number, the status, the signature, and the records (EN
+// The bytes of a telegram after the identity: the access number, the status, the signature, and the records (EN
 // 13757-3). A volume of 12.565 m3, the largest one, and the one of storage number 1.
 const ONE_VALUE: &[u8] = &[
     1, 0, 0, 0, 0x0C, 0x13, 0x65, 0x25, 0x01, 0x00, 0x1C, 0x13, 0x00, 0x00, 0x99, 0x00, 0x4C, 0x13,
