@@ -1,10 +1,10 @@
 /* libmbdc: link frames and telegrams of wired M-Bus (EN 13757-2, EN 13757-3) as text and as JSON.
  *
- * What the comments here say of a function is proved of it (crates/dc_library, crates/dc_check), if the caller keeps
+ * What the comments here say of a function's result is proved (crates/dc_library, crates/dc_check), if the caller keeps
  * to what C asks of any caller: each address is that of as many bytes as the size after it says, and
  * not null; `out` overlaps no other argument. The functions take no memory, keep no state and call
- * nothing of the host but memcpy, memmove and memset: any thread may call them at any time. They use
- * less than 64 KiB of stack.
+ * nothing of the host but memcpy, memmove and memset (tools/library looks): any thread may call them at
+ * any time. No proof speaks of the stack: leave them 64 KiB of it.
  */
 #ifndef MBDC_H
 #define MBDC_H
@@ -66,7 +66,7 @@ typedef struct {
 
 /* Computes what a place consumed from a moment to another: writes to `out` what `mbdc consumption`
  * prints of it in a row, and returns MBDC_DONE; or returns the first of the other results that is
- * so, and leaves `out` as it was. The function uses less than 64 KiB of stack, as the others do.
+ * so, and leaves `out` as it was.
  */
 uint64_t mbdc_consumption(const mbdc_entry *entries, size_t count, uint64_t from, uint64_t to, mbdc_period *out);
 
