@@ -229,15 +229,37 @@ where
         Ok(bus) => bus,
         Err(error) => return host.why.link(None, error),
     };
+    read_observed(host, &mut bus, meter)
+}
+
+// Reads on a bus with any observer.
+fn read_observed<'a, R, O>(
+    host: &Host<'_, R>,
+    bus: &mut OneBus<'_, R, O>,
+    meter: &MeterName,
+) -> Ending<'a>
+where
+    R: Clock + Copy + Print + Eprint + AllocGlobal,
+    O: Observer + Drop,
+{
+    read_on(host, bus, meter)
+}
+
+// Reads on any bus, and says why where the readout failed.
+fn read_on<'a, R, B>(host: &Host<'_, R>, bus: &mut B, meter: &MeterName) -> Ending<'a>
+where
+    R: Clock + Copy + Print + Eprint + AllocGlobal,
+    B: ScriptBus,
+{
     let printer = Noted::new(io::writer(host.rt), host.why);
     let Ok(printer) = LineWriter::new(host.rt.alloc(), printer) else {
         return Ending::Memory;
     };
     let mut writer = WriteSink::new(printer);
-    match read_named(&mut bus, meter, &mut writer) {
-        Ok(Readout::Whole) => end_of(host.why, &bus, writer, Ending::Clean),
+    match read_named(bus, meter, &mut writer) {
+        Ok(Readout::Whole) => ended(host.why, bus.late(), bus.is_lost(), writer, Ending::Clean),
         Ok(Readout::Failed(misses)) => {
-            let ending = end_of(host.why, &bus, writer, Ending::Faulty);
+            let ending = ended(host.why, bus.late(), bus.is_lost(), writer, Ending::Faulty);
             if matches!(ending, Ending::Faulty) {
                 explain(host.rt, &owner_of(meter), &misses);
             }
