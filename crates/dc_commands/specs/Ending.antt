@@ -5,7 +5,7 @@ use Rattle.dc_ending.specs.Outcome.{IsOfFile, StopsAs}
 use Rattle.dc_ending.specs.declared.ending.Ending.{Ending}
 use Rattle.dc_ending.specs.declared.ending.Ending.TheVariants.{Clean, Faulty, Disk}
 use Rattle.dc_ending.specs.declared.fault.ProgramFault.{ProgramFault}
-use Rattle.dc_ending.specs.declared.fault.ProgramFault.TheVariants.{Read, TooLong, Write, NoMemory, Open}
+use Rattle.dc_ending.specs.declared.fault.ProgramFault.TheVariants.{Write}
 use Rattle.dc_poll.specs.declared.outcome.Outcome.{Outcome}
 
 -- A failed commit comes first, then lost output, and then a meter that wasn't read.

@@ -1,8 +1,16 @@
 -- the definitions that contracts cite
 
+-- the bytes of a command's input and output
+pub mod Bytes
 -- how a poll and a script end
 pub mod Ending
 -- the links of a command
 pub mod Linked
+-- the clock of a poll, from one call to the next
+pub mod HostClock
+-- what `poll` does to an image, what it prints, and how it ends
+pub mod PollOver
+-- what `run` does to an image, what it writes, and how it ends
+pub mod RunOver
 -- which buses are waited for
 pub mod Waiting

@@ -14,3 +14,8 @@ module _ {B W : Type 0} (g : Bus B) (adds : W → B → W → Type 0) where
   AddsAwaited [] old new = new ≡ old
   AddsAwaited (station ∷ stations) old new = (mid : W)
       × AddsOne (is_awaited g station) station.bus old mid × AddsAwaited stations mid new
+
+  -- THE LINES THAT ARE AWAITED ARE WAITED FOR: their buses are added, and there is one wait.
+  abbrev pub AreWaitedFor : (waited : W → W → Type 0) → List (Station B) → W → W → Type 0
+  AreWaitedFor waited stations old new =
+      (added : W) × AddsAwaited stations old added × waited added new

@@ -7,6 +7,9 @@
 
 mod connecting;
 mod ending;
+mod known;
+mod known_sink;
+mod known_source;
 mod poll;
 mod run;
 mod timer;

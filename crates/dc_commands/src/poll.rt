@@ -1,18 +1,28 @@
 //! The command `poll` over an image and buses that are open.
 
-ghost use Rattle.std.specs.Prelude.{◌<◌};
+ghost use Rattle.std.specs.Prelude.{◌≡◌, ◌<◌, IsTrue, false, true, is_some};
+ghost use Rattle.std.specs.Io.KnownBytes.{Keeps};
+ghost use Rattle.std.specs.Io.Buffered.{line_writer_contents};
+ghost use Rattle.dc_poll.specs.Telling.{TakesAll};
+ghost use Rattle.dc_commands.specs.Bytes.{IsPrinted, IsWrittenOut};
+ghost use Rattle.dc_commands.specs.PollOver.{ArePolled, PollLeaves, PollsOver, shown_text};
 
 use crate::ending::poll_ending;
+use crate::known::Known;
+use crate::known_sink::{KnownSink, is_written_out};
 use crate::timer::HostTimer;
 use crate::waiting::Waits;
 use dc_bus::QuietBus;
 use dc_disk::Disk;
 use dc_ending::{Ending, ProgramFault};
-use dc_io::WriteSink;
 use dc_poll::{Outcome, Plan, Teller, poll_image};
-use dc_teller::{JsonTeller, Progress, Shown, TextTeller, Unfailing};
+use dc_teller::{
+    JsonTeller, Progress, Shown, TextTeller, Unfailing, events_are_printed_as_json,
+    events_are_printed_as_text, events_are_taken_up_to_a_failure,
+};
 use std::alloc::Global;
 use std::io::{LineWriter, Write};
+use std::marker::Brand;
 use std::rt::Clock;
 
 /// How a poll is printed.
@@ -44,38 +54,111 @@ where
     R: Clock + Eprint,
     O: Write + Drop,
     requires { 0 < plan.tries }
+    // One poll of the image gives the disk, the text and the ending.
+    ensures { PollsOver R D.Disk B.QuietBus O.contents plan.entry.buses.items plan.entry.only.now
+        plan.entry.tries waits out printing.is_json image.now disk result.0 result.1 }
+{
+    let (disk, outcome, is_printed) = poll_printed::<D, B, W, R, O, Brand>(
+        alloc, rt, disk, plan, waits, out, printing,
+    );
+    (disk, poll_ending(outcome, is_printed, image))
+}
+
+// Reads the meters of the plan and prints their events. The last value is whether all was printed.
+fn poll_printed<D, B, W, R, O, K>(
+    alloc: Global,
+    rt: &R,
+    disk: D,
+    plan: Plan<'_, Global, B>,
+    waits: W,
+    out: O,
+    printing: Printing,
+) -> (D, Result<Outcome, ProgramFault>, bool)
+where
+    D: Disk + Drop,
+    B: QuietBus + Drop,
+    W: Waits<B> + Drop,
+    R: Clock + Eprint,
+    O: Write + Drop,
+    K: Known,
+    requires tries { 0 < plan.tries }
+    requires known { K.writes ≡ is_some (O.contents out) }
+    ensures { PollLeaves D.Disk (ArePolled R B.QuietBus plan.entry.buses.items plan.entry.only.now
+        plan.entry.tries waits (λ events.
+        IsPrinted O.contents out result.2 (shown_text printing.is_json events)))
+        disk result.0 result.1 }
 {
     let Ok(out) = LineWriter::new(alloc, out) else {
-        return (disk, Ending::Memory);
+        return (disk, Err(ProgramFault::NoMemory), false);
     };
-    let out = WriteSink::new(out);
+    let out: KnownSink<LineWriter<O>, K> = KnownSink::new(out);
     let progress = Progress::new(rt, printing.is_shown);
     let timer = HostTimer::new(rt, &progress, waits);
     if printing.is_json {
-        let (disk, outcome, done) = poll(
-            alloc,
-            disk,
-            plan,
-            timer,
-            &progress,
-            JsonTeller { out },
-            false,
-        );
-        let is_printed = is_printed(done.has_failed, done.teller.out);
-        (disk, poll_ending(outcome, is_printed, image))
+        poll_json(alloc, disk, plan, timer, &progress, out)
     } else {
-        let (disk, outcome, done) = poll(
-            alloc,
-            disk,
-            plan,
-            timer,
-            &progress,
-            TextTeller { out },
-            true,
-        );
-        let is_printed = is_printed(done.has_failed, done.teller.out);
-        (disk, poll_ending(outcome, is_printed, image))
+        poll_text(alloc, disk, plan, timer, &progress, out)
     }
+}
+
+// Reads the meters of the plan and prints their events as text.
+fn poll_text<'p, 'h, D, B, W, R, O, K>(
+    alloc: Global,
+    disk: D,
+    plan: Plan<'_, Global, B>,
+    timer: HostTimer<'p, 'h, R, W>,
+    progress: &'p Progress<'h, R>,
+    out: KnownSink<LineWriter<O>, K>,
+) -> (D, Result<Outcome, ProgramFault>, bool)
+where
+    D: Disk + Drop,
+    B: QuietBus + Drop,
+    W: Waits<B> + Drop,
+    R: Clock + Eprint,
+    O: Write + Drop,
+    K: Known,
+    requires tries { 0 < plan.tries }
+    requires well { out.sink.failures ≡ 0 }
+    ensures { PollLeaves D.Disk (ArePolled R B.QuietBus plan.entry.buses.items plan.entry.only.now
+        plan.entry.tries timer.entry.waits (λ events. IsWrittenOut O.contents K.writes
+        (line_writer_contents O.contents out.sink.writer) result.2 (shown_text false events)))
+        disk result.0 result.1 }
+{
+    events_are_printed_as_text::<KnownSink<LineWriter<O>, K>>();
+    let teller = TextTeller { out };
+    let (disk, outcome, done) = poll(alloc, disk, plan, timer, progress, teller, true);
+    let is_printed = is_printed(done.has_failed, done.teller.out);
+    (disk, outcome, is_printed)
+}
+
+// Reads the meters of the plan and prints their events as JSON Lines.
+fn poll_json<'p, 'h, D, B, W, R, O, K>(
+    alloc: Global,
+    disk: D,
+    plan: Plan<'_, Global, B>,
+    timer: HostTimer<'p, 'h, R, W>,
+    progress: &'p Progress<'h, R>,
+    out: KnownSink<LineWriter<O>, K>,
+) -> (D, Result<Outcome, ProgramFault>, bool)
+where
+    D: Disk + Drop,
+    B: QuietBus + Drop,
+    W: Waits<B> + Drop,
+    R: Clock + Eprint,
+    O: Write + Drop,
+    K: Known,
+    requires tries { 0 < plan.tries }
+    requires well { out.sink.failures ≡ 0 }
+    ensures { PollLeaves D.Disk (ArePolled R B.QuietBus plan.entry.buses.items plan.entry.only.now
+        plan.entry.tries timer.entry.waits (λ events. IsWrittenOut O.contents K.writes
+        (line_writer_contents O.contents out.sink.writer) result.2 (shown_text true events)))
+        disk result.0 result.1 }
+{
+    events_are_printed_as_json::<KnownSink<LineWriter<O>, K>>();
+    let teller = JsonTeller { out };
+    let (disk, outcome, done) = poll(alloc, disk, plan, timer, progress, teller, false);
+    let is_printed = is_printed(done.has_failed, done.teller.out);
+    (disk, outcome, is_printed)
 }
 
 // Reads the meters of the plan. The teller gets their events up to its first failure.
@@ -95,7 +178,11 @@ where
     R: Clock + Eprint,
     N: Teller + Drop,
     requires { 0 < plan.tries }
+    ensures { PollLeaves D.Disk (ArePolled R B.QuietBus plan.entry.buses.items plan.entry.only.now
+        plan.entry.tries timer.entry.waits (λ events. result.2.has_failed ≡ false
+        → TakesAll N.takes teller result.2.teller events)) disk result.0 result.1 }
 {
+    events_are_taken_up_to_a_failure::<N>();
     let mut timer = timer;
     let mut shown = Shown {
         teller: Unfailing::new(teller),
@@ -109,7 +196,11 @@ where
 }
 
 // Whether all was printed, once what is held back is written out.
-fn is_printed<O: Write + Drop>(has_failed: bool, out: WriteSink<O>) -> bool {
-    let mut sink = out;
-    !has_failed && sink.flush().is_ok()
+fn is_printed<O: Write + Drop, K: Known>(has_failed: bool, out: KnownSink<LineWriter<O>, K>) -> bool
+    ensures took { IsTrue result → has_failed ≡ false }
+    ensures well { IsTrue result → out.sink.failures ≡ 0 }
+    ensures left { IsTrue result → (left : O)
+        × Keeps (line_writer_contents O.contents out.sink.writer) (O.contents left) }
+{
+    !has_failed && is_written_out(out)
 }

@@ -1,6 +1,6 @@
 //! The clock of a poll, and its waits.
 
-ghost use Rattle.std.specs.Prelude.{◌≡◌, false};
+ghost use Rattle.std.specs.Prelude.{◌≡◌};
 
 use crate::waiting::{Waits, add_awaited};
 use dc_bus::QuietBus;
@@ -23,7 +23,10 @@ pub struct HostTimer<'p, 'h, R, W: Drop> {
 
 impl<'p, 'h, R: Clock + Eprint, W: Drop> HostTimer<'p, 'h, R, W> {
     /// Begins with the time 0.
-    pub fn new(rt: &'h R, progress: &'p Progress<'h, R>, waits: W) -> Self {
+    pub fn new(rt: &'h R, progress: &'p Progress<'h, R>, waits: W) -> Self
+        ensures waits { result.waits ≡ waits }
+        ensures begins { result.last.seconds ≡ 0 }
+    {
         HostTimer {
             rt,
             last: Moment { seconds: 0 },
@@ -39,15 +42,15 @@ where
     R: Clock + Eprint,
     W: Waits<B> + Drop,
 {
-    ghost use Rattle.std.specs.Prelude.{◌≡◌, false};
+    ghost use Rattle.std.specs.Prelude.{◌≡◌, true};
+    ghost use Rattle.dc_commands.specs.HostClock.{IsWarned, LetsPass, TellsTime};
+    ghost use Rattle.dc_commands.specs.Waiting.{AreWaitedFor};
 
-    // What a clock tells is in no contract.
-    ghost tells = { λ old moment new. new.waits ≡ old.waits };
+    ghost tells = { TellsTime };
 
-    // Where the poll may not sleep, nothing is waited for.
-    ghost passes = { λ old may_sleep new. may_sleep ≡ false → new ≡ old };
+    ghost passes = { LetsPass };
 
-    ghost warns = { λ old new. new ≡ old };
+    ghost warns = { IsWarned };
 
     fn now(&mut self) -> Moment {
         if let Ok(now) = SystemTime::now(self.rt)
@@ -59,7 +62,11 @@ where
         self.last
     }
 
-    fn pause(&mut self, stations: &[Station<'_, B>], may_sleep: bool) {
+    fn pause(&mut self, stations: &[Station<'_, B>], may_sleep: bool)
+        ensures passes { LetsPass self.old may_sleep self.new }
+        ensures waits { may_sleep ≡ true → AreWaitedFor B.QuietBus W.adds W.waited stations.now
+            self.old.waits self.new.waits }
+    {
         self.progress.show(stations);
         if may_sleep {
             add_awaited(stations, &mut self.waits);

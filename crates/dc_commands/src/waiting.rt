@@ -13,12 +13,16 @@ pub trait Waits<B> {
     // It added a bus to those that it waits for.
     ghost adds: { Self → B → Self → Type 0 };
 
+    // It waited for the buses that were added.
+    ghost waited: { Self → Self → Type 0 } = { λ _ _. Unit {0} };
+
     /// Adds a bus to those that the next wait is for.
     fn add_bus(&mut self, bus: &B)
         ensures { adds self.old bus.now self.new };
 
     /// Waits for the buses that were added, and forgets them.
-    fn wait_for_all(&mut self);
+    fn wait_for_all(&mut self)
+        ensures { waited self.old self.new };
 }
 
 impl<B: Watched> Waits<B> for Watch {

@@ -1,4 +1,4 @@
-use Rattle.std.proofs.Common.{length, ◌≡◌, ℕ, ◌+◌, ◌-◌, ◌*◌, ◌<◌, ◌≤◌}
+use Rattle.std.proofs.Common.{length}
 use Rattle.dc_commands.proofs.waiting.+add_awaited.Given as goal
 
 abbrev pub decreases-add_awaited : goal.decreases-add_awaited
