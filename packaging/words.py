@@ -2,7 +2,8 @@
 """Makes what packaging/commands.txt and `mbdc --help` say into completions and parts of a manual page.
 
 `words.py bash|zsh|synopsis|commands PROGRAM` prints that. `words.py check PROGRAM` prints each difference between the
-list and the help of the program, with status 1 where there is one.
+list and the help of the program, with status 1 where there is one. `words.py help PROGRAM` writes packaging/help anew: the help
+of the program and of each command, and what it says of the mistakes that packaging/help/mistakes.txt lists.
 """
 
 import pathlib
@@ -14,6 +15,7 @@ from collections.abc import Iterator
 from typing import Optional
 
 LIST = pathlib.Path(__file__).with_name("commands.txt")
+TEXTS = pathlib.Path(__file__).with_name("help")
 OF_THE_PROGRAM = ["--verbose", "--help", "--version"]
 OF_EACH_COMMAND = OF_THE_PROGRAM[:2]
 NO_GROUPS = {"Arguments:", "Options:", "Example:"}  # the other sections of a help
@@ -265,11 +267,25 @@ where its line on standard error names a file, a bus line or a disk, a second li
 has what the system said of it."""
 
 
+def write_help(program: str) -> None:
+    """Writes what the program says into packaging/help."""
+    for name in ["mbdc", *(it.name for it in listed())]:
+        words = [program, *([] if name == "mbdc" else [name]), "--help"]
+        (TEXTS / f"{name}.txt").write_bytes(subprocess.run(words, stdout=subprocess.PIPE, check=True).stdout)
+    mistakes = TEXTS / "mistakes.txt"
+    lines = [line.split(" => ")[0] for line in mistakes.read_text().splitlines()]
+    said = (subprocess.run([program, *shlex.split(it)], stdin=subprocess.DEVNULL, capture_output=True, text=True).stderr for it in lines)
+    mistakes.write_text("".join(f"{words} => {text}" for words, text in zip(lines, said)))
+
+
 def main() -> int:
     makers = {"bash": bash, "zsh": zsh, "synopsis": synopsis, "commands": commands_of}
-    if len(sys.argv) != 3 or sys.argv[1] not in [*makers, "check"]:
+    if len(sys.argv) != 3 or sys.argv[1] not in [*makers, "check", "help"]:
         print(__doc__, file=sys.stderr)
         return USAGE
+    if sys.argv[1] == "help":
+        write_help(sys.argv[2])
+        return 0
     if sys.argv[1] != "check":
         print(makers[sys.argv[1]](sys.argv[2]), end="")
         return 0

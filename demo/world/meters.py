@@ -16,6 +16,7 @@ FRAME_COUNT = 0x20  # the bit of a control byte
 ANY_DIGIT, ANY_BYTE = "f", 0xFF  # in a wildcard address
 KINDS = (0x06, 0x07)  # warm water, water
 GREATEST = 250  # primary address
+LOW_BATTERY = 0x04  # the bit of a status byte
 
 
 @dataclasses.dataclass
@@ -38,6 +39,7 @@ class Meter:
         self.name, self.address = str(self.identity), str(primary or "S")
         self.litres, self.telegrams, self.access = rng.randrange(80_000_000), rng.choice((1, 2)), rng.randrange(256)
         self.due, self.due_litres = DUE_BEFORE, rng.randrange(self.litres)
+        self.status = 0  # its status byte
         self.bit: Optional[int] = None
         self.place, self.is_selected = 0, False
         self.readouts: list[Readout] = []
@@ -58,7 +60,7 @@ class Meter:
         now = VOLUME + bcd(self.litres)
         due = STORED_DATE + type_g(self.due) + STORED_VOLUME + bcd(self.due_litres)
         parts = [now + due] if self.telegrams == 1 else [now + MORE, due]
-        bodies = [header(self.identity, self.access + place) + part for place, part in enumerate(parts)]
+        bodies = [header(self.identity, self.access + place, self.status) + part for place, part in enumerate(parts)]
         self.readouts.append(Readout(self.name, moment, bodies))
         self.place, self.access = 0, self.access + len(parts)
         return self.readouts[-1]

@@ -6,17 +6,22 @@ from typing import Type
 
 from world.bus import Bus
 from world.gateways import Gateway
-from world.meters import meters_of, shown
+from world.meters import LOW_BATTERY, meters_of, shown
 
 
 def serve(about: str, kind: Type[Gateway]) -> None:
-    """Prints the port, and each meter with its primary address or `S` and its flat; then serves."""
+    """Prints the port, and each meter with its primary address or `S` and its flat, also a dead one; then serves."""
     words = argparse.ArgumentParser(description=about)
     words.add_argument("meters", type=int, help="how many")
     words.add_argument("--port", type=int, default=0, help="one that is free, if none is named")
     words.add_argument("--seed", type=int, default=1, help="of chance (1)")
+    words.add_argument("--dead", type=int, metavar="N", help="the Nth meter doesn't answer")
+    words.add_argument("--low-battery", type=int, metavar="N", help="the Nth meter has a low battery")
     given = words.parse_args()
     meters = meters_of(given.meters, random.Random(given.seed))
-    gateway = kind(Bus(meters, random.Random(given.seed)), given.port)
+    for place, meter in enumerate(meters, 1):
+        meter.status = LOW_BATTERY if place == given.low_battery else 0
+    living = [meter for place, meter in enumerate(meters, 1) if place != given.dead]
+    gateway = kind(Bus(living, random.Random(given.seed)), given.port)
     print(f"gateway {gateway.address}\n{shown(meters)}", end="", flush=True)
     gateway.run()
