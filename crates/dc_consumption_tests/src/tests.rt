@@ -1,4 +1,0 @@
-//! Tests of consumption, by topic.
-
-mod amounts;
-mod table;
