@@ -12,7 +12,7 @@ from test_migrate import shape
 HEAT_METER = "33333333.PAD.01.04"
 MOVED = "MOVE 22222222.PAD.01.07 B7"
 FILLED = ("boxes", "box_commands", "day_values", "fittings", "meters", "orders", "places", "points", "readings")
-# What FLEET does with a dump of an older office
+# What OFFICE does with a dump of an older office
 OLD_PATH, PATH = "'search_path', ''", "'search_path', 'public'"
 
 

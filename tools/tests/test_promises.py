@@ -61,11 +61,34 @@ def test_braces(promises: types.ModuleType, line: str, depth: int) -> None:
 
 
 def test_carriers(promises: types.ModuleType) -> None:
-    found = list(promises.carriers("dc_x", "parse: found only; dc_io/Lines::next; law"))
+    found = list(promises.carriers("dc_x", "`parse` (found, only) internal `dc_io/Lines::next` `law`"))
     assert found == [("dc_x", "parse", ["found", "only"]), ("dc_io", "Lines::next", []), ("dc_x", "law", [])]
+
+
+@pytest.mark.parametrize("cell", ["parse", "`parse` found", "`parse` (found"])
+def test_a_cell_that_names_no_function_ends_the_tool(promises: types.ModuleType, cell: str) -> None:
+    with pytest.raises(SystemExit):
+        list(promises.carriers("dc_x", cell))
 
 
 def test_a_promise_that_nothing_carries_is_a_fault(promises: types.ModuleType) -> None:
     tree = types.SimpleNamespace(faults=[])
-    assert promises.Promise("dc_x", "All is well").carried_by(tree) == ""
+    assert promises.Promise("| All is well | dc_x | - |").carried_by(tree) == ""
     assert tree.faults == ["dc_x: nothing carries: All is well"]
+
+
+def crate_with(promises: types.ModuleType, file: pathlib.Path) -> types.SimpleNamespace:
+    functions = promises.functions_of("dc_x", file)
+    return types.SimpleNamespace(name="dc_x", functions=functions, types=set(), mutants={"keeps_nothing": "must-fail", "waits": "mutants"},
+                                 find=lambda name: [function for function in functions if name in function.names()])
+
+
+def test_rows_are_marked_and_other_mutants_listed(promises: types.ModuleType, tmp_path: pathlib.Path) -> None:
+    (tmp_path / "store.rt").write_text(SOURCE)
+    tree = promises.Tree.__new__(promises.Tree)
+    tree.crates, tree.faults = {"dc_x": crate_with(promises, tmp_path / "store.rt")}, []
+    text = f"{promises.ROWS}\n|---|---|---|\n| Kept \\| dropped | dc_x internal `Store::append` (done, gone) | `keeps_nothing` |\n\nProse.\n"
+    page = promises.page(tree, text)
+    assert "| Kept \\| dropped | dc_x `Store::append` (done, gone) | **`keeps_nothing`** |\n\nProse.\n" in page
+    assert page.endswith("* dc_x: `waits`\n") and promises.page(tree, page) == page
+    assert set(tree.faults) == {"dc_x: Store::append has no clause gone", "dc_x: no promise names the theorem law"}
