@@ -27,17 +27,6 @@ START = "AT 1735689600\n"
 FIRST_DAY, DAYS = datetime.date(2010, 1, 1), 7000  # due dates
 
 
-def words_given(*defaults: object) -> list[str]:
-    """The words of the command line, after the folder; those that are left out have their defaults."""
-    given = sys.argv[2:]
-    return [*given, *map(str, defaults[len(given):])]
-
-
-def folder_given() -> Optional[str]:
-    """The folder for the files, the first word; none: a temporary one."""
-    return sys.argv[1] if len(sys.argv) > 1 else None
-
-
 def frame(address: int, number: int, records: str) -> str:
     """An answer of the meter with that number, in hex digits."""
     return digits(answer(address, header(Identity(number), access=1) + bytes.fromhex(records)))
@@ -63,9 +52,9 @@ def fits(meters: int) -> str:
     return "".join(fit(n + 1, n + 1, 1 + n % 4, 1 + n // 4) for n in range(meters))
 
 
-def readout(line: int, place: int, telegrams: Iterable[str], after: str = "") -> str:
-    """A readout of the meter at that place; `after` follows each telegram."""
-    return f"START {line} {ident(place)}\nHEAR {line} E5\n" + "".join(f"HEAR {line} {it}\n{after}" for it in telegrams)
+def readout(line: int, place: int, telegrams: Iterable[str]) -> str:
+    """A readout of the meter at that place."""
+    return f"START {line} {ident(place)}\nHEAR {line} E5\n" + "".join(f"HEAR {line} {it}\n" for it in telegrams)
 
 
 def reading(n: int, meters: int) -> str:
