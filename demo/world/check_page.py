@@ -1,50 +1,26 @@
-#!/usr/bin/env python3
-"""The page that checks a sheet (out/library/check.html) in Chromium, against `mbdc consumption`.
+"""The cases of the page that checks a sheet, against `mbdc consumption`.
 
-    demo/check [--program MBDC] [--places 300] [--seed 1] [--sheets FOLDER] [--pictures FOLDER]
+The places have exchanges, steps backwards, entries that repeat a moment, gaps, and values up to 18 digits; the page's copy has to be what
+the program prints, byte for byte."""
 
-A line for each case, and at last `N passed, M failed`. The places have exchanges, steps backwards, entries that repeat a
-moment, gaps, and values up to 18 digits; the page's copy has to be what the program prints, byte for byte. Further: links
-that carry what a sheet says, faults by name, hostile text, the keyboard, labels, contrast, two widths. --sheets opens
-each link of the sheets that demo/office --out kept. --pictures keeps pictures. Needs what tools/library and tools/page
-make, the program ($MBDC, else ./mbdc), and Debian's chromium, chromium-driver and python3-selenium."""
-
-import argparse
 import html
-import importlib.machinery
-import importlib.util
 import json
-import os
 import pathlib
 import random
 import re
 import subprocess
-import sys
 import tempfile
-import types
 import urllib.parse
-from typing import Any
+from typing import Optional
 
-sys.dont_write_bytecode = True
-from world.cases import Cases, wants  # noqa: E402
+from world.browser import Browser, each_look
+from world.cases import wants
 
-ROOT = pathlib.Path(__file__).resolve().parent.parent
-PAGE = ROOT / "out" / "library" / "check.html"
 HEADER = "place,meter,moment,value\n"
 EXAMPLE = HEADER + "A1,1,100,1000\nA1,1,300,1080\nA1,2,300,7\nA1,2,500,27\n"
 MOST = 10 ** 18 - 1
 MOST_ENTRIES = 2048
 SAID = {"entries": EXAMPLE, "boundaries": "100,400,500", "unit": "kWh", "scale": "8", "said": "11.3;1.2"}  # 90 / 8, 10 / 8
-
-
-def of_page() -> types.ModuleType:
-    """demo/page, whose browser this is."""
-    loader = importlib.machinery.SourceFileLoader("page", str(ROOT / "demo" / "page"))
-    spec = importlib.util.spec_from_loader("page", loader)
-    assert spec is not None
-    module = importlib.util.module_from_spec(spec)
-    loader.exec_module(module)
-    return module
 
 
 def entries_of(rng: random.Random, place: str) -> str:
@@ -76,15 +52,14 @@ def printed(program: str, entries: str, boundaries: str) -> str:
         return subprocess.run([program, "consumption", file.name, boundaries], capture_output=True, text=True, check=True).stdout
 
 
-def compute(browser: Any, entries: str, boundaries: str) -> str:
+def compute(browser: Browser, entries: str, boundaries: str) -> str:
     """Computes as who presses the button does. Returns what the page says of it."""
     browser.run(f"document.getElementById('entries').value = {json.dumps(entries)};"
                 f"document.getElementById('boundaries').value = {json.dumps(boundaries)}; document.getElementById('form').requestSubmit();")
-    said: str = browser.said()
-    return said
+    return browser.said()
 
 
-def equal(browser: Any, program: str, places: int, seed: int) -> None:
+def equal(browser: Browser, program: str, places: int, seed: int) -> None:
     """The page's table is the program's."""
     rng = random.Random(seed)
     for first in range(0, places, 20):
@@ -102,7 +77,7 @@ def equal(browser: Any, program: str, places: int, seed: int) -> None:
     wants("TooLarge" in browser.run("return csv();") and browser.run("return csv();") == printed(program, large, "0,59"), "an amount of 2^64 or more")
 
 
-def links(browser: Any) -> None:
+def links(browser: Browser) -> None:
     """A link carries the entries and what the sheet says, and the page says whether that is so."""
     browser.open(urllib.parse.urlencode(SAID))
     wants(browser.said() == "2 periods computed. The sheet differs in 1.", browser.said())  # (1.25 is rounded to 1.3)
@@ -118,7 +93,7 @@ def links(browser: Any) -> None:
     wants("isn't read" in browser.said(), browser.said())
 
 
-def faults(browser: Any) -> None:
+def faults(browser: Browser) -> None:
     """Each input that can't be computed has its sentence, and the page works on."""
     browser.open()
     many = HEADER + "".join(f"A,1,{at},1\n" for at in range(MOST_ENTRIES + 1))
@@ -134,7 +109,7 @@ def faults(browser: Any) -> None:
     wants("1 period computed" in compute(browser, EXAMPLE.replace("\n", "\r\n"), "1970-01-02, 1970-01-03"), browser.said())
 
 
-def hostile(browser: Any) -> None:
+def hostile(browser: Browser) -> None:
     """Text that isn't numbers harms nothing."""
     browser.open()
     for name in ("<img src=x onerror=document.title=1>", "<script>document.title=1</script>", "__proto__", "\u202eabc", "\U0001f600" * 20):
@@ -145,7 +120,7 @@ def hostile(browser: Any) -> None:
     wants(not browser.errors(), "the browser logged errors")
 
 
-def keyboard(browser: Any) -> None:
+def keyboard(browser: Browser) -> None:
     """The keyboard reaches all, a screen reader gets names and a table, and both languages have each word."""
     from selenium.webdriver.common.keys import Keys
     browser.open()
@@ -165,7 +140,7 @@ def keyboard(browser: Any) -> None:
     wants(sum(role == "row" for role, _ in known) == 3 and sum(role == "columnheader" for role, _ in known) == 6, "rows and heads of the table")
 
 
-def sheets(browser: Any, folder: pathlib.Path) -> None:
+def sheets(browser: Browser, folder: pathlib.Path) -> None:
     """Each link of the office's sheets computes what the sheet says."""
     browser.open()
     links = [html.unescape(link) for file in sorted(folder.rglob("*.html"))
@@ -180,51 +155,15 @@ def sheets(browser: Any, folder: pathlib.Path) -> None:
     wants(saying > 0, "no link says anything")
 
 
-def looks(browser: Any, page: types.ModuleType, folder: pathlib.Path | None) -> None:
+def looks(browser: Browser, folder: Optional[pathlib.Path]) -> None:
     """Nothing is wider than the window, and each text has contrast: both languages, light and dark, two widths."""
     words = urllib.parse.urlencode({**SAID, "entries": EXAMPLE + "A1,2,600,20\nA1,2,900,50\nStair,1,100,1\nStair,1,900,90000000\n",
                                     "boundaries": "100,400,550,800,1000", "said": "11.25;1.2;0;-;5;-;-;-", "scale": "8"})
-    for language, scheme, width in page.each_look():
+    for language, scheme, width in each_look():
         browser.open(words, language, scheme, width)
-        look = f"{language}, {scheme}, {width}"
-        wants(not browser.run(page.OUTSIDE), f"{look}: {browser.run(page.OUTSIDE)[:3]}")
-        wants(not browser.run(page.CONTRAST, page.LEAST_CONTRAST), f"{look}: {browser.run(page.CONTRAST, page.LEAST_CONTRAST)[:5]}")
+        browser.looks_well(f"{language}, {scheme}, {width}")
         if folder:
-            folder.mkdir(parents=True, exist_ok=True)
-            height = browser.run("return document.documentElement.scrollHeight;")
-            browser.tell("Emulation.setDeviceMetricsOverride", width=width, height=height, deviceScaleFactor=1, mobile=False)
-            browser.driver.save_screenshot(str(folder / f"check-{language}-{scheme}-{width}.png"))
+            browser.keep_picture(folder / f"check-{language}-{scheme}-{width}.png", width)
 
 
-def main() -> int:
-    """Runs the cases."""
-    words = argparse.ArgumentParser(description=__doc__, formatter_class=argparse.RawDescriptionHelpFormatter)
-    words.add_argument("--program", default=os.environ.get("MBDC", str(ROOT / "mbdc")))
-    words.add_argument("--places", type=int, default=300)
-    words.add_argument("--seed", type=int, default=1)
-    words.add_argument("--pictures", type=pathlib.Path)
-    words.add_argument("--sheets", type=pathlib.Path, help="sheets of office/sheets, whose links are opened")
-    given = words.parse_args()
-    if not PAGE.exists():
-        sys.exit("check: there is no out/library/check.html: tools/library, then tools/page")
-    page = of_page()
-    setattr(page, "PAGE", PAGE)
-    try:
-        browser = page.Browser()
-    except ImportError:
-        sys.exit("check: apt-get install chromium chromium-driver python3-selenium")
-    cases = Cases()
-    try:
-        cases.run(equal, browser, given.program, given.places, given.seed)
-        for case in (links, faults, hostile, keyboard):
-            cases.run(case, browser)
-        if given.sheets:
-            cases.run(sheets, browser, given.sheets)
-        cases.run(looks, browser, page, given.pictures)
-    finally:
-        browser.driver.quit()
-    return cases.end()
-
-
-if __name__ == "__main__":
-    sys.exit(main())
+CASES = [links, faults, hostile, keyboard]
