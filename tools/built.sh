@@ -35,9 +35,24 @@ is_built() {
     is_kept mbdc
 }
 
-# Takes a program that was just proved and linked, from these sources by this toolchain.
+# The commit of the present sources, with a + where they differ from it; nothing outside of a checkout.
+commit() {
+    local of
+    of=$(git -C "$root" rev-parse --short=12 HEAD 2>/dev/null) || return 0
+    [ -z "$(git -C "$root" status --porcelain -- crates crates.txt)" ] || of+=+
+    printf '%s\n' "$of"
+}
+
+# Takes a program that was just proved and linked, from these sources by this toolchain. No proof depends on the commit.
 keep_program() {
     local kept=$built/$1
     mkdir -p -- "$built" && cp -- "$root/crates/$1/out/$1" "$kept.new" && mv -f -- "$kept.new" "$kept" \
-        && printf '%s\n' "$3" >"$kept.toolchain" && printf '%s\n' "$2" >"$kept.sources"
+        && commit >"$kept.commit" && printf '%s\n' "$3" >"$kept.toolchain" && printf '%s\n' "$2" >"$kept.sources"
+}
+
+# What a built program is: version and logic, as it says itself, and the commit that it was built of.
+version_and_commit() {
+    local of
+    of=$(cat -- "$1.commit" 2>/dev/null) || of=
+    printf '%s%s\n' "$("$1" --version)" "${of:+, commit $of}"
 }
