@@ -48,13 +48,15 @@ typedef struct {
     uint64_t moment; /* in seconds */
     uint64_t meter;  /* any number that tells it from the place's other meters */
     uint64_t value;  /* in the place's smallest unit */
+    uint64_t most;   /* what the meter can count in an hour; 0: not declared */
+    uint64_t size;   /* the value from which the meter goes on at 0; 0: it has no turn */
 } mbdc_entry;
 
 /* What a place consumed in a period. */
 typedef struct {
     uint64_t known;     /* 1; 0 where the period isn't between the first and the last entry; 2 from 2^64 on */
     uint64_t amount;    /* 0 unless known is 1 */
-    uint64_t backwards; /* steps that touch the period in which a meter ran backwards, or after such a step */
+    uint64_t backwards; /* marked steps that touch the period: doubtful, before a doubtful one, or after one */
     uint64_t exchanges; /* steps that touch the period from one meter to another */
 } mbdc_period;
 

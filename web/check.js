@@ -2,11 +2,12 @@
 // The page on which a sheet is checked. MODULE (base64) is set before this text.
 
 const PAGE = 65536; // bytes of a page of the module's memory
-const ENTRY = 3; // numbers of an entry: moment, meter, value
+const ENTRY = 5; // numbers of an entry: moment, meter, value, most, size
 const PERIOD = 4; // numbers of a period: known, amount, backwards, exchanges
 const DECIMALS = 3; // of an amount in a sheet's unit, where the sheet says nothing
 const SHOWN = 2000; // rows; more would make the page slow
 const HEADER = "place,meter,moment,value";
+const FACTS_HEADER = `${HEADER},most,size`;
 const NUMBER = /^(0|[1-9][0-9]{0,17})$/;
 // eslint-disable-next-line no-control-regex
 const PLACE = /^[^\u0000-\u001F",]+$/;
@@ -17,38 +18,40 @@ const MOST_SECONDS = 8640000000000n; // of a date that a browser shows
 const WORDS = {
   en: {
     title: "Check a consumption", about: "Computes what a place consumed from the readings of its meters. Nothing leaves this page.",
-    entries: "Readings: place,meter,moment,value in each line (moment in Unix seconds, value in the place's smallest unit)",
+    entries: "Readings: place,meter,moment,value in each line (moment in Unix seconds, value in the place's smallest unit); after a first line "
+      + "place,meter,moment,value,most,size also what the meter can count in an hour, and the value from which it goes on at 0",
     boundaries: "Beginning and end of the periods: dates (2025-01-31, at 00:00 of this computer's time zone) or Unix seconds, separated by commas",
     compute: "Compute", csv: "Copy as CSV", link: "Copy link", other: "Deutsch", copied: "Copied.",
     notCopied: "The browser doesn't allow copying.",
     proved: "The amounts and the marks are computed by a proved module, by the definitions that mbdc consumption prints by. This page's own words, "
       + "what it reads of a line or a link, and the division to another unit are not proved.",
     refused: "This page needs a browser with 64-bit WebAssembly memory: Chrome or Edge 133, Firefox 134, or later.",
-    caption: "Consumption", place: "Place", from: "From", to: "To", amount: "Amount", backwards: "Ran backwards", exchanges: "Exchanges",
+    caption: "Consumption", place: "Place", from: "From", to: "To", amount: "Amount", backwards: "In doubt", exchanges: "Exchanges",
     shown: "Computed", sheet: "The sheet says", same: "the same", differs: "differs", unknown: "not between the first and the last reading",
     large: "2^64 or more", marked: "no number for a bill",
     rows: (n) => `${n} ${n === 1 ? "period" : "periods"} computed.`, differing: (n) => `The sheet differs in ${n}.`, agreeing: "The sheet says the same.",
     more: (n) => `${n} more are not shown; the copy has them.`, line: (n, what) => `Line ${n}: ${what}.`,
-    fields: "not a place and three whole numbers", noBoundaries: "There are no two moments.", moment: (one) => `No moment: ${one}.`,
+    fields: "not a place and three whole numbers, or five after a first line that names them", facts: "the meter's most and size aren't the last line's", noBoundaries: "There are no two moments.", moment: (one) => `No moment: ${one}.`,
     order: "Each moment must be later than the one before it.", nothing: "There are no readings.",
     faults: ["", "more than 2,048 readings", "the period ends before it begins", "a reading comes before the last one"],
     at: (place, what) => `Place ${place}: ${what}.`, badSaid: "What the sheet says in this link isn't read.",
   },
   de: {
     title: "Verbrauch nachrechnen", about: "Berechnet aus den Ablesungen der Zähler, was ein Ort verbraucht hat. Nichts verlässt diese Seite.",
-    entries: "Ablesungen: je Zeile place,meter,moment,value (Ort, Zähler, Zeitpunkt in Unix-Sekunden, Wert in der kleinsten Einheit des Ortes)",
+    entries: "Ablesungen: je Zeile place,meter,moment,value (Ort, Zähler, Zeitpunkt in Unix-Sekunden, Wert in der kleinsten Einheit des Ortes); nach "
+      + "einer ersten Zeile place,meter,moment,value,most,size auch, was der Zähler in einer Stunde zählen kann, und der Wert, ab dem er bei 0 weiterzählt",
     boundaries: "Beginn und Ende der Zeiträume: Tage (2025-01-31, um 00:00 in der Zeitzone dieses Rechners) oder Unix-Sekunden, durch Kommas getrennt",
     compute: "Berechnen", csv: "Als CSV kopieren", link: "Link kopieren", other: "English", copied: "Kopiert.",
     notCopied: "Der Browser erlaubt das Kopieren nicht.",
     proved: "Die Beträge und die Merkmale berechnet ein bewiesenes Modul nach den Definitionen, nach denen mbdc consumption druckt. Die Wörter dieser Seite, "
       + "was sie aus einer Zeile oder einem Link liest, und die Umrechnung in eine andere Einheit sind nicht bewiesen.",
     refused: "Diese Seite braucht einen Browser mit 64-Bit-Speicher für WebAssembly: Chrome oder Edge 133, Firefox 134 oder neuer.",
-    caption: "Verbrauch", place: "Ort", from: "Von", to: "Bis", amount: "Betrag", backwards: "Lief rückwärts", exchanges: "Zählerwechsel",
+    caption: "Verbrauch", place: "Ort", from: "Von", to: "Bis", amount: "Betrag", backwards: "Zweifelhaft", exchanges: "Zählerwechsel",
     shown: "Berechnet", sheet: "Das Blatt sagt", same: "gleich", differs: "weicht ab", unknown: "nicht zwischen der ersten und der letzten Ablesung",
     large: "2^64 oder mehr", marked: "keine Zahl für eine Abrechnung",
     rows: (n) => `${n} ${n === 1 ? "Zeitraum" : "Zeiträume"} berechnet.`, differing: (n) => `Das Blatt weicht in ${n} ab.`, agreeing: "Das Blatt sagt dasselbe.",
     more: (n) => `${n} weitere werden nicht gezeigt; die Kopie enthält sie.`, line: (n, what) => `Zeile ${n}: ${what}.`,
-    fields: "kein Ort mit drei ganzen Zahlen", noBoundaries: "Es fehlen zwei Zeitpunkte.", moment: (one) => `Kein Zeitpunkt: ${one}.`,
+    fields: "kein Ort mit drei ganzen Zahlen, oder fünf nach einer ersten Zeile, die sie nennt", facts: "most und size des Zählers sind nicht die der vorigen Zeile", noBoundaries: "Es fehlen zwei Zeitpunkte.", moment: (one) => `Kein Zeitpunkt: ${one}.`,
     order: "Jeder Zeitpunkt muss nach dem vorigen liegen.", nothing: "Es gibt keine Ablesungen.",
     faults: ["", "mehr als 2048 Ablesungen", "der Zeitraum endet vor seinem Beginn", "eine Ablesung liegt vor der vorigen"],
     at: (place, what) => `Ort ${place}: ${what}.`, badSaid: "Was das Blatt in diesem Link sagt, ist nicht lesbar.",
@@ -89,19 +92,30 @@ function periodsOf({ name, entries }, boundaries) {
 
 class Fault extends Error {}
 
+// Whether a meter's facts aren't those of the line before.
+function hasOtherFacts(entries, [, meter, , most, size]) {
+  const [before, , lastMost, lastSize] = entries.slice(1 - ENTRY);
+  return before === meter && (lastMost !== most || lastSize !== size);
+}
+
 // The places of the readings, each with the numbers of its entries one after the other.
 function placesOf(text) {
   const words = WORDS[language];
   const places = new Map();
-  text.split("\n").forEach((whole, n) => {
-    const line = whole.replace(/\r$/, "");
-    if (line === "" || (n === 0 && line.replace(/^\uFEFF/, "") === HEADER)) return;
-    const [place, meter, moment, value, ...more] = line.split(",");
-    if (more.length || !PLACE.test(place) || ![meter, moment, value].every((one) => NUMBER.test(one ?? ""))) {
+  const lines = text.split("\n").map((whole) => whole.replace(/\r$/, ""));
+  const header = lines[0].replace(/^\uFEFF/, "");
+  const hasFacts = header === FACTS_HEADER;
+  lines.forEach((line, n) => {
+    if (line === "" || (n === 0 && (hasFacts || header === HEADER))) return;
+    const [place, ...numbers] = line.split(",");
+    if (numbers.length !== (hasFacts ? 5 : 3) || !PLACE.test(place) || !numbers.every((one) => NUMBER.test(one))) {
       throw new Fault(words.line(n + 1, words.fields));
     }
+    const [meter, moment, value, most = 0n, size = 0n] = numbers.map(BigInt);
+    const entry = [moment, meter, value, most, size];
     if (!places.has(place)) places.set(place, []);
-    places.get(place).push(BigInt(moment), BigInt(meter), BigInt(value));
+    if (hasOtherFacts(places.get(place), entry)) throw new Fault(words.line(n + 1, words.facts));
+    places.get(place).push(...entry);
   });
   if (!places.size) throw new Fault(words.nothing);
   return Array.from(places, ([name, entries]) => ({ name, entries }));

@@ -1,7 +1,7 @@
 """The cases of the page that checks a sheet, against `mbdc consumption`.
 
-The places have exchanges, steps backwards, entries that repeat a moment, gaps, and values up to 18 digits; the page's copy has to be what
-the program prints, byte for byte."""
+The places have exchanges, steps backwards, entries that repeat a moment, gaps, turns, leaps beyond what a meter counts, and values up to 18
+digits; the page's copy has to be what the program prints, byte for byte."""
 
 import html
 import json
@@ -17,6 +17,7 @@ from world.browser import Browser, each_look
 from world.cases import wants
 
 HEADER = "place,meter,moment,value\n"
+FACTS_HEADER = "place,meter,moment,value,most,size\n"
 EXAMPLE = HEADER + "A1,1,100,1000\nA1,1,300,1080\nA1,2,300,7\nA1,2,500,27\n"
 MOST = 10 ** 18 - 1
 MOST_ENTRIES = 2048
@@ -44,6 +45,18 @@ def entries_of(rng: random.Random, place: str) -> str:
     return "".join(lines)
 
 
+def with_facts(rng: random.Random, entries: str) -> str:
+    """The entries with facts of their meters: now and then what it counts in an hour, and its size."""
+    made: list[str] = []
+    facts: dict[tuple[str, ...], str] = {}
+    for line in entries.splitlines():
+        meter = tuple(line.split(",")[:2])
+        size = rng.choice((0, 10 ** 3, 10 ** 6, 10 ** 17))
+        most = facts.setdefault(meter, f"{rng.choice((0, 20, 10 ** 6))},{size}")
+        made.append(f"{line},{most}\n")
+    return "".join(made)
+
+
 def printed(program: str, entries: str, boundaries: str) -> str:
     """What the program prints."""
     with tempfile.NamedTemporaryFile("w", suffix=".csv") as file:
@@ -64,7 +77,9 @@ def equal(browser: Browser, program: str, places: int, seed: int) -> None:
     rng = random.Random(seed)
     for first in range(0, places, 20):
         names = [f"P{number:05}" for number in range(first, min(first + 20, places))]
-        entries = HEADER + "".join(entries_of(rng, name) for name in names)
+        entries = "".join(entries_of(rng, name) for name in names)
+        has_facts = rng.random() < 0.5
+        entries = FACTS_HEADER + with_facts(rng, entries) if has_facts else HEADER + entries
         moments = sorted(rng.sample(range(200000), rng.randrange(2, 14)))
         moments = sorted({*moments, *(int(line.split(",")[2]) for line in rng.sample(entries.splitlines()[1:], 5))})
         boundaries = ",".join(map(str, moments))
@@ -101,7 +116,9 @@ def faults(browser: Browser) -> None:
             ("", "1,2", "no readings"), (EXAMPLE, "1", "two moments"), (EXAMPLE, "2,1", "later"), (EXAMPLE, "1,1", "later"),
             (EXAMPLE, "1,x", "No moment: x"), (EXAMPLE + "A1,2,499,1\n", "100,400", "Place A1: a reading comes before"),
             (many, "1,2", "more than 2,048"), (EXAMPLE + "A1,2,500\n", "100,400", "Line 6"), (EXAMPLE + "A1,2,500,-1\n", "1,2", "Line 6"),
-            (EXAMPLE + "A1,2,500,01\n", "1,2", "Line 6"), (EXAMPLE + '"A",2,500,1\n', "1,2", "Line 6"), (EXAMPLE + "A,1,1," + "9" * 19, "1,2", "Line 6")):
+            (EXAMPLE + "A1,2,500,01\n", "1,2", "Line 6"), (EXAMPLE + '"A",2,500,1\n', "1,2", "Line 6"), (EXAMPLE + "A,1,1," + "9" * 19, "1,2", "Line 6"),
+            (FACTS_HEADER + "A,1,1,1,5\n", "1,2", "Line 2"), (HEADER + "A,1,1,1,5,9\n", "1,2", "Line 2"),
+            (FACTS_HEADER + "A,1,1,1,5,9\nA,1,2,1,5,8\n", "1,2", "Line 3: the meter's most")):
         wants(wanted in compute(browser, entries, boundaries), f"{wanted}: {browser.said()}")
         wants(not browser.run("return document.querySelectorAll('tr').length;"), f"{wanted}: a table beside a fault")
     wants("1 period computed" in compute(browser, many.replace(f"A,1,{MOST_ENTRIES},1\n", ""), "1,2"), browser.said())

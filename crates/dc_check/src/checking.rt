@@ -18,6 +18,8 @@ const NO_ENTRY: Entry = Entry {
     moment: 0,
     meter: 0,
     value: 0,
+    most: 0,
+    size: 0,
 };
 
 // Copies the entries to the front of the room.

@@ -20,6 +20,10 @@ pub struct PlainEntry {
     pub meter: u64,
     /// The value, in the place's smallest unit.
     pub value: u64,
+    /// What the meter can count in an hour; 0 where it isn't declared.
+    pub most: u64,
+    /// The value from which the meter goes on at 0; 0 where it has no turn (rollover).
+    pub size: u64,
 }
 
 impl PlainEntry {
@@ -31,6 +35,8 @@ impl PlainEntry {
             moment: self.moment,
             meter: self.meter,
             value: self.value,
+            most: self.most,
+            size: self.size,
         }
     }
 }
@@ -44,7 +50,7 @@ pub struct PlainPeriod {
     pub known: u64,
     /// The amount if it is known, else 0.
     pub amount: u64,
-    /// Number of steps that touch it in which a meter ran backwards, or right after such a step.
+    /// Number of marked steps that touch it: doubtful, before a doubtful one, or after one.
     pub backwards: u64,
     /// Number of steps between different meters that touch it.
     pub exchanges: u64,

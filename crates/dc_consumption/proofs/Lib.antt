@@ -6,6 +6,8 @@ pub mod Rising
 pub mod Risen
 -- which entries a consumption depends on
 pub mod Local
+-- what a step is, by the values of one meter
+pub mod Turns
 -- what a meter's own values say
 pub mod Runs
 -- a walk over the entries
@@ -18,6 +20,10 @@ pub mod Known
 pub mod House
 -- steps that are counted, and those that are marked
 pub mod Marked
+-- a doubtful step is marked, and so are the steps beside it
+pub mod Refuted
+-- another value in the place of one
+pub mod Replaced
 -- a walk over many periods
 pub mod OnBoundaries
 -- where no step of a period is marked, its values count

@@ -3,14 +3,14 @@ use Rattle.std.proofs.Common.{◌≡◌, ℕ, ◌+◌, ◌<◌, ◌≤◌, Bool,
 use Rattle.std.specs.Prelude.{filter}
 use Rattle.std.proofs.lemmas.Bool.{lt-ltb, le-leb, or_right, and_from}
 use Rattle.dc_consumption.specs.declared.entry.Entry.{Entry}
-use Rattle.dc_consumption.specs.Step.{with_next, is_backwards}
-use Rattle.dc_consumption.specs.Mark.{Step, touches, steps_after, is_marked_in}
+use Rattle.dc_consumption.specs.Step.{with_next, is_backwards, is_doubtful, is_too_much}
+use Rattle.dc_consumption.specs.Mark.{Step, touches, is_doubtful_next, steps_after, is_marked_in}
 
 -- how many of the steps pass a test
 abbrev pub passes : (Entry → Entry → Bool) → List Entry → ℕ
 passes test entries = length (filter (λ p. test p.0 p.1) (with_next entries))
 
-kept : {X : Type 0} (b : Bool) (x : X) (xs : List X) → length (cond b (x ∷ xs) xs) ≡ cond b 1 0 + length xs
+pub kept : {X : Type 0} (b : Bool) (x : X) (xs : List X) → length (cond b (x ∷ xs) xs) ≡ cond b 1 0 + length xs
 kept true x xs = omega arith
 kept false x xs = omega arith
 
@@ -34,20 +34,21 @@ ends_in from to a b after le =
 
 -- ---- they are marked
 
-bits : (fell backwards touches : Bool) → cond (backwards && touches) 1 0 ≤ cond ((fell || backwards) && touches) 1 0
-bits true true t = omega arith
-bits true false t = omega arith
-bits false b t = omega arith
+bits : (was backwards is_more will_be touches : Bool) → cond (backwards && touches) 1 0 ≤ cond ((was || ((backwards || is_more) || will_be)) && touches) 1 0
+bits true true m w t = omega arith
+bits true false m w t = omega arith
+bits false true m w t = omega arith
+bits false false m w t = omega arith
 
 -- no more steps ran backwards than are marked
-pub touched-marked : (from to : ℕ) (fell : Bool) (entries : List Entry) → passes (touched from to) entries ≤ length (filter (is_marked_in from to) (steps_after fell entries))
-touched-marked from to fell [] = omega arith
-touched-marked from to fell (a ∷ []) = omega arith
-touched-marked from to fell (a ∷ (b ∷ rest)) =
-    let s : Step = record { before = a; after = b; is_after_fall = fell } in
-    let steps = steps_after (is_backwards a b) (b ∷ rest) in
+pub touched-marked : (from to : ℕ) (was : Bool) (entries : List Entry) → passes (touched from to) entries ≤ length (filter (is_marked_in from to) (steps_after was entries))
+touched-marked from to was [] = omega arith
+touched-marked from to was (a ∷ []) = omega arith
+touched-marked from to was (a ∷ (b ∷ rest)) =
+    let s : Step = record { before = a; after = b; is_after_doubtful = was; is_before_doubtful = is_doubtful_next b rest } in
+    let steps = steps_after (is_doubtful a b) (b ∷ rest) in
     let whole = passes-cons (touched from to) a b rest in
-    let more = touched-marked from to (is_backwards a b) (b ∷ rest) in
+    let more = touched-marked from to (is_doubtful a b) (b ∷ rest) in
     let split = kept (is_marked_in from to s) s (filter (is_marked_in from to) steps) in
-    let bit = bits fell (is_backwards a b) (touches from to a b) in
+    let bit = bits was (is_backwards a b) (is_too_much a b) (is_doubtful_next b rest) (touches from to a b) in
     omega (arith, whole, more, split, bit)

@@ -59,6 +59,13 @@ Rises None after = Unit {0}
 Rises (Some before) None = Unit {0}
 Rises (Some before) (Some after) = before ≤ after
 
+-- both are unknown, or they differ by no more
+abbrev pub DifferByAtMost : ℕ → Option ℕ → Option ℕ → Type 0
+DifferByAtMost most None None = Unit {0}
+DifferByAtMost most None (Some y) = ⊥
+DifferByAtMost most (Some x) None = ⊥
+DifferByAtMost most (Some x) (Some y) = (x ≤ y + most) × (y ≤ x + most)
+
 -- what several places together consumed up to a moment, if all are known
 abbrev pub house_curve : List (List Entry) → ℕ → Option ℕ
 house_curve places moment = sum_of (map (λ entries. curve entries moment) places)

@@ -11,31 +11,83 @@ pub struct Entry {
     pub meter: u64,
     /// The value, in the place's smallest unit.
     pub value: u64,
+    /// What the meter can count in an hour; 0 where it isn't declared.
+    pub most: u64,
+    /// The value from which the meter goes on at 0; 0 where it has no turn (rollover).
+    pub size: u64,
 }
 
+const SECONDS_OF_HOUR: u64 = 3_600;
+
+// Hours added to the whole ones between two entries: for the part of one that is left, and for
+// clocks that differ.
+const SPARE_HOURS: u64 = 2;
+
 impl Entry {
-    ghost use Rattle.dc_consumption.specs.Step.{step, is_backwards, is_exchange};
+    ghost use Rattle.dc_consumption.specs.Step.{step, room, is_turn, is_backwards, is_exchange};
+    ghost use Rattle.dc_consumption.specs.Step.{is_too_much, is_doubtful};
     ghost use Rattle.dc_consumption.specs.Counted.{is_repeated};
     ghost use Rattle.dc_consumption.specs.Curve.{share};
     ghost use Rattle.dc_consumption.specs.Mark.{touches};
+
+    /// Most that the meter can have counted from this entry to the next: `most` an hour, for the
+    /// whole hours between them and two more.
+    pub fn room_to(&self, next: &Entry) -> u128
+        ensures { result ≡ room self.now next.now }
+    {
+        let hours = next.moment.saturating_sub(self.moment) / SECONDS_OF_HOUR + SPARE_HOURS;
+        u128::from(self.most) * u128::from(hours)
+    }
+
+    /// Whether the meter turned over from this entry to the next (rollover): it shows less, by less
+    /// than its size, and can have counted up to its size and on to the value.
+    pub fn turns_over_to(&self, next: &Entry) -> bool
+        ensures { result ≡ is_turn self.now next.now }
+    {
+        if self.meter != next.meter || next.value >= self.value || self.value >= self.size {
+            return false;
+        }
+        u128::from(self.size - self.value + next.value) <= self.room_to(next)
+    }
 
     /// What was consumed from this entry to the next: 0 at an exchange, and where the meter ran
     /// backwards.
     pub fn step_to(&self, next: &Entry) -> u64
         ensures { result ≡ step self.now next.now }
     {
-        if self.meter == next.meter {
+        if self.turns_over_to(next) {
+            self.size - self.value + next.value
+        } else if self.meter == next.meter {
             next.value.saturating_sub(self.value)
         } else {
             0
         }
     }
 
-    /// Whether the meter ran backwards from this entry to the next.
+    /// Whether the meter ran backwards from this entry to the next: it shows less, and didn't turn
+    /// over.
     pub fn runs_backwards_to(&self, next: &Entry) -> bool
         ensures { result ≡ is_backwards self.now next.now }
     {
-        self.meter == next.meter && next.value < self.value
+        self.meter == next.meter && next.value < self.value && !self.turns_over_to(next)
+    }
+
+    /// Whether the step to the next entry is doubtful: the meter ran backwards, or rose by more than
+    /// it can have counted.
+    pub fn is_doubtful_to(&self, next: &Entry) -> bool
+        ensures { result ≡ is_doubtful self.now next.now }
+    {
+        self.runs_backwards_to(next) || self.rises_beyond(next)
+    }
+
+    // Whether the meter rose by more than it can have counted, where that is declared.
+    fn rises_beyond(&self, next: &Entry) -> bool
+        ensures { result ≡ is_too_much self.now next.now }
+    {
+        if self.meter != next.meter || self.most == 0 {
+            return false;
+        }
+        self.room_to(next) < u128::from(next.value.saturating_sub(self.value))
     }
 
     /// Whether the next entry is of another meter.

@@ -1,16 +1,18 @@
 //! What holds of the definitions alone.
 
-ghost use Rattle.std.specs.Prelude.{◌≡◌, ◌≢◌, ◌<◌, ◌≤◌, ◌+◌, ◌-◌, ◌++◌, ◌∷◌, ◌↔◌, ℕ, List, []};
-ghost use Rattle.std.specs.Prelude.{All, Any, IsSome, Some, map};
+ghost use Rattle.std.specs.Prelude.{◌≡◌, ◌≢◌, ◌<◌, ◌≤◌, ◌+◌, ◌-◌, ◌%◌, ◌++◌, ◌∷◌, ◌↔◌, ℕ, List, []};
+ghost use Rattle.std.specs.Prelude.{All, Any, IsSome, Some, map, false, true};
 ghost use Rattle.std.specs.List.Sorted.{IsNonDecreasing};
 ghost use Rattle.dc_consumption.specs.declared.entry.Entry.{Entry};
 ghost use Rattle.dc_consumption.specs.Curve.{curve};
 ghost use Rattle.dc_consumption.specs.Order.{IsInOrder};
 ghost use Rattle.dc_consumption.specs.Period.{added, between, sum_of, consumption, consumptions};
+ghost use Rattle.dc_consumption.specs.Period.{DifferByAtMost};
 ghost use Rattle.dc_consumption.specs.Period.{house_curve, house_consumption};
 ghost use Rattle.dc_consumption.specs.Period.{house_consumptions};
-ghost use Rattle.dc_consumption.specs.Mark.{marked_in};
-ghost use Rattle.dc_consumption.specs.Run.{IsRun, IsSettled};
+ghost use Rattle.dc_consumption.specs.Mark.{marked_in, touch_one, touches};
+ghost use Rattle.dc_consumption.specs.Run.{HasNoTurn, IsRun, IsSettled, valued};
+ghost use Rattle.dc_consumption.specs.Step.{is_doubtful, is_turn, room, step};
 
 /// The curve is known from the first entry to the last one: at any moment that has an entry at or
 /// before it, and one at or after it.
@@ -43,8 +45,8 @@ pub fn the_parts_of_a_period_add_up_to_it()
         sum_of (consumptions entries (from ∷ (middle ++ to ∷ []))) ≡ consumption entries from to }
 {}
 
-/// Where a period begins and ends at entries of one meter that didn't run backwards between them,
-/// the consumption is the difference of its values, whatever its other values are.
+/// Where a period begins and ends at entries of one meter that didn't run backwards between them and
+/// had no turn, the consumption is the difference of its values, whatever its other values are.
 pub fn at_entries_of_a_meter_its_values_count()
     ensures { (front : List Entry) (a : Entry) (middle : List Entry) (b : Entry)
         (back : List Entry) (meter : ℕ) →
@@ -56,18 +58,60 @@ pub fn at_entries_of_a_meter_its_values_count()
         ≡ Some (b.value - a.value)) }
 {}
 
-/// Where a period begins and ends at entries of one meter and no step that touches it is marked,
-/// its values count.
+/// Where a period begins and ends at entries of one meter that had no turn between them, and no step
+/// that touches it is marked, its values count.
 pub fn where_nothing_runs_backwards_the_values_count()
     ensures { (front : List Entry) (a : Entry) (middle : List Entry) (b : Entry)
         (back : List Entry) (meter : ℕ) →
         IsInOrder (front ++ (a ∷ (middle ++ (b ∷ back)))) →
         All (λ e. e.meter ≡ meter) (a ∷ (middle ++ (b ∷ []))) →
-        All (λ e. a.moment < e.moment) (middle ++ (b ∷ [])) → IsSettled b back →
+        All (λ e. a.moment < e.moment) (middle ++ (b ∷ [])) →
+        HasNoTurn (a ∷ (middle ++ (b ∷ []))) → IsSettled b back →
         marked_in (front ++ (a ∷ (middle ++ (b ∷ back)))) a.moment b.moment ≡ [] →
         (a.value ≤ b.value)
         × (consumption (front ++ (a ∷ (middle ++ (b ∷ back)))) a.moment b.moment
         ≡ Some (b.value - a.value)) }
+{}
+
+/// A value that another one refutes marks the steps to it and from it: where it is above the next
+/// value of its meter, or below the one before it, and there is no turn, each period that one of the
+/// two steps touches has a marked step. So does a fall without a turn at the first entry or the last.
+pub fn a_refuted_value_marks_its_steps()
+    ensures above { (front : List Entry) (v x y : Entry) (back : List Entry) (from to : ℕ) →
+        x.meter ≡ y.meter → y.value < x.value → is_turn x y ≡ false →
+        touch_one from to v x y ≡ true →
+        marked_in (front ++ (v ∷ (x ∷ (y ∷ back)))) from to ≢ [] }
+    ensures below { (front : List Entry) (v x y : Entry) (back : List Entry) (from to : ℕ) →
+        v.meter ≡ x.meter → x.value < v.value → is_turn v x ≡ false →
+        touch_one from to v x y ≡ true →
+        marked_in (front ++ (v ∷ (x ∷ (y ∷ back)))) from to ≢ [] }
+    ensures alone { (front : List Entry) (x y : Entry) (back : List Entry) (from to : ℕ) →
+        x.meter ≡ y.meter → y.value < x.value → is_turn x y ≡ false →
+        touches from to x y ≡ true → marked_in (front ++ (x ∷ (y ∷ back))) from to ≢ [] }
+{}
+
+/// A value that isn't refuted changes at most its two steps: where it lies between the values before
+/// and after it of its meter, any other between them in its place changes no amount by more than
+/// these two differ. So a false value that isn't marked is worth at most what was consumed between
+/// its neighbours.
+pub fn an_unmarked_value_changes_at_most_its_two_steps()
+    ensures { (front : List Entry) (v x y : Entry) (back : List Entry) (other from to : ℕ) →
+        IsInOrder (front ++ (v ∷ (x ∷ (y ∷ back)))) → from ≤ to →
+        v.meter ≡ x.meter → x.meter ≡ y.meter → v.value ≤ x.value → x.value ≤ y.value →
+        v.value ≤ other → other ≤ y.value →
+        DifferByAtMost (y.value - v.value)
+        (consumption (front ++ (v ∷ (x ∷ (y ∷ back)))) from to)
+        (consumption (front ++ (v ∷ (valued other x ∷ (y ∷ back)))) from to) }
+{}
+
+/// A turn is what was counted: of a counter that goes on at 0 from its size, whose two displays are
+/// less than a full turn apart, and no further than the meter can have counted, the step is the
+/// difference of the counts, and isn't doubtful.
+pub fn a_turn_is_what_was_counted()
+    ensures { (a b : Entry) (before after : ℕ) → a.meter ≡ b.meter →
+        a.value ≡ before % a.size → b.value ≡ after % a.size → before ≤ after →
+        after - before < a.size → after - before ≤ room a b →
+        (step a b ≡ after - before) × (is_doubtful a b ≡ false) }
 {}
 
 /// An exchange neither loses nor invents: over it the consumption is what the old meter counted up

@@ -12,7 +12,7 @@ pub struct Period {
     /// What the place consumed in it, or `None` where its beginning or its end is before the first
     /// entry or after the last one.
     pub amount: Result<Option<u64>, AmountFault>,
-    /// Number of steps that touch it in which a meter ran backwards, or right after such a step.
+    /// Number of marked steps that touch it: doubtful, before a doubtful one, or after one.
     pub backwards: usize,
     /// Number of steps between different meters that touch it.
     pub exchanges: usize,

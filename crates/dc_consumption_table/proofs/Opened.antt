@@ -1,5 +1,5 @@
 -- The entries of the place whose rows are being read.
-use Rattle.std.proofs.Common.{◌≡◌, ℕ, ◌-◌, ◌<◌, ◌≤◌, ⊎_elim, ltb, List, [], ◌∷◌, ◌++◌, length, length-append, get_or, None, Some, refl, sym, ap, ◌∙◌, subst, arith}
+use Rattle.std.proofs.Common.{◌≡◌, ℕ, ◌-◌, ◌<◌, ◌≤◌, ⊎_elim, cond, ltb, List, [], ◌∷◌, ◌++◌, length, length-append, get_or, None, Some, refl, sym, ap, ◌∙◌, subst, arith}
 use Rattle.std.proofs.lemmas.Bool.{cases_lt, cond-true, lt-ltb}
 use Rattle.std.proofs.lemmas.List.Sorted.{IsNonDecreasingBy-push, IsNonDecreasingBy-short}
 use Rattle.std.specs.Ordering.{nat_cmp, ordering_reverse}
@@ -8,9 +8,9 @@ use Rattle.std.specs.declared.cmp.Ordering.{Ordering}
 use Rattle.std.specs.declared.cmp.Ordering.TheVariants.{Less, Equal, Greater}
 use Rattle.dc_consumption.specs.declared.entry.Entry.{Entry}
 use Rattle.dc_consumption.specs.Order.{IsInOrder}
-use Rattle.dc_consumption_table.specs.declared.fault.LineFault.TheVariants.{Moment}
+use Rattle.dc_consumption_table.specs.declared.fault.LineFault.TheVariants.{Facts, Moment}
 use Rattle.dc_consumption_table.specs.Open.{EndsAt, row_at}
-use Rattle.dc_consumption_table.specs.Order.{fault_by, moment_fault, order_fault}
+use Rattle.dc_consumption_table.specs.Order.{entry_fault, fault_by, has_other_facts, order_fault}
 
 pub ends_one : (entries : List Entry) (e : Entry) → entries ≡ e ∷ [] → EndsAt entries e
 ends_one entries e is = record {
@@ -46,15 +46,16 @@ its_own_mirror Greater is = absurd (cc)
 equal_names : (name : List ℕ) → slice_cmp nat_cmp name name ≡ Equal
 equal_names name = its_own_mirror (slice_cmp nat_cmp name name) (nat_list_cmp_total.antisymm name name)
 
-no_fault : (last next : ℕ) → moment_fault last next ≡ None → last ≤ next
+no_fault : (last next : Entry) → entry_fault last next ≡ None → last.moment ≤ next.moment
 no_fault last next none = ⊎_elim
-    (λ (less : next < last).
-    let some : moment_fault last next ≡ Some Moment = cond-true (ltb next last) (Some Moment) None (lt-ltb next last less) in
+    (λ (less : next.moment < last.moment).
+    let some : entry_fault last next ≡ Some Moment =
+    cond-true (ltb next.moment last.moment) (Some Moment) (cond (has_other_facts last next) (Some Facts) None) (lt-ltb next.moment last.moment less) in
     absurd (cc))
-    (λ (le : last ≤ next). le)
-    (cases_lt next last)
+    (λ (le : last.moment ≤ next.moment). le)
+    (cases_lt next.moment last.moment)
 
 pub in_one_place : (name name' : List ℕ) (last e : Entry) → name ≡ name' → order_fault (row_at name last) (row_at name' e) ≡ None → last.moment ≤ e.moment
 in_one_place name name' last e same none =
     let equal : slice_cmp nat_cmp name name' ≡ Equal = ap (slice_cmp nat_cmp name) (sym same) ∙ equal_names name in
-    no_fault last.moment e.moment (sym (ap (λ (o : Ordering). fault_by o (moment_fault last.moment e.moment)) equal) ∙ none)
+    no_fault last e (sym (ap (λ (o : Ordering). fault_by o (entry_fault last e)) equal) ∙ none)

@@ -3,19 +3,21 @@ use Rattle.std.specs.Prelude.{ℕ, List, ◌++◌, codes}
 use Rattle.dc_io.specs.Words.{fault_line, number_word}
 use Rattle.dc_consumption_table.specs.declared.fault.LineFault.{LineFault}
 use Rattle.dc_consumption_table.specs.declared.fault.LineFault.TheVariants.{Header, Row, Place}
-use Rattle.dc_consumption_table.specs.declared.fault.LineFault.TheVariants.{Moment}
+use Rattle.dc_consumption_table.specs.declared.fault.LineFault.TheVariants.{Moment, Facts}
 
 abbrev pub number_of : LineFault → ℕ
 number_of Header = 1
 number_of Row = 2
 number_of Place = 3
 number_of Moment = 4
+number_of Facts = 5
 
 abbrev pub name_of : LineFault → List ℕ
 name_of Header = codes "Header"
 name_of Row = codes "Row"
 name_of Place = codes "Place"
 name_of Moment = codes "Moment"
+name_of Facts = codes "Facts"
 
 -- the text for a line at fault, by its number from 1
 unfoldable pub faulty_line_text : ℕ → LineFault → List ℕ

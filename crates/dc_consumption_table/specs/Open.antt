@@ -1,5 +1,5 @@
 -- The place whose rows are being read: for the contracts of private functions.
-use Rattle.std.specs.Prelude.{◌≡◌, ℕ, List, [], ◌∷◌, ◌++◌, map, Option, None, Some}
+use Rattle.std.specs.Prelude.{◌≡◌, ℕ, Bool, List, [], ◌∷◌, ◌++◌, map, Option, None, Some}
 use Rattle.dc_consumption.specs.declared.entry.Entry.{Entry}
 use Rattle.dc_consumption.specs.Order.{IsInOrder}
 use Rattle.dc_consumption_table.specs.declared.fault.FaultyLine.{FaultyLine}
@@ -28,7 +28,8 @@ MakeTheSame boundaries text rows text' rows' = (later : List Row)
     ≡ text' ++ places_text boundaries (places_of (rows' ++ later))
 
 -- what is made of lines: the text of their table after another text, or their first fault
-abbrev pub IsMade : List ℕ → List (List ℕ) → List ℕ → List ℕ → Option FaultyLine → Type 0
-IsMade boundaries lines before after None = (read : List Row)
-    × AreRead lines read [] × (after ≡ before ++ places_text boundaries (places_of read))
-IsMade boundaries lines before after (Some faulty) = IsFaultAt lines faulty.number faulty.fault
+abbrev pub IsMade : Bool → List ℕ → List (List ℕ) → List ℕ → List ℕ → Option FaultyLine → Type 0
+IsMade facts boundaries lines before after None = (read : List Row)
+    × AreRead facts lines read [] × (after ≡ before ++ places_text boundaries (places_of read))
+IsMade facts boundaries lines before after (Some faulty) =
+    IsFaultAt facts lines faulty.number faulty.fault

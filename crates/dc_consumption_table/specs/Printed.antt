@@ -13,43 +13,46 @@ use Rattle.dc_consumption_table.specs.declared.fault.LineFault.TheVariants.{Head
 use Rattle.dc_consumption_table.specs.declared.fault.LineFault.TheVariants.{Row as NoRow}
 
 -- the line spells the row
-abbrev pub Spells : List ℕ → Row → Type 0
-Spells line r = IsLineOf line r.place r.entry
+abbrev pub Spells : Bool → List ℕ → Row → Type 0
+Spells facts line r = IsLineOf facts line r.place r.entry
 
--- the lines begin with the header and these rows, in order, and go on with the later lines
-pub record AreRead (lines : List (List ℕ)) (read : List Row) (later : List (List ℕ)) : Type 0 where
-  pub lines_are : lines ≡ entries_header ∷ (map line_of read ++ later)
-  pub spelled : AllByRecursion (λ r. Spells (line_of r) r) read
+-- the lines begin with a header and these rows, in order, and go on with the later lines
+pub record AreRead (facts : Bool) (lines : List (List ℕ)) (read : List Row)
+    (later : List (List ℕ)) : Type 0 where
+  pub lines_are : lines ≡ entries_header facts ∷ (map (line_of facts) read ++ later)
+  pub spelled : AllByRecursion (λ r. Spells facts (line_of facts r) r) read
   pub order : AreAfter None read
 
 -- the line spells no row, or one that has a fault after the rows before it
-abbrev pub IsRefused : List Row → List ℕ → LineFault → Type 0
-IsRefused read line fault =
-    ((fault ≡ NoRow) × ((place : List ℕ) (e : Entry) → IsLineOf line place e → ⊥))
-    ⊎ ((r : Row) × Spells line r × (fault_after (last_or None read) r ≡ Some fault))
+abbrev pub IsRefused : Bool → List Row → List ℕ → LineFault → Type 0
+IsRefused facts read line fault =
+    ((fault ≡ NoRow) × ((place : List ℕ) (e : Entry) → IsLineOf facts line place e → ⊥))
+    ⊎ ((r : Row) × Spells facts line r × (fault_after (last_or None read) r ≡ Some fault))
 
 -- a line after the header is the first at fault
-pub record IsFirstRefused (lines : List (List ℕ)) (number : ℕ) (fault : LineFault) : Type 0 where
+pub record IsFirstRefused (facts : Bool) (lines : List (List ℕ)) (number : ℕ)
+    (fault : LineFault) : Type 0 where
   pub read : List Row
   pub line : List ℕ
   pub later : List (List ℕ)
-  pub are_read : AreRead lines read (line ∷ later)
+  pub are_read : AreRead facts lines read (line ∷ later)
   pub number_is : number ≡ length read + 2
-  pub refused : IsRefused read line fault
+  pub refused : IsRefused facts read line fault
 
--- the first line isn't the header
+-- the first line isn't a header
 pub record LacksHeader (lines : List (List ℕ)) (number : ℕ) (fault : LineFault) : Type 0 where
   pub fault_is : fault ≡ Header
   pub number_is : number ≡ 1
-  pub lacks : (later : List (List ℕ)) → lines ≡ entries_header ∷ later → ⊥
+  pub lacks : (facts : Bool) (later : List (List ℕ)) → lines ≡ entries_header facts ∷ later → ⊥
 
 -- the first line at fault, by its number
-abbrev pub IsFaultAt : List (List ℕ) → ℕ → LineFault → Type 0
-IsFaultAt lines number fault = LacksHeader lines number fault ⊎ IsFirstRefused lines number fault
+abbrev pub IsFaultAt : Bool → List (List ℕ) → ℕ → LineFault → Type 0
+IsFaultAt facts lines number fault =
+    LacksHeader lines number fault ⊎ IsFirstRefused facts lines number fault
 
 -- the text for an input, and whether it names a line at fault
 abbrev pub IsPrinted : List ℕ → List ℕ → List ℕ → Bool → Type 0
-IsPrinted boundaries input text true = (number : ℕ) × (fault : LineFault)
-    × IsFaultAt (lines_of input) number fault × (text ≡ faulty_line_text number fault)
-IsPrinted boundaries input text false = (read : List Row)
-    × AreRead (lines_of input) read [] × (text ≡ table_text boundaries read)
+IsPrinted boundaries input text true = (facts : Bool) × (number : ℕ) × (fault : LineFault)
+    × IsFaultAt facts (lines_of input) number fault × (text ≡ faulty_line_text number fault)
+IsPrinted boundaries input text false = (facts : Bool) × (read : List Row)
+    × AreRead facts (lines_of input) read [] × (text ≡ table_text boundaries read)

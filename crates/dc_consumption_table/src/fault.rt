@@ -8,11 +8,11 @@ use thiserror::Error;
 /// Why a line of the entries is at fault (this product).
 #[derive(Clone, Copy, Debug, PartialEq, Eq, Error)]
 pub enum LineFault {
-    /// The first line isn't the header.
-    #[error("the first line isn't the header")]
+    /// The first line is neither header.
+    #[error("the first line isn't a header")]
     Header,
-    /// The line isn't four fields of their form, or is too long.
-    #[error("the line isn't a place and three numbers")]
+    /// The line isn't the header's fields, each of its form, or is too long.
+    #[error("the line isn't a place and the header's numbers")]
     Row,
     /// The place comes before the last line's.
     #[error("the place comes before the last line's")]
@@ -20,10 +20,13 @@ pub enum LineFault {
     /// The moment comes before the last line's, of the same place.
     #[error("the moment comes before the last line's")]
     Moment,
+    /// What the meter can count, or its size, isn't the last line's, of the same place and meter.
+    #[error("the meter's facts aren't the last line's")]
+    Facts,
 }
 
 impl LineFault {
-    /// The fault's number, 1 to 4.
+    /// The fault's number, 1 to 5.
     pub fn number(&self) -> u8
         ensures { result ≡ number_of self.now }
     {
@@ -32,6 +35,7 @@ impl LineFault {
             LineFault::Row => 2,
             LineFault::Place => 3,
             LineFault::Moment => 4,
+            LineFault::Facts => 5,
         }
     }
 
@@ -44,6 +48,7 @@ impl LineFault {
             LineFault::Row => "Row",
             LineFault::Place => "Place",
             LineFault::Moment => "Moment",
+            LineFault::Facts => "Facts",
         }
     }
 }

@@ -1,17 +1,28 @@
 //! The order of the rows.
 
 ghost use Rattle.std.specs.Prelude.{◌≡◌};
-ghost use Rattle.dc_consumption_table.specs.Order.{moment_fault, order_fault};
+ghost use Rattle.dc_consumption_table.specs.Order.{entry_fault, has_other_facts, order_fault};
 
 use crate::LineFault;
 use crate::row::Row;
+use dc_consumption::Entry;
 use std::cmp::Ordering;
 
-fn moment_fault(last: u64, next: u64) -> Option<LineFault>
-    ensures { result ≡ moment_fault last next }
+// Whether the entries are of one meter, and its facts aren't the same.
+fn has_other_facts(last: &Entry, next: &Entry) -> bool
+    ensures { result ≡ has_other_facts last.now next.now }
 {
-    if next < last {
+    last.meter == next.meter && !(last.most == next.most && last.size == next.size)
+}
+
+// The fault of an entry after another of its place.
+fn entry_fault(last: &Entry, next: &Entry) -> Option<LineFault>
+    ensures { result ≡ entry_fault last.now next.now }
+{
+    if next.moment < last.moment {
         Some(LineFault::Moment)
+    } else if has_other_facts(last, next) {
+        Some(LineFault::Facts)
     } else {
         None
     }
@@ -25,7 +36,7 @@ pub(crate) fn order_fault(last: &Row<'_>, next: &Row<'_>) -> Option<LineFault>
 {
     match last.place.cmp(&next.place) {
         Ordering::Less => None,
-        Ordering::Equal => moment_fault(last.entry.moment, next.entry.moment),
+        Ordering::Equal => entry_fault(&last.entry, &next.entry),
         Ordering::Greater => Some(LineFault::Place),
     }
 }

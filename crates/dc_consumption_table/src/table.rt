@@ -1,6 +1,6 @@
 //! The table of the entries, or the first line at fault.
 
-ghost use Rattle.std.specs.Prelude.{◌≡◌, ◌≤◌, ◌∷◌, ℕ, List, IfOk, IfSome, IsNone, length};
+ghost use Rattle.std.specs.Prelude.{◌≡◌, ◌≢◌, ◌≤◌, ◌∷◌, ℕ, Bool, List, IfOk, IfSome, IsNone, length};
 ghost use Rattle.std.specs.List.Sorted.{IsNonDecreasing};
 ghost use Rattle.dc_io.specs.Lines.{lines_of, most_input};
 ghost use Rattle.dc_consumption_table.specs.Fault.{faulty_line_text};
@@ -17,8 +17,10 @@ use crate::written::put_faulty_line;
 use dc_io::{Bytes, NoMemory, Sink, first_line};
 use std::alloc::Allocator;
 
-// The first line of the entries.
+// The first line of entries, and of entries with the facts of their meters.
 const ENTRIES_HEADER: &[u8] = b"place,meter,moment,value";
+
+const FACTS_HEADER: &[u8] = b"place,meter,moment,value,most,size";
 
 // The first line of the table.
 const HEADER: &[u8] = b"place,from,to,amount,backwards,exchanges\n";
@@ -31,16 +33,17 @@ const FIRST_ROW: u64 = 2;
 fn put_from_first<'a, A: Allocator + Copy>(
     alloc: A,
     text: &mut Bytes<A>,
+    has_facts: bool,
     first: &Row<'a>,
     input: &'a [u8],
     boundaries: &[u64],
 ) -> Result<Option<FaultyLine>, NoMemory>
-    requires first { Spells (line_of (row_at first.now.place.now first.now.entry))
+    requires first { Spells has_facts (line_of has_facts (row_at first.now.place.now first.now.entry))
         (row_at first.now.place.now first.now.entry) }
     requires boundaries { IsNonDecreasing boundaries.now }
     requires fits { length input.now ≤ most_input }
-    ensures { IfOk result (λ faulty. IsMade boundaries.now (entries_header
-        ∷ line_of (row_at first.now.place.now first.now.entry) ∷ lines_of input.now)
+    ensures { IfOk result (λ faulty. IsMade has_facts boundaries.now (entries_header has_facts
+        ∷ line_of has_facts (row_at first.now.place.now first.now.entry) ∷ lines_of input.now)
         text.old.bytes text.new.bytes faulty) }
 {
     let mut entries = Vec::new(alloc);
@@ -50,7 +53,7 @@ fn put_from_first<'a, A: Allocator + Copy>(
     let mut rest = input;
     'lines: while !rest.is_empty() {
         let (line, after) = first_line(rest);
-        let Some(row) = parse_row(line) else {
+        let Some(row) = parse_row(has_facts, line) else {
             let fault = LineFault::Row;
             return Ok(Some(FaultyLine { number, fault }));
         };
@@ -70,20 +73,22 @@ fn put_from_first<'a, A: Allocator + Copy>(
 fn put_table<A: Allocator + Copy>(
     alloc: A,
     text: &mut Bytes<A>,
+    has_facts: bool,
     input: &[u8],
     boundaries: &[u64],
 ) -> Result<Option<FaultyLine>, NoMemory>
     requires boundaries { IsNonDecreasing boundaries.now }
     requires fits { length input.now ≤ most_input }
-    ensures { IfOk result (λ faulty. IsMade boundaries.now (entries_header ∷ lines_of input.now)
+    ensures { IfOk result (λ faulty. IsMade has_facts boundaries.now
+        (entries_header has_facts ∷ lines_of input.now)
         text.old.bytes text.new.bytes faulty) }
 {
     if input.is_empty() {
         return Ok(None);
     }
     let (line, rest) = first_line(input);
-    match parse_row(line) {
-        Some(first) => put_from_first(alloc, text, &first, rest, boundaries),
+    match parse_row(has_facts, line) {
+        Some(first) => put_from_first(alloc, text, has_facts, &first, rest, boundaries),
         None => Ok(Some(FaultyLine {
             number: FIRST_ROW,
             fault: LineFault::Row,
@@ -91,21 +96,35 @@ fn put_table<A: Allocator + Copy>(
     }
 }
 
-// Splits off the header's line.
-fn after_header(input: &[u8]) -> Option<&[u8]>
-    ensures found { IfSome result (λ rest. lines_of input.now ≡ entries_header ∷ lines_of rest.now) }
-    ensures shorter { IfSome result (λ rest. length rest.now ≤ length input.now) }
-    ensures none { IsNone result → (later : List (List ℕ))
-        → lines_of input.now ≡ entries_header ∷ later → ⊥ }
+// Which header the line is: with facts or without.
+fn parse_header(line: &[u8]) -> Option<bool>
+    ensures found { IfSome result (λ facts. line.now ≡ entries_header facts) }
+    ensures none { IsNone result → (facts : Bool) → line.now ≢ entries_header facts }
+{
+    if line == ENTRIES_HEADER {
+        Some(false)
+    } else if line == FACTS_HEADER {
+        Some(true)
+    } else {
+        None
+    }
+}
+
+// Splits off the header's line: whether the rows have facts, and the lines after it.
+fn after_header(input: &[u8]) -> Option<(bool, &[u8])>
+    ensures found { IfSome result (λ split.
+        lines_of input.now ≡ entries_header split.0 ∷ lines_of split.1.now) }
+    ensures shorter { IfSome result (λ split. length split.1.now ≤ length input.now) }
+    ensures none { IsNone result → (facts : Bool) (later : List (List ℕ))
+        → lines_of input.now ≡ entries_header facts ∷ later → ⊥ }
 {
     if input.is_empty() {
         return None;
     }
     let (line, rest) = first_line(input);
-    if line == ENTRIES_HEADER {
-        Some(rest)
-    } else {
-        None
+    match parse_header(line) {
+        Some(has_facts) => Some((has_facts, rest)),
+        None => None,
     }
 }
 
@@ -120,14 +139,14 @@ pub(crate) fn text_for<A: Allocator + Copy>(
     requires fits { length input.now ≤ most_input }
     ensures { IfOk result (λ made. IsPrinted boundaries.now input.now made.0.bytes made.1) }
 {
-    let Some(rest) = after_header(input) else {
+    let Some((has_facts, rest)) = after_header(input) else {
         let (number, fault) = (1, LineFault::Header);
         let text = faulty_text(alloc, &FaultyLine { number, fault })?;
         return Ok((text, true));
     };
     let mut text = Bytes::new(alloc);
     kept(text.put(HEADER))?;
-    match put_table(alloc, &mut text, rest, boundaries)? {
+    match put_table(alloc, &mut text, has_facts, rest, boundaries)? {
         None => Ok((text, false)),
         Some(faulty) => {
             let text = faulty_text(alloc, &faulty)?;

@@ -79,14 +79,17 @@ pub const CONSUMPTION: &str = "Example:
 Lines of the file: place,meter,moment,value, and then for each entry these four
   fields: a name without commas and quotation marks, and three numbers of at
   most 18 digits. Moments are Unix seconds. The places are in the order of their
-  bytes, and the entries of a place in the order of their moments.
+  bytes, and the entries of a place in the order of their moments. After a first
+  line place,meter,moment,value,most,size also what the meter can count in an
+  hour, and the value from which it goes on at 0; 0 where there is none.
 Printed: place,from,to,amount,backwards,exchanges, a line a place and period.
   The amount is empty where the period isn't between the first and the last
-  entry, TooLarge from 2^64 on; backwards is the number of steps that ran
-  backwards or follow such a step, exchanges that of steps between meters.
+  entry, TooLarge from 2^64 on; backwards is the number of steps in doubt (the
+  meter fell, or rose by more than it can count), and of those before and after
+  one; exchanges that of steps between meters.
 Faults: LINE n FAULT 1 Header, 2 Row, 3 Place (before the last line's), 4 Moment
-  (before the last line's), with status 1 and no table; mbdc: file: FILE;
-  mbdc: memory";
+  (before the last line's), 5 Facts (other ones than the last line's), with
+  status 1 and no table; mbdc: file: FILE; mbdc: memory";
 
 /// Of `format`.
 pub const FORMAT: &str = "Example:

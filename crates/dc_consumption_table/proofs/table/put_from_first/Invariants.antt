@@ -8,7 +8,7 @@ use Rattle.dc_consumption_table.proofs.table.put_from_first.Given as goal
 
 abbrev pub invariant-lines : goal.invariant-lines
 invariant-lines g l = record {
-  on : IsOn l.boundaries (entries_header ∷ (line_of (row_at l.fn.first.place.now l.fn.first.entry) ∷ lines_of l.fn.input)) l.initial.text.bytes
+  on : IsOn l.has_facts l.boundaries (entries_header l.has_facts ∷ (line_of l.has_facts (row_at l.fn.first.place.now l.fn.first.entry) ∷ lines_of l.fn.input)) l.initial.text.bytes
       l.number l.last.place.now l.last.entry l.entries.items l.text.bytes (lines_of l.rest);
   few : l.number + length l.rest ≤ length l.fn.input + 3;
 }
