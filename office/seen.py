@@ -15,17 +15,26 @@ SELECT 'collector', NULL, 'office/collect', 'no collection of all boxes ended si
        || coalesce(to_char(max(ended_at), 'YYYY-MM-DD HH24:MI'), 'ever')
 FROM collections WHERE begun_at <= %(at)s
 HAVING coalesce(max(ended_at) < %(at)s - make_interval(hours => %(hours)s), true)"""
+# Of a box that isn't collected, and of one without a meter that is heard, one alarm; its meters are counted there
 BOXES = """
-SELECT 'box', b.house, s.box, s.why || coalesce(': ' || s.fault, '')
-FROM stale_boxes_at(%(at)s) s JOIN boxes b ON b.name = s.box"""
+SELECT 'box', b.house, s.box, s.why || coalesce(': ' || s.fault, '') || coalesce('; ' || o.count || ' meters are silent', '')
+FROM stale_boxes_at(%(at)s) s JOIN boxes b ON b.name = s.box
+LEFT JOIN (SELECT box, count(*) FROM overdue_at(%(at)s) GROUP BY box) o ON o.box = s.box"""
+SILENT_BOXES = """
+SELECT 'box', b.house, o.box, 'none of its ' || o.count || ' meters is heard'
+FROM (SELECT box, count(*) FROM overdue_at(%(at)s) GROUP BY box) o JOIN boxes b ON b.name = o.box
+WHERE o.count > 1 AND o.count = (SELECT count(*) FROM meters m WHERE m.box = o.box)"""
 SILENT = """
 SELECT 'silent', b.house, o.box || ' ' || o.identity, o.why || ', flat ' || o.flat
-FROM overdue_at(%(at)s) o JOIN boxes b ON b.name = o.box"""
+FROM (SELECT *, count(*) OVER (PARTITION BY box) AS silent FROM overdue_at(%(at)s)) o JOIN boxes b ON b.name = o.box
+WHERE (o.silent = 1 OR o.silent < (SELECT count(*) FROM meters m WHERE m.box = o.box))
+  AND NOT EXISTS (SELECT FROM stale_boxes_at(%(at)s) s WHERE s.box = o.box AND s.why IN ('never collected', 'not collected'))
+ORDER BY o.box, o.identity"""
 STATES = """
 SELECT CASE WHEN s.status & 4 <> 0 THEN 'power' ELSE 'error' END, b.house, s.box || ' ' || s.identity,
        s.says || ', flat ' || s.flat
 FROM meter_states s JOIN boxes b ON b.name = s.box WHERE s.says <> ''"""
-# Of each meter that is fitted: its last value, the step to it, and the median and the lowest step of a day
+# Of each meter that is fitted: its last value, what was used a day on the way to it, the median and the lowest of these
 STEPS = """
 SELECT kind, house, subject, says FROM (
     SELECT p.house, f.box || ' ' || f.identity AS subject, p.flat, k.last, k.step, k.median, k.count, k.low
@@ -33,9 +42,10 @@ SELECT kind, house, subject, says FROM (
         SELECT (array_agg(value || ' ' || unit ORDER BY day DESC))[1] AS last,
                (array_agg(step ORDER BY day DESC))[1] AS step, min(step) AS low, count(step) AS count,
                percentile_cont(0.5) WITHIN GROUP (ORDER BY step) AS median
-        FROM (SELECT day, value, unit, amount - lag(amount) OVER (ORDER BY day) AS step FROM day_values d
+        FROM (SELECT day, value, unit, (amount - lag(amount) OVER before)
+                     / greatest(extract(epoch FROM at - lag(at) OVER before) / 86400, 0.5) AS step FROM day_values d
               WHERE d.fitting = f.id AND struck_at IS NULL
-                AND day BETWEEN %(at)s::date - %(days)s AND %(at)s::date) AS of_day) AS k ON true
+                AND day BETWEEN %(at)s::date - %(days)s AND %(at)s::date WINDOW before AS (ORDER BY day)) AS of_day) AS k ON true
     WHERE f.during @> %(at)s) AS of_each
 CROSS JOIN LATERAL (VALUES
     ('backwards', low < 0, 'a value below the one before it, the last one ' || last || ', flat ' || flat),
@@ -52,25 +62,17 @@ WHERE f.during @> %(at)s AND p.use IN ('warm water', 'cold water', 'electricity'
   AND d.day BETWEEN %(at)s::date - %(still)s AND %(at)s::date
 GROUP BY p.house, f.id, p.flat
 HAVING count(*) >= %(still)s / 2 AND min(d.day) <= %(at)s::date - %(still)s + 5 AND max(d.amount) = min(d.amount)"""
-# Water that ran in each of the last nights, of meters that are read at least twice between 0:00 and 5:00
 NIGHT = """
-SELECT 'night', house, subject, 'water between 0:00 and 5:00 in ' || count(*) || ' nights, flat ' || flat FROM (
-    SELECT p.house, f.box || ' ' || f.identity AS subject, p.flat, (r.heard[1] AT TIME ZONE h.zone)::date AS night,
-           max(q.value) - min(q.value) AS ran
-    FROM fittings f JOIN places p ON p.id = f.place JOIN houses h ON h.house = p.house JOIN uses u ON u.use = p.use
-    JOIN readings r ON (r.box, r.identity) = (f.box, f.identity)
-    JOIN points q ON (q.month, q.box, q.serial) = (r.month, r.box, r.serial)
-    WHERE f.during @> %(at)s AND u.quantity = 'volume' AND r.month >= date_trunc('month', %(at)s::date - %(nights)s)
-      AND r.heard[1] BETWEEN %(at)s - make_interval(days => %(nights)s) AND %(at)s
-      AND extract(hour FROM r.heard[1] AT TIME ZONE h.zone) < 5 AND q.storage = 0 AND counts(q, f.vib, u.quantity)
-    GROUP BY 1, 2, 3, 4 HAVING count(*) > 1) AS of_night
-WHERE ran > 0 GROUP BY house, subject, flat HAVING count(*) >= %(nights)s"""
+SELECT 'night', p.house, f.box || ' ' || f.identity, 'water between 0:00 and 5:00 in ' || count(*) || ' nights, flat ' || p.flat
+FROM night_use n JOIN fittings f ON f.id = n.fitting JOIN places p ON p.id = f.place
+WHERE f.during @> %(at)s AND n.amount > 0 AND n.night BETWEEN %(at)s::date - %(nights)s + 1 AND %(at)s::date
+GROUP BY f.id, p.house, p.flat HAVING count(*) >= %(nights)s"""
 NO_NUMBER = """
 SELECT 'no number', p.house, p.house || '/' || p.flat || '/' || p.use || '/' || p.number || ' '
        || to_char(u.month, 'YYYY-MM'), u.grade::text
 FROM month_use u JOIN places p ON p.id = u.place
 WHERE u.part = 0 AND u.grade IN ('missing', 'backwards', 'unclear') AND u.month >= %(at)s::date - 400"""
-ALL = (COLLECTOR, BOXES, SILENT, STATES, STEPS, STILL, NIGHT, NO_NUMBER)
+ALL = (COLLECTOR, BOXES, SILENT_BOXES, SILENT, STATES, STEPS, STILL, NIGHT, NO_NUMBER)
 
 
 class Seen(NamedTuple):

@@ -258,8 +258,7 @@ class Visit:
 
     def first_look(self, cursor: Cursor, link: Link) -> Tuple[Standing, Seen]:
         seen = link.look(1)
-        cursor.execute("UPDATE boxes SET number = %s, confirmed = %s, stored = greatest(stored, %s) WHERE name = %s",
-                       (seen.number, seen.confirmed, seen.confirmed, self.box))
+        cursor.execute("SELECT meet_box(%s, %s, %s)", (self.box, seen.number, seen.confirmed))
         cursor.execute("DELETE FROM meters WHERE box = %s", (self.box,))
         insert(cursor, "meters (box, identity, line, address, flat)", [(self.box, *meter) for meter in seen.meters])
         cursor.execute("SELECT find_last_readings(%s)", (self.box,))

@@ -91,7 +91,12 @@ def test_alarms_are_told_once_until_they_end(office: Office, elm: Supplied, tmp_
     ended = office.run("alarms", *words, str(mail))
     assert (ended.status, ended.printed) == (0, "END backwards elm-1 00000001.PAD.01.04\nEND power elm-1 00000001.PAD.01.04\n")
     silent = office.run("alarms", "--at", "2025-01-24T12:00+00:00")
-    assert "NEW silent elm-1 00000001.PAD.01.04: silent, flat A1" in silent.printed
+    assert "silent" not in silent.printed  # what is to be seen to is the box, which has its alarm
+    office.sql("UPDATE boxes SET collected_at = '2025-01-24'")
+    office.sql("UPDATE meters SET heard = '2025-01-24', stored_at = '2025-01-24' WHERE identity LIKE '%%2.PAD%%'")
+    silent = office.run("alarms", "--at", "2025-01-24T12:00+00:00")
+    assert [line for line in silent.printed.splitlines() if "silent" in line] == [
+        f"NEW silent elm-1 0000000{number}.PAD.01.{kind}: silent, flat A{number}" for number, kind in ((1, "04"), (3, "07"))]
     office.sql("UPDATE alarms SET known_by = 'me'")
 
 
@@ -102,9 +107,54 @@ def test_water_at_night(office: Office, elm: Supplied) -> None:
             moment = at(f"2025-01-{night:02}T{hour:02}:00")
             elm.reads(leaking, moment, f"{night}.{hour:03}")
             elm.reads(tight, moment, night)
+        elm.reads(tight, at(f"2025-01-{night:02}T20:00"), night + 1)
+    office.sql("SELECT close_night(day::date) FROM generate_series(date '2025-01-01', '2025-01-08', '1 day') AS k (day)")
+    assert office.run("close", "2025-01-09").status == 0
+    assert office.sql("SELECT fitting, count(*), sum(amount) FROM night_use GROUP BY 1 ORDER BY 1") == [
+        (leaking, 9, 27_000), (tight, 9, 0)]
     printed = office.run("alarms", "--at", "2025-01-09T12:00+00:00").printed
     assert [line for line in printed.splitlines() if "night" in line] == [
         "NEW night elm-1 00000001.PAD.01.06: water between 0:00 and 5:00 in 7 nights, flat A1"]
+
+
+def test_one_alarm_a_cause(office: Office, elm: Supplied) -> None:
+    """The meters of a box that isn't collected, or hears none of them, are counted in its alarm."""
+    for number in (1, 2, 3):
+        elm.meter(number, HEAT, f"A{number}")
+    office.sql("UPDATE boxes SET made_at = '2024-01-01'")
+    office.sql("UPDATE meters SET since = '2024-01-01', heard = '2025-01-20', stored_at = '2025-01-20'")
+    office.sql("UPDATE meters SET heard = '2025-01-24', stored_at = '2025-01-24' WHERE identity LIKE '%%1.PAD%%'")
+    words = ("alarms", "--at", "2025-01-25T12:00+00:00")
+    printed = office.run(*words).printed
+    assert "NEW box elm-1: never collected; 2 meters are silent\n" in printed and "NEW silent" not in printed
+    office.sql("UPDATE meters SET heard = '2025-01-20', stored_at = '2025-01-20'")
+    office.sql("UPDATE boxes SET collected_at = '2025-01-25'")
+    assert office.run(*words).printed == ""  # the cause is another, and the box the same
+    assert office.sql("SELECT kind, subject FROM alarms WHERE ended_at IS NULL AND kind <> 'collector'") == [("box", "elm-1")]
+    office.sql("UPDATE meters SET heard = '2025-01-25', stored_at = '2025-01-25' WHERE identity LIKE '%%1.PAD%%'")
+    printed = office.run(*words).printed
+    assert "END box elm-1" in printed and printed.count("NEW silent") == 2
+
+
+def test_a_leap_is_divided_by_its_days(office: Office, elm: Supplied) -> None:
+    """Twenty days without a value, and then what was used in them, is no leap."""
+    meter, leaping = elm.meter(1, HEAT, "A1"), elm.meter(2, HEAT, "A2")
+    for one, later in ((meter, 200), (leaping, 2100)):
+        elm.days(one, "2025-01-01", 12, 1000, 10)
+        elm.values(one, {"2025-02-01": 1110 + later})
+    printed = office.run("alarms", "--at", "2025-02-01T12:00+00:00").printed
+    assert [line for line in printed.splitlines() if "leap" in line] == [
+        "NEW leap elm-1 00000002.PAD.01.04: to 3210 Wh, flat A2"]
+
+
+def test_statistics(office: Office, elm: Supplied) -> None:
+    """A table that has grown to ten times its pages is analyzed, once."""
+    elm.days(elm.meter(1, HEAT, "A1"), "2022-01-01", 1000, 1000, 10)
+    assert ("day_values",) in office.sql("SELECT analyze_days()")
+    assert ("day_values",) not in office.sql("SELECT analyze_days()")
+    office.sql("SET ROLE collector")
+    office.sql("SELECT analyze_days()")
+    office.sql("RESET ROLE")
 
 
 def test_a_user_is_forgotten(office: Office, elm: Supplied, tmp_path: pathlib.Path) -> None:

@@ -1,9 +1,17 @@
 """office/collect: each reading once, and each box's failure its own."""
 
+import argparse
+import contextlib
+import importlib.machinery
 import os
+import pathlib
+import random
 import signal
 import subprocess
+import sys
 import time
+import types
+from typing import Any, List
 
 import pytest
 from conftest import FITS, OFFICE, Box, Office
@@ -66,25 +74,112 @@ def test_without_a_decoder(office: Office, box: Box) -> None:
     assert office.collect().status == 0 and box.state()["confirmed"] == 2
 
 
-def test_a_process_that_is_killed(office: Office, box: Box) -> None:
-    """The box that it had fails; the others are collected."""
+def started(office: Office, *words: str) -> "subprocess.Popen[str]":
+    """A collection that goes on meanwhile."""
+    return subprocess.Popen([OFFICE / "collect", "--database", office.name, *words], text=True, stdout=subprocess.PIPE,
+                            env=office.environment, start_new_session=True)
+
+
+def workers_of(process: "subprocess.Popen[str]") -> List[int]:
+    told = subprocess.run(["ps", "-o", "pid=", "--ppid", str(process.pid)], capture_output=True, text=True, check=False)
+    return [int(pid) for pid in told.stdout.split()]
+
+
+def is_asleep(pid: int) -> bool:
+    """Whether a worker waits for a box that sleeps."""
+    told = subprocess.run(["ps", "-o", "comm=", "--ppid", str(pid)], capture_output=True, text=True, check=False)
+    return "sleep" in told.stdout
+
+
+def test_processes_that_are_killed(office: Office, box: Box) -> None:
+    """Of a busy one the box fails; of an idle one none. The collection comes to its end."""
     box.hears(2)
     office.sql("INSERT INTO boxes (name, command) VALUES ('sleeps', 'sleep 100')")
     for place in range(4):
         office.box(f"other-{place}")
-    process = subprocess.Popen([OFFICE / "collect", "--database", office.name, "--workers", "2"], text=True,
-                               stdout=subprocess.PIPE, env=office.environment, start_new_session=True)
-    asleep: "list[str]" = []
-    while not asleep:
+    process = started(office, "--workers", "3")
+    end, asleep = time.monotonic() + 60, []  # type: float, List[int]
+    while not asleep or office.sql("SELECT count(*) FROM boxes WHERE collected_at IS NOT NULL AND confirmed = stored") != [(5,)]:
+        assert time.monotonic() < end
         time.sleep(0.1)
-        told = subprocess.run(["ps", "-o", "ppid=", "-C", "sleep"], capture_output=True, text=True, check=False)
-        asleep = [pid for pid in told.stdout.split() if os.getpgid(int(pid)) == process.pid]
-    time.sleep(1)
-    os.kill(int(asleep[0]), signal.SIGKILL)
+        asleep = [pid for pid in workers_of(process) if is_asleep(pid)]
+    time.sleep(1)  # until they have said so
+    idle = set(workers_of(process)) - set(asleep)
+    assert len(asleep) == 1 and len(idle) == 2
+    for pid in (*idle, *asleep):
+        os.kill(pid, signal.SIGKILL)
     printed, _ = process.communicate(timeout=60)
     assert process.returncode == 1
-    assert "sleeps: FAILED: its process ended, or came to no end" in printed
+    assert "sleeps: FAILED: its process ended" in printed
     assert printed.splitlines()[-1].startswith("6 boxes, 2 readings, 1 failed")
+    assert office.sql("SELECT name FROM boxes WHERE fault IS NOT NULL") == [("sleeps",)]
+
+
+def test_idle_processes_that_are_killed_before_their_first_box(office: Office, box: Box, monkeypatch: pytest.MonkeyPatch
+                                                              ) -> None:
+    """They are replaced, and no box fails."""
+    box.hears(2)
+    loader = importlib.machinery.SourceFileLoader("collect", str(OFFICE / "collect"))
+    program: Any = types.ModuleType("collect")
+    monkeypatch.setitem(sys.modules, "collect", program)
+    loader.exec_module(program)
+    given = argparse.Namespace(database=office.name, boxes=["house-1", "none"], workers=2, tries=1, pause=0.0, timeout=10.0,
+                               longest=60.0)
+    pool = program.Pool(given)
+    for worker in pool.workers:
+        os.kill(worker.process.pid, signal.SIGKILL)
+        worker.process.join()
+    assert {result.box: result.is_lost for result in pool.results()} == {"house-1": False, "none": False}
+    assert pool.workers == []
+
+
+def test_a_box_that_comes_to_no_end(office: Office, box: Box) -> None:
+    """Its process is killed at the deadline, also a stopped one."""
+    box.hears(2)
+    office.sql("INSERT INTO boxes (name, command) VALUES ('sleeps', 'sleep 100')")
+    ended = office.collect("--longest", "1")
+    assert ended.status == 1 and "sleeps: FAILED: no end within 1 s" in ended.printed
+    process = started(office, "--workers", "1", "--longest", "3", "sleeps", "house-1")
+    while not (found := workers_of(process)):
+        time.sleep(0.05)
+    os.kill(found[0], signal.SIGSTOP)
+    printed, _ = process.communicate(timeout=60)
+    assert "sleeps: FAILED: no end within 3 s" in printed and "house-1: 0 readings" in printed
+
+
+def test_processes_end_with_their_parent(office: Office, box: Box) -> None:
+    office.sql("INSERT INTO boxes (name, command) VALUES ('sleeps', 'sleep 2')")
+    process = started(office, "--workers", "2", "--tries", "1")
+    while not any(map(is_asleep, found := workers_of(process))):
+        time.sleep(0.05)
+    process.kill()
+    process.wait()
+    end = time.monotonic() + 30
+    while any(pathlib.Path(f"/proc/{pid}").exists() for pid in found):
+        assert time.monotonic() < end
+        time.sleep(0.1)
+
+
+def test_processes_are_killed_again_and_again(office: Office) -> None:
+    """At any point of a collection: none hangs, and the last one has everything once."""
+    boxes = [office.box(f"house-{place}") for place in range(6)]
+    for box in boxes:
+        assert office.order(box.name, *FITS).status == 0
+        box.hears(120)
+    rng = random.Random(1)
+    for _ in range(8):
+        process = started(office, "--workers", "3", "--tries", "1", "--timeout", "10")
+        while process.poll() is None:
+            time.sleep(rng.uniform(0, 0.15))
+            found = workers_of(process)
+            if found:
+                with contextlib.suppress(ProcessLookupError):
+                    os.kill(rng.choice(found), signal.SIGKILL)
+        assert process.communicate(timeout=60)[0].splitlines()[-1].startswith("6 boxes, ")
+    ended = office.collect()
+    assert ended.status == 0, ended.printed
+    assert office.sql("SELECT count(*), count(DISTINCT (box, serial)) FROM readings") == [(720, 720)]
+    assert [box.state()["confirmed"] for box in boxes] == [120] * 6
 
 
 def test_two_boxes_exchange_their_addresses_within_a_visit(office: Office, monkeypatch: pytest.MonkeyPatch) -> None:

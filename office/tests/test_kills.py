@@ -28,10 +28,10 @@ Line = Tuple[str, int]
 def life(office: Office) -> None:
     """Orders, of which one is refused, and a collection."""
     connection = database.Database(office.name, 10)
-    ordering = visit.Visit(connection, "house-1", 10)
+    ordering = visit.Visit(connection, "house-1", 60)
     ordering.queue([MOVED, KNOWN], "key")
     ordering.settle()
-    collecting = visit.Visit(connection, "house-1", 10)
+    collecting = visit.Visit(connection, "house-1", 60)
     collecting.collect()
     connection.close()
 

@@ -74,7 +74,8 @@ def test_what_a_collector_may_do(office: Office, box: Box) -> None:
     finally:
         office.sql("ALTER ROLE office RESET role")
     assert box.state()["confirmed"] == 3
-    for query in ("UPDATE boxes SET command = 'x'", "DELETE FROM readings", "UPDATE readings SET flat = 'x'",
+    for query in ("UPDATE boxes SET command = 'x'", "UPDATE boxes SET stored = 9", "DELETE FROM readings",
+                  "UPDATE readings SET flat = 'x'",
                   "TRUNCATE readings", "DELETE FROM orders", "INSERT INTO boxes (name, command) VALUES ('x', 'x')",
                   "INSERT INTO readings_2026_01 DEFAULT VALUES", "SELECT drop_months_before('2030-01-01')"):
         assert re.search("permission denied|does not exist", refused(office, query, role="collector")), query
