@@ -62,7 +62,7 @@ WORDS: Dict[str, Tuple[str, str]] = {  # German, English
     "house_title": ("Zähler und Verbrauch", "Meters and consumption"), "flats": ("Wohnungen", "Flats"),
     "meters": ("Zähler", "Meters"), "last_value": ("Letzter Stand", "Last reading"), "since": ("seit", "since"),
     "grade": ("Güte", "Grade"), "state": ("Zustand", "State"), "silent": ("stumm", "silent"),
-    "never heard": ("noch nie gelesen", "never heard"), "stamp in the future": ("Uhr der Box geht vor", "stamp in the future"),
+    "never heard": ("noch nie gelesen", "never heard"),
     "sum": ("Haus gesamt", "Whole house"), "without": ("{count} Messstellen ohne Wert", "{count} places without a value"),
     "without one": ("1 Messstelle ohne Wert", "1 place without a value"),
     "collected": ("Zuletzt abgeholt", "Last collected"), "never": ("noch nie", "never"), "fault": ("Fehler", "Fault"),

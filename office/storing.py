@@ -1,5 +1,6 @@
 """Stores readings with their points, in the transaction of their collection."""
 
+import datetime
 from typing import Dict, List, Optional, Tuple
 
 import psycopg2.extras
@@ -7,18 +8,26 @@ import psycopg2.extras
 from database import Cursor, binaries, insert
 from decoding import Point, due_days, points_of
 from link import Reading
+from stamps import Window, moments_of
 
 STATUS_BYTE = 9  # of a telegram: after identification number, manufacturer, version, medium, access number
-READINGS = "readings (box, serial, identity, flat, heard, bodies)"
+PERMANENT, APPLICATION, APPLICATION_ERROR = 8, 3, 2  # in it (EN 13757-3)
+READINGS = "readings (box, serial, identity, flat, heard, at, bodies)"
 POINTS = ("points (box, serial, part, place, storage, function, tariff, subunit, vib, quantity, shown, unit, value,"
           " due)")
 DUE_READINGS = "due_readings (box, identity, due, serial)"
 LATER_DUE = ("ON CONFLICT (box, identity, due) DO UPDATE SET serial = excluded.serial, month = excluded.month"
              " WHERE due_readings.serial < excluded.serial")
-LAST_READINGS = ("UPDATE meters m SET serial = v.serial, heard = v.heard, stored_at = now(), status = v.status"
-                 " FROM (VALUES %s) AS v (box, identity, serial, heard, status)"
+LAST_READINGS = ("UPDATE meters m SET serial = v.serial, heard = v.heard, at = v.at, stored_at = now(), status = v.status"
+                 " FROM (VALUES %s) AS v (box, identity, serial, heard, at, status)"
                  " WHERE m.box = v.box AND m.identity = v.identity")
-LAST_READING = "(%s, %s, %s::bigint, %s::timestamptz, %s::smallint)"
+LAST_READING = "(%s, %s, %s::bigint, %s::timestamptz, %s::timestamptz, %s::smallint)"
+# Readings before a page that may be of the same collection, whose stamps are looked at with its own
+LOOKED_BACK = 1000
+EARLIER = ("SELECT serial, heard[1], at FROM readings WHERE box = %s AND serial BETWEEN %s AND %s AND (%s IS NULL OR stored_at > %s)"
+           " ORDER BY serial")
+WRONG_CLOCK = "UPDATE boxes SET clock = %s, clock_at = now() WHERE name = %s"
+RIGHT_CLOCK = "UPDATE boxes SET clock = NULL, clock_at = NULL WHERE name = %s AND clock_at <= coalesce(collected_at, now())"
 
 NumberedPoint = Tuple[int, int, Point, Optional[str]]
 
@@ -31,28 +40,57 @@ def stored(cursor: Cursor, box: str, first: int, last: int) -> Dict[int, Reading
             for serial, identity, flat, heard, bodies in cursor}
 
 
-def store_readings(cursor: Cursor, box: str, readings: List[Reading]) -> None:
+def store_readings(cursor: Cursor, box: str, readings: List[Reading], window: Window) -> None:
     """Stores readings, in the order of their serials. The database refuses a second one of the same box and serial."""
+    moments = stamped(cursor, box, readings, window)
     parts = iter(points_of([body for reading in readings for body in reading.bodies]))
     points = [(reading, *row) for reading in readings
               for row in numbered_points([next(parts) for _ in reading.bodies])]
-    insert(cursor, READINGS, [(box, reading.serial, reading.identity, reading.flat, list(reading.heard),
-                               binaries(reading.bodies)) for reading in readings])
+    insert(cursor, READINGS, [(box, reading.serial, reading.identity, reading.flat, list(reading.heard), moment,
+                               binaries(reading.bodies)) for reading, moment in zip(readings, moments)])
     insert(cursor, POINTS, [(box, reading.serial, part, place, *point[:-1], point.value, day)
                             for reading, part, place, point, day in points])
-    due = {(box, reading.identity, day): reading.serial for reading, _, _, _, day in points if day}
+    due = {(box, reading.identity, day): reading.serial for reading, part, _, _, day in points
+           if day and not has_error(reading.bodies[part - 1])}
     insert(cursor, DUE_READINGS, [(*key, last) for key, last in due.items()], LATER_DUE)
-    last_of = {reading.identity: reading for reading in readings}
+    last_of = {reading.identity: (reading, moment) for reading, moment in zip(readings, moments)}
     if last_of:
         psycopg2.extras.execute_values(cursor, LAST_READINGS, [
-            (box, identity, reading.serial, reading.heard[-1], status_of(reading)) for identity, reading in
-            last_of.items()], template=LAST_READING)
+            (box, identity, reading.serial, reading.heard[-1], moment, status_of(reading.bodies[-1]))
+            for identity, (reading, moment) in last_of.items()], template=LAST_READING)
 
 
-def status_of(reading: Reading) -> Optional[int]:
-    """The status byte of the last telegram."""
-    last = reading.bodies[-1]
-    return last[STATUS_BYTE] if len(last) > STATUS_BYTE else None
+def stamped(cursor: Cursor, box: str, readings: List[Reading], window: Window) -> List[Optional[datetime.datetime]]:
+    """The moments of readings. Those of the same collection that are stored already get others where these say so. Notes
+    at the box whether its clock is wrong."""
+    if not readings:
+        return []
+    first = readings[0].serial
+    cursor.execute(EARLIER, (box, first - LOOKED_BACK, first - 1, window.after, window.after))
+    earlier = cursor.fetchall()
+    stamps = [*(row[1] for row in earlier), *(reading.heard[0] for reading in readings)]
+    moments = moments_of(stamps, window)
+    for (serial, _, before), moment in zip(earlier, moments):
+        if before != moment:
+            cursor.execute("SELECT move_reading(%s, %s, %s)", (box, serial, moment))
+    wrong = [stamp for stamp, moment in zip(stamps, moments) if moment != stamp]
+    if wrong:
+        text = f"{len(wrong)} of {len(stamps)} stamps can't be, as {wrong[0]:%Y-%m-%d %H:%M}"
+        cursor.execute(WRONG_CLOCK, (text, box))
+    else:
+        cursor.execute(RIGHT_CLOCK, (box,))
+    return moments[len(earlier):]
+
+
+def status_of(body: bytes) -> Optional[int]:
+    """The status byte of a telegram."""
+    return body[STATUS_BYTE] if len(body) > STATUS_BYTE else None
+
+
+def has_error(body: bytes) -> bool:
+    """Whether the status says that the values don't hold: a permanent or an application error (`has_error` in SQL)."""
+    status = status_of(body) or 0
+    return bool(status & PERMANENT) or status & APPLICATION == APPLICATION_ERROR
 
 
 def numbered_points(parts: List[List[Point]]) -> List[NumberedPoint]:

@@ -16,6 +16,7 @@ from box_commands import change_of
 from database import Cursor, Database, insert, one
 from decoding import Undecoded
 from link import Disagreement, Link, Meter, Reading, Seen, Unreached
+from stamps import Window
 from storing import store_readings, stored
 
 LONGEST_PAUSE = 60  # seconds between two tries
@@ -318,7 +319,8 @@ class Visit:
                 return 0, False  # came from another visit; it goes first
             standing, seen = self.look(cursor, link, known)
             new = self.new_readings(cursor, seen, standing.confirmed + 1)
-            store_readings(cursor, self.box, new)
+            cursor.execute("SELECT collected_at, now() FROM boxes WHERE name = %s", (self.box,))
+            store_readings(cursor, self.box, new, Window(*one(cursor)))
             if seen.readings:
                 self.store_confirm(cursor, standing.number + 1, seen.readings[-1].serial)
             if seen.is_all:

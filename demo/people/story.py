@@ -5,7 +5,7 @@ import os
 import pathlib
 import subprocess
 import sys
-from typing import Any, Dict, Iterable, List, Tuple
+from typing import Any, Dict, Iterable, List, Optional, Tuple
 
 from people.houses import UTC, ZONE, Device, House, Moment, Place, Telegram
 
@@ -24,6 +24,7 @@ class Office:
         self.coming: Dict[str, List[Tuple[Moment, Device, str, Telegram]]] = {
             house.name: list(house.telegrams()) for house in houses}
         self.serials = {house.name: 0 for house in houses}
+        self.stored_until: Optional[Moment] = None
         self.run("migrate")
         self.connection = database.connect()
 
@@ -98,10 +99,11 @@ class Office:
     # ---- readings
 
     def store(self, until: Moment) -> int:
-        """Stores the telegrams up to a moment, as office/collect does, in the partition of their month."""
+        """Stores the telegrams up to a moment, as office/collect does then, in the partition of their month."""
         import storing  # what office/ has, by the path set above
         from link import Reading
-        count = 0
+        from stamps import Window
+        count, window = 0, Window(self.stored_until, until)
         for name, coming in self.coming.items():
             while coming and coming[0][0] <= until:
                 month = coming[0][0].date().replace(day=1)
@@ -114,8 +116,9 @@ class Office:
                                         (device.body(told),)))
                 self.as_if_in(month)
                 with self.connection, self.connection.cursor() as cursor:
-                    storing.store_readings(cursor, name, page)
+                    storing.store_readings(cursor, name, page, window)
                 count += len(page)
+        self.stored_until = until
         return count
 
     def as_if_in(self, month: datetime.date) -> None:

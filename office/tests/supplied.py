@@ -44,16 +44,16 @@ class Supplied:
             " RETURNING id", self.house, flat, begins, ends, person, language)[0][0])
 
     def reads(self, fitting: int, moment: datetime.datetime, value: Any, due: Optional[Tuple[str, Any]] = None,
-              unit: Optional[str] = None) -> None:
+              unit: Optional[str] = None, status: int = 0) -> None:
         """A reading with a current value and, of a due day, the value that the meter stored at its end."""
         self.serial += 1
         box, identity = self.office.sql("SELECT box, identity FROM fittings WHERE id = %s", fitting)[0]
         unit = unit or UNITS[identity[-2:]]
         month = moment.astimezone(datetime.timezone.utc).date().replace(day=1)
         self.office.sql("SELECT make_months(%s, 1)", month)
-        self.office.sql("INSERT INTO readings (month, box, serial, identity, flat, heard, bodies) VALUES"
-                        " (%s, %s, %s, %s, 'x', %s, %s)", month, box, self.serial, identity, [moment],
-                        [bytes.fromhex("785634122440010701000000")])
+        self.office.sql("INSERT INTO readings (month, box, serial, identity, flat, heard, at, bodies)"
+                        " VALUES (%s, %s, %s, %s, 'x', %s, %s, %s)", month, box, self.serial, identity, [moment], moment,
+                        [bytes.fromhex("785634122440010701") + bytes([status, 0, 0])])
         points = [(1, 0, value, None), *([(2, 1, due[1], due[0])] if due else [])]
         for place, storage, number, day in points:
             self.office.sql("INSERT INTO points (month, box, serial, part, place, storage, function, tariff, subunit, vib,"

@@ -121,25 +121,29 @@ def test_open_orders_are_found_by_their_index(office: Office, box: Box) -> None:
 
 def test_due_dates_energy_and_status(office: Office, box: Box) -> None:
     state = box.state()
-    state["serial"] = 1
-    state["readings"] = [[1, "11111111.PAD.01.07", "A1", [[1735689600, telegram(7, 0x0C, DUE)]]]]
+    state["serial"] = 2
+    state["readings"] = [[number, "11111111.PAD.01.07", "A1", [[1735689600 + number, telegram(7, status, DUE)]]]
+                         for number, status in ((1, 4), (2, 0x0C))]
     box.write(state)
     ended = office.collect()
     assert ended.status == 0, ended.printed
-    assert office.sql("SELECT due, flat, value = 0.001 FROM due_values") == [(datetime.date(2024, 12, 31), "A1", True)]
+    assert office.sql("SELECT due, flat, value = 0.001, serial FROM due_values") == [
+        (datetime.date(2024, 12, 31), "A1", True, 1)]  # and not of the meter in error
     assert office.sql("SELECT says FROM meter_states WHERE identity LIKE '1%'") == [("power low, permanent error",)]
     units = office.sql("SELECT kwh(218370, 'Wh'), kwh(3, 'MWh'), kwh(7200000, 'J'), kwh(18, 'GJ'), kwh(1, 'm3')")
     assert [it if it is None else float(it) for it in units[0]] == [218.37, 3000, 2, 5000, None]
 
 
 def test_overdue_meters(office: Office, box: Box) -> None:
-    """Never heard, silent, and one whose stamp lies in the future."""
+    """Never heard, and silent; one whose stamp lies in the future was heard: its box's clock is wrong."""
     later = datetime.datetime.now(datetime.timezone.utc) + datetime.timedelta(days=3)
     assert office.sql("SELECT * FROM overdue") == []
     assert {row[5] for row in office.sql("SELECT * FROM overdue_at(%s)", later)} == {"never heard"}
     box.hears(2, moment=int(later.timestamp()))
     assert office.collect().status == 0
-    assert {row[5] for row in office.sql("SELECT * FROM overdue")} == {"stamp in the future"}
+    assert office.sql("SELECT * FROM overdue") == []
+    watched = office.run("watch").printed
+    assert "clock: house-1 2 of 2 stamps can't be, as " in watched and "meter:" not in watched
     office.order("house-1", "SWAP 11111111.PAD.01.07 55555555.PAD.01.07 1")
     box.hears(2, first=50, moment=int(time.time()) - 100)
     assert office.collect().status == 0
