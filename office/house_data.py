@@ -18,8 +18,11 @@ JOIN houses h ON h.house = p.house
 JOIN fittings f ON f.place = p.id AND f.during @> day_begins(%(after)s, h.zone) - interval '1 second'
 LEFT JOIN LATERAL (SELECT * FROM day_values k WHERE k.fitting = f.id AND k.struck_at IS NULL
                    ORDER BY k.day DESC LIMIT 1) d ON true
-LEFT JOIN meter_states s ON s.box = f.box AND s.identity = f.identity
-LEFT JOIN overdue o ON o.box = f.box AND o.identity = f.identity
+LEFT JOIN LATERAL (SELECT s.says FROM meter_states s JOIN boxes b ON b.name = s.box
+                   WHERE b.house = f.house AND s.identity = f.identity ORDER BY s.stored_at DESC NULLS LAST LIMIT 1) s ON true
+LEFT JOIN LATERAL (SELECT min(o.why) AS why FROM boxes b JOIN meters m ON m.box = b.name AND m.identity = f.identity
+                   LEFT JOIN overdue o ON (o.box, o.identity) = (m.box, m.identity)
+                   WHERE b.house = f.house AND b.active HAVING count(*) = count(o.why)) o ON true
 LEFT JOIN month_use u ON u.place = p.id AND u.month = %(month)s AND u.part = 0
 WHERE p.house = %(house)s"""
 AMOUNTS = """

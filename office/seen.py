@@ -38,7 +38,7 @@ FROM meter_states s JOIN boxes b ON b.name = s.box WHERE s.says <> ''"""
 # Of each meter that is fitted: its last value, what was used a day on the way to it, the median and the lowest of these
 STEPS = """
 SELECT kind, house, subject, says FROM (
-    SELECT p.house, f.box || ' ' || f.identity AS subject, p.flat, k.last, k.step, k.median, k.count, k.low
+    SELECT p.house, f.house || ' ' || f.identity AS subject, p.flat, k.last, k.step, k.median, k.count, k.low
     FROM fittings f JOIN places p ON p.id = f.place JOIN LATERAL (
         SELECT (array_agg(value || ' ' || unit ORDER BY day DESC))[1] AS last,
                (array_agg(step ORDER BY day DESC))[1] AS step, min(step) AS low, count(step) AS count,
@@ -54,7 +54,7 @@ CROSS JOIN LATERAL (VALUES
     AS found (kind, is_so, says)
 WHERE is_so"""
 STILL = """
-SELECT 'no consumption', p.house, f.box || ' ' || f.identity, %(still)s || ' days at ' || max(d.value) || ' ' || max(d.unit)
+SELECT 'no consumption', p.house, f.house || ' ' || f.identity, %(still)s || ' days at ' || max(d.value) || ' ' || max(d.unit)
        || ', flat ' || p.flat
 FROM fittings f JOIN places p ON p.id = f.place JOIN tenancies t ON (t.house, t.flat) = (p.house, p.flat)
 JOIN day_values d ON d.fitting = f.id AND d.struck_at IS NULL
@@ -64,7 +64,7 @@ WHERE f.during @> %(at)s AND p.use IN ('warm water', 'cold water', 'electricity'
 GROUP BY p.house, f.id, p.flat
 HAVING count(*) >= %(still)s / 2 AND min(d.day) <= %(at)s::date - %(still)s + 5 AND max(d.amount) = min(d.amount)"""
 NIGHT = """
-SELECT 'night', p.house, f.box || ' ' || f.identity, 'water between 0:00 and 5:00 in ' || count(*) || ' nights, flat ' || p.flat
+SELECT 'night', p.house, f.house || ' ' || f.identity, 'water between 0:00 and 5:00 in ' || count(*) || ' nights, flat ' || p.flat
 FROM night_use n JOIN fittings f ON f.id = n.fitting JOIN places p ON p.id = f.place
 WHERE f.during @> %(at)s AND n.amount > 0 AND n.night BETWEEN %(at)s::date - %(nights)s + 1 AND %(at)s::date
 GROUP BY f.id, p.house, p.flat HAVING count(*) >= %(nights)s"""

@@ -22,12 +22,13 @@ class Value(NamedTuple):
     source: str  # stored, read, estimated, by hand; fitted and removed: the first and last value of a fitting
     is_estimated: bool
     id: Optional[int]  # of day_values
+    box: Optional[str]  # of its telegram
     telegram: Optional[List[Any]]  # month, serial, part of readings
 
     def basis(self, fitting: "Fitting") -> Dict[str, Any]:
         """As `month_use.basis` keeps it."""
         return {"at": self.at.isoformat(), "value": self.shown, "unit": self.unit, "source": self.source,
-                "estimated": self.is_estimated, "meter": fitting.identity, "box": fitting.box, "id": self.id,
+                "estimated": self.is_estimated, "meter": fitting.identity, "box": self.box, "id": self.id,
                 "telegram": self.telegram, "amount": self.amount, "fitting": fitting.id}
 
 
@@ -35,14 +36,14 @@ class Fitting:
     """A meter at a place, and its values in order of moment."""
 
     def __init__(self, row: Sequence[Any]) -> None:
-        self.id, self.box, self.identity = row[:3]
-        self.begins: datetime.datetime = row[3]
-        self.ends: Optional[datetime.datetime] = row[4]
-        unit, first, last, first_amount, last_amount, is_estimated = row[5:]
+        self.id, self.identity = row[:2]
+        self.begins: datetime.datetime = row[2]
+        self.ends: Optional[datetime.datetime] = row[3]
+        unit, first, last, first_amount, last_amount, is_estimated = row[4:]
         self.first = None if first is None else Value(self.begins, first_amount, plain_number(first), unit, "fitted",
-                                                      is_estimated, None, None)
+                                                      is_estimated, None, None, None)
         self.last = None if last is None or self.ends is None else Value(
-            self.ends, last_amount, plain_number(last), unit, "removed", is_estimated, None, None)
+            self.ends, last_amount, plain_number(last), unit, "removed", is_estimated, None, None, None)
         self.values: List[Value] = []
 
     def all_values(self) -> List[Value]:
@@ -99,7 +100,7 @@ def plain_number(number: Any) -> str:
 
 
 PLACES = """
-SELECT p.id, p.house, p.flat, p.use, p.number, h.zone, f.id, f.box, f.identity, lower(f.during), upper(f.during), f.unit,
+SELECT p.id, p.house, p.flat, p.use, p.number, h.zone, f.id, f.identity, lower(f.during), upper(f.during), f.unit,
        f.first_value, f.last_value, f.first_amount, f.last_amount, f.is_estimated
 FROM places p JOIN houses h ON h.house = p.house JOIN fittings f ON f.place = p.id
 WHERE p.house = ANY (%(houses)s) AND EXISTS (
@@ -107,7 +108,7 @@ WHERE p.house = ANY (%(houses)s) AND EXISTS (
     AND o.during && tstzrange(day_begins(%(first)s, h.zone), day_begins(%(after)s, h.zone)))
 ORDER BY p.id, lower(f.during)"""
 VALUES = """
-SELECT fitting, at, amount, value, unit, source, id, month::text, serial, part FROM day_values
+SELECT fitting, at, amount, value, unit, source, id, box, month::text, serial, part FROM day_values
 WHERE fitting = ANY (%s) AND struck_at IS NULL AND day BETWEEN %s AND %s ORDER BY fitting, day"""
 TENANCIES = """
 SELECT house, flat, id, lower(days), upper(days) FROM tenancies
@@ -135,10 +136,10 @@ def read_values(cursor: Cursor, places: Iterable[Place], first: datetime.date, l
         fitting.values = []
     if by_id:
         cursor.execute(VALUES, (list(by_id), first, last))
-        for fitting_id, at, amount, value, unit, source, value_id, month, serial, part in cursor:
+        for fitting_id, at, amount, value, unit, source, value_id, box, month, serial, part in cursor:
             telegram = None if month is None else [month, serial, part]
             by_id[fitting_id].values.append(Value(at, amount, plain_number(value), unit, source, source == ESTIMATED,
-                                                  value_id, telegram))
+                                                  value_id, box, telegram))
 
 
 def is_covered(place: Place, first: datetime.date, after: datetime.date) -> bool:

@@ -70,12 +70,12 @@ class Office:
             self.sql("UPDATE places SET weight = %s WHERE id = %s", place.weight, self.place_id(place))
 
     def place_id(self, place: Place) -> int:
-        return int(self.sql("SELECT p.id FROM places p JOIN fittings f ON f.place = p.id WHERE f.box = %s AND f.identity = %s",
+        return int(self.sql("SELECT p.id FROM places p JOIN fittings f ON f.place = p.id WHERE f.house = %s AND f.identity = %s",
                             place.house, place.devices[0].identity)[0][0])
 
     def first_value(self, place: Place, device: Device) -> None:
         """A person notes what a meter showed when it was fitted."""
-        self.sql("UPDATE fittings SET unit = %s, first_value = %s WHERE (box, identity) = (%s, %s)", device.kind.unit,
+        self.sql("UPDATE fittings SET unit = %s, first_value = %s WHERE (house, identity) = (%s, %s)", device.kind.unit,
                  device.shown(device.first), place.house, device.identity)
 
     def exchange(self, place: Place) -> None:
@@ -85,16 +85,16 @@ class Office:
         self.sql("UPDATE meters SET identity = %s, address = %s WHERE (box, identity) = (%s, %s)", new.identity,
                  str(new.number), place.house, old.identity)
         self.sql("UPDATE fittings SET during = tstzrange(lower(during), %s), last_value = %s, is_estimated = %s"
-                 " WHERE (box, identity) = (%s, %s)", old.ends, old.shown(old.last), old.is_estimated, place.house,
+                 " WHERE (house, identity) = (%s, %s)", old.ends, old.shown(old.last), old.is_estimated, place.house,
                  old.identity)
-        self.sql("UPDATE fittings SET during = tstzrange(%s, NULL) WHERE (box, identity) = (%s, %s)", new.begins, place.house,
+        self.sql("UPDATE fittings SET during = tstzrange(%s, NULL) WHERE (house, identity) = (%s, %s)", new.begins, place.house,
                  new.identity)
         self.first_value(place, new)
 
     def strike(self, place: Place, at: Moment, device: Device) -> None:
         """A person strikes a false value."""
         self.sql("SELECT strike(d.id, 'a disturbed telegram') FROM day_values d JOIN fittings f ON f.id = d.fitting"
-                 " WHERE (f.box, f.identity, d.at) = (%s, %s, %s)", place.house, device.identity, at)
+                 " WHERE (f.house, f.identity, d.at) = (%s, %s, %s)", place.house, device.identity, at)
 
     # ---- readings
 

@@ -22,7 +22,7 @@ class Supplied:
     """A house with one box."""
 
     def __init__(self, office: Office, house: str = "elm-1", category: str = "flat") -> None:
-        self.office, self.house, self.serial = office, house, 0
+        self.office, self.house, self.box, self.serial = office, house, house, 0
         office.sql("INSERT INTO houses (house, address, category) VALUES (%s, 'Elm Street 1', %s)", house, category)
         office.sql("INSERT INTO boxes (name, command) VALUES (%s, 'false')", house)
         office.sql("UPDATE boxes SET house = %s WHERE name = %s", house, house)
@@ -47,7 +47,7 @@ class Supplied:
               unit: Optional[str] = None, status: int = 0) -> None:
         """A reading with a current value and, of a due day, the value that the meter stored at its end."""
         self.serial += 1
-        box, identity = self.office.sql("SELECT box, identity FROM fittings WHERE id = %s", fitting)[0]
+        box, identity = self.box, self.office.sql("SELECT identity FROM fittings WHERE id = %s", fitting)[0][0]
         unit = unit or UNITS[identity[-2:]]
         month = moment.astimezone(datetime.timezone.utc).date().replace(day=1)
         self.office.sql("SELECT make_months(%s, 1)", month)
@@ -66,10 +66,10 @@ class Supplied:
 
     def values(self, fitting: int, values: Dict[str, Any], unit: str = "Wh") -> None:
         """Values at the ends of days, as if the meter had stored them."""
-        self.office.sql("INSERT INTO day_values (fitting, day, at, value, unit, source, month, serial, part)"
-                        " SELECT %s, day, day_begins(day + 1, 'Europe/Berlin'), value, %s, 'stored', '2025-01-01', 1, 1"
+        self.office.sql("INSERT INTO day_values (fitting, day, at, value, unit, source, month, box, serial, part)"
+                        " SELECT %s, day, day_begins(day + 1, 'Europe/Berlin'), value, %s, 'stored', '2025-01-01', %s, 1, 1"
                         " FROM unnest(%s::date[], %s::numeric[]) AS k (day, value)",
-                        fitting, unit, list(values), [str(value) for value in values.values()])
+                        fitting, unit, self.box, list(values), [str(value) for value in values.values()])
 
     def days(self, fitting: int, first: str, count: int, begin: int, step: int, unit: str = "Wh") -> None:
         """A value a day that grows by as much each day."""

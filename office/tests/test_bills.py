@@ -225,7 +225,7 @@ def test_roles(office: Office, elm: Supplied, tmp_path: pathlib.Path) -> None:
                 "UPDATE month_use SET amount = 1", "INSERT INTO month_use DEFAULT VALUES", "DELETE FROM tenancies",
                 "UPDATE tenancies SET token = 'x'", "UPDATE day_values SET struck_by = 'another'",
                 "INSERT INTO orders (box, line, confirms) VALUES ('elm-1', 'CONFIRM 1', 1)", "DELETE FROM sheets",
-                "SELECT end_fitting('elm-1', 'x')", "UPDATE boxes SET house = NULL"))):
+                "SELECT end_fitting('elm-1', 'elm-1', 'x')", "UPDATE boxes SET house = NULL"))):
         assert "permission denied" in refused(office, query, role=role), (role, query)
     office.sql("SET ROLE clerk")
     value = office.sql("SELECT put_value(%s, '2025-01-31', 1299, 'Wh', 'read at the meter')", meter)[0][0]

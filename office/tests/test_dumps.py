@@ -65,9 +65,8 @@ def test_a_dump_of_an_older_office(server: Server, tmp_path: pathlib.Path) -> No
     """Up to version 9 its restore needs a search path."""
     older = Office(server, server.make(), tmp_path)
     assert older.run("migrate", "--to", "9").status == 0
-    house = Supplied(older)
-    house.reads(house.meter(1, HEAT, "A1"), at("2024-01-31 23:00"), 1)
-    older.sql("SELECT close_day('2024-01-31')")
+    older.sql("INSERT INTO day_values (fitting, day, at, value, unit, source) VALUES (%s, '2024-01-31', now(), 1, 'Wh', 'by hand')",
+              Supplied(older).meter(1, HEAT, "A1"))
     again = restored(server, dumped(server, older).replace(OLD_PATH, PATH), tmp_path)
     assert counts(again) == counts(older)
     assert again.run("migrate").status == 0

@@ -23,7 +23,7 @@ def test_a_box_gets_its_house(office: Office, box: Box) -> None:
     assert fitted(office) == []
     housed(office)
     assert fitted(office) == [("A1", "cold water", 1, "11111111", True), ("A2", "cold water", 1, "22222222", True)]
-    assert office.sql("SELECT bool_and(lower(f.during) = m.since) FROM fittings f JOIN meters m USING (box, identity)") == [
+    assert office.sql("SELECT bool_and(lower(f.during) = m.since) FROM fittings f JOIN meters m USING (identity)") == [
         (True,)]
     office.sql("INSERT INTO houses (house, address) VALUES ('oak', 'Oak Street 1')")
     office.sql("UPDATE boxes SET house = 'oak'")

@@ -13,11 +13,11 @@ FLATS = 2000
 HOUSE = """
 INSERT INTO flats (house, flat, area_m2) SELECT 'elm-1', 'A' || n, 50 FROM generate_series(1, {flats}) n;
 INSERT INTO places (house, flat, use, number) SELECT house, flat, 'heat', 1 FROM flats;
-INSERT INTO fittings (place, box, identity, during)
+INSERT INTO fittings (place, house, identity, during)
 SELECT id, house, to_char(substr(flat, 2)::integer, 'FM00000000') || '.PAD.01.04', '[2024-01-01Z,)' FROM places;
-INSERT INTO day_values (fitting, day, at, value, unit, source, month, serial, part)
+INSERT INTO day_values (fitting, day, at, value, unit, source, month, box, serial, part)
 SELECT f.id, k.day, day_begins(k.day + 1, 'Europe/Berlin'), k.value + CASE k.value WHEN 0 THEN 0 ELSE substr(p.flat, 2)::integer END,
-       'Wh', 'stored', '2025-01-01', 1, 1
+       'Wh', 'stored', '2025-01-01', 'elm-1', 1, 1
 FROM fittings f JOIN places p ON p.id = f.place, (VALUES (date '2024-12-31', 0), ('2025-01-31', 300000)) AS k (day, value);
 INSERT INTO tenancies (house, flat, days, person) SELECT house, flat, '[2024-01-01,)', 'A. Person' FROM flats"""
 

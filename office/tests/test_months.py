@@ -179,7 +179,7 @@ def test_what_the_tables_refuse(office: Office, elm: Supplied) -> None:
     meter = elm.meter(1, HEAT, "A1")
     elm.tenancy("A1", "2025-01-01", "2025-02-01")
     for query in ("INSERT INTO tenancies (house, flat, days, person) VALUES ('elm-1', 'A1', '[2025-01-31,)', 'x')",
-                  "INSERT INTO fittings (place, box, identity, during) SELECT place, box, identity, '[2025-01-01,)'"
+                  "INSERT INTO fittings (place, house, identity, during) SELECT place, house, identity, '[2025-01-01,)'"
                   " FROM fittings", "UPDATE houses SET zone = 'Nowhere'", "UPDATE flats SET area_m2 = 0",
                   "UPDATE places SET weight = -1",
                   "UPDATE fittings SET unit = 'Wh', last_value = 1",

@@ -1,0 +1,135 @@
+"""A meter keeps its place: under a box with a new name, and where two boxes hear it."""
+
+import pathlib
+from typing import Any, List, Tuple
+
+import pytest
+from conftest import FITS, Box, Office, Server
+from supplied import HEAT, Supplied, at
+from test_fittings import fitted, housed
+
+WH = 3_600_000
+
+
+@pytest.fixture
+def elm(office: Office) -> Supplied:
+    return Supplied(office)
+
+
+def test_a_box_is_replaced(office: Office, box: Box) -> None:
+    """The new image knows one of the two meters: the other is fitted by an order, and no fitting ends."""
+    housed(office)
+    before = office.sql("SELECT * FROM fittings ORDER BY id")
+    new = office.box("house-1-b")
+    office.sql("DELETE FROM boxes WHERE name = 'house-1-b'")
+    new.says(f"1 {FITS[0]}")
+    command = office.sql("SELECT replace(command, '{box}', 'house-1-b') FROM boxes")[0][0]
+    unreached = office.run("replace-box", "house-1", "house-1-b", "--command", "false")
+    assert unreached.status == 3 and office.sql("SELECT name, active FROM boxes") == [("house-1", True)]
+    ended = office.run("replace-box", "house-1", "house-1-b", "--command", command)
+    assert (ended.status, ended.printed) == (0, f"house-1-b {FITS[1]}\n")
+    assert office.sql("SELECT name, house, active FROM boxes ORDER BY name") == [
+        ("house-1", "elm", False), ("house-1-b", "elm", True)]
+    new.hears(2)
+    assert office.collect().status == 0
+    assert new.numbers()[1:] == [(2, FITS[1]), (3, "CONFIRM 2")]
+    assert office.sql("SELECT * FROM fittings ORDER BY id") == before
+    for words in (("house-1", "x"), ("nowhere", "x"), ("house-1-b", "house-1")):
+        assert office.run("replace-box", *words).status == 2
+
+
+def test_a_restored_copy_of_the_image(office: Office, box: Box) -> None:
+    """It has the identity of the box that it replaces, whose command it keeps."""
+    housed(office)
+    box.hears(2)
+    assert office.collect().status == 0
+    assert office.run("replace-box", "house-1", "house-1-b").status == 0
+    ended = office.collect()
+    assert ended.status == 0 and "house-1-b: 0 readings" in ended.printed, ended.printed
+    assert len(fitted(office)) == 2
+
+
+def test_the_months_go_on(office: Office, elm: Supplied) -> None:
+    """Readings of the one, then of the other box; also of the due date that each of them has."""
+    meter = elm.meter(1, HEAT, "A1")
+    elm.reads(meter, at("2024-12-31T18:00"), 1000)
+    elm.reads(meter, at("2025-01-15T06:00"), 1100, ("2024-12-31", 1010))
+    office.sql("UPDATE boxes SET active = false")
+    office.sql("INSERT INTO boxes (name, command, house) VALUES ('elm-1-b', 'false', 'elm-1')")
+    elm.box, elm.serial = "elm-1-b", 0
+    office.sql("INSERT INTO meters (box, identity, line, address, flat) VALUES ('elm-1-b', '00000001.PAD.01.04', 1, '1', 'A1')")
+    elm.reads(meter, at("2025-02-01T06:00"), 1320, ("2025-01-31", 1310))
+    assert office.run("close", "2024-12-31", "--until", "2025-02-01").status == 0
+    assert elm.month("2025-01") == [("A1", 0, 300 * WH, "measured")]
+    assert office.sql("SELECT day::text, box FROM day_values ORDER BY day") == [
+        ("2024-12-31", "elm-1"), ("2025-01-15", "elm-1"), ("2025-01-31", "elm-1-b"), ("2025-02-01", "elm-1-b")]
+    assert office.sql("SELECT count(*) FROM fittings") == [(1,)]
+
+
+def test_two_boxes_hear_one_meter(office: Office, elm: Supplied) -> None:
+    """Its readings are merged by their moments; it keeps its place until both have let it go."""
+    meter = elm.meter(1, HEAT, "A1")
+    office.sql("INSERT INTO boxes (name, command, house) VALUES ('attic', 'false', 'elm-1')")
+    office.sql("INSERT INTO meters (box, identity, line, address, flat) VALUES ('attic', '00000001.PAD.01.04', 1, '1', 'A1')")
+    elm.reads(meter, at("2025-01-30T06:00"), 1000)
+    elm.reads(meter, at("2025-01-31T06:00"), 1010)
+    elm.box, elm.serial = "attic", 0
+    elm.reads(meter, at("2025-01-30T16:00"), 1005)
+    elm.reads(meter, at("2025-01-31T05:00"), 1009)
+    assert office.run("close", "2025-01-30", "--until", "2025-01-31").status == 0
+    assert office.sql("SELECT day::text, value::float, box FROM day_values ORDER BY day") == [
+        ("2025-01-30", 1005.0, "attic"), ("2025-01-31", 1010.0, "elm-1")]
+    for name, is_open in (("elm-1", True), ("attic", False)):
+        office.sql("DELETE FROM meters WHERE box = %s", name)
+        assert office.sql("SELECT upper_inf(during) FROM fittings") == [(is_open,)]
+
+
+def test_readings_before_a_box_came_to_the_house(office: Office, elm: Supplied) -> None:
+    """They are of the house in which it was then."""
+    meter = elm.meter(1, HEAT, "A1")
+    Supplied(office, "oak-2")
+    office.sql("UPDATE boxes SET house = 'elm-1' WHERE name = 'oak-2'")
+    elm.box = "oak-2"
+    elm.reads(meter, at("2025-01-31T06:00"), 1010)
+    assert office.run("close", "2025-01-31", "--house", "elm-1").status == 0
+    assert office.sql("SELECT count(*) FROM day_values") == [(0,)]
+
+
+RENAMED = """
+INSERT INTO houses (house, address) VALUES ('elm', 'Elm Street 1');
+INSERT INTO boxes (name, command, house) VALUES ('old', 'false', 'elm');
+INSERT INTO flats (house, flat) VALUES ('elm', 'A1');
+INSERT INTO places (house, flat, use, number) VALUES ('elm', 'A1', 'heat', 1), ('elm', 'A1', 'heat', 2), ('elm', 'A1', 'heat', 3);
+UPDATE boxes SET active = false;
+INSERT INTO boxes (name, command, house) VALUES ('new', 'false', 'elm');
+INSERT INTO fittings (place, box, identity, during) SELECT p.id, k.box, k.identity, k.during::tstzrange FROM places p JOIN (VALUES
+    (1, 'old', 'twice', '[2024-01-01,)'), (2, 'new', 'twice', '[2024-06-01,)'),
+    (3, 'old', 'ended', '[2024-01-01,2024-06-01)'), (3, 'new', 'ended', '[2024-06-01,)')) AS k (place, box, identity, during)
+    ON k.place = p.number;
+INSERT INTO day_values (fitting, day, at, value, unit, source, month, serial, part)
+SELECT f.id, k.day::date, k.day::timestamptz, k.value, 'Wh', 'stored', '2024-05-01', 1, 1 FROM fittings f JOIN (VALUES
+    ('old', '2024-05-30', 10), ('old', '2024-06-02', 12), ('new', '2024-06-02', 13), ('new', '2024-06-03', 14)) AS k (box, day, value)
+    USING (box);
+INSERT INTO month_use (month, place, part, begins, ends, grade, is_leap, basis)
+SELECT '2024-06-01', id, 0, '2024-06-01', '2024-07-01', 'missing', false, '[]' FROM places;
+"""
+
+
+def test_a_migration_joins_what_names_of_boxes_took_apart(server: Server, tmp_path: pathlib.Path) -> None:
+    """A meter that stood under two names at two places, and one that ended with the old name."""
+    older = Office(server, server.make(), tmp_path)
+    assert older.run("migrate", "--to", "12").status == 0
+    older.sql(RENAMED)
+    ended = older.run("migrate", "--to", "13")
+    assert ended.status == 0, ended.printed
+    assert "look: meter twice of house elm stood at the places 1 and 2 under two boxes; its values count at 1 now" in (
+        ended.printed), ended.printed
+    rows: List[Tuple[Any, ...]] = older.sql("SELECT identity, place, lower(during)::date::text, upper_inf(during) FROM fittings"
+                                            " ORDER BY place")
+    assert rows == [("twice", 1, "2024-01-01", True), ("ended", 3, "2024-01-01", True)]
+    assert older.sql("SELECT f.identity, d.day::text, d.value::float, d.box FROM day_values d JOIN fittings f ON f.id = d.fitting"
+                     " ORDER BY 1 DESC, 2") == [
+        (identity, day, value, name) for identity in ("twice", "ended") for day, value, name in (
+            ("2024-05-30", 10.0, "old"), ("2024-06-02", 12.0, "old"), ("2024-06-03", 14.0, "new"))]
+    assert older.sql("SELECT place FROM month_use ORDER BY place") == [(1,), (3,)]
+    assert older.run("migrate").status == 0
