@@ -50,6 +50,7 @@ WORDS: Dict[str, Tuple[str, str]] = {  # German, English
         "Estimated: for one reading at least there was no measured value nearby."),
     "heat": ("Heizung", "Heating"), "warm water": ("Warmwasser", "Warm water"), "cold water": ("Kaltwasser", "Cold water"),
     "electricity": ("Strom", "Electricity"), "allocator": ("Heizkostenverteiler", "Heat cost allocators"),
+    "cooling": ("Kälte", "Cooling"), "gas": ("Gas", "Gas"),
     "stored": ("vom Zähler gespeichert", "stored by the meter"), "read": ("abgelesen", "read"),
     "estimated": ("geschätzt", "estimated"), "by hand": ("von Hand eingetragen", "entered by hand"),
     "fitted": ("bei Einbau", "when fitted"), "removed": ("bei Ausbau", "when removed"),
@@ -84,6 +85,10 @@ class Catalogue(NamedTuple):
         german, english = WORDS[key]
         text = german if self.language == "de" else english
         return text.format(**values) if values else text
+
+    def use(self, name: str) -> str:
+        """A use; its own name where the catalogue hasn't got it."""
+        return self.word(name) if name in WORDS else name
 
     def month(self, month: datetime.date) -> str:
         return f"{MONTHS[self.language][month.month - 1]} {month.year}"

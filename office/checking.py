@@ -5,11 +5,10 @@ from typing import List, Optional
 
 from catalogue import Catalogue
 from consumption import HEADER, Line
-from sheet_data import ENERGIES, SMALLEST_OF_KWH, PlaceUse, Use
+from sheet_data import SMALLEST_OF_KWH, UNITS, PlaceUse, Use
 from supply import seconds
 
 SCALES = {"kWh": SMALLEST_OF_KWH, "m³": 1_000_000, "HCA": 1_000}  # of the smallest unit
-MEASURED_IN = {"warm water": "m³", "cold water": "m³", "allocator": "HCA"}  # other uses in kWh
 
 
 def check_link(page: str, words: Catalogue, use: Use, place: PlaceUse) -> Optional[str]:
@@ -18,11 +17,11 @@ def check_link(page: str, words: Catalogue, use: Use, place: PlaceUse) -> Option
     entries = [reading.entry for reading in place.readings if reading.entry is not None]
     if not page or place.amount.value is None or not entries or len(entries) < len(place.readings):
         return None
-    unit = "kWh" if use.use in ENERGIES else MEASURED_IN[use.use]
-    link = {"entries": entries_text(f"{words.word(use.use)} {place.number}", entries),
+    unit = UNITS[use.quantity]
+    link = {"entries": entries_text(f"{words.use(use.use)} {place.number}", entries),
             "boundaries": f"{seconds(place.amount.begins)},{seconds(place.amount.ends)}",
             "unit": words.word(unit), "scale": str(SCALES[unit])}
-    if use.unit == unit and use.use != "allocator":  # (whose units have a factor too)
+    if use.unit == unit and use.quantity != "allocation":  # (whose units have a factor too)
         link["said"] = Catalogue("en", words.zone).amount(place.amount.value, unit).replace(",", "")
     return f"{page}#{urllib.parse.urlencode(link)}"
 

@@ -14,7 +14,7 @@ SECONDS = 120  # at most, of one run
 HEADER = "place,meter,moment,value\n"
 COLUMNS = ["place", "from", "to", "amount", "backwards", "exchanges"]
 TOO_LARGE = "TooLarge"
-LARGEST = 2**63 - 1  # of the database's bigint
+LARGEST = 10**18 - 1  # 18 digits
 
 
 class NotComputed(Exception):

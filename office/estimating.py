@@ -10,10 +10,7 @@ from periods import later_month
 from supply import Entry, Place
 
 YEAR_BEFORE, OF_THE_HOUSE, OF_THE_CATEGORY = "year before", "flats of the house", "flats of the category"
-# What an estimated value is rounded to, by its unit
-STEPS = {"Wh": "1", "J": "1", "HCA": "1", "m3": "0.001", "MWh": "0.001", "GJ": "0.001"}
-SMALLEST = {"Wh": 3_600_000, "MWh": 3_600_000_000_000, "J": 1000, "GJ": 1_000_000_000_000, "m3": 1_000_000, "HCA": 1000}
-
+UNITS = "SELECT unit, smallest, step FROM units"
 BEFORE = """
 SELECT amount FROM month_use WHERE place = %s AND part = 0 AND month = %s AND grade IN ('measured', 'zero')"""
 # Of each house: its category, and of its measured places the sum of their amounts by weight and of their shares of the
@@ -57,6 +54,9 @@ class Estimates:
     def __init__(self, cursor: Cursor, month: datetime.date) -> None:
         self.cursor, self.month = cursor, month
         self.sums: Dict[str, List[Sums]] = {}  # by use
+        cursor.execute(UNITS)
+        # By unit: how many smallest units it is, and what an estimate is rounded to
+        self.units = {unit: (decimal.Decimal(smallest), decimal.Decimal(step)) for unit, smallest, step in cursor}
 
     def of(self, place: Place, entries: List[Entry], period: Period) -> Optional[Estimate]:
         """The value at a month's end of a place whose last value lies before it; None where nothing says how much."""
@@ -70,7 +70,8 @@ class Estimates:
         amount, how = found
         unit, length = last.value.unit, period.ends - period.begins
         part = decimal.Decimal((period.ends - last.value.at) / length)
-        more = (amount * part / SMALLEST[unit]).quantize(decimal.Decimal(STEPS[unit]))
+        smallest, step = self.units[unit]
+        more = (amount * part / smallest).quantize(step)
         return Estimate(last.fitting.id, period.ends, decimal.Decimal(last.value.shown) + more, unit, how)
 
     def amounts(self, place: Place) -> Iterator[Tuple[decimal.Decimal, str]]:

@@ -6,27 +6,29 @@ import re
 from typing import Any, Dict, List, NamedTuple, Optional, Tuple
 
 from database import Cursor
-from sheet_data import ORDER, Amount, Number, number_of, sum_of, unit_of
+from sheet_data import Amount, Number, number_of, sum_of, unit_of, uses_in
 
 DIGITS = re.compile("([0-9]+)")
 BOXES = "SELECT name, collected_at, fault FROM boxes WHERE house = %s AND active ORDER BY name"
 METERS = """
-SELECT p.flat, p.use, p.number, f.identity, d.at, d.value, d.unit, d.source, coalesce(s.says, ''), coalesce(o.why, ''),
-       u.grade, coalesce(u.is_leap, false)
+SELECT p.flat, p.use, p.number, f.identity, d.at, d.value, d.unit, d.source, coalesce(w.says, ''), coalesce(o.why, ''),
+       u.grade, coalesce(u.is_leap, false), s.position
 FROM places p
+JOIN uses s ON s.use = p.use
 JOIN houses h ON h.house = p.house
 JOIN fittings f ON f.place = p.id AND f.during @> day_begins(%(after)s, h.zone) - interval '1 second'
 LEFT JOIN LATERAL (SELECT * FROM day_values k WHERE k.fitting = f.id AND k.struck_at IS NULL
                    ORDER BY k.day DESC LIMIT 1) d ON true
 LEFT JOIN LATERAL (SELECT s.says FROM meter_states s JOIN boxes b ON b.name = s.box
-                   WHERE b.house = f.house AND s.identity = f.identity ORDER BY s.stored_at DESC NULLS LAST LIMIT 1) s ON true
+                   WHERE b.house = f.house AND s.identity = f.identity ORDER BY s.stored_at DESC NULLS LAST LIMIT 1) w ON true
 LEFT JOIN LATERAL (SELECT min(o.why) AS why FROM boxes b JOIN meters m ON m.box = b.name AND m.identity = f.identity
                    LEFT JOIN overdue o ON (o.box, o.identity) = (m.box, m.identity)
                    WHERE b.house = f.house AND b.active HAVING count(*) = count(o.why)) o ON true
 LEFT JOIN month_use u ON u.place = p.id AND u.month = %(month)s AND u.part = 0
 WHERE p.house = %(house)s"""
 AMOUNTS = """
-SELECT NULL, month, use, number, begins, ends, grade, amount, has_kwh, kwh, units, NULL, flat FROM month_kwh
+SELECT NULL, month, use, number, begins, ends, grade, amount, has_kwh, kwh, units, NULL, quantity, position, is_charted, flat
+FROM month_kwh
 WHERE house = %s AND month = %s AND part = 0 ORDER BY use, number"""
 ALARMS = "SELECT since, kind, subject, says, known_by FROM alarms WHERE house = %s AND ended_at IS NULL ORDER BY id"
 USERS = """
@@ -53,6 +55,7 @@ class Meter(NamedTuple):
     silence: str  # of the view overdue
     grade: Optional[str]
     is_leap: bool
+    position: int  # of the use
 
 
 class Alarm(NamedTuple):
@@ -89,7 +92,7 @@ def house_of(cursor: Cursor, house: str, month: datetime.date, after: datetime.d
     cursor.execute(BOXES, (house,))
     boxes = [Box(*row) for row in cursor]
     cursor.execute(METERS, {"house": house, "month": month, "after": after})
-    meters = sorted((Meter(*row) for row in cursor), key=lambda it: (natural(it.flat), ORDER.index(it.use), it.number))
+    meters = sorted((Meter(*row) for row in cursor), key=lambda it: (natural(it.flat), it.position, it.use, it.number))
     cursor.execute(ALARMS, (house,))
     alarms = [Alarm(*row) for row in cursor]
     users: Dict[str, List[Tuple[str, str]]] = {}
@@ -103,8 +106,7 @@ def house_of(cursor: Cursor, house: str, month: datetime.date, after: datetime.d
 
 def summed(rows: List[Tuple[str, Amount]]) -> Tuple[Any, Any, Any]:
     """The uses with their units, the numbers of each flat, and the sums of the house."""
-    uses = [(name, unit_of(name, of_use)) for name in ORDER
-            if (of_use := [row for _, row in rows if row.use == name])]
+    uses = [(name, unit_of([row for _, row in rows if row.use == name])) for name in uses_in(row for _, row in rows)]
     units, grouped = dict(uses), {}  # type: Tuple[Dict[str, str], Dict[Tuple[str, str], List[Amount]]]
     for flat, row in rows:
         grouped.setdefault((flat, row.use), []).append(row)

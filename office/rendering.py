@@ -21,7 +21,6 @@ from sheet_data import MONTHS, Number, Sheet, Use
 
 TEMPLATES = pathlib.Path(__file__).resolve().parent / "templates"
 LONGEST = 300  # characters of what people wrote
-CHARTED = ("heat", "allocator", "warm water")
 
 
 class Options(NamedTuple):
@@ -75,9 +74,9 @@ def is_whole(number: Number, month: datetime.date, zone: str) -> bool:
 
 
 def charts_of(sheet: Sheet, words: Catalogue) -> List[Tuple[Use, Chart]]:
-    """A chart of heat and of warm water, where the sheet has them."""
+    """The charts of the uses that have one."""
     return [(use, chart_of([bar_of(use, month, words) for month in charted(use, sheet.month)])) for use in sheet.uses
-            if use.use in CHARTED]
+            if use.is_charted]
 
 
 def charted(use: Use, last: datetime.date) -> List[datetime.date]:

@@ -53,12 +53,26 @@ CROSS JOIN LATERAL (VALUES
     ('leap', step >= 10 * median AND median > 0 AND count >= 10, 'to ' || last || ', flat ' || flat))
     AS found (kind, is_so, says)
 WHERE is_so"""
+# A meter of which nobody knows what it counts, and one that doesn't send what it should
+NO_USE = """
+SELECT 'no use', b.house, b.house || ' ' || m.identity, 'device type ' || right(m.identity, 2) || ', flat ' || m.flat
+FROM meters m JOIN boxes b ON b.name = m.box
+WHERE b.active AND b.house IS NOT NULL AND NOT EXISTS (SELECT FROM device_types t WHERE t.medium = right(m.identity, 2))
+  AND NOT EXISTS (SELECT FROM decided_uses d WHERE (d.house, d.identity) = (b.house, m.identity))
+UNION ALL
+SELECT CASE g.why WHEN 'too large' THEN g.why ELSE 'no use' END, f.house, f.house || ' ' || f.identity,
+       g.why || ' of ' || p.use || ', flat ' || p.flat
+FROM fittings f JOIN places p ON p.id = f.place
+JOIN LATERAL (SELECT day, why FROM gaps WHERE fitting = f.id ORDER BY day DESC LIMIT 1) g
+  ON g.why <> 'error' AND g.day BETWEEN %(at)s::date - %(days)s AND %(at)s::date
+WHERE f.during @> %(at)s
+  AND NOT EXISTS (SELECT FROM day_values d WHERE d.fitting = f.id AND d.struck_at IS NULL AND d.day > g.day)"""
 STILL = """
 SELECT 'no consumption', p.house, f.house || ' ' || f.identity, %(still)s || ' days at ' || max(d.value) || ' ' || max(d.unit)
        || ', flat ' || p.flat
-FROM fittings f JOIN places p ON p.id = f.place JOIN tenancies t ON (t.house, t.flat) = (p.house, p.flat)
+FROM fittings f JOIN places p ON p.id = f.place JOIN uses u ON u.use = p.use JOIN tenancies t ON (t.house, t.flat) = (p.house, p.flat)
 JOIN day_values d ON d.fitting = f.id AND d.struck_at IS NULL
-WHERE f.during @> %(at)s AND p.use IN ('warm water', 'cold water', 'electricity')
+WHERE f.during @> %(at)s AND u.is_daily
   AND t.days @> daterange(%(at)s::date - %(still)s, %(at)s::date)
   AND d.day BETWEEN %(at)s::date - %(still)s AND %(at)s::date
 GROUP BY p.house, f.id, p.flat
@@ -73,7 +87,7 @@ SELECT 'no number', p.house, p.house || '/' || p.flat || '/' || p.use || '/' || 
        || to_char(u.month, 'YYYY-MM'), u.grade::text
 FROM month_use u JOIN places p ON p.id = u.place
 WHERE u.part = 0 AND u.grade IN ('missing', 'backwards', 'unclear') AND u.month >= %(at)s::date - 400"""
-ALL = (COLLECTOR, BOXES, SILENT_BOXES, CLOCKS, SILENT, STATES, STEPS, STILL, NIGHT, NO_NUMBER)
+ALL = (COLLECTOR, BOXES, SILENT_BOXES, CLOCKS, SILENT, STATES, NO_USE, STEPS, STILL, NIGHT, NO_NUMBER)
 
 
 class Seen(NamedTuple):

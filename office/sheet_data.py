@@ -16,8 +16,8 @@ from supply import seconds
 MONTHS = 13  # of the chart
 FEWEST_COMPARED = 3  # flats of an average, so that it tells of nobody
 NO_FACTOR = "no factor"
-ENERGIES, SMALLEST_OF_KWH = ("heat", "electricity"), 3_600_000_000  # millijoules
-ORDER = ("heat", "allocator", "warm water", "cold water", "electricity")
+ENERGY, SMALLEST_OF_KWH = "energy", 3_600_000_000  # millijoules
+UNITS = {ENERGY: "kWh", "volume": "m³", "allocation": "HCA"}  # by quantity, where there is no factor to kWh
 
 USERS = """
 SELECT t.id, t.person, t.language, t.wants, t.token, t.house, t.flat, h.address, h.postcode, h.zone, h.category, h.contact,
@@ -25,8 +25,9 @@ SELECT t.id, t.person, t.language, t.wants, t.token, t.house, t.flat, h.address,
 FROM tenancies t JOIN houses h ON h.house = t.house JOIN flats f ON f.house = t.house AND f.flat = t.flat
 WHERE t.house = ANY (%s) AND t.days && daterange(%s, %s) ORDER BY t.house, t.flat, t.days"""
 AMOUNTS = """
-SELECT tenancy, month, use, number, begins, ends, grade, amount, has_kwh, kwh, units, basis FROM (
-    SELECT tenancy, month, use, number, begins, ends, grade, amount, has_kwh, kwh, units,
+SELECT tenancy, month, use, number, begins, ends, grade, amount, has_kwh, kwh, units, basis, quantity, position, is_charted
+FROM (
+    SELECT tenancy, month, use, number, begins, ends, grade, amount, has_kwh, kwh, units, quantity, position, is_charted,
            CASE WHEN month = %(month)s THEN basis END AS basis
     FROM month_kwh WHERE tenancy = ANY (%(tenancies)s) AND month BETWEEN %(first)s AND %(month)s) AS of_each
 ORDER BY tenancy, use, month, number, begins"""
@@ -93,6 +94,8 @@ class Use:
     months: Dict[datetime.date, Number]
     places: List[PlaceUse]
     average: Optional[decimal.Decimal]
+    quantity: str
+    is_charted: bool
 
 
 class User(NamedTuple):
@@ -136,6 +139,9 @@ class Amount(NamedTuple):
     kwh: Optional[decimal.Decimal]
     units: Optional[decimal.Decimal]
     basis: Optional[List[Dict[str, Any]]]
+    quantity: str
+    position: int  # of the use on a sheet
+    is_charted: bool
 
     def value(self, unit: str) -> Optional[decimal.Decimal]:
         return self.kwh if unit == "kWh" else self.units
@@ -168,12 +174,12 @@ def uses_of(user: User, month: datetime.date, amounts: List[Amount], averages: A
             frames: Dict[TelegramKey, str]) -> List[Use]:
     """The uses that have an amount in the month, in the order of a sheet."""
     found = []
-    for name in ORDER:
+    for name in uses_in(amounts):
         rows = [row for row in amounts if row.use == name]
         of_month = [row for row in rows if row.month == month]
         if not of_month:
             continue
-        unit = unit_of(name, of_month)
+        unit = unit_of(of_month)
         by_month: Dict[datetime.date, List[Amount]] = {}
         for row in rows:
             by_month.setdefault(row.month, []).append(row)
@@ -181,15 +187,19 @@ def uses_of(user: User, month: datetime.date, amounts: List[Amount], averages: A
         places = [PlaceUse(row.number, number_of([row], unit), [reading_of(it, frames) for it in row.basis or []])
                   for row in of_month]
         average = averages.get((user.category, name))
-        found.append(Use(name, unit, numbers, places, average_of(user, unit, average)))
+        found.append(Use(name, unit, numbers, places, average_of(user, unit, average), rows[0].quantity,
+                         rows[0].is_charted))
     return found
 
 
-def unit_of(use: str, rows: List[Amount]) -> str:
+def uses_in(rows: Iterable[Amount]) -> List[str]:
+    """The uses that have a row, in the order of a sheet."""
+    return [use for _, use in sorted({(row.position, row.use) for row in rows})]
+
+
+def unit_of(rows: List[Amount]) -> str:
     """The unit of a use: kWh where each amount can be shown in it, whether there is one or not."""
-    if use != "cold water" and all(row.has_kwh for row in rows):
-        return "kWh"
-    return "HCA" if use == "allocator" else "m³"
+    return "kWh" if all(row.has_kwh for row in rows) else UNITS[rows[0].quantity]
 
 
 def number_of(rows: List[Amount], unit: str) -> Number:
@@ -205,7 +215,7 @@ def sum_of(rows: List[Amount], unit: str) -> Optional[decimal.Decimal]:
     """The sum of those of these rows of a use that have a value; None where none has. Exact: energies are divided after
     they are added."""
     known = [value for value in (row.value(unit) for row in rows) if value is not None]
-    if known and rows[0].use in ENERGIES:
+    if known and rows[0].quantity == ENERGY:
         return decimal.Decimal(sum(row.amount or 0 for row in rows)) / SMALLEST_OF_KWH
     return sum(known, decimal.Decimal()) if known else None
 

@@ -71,7 +71,7 @@ class Place:
     """A supply point of a flat."""
 
     def __init__(self, row: Sequence[Any]) -> None:
-        self.id, self.house, self.flat, self.use, self.number, self.zone = row
+        self.id, self.house, self.flat, self.use, self.number, self.zone, self.quantity = row
         self.fittings: List[Fitting] = []
 
     @property
@@ -100,9 +100,9 @@ def plain_number(number: Any) -> str:
 
 
 PLACES = """
-SELECT p.id, p.house, p.flat, p.use, p.number, h.zone, f.id, f.identity, lower(f.during), upper(f.during), f.unit,
+SELECT p.id, p.house, p.flat, p.use, p.number, h.zone, u.quantity, f.id, f.identity, lower(f.during), upper(f.during), f.unit,
        f.first_value, f.last_value, f.first_amount, f.last_amount, f.is_estimated
-FROM places p JOIN houses h ON h.house = p.house JOIN fittings f ON f.place = p.id
+FROM places p JOIN houses h ON h.house = p.house JOIN uses u ON u.use = p.use JOIN fittings f ON f.place = p.id
 WHERE p.house = ANY (%(houses)s) AND EXISTS (
     SELECT FROM fittings o WHERE o.place = p.id
     AND o.during && tstzrange(day_begins(%(first)s, h.zone), day_begins(%(after)s, h.zone)))
@@ -122,8 +122,8 @@ def places_of(cursor: Cursor, houses: List[str], first: datetime.date, after: da
     places: List[Place] = []
     for row in cursor:
         if not places or places[-1].id != row[0]:
-            places.append(Place(row[:6]))
-        places[-1].fittings.append(Fitting(row[6:]))
+            places.append(Place(row[:7]))
+        places[-1].fittings.append(Fitting(row[7:]))
     read_values(cursor, places, first - MARGIN, after + MARGIN)
     read_values(cursor, [place for place in places if not is_covered(place, first, after)], FIRST_DAY, LAST_DAY)
     return places

@@ -61,6 +61,12 @@ class Server:
         connection.close()
         return name
 
+    def drop(self, database: str) -> None:
+        """Its files are some megabytes."""
+        connection = self.connect("postgres")
+        connection.cursor().execute(f"DROP DATABASE {database} WITH (FORCE)")
+        connection.close()
+
 
 @dataclasses.dataclass
 class Ended:
@@ -170,7 +176,9 @@ def server() -> Iterator[Server]:
 def office(server: Server, tmp_path: pathlib.Path) -> Iterator[Office]:
     made = Office(server, server.make(TEMPLATE), tmp_path)
     yield made
+    name = made.connection.info.dbname
     made.connection.close()
+    server.drop(name)
 
 
 FITS = ["FIT 11111111.PAD.01.07 1 1 A1", "FIT 22222222.PAD.01.07 1 2 A2"]

@@ -1,0 +1,161 @@
+"""What meters count: device types, what a person decides, units, errors, and uses that are only rows."""
+
+import pathlib
+from typing import List
+
+import pytest
+from conftest import Box, Office
+from supplied import ALLOCATOR, COLD, HEAT, WATER, Supplied, at
+from test_bills import billed
+from test_fittings import housed
+from test_schema import refused
+from test_sheets import checked, sheet_of, written
+
+WH = 3_600_000
+NOON = ("alarms", "--at", "2025-02-01T12:00+00:00")
+
+
+@pytest.fixture
+def elm(office: Office) -> Supplied:
+    return Supplied(office)
+
+
+def told(office: Office, kind: str) -> List[str]:
+    return [line for line in office.run(*NOON).printed.splitlines() if line.split(" ", 1)[1].startswith(kind)]
+
+
+def test_each_device_type(office: Office) -> None:
+    uses = {"heat": ("04", "0C", "0D"), "cooling": ("0A", "0B"), "warm water": ("06", "15"), "cold water": ("07", "16"),
+            "electricity": ("02",), "gas": ("03",), "allocator": ("08",)}
+    wanted = {medium: use for use, media in uses.items() for medium in media}
+    wanted.update({f"{number:02X}": None for number in (*range(0x1A, 0x20), *range(0x20, 0x28), *range(0x30, 0x40))})
+    assert dict(office.sql("SELECT medium, use FROM device_types")) == wanted
+    assert office.sql("SELECT use FROM uses_of('elm', '1.PAD.01.31')") == []
+
+
+def test_the_units_of_the_programs_are_those_of_the_database(office: Office) -> None:
+    assert office.sql("SELECT count(*) FROM units WHERE smallest(step, unit) IS NOT NULL") == [(6,)]
+    assert "check constraint" in refused(office, "UPDATE units SET smallest = 1000 WHERE unit = 'Wh'")
+
+
+def test_a_use_is_a_row(office: Office, elm: Supplied, tmp_path: pathlib.Path) -> None:
+    """Every command goes on with one that it never heard of."""
+    office.sql("INSERT INTO uses (use, quantity) VALUES ('rain water', 'volume')")
+    office.sql("INSERT INTO device_types VALUES ('E7', 'rain water')")
+    meter = elm.meter(1, "E7", "A1")
+    elm.days(elm.meter(2, HEAT, "A1"), "2024-12-25", 45, 1000, 10)
+    elm.days(meter, "2024-12-25", 30, 1, 1, "m3")
+    tenancy = elm.tenancy("A1", "2024-01-01", None)
+    assert [row[3] for row in elm.month("2025-01")] == ["measured", "missing"]
+    assert "not estimated" in office.run("estimate", "2025-01").printed
+    elm.days(meter, "2025-01-24", 15, 31, 1, "m3")
+    assert elm.month("2025-01")[1] == ("A1", 0, 31_000_000, "measured")
+    assert office.run(*NOON).status in (0, 1)
+    written(office, tmp_path, "--pdf", "none")
+    text = sheet_of(office, tmp_path, tenancy).read_text(encoding="utf-8")
+    assert checked(text).cells["rain water", "2025-01-01"].split() == ["31,00"] and ">rain water<" in text
+    assert "rain water" in (tmp_path / "houses/elm-1.html").read_text(encoding="utf-8")
+    assert [(row["use"], row["consumption"], row["unit"]) for row in billed(office, "elm-1", "2025-01")] == [
+        ("heat", "0.310", "kWh"), ("rain water", "31.000", "m3")]
+    office.sql("INSERT INTO factors (house, use, months, kwh_per_unit) VALUES ('elm-1', 'rain water', '[2025-01-01,)', 2)")
+    written(office, tmp_path, "--pdf", "none")
+    assert checked(sheet_of(office, tmp_path, tenancy).read_text()).cells["rain water", "2025-01-01"].split() == ["62,0"]
+    assert "cold water has no factor" in refused(office, "INSERT INTO factors (house, use, months, kwh_per_unit)"
+                                         " VALUES ('elm-1', 'cold water', '[2025-01-01,)', 2)")
+
+
+def test_cooling_and_gas(office: Office, elm: Supplied) -> None:
+    elm.days(elm.meter(1, "0B", "A1"), "2024-12-25", 45, 1000, 10)
+    elm.days(elm.meter(2, "03", "A1"), "2024-12-25", 45, 1, 1, "m3")
+    office.sql("INSERT INTO factors (house, use, months, kwh_per_unit) VALUES ('elm-1', 'gas', '[2025-01-01,)', 10.5)")
+    elm.month("2025-01")
+    assert office.sql("SELECT use, kwh::float FROM month_kwh ORDER BY position") == [("cooling", 0.31), ("gas", 31 * 10.5)]
+
+
+def test_a_device_type_that_nobody_knows(office: Office, box: Box) -> None:
+    """It is asked for until a person decides; one that consumes nothing isn't."""
+    housed(office)
+    for number, medium in ((3, "0E"), (4, "0F"), (5, "31")):
+        assert office.order("house-1", f"FIT 0000000{number}.PAD.01.{medium} 1 {number} A1").status == 0
+    lines = [f"no use elm 0000000{number}.PAD.01.{medium}" for number, medium in ((3, "0E"), (4, "0F"))]
+    assert told(office, "no use") == [f"NEW {line}: device type {line[-2:]}, flat A1" for line in lines]
+    office.sql("SET ROLE clerk")
+    office.sql("SELECT decide_use('elm', '00000003.PAD.01.0E', 'heat')")
+    office.sql("SELECT decide_use('elm', '00000004.PAD.01.0F', NULL)")
+    office.sql("RESET ROLE")
+    assert told(office, "no use") == [f"END {line}" for line in lines]
+    assert office.sql("SELECT p.use, p.flat, f.identity FROM fittings f JOIN places p ON p.id = f.place WHERE f.identity >= '0'"
+                      " AND f.identity < '1'") == [("heat", "A1", "00000003.PAD.01.0E")]
+    office.sql("SELECT decide_use('elm', '00000003.PAD.01.0E', NULL)")
+    assert office.sql("SELECT count(*) FROM fittings WHERE upper_inf(during) AND identity LIKE '00000003%%'") == [(0,)]
+
+
+def second(office: Office, vib: str, value: int) -> None:
+    """The last reading has another record."""
+    office.sql("INSERT INTO points (month, box, serial, part, place, storage, function, tariff, subunit, vib, shown, value, unit)"
+               " SELECT month, box, serial, 1, 9, 0, 0, 0, 0, %s, %s, %s, 'Wh' FROM readings ORDER BY serial DESC LIMIT 1",
+               vib, str(value), value)
+
+
+def test_heat_and_cooling(office: Office, elm: Supplied) -> None:
+    """With one register it is heat; with two there is no value until a person names the record of each of two places."""
+    meter = elm.meter(1, "0D", "A1")
+    elm.reads(meter, at("2025-01-30T06:00"), 1000, unit="Wh")
+    elm.reads(meter, at("2025-01-31T06:00"), 1010, unit="Wh")
+    second(office, "863C", 55)
+    assert office.run("close", "2025-01-30", "--until", "2025-01-31").status == 0
+    assert office.sql("SELECT value::float FROM day_values") == [(1000.0,)]
+    assert told(office, "no use") == ["NEW no use elm-1 00000001.PAD.01.0D: two energies of heat, flat A1"]
+    office.sql("SELECT decide_use('elm-1', '00000001.PAD.01.0D', 'heat', '06')")
+    office.sql("SELECT decide_use('elm-1', '00000001.PAD.01.0D', 'cooling', '863C')")
+    office.sql("UPDATE fittings SET during = '[2024-01-01Z,)'")
+    assert office.run("close", "2025-01-31").status == 0
+    assert office.sql("SELECT p.use, d.value::float FROM day_values d JOIN fittings f ON f.id = d.fitting JOIN places p"
+                      " ON p.id = f.place WHERE d.day = '2025-01-31' ORDER BY 1") == [("cooling", 55.0), ("heat", 1010.0)]
+    assert told(office, "no use") == ["END no use elm-1 00000001.PAD.01.0D"]
+    office.sql("DELETE FROM meters")
+    assert office.sql("SELECT count(*) FROM fittings WHERE upper_inf(during)") == [(0,)]
+
+
+def test_a_meter_without_a_record_of_its_use(office: Office, elm: Supplied) -> None:
+    meter, other = elm.meter(1, HEAT, "A1"), elm.meter(2, HEAT, "A2")
+    elm.reads(meter, at("2025-01-31T06:00"), 3, unit="m3")
+    elm.reads(other, at("2025-01-31T06:00"), 3)
+    assert office.run("close", "2025-01-31").status == 0
+    assert told(office, "no use") == ["NEW no use elm-1 00000001.PAD.01.04: no record of heat, flat A1"]
+    elm.reads(meter, at("2025-02-01T06:00"), 3000)
+    assert office.run("close", "2025-02-01").status == 0
+    assert told(office, "no use") == ["END no use elm-1 00000001.PAD.01.04"]
+
+
+def test_a_day_in_error_has_no_value(office: Office, elm: Supplied) -> None:
+    meter = elm.meter(1, HEAT, "A1")
+    elm.reads(meter, at("2025-01-31T06:00"), 1000, status=8)
+    assert "1 without a value" in office.run("close", "2025-01-31").printed
+    assert office.sql("SELECT why FROM gaps") == [("error",)]
+    office.sql("UPDATE meters SET status = 8")
+    assert told(office, "error") == ["NEW error elm-1 00000001.PAD.01.04: permanent error, flat A1"] and not told(office, "no use")
+
+
+def test_18_digits(office: Office, elm: Supplied) -> None:
+    """A value that has more is none, and an amount neither."""
+    meter, most = elm.meter(1, COLD, "A1"), 999_999_999_999
+    elm.reads(meter, at("2025-01-30T06:00"), most, unit="m3")
+    elm.reads(meter, at("2025-01-31T06:00"), most + 1, unit="m3")
+    assert office.run("close", "2025-01-30", "--until", "2025-01-31").status == 0
+    assert office.sql("SELECT value FROM day_values") == [(most,)]
+    assert told(office, "too large") == ["NEW too large elm-1 00000001.PAD.01.07: too large of cold water, flat A1"]
+    allocator = elm.meter(2, ALLOCATOR, "A2")
+    new = elm.meter(3, ALLOCATOR, "A2")
+    elm.values(allocator, {"2024-12-31": 0, "2025-01-31": most * 1000}, "HCA")
+    elm.values(new, {"2024-12-31": 0, "2025-01-31": 1}, "HCA")
+    assert elm.month("2025-01")[1:] == [("A2", 0, most * 1_000_000, "measured"), ("A2", 0, 1000, "measured")]
+
+
+def test_units_of_another_quantity(office: Office, elm: Supplied) -> None:
+    meter = elm.meter(1, WATER, "A1")
+    assert "Wh is no unit of what meter" in refused(office, "SELECT put_value(%s, '2025-01-31', 1, 'Wh', 'x')", meter)
+    assert "is no unit of what meter" in refused(office, "SELECT put_value(%s, '2025-01-31', 1, 'bar', 'x')", meter)
+    office.sql("SELECT put_value(%s, '2025-01-31', 1, 'm3', 'x')", meter)
+    assert "Wh is no unit" in refused(office, "UPDATE fittings SET unit = 'Wh', first_value = 1")
+    office.sql("UPDATE fittings SET unit = 'm3', first_value = 1")
