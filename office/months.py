@@ -3,10 +3,12 @@
 import collections
 import datetime
 import itertools
+import multiprocessing
 from typing import Any, Dict, Iterator, List, NamedTuple, Optional, Sequence, Tuple
 
 import psycopg2.extras
 
+from command import SECONDS
 from consumption import Amount, Key, Line, consumed
 from database import Cursor, Database, insert
 from grading import Graded, Period, graded, has_leap
@@ -15,7 +17,16 @@ from supply import Entry, Place, Tenancy, needed, places_of, seconds, tenancies_
 
 HOUSES_A_TURN = 25  # whose values are in memory at once
 MONTH_USE = "month_use (month, place, part, begins, ends, tenancy, amount, grade, is_leap, basis)"
+GRADES = ("measured", "zero", "estimated", "missing", "backwards", "unclear")
+# The months that are over and to be computed, with their houses
+WAITING = """
+SELECT c.month, array_agg(c.house ORDER BY c.house) FROM to_compute c JOIN houses h ON h.house = c.house
+WHERE c.house = ANY (%s) AND day_begins((c.month + interval '1 month')::date, h.zone) <= now() GROUP BY 1 ORDER BY 1"""
+# Whoever adds a row waits for this, or is waited for
+TAKEN = ("SELECT FROM to_compute WHERE month = %s AND house = ANY (%s) ORDER BY house FOR UPDATE",
+         "DELETE FROM to_compute WHERE month = %s AND house = ANY (%s)")
 Moments = Tuple[int, ...]
+Job = Tuple[str, datetime.date, List[str]]
 
 
 class Split(NamedTuple):
@@ -102,6 +113,41 @@ def write_month(cursor: Cursor, month: datetime.date, houses: List[str]) -> "col
                    " AND p.house = ANY (%s)", (month, houses))
     insert(cursor, MONTH_USE, rows)
     return counts
+
+
+def waiting(cursor: Cursor, houses: List[str]) -> Dict[datetime.date, List[str]]:
+    """The months that are to be computed, with their houses, of these."""
+    cursor.execute(WAITING, (houses,))
+    return {month: of_month for month, of_month in cursor}
+
+
+def work(job: Job) -> "collections.Counter[str]":
+    """Writes a month of some houses, in a transaction of its own."""
+    name, month, houses = job
+    database = Database(name, SECONDS)
+    with database.transaction() as cursor:
+        for statement in TAKEN:
+            cursor.execute(statement, (month, houses))
+        counts = write_month(cursor, month, houses)
+    database.close()
+    return counts
+
+
+def computed(name: str, wanted: Dict[datetime.date, List[str]], workers: int
+             ) -> "Iterator[Tuple[datetime.date, collections.Counter[str]]]":
+    """Writes months of houses, in so many processes; the grades of each."""
+    with multiprocessing.Pool(workers) as pool:
+        for month, houses in sorted(wanted.items()):
+            total: "collections.Counter[str]" = collections.Counter()
+            for counts in pool.imap_unordered(work, [(name, month, turn) for turn in turns(houses)]):
+                total.update(counts)
+            yield month, total
+
+
+def counted(month: datetime.date, counts: "collections.Counter[str]") -> str:
+    """The line of a month."""
+    told = ", ".join(f"{counts[grade]} {grade}" for grade in GRADES if counts[grade])
+    return f"{month:%Y-%m}: {counts.total()} places{': ' if told else ''}{told}"
 
 
 def turns(houses: List[str]) -> Iterator[List[str]]:

@@ -16,6 +16,7 @@ SELECT 'collector', NULL, 'office/collect', 'no collection of all boxes ended si
 FROM collections WHERE begun_at <= %(at)s
 HAVING coalesce(max(ended_at) < %(at)s - make_interval(hours => %(hours)s), true)"""
 CLOCKS = "SELECT 'clock', house, name, clock FROM boxes WHERE active AND clock IS NOT NULL ORDER BY name"
+LATE = "SELECT 'late', house, name, late FROM boxes WHERE active AND late IS NOT NULL ORDER BY name"
 # Of a box that isn't collected, and of one without a meter that is heard, one alarm; its meters are counted there
 BOXES = """
 SELECT 'box', b.house, s.box, s.why || coalesce(': ' || s.fault, '') || coalesce('; ' || o.count || ' meters are silent', '')
@@ -87,7 +88,7 @@ SELECT 'no number', p.house, p.house || '/' || p.flat || '/' || p.use || '/' || 
        || to_char(u.month, 'YYYY-MM'), u.grade::text
 FROM month_use u JOIN places p ON p.id = u.place
 WHERE u.part = 0 AND u.grade IN ('missing', 'backwards', 'unclear') AND u.month >= %(at)s::date - 400"""
-ALL = (COLLECTOR, BOXES, SILENT_BOXES, CLOCKS, SILENT, STATES, NO_USE, STEPS, STILL, NIGHT, NO_NUMBER)
+ALL = (COLLECTOR, BOXES, SILENT_BOXES, CLOCKS, LATE, SILENT, STATES, NO_USE, STEPS, STILL, NIGHT, NO_NUMBER)
 
 
 class Seen(NamedTuple):

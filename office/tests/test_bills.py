@@ -108,8 +108,7 @@ def test_water_at_night(office: Office, elm: Supplied) -> None:
             elm.reads(leaking, moment, f"{night}.{hour:03}")
             elm.reads(tight, moment, night)
         elm.reads(tight, at(f"2025-01-{night:02}T20:00"), night + 1)
-    office.sql("SELECT close_night(day::date) FROM generate_series(date '2025-01-01', '2025-01-08', '1 day') AS k (day)")
-    assert office.run("close", "2025-01-09").status == 0
+    assert office.run("close").status == 0
     assert office.sql("SELECT fitting, count(*), sum(amount) FROM night_use GROUP BY 1 ORDER BY 1") == [
         (leaking, 9, 27_000), (tight, 9, 0)]
     printed = office.run("alarms", "--at", "2025-01-09T12:00+00:00").printed
@@ -198,7 +197,7 @@ def test_roles(office: Office, elm: Supplied, tmp_path: pathlib.Path) -> None:
     elm.reads(meter, at("2025-01-01T06:00"), 1000, ("2024-12-31", 990))
     elm.reads(meter, at("2025-02-01T06:00"), 1310, ("2025-01-31", 1300))
     elm.tenancy("A1", "2024-01-01", None)
-    runs = {"collector": (["close", "2024-12-31"], ["close", "2025-01-31"], ["month", "2025-01"], ["estimate", "2025-01"],
+    runs = {"collector": (["close"], ["close", "--all", "--since", "2025-01-01"], ["month", "2025-01"], ["estimate", "2025-01"],
                           ["alarms"]),
             "clerk": (["sheets", "2025-01", "--out", str(tmp_path), "--pdf", "none"], ["bill", "elm-1", "2025-01"])}
     for role, commands in runs.items():
@@ -217,7 +216,7 @@ def test_roles(office: Office, elm: Supplied, tmp_path: pathlib.Path) -> None:
                 "SELECT strike(1, 'x')", "SELECT put_value(1, '2025-01-31', 1, 'Wh', 'x')", "DELETE FROM tenancies",
                 "UPDATE fittings SET vib = '06'")),
             *(("reader", query) for query in (
-                "SELECT close_day('2025-01-01')", "INSERT INTO day_values DEFAULT VALUES", "DELETE FROM month_use",
+                "SELECT close_houses('{elm-1}')", "SELECT queue_since('2025-01-01', '{elm-1}')", "INSERT INTO day_values DEFAULT VALUES", "DELETE FROM month_use",
                 "UPDATE alarms SET known_by = 'x'", "INSERT INTO houses DEFAULT VALUES")),
             *(("clerk", query) for query in (
                 "UPDATE day_values SET value = 1", "INSERT INTO day_values (fitting, day, at, value, unit, source)"

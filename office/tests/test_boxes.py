@@ -59,7 +59,7 @@ def test_the_months_go_on(office: Office, elm: Supplied) -> None:
     elm.box, elm.serial = "elm-1-b", 0
     office.sql("INSERT INTO meters (box, identity, line, address, flat) VALUES ('elm-1-b', '00000001.PAD.01.04', 1, '1', 'A1')")
     elm.reads(meter, at("2025-02-01T06:00"), 1320, ("2025-01-31", 1310))
-    assert office.run("close", "2024-12-31", "--until", "2025-02-01").status == 0
+    assert office.run("close").status == 0
     assert elm.month("2025-01") == [("A1", 0, 300 * WH, "measured")]
     assert office.sql("SELECT day::text, box FROM day_values ORDER BY day") == [
         ("2024-12-31", "elm-1"), ("2025-01-15", "elm-1"), ("2025-01-31", "elm-1-b"), ("2025-02-01", "elm-1-b")]
@@ -76,7 +76,7 @@ def test_two_boxes_hear_one_meter(office: Office, elm: Supplied) -> None:
     elm.box, elm.serial = "attic", 0
     elm.reads(meter, at("2025-01-30T16:00"), 1005)
     elm.reads(meter, at("2025-01-31T05:00"), 1009)
-    assert office.run("close", "2025-01-30", "--until", "2025-01-31").status == 0
+    assert office.run("close").status == 0
     assert office.sql("SELECT day::text, value::float, box FROM day_values ORDER BY day") == [
         ("2025-01-30", 1005.0, "attic"), ("2025-01-31", 1010.0, "elm-1")]
     for name, is_open in (("elm-1", True), ("attic", False)):
@@ -91,7 +91,7 @@ def test_readings_before_a_box_came_to_the_house(office: Office, elm: Supplied) 
     office.sql("UPDATE boxes SET house = 'elm-1' WHERE name = 'oak-2'")
     elm.box = "oak-2"
     elm.reads(meter, at("2025-01-31T06:00"), 1010)
-    assert office.run("close", "2025-01-31", "--house", "elm-1").status == 0
+    assert office.run("close", "--house", "elm-1").status == 0
     assert office.sql("SELECT count(*) FROM day_values") == [(0,)]
 
 

@@ -47,7 +47,7 @@ def test_a_dump_is_restored(server: Server, office: Office, box: Box, tmp_path: 
     house = Supplied(office)
     for number, medium in ((1, HEAT), (2, COLD)):
         house.reads(house.meter(number, medium, "A1"), at("2024-01-31 23:00"), number)
-    office.sql("SELECT close_day('2024-01-31')")
+    office.sql("SELECT close_houses('{elm-1}')")
     before = counts(office)
     assert all(count for name, count in before if name in FILLED)
     again = restored(server, dumped(server, office), tmp_path)

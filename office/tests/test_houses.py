@@ -54,7 +54,7 @@ def test_a_month_without_a_reading(office: Office, elm: Supplied, tmp_path: path
     for number in (1, 2):
         elm.meter(number, HEAT, f"A{number}")
     tenancy = elm.tenancy("A1", "2024-01-01", None)
-    assert "2 without a value" in office.run("close", "2025-01-31").printed
+    assert office.run("close").status == 0
     assert elm.month("2025-01") == [(f"A{number}", 0, None, "missing") for number in (1, 2)]
     assert office.run("estimate", "2025-01").printed.count("not estimated") == 2
     written(office, tmp_path, "--pdf", "none")

@@ -16,7 +16,8 @@ def elm(office: Office) -> Supplied:
 
 
 def days_of(office: Office) -> object:
-    return office.sql("SELECT day::text, value::float, source FROM day_values WHERE struck_at IS NULL ORDER BY day")
+    return office.sql("SELECT day::text, value::float, source FROM day_values WHERE struck_at IS NULL AND day < '2025-02-02'"
+                      " ORDER BY day")
 
 
 def test_a_day_has_the_stored_value_or_the_last_reading(office: Office, elm: Supplied) -> None:
@@ -24,35 +25,34 @@ def test_a_day_has_the_stored_value_or_the_last_reading(office: Office, elm: Sup
     elm.reads(meter, at("2025-01-30T06:00"), 1000)
     elm.reads(meter, at("2025-01-30T18:00"), 1010)
     elm.reads(meter, at("2025-02-01T06:00"), 1040, ("2025-01-31", 1030))
-    ended = office.run("close", "2025-01-29", "--until", "2025-02-01")
+    ended = office.run("close")
     assert ended.status == 0, ended.printed
-    assert ended.printed.splitlines() == [
-        "2025-01-29: 1 meters, 1 without a value, 0 written", "2025-01-30: 1 meters, 0 without a value, 1 written",
-        "2025-01-31: 1 meters, 0 without a value, 1 written", "2025-02-01: 1 meters, 0 without a value, 1 written"]
+    assert ended.printed.startswith("5 days of meters in 1 houses, 3 values written\n")
+    assert "2025-01: 1 places: 1 missing\n2025-02: 1 places: 1 missing\n" in ended.printed
     assert days_of(office) == [("2025-01-30", 1010.0, "read"), ("2025-01-31", 1030.0, "stored"),
                                ("2025-02-01", 1040.0, "read")]
     assert office.sql("SELECT at FROM day_values WHERE day = '2025-01-31'") == [(at("2025-02-01T00:00"),)]
-    assert "0 written" in office.run("close", "2025-01-31").printed
+    assert " 0 values written" in office.run("close").printed
 
 
 def test_late_readings_and_what_people_put(office: Office, elm: Supplied) -> None:
     """A stored value that comes later takes the place of the reading; one by hand stays; a struck one stays away."""
     meter = elm.meter(1, HEAT, "A1")
     elm.reads(meter, at("2025-01-31T18:00"), 1010)
-    assert office.run("close", "2025-01-31").status == 0
+    assert office.run("close").status == 0
     elm.reads(meter, at("2025-02-02T06:00"), 1040, ("2025-01-31", 1030))
-    assert "1 written" in office.run("close", "2025-01-31").printed
+    assert " 2 values written" in office.run("close").printed
     assert days_of(office) == [("2025-01-31", 1030.0, "stored")]
-    office.sql("SELECT strike(id, 'the meter''s clock was wrong') FROM day_values")
+    office.sql("SELECT strike(id, 'the meter''s clock was wrong') FROM day_values WHERE day = '2025-01-31'")
     elm.reads(meter, at("2025-02-03T06:00"), 1050, ("2025-01-31", 1030))
-    assert office.run("close", "2025-01-31").status == 0
+    assert office.run("close").status == 0
     assert days_of(office) == [("2025-01-31", 1010.0, "read")]
     office.sql("SELECT put_value(%s, '2025-01-31', 1025, 'Wh', 'read at the meter')", meter)
-    assert "0 written" in office.run("close", "2025-01-31").printed
+    assert " 0 values written" in office.run("close").printed
     assert days_of(office) == [("2025-01-31", 1025.0, "by hand")]
     assert office.sql("SELECT count(*), count(struck_by) FROM day_values WHERE struck_at IS NOT NULL") == [(2, 2)]
     elm.reads(meter, at("2025-02-04T06:00"), 1060, ("2025-01-31", 1031))
-    assert "0 written" in office.run("close", "2025-01-31").printed
+    assert "2 days of meters in 1 houses, 1 values written" in office.run("close").printed
     assert days_of(office) == [("2025-01-31", 1025.0, "by hand")]
 
 

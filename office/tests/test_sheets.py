@@ -203,8 +203,7 @@ def test_links_lead_to_the_very_telegrams(office: Office, elm: Supplied, tmp_pat
     tenancy = elm.tenancy("B1", "2024-01-01", None)
     elm.reads(meter, at("2025-01-01T06:00"), 20, ("2024-12-31", 10))
     elm.reads(meter, at("2025-02-01T06:00"), 50, ("2025-01-31", 40))
-    for day in ("2024-12-31", "2025-01-31"):
-        assert office.run("close", day).status == 0
+    assert office.run("close").status == 0
     elm.month("2025-01")
     written(office, tmp_path)
     page = checked(sheet_of(office, tmp_path, tenancy).read_text(encoding="utf-8"))

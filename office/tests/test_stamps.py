@@ -116,7 +116,7 @@ def elm(office: Office) -> Supplied:
 
 
 def day_of(office: Office) -> List[object]:
-    assert office.run("close", "2025-01-31").status == 0
+    assert office.run("close").status == 0
     return office.sql("SELECT value::float, source FROM day_values WHERE day = '2025-01-31' AND struck_at IS NULL")
 
 

@@ -103,13 +103,13 @@ def test_heat_and_cooling(office: Office, elm: Supplied) -> None:
     elm.reads(meter, at("2025-01-30T06:00"), 1000, unit="Wh")
     elm.reads(meter, at("2025-01-31T06:00"), 1010, unit="Wh")
     second(office, "863C", 55)
-    assert office.run("close", "2025-01-30", "--until", "2025-01-31").status == 0
+    assert office.run("close").status == 0
     assert office.sql("SELECT value::float FROM day_values") == [(1000.0,)]
     assert told(office, "no use") == ["NEW no use elm-1 00000001.PAD.01.0D: two energies of heat, flat A1"]
     office.sql("SELECT decide_use('elm-1', '00000001.PAD.01.0D', 'heat', '06')")
     office.sql("SELECT decide_use('elm-1', '00000001.PAD.01.0D', 'cooling', '863C')")
     office.sql("UPDATE fittings SET during = '[2024-01-01Z,)'")
-    assert office.run("close", "2025-01-31").status == 0
+    assert office.run("close").status == 0
     assert office.sql("SELECT p.use, d.value::float FROM day_values d JOIN fittings f ON f.id = d.fitting JOIN places p"
                       " ON p.id = f.place WHERE d.day = '2025-01-31' ORDER BY 1") == [("cooling", 55.0), ("heat", 1010.0)]
     assert told(office, "no use") == ["END no use elm-1 00000001.PAD.01.0D"]
@@ -121,17 +121,17 @@ def test_a_meter_without_a_record_of_its_use(office: Office, elm: Supplied) -> N
     meter, other = elm.meter(1, HEAT, "A1"), elm.meter(2, HEAT, "A2")
     elm.reads(meter, at("2025-01-31T06:00"), 3, unit="m3")
     elm.reads(other, at("2025-01-31T06:00"), 3)
-    assert office.run("close", "2025-01-31").status == 0
+    assert office.run("close").status == 0
     assert told(office, "no use") == ["NEW no use elm-1 00000001.PAD.01.04: no record of heat, flat A1"]
     elm.reads(meter, at("2025-02-01T06:00"), 3000)
-    assert office.run("close", "2025-02-01").status == 0
+    assert office.run("close").status == 0
     assert told(office, "no use") == ["END no use elm-1 00000001.PAD.01.04"]
 
 
 def test_a_day_in_error_has_no_value(office: Office, elm: Supplied) -> None:
     meter = elm.meter(1, HEAT, "A1")
     elm.reads(meter, at("2025-01-31T06:00"), 1000, status=8)
-    assert "1 without a value" in office.run("close", "2025-01-31").printed
+    assert " 0 values written" in office.run("close").printed
     assert office.sql("SELECT why FROM gaps") == [("error",)]
     office.sql("UPDATE meters SET status = 8")
     assert told(office, "error") == ["NEW error elm-1 00000001.PAD.01.04: permanent error, flat A1"] and not told(office, "no use")
@@ -142,7 +142,7 @@ def test_18_digits(office: Office, elm: Supplied) -> None:
     meter, most = elm.meter(1, COLD, "A1"), 999_999_999_999
     elm.reads(meter, at("2025-01-30T06:00"), most, unit="m3")
     elm.reads(meter, at("2025-01-31T06:00"), most + 1, unit="m3")
-    assert office.run("close", "2025-01-30", "--until", "2025-01-31").status == 0
+    assert office.run("close").status == 0
     assert office.sql("SELECT value FROM day_values") == [(most,)]
     assert told(office, "too large") == ["NEW too large elm-1 00000001.PAD.01.07: too large of cold water, flat A1"]
     allocator = elm.meter(2, ALLOCATOR, "A2")
