@@ -29,5 +29,5 @@ def check_link(page: str, words: Catalogue, use: Use, place: PlaceUse) -> Option
 def entries_text(place: str, entries: List[Line]) -> str:
     """The entries as `mbdc consumption` reads them, the meters numbered from 1."""
     meters = list(dict.fromkeys(entry.meter for entry in entries))
-    return HEADER + "".join(f"{place},{meters.index(entry.meter) + 1},{entry.moment},{entry.value}\n"
+    return HEADER + "".join(f"{place},{','.join(map(str, entry._replace(meter=meters.index(entry.meter) + 1)))}\n"
                             for entry in entries)

@@ -11,7 +11,7 @@ from typing import Dict, Iterator, List, NamedTuple, Optional, Sequence, Tuple
 MBDC = os.environ.get("MBDC", "mbdc")  # an installed program
 LONGEST_INPUT = 1 << 20  # bytes
 SECONDS = 120  # at most, of one run
-HEADER = "place,meter,moment,value\n"
+HEADER = "place,meter,moment,value,most,size\n"
 COLUMNS = ["place", "from", "to", "amount", "backwards", "exchanges"]
 TOO_LARGE = "TooLarge"
 LARGEST = 10**18 - 1  # 18 digits
@@ -26,13 +26,15 @@ class Line(NamedTuple):
     meter: int
     moment: int
     value: int
+    most: int = 0  # what the meter can count in an hour; 0: not declared
+    size: int = 0  # what its counter never shows, since it goes on at 0 from there; 0: not declared
 
 
 class Amount(NamedTuple):
     """What a place consumed in a period."""
     amount: Optional[int]  # in the smallest unit; None where it isn't known
     is_too_large: bool
-    backwards: int  # steps that touch the period at which a meter ran backwards, or right after one
+    marks: int  # steps that touch the period and are doubtful, or beside one that is
     exchanges: int  # steps between different meters that touch it
 
 
@@ -53,7 +55,7 @@ def inputs(places: Dict[str, List[Line]]) -> Iterator[str]:
     """Texts of entries, each as long as an input may be, with whole places in byte order."""
     texts, length = [HEADER], len(HEADER)
     for name in sorted(places, key=str.encode):
-        text = "".join(f"{name},{line.meter},{line.moment},{line.value}\n" for line in places[name])
+        text = "".join(f"{name},{','.join(map(str, line))}\n" for line in places[name])
         if length + len(text.encode()) > LONGEST_INPUT and len(texts) > 1:
             yield "".join(texts)
             texts, length = [HEADER], len(HEADER)
@@ -89,13 +91,13 @@ def amounts_of(text: str) -> Dict[Key, Amount]:
     if rows[:1] != [COLUMNS] or any(len(row) != len(COLUMNS) for row in rows):
         raise NotComputed(f"{MBDC} consumption printed another table: {text[:100]!r}")
     try:
-        return {(place, int(begins), int(ends)): amount_of(amount, int(backwards), int(exchanges))
-                for place, begins, ends, amount, backwards, exchanges in rows[1:]}
+        return {(place, int(begins), int(ends)): amount_of(amount, int(marks), int(exchanges))
+                for place, begins, ends, amount, marks, exchanges in rows[1:]}
     except ValueError as fault:
         raise NotComputed(f"{MBDC} consumption printed what can't be read: {fault}") from fault
 
 
-def amount_of(amount: str, backwards: int, exchanges: int) -> Amount:
+def amount_of(amount: str, marks: int, exchanges: int) -> Amount:
     number = int(amount) if amount not in ("", TOO_LARGE) else None
     is_too_large = amount == TOO_LARGE or number is not None and number > LARGEST
-    return Amount(None if is_too_large else number, is_too_large, backwards, exchanges)
+    return Amount(None if is_too_large else number, is_too_large, marks, exchanges)

@@ -6,14 +6,18 @@ import statistics
 from typing import Any, Dict, List, NamedTuple, Optional
 
 from consumption import Amount
-from supply import Entry, Fitting, Place
+from supply import AFTER, BY_HAND, DUE_DATE, ENDED, FITTED, REMOVED, RESTARTED, Entry, Fitting, Place
 
 LONGEST_GAP = datetime.timedelta(hours=48)  # between the values around a boundary of what counts as measured
-LEAP = 10  # times the median day
+LEAP, LEAP_AT_EXCHANGE = 10, 5  # times the median day
 FEWEST_DAYS = 10  # of a median
-MEASURED, ZERO, ESTIMATED = "measured", "zero", "estimated"
-MISSING, BACKWARDS, UNCLEAR = "missing", "backwards", "unclear"
-NUMBERS = (MEASURED, ZERO, ESTIMATED)
+# A day's use that is never held: 100 kWh, a cubic metre, 60 units
+LITTLE = {"energy": 360_000_000_000, "volume": 1_000_000, "allocation": 60_000}
+MEASURED, ZERO, HAND, PROVISIONAL, ESTIMATED = "measured", "zero", "hand", "provisional", "estimated"
+MISSING, DISTURBED, UNCLEAR = "missing", "disturbed", "unclear"
+NUMBERS = (MEASURED, ZERO, HAND, PROVISIONAL, ESTIMATED)
+AT_EXCHANGES = (FITTED, REMOVED, RESTARTED, ENDED, DUE_DATE)
+PUT_BY_PEOPLE = (BY_HAND, FITTED, REMOVED, RESTARTED, ENDED)
 
 
 class Period(NamedTuple):
@@ -41,16 +45,33 @@ def graded(place: Place, entries: List[Entry], period: Period, amount: Optional[
 def grade_of(place: Place, entries: List[Entry], period: Period, amount: Optional[Amount], basis: List[Entry]) -> str:
     if amount is None:
         return MISSING
-    if amount.backwards > 0:
-        return BACKWARDS
-    if amount.is_too_large or amount.exchanges != len(exchanges(place, period)) or has_gap(place, period):
+    if amount.marks > 0:
+        return DISTURBED
+    if amount.is_too_large or amount.exchanges != len(exchanges(place, period)) + restarts(place, period) or has_gap(place, period):
         return UNCLEAR
     if amount.amount is None:
         return MISSING
     if any(entry.value.is_estimated for entry in basis) or not all(
             is_near(entries, moment) for moment in (period.begins, period.ends)):
         return ESTIMATED
+    if is_provisional(place, entries, period):
+        return PROVISIONAL
+    if any(entry.value.source in PUT_BY_PEOPLE for entry in basis):
+        return HAND
     return MEASURED if amount.amount > 0 else ZERO
+
+
+def is_provisional(place: Place, entries: List[Entry], period: Period) -> bool:
+    """Whether the step after the last one is to come, which may yet say that this one is false."""
+    last = place.fittings[-1].ends
+    if last is not None and last <= period.ends:
+        return False  # nothing more will come
+    return len({entry.value.at for entry in entries if entry.value.at >= period.ends}) < AFTER
+
+
+def restarts(place: Place, period: Period) -> int:
+    """How many counters began anew in a period."""
+    return sum(period.begins < restart.first.at <= period.ends for fitting in place.fittings for restart in fitting.restarts)
 
 
 def exchanges(place: Place, period: Period) -> List[Fitting]:
@@ -83,17 +104,28 @@ def is_near(entries: List[Entry], moment: datetime.datetime) -> bool:
 def basis_of(entries: List[Entry], period: Period) -> List[Entry]:
     """The entries around both boundaries, and those at exchanges between them, in order."""
     chosen = {id(entry) for moment in (period.begins, period.ends) for entry in around(entries, moment)}
-    chosen |= {id(entry) for entry in entries if entry.value.source in ("fitted", "removed")
+    chosen |= {id(entry) for entry in entries if entry.value.source in AT_EXCHANGES
                and period.begins < entry.value.at <= period.ends}
     return [entry for entry in entries if id(entry) in chosen]
 
 
-def has_leap(entries: List[Entry]) -> bool:
-    """Whether a step has ten times the median day of these entries, which has to be more than nothing."""
-    days: List[float] = []
-    for one, other in zip(entries, entries[1:]):
-        length = (other.value.at - one.value.at).total_seconds() / 86400
-        if one.fitting is other.fitting and length > 0 and other.value.amount >= one.value.amount:
-            days.append((other.value.amount - one.value.amount) / max(length, 0.5))
-    median = statistics.median(days) if len(days) >= FEWEST_DAYS else 0
-    return median > 0 and max(days) >= LEAP * median
+def is_held(place: Place, entries: List[Entry], period: Period) -> bool:
+    """Whether a step of the period is ten times the place's median day, per day of its length, or five times at an
+    exchange: a person has to say why that is right."""
+    steps = [(one, other, a_day(one, other)) for one, other in zip(entries, entries[1:])
+             if one.line.meter == other.line.meter and one.value.at < other.value.at]
+    median = statistics.median(use for _, _, use in steps) if len(steps) >= FEWEST_DAYS else 0
+    touching = [step for step in steps if period.begins < step[1].value.at and step[0].value.at < period.ends]
+    return median > 0 and any(
+        use >= LEAP * median and use > LITTLE[place.quantity] or use >= LEAP_AT_EXCHANGE * median and is_at_exchange(one, other)
+        for one, other, use in touching)
+
+
+def a_day(one: Entry, other: Entry) -> float:
+    """What was used a day in a step; nothing of a fall, which is another matter."""
+    length = (other.value.at - one.value.at).total_seconds() / 86400
+    return max(other.value.amount - one.value.amount, 0) / max(length, 0.5)
+
+
+def is_at_exchange(one: Entry, other: Entry) -> bool:
+    return one.value.source in (FITTED, RESTARTED) or other.value.source in (REMOVED, ENDED)

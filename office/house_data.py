@@ -12,7 +12,7 @@ DIGITS = re.compile("([0-9]+)")
 BOXES = "SELECT name, collected_at, fault FROM boxes WHERE house = %s AND active ORDER BY name"
 METERS = """
 SELECT p.flat, p.use, p.number, f.identity, d.at, d.value, d.unit, d.source, coalesce(w.says, ''), coalesce(o.why, ''),
-       u.grade, coalesce(u.is_leap, false), s.position
+       u.grade, coalesce(u.is_held, false), s.position
 FROM places p
 JOIN uses s ON s.use = p.use
 JOIN houses h ON h.house = p.house
@@ -24,7 +24,7 @@ LEFT JOIN LATERAL (SELECT s.says FROM meter_states s JOIN boxes b ON b.name = s.
 LEFT JOIN LATERAL (SELECT min(o.why) AS why FROM boxes b JOIN meters m ON m.box = b.name AND m.identity = f.identity
                    LEFT JOIN overdue o ON (o.box, o.identity) = (m.box, m.identity)
                    WHERE b.house = f.house AND b.active HAVING count(*) = count(o.why)) o ON true
-LEFT JOIN month_use u ON u.place = p.id AND u.month = %(month)s AND u.part = 0
+LEFT JOIN month_kwh u ON u.place = p.id AND u.month = %(month)s AND u.part = 0
 WHERE p.house = %(house)s"""
 AMOUNTS = """
 SELECT NULL, month, use, number, begins, ends, grade, amount, has_kwh, kwh, units, NULL, quantity, position, is_charted, flat
@@ -54,7 +54,7 @@ class Meter(NamedTuple):
     says: str  # of the status byte
     silence: str  # of the view overdue
     grade: Optional[str]
-    is_leap: bool
+    is_held: bool
     position: int  # of the use
 
 

@@ -11,13 +11,13 @@ import psycopg2.extras
 from command import SECONDS
 from consumption import Amount, Key, Line, consumed
 from database import Cursor, Database, insert
-from grading import Graded, Period, graded, has_leap
+from grading import Graded, Period, graded, is_held
 from periods import begin_of, next_month
 from supply import Entry, Place, Tenancy, needed, places_of, seconds, tenancies_of
 
 HOUSES_A_TURN = 25  # whose values are in memory at once
-MONTH_USE = "month_use (month, place, part, begins, ends, tenancy, amount, grade, is_leap, basis)"
-GRADES = ("measured", "zero", "estimated", "missing", "backwards", "unclear")
+MONTH_USE = "month_use (month, place, part, begins, ends, tenancy, amount, grade, is_held, basis)"
+GRADES = ("measured", "zero", "hand", "provisional", "estimated", "missing", "disturbed", "unclear")
 # The months that are over and to be computed, with their houses
 WAITING = """
 SELECT c.month, array_agg(c.house ORDER BY c.house) FROM to_compute c JOIN houses h ON h.house = c.house
@@ -107,7 +107,7 @@ def write_month(cursor: Cursor, month: datetime.date, houses: List[str]) -> "col
     counts: "collections.Counter[str]" = collections.Counter()
     for one, period, found in graded_periods(splits):
         rows.append((month, one.place.id, period.part, period.begins, period.ends, period.tenancy, found.amount,
-                     found.grade, has_leap(one.entries), psycopg2.extras.Json(found.basis)))
+                     found.grade, is_held(one.place, one.entries, period), psycopg2.extras.Json(found.basis)))
         counts[found.grade] += period.part == 0
     cursor.execute("DELETE FROM month_use u USING places p WHERE p.id = u.place AND u.month = %s"
                    " AND p.house = ANY (%s)", (month, houses))

@@ -17,7 +17,7 @@ from checking import check_link
 from codes import Code, code_of
 from database import plain
 from periods import begin_of, day_before, later_month, next_month
-from sheet_data import MONTHS, Number, Sheet, Use
+from sheet_data import MARKED, MONTHS, Number, Sheet, Use
 
 TEMPLATES = pathlib.Path(__file__).resolve().parent / "templates"
 LONGEST = 300  # characters of what people wrote
@@ -48,7 +48,7 @@ def shown(text: str) -> str:
 
 
 def html_of(name: str, words: Catalogue, **values: Any) -> str:
-    return environment().get_template(name).render(words=words, style=style(), plain=shown, **values)
+    return environment().get_template(name).render(words=words, style=style(), plain=shown, marked=MARKED, **values)
 
 
 def sheet_html(sheet: Sheet, options: Options, with_codes: bool = False) -> str:

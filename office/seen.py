@@ -36,24 +36,38 @@ STATES = """
 SELECT CASE WHEN s.status & 4 <> 0 THEN 'power' ELSE 'error' END, b.house, s.box || ' ' || s.identity,
        s.says || ', flat ' || s.flat
 FROM meter_states s JOIN boxes b ON b.name = s.box WHERE s.says <> ''"""
-# Of each meter that is fitted: its last value, what was used a day on the way to it, the median and the lowest of these
+# Of each meter that is fitted: its last value, what was used a day on the way to it, and the median of these; and its last
+# fall that is no restart and no turn, which a counter of some digits would explain (turn), or not
 STEPS = """
-SELECT kind, house, subject, says FROM (
-    SELECT p.house, f.house || ' ' || f.identity AS subject, p.flat, k.last, k.step, k.median, k.count, k.low
-    FROM fittings f JOIN places p ON p.id = f.place JOIN LATERAL (
-        SELECT (array_agg(value || ' ' || unit ORDER BY day DESC))[1] AS last,
-               (array_agg(step ORDER BY day DESC))[1] AS step, min(step) AS low, count(step) AS count,
-               percentile_cont(0.5) WITHIN GROUP (ORDER BY step) AS median
-        FROM (SELECT day, value, unit, (amount - lag(amount) OVER before)
-                     / greatest(extract(epoch FROM at - lag(at) OVER before) / 86400, 0.5) AS step FROM day_values d
-              WHERE d.fitting = f.id AND struck_at IS NULL
-                AND day BETWEEN %(at)s::date - %(days)s AND %(at)s::date WINDOW before AS (ORDER BY day)) AS of_day) AS k ON true
-    WHERE f.during @> %(at)s) AS of_each
+WITH steps AS (
+    SELECT f.id AS fitting, s.* FROM fittings f CROSS JOIN LATERAL (
+        SELECT d.day, d.at, d.value, d.unit, d.amount, lag(d.amount) OVER before AS last, lag(d.at) OVER before AS since
+        FROM day_values d WHERE d.fitting = f.id AND d.struck_at IS NULL
+          AND d.day BETWEEN %(at)s::date - %(days)s AND %(at)s::date WINDOW before AS (ORDER BY d.day)) s
+    WHERE f.during @> %(at)s),
+uses_a_day AS (
+    SELECT f.id, f.house, f.identity, p.flat, s.day, s.value || ' ' || s.unit AS shown, s.amount, s.last,
+           coalesce(f.most, l.most) * (floor(extract(epoch FROM s.at - s.since) / 3600) + 2) AS room, f.size,
+           greatest(extract(epoch FROM s.at - s.since) / 86400, 0.5) AS days,
+           EXISTS (SELECT FROM restarts r WHERE r.fitting = f.id AND r.at >= s.since AND r.at < s.at) AS is_restart
+    FROM steps s JOIN fittings f ON f.id = s.fitting JOIN places p ON p.id = f.place LEFT JOIN limits l ON l.use = p.use),
+judged AS (
+    SELECT *, amount < last AND NOT is_restart AND NOT coalesce(last < size AND size - last + amount <= room, false) AS is_fall,
+           CASE WHEN amount >= last THEN (amount - last) / days END AS use FROM uses_a_day),
+of_each AS (
+    SELECT id, house, identity, flat, (array_agg(shown ORDER BY day DESC))[1] AS shown, (array_agg(use ORDER BY day DESC))[1] AS use,
+           count(use) AS count, percentile_cont(0.5) WITHIN GROUP (ORDER BY use) AS median, bool_or(is_fall) AS has_fall,
+           (array_agg(ARRAY[last, amount, room] ORDER BY day DESC) FILTER (WHERE is_fall AND size IS NULL))[1:1] AS fall
+    FROM judged GROUP BY id, house, identity, flat)
+SELECT kind, house, house || ' ' || identity, says || ', flat ' || flat FROM of_each
+LEFT JOIN LATERAL (SELECT min(n) AS digits FROM generate_series(6, 8) n
+                   WHERE has_fall AND size_of(id, n) > fall[1][1] AND size_of(id, n) - fall[1][1] + fall[1][2] <= fall[1][3]) t ON true
 CROSS JOIN LATERAL (VALUES
-    ('backwards', low < 0, 'a value below the one before it, the last one ' || last || ', flat ' || flat),
-    ('leap', step >= 10 * median AND median > 0 AND count >= 10, 'to ' || last || ', flat ' || flat))
+    ('disturbed', has_fall AND digits IS NULL, 'a value below the one before it, the last one ' || shown),
+    ('turn', has_fall AND digits IS NOT NULL, 'a counter of ' || digits || ' digits would have turned on the way to ' || shown),
+    ('leap', use >= 10 * median AND median > 0 AND count >= 10, 'to ' || shown))
     AS found (kind, is_so, says)
-WHERE is_so"""
+WHERE is_so ORDER BY kind, identity"""
 # A meter of which nobody knows what it counts, and one that doesn't send what it should
 NO_USE = """
 SELECT 'no use', b.house, b.house || ' ' || m.identity, 'device type ' || right(m.identity, 2) || ', flat ' || m.flat
@@ -85,9 +99,9 @@ WHERE f.during @> %(at)s AND n.amount > 0 AND n.night BETWEEN %(at)s::date - %(n
 GROUP BY f.id, p.house, p.flat HAVING count(*) >= %(nights)s"""
 NO_NUMBER = """
 SELECT 'no number', p.house, p.house || '/' || p.flat || '/' || p.use || '/' || p.number || ' '
-       || to_char(u.month, 'YYYY-MM'), u.grade::text
-FROM month_use u JOIN places p ON p.id = u.place
-WHERE u.part = 0 AND u.grade IN ('missing', 'backwards', 'unclear') AND u.month >= %(at)s::date - 400"""
+       || to_char(u.month, 'YYYY-MM'), u.grade
+FROM month_kwh u JOIN places p ON p.id = u.place
+WHERE u.part = 0 AND u.grade IN ('missing', 'disturbed', 'unclear', 'held') AND u.month >= %(at)s::date - 400"""
 ALL = (COLLECTOR, BOXES, SILENT_BOXES, CLOCKS, LATE, SILENT, STATES, NO_USE, STEPS, STILL, NIGHT, NO_NUMBER)
 
 

@@ -38,7 +38,7 @@ SELECT category, use, sum(kwh) / sum(area_m2) FILTER (WHERE kwh IS NOT NULL), co
     FROM month_kwh u JOIN houses h ON h.house = u.house JOIN flats f ON f.house = u.house AND f.flat = u.flat
     WHERE u.month = %s AND u.part = 0 AND f.area_m2 IS NOT NULL
     GROUP BY u.house, u.flat, u.use, h.category, f.area_m2
-    HAVING bool_and(u.grade IN ('measured', 'zero'))) AS of_each
+    HAVING bool_and(u.grade IN ('measured', 'zero', 'hand'))) AS of_each
 GROUP BY category, use"""
 BODIES = """
 SELECT r.month::text, r.box, r.serial, k.part, r.bodies[k.part]
@@ -148,7 +148,9 @@ class Amount(NamedTuple):
 
 
 # The grades, from what may stand alone to what leaves no number
-WORST = ("zero", "measured", "estimated", NO_FACTOR, "unclear", "backwards", "missing")
+WORST = ("zero", "measured", "hand", "provisional", "estimated", NO_FACTOR, "held", "unclear", "disturbed", "missing")
+NUMBERS = WORST[:5]
+MARKED = NUMBERS[2:]  # beside the number
 
 
 def averages_of(cursor: Cursor, month: datetime.date) -> Averages:
@@ -205,7 +207,7 @@ def unit_of(rows: List[Amount]) -> str:
 def number_of(rows: List[Amount], unit: str) -> Number:
     """The sum over the places; no value where one of them has none."""
     values = [row.value(unit) for row in rows]
-    grades = [NO_FACTOR if value is None and row.grade in ("measured", "zero", "estimated") else row.grade
+    grades = [NO_FACTOR if value is None and row.grade in NUMBERS else row.grade
               for row, value in zip(rows, values)]
     total = None if None in values else sum_of(rows, unit)
     return Number(total, max(grades, key=WORST.index), min(row.begins for row in rows), max(row.ends for row in rows))
@@ -254,4 +256,5 @@ def reading_of(basis: Dict[str, Any], frames: Dict[TelegramKey, str]) -> Reading
 def entry_of(basis: Dict[str, Any]) -> Optional[Line]:
     if "amount" not in basis:
         return None
-    return Line(basis["fitting"], seconds(datetime.datetime.fromisoformat(basis["at"])), basis["amount"])
+    return Line(basis["fitting"], seconds(datetime.datetime.fromisoformat(basis["at"])), basis["amount"],
+                basis.get("most", 0), basis.get("size", 0))

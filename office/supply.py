@@ -9,8 +9,12 @@ from database import Cursor
 from periods import begin_of
 
 MARGIN = datetime.timedelta(days=10)  # in which the values around a period are looked for first
-BEFORE = 3  # values at or before a period: two for the mark after a step backwards, one to spare
-ESTIMATED = "estimated"
+BEFORE = 3  # moments at or before a period: two for the mark after a doubtful step, one to spare
+AFTER = 2  # moments at or after its end: the last step's, and the next one's
+ESTIMATED, BY_HAND = "estimated", "by hand"
+FITTED, REMOVED, RESTARTED, ENDED = "fitted", "removed", "restarted", "ended"
+DUE_DATE = "due date"  # why the office noted a restart by itself
+RUNS = 1000  # of a meter, at most
 
 
 class Value(NamedTuple):
@@ -19,17 +23,25 @@ class Value(NamedTuple):
     amount: int  # in the smallest unit
     shown: str  # the value as a decimal number
     unit: str
-    source: str  # stored, read, estimated, by hand; fitted and removed: the first and last value of a fitting
+    # stored, read, estimated, by hand; fitted and removed: the first and last value of a fitting; ended and restarted: of a
+    # counter that began anew
+    source: str
     is_estimated: bool
     id: Optional[int]  # of day_values
     box: Optional[str]  # of its telegram
     telegram: Optional[List[Any]]  # month, serial, part of readings
 
-    def basis(self, fitting: "Fitting") -> Dict[str, Any]:
+    def basis(self, fitting: "Fitting", line: Line) -> Dict[str, Any]:
         """As `month_use.basis` keeps it."""
         return {"at": self.at.isoformat(), "value": self.shown, "unit": self.unit, "source": self.source,
                 "estimated": self.is_estimated, "meter": fitting.identity, "box": self.box, "id": self.id,
-                "telegram": self.telegram, "amount": self.amount, "fitting": fitting.id}
+                "telegram": self.telegram, "amount": self.amount, "fitting": line.meter, "most": line.most, "size": line.size}
+
+
+class Restart(NamedTuple):
+    """A counter that began anew: what it stood at before and after."""
+    last: Value
+    first: Value
 
 
 class Fitting:
@@ -39,12 +51,14 @@ class Fitting:
         self.id, self.identity = row[:2]
         self.begins: datetime.datetime = row[2]
         self.ends: Optional[datetime.datetime] = row[3]
-        unit, first, last, first_amount, last_amount, is_estimated = row[4:]
-        self.first = None if first is None else Value(self.begins, first_amount, plain_number(first), unit, "fitted",
-                                                      is_estimated, None, None, None)
+        unit, first, last, first_amount, last_amount, is_first_estimated, is_last_estimated = row[4:11]
+        self.most, self.size = (number or 0 for number in row[11:])
+        self.first = None if first is None else Value(self.begins, first_amount, plain_number(first), unit, FITTED,
+                                                      is_first_estimated, None, None, None)
         self.last = None if last is None or self.ends is None else Value(
-            self.ends, last_amount, plain_number(last), unit, "removed", is_estimated, None, None, None)
+            self.ends, last_amount, plain_number(last), unit, REMOVED, is_last_estimated, None, None, None)
         self.values: List[Value] = []
+        self.restarts: List[Restart] = []
 
     def all_values(self) -> List[Value]:
         """Its values in order, with the first and the last one. An estimate counts as long as no reading follows it."""
@@ -53,25 +67,38 @@ class Fitting:
         known = [value.at for value in values if value.source != ESTIMATED]
         return [value for value in values if value.source != ESTIMATED or not known or value.at > known[-1]]
 
+    def entries(self) -> "List[Entry]":
+        """Its values in its runs: a restart ends one, and begins another."""
+        found: List[Entry] = []
+        left = self.all_values()
+        for run, restart in enumerate(self.restarts):
+            before = [value for value in left if value.at <= restart.last.at]
+            found += [Entry(value, self, run) for value in (*before, restart.last)]
+            found.append(Entry(restart.first, self, run + 1))
+            left = left[len(before):]
+        return [*found, *(Entry(value, self, len(self.restarts)) for value in left)]
+
 
 class Entry(NamedTuple):
-    """A value with its meter's fitting."""
+    """A value with its meter's fitting, and the run of its counter."""
     value: Value
     fitting: Fitting
+    run: int = 0
 
     @property
     def line(self) -> Line:
-        return Line(self.fitting.id, seconds(self.value.at), self.value.amount)
+        return Line(self.fitting.id * RUNS + self.run, seconds(self.value.at), self.value.amount, self.fitting.most,
+                    self.fitting.size)
 
     def basis(self) -> Dict[str, Any]:
-        return self.value.basis(self.fitting)
+        return self.value.basis(self.fitting, self.line)
 
 
 class Place:
     """A supply point of a flat."""
 
     def __init__(self, row: Sequence[Any]) -> None:
-        self.id, self.house, self.flat, self.use, self.number, self.zone, self.quantity = row
+        self.id, self.house, self.flat, self.use, self.number, self.zone, self.quantity, self.weight = row
         self.fittings: List[Fitting] = []
 
     @property
@@ -80,7 +107,7 @@ class Place:
 
     def entries(self) -> List[Entry]:
         """All values at the place in order of moment; at an exchange the old meter's come first."""
-        entries = [Entry(value, fitting) for fitting in self.fittings for value in fitting.all_values()]
+        entries = [entry for fitting in self.fittings for entry in fitting.entries()]
         return sorted(entries, key=lambda entry: entry.value.at)
 
 
@@ -100,9 +127,11 @@ def plain_number(number: Any) -> str:
 
 
 PLACES = """
-SELECT p.id, p.house, p.flat, p.use, p.number, h.zone, u.quantity, f.id, f.identity, lower(f.during), upper(f.during), f.unit,
-       f.first_value, f.last_value, f.first_amount, f.last_amount, f.is_estimated
+SELECT p.id, p.house, p.flat, p.use, p.number, h.zone, u.quantity, p.weight, f.id, f.identity, lower(f.during), upper(f.during), f.unit,
+       f.first_value, f.last_value, f.first_amount, f.last_amount, f.first_is_estimated, f.last_is_estimated,
+       coalesce(f.most, l.most), f.size
 FROM places p JOIN houses h ON h.house = p.house JOIN uses u ON u.use = p.use JOIN fittings f ON f.place = p.id
+LEFT JOIN limits l ON l.use = p.use
 WHERE p.house = ANY (%(houses)s) AND EXISTS (
     SELECT FROM fittings o WHERE o.place = p.id
     AND o.during && tstzrange(day_begins(%(first)s, h.zone), day_begins(%(after)s, h.zone)))
@@ -110,6 +139,9 @@ ORDER BY p.id, lower(f.during)"""
 VALUES = """
 SELECT fitting, at, amount, value, unit, source, id, box, month::text, serial, part FROM day_values
 WHERE fitting = ANY (%s) AND struck_at IS NULL AND day BETWEEN %s AND %s ORDER BY fitting, day"""
+RESTARTS = """
+SELECT fitting, at, unit, last_amount, last, first_amount, first, is_estimated, why FROM restarts
+WHERE fitting = ANY (%s) ORDER BY fitting, at"""
 TENANCIES = """
 SELECT house, flat, id, lower(days), upper(days) FROM tenancies
 WHERE house = ANY (%s) AND days && daterange(%s, %s) ORDER BY house, flat, days"""
@@ -122,8 +154,9 @@ def places_of(cursor: Cursor, houses: List[str], first: datetime.date, after: da
     places: List[Place] = []
     for row in cursor:
         if not places or places[-1].id != row[0]:
-            places.append(Place(row[:7]))
-        places[-1].fittings.append(Fitting(row[7:]))
+            places.append(Place(row[:8]))
+        places[-1].fittings.append(Fitting(row[8:]))
+    read_restarts(cursor, places)
     read_values(cursor, places, first - MARGIN, after + MARGIN)
     read_values(cursor, [place for place in places if not is_covered(place, first, after)], FIRST_DAY, LAST_DAY)
     return places
@@ -142,6 +175,16 @@ def read_values(cursor: Cursor, places: Iterable[Place], first: datetime.date, l
                                                   value_id, box, telegram))
 
 
+def read_restarts(cursor: Cursor, places: Iterable[Place]) -> None:
+    by_id = {fitting.id: fitting for place in places for fitting in place.fittings}
+    cursor.execute(RESTARTS, (list(by_id),))
+    for fitting, at, unit, last_amount, last, first_amount, first, is_estimated, why in cursor:
+        ended, restarted = (DUE_DATE, DUE_DATE) if why == DUE_DATE else (ENDED, RESTARTED)
+        by_id[fitting].restarts.append(Restart(
+            Value(at, last_amount, plain_number(last), unit, ended, is_estimated, None, None, None),
+            Value(at, first_amount, plain_number(first), unit, restarted, is_estimated, None, None, None)))
+
+
 def is_covered(place: Place, first: datetime.date, after: datetime.date) -> bool:
     """Whether the values that were read decide the consumption and the marks of these days, or there are no others. (A
     later reading may put an estimate out of force: then all values are read.)"""
@@ -149,7 +192,7 @@ def is_covered(place: Place, first: datetime.date, after: datetime.date) -> bool
     moments = [value.at for fitting in place.fittings for value in fitting.values]
     is_begun = (sum(moment <= begins for moment in moments) >= BEFORE
                 or place.fittings[0].begins >= begins - MARGIN + datetime.timedelta(days=2))
-    is_ended = any(moment >= ends for moment in moments) or (
+    is_ended = sum(moment >= ends for moment in moments) >= AFTER or (
         ends + MARGIN > datetime.datetime.now(datetime.timezone.utc))
     has_estimate = any(value.is_estimated for fitting in place.fittings for value in fitting.values)
     return is_begun and is_ended and not has_estimate
@@ -170,6 +213,6 @@ def needed(entries: List[Entry], begins: datetime.datetime, ends: datetime.datet
     moments = [entry.value.at for entry in entries]
     distinct = sorted({moment for moment in moments if moment <= begins})[-BEFORE:]
     first = bisect.bisect_left(moments, distinct[0]) if distinct else 0
-    last = bisect.bisect_left(moments, ends)
-    last = bisect.bisect_right(moments, moments[last]) if last < len(moments) else last
+    later = sorted({moment for moment in moments if moment >= ends})[:AFTER]
+    last = bisect.bisect_right(moments, later[-1]) if later else len(moments)
     return entries[first:last]

@@ -8,6 +8,7 @@ import bisect
 import dataclasses
 import datetime
 import random
+import statistics
 import zoneinfo
 from typing import Dict, Iterator, List, NamedTuple, Optional, Tuple
 
@@ -147,17 +148,60 @@ class Place:
         share = (after.amount - before.amount) * seconds(moment - before.at) // seconds(after.at - before.at)
         return Consumed(before.amount + share, after.at - before.at <= LONGEST_GAP)
 
-    def is_disturbed(self, begins: Moment, ends: Moment, now: Moment) -> bool:
-        """Whether a false value that counts lies in a step that touches a period."""
-        known = [knot.at for knot in self.known(now)]
-        for one in self.false:
-            if one.at > now or one in self.struck:
+    def entries(self, now: Moment) -> List["Entry"]:
+        """What the office has of the place: what was told, also what is false and not struck, and what people noted."""
+        known = {knot.at: knot.amount for knot in self.known(now)}
+        found = []
+        for number, device in enumerate(self.devices):
+            if device.begins > now:
                 continue
-            before = max(at for at in known if at < one.at)
-            after = min((at for at in known if at > one.at), default=one.at)
-            if before < ends and begins < after:
-                return True
-        return False
+            base = known[device.begins]
+            found.append(Entry(device.begins, number, device.first * self.kind.digit, True))
+            last = device.ends if device.ends is not None and device.ends <= now else None
+            found += [Entry(at, number, device.first * self.kind.digit + amount - base, False) for at, amount in known.items()
+                      if device.begins < at and (last is None or at < last) and at != device.ends]
+            found += [Entry(one.at, number, one.digits * self.kind.digit, False) for one in self.false
+                      if one.device is device and one.at <= now and one not in self.struck]
+            if last is not None and device.last is not None:
+                found.append(Entry(last, number, device.last * self.kind.digit, True))
+        return sorted(found, key=lambda entry: (entry.at, entry.meter))
+
+    def marked(self, entries: List["Entry"], begins: Moment, ends: Moment) -> bool:
+        """Whether a step that touches a period falls or rises by more than the meter can count, or is beside such a step."""
+        steps = list(zip(entries, entries[1:]))
+        doubts = [False, *(self.is_doubtful(*step) for step in steps), False]
+        return any(any(doubts[place:place + 3]) and begins < other.at and (one.at < ends or other.at <= ends)
+                   for place, (one, other) in enumerate(steps))
+
+    def is_doubtful(self, one: "Entry", other: "Entry") -> bool:
+        room = MOST[self.use] * (seconds(other.at - one.at) // 3600 + 2)
+        return one.meter == other.meter and not 0 <= other.amount - one.amount <= room
+
+    def is_held(self, entries: List["Entry"], begins: Moment, ends: Moment) -> bool:
+        """Whether a step of a period is ten times the median day around it, or five times at an exchange."""
+        before = sorted({entry.at for entry in entries if entry.at <= begins})[-3:]
+        after = sorted({entry.at for entry in entries if entry.at >= ends})[:2]
+        around = [entry for entry in entries if (not before or entry.at >= before[0]) and (not after or entry.at <= after[-1])]
+        steps = [(one, other, max(other.amount - one.amount, 0) * 86400 / max(seconds(other.at - one.at), 43200))
+                 for one, other in zip(around, around[1:]) if one.meter == other.meter and one.at < other.at]
+        median = statistics.median(use for _, _, use in steps) if len(steps) >= 10 else 0
+        return median > 0 and any(
+            begins < other.at and one.at < ends and (use >= 10 * median and use > LITTLE[self.use]
+                                                     or use >= 5 * median and (one.is_put or other.is_put))
+            for one, other, use in steps)
+
+
+class Entry(NamedTuple):
+    """A value of a meter: what it stood at, in smallest units; put by a person when it was fitted or removed."""
+    at: Moment
+    meter: int
+    amount: int
+    is_put: bool
+
+
+# What a meter can count in an hour, and a day's use that needs no look, in smallest units
+MOST = {"heat": 216 * 10**9, "warm water": 3_125_000, "cold water": 3_125_000, "allocator": 20_000}
+LITTLE = {"heat": 360 * 10**9, "warm water": 10**6, "cold water": 10**6, "allocator": 60_000}
 
 
 def seconds(length: datetime.timedelta) -> int:
@@ -195,6 +239,7 @@ class Plan(NamedTuple):
     exchanged_at: Optional[Moment]
     dead_since: Optional[datetime.date]
     false_on: Optional[datetime.date]
+    is_high: bool = False  # what is told then is too high
 
 
 def fill(place: Place, plan: Plan, first: datetime.date, after: datetime.date, hour: datetime.time, rng: random.Random
@@ -275,7 +320,7 @@ def tell(place: Place, plan: Plan, first: datetime.date, after: datetime.date, h
             device = device_at(place, moment)
             digits = digits_at(place, device, moment, knots)
             if day == plan.false_on:
-                digits //= 10
+                digits = digits * 11 // 10 if plan.is_high else digits // 10
                 place.false.append(False_(moment, device, digits))
             device.telegrams.append(Telegram(moment, digits, stored_at(place, plan, device, day, knots)))
         day += datetime.timedelta(days=1)

@@ -71,7 +71,7 @@ def plan_of(kind: Kind, index: int, first: datetime.date, after: datetime.date, 
         return none._replace(dead_since=day, exchanged_at=noon(middle(day + datetime.timedelta(days=40))))
     if fate == 3:
         last_of_month = next_month(day) - datetime.timedelta(days=1)
-        return none._replace(false_on=day if is_storing or rng.random() < 0.5 else last_of_month)
+        return none._replace(false_on=day if is_storing or rng.random() < 0.5 else last_of_month, is_high=rng.random() < 0.5)
     if fate in (4, 5):
         begins = day if is_storing else next_month(day) - datetime.timedelta(days=rng.randrange(1, GAP_DAYS))
         return none._replace(lost=[begins + datetime.timedelta(days=number) for number in range(GAP_DAYS)])

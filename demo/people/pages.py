@@ -8,12 +8,14 @@ from fractions import Fraction
 from typing import Any, Dict, Iterator, List, Optional, Tuple
 
 from people.houses import BERLIN, House, Place, User, begin_of, next_month
-from people.truth import BACKWARDS, DECIMALS, MISSING, Number, Truth, places_of, written
+from people.truth import DECIMALS, DISTURBED, ESTIMATED, HAND, HELD, MISSING, PROVISIONAL, Number, Truth, places_of, written
 
-WORDS = {"de": {"estimated": "geschätzt", MISSING: "fehlt", BACKWARDS: "rückwärts", "before": "eingezogen",
-                "none": "kein Wert", "only": "nur"},
-         "en": {"estimated": "estimated", MISSING: "missing", BACKWARDS: "backwards", "before": "moved in", "none": "no value",
-          "only": "only"}}
+WORDS = {"de": {ESTIMATED: "geschätzt", HAND: "abgelesen", PROVISIONAL: "vorläufig:", MISSING: "fehlt",
+                DISTURBED: "ein Zählerstand wird geprüft", HELD: "auffällig hoch", "before": "eingezogen", "none": "kein Wert",
+                "only": "nur"},
+         "en": {ESTIMATED: "estimated", HAND: "person", PROVISIONAL: "provisional:", MISSING: "missing",
+                DISTURBED: "a reading is being checked", HELD: "unusually high", "before": "moved in", "none": "no value",
+                "only": "only"}}
 MONTHS = {"de": "Jan Feb Mär Apr Mai Jun Jul Aug Sep Okt Nov Dez".split(),
           "en": "Jan Feb Mar Apr May Jun Jul Aug Sep Oct Nov Dec".split()}
 METER_CELLS = 6  # of a meter's row on a house page
@@ -85,7 +87,7 @@ class Checker:
             return words[number.state]
         is_part = (number.begins, number.ends) != (begin_of(month), begin_of(next_month(month)))
         said = [] if number.value is None else [written(number.value, DECIMALS[unit], user.language)]
-        said += [words["estimated"]] if number.is_estimated else []
+        said += [words[number.mark]] if number.mark else []
         said += [words["only"]] if is_part else []
         return " ".join(said)
 
@@ -98,7 +100,7 @@ class Checker:
             return
         pieces = found.split()
         kept = [pieces[0]] if number.value is not None else []
-        kept += [word for word in (words["estimated"], words["only"]) if word in pieces]
+        kept += [word for word in (*(words[mark] for mark in (ESTIMATED, HAND, PROVISIONAL)), words["only"]) if word in pieces]
         self.same(where, " ".join(kept), wanted)
 
     def sheet(self, path: pathlib.Path, house: House, flat: str, user: User, month: datetime.date) -> None:
@@ -149,7 +151,7 @@ class Checker:
         """Each reading that is named is what the meter told then."""
         told = self.told_in(house, flat, language)
         for row in page.readings:
-            if len(row) == 5 and not any(WORDS[language]["estimated"] in cell for cell in row):
+            if len(row) == 5 and not any(WORDS[language][ESTIMATED] in cell for cell in row):
                 self.same(f"{where} {row[:2]}", row[2], told.get((row[1].strip(), row[0].strip()), "nothing"))
 
     def house(self, path: pathlib.Path, house: House, month: datetime.date) -> None:
@@ -187,7 +189,7 @@ class Checker:
         rows = {head: row for head, row in zip(page.heads, page.readings) if len(row) == METER_CELLS}
         self.same(f"{house.name} {month} meters", " ".join(sorted(rows)), " ".join(sorted(wanted)))
         for identity, (_, _, value, moment, *_) in rows.items():
-            if WORDS["de"]["estimated"] not in moment and moment != "–":
+            if WORDS["de"][ESTIMATED] not in moment and moment != "–":
                 self.same(f"{house.name} {identity} {moment}", value, told.get((identity, moment.strip()), "nothing"))
 
 

@@ -84,7 +84,7 @@ class Office:
         assert old.last is not None
         self.sql("UPDATE meters SET identity = %s, address = %s WHERE (box, identity) = (%s, %s)", new.identity,
                  str(new.number), place.house, old.identity)
-        self.sql("UPDATE fittings SET during = tstzrange(lower(during), %s), last_value = %s, is_estimated = %s"
+        self.sql("UPDATE fittings SET during = tstzrange(lower(during), %s), last_value = %s, last_is_estimated = %s"
                  " WHERE (house, identity) = (%s, %s)", old.ends, old.shown(old.last), old.is_estimated, place.house,
                  old.identity)
         self.sql("UPDATE fittings SET during = tstzrange(%s, NULL) WHERE (house, identity) = (%s, %s)", new.begins, place.house,

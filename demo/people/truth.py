@@ -5,10 +5,12 @@ import decimal
 from fractions import Fraction
 from typing import Dict, Iterable, List, NamedTuple, Optional, Set, Tuple
 
-from people.houses import House, Moment, Place, User, begin_of, next_month
+from people.houses import Entry, House, Moment, Place, User, begin_of, next_month
 
-VALUE, MISSING, BACKWARDS = "value", "missing", "backwards"
-WORST = (VALUE, BACKWARDS, MISSING)
+VALUE, MISSING, DISTURBED, HELD = "value", "missing", "disturbed", "held"
+WORST = (VALUE, HELD, DISTURBED, MISSING)
+HAND, PROVISIONAL, ESTIMATED = "hand", "provisional", "estimated"
+MARKS = ("", HAND, PROVISIONAL, ESTIMATED)
 FEWEST_COMPARED = 3
 ENERGY = 3_600_000_000  # millijoules of a kWh
 DECIMALS = {"kWh": 1, "m³": 2, "HCA": 1}
@@ -20,7 +22,7 @@ class Number(NamedTuple):
     """A number of a sheet: its value in the sheet's unit where the truth knows one, else why there is none."""
     state: str
     value: Optional[Fraction]
-    is_estimated: bool
+    mark: str  # beside it
     begins: Moment
     ends: Moment
 
@@ -48,17 +50,20 @@ class Truth:
 
     def of_place(self, place: Place, begins: Moment, ends: Moment, unit: Optional[str] = None) -> Number:
         """What a place consumed in a period, as far as it can be known now, in the unit of its sheet or another."""
-        if place.is_disturbed(begins, ends, self.now):
-            return Number(BACKWARDS, None, False, begins, ends)
+        entries = place.entries(self.now)
+        if place.marked(entries, begins, ends):
+            return Number(DISTURBED, None, "", begins, ends)
         first, last = place.consumed(begins, self.now), place.consumed(ends, self.now)
         if first is None or last is None:
             is_estimated = any(place is of and begin_of(month) < ends and begins < begin_of(next_month(month))
                                for of, month in self.estimated_places())
-            return Number(VALUE if is_estimated else MISSING, None, is_estimated, begins, ends)
+            return Number(VALUE if is_estimated else MISSING, None, ESTIMATED if is_estimated else "", begins, ends)
+        if place.is_held(entries, begins, ends):
+            return Number(HELD, None, "", begins, ends)
         is_near = first.is_near and last.is_near and not any(
             device.is_estimated and device.ends is not None and begins < device.ends <= ends for device in place.devices)
         value = self.scaled(place, last.amount - first.amount, unit or self.unit(place.house, place.use))
-        return Number(VALUE, value, not is_near, begins, ends)
+        return Number(VALUE, value, mark_of(entries, begins, ends) if is_near else ESTIMATED, begins, ends)
 
     def estimated_places(self) -> Iterable[Tuple[Place, datetime.date]]:
         names = {name_of(place): place for house in self.houses for place in house.places}
@@ -70,7 +75,7 @@ class Truth:
         state = max((number.state for number in numbers), key=WORST.index)
         values = [number.value for number in numbers if number.value is not None]
         total = sum(values, Fraction()) if len(values) == len(numbers) else None
-        return Number(state, total, any(number.is_estimated for number in numbers), begins, ends)
+        return Number(state, total, max((number.mark for number in numbers), key=MARKS.index), begins, ends)
 
     def of_user(self, house: House, flat: str, use: str, user: User, month: datetime.date) -> Optional[Number]:
         """What a user used in a month; None where it wasn't the user's."""
@@ -94,9 +99,25 @@ class Truth:
                 if not places or unit == "kWh" != self.unit(house.name, use):
                     continue
                 number = self.of_places(places, begin_of(month), begin_of(next_month(month)), unit)
-                if number.value is not None and not number.is_estimated:
+                if number.value is not None and number.mark in ("", HAND):
                     total, area, count = total + number.value, area + size, count + 1
         return total / area if count >= FEWEST_COMPARED else None
+
+
+def mark_of(entries: List[Entry], begins: Moment, ends: Moment) -> str:
+    """Whether the step after a period is still to come, or a person put a value that decides it."""
+    if len({entry.at for entry in entries if entry.at >= ends}) < 2:
+        return PROVISIONAL
+    around = [entry for moment in (begins, ends) for entry in beside(entries, moment)]
+    is_put = any(entry.is_put for entry in around) or any(entry.is_put and begins < entry.at <= ends for entry in entries)
+    return HAND if is_put else ""
+
+
+def beside(entries: List[Entry], moment: Moment) -> List[Entry]:
+    """The last entry at a moment or before it and, where that one is before it, the next."""
+    before = [entry for entry in entries if entry.at <= moment][-1:]
+    after = [entry for entry in entries if entry.at > moment][:1]
+    return before if before and before[0].at == moment else before + after
 
 
 Place_ = str  # the name of a place

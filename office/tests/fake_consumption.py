@@ -7,14 +7,17 @@ import sys
 from typing import Dict, List, NamedTuple, Optional, Tuple
 
 NUMBER = re.compile(r"0|[1-9][0-9]{0,17}")
-HEADER = "place,meter,moment,value"
+OLD_HEADER, HEADER = "place,meter,moment,value", "place,meter,moment,value,most,size"
 LONGEST = 1 << 20
+HOUR = 3600
 
 
 class Entry(NamedTuple):
     meter: int
     moment: int
     value: int
+    most: int = 0  # what the meter can count in an hour; 0: not declared
+    size: int = 0  # what its counter never shows; 0: it doesn't turn
 
 
 class Step(NamedTuple):
@@ -22,23 +25,39 @@ class Step(NamedTuple):
     begins: int
     ends: int
     amount: int
-    is_marked: bool  # the meter ran backwards, or did right before
+    is_marked: bool  # doubtful, or beside one that is
     is_exchange: bool
 
     def touches(self, begins: int, ends: int) -> bool:
         return begins < self.ends and (self.begins < ends or self.ends <= ends)
 
 
+def room(one: Entry, other: Entry) -> int:
+    return one.most * ((other.moment - one.moment) // HOUR + 2)
+
+
+def is_turn(one: Entry, other: Entry) -> bool:
+    return one.meter == other.meter and other.value < one.value < one.size and (
+        one.size - one.value + other.value <= room(one, other))
+
+
+def is_doubtful(one: Entry, other: Entry) -> bool:
+    if one.meter != other.meter or is_turn(one, other):
+        return False
+    return other.value < one.value or one.most > 0 and other.value - one.value > room(one, other)
+
+
+def amount_of(one: Entry, other: Entry) -> int:
+    if one.meter != other.meter:
+        return 0
+    return one.size - one.value + other.value if is_turn(one, other) else max(other.value - one.value, 0)
+
+
 def steps_of(entries: List[Entry]) -> List[Step]:
-    steps: List[Step] = []
-    was_backwards = False
-    for one, other in zip(entries, entries[1:]):
-        is_exchange = one.meter != other.meter
-        is_backwards = not is_exchange and other.value < one.value
-        amount = 0 if is_exchange else max(other.value - one.value, 0)
-        steps.append(Step(one.moment, other.moment, amount, is_backwards or was_backwards, is_exchange))
-        was_backwards = is_backwards
-    return steps
+    pairs = list(zip(entries, entries[1:]))
+    doubts = [False, *(is_doubtful(*pair) for pair in pairs), False]
+    return [Step(one.moment, other.moment, amount_of(one, other), any(doubts[place:place + 3]), one.meter != other.meter)
+            for place, (one, other) in enumerate(pairs)]
 
 
 def curve(entries: List[Entry], steps: List[Step], moment: int) -> Optional[int]:
@@ -67,18 +86,21 @@ def read(text: str) -> Tuple[Dict[str, List[Entry]], Optional[str]]:
     """The entries of each place, and the fault of the first line that has one."""
     lines = text.split("\n")[:-1] if text.endswith("\n") else text.split("\n")
     places: Dict[str, List[Entry]] = {}
-    if lines[:1] != [HEADER]:
+    if lines[:1] not in ([OLD_HEADER], [HEADER]):
         return {}, "LINE 1 FAULT 1 Header"
+    count = lines[0].count(",")
     last = ""
     for number, line in enumerate(lines[1:], 2):
         place, *numbers = line.split(",")
-        if not place or len(numbers) != 3 or not all(map(NUMBER.fullmatch, numbers)):
+        if not place or len(numbers) != count or not all(map(NUMBER.fullmatch, numbers)):
             return {}, f"LINE {number} FAULT 2 Row"
         if place.encode() < last.encode():
             return {}, f"LINE {number} FAULT 3 Place"
         entry, entries = Entry(*map(int, numbers)), places.setdefault(place, [])
         if entries and entry.moment < entries[-1].moment:
             return {}, f"LINE {number} FAULT 4 Moment"
+        if entries and entries[-1].meter == entry.meter and entries[-1][3:] != entry[3:]:
+            return {}, f"LINE {number} FAULT 5 Facts"
         if entries and entries[-1][:2] == entry[:2]:
             entries.pop()
         entries.append(entry)

@@ -81,7 +81,7 @@ def test_alarms_are_told_once_until_they_end(office: Office, elm: Supplied, tmp_
     assert ended.status == 1 and told == [
         "NEW collector office/collect", "NEW box elm-1",
         *(f"NEW power elm-1 0000000{number}.PAD.01.{kind}" for number, kind in ((1, "04"), (2, "04"), (3, "07"))),
-        "NEW backwards elm-1 00000001.PAD.01.04", "NEW leap elm-1 00000002.PAD.01.04",
+        "NEW disturbed elm-1 00000001.PAD.01.04", "NEW leap elm-1 00000002.PAD.01.04",
         "NEW no consumption elm-1 00000003.PAD.01.07"], ended.printed
     assert "power low, permanent error, flat A1" in (tmp_path / "mail").read_text()
     again = office.run("alarms", *words, str(mail))
@@ -89,7 +89,7 @@ def test_alarms_are_told_once_until_they_end(office: Office, elm: Supplied, tmp_
     office.sql("SELECT strike(id, 'disturbed') FROM day_values WHERE value = 5")
     office.sql("UPDATE meters SET status = 0 WHERE identity LIKE '%%1.PAD%%'")
     ended = office.run("alarms", *words, str(mail))
-    assert (ended.status, ended.printed) == (0, "END backwards elm-1 00000001.PAD.01.04\nEND power elm-1 00000001.PAD.01.04\n")
+    assert (ended.status, ended.printed) == (0, "END disturbed elm-1 00000001.PAD.01.04\nEND power elm-1 00000001.PAD.01.04\n")
     silent = office.run("alarms", "--at", "2025-01-24T12:00+00:00")
     assert "silent" not in silent.printed  # what is to be seen to is the box, which has its alarm
     office.sql("UPDATE boxes SET collected_at = '2025-01-24'")
@@ -187,7 +187,7 @@ def test_what_is_kept(office: Office, elm: Supplied) -> None:
     assert office.sql("SELECT day FROM day_values ORDER BY day") == [
         (datetime.date(2020, 12, 31),), (datetime.date(2021, 1, 31),)]
     assert office.sql("SELECT amount, basis FROM month_use") == [(310 * WH, [])]
-    assert elm.month("2021-01") == [("A1", 0, 310 * WH, "measured")]
+    assert elm.month("2021-01") == [("A1", 0, 310 * WH, "provisional")]
     assert office.run("retain", "--days", "3").status == 2
 
 

@@ -53,6 +53,8 @@ def test_the_next_month_decides_the_one_before(office: Office, elm: Supplied) ->
         elm.reads(meter, at(moment), value)
     assert "2025-01: 1 places: 1 missing" in closed(office)
     elm.reads(meter, at("2025-02-01T18:00"), 1322)
+    assert "2025-01: 1 places: 1 provisional" in closed(office)
+    elm.reads(meter, at("2025-02-02T18:00"), 1332)
     assert "2025-01: 1 places: 1 measured" in closed(office)
 
 
@@ -64,18 +66,18 @@ def test_what_people_say_is_computed(office: Office, elm: Supplied) -> None:
     for day, value in (("2025-01-10", 90), ("2025-03-01", 1600)):
         elm.reads(meter, at(f"{day}T23:00"), value)
     closed(office)
-    assert months(office)[1][2] == "backwards"
+    assert months(office)[1][2] == "disturbed"
     office.sql("SELECT strike(id, 'a digit was lost') FROM day_values WHERE value = 90")
     assert "2025-01: 1 places: 1 estimated" in closed(office)
     office.sql("SELECT put_value(%s, '2025-01-31', 1312, 'Wh', 'read at the meter')", meter)
     closed(office)
-    assert months(office)[1] == ("2025-01", 312 * WH, "measured")
+    assert months(office)[1] == ("2025-01", 312 * WH, "hand")
     elm.tenancy("A1", "2025-01-11", None)
     closed(office)
     assert office.sql("SELECT count(*) FROM month_use WHERE month = '2025-01-01'") == [(3,)]
     office.sql("UPDATE fittings SET unit = 'Wh', first_value = 990, during = '[2024-12-31 12:00Z,)'")
     closed(office)
-    assert months(office)[0] == ("2024-12", 10 * WH, "measured")
+    assert months(office)[0] == ("2024-12", 10 * WH, "hand")
 
 
 def test_a_close_that_fails_is_done_again(office: Office, elm: Supplied) -> None:

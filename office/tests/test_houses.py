@@ -18,7 +18,7 @@ SELECT id, house, to_char(substr(flat, 2)::integer, 'FM00000000') || '.PAD.01.04
 INSERT INTO day_values (fitting, day, at, value, unit, source, month, box, serial, part)
 SELECT f.id, k.day, day_begins(k.day + 1, 'Europe/Berlin'), k.value + CASE k.value WHEN 0 THEN 0 ELSE substr(p.flat, 2)::integer END,
        'Wh', 'stored', '2025-01-01', 'elm-1', 1, 1
-FROM fittings f JOIN places p ON p.id = f.place, (VALUES (date '2024-12-31', 0), ('2025-01-31', 300000)) AS k (day, value);
+FROM fittings f JOIN places p ON p.id = f.place, (VALUES (date '2024-12-31', 0), ('2025-01-31', 300000), ('2025-02-01', 300000)) AS k (day, value);
 INSERT INTO tenancies (house, flat, days, person) SELECT house, flat, '[2024-01-01,)', 'A. Person' FROM flats"""
 
 
@@ -83,7 +83,7 @@ def test_a_month_without_a_value_keeps_its_unit(office: Office, elm: Supplied, t
 def test_what_has_no_end_in_decimals_adds_up(office: Office, elm: Supplied, tmp_path: pathlib.Path) -> None:
     """Joules as kWh: three places of a third of something are 0.05 kWh, which is rounded up, on all pages."""
     for number, joules in ((1, 48_000), (2, 48_000), (3, 84_000)):
-        elm.values(elm.meter(number, HEAT, "A1"), {"2024-12-31": 0, "2025-01-31": joules}, "J")
+        elm.values(elm.meter(number, HEAT, "A1"), {"2024-12-31": 0, "2025-01-31": joules, "2025-02-01": joules}, "J")
     tenancy = elm.tenancy("A1", "2024-01-01", None)
     elm.month("2025-01")
     written(office, tmp_path, "--pdf", "none")
@@ -94,7 +94,7 @@ def test_what_has_no_end_in_decimals_adds_up(office: Office, elm: Supplied, tmp_
 
 def test_a_bill_rounds_half_up(office: Office, elm: Supplied) -> None:
     """0.0045 kWh, which no binary fraction is."""
-    elm.values(elm.meter(1, HEAT, "A1"), {"2024-12-31": 0, "2025-01-31": 16_200}, "J")
+    elm.values(elm.meter(1, HEAT, "A1"), {"2024-12-31": 0, "2025-01-31": 16_200, "2025-02-01": 16_200}, "J")
     assert [(row["amount"], row["consumption"]) for row in billed(office, "elm-1", "2025-01")] == [("16200000", "0.005")]
 
 

@@ -91,9 +91,9 @@ def elm(office: Office) -> Supplied:
     made = Supplied(office)
     for number in range(1, 5):
         flat = f"A{number}"
-        made.days(made.meter(number, HEAT, flat, area=40 + 10 * number), "2023-12-29", 400, 1_000_000, 10_000 * number)
+        made.days(made.meter(number, HEAT, flat, area=40 + 10 * number), "2023-12-29", 403, 1_000_000, 10_000 * number)
         water = made.meter(10 + number, WATER, flat, area=40 + 10 * number)
-        made.values(water, {"2023-12-31": 1, "2024-01-31": 3, "2024-11-30": 20, "2024-12-31": "22.5", "2025-01-31": 26},
+        made.values(water, {"2023-12-31": 1, "2024-01-31": 3, "2024-11-30": 20, "2024-12-31": "22.5", "2025-01-31": 26, "2025-02-01": 26},
                     "m3")
         made.days(made.meter(20 + number, COLD, flat, area=40 + 10 * number), "2024-12-30", 40, 7, 1, "m3")
     office.sql("INSERT INTO factors (house, use, months, kwh_per_unit)"
@@ -169,7 +169,7 @@ def test_what_is_no_number_and_what_is_estimated(office: Office, elm: Supplied, 
     elm.month("2025-01")
     written(office, tmp_path, "--pdf", "none")
     cells = [checked(sheet_of(office, tmp_path, it).read_text(encoding="utf-8")).cells for it in tenancies]
-    assert "fehlt" in cells[0]["heat", "2025-01-01"] and "rückwärts" in cells[1]["heat", "2025-01-01"]
+    assert "fehlt" in cells[0]["heat", "2025-01-01"] and "geprüft" in cells[1]["heat", "2025-01-01"]
     assert not re.search(r"\d", cells[0]["heat", "2025-01-01"] + cells[1]["heat", "2025-01-01"])
     assert cells[2]["heat", "2025-01-01"].split() == ["930,0"]
     assert cells[2]["heat", "average"].strip() == "–"  # of two flats: too few to tell
@@ -243,7 +243,7 @@ def test_links_compute_each_number_again(office: Office, elm: Supplied, tmp_path
         links = [href for href, _ in page.links if href.startswith("https://example.org/check.html#entries=")]
         amounts = office.sql("SELECT amount FROM month_use WHERE tenancy = %s AND amount IS NOT NULL", tenancy)
         assert sorted(computed_again(tmp_path, href)[0] for href in links) == sorted(row[0] for row in amounts)
-        assert any("entries=place%2Cmeter%2Cmoment%2Cvalue%0AHeizung" in href for href in links) == (tenancy != tenancies[3])
+        assert any("entries=place%2Cmeter%2Cmoment%2Cvalue%2Cmost%2Csize%0AHeizung" in href for href in links) == (tenancy != tenancies[3])
     written(office, tmp_path, "--pdf", "none", "--checker", "")
     page = checked(sheet_of(office, tmp_path, tenancies[0]).read_text(encoding="utf-8"))
     assert not any("check.html" in href for href, _ in page.links)

@@ -147,8 +147,8 @@ def test_18_digits(office: Office, elm: Supplied) -> None:
     assert told(office, "too large") == ["NEW too large elm-1 00000001.PAD.01.07: too large of cold water, flat A1"]
     allocator = elm.meter(2, ALLOCATOR, "A2")
     new = elm.meter(3, ALLOCATOR, "A2")
-    elm.values(allocator, {"2024-12-31": 0, "2025-01-31": most * 1000}, "HCA")
-    elm.values(new, {"2024-12-31": 0, "2025-01-31": 1}, "HCA")
+    elm.values(allocator, {"2024-12-31": 0, "2025-01-31": most * 1000, "2025-02-01": most * 1000}, "HCA")
+    elm.values(new, {"2024-12-31": 0, "2025-01-31": 1, "2025-02-01": 1}, "HCA")
     assert elm.month("2025-01")[1:] == [("A2", 0, most * 1_000_000, "measured"), ("A2", 0, 1000, "measured")]
 
 

@@ -1,0 +1,198 @@
+"""The grades by both steps around a boundary, turns, restarts, and numbers that are held."""
+
+import pathlib
+from typing import Any, List, Tuple
+
+import pytest
+from conftest import Office
+from supplied import ALLOCATOR, COLD, HEAT, Supplied, at
+from test_bills import billed
+from test_schema import refused
+from test_sheets import checked, sheet_of, written
+
+WH = 3_600_000
+FEBRUARY = ("2025-01", "2025-02", "2025-03")
+
+
+@pytest.fixture
+def elm(office: Office) -> Supplied:
+    return Supplied(office)
+
+
+def grades(elm: Supplied, *months: str) -> List[str]:
+    return [elm.month(month)[0][3] for month in months]
+
+
+@pytest.mark.parametrize("day, value, wanted", [
+    ("2025-01-31", 5000, ["disturbed", "disturbed", "measured"]),  # too high at the month's end
+    ("2025-01-31", 10, ["disturbed", "disturbed", "measured"]),  # too low
+    ("2025-01-30", 5000, ["disturbed", "disturbed", "measured"]),
+    ("2025-01-15", 5000, ["disturbed", "measured", "measured"]),
+    ("2025-02-01", 10, ["disturbed", "disturbed", "measured"]),
+    ("2025-02-02", 10, ["measured", "disturbed", "measured"]),
+    ("2025-02-28", 5000, ["measured", "disturbed", "disturbed"])])
+def test_a_false_value_marks_both_its_steps(office: Office, elm: Supplied, day: str, value: int, wanted: List[str]) -> None:
+    """Too high or too low, the months that it decides have no number, until it is struck; then they are right."""
+    meter = elm.meter(1, HEAT, "A1")
+    elm.days(meter, "2024-12-20", 110, 1000, 10)
+    office.sql("UPDATE day_values SET value = %s WHERE day = %s", value, day)
+    assert grades(elm, *FEBRUARY) == wanted
+    office.sql("SELECT strike(id, 'read wrong') FROM day_values WHERE value = %s", value)
+    assert [elm.month(month)[0][2:] for month in FEBRUARY] == [
+        (days * 10 * WH, "measured") for days in (31, 28, 31)]
+
+
+def test_more_than_the_meter_can_count(office: Office, elm: Supplied) -> None:
+    """A jump of more than the limit of the use; a fitting may have one of its own."""
+    meter = elm.meter(1, COLD, "A1")
+    elm.days(meter, "2024-12-20", 30, 10, 1, "m3")
+    elm.days(meter, "2025-01-19", 60, 200, 1, "m3")
+    assert grades(elm, "2025-01") == ["disturbed"]
+    office.sql("UPDATE fittings SET most = 20000000")
+    assert grades(elm, "2025-01") == ["measured"]
+    assert office.sql("SELECT is_held FROM month_use WHERE month = '2025-01-01'") == [(True,)]
+
+
+def test_a_number_is_provisional_until_the_next_step(office: Office, elm: Supplied, tmp_path: pathlib.Path) -> None:
+    meter = elm.meter(1, HEAT, "A1")
+    tenancy = elm.tenancy("A1", "2024-01-01", None)
+    elm.days(meter, "2024-12-25", 38, 1000, 10)  # to 31 January
+    assert elm.month("2025-01") == [("A1", 0, 310 * WH, "provisional")]
+    assert billed(office, "elm-1", "2025-01", status=1)[0]["amount"] == ""
+    written(office, tmp_path, "--pdf", "none")
+    cell = checked(sheet_of(office, tmp_path, tenancy).read_text(encoding="utf-8")).cells["heat", "2025-01-01"]
+    assert cell.split()[:2] == ["0,3", "vorläufig:"]
+    elm.values(meter, {"2025-02-01": 1380})
+    assert elm.month("2025-01") == [("A1", 0, 310 * WH, "measured")]
+    office.sql("DELETE FROM day_values WHERE day = '2025-01-31'")
+    assert grades(elm, "2025-01") == ["provisional"]
+    elm.values(meter, {"2025-02-02": 1390})
+    assert grades(elm, "2025-01") == ["measured"]
+
+
+def test_what_a_person_read(office: Office, elm: Supplied, tmp_path: pathlib.Path) -> None:
+    meter = elm.meter(1, HEAT, "A1")
+    tenancy = elm.tenancy("A1", "2024-01-01", None)
+    elm.days(meter, "2024-12-25", 60, 1000, 10)
+    office.sql("SELECT put_value(%s, '2025-01-31', 1370, 'Wh', 'read at the meter')", meter)
+    assert elm.month("2025-01") == [("A1", 0, 310 * WH, "hand")]
+    written(office, tmp_path, "--pdf", "none")
+    text = sheet_of(office, tmp_path, tenancy).read_text(encoding="utf-8")
+    assert checked(text).cells["heat", "2025-01-01"].split()[:2] == ["0,3", "von"]
+    assert billed(office, "elm-1", "2025-01")[0]["grade"] == "hand"
+
+
+def test_a_turn(office: Office, elm: Supplied) -> None:
+    """Of a counter whose digits a person, or the list of models, declares; what they explain is proposed."""
+    meter = elm.meter(1, COLD, "A1")
+    for day, value in ((29, "99999.800"), (30, "99999.900"), (31, "0.050")):
+        elm.reads(meter, at(f"2025-01-{day}T23:00"), value)
+    for day in (1, 2):
+        elm.reads(meter, at(f"2025-02-0{day}T23:00"), f"0.{day}50")
+    elm.reads(meter, at("2024-12-31T23:00"), "99995.000")
+    elm.reads(meter, at("2024-12-30T23:00"), "99994.900")
+    assert office.run("close").status == 0
+    assert grades(elm, "2025-01") == ["disturbed"]
+    printed = office.run("alarms", "--at", "2025-02-02T23:30+00:00").printed
+    assert "NEW turn elm-1 00000001.PAD.01.07: a counter of 8 digits would have turned on the way to 0.250 m3, flat A1" in printed
+    office.sql("SET ROLE clerk")
+    office.sql("SELECT declare_counter('elm-1', '00000001.PAD.01.07', 8)")
+    office.sql("RESET ROLE")
+    assert office.sql("SELECT size FROM fittings") == [(10 ** 8 * 1000,)]
+    assert office.run("close").status == 0
+    assert office.sql("SELECT grade, amount BETWEEN 5000000 AND 5200000 FROM month_use WHERE month = '2025-01-01'") == [
+        ("estimated", True)]
+    assert "END turn" in office.run("alarms", "--at", "2025-02-02T23:30+00:00").printed
+    office.sql("UPDATE day_values SET value = 500 WHERE day = '2025-01-30'")  # 500 m3 in a day is no turn
+    assert grades(elm, "2025-01") == ["disturbed"]
+    office.sql("UPDATE day_values SET value = 99999.9 WHERE day = '2025-01-30'")
+    assert "has digits" in refused(office, "SELECT declare_counter('elm-1', '00000001.PAD.01.07', 7)")
+
+
+def test_the_list_of_models(office: Office, elm: Supplied) -> None:
+    office.sql("INSERT INTO models VALUES ('PAD', '01', '07', 8)")
+    meter = elm.meter(1, COLD, "A1")
+    elm.reads(meter, at("2025-01-30T23:00"), "99999.900")
+    assert office.run("close").status == 0
+    assert office.sql("SELECT size FROM fittings") == [(10 ** 8 * 1000,)]
+
+
+def read_daily(elm: Supplied, meter: int, first: str, values: List[Any], due: Any = None) -> None:
+    moment = at(f"{first}T20:00")
+    for number, value in enumerate(values):
+        elm.reads(meter, moment.replace(day=moment.day + number), value, due)
+
+
+def test_an_allocator_begins_its_year(office: Office, elm: Supplied) -> None:
+    """It stored its value at the due date, and goes on at 0: December and January both have their number."""
+    meter = elm.meter(1, ALLOCATOR, "A1")
+    read_daily(elm, meter, "2024-11-28", [700, 707])
+    read_daily(elm, meter, "2024-12-01", [721 + 7 * number for number in range(30)])
+    read_daily(elm, meter, "2025-01-01", [4 + 7 * number for number in range(31)], ("2024-12-31", 930))
+    read_daily(elm, meter, "2025-02-01", [221, 228])
+    assert office.run("close").status == 0
+    assert office.sql("SELECT last, first, why, at FROM restarts") == [(930, 0, "due date", at("2025-01-01T00:00"))]
+    rows: List[Tuple[Any, ...]] = office.sql("SELECT month::text, amount, grade FROM month_use WHERE month BETWEEN '2024-12-01' AND"
+                                             " '2025-01-01' ORDER BY 1")
+    assert [row[2] for row in rows] == ["measured", "measured"]
+    assert rows[1][1] == 214_000 + 7_000 * 4 // 24 and 930_000 - 721_000 < rows[0][1] < 930_000 - 707_000
+    elm.reads(meter, at("2025-02-03T20:00"), 235, ("2024-12-31", 930))
+    assert office.run("close").status == 0
+    assert office.sql("SELECT count(*) FROM restarts") == [(1,)]
+    assert billed(office, "elm-1", "2025-01")[0]["unit"] == "count"
+
+
+def test_a_restart_that_a_person_declares(office: Office, elm: Supplied) -> None:
+    meter = elm.meter(1, HEAT, "A1")
+    elm.days(meter, "2024-12-25", 20, 1000, 10)  # to 13 January: 1190
+    elm.days(meter, "2025-01-14", 40, 5, 10)
+    assert grades(elm, "2025-01") == ["disturbed"]
+    office.sql("SET ROLE clerk")
+    office.sql("SELECT restart('elm-1', '00000001.PAD.01.04', %s, 1195, 0, 'Wh', 'a new board')", at("2025-01-14T12:00"))
+    office.sql("RESET ROLE")
+    assert elm.month("2025-01") == [("A1", 0, (1195 - 1060 + 175) * WH, "hand")]
+    office.sql("UPDATE restarts SET last = 1100")  # below the value before it
+    assert grades(elm, "2025-01") == ["disturbed"]
+    office.sql("DELETE FROM restarts")
+    office.sql("SELECT restart('elm-1', '00000001.PAD.01.04', %s, NULL, 0, 'Wh', 'a new board')", at("2025-01-14T12:00"))
+    assert elm.month("2025-01") == [("A1", 0, (1190 - 1060 + 175) * WH, "estimated")]
+    assert "no meter" in refused(office, "SELECT restart('elm-1', '00000001.PAD.01.04', now(), 1, 0, 'm3', 'x')")
+
+
+def test_a_number_is_held_until_a_person_says_why(office: Office, elm: Supplied, tmp_path: pathlib.Path) -> None:
+    """It is on no sheet and in no average; then it is, until another amount comes."""
+    meter = elm.meter(1, COLD, "A1")
+    tenancy = elm.tenancy("A1", "2024-01-01", None)
+    elm.days(meter, "2024-12-20", 30, 10, 1, "m3")
+    elm.days(meter, "2025-01-19", 60, 60, 1, "m3")
+    assert elm.month("2025-01")[0][2:] == (51_000_000, "measured")
+    written(office, tmp_path, "--pdf", "none")
+    cell = checked(sheet_of(office, tmp_path, tenancy).read_text(encoding="utf-8")).cells["cold water", "2025-01-01"]
+    assert "auffällig hoch" in cell and not any(it.isdigit() for it in cell)
+    assert office.sql("SELECT grade, amount FROM month_kwh") == [("held", None)]
+    printed = office.run("alarms", "--at", "2025-02-02T23:30+00:00").printed
+    assert "NEW no number elm-1/A1/cold water/1 2025-01: held" in printed
+    office.sql("SET ROLE clerk")
+    assert office.sql("SELECT see_number('2025-01-01', place, 'a burst pipe') FROM fittings") == [(1,)]
+    office.sql("RESET ROLE")
+    assert office.sql("SELECT why, made_by FROM seen") == [("a burst pipe", "office")]
+    written(office, tmp_path, "--pdf", "none")
+    assert checked(sheet_of(office, tmp_path, tenancy).read_text(encoding="utf-8")).cells["cold water", "2025-01-01"].split() == ["51,00"]
+    office.sql("UPDATE day_values SET value = value + 1 WHERE day >= '2025-01-19'")
+    elm.month("2025-01")
+    assert office.sql("SELECT grade FROM month_kwh") == [("held",)]
+
+
+def test_a_typing_error_at_an_exchange_is_held(office: Office, elm: Supplied) -> None:
+    old = elm.meter(1, HEAT, "A1")
+    elm.days(old, "2024-12-20", 25, 1000, 10)
+    office.sql("UPDATE meters SET identity = '00000002.PAD.01.04' WHERE box = 'elm-1'")
+    new, moment = office.sql("SELECT max(id) FROM fittings")[0][0], at("2025-01-14T12:00")
+    office.sql("UPDATE fittings SET during = tstzrange(lower(during), %s), unit = 'Wh', last_value = 1345 WHERE id = %s", moment, old)
+    office.sql("UPDATE fittings SET during = tstzrange(%s, NULL), unit = 'Wh', first_value = 0 WHERE id = %s", moment, new)
+    elm.days(new, "2025-01-14", 30, 5, 10)
+    elm.month("2025-01")
+    assert office.sql("SELECT is_held FROM month_use") == [(True,)]
+    office.sql("UPDATE fittings SET last_value = 1245 WHERE id = %s", old)
+    elm.month("2025-01")
+    assert office.sql("SELECT is_held FROM month_use") == [(False,)]
