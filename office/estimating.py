@@ -12,14 +12,14 @@ from supply import Entry, Place
 YEAR_BEFORE, OF_THE_HOUSE, OF_THE_CATEGORY = "year before", "flats of the house", "flats of the category"
 UNITS = "SELECT unit, smallest, step FROM units"
 BEFORE = """
-SELECT amount FROM month_use WHERE place = %s AND part = 0 AND month = %s AND grade IN ('measured', 'zero', 'hand') AND NOT is_held"""
+SELECT amount FROM month_now WHERE place = %s AND part = 0 AND month = %s AND grade IN ('measured', 'zero', 'hand') AND NOT is_held"""
 # Of each house: its category, and of its measured places the sum of their amounts by weight and of their shares of the
 # flats' areas, their count, and how many of them have an area
 COMPARABLE = """
 SELECT house, category, sum(amount), sum(share), count(*), count(share) FROM (
     SELECT p.house, h.category, u.amount * p.weight AS amount,
            f.area_m2 / count(*) OVER (PARTITION BY p.house, p.flat) AS share
-    FROM month_use u JOIN places p ON p.id = u.place JOIN flats f ON f.house = p.house AND f.flat = p.flat
+    FROM month_now u JOIN places p ON p.id = u.place JOIN flats f ON f.house = p.house AND f.flat = p.flat
     JOIN houses h ON h.house = p.house
     WHERE u.month = %s AND u.part = 0 AND u.grade IN ('measured', 'zero', 'hand') AND NOT u.is_held AND p.use = %s) AS of_each
 GROUP BY house, category"""

@@ -16,12 +16,33 @@ from periods import begin_of, next_month
 from supply import Entry, Place, Tenancy, needed, places_of, seconds, tenancies_of
 
 HOUSES_A_TURN = 25  # whose values are in memory at once
-MONTH_USE = "month_use (month, place, part, begins, ends, tenancy, amount, grade, is_held, basis)"
+MONTH_USE = "month_use (month, place, part, begins, ends, tenancy, amount, grade, is_held, basis, version)"
+FROZEN = "frozen_values (month, place, version, entries)"
+# Of these houses: the present version of a month, and whether it is out
+VERSIONS = """
+SELECT h.house, version_of(h.house, %(month)s), EXISTS (
+    SELECT FROM versions v WHERE (v.house, v.month, v.version) = (h.house, %(month)s, version_of(h.house, %(month)s)) AND v.out_at IS NOT NULL)
+FROM houses h WHERE h.house = ANY (%(houses)s) ORDER BY h.house"""
+OPEN_ROWS = ("DELETE FROM {} k USING places p WHERE p.id = k.place AND k.month = %s AND k.version = version_of(p.house, %s)"
+             " AND p.house = ANY (%s)")
+# What is out
+OUT = """
+SELECT u.place, u.part, u.begins, u.ends, u.tenancy, u.amount, u.grade FROM month_now u JOIN places p ON p.id = u.place
+WHERE u.month = %s AND p.house = %s"""
+CHANGED = """
+INSERT INTO changes AS c (house, month, says) VALUES (%s, %s, %s)
+ON CONFLICT (house, month) DO UPDATE SET says = excluded.says, seen_at = now(), left_why = NULL, left_by = NULL
+WHERE c.says <> excluded.says"""
+KEPT = "SELECT date_trunc('month', since)::date FROM kept"
+# Of a month of houses one is written or released at a time
+LOCKED = "SELECT pg_advisory_xact_lock(hashtext(h || %s)) FROM (SELECT h FROM unnest(%s::text[]) h ORDER BY h) k (h)"
+LONGEST_CHANGE = 5  # places that are named
 GRADES = ("measured", "zero", "hand", "provisional", "estimated", "missing", "disturbed", "unclear")
 # The months that are over and to be computed, with their houses
 WAITING = """
 SELECT c.month, array_agg(c.house ORDER BY c.house) FROM to_compute c JOIN houses h ON h.house = c.house
-WHERE c.house = ANY (%s) AND day_begins((c.month + interval '1 month')::date, h.zone) <= now() GROUP BY 1 ORDER BY 1"""
+WHERE c.house = ANY (%s) AND day_begins((c.month + interval '1 month')::date, h.zone) <= now()
+  AND c.month > coalesce((SELECT date_trunc('month', since) FROM kept), '-infinity') GROUP BY 1 ORDER BY 1"""
 # Whoever adds a row waits for this, or is waited for
 TAKEN = ("SELECT FROM to_compute WHERE month = %s AND house = ANY (%s) ORDER BY house FOR UPDATE",
          "DELETE FROM to_compute WHERE month = %s AND house = ANY (%s)")
@@ -101,18 +122,73 @@ def splits_of(cursor: Cursor, houses: List[str], first: datetime.date, after: da
 
 
 def write_month(cursor: Cursor, month: datetime.date, houses: List[str]) -> "collections.Counter[str]":
-    """Computes a month of these houses and writes it in the place of what was there; counts its grades."""
+    """Computes a month of these houses. Where it is open its rows are written anew; where it is out, and would be another
+    now, that is noted (`changes`). Counts the grades."""
+    lock(cursor, month, houses)
+    cursor.execute(VERSIONS, {"month": month, "houses": houses})
+    versions = {house: (version, is_out) for house, version, is_out in cursor}
+    open_houses = [house for house, (_, is_out) in versions.items() if not is_out]
     splits = splits_of(cursor, houses, month, next_month(month))
     rows: List[Tuple[Any, ...]] = []
+    now: Dict[str, List[Tuple[Any, ...]]] = {house: [] for house in houses}
     counts: "collections.Counter[str]" = collections.Counter()
     for one, period, found in graded_periods(splits):
-        rows.append((month, one.place.id, period.part, period.begins, period.ends, period.tenancy, found.amount,
-                     found.grade, is_held(one.place, one.entries, period), psycopg2.extras.Json(found.basis)))
+        version, is_out = versions[one.place.house]
         counts[found.grade] += period.part == 0
-    cursor.execute("DELETE FROM month_use u USING places p WHERE p.id = u.place AND u.month = %s"
-                   " AND p.house = ANY (%s)", (month, houses))
+        now[one.place.house].append((one.place.id, *period, found.amount, found.grade))
+        if not is_out:
+            rows.append((month, one.place.id, period.part, period.begins, period.ends, period.tenancy, found.amount,
+                         found.grade, is_held(one.place, one.entries, period), psycopg2.extras.Json(found.basis), version))
+    for table in ("frozen_values", "month_use"):
+        cursor.execute(OPEN_ROWS.format(table), (month, month, open_houses))
     insert(cursor, MONTH_USE, rows)
+    insert(cursor, FROZEN, [(month, one.place.id, versions[one.place.house][0], frozen(one)) for one in splits
+                            if not versions[one.place.house][1]])
+    for house in versions.keys() - set(open_houses):
+        note_change(cursor, month, house, now[house], {one.place.id: one.place.name for one in splits})
     return counts
+
+
+def lock(cursor: Cursor, month: datetime.date, houses: List[str]) -> None:
+    """No other transaction writes or releases the month of these houses until this one ends."""
+    cursor.execute(LOCKED, (f" {month:%Y-%m}", houses))
+
+
+def frozen(one: Split) -> str:
+    """The entries that a place's month is computed from, one after the other, as an array of the database."""
+    return f"{{{','.join(str(number) for entry in one.entries for number in entry.line)}}}"
+
+
+def note_change(cursor: Cursor, month: datetime.date, house: str, rows: List[Tuple[Any, ...]], names: Dict[int, str]) -> None:
+    """Notes whether a month that is out would be another."""
+    cursor.execute(OUT, (month, house))
+    out, now = by_period(cursor.fetchall()), by_period(rows)
+    wrong = sorted(key for key in now.keys() | out.keys() if now.get(key) != out.get(key))
+    if not wrong:
+        cursor.execute("DELETE FROM changes WHERE (house, month) = (%s, %s)", (house, month))
+        return
+    said = [f"{names.get(key[0], key[0])} from {key[1]:%Y-%m-%d}: {told(out.get(key))}, now {told(now.get(key))}"
+            for key in wrong[:LONGEST_CHANGE]]
+    more = f"; {len(wrong) - LONGEST_CHANGE} more" if len(wrong) > LONGEST_CHANGE else ""
+    cursor.execute(CHANGED, (house, month, "; ".join(said) + more))
+
+
+def by_period(rows: List[Tuple[Any, ...]]) -> Dict[Any, Tuple[Any, ...]]:
+    """Amount and grade of each place's month and of each user's part, by place, begin and end. (Who was forgotten has none.)"""
+    return {(place, begins, ends): (amount, grade) for place, part, begins, ends, tenancy, amount, grade in rows
+            if part == 0 or tenancy is not None}
+
+
+def told(row: Optional[Tuple[Any, ...]]) -> str:
+    """An amount in the smallest unit, or why it is none."""
+    return "nothing" if row is None else str(row[1]) if row[0] is None else f"{row[0]} {row[1]}"
+
+
+def kept_month(cursor: Cursor) -> Optional[datetime.date]:
+    """The first month of which the values of all days are there; None where none were dropped."""
+    cursor.execute(KEPT)
+    row = cursor.fetchone()
+    return None if row is None else row[0]
 
 
 def waiting(cursor: Cursor, houses: List[str]) -> Dict[datetime.date, List[str]]:
@@ -126,11 +202,16 @@ def work(job: Job) -> "collections.Counter[str]":
     name, month, houses = job
     database = Database(name, SECONDS)
     with database.transaction() as cursor:
-        for statement in TAKEN:
-            cursor.execute(statement, (month, houses))
-        counts = write_month(cursor, month, houses)
+        counts = taken(cursor, month, houses)
     database.close()
     return counts
+
+
+def taken(cursor: Cursor, month: datetime.date, houses: List[str]) -> "collections.Counter[str]":
+    """Takes a month of some houses out of what is to be computed, and writes it."""
+    for statement in TAKEN:
+        cursor.execute(statement, (month, houses))
+    return write_month(cursor, month, houses)
 
 
 def computed(name: str, wanted: Dict[datetime.date, List[str]], workers: int
@@ -171,7 +252,7 @@ def houses_of(database: Database, named: Sequence[str]) -> List[str]:
 
 
 def open_months(cursor: Cursor, month: datetime.date) -> List[datetime.date]:
-    """The months before a month that have a row that isn't measured."""
-    cursor.execute("SELECT DISTINCT month FROM month_use WHERE month < %s AND grade NOT IN ('measured', 'zero')"
-                   " ORDER BY month", (month,))
+    """The months before a month that have a row that isn't out, as far as the values of their days are there."""
+    cursor.execute("SELECT DISTINCT month FROM month_now WHERE month < %s AND out_at IS NULL"
+                   " AND month > coalesce((SELECT date_trunc('month', since) FROM kept), '-infinity') ORDER BY month", (month,))
     return [row[0] for row in cursor]

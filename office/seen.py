@@ -102,7 +102,10 @@ SELECT 'no number', p.house, p.house || '/' || p.flat || '/' || p.use || '/' || 
        || to_char(u.month, 'YYYY-MM'), u.grade
 FROM month_kwh u JOIN places p ON p.id = u.place
 WHERE u.part = 0 AND u.grade IN ('missing', 'disturbed', 'unclear', 'held') AND u.month >= %(at)s::date - 400"""
-ALL = (COLLECTOR, BOXES, SILENT_BOXES, CLOCKS, LATE, SILENT, STATES, NO_USE, STEPS, STILL, NIGHT, NO_NUMBER)
+CHANGES = """
+SELECT 'changed', house, house || ' ' || to_char(month, 'YYYY-MM'), says FROM changes WHERE left_why IS NULL
+ORDER BY house, month"""
+ALL = (COLLECTOR, BOXES, SILENT_BOXES, CLOCKS, LATE, SILENT, STATES, NO_USE, STEPS, STILL, NIGHT, NO_NUMBER, CHANGES)
 
 
 class Seen(NamedTuple):

@@ -163,6 +163,10 @@ def test_a_user_is_forgotten(office: Office, elm: Supplied, tmp_path: pathlib.Pa
         elm.month(month)
         assert office.run("sheets", month, "--out", str(tmp_path), "--pdf", "none").status == 0
     assert len(list(tmp_path.glob("sheets/*/*.html"))) == 3
+    early = office.run("forget", str(one))
+    assert early.status == 3 and "2025-01 of tenancy" in early.printed and "isn't out" in early.printed
+    for month in ("2025-01", "2025-02"):
+        assert office.run("sheets", month, "--out", str(tmp_path), "--pdf", "none", "--release").status == 0
     assert office.run("forget", str(other), "--out", str(tmp_path)).status == 3
     ended = office.run("forget", str(one), "--out", str(tmp_path))
     assert ended.status == 0 and "2 sheets" in ended.printed, ended.printed
@@ -187,7 +191,8 @@ def test_what_is_kept(office: Office, elm: Supplied) -> None:
     assert office.sql("SELECT day FROM day_values ORDER BY day") == [
         (datetime.date(2020, 12, 31),), (datetime.date(2021, 1, 31),)]
     assert office.sql("SELECT amount, basis FROM month_use") == [(310 * WH, [])]
-    assert elm.month("2021-01") == [("A1", 0, 310 * WH, "provisional")]
+    assert office.run("month", "2021-01").status == 2
+    assert office.sql("SELECT amount, grade FROM month_use") == [(310 * WH, "measured")]
     assert office.run("retain", "--days", "3").status == 2
 
 

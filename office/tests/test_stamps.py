@@ -2,7 +2,7 @@
 
 import datetime
 import time
-from typing import List, Optional
+from typing import Any, List, Optional, Tuple
 
 import pytest
 from conftest import Box, Office, telegram
@@ -115,7 +115,7 @@ def elm(office: Office) -> Supplied:
     return Supplied(office)
 
 
-def day_of(office: Office) -> List[object]:
+def day_of(office: Office) -> List[Tuple[Any, ...]]:
     assert office.run("close").status == 0
     return office.sql("SELECT value::float, source FROM day_values WHERE day = '2025-01-31' AND struck_at IS NULL")
 

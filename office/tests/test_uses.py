@@ -1,7 +1,7 @@
 """What meters count: device types, what a person decides, units, errors, and uses that are only rows."""
 
 import pathlib
-from typing import List
+from typing import Dict, List, Optional
 
 import pytest
 from conftest import Box, Office
@@ -27,9 +27,9 @@ def told(office: Office, kind: str) -> List[str]:
 def test_each_device_type(office: Office) -> None:
     uses = {"heat": ("04", "0C", "0D"), "cooling": ("0A", "0B"), "warm water": ("06", "15"), "cold water": ("07", "16"),
             "electricity": ("02",), "gas": ("03",), "allocator": ("08",)}
-    wanted = {medium: use for use, media in uses.items() for medium in media}
+    wanted: Dict[str, Optional[str]] = {medium: use for use, media in uses.items() for medium in media}
     wanted.update({f"{number:02X}": None for number in (*range(0x1A, 0x20), *range(0x20, 0x28), *range(0x30, 0x40))})
-    assert dict(office.sql("SELECT medium, use FROM device_types")) == wanted
+    assert {row[0]: row[1] for row in office.sql("SELECT medium, use FROM device_types")} == wanted
     assert office.sql("SELECT use FROM uses_of('elm', '1.PAD.01.31')") == []
 
 
@@ -147,6 +147,7 @@ def test_18_digits(office: Office, elm: Supplied) -> None:
     assert told(office, "too large") == ["NEW too large elm-1 00000001.PAD.01.07: too large of cold water, flat A1"]
     allocator = elm.meter(2, ALLOCATOR, "A2")
     new = elm.meter(3, ALLOCATOR, "A2")
+    office.sql("DELETE FROM limits")
     elm.values(allocator, {"2024-12-31": 0, "2025-01-31": most * 1000, "2025-02-01": most * 1000}, "HCA")
     elm.values(new, {"2024-12-31": 0, "2025-01-31": 1, "2025-02-01": 1}, "HCA")
     assert elm.month("2025-01")[1:] == [("A2", 0, most * 1_000_000, "measured"), ("A2", 0, 1000, "measured")]

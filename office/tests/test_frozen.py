@@ -1,0 +1,173 @@
+"""A month that is out stays as it is; another number is another version, with a reason."""
+
+import pathlib
+import subprocess
+from typing import Any, List, Tuple
+
+import pytest
+from conftest import TESTS, Office
+from supplied import HEAT, Supplied, at
+from test_schema import refused
+from test_sheets import checked, sheet_of
+
+WH = 3_600_000
+ROWS = ("SELECT month::text, place, part, version, amount, grade, begins, ends FROM month_use WHERE out_at IS NOT NULL ORDER BY 1, 2, 3, 4")
+DECEMBER = "2024-12-30"
+
+
+@pytest.fixture
+def elm(office: Office) -> Supplied:
+    return Supplied(office)
+
+
+def released(office: Office, out: pathlib.Path, month: str) -> None:
+    ended = office.run("sheets", month, "--out", str(out), "--pdf", "none", "--release")
+    assert ended.status == 0, ended.printed
+
+
+def rows(office: Office) -> List[Tuple[Any, ...]]:
+    return office.sql(ROWS)
+
+
+def test_what_is_out_is_frozen(office: Office, elm: Supplied, tmp_path: pathlib.Path) -> None:
+    """The rows, the values behind them, and every number as it was printed."""
+    meter = elm.meter(1, HEAT, "A1")
+    tenancy = elm.tenancy("A1", "2024-01-01", None)
+    elm.days(meter, DECEMBER, 60, 1_000_000, 10_000)
+    elm.month("2025-01")
+    released(office, tmp_path, "2025-01")
+    before = rows(office)
+    assert before[0][3:6] == (1, 310_000 * WH, "measured")
+    for query in ("UPDATE month_use SET amount = 1", "DELETE FROM month_use", "UPDATE month_use SET grade = 'hand'",
+                  "UPDATE month_use SET out_at = NULL", "UPDATE frozen_values SET entries = '{}'",
+                  "UPDATE month_use SET tenancy = 99, amount = 1"):
+        assert "is out" in refused(office, query), query
+    text = sheet_of(office, tmp_path, tenancy).read_text(encoding="utf-8")
+    numbers = office.sql("SELECT text, mark, version FROM published WHERE tenancy = %s", tenancy)
+    assert ("310,0", "measured", 1) in numbers and all(row[0] in text for row in numbers)
+    assert office.sql("SELECT house, version, why, made_by FROM versions WHERE out_at IS NOT NULL") == [("elm-1", 1, "first", "office")]
+    released(office, tmp_path, "2025-01")
+    assert rows(office) == before and office.sql("SELECT count(*) FROM versions") == [(1,)]
+    assert office.sql("SELECT count(*) FROM published WHERE key LIKE '%%2025-01%%'") == [(1,)]
+
+
+def test_another_number_is_another_version(office: Office, elm: Supplied, tmp_path: pathlib.Path) -> None:
+    """A value is struck after the month is out: it stays, somebody is asked, and a version with a reason comes out."""
+    meter = elm.meter(1, HEAT, "A1")
+    tenancy = elm.tenancy("A1", "2024-01-01", None)
+    elm.days(meter, DECEMBER, 60, 1_000_000, 10_000)
+    elm.month("2025-01")
+    released(office, tmp_path, "2025-01")
+    before = rows(office)
+    office.sql("SELECT put_value(%s, '2025-01-31', 1325000, 'Wh', 'read at the meter')", meter)
+    closed = office.run("close")
+    assert closed.status == 0 and "2025-01: 1 places: 1 hand" in closed.printed and rows(office) == before
+    printed = office.run("alarms").printed
+    said = [line for line in printed.splitlines() if "NEW changed" in line]
+    assert said == [f"NEW changed elm-1 2025-01: elm-1/A1/heat/1 from 2024-12-31: {310_000 * WH} measured, now {315_000 * WH} hand"]
+    assert office.sql("SELECT amount FROM month_kwh WHERE part = 0 AND month = '2025-01-01'") == [(310_000 * WH,)]
+    assert office.run("month", "2025-01").status == 0 and rows(office) == before
+    corrected = office.run("correct", "elm-1", "2025-01", "--why", "read at the meter")
+    assert (corrected.status, corrected.printed) == (0, "2025-01: 1 places: 1 hand; version 2 of elm-1\n")
+    assert rows(office) == before
+    released(office, tmp_path, "2025-01")
+    assert [row[3:5] for row in rows(office)] == [(1, 310_000 * WH), (2, 315_000 * WH)]
+    cell = checked(sheet_of(office, tmp_path, tenancy).read_text(encoding="utf-8")).cells["heat", "2025-01-01"]
+    assert cell.split()[0] == "315,0"
+    assert office.sql("SELECT version, why FROM versions ORDER BY 1") == [(1, "first"), (2, "read at the meter")]
+    assert office.sql("SELECT version, text FROM published WHERE key LIKE '%%2025-01%%' ORDER BY 1") == [(1, "310,0"), (2, "315,0")]
+    assert "END changed" in office.run("alarms").printed
+    assert office.run("correct", "elm-1", "2025-02", "--why", "x").status == 4
+
+
+def test_a_month_may_be_left(office: Office, elm: Supplied, tmp_path: pathlib.Path) -> None:
+    """Until it would be another one again."""
+    meter = elm.meter(1, HEAT, "A1")
+    elm.tenancy("A1", "2024-01-01", None)
+    elm.days(meter, DECEMBER, 60, 1_000_000, 10_000)
+    elm.month("2025-01")
+    released(office, tmp_path, "2025-01")
+    assert office.run("correct", "elm-1", "2025-01", "--leave", "--why", "x").status == 4
+    office.sql("SELECT put_value(%s, '2025-01-31', 1319000, 'Wh', 'read')", meter)
+    assert office.run("close").status == 0
+    assert office.run("correct", "elm-1", "2025-01", "--leave", "--why", "1 kWh").status == 0
+    assert office.run("close", "--all", "--since", "2024-12-01").status == 0
+    assert "changed" not in office.run("alarms").printed
+    office.sql("SELECT put_value(%s, '2025-01-31', 1318000, 'Wh', 'read')", meter)
+    assert office.run("close").status == 0 and "NEW changed" in office.run("alarms").printed
+    assert len(rows(office)) == 1
+
+
+def computed_again(tmp_path: pathlib.Path, entries: List[int], begins: int, ends: int) -> str:
+    lines = [",".join(map(str, ["x", *entries[place:place + 5]])) for place in range(0, len(entries), 5)]
+    path = tmp_path / "frozen.csv"
+    path.write_text("\n".join(["place,meter,moment,value,most,size", *lines, ""]), encoding="ascii")
+    done = subprocess.run([TESTS / "fake_mbdc", "consumption", path, f"{begins},{ends}"], capture_output=True, text=True, check=True)
+    return done.stdout.splitlines()[1].split(",")[3]
+
+
+def test_neither_retain_nor_forget_changes_a_number(office: Office, elm: Supplied, tmp_path: pathlib.Path) -> None:
+    """Three months are out, with a move in the second; the days and the user go, a cron goes on, and the numbers stay."""
+    meter = elm.meter(1, HEAT, "A1", since=at("2020-01-01T00:00"))
+    elm.days(meter, "2020-12-29", 130, 1_000_000, 10_000)
+    one = elm.tenancy("A1", "2020-01-01", "2021-02-11", "S. Secret")
+    elm.tenancy("A1", "2021-02-11", None)
+    for month in ("2021-01", "2021-02", "2021-03"):
+        elm.month(month)
+    assert office.run("forget", str(one)).status == 3
+    for month in ("2021-01", "2021-02", "2021-03"):
+        released(office, tmp_path, month)
+    before = rows(office)
+    assert len(before) == 5
+    frozen = office.sql("SELECT entries FROM frozen_values WHERE month = '2021-01-01'")[0][0]
+    forgotten = office.run("forget", str(one), "--out", str(tmp_path))
+    assert forgotten.status == 0, forgotten.printed
+    assert office.run("close", "--all", "--since", "2020-01-01").status == 0
+    assert office.run("month", "2021-01", "--open").status == 0
+    assert rows(office) == before and office.sql("SELECT count(*) FROM changes") == [(0,)]
+    assert office.sql("SELECT count(tenancy) FROM published") != office.sql("SELECT count(*) FROM published")
+    assert int(computed_again(tmp_path, frozen, int(before[0][6].timestamp()), int(before[0][7].timestamp()))) == before[0][4]
+    assert office.run("retain").status == 0
+    assert office.sql("SELECT count(*) FROM frozen_values WHERE month < '2022-01-01'") == [(0,)]
+    assert rows(office) == before
+    refusal = office.run("month", "2021-01")
+    assert refusal.status == 2 and "were dropped" in refusal.printed
+    assert office.run("close", "--all", "--since", "2020-01-01").status == 0
+    assert rows(office) == before and office.sql("SELECT count(*) FROM changes") == [(0,)]
+
+
+def test_a_cron_changes_nothing_that_was_out(office: Office, elm: Supplied, tmp_path: pathlib.Path) -> None:
+    """Month by month: close, estimate, release; late readings come each time, and only the open month is another."""
+    meter, dead = elm.meter(1, HEAT, "A1"), elm.meter(2, HEAT, "A2")
+    for flat in ("A1", "A2"):
+        elm.tenancy(flat, "2024-01-01", None)
+    out: List[Tuple[Any, ...]] = []
+    elm.reads(meter, at("2024-12-30T20:00"), 970_000)
+    elm.reads(meter, at("2024-12-31T20:00"), 980_000)
+    elm.reads(dead, at("2024-12-31T20:00"), 980_000)
+    for number in (1, 2, 3):
+        for day in (1, 2, 15, 27, 28):
+            elm.reads(meter, at(f"2025-0{number}-{day:02}T20:00"), 1_000_000 * number + 10_000 * day)
+        elm.reads(meter, at(f"2025-0{number + 1}-01T20:00"), 1_000_000 * (number + 1) + 5_000)
+        elm.reads(meter, at(f"2025-0{number + 1}-02T08:00"), 1_000_000 * (number + 1) + 6_000)
+        month = f"2025-0{number}"
+        assert office.run("close").status == 0
+        assert office.run("month", month, "--open").status == 0
+        assert office.run("estimate", month).status == 0
+        released(office, tmp_path, month)
+        assert rows(office)[:len(out)] == out
+        out = rows(office)
+        elm.reads(dead, at(f"2025-0{number}-20T20:00"), 980_000 + number)  # weeks late
+    assert len(out) == 6 and office.run("close").status == 0
+    assert rows(office) == out and "NEW changed" in office.run("alarms").printed
+
+
+def test_who_may(office: Office, elm: Supplied) -> None:
+    for role in ("reader", "collector"):
+        for query in ("SELECT release_month('elm-1', '2025-01-01')", "SELECT correct_month('elm-1', '2025-01-01', 'x')",
+                      "SELECT leave_month('elm-1', '2025-01-01', 'x')", "INSERT INTO versions DEFAULT VALUES",
+                      "INSERT INTO published DEFAULT VALUES"):
+            assert "permission denied" in refused(office, query, role=role), (role, query)
+    for query in ("UPDATE versions SET out_at = NULL", "DELETE FROM published", "UPDATE published SET text = '1'", "DELETE FROM versions",
+                  "UPDATE month_use SET out_at = now()", "DELETE FROM changes"):
+        assert "permission denied" in refused(office, query, role="clerk"), query
